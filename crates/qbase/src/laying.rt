@@ -1,0 +1,18 @@
+//! Copying to the shorter length.
+
+ghost use Rattle.std.specs.Prelude.{◌≡◌};
+ghost use Rattle.qbase.specs.Laying.{lay_over, laid_count};
+
+/// Copies `bytes` over the target from the place `at`, cut at the target's end, and answers how many
+/// bytes that are: none where `at` is at or past the end.
+pub fn lay(target: &mut [u8], at: usize, bytes: &[u8]) -> usize
+    ensures after { target.new ≡ lay_over target.old at bytes.now }
+    ensures count { result ≡ laid_count target.old at bytes.now }
+{
+    if at >= target.len() {
+        return 0;
+    }
+    let count = bytes.len().min(target.len() - at);
+    target[at..at + count].copy_from_slice(&bytes[..count]);
+    count
+}

@@ -1,0 +1,10 @@
+//! What all of the kernel's crates speak of: numbers, errors, states, flags, bytes and their copying.
+#![tactic(auto)]
+
+pub mod bytes;
+pub mod errno;
+pub mod flags;
+pub mod ids;
+pub mod laying;
+pub mod priority;
+pub mod state;
