@@ -1,0 +1,3 @@
+pub mod BestLaws
+pub mod RisingLaws
+pub mod OrderLaws

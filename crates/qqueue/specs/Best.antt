@@ -1,0 +1,38 @@
+-- Which of the items that wait is received first.
+use Rattle.std.specs.Prelude.{ℕ, ◌==◌, not, nat_lt, Bool, true, false, List, [], ◌∷◌, filter, Option, None, Some, if◌then◌else◌}
+use Rattle.qqueue.specs.declared.item.What.{What}
+use Rattle.qqueue.specs.declared.item.What.TheVariants.{Message, User, Unblock, Disconnect}
+use Rattle.qqueue.specs.declared.item.Item.{Item}
+use Rattle.qqueue.specs.declared.item.Kind.{Kind}
+use Rattle.qqueue.specs.declared.item.Kind.TheVariants.{Any, PulseOnly}
+
+-- all but a message is a pulse
+abbrev pub is_pulse : What → Bool
+is_pulse Message = false
+is_pulse (User code value) = true
+is_pulse (Unblock message) = true
+is_pulse (Disconnect process) = true
+
+-- a receive of this kind may take the item
+abbrev pub may_take : Kind → Item → Bool
+may_take Any item = true
+may_take PulseOnly item = is_pulse item.what
+
+-- of an item and the best of those after it, the one to be received first: the later one only where its priority is greater
+abbrev pub first_of_two : Item → Option Item → Item
+first_of_two x None = x
+first_of_two x (Some y) = if nat_lt x.priority y.priority then y else x
+
+-- of the items that the kind may take, the one of greatest priority, and among equals the one that was made first
+abbrev pub best_of : Kind → List Item → Option Item
+best_of kind [] = None
+best_of kind (x ∷ items) = if may_take kind x then Some (first_of_two x (best_of kind items)) else best_of kind items
+
+-- the items but the one of this number
+abbrev pub without : ℕ → List Item → List Item
+without number items = filter (λ item. not (item.number == number)) items
+
+-- the item of this number
+abbrev pub numbered : ℕ → List Item → Option Item
+numbered number [] = None
+numbered number (x ∷ items) = if x.number == number then Some x else numbered number items

@@ -1,0 +1,4 @@
+pub mod Best
+pub mod Contents
+pub mod Order
+pub mod Places

@@ -1,0 +1,9 @@
+//! The messages and pulses that wait to be received on one channel.
+#![tactic(auto)]
+
+pub mod item;
+pub mod laws;
+mod list;
+pub mod queue;
+#[cfg(test)]
+mod tests;

@@ -1,0 +1,123 @@
+//! The queue of one channel.
+
+ghost use Rattle.std.specs.Prelude.{◌≡◌, ◌==◌, ◌+◌, ◌<◌, ◌≤◌, [], ◌∷◌, ◌++◌, length, count_by, IsOk, OnOk, OnErr, IfErr, IfSome, IfNone, option_copied};
+ghost use Rattle.std.specs.List.{AllByRecursion};
+ghost use Rattle.qbase.specs.declared.errno.Errno.TheVariants.{NoMemory};
+ghost use Rattle.qqueue.specs.Best.{best_of, without, numbered, is_pulse};
+ghost use Rattle.qqueue.specs.Contents.{IsRising};
+
+use crate::item::{Item, Kind};
+use crate::list::{append, place_of_best, place_of_number, take_at};
+use qbase::errno::Errno;
+use std::alloc::Global;
+use std::marker::Model;
+
+/// The messages and pulses that were sent to one channel and not yet received, in the order in which they
+/// were sent. Contracts see its items and the room that is reserved for more; how they are kept isn't seen.
+#[derive(Debug, Drop)]
+pub struct Queue {
+    items: Vec<Item>,
+}
+
+impl Model for Queue {
+    ghost use Rattle.std.specs.Prelude.{◌-◌};
+    ghost use Rattle.std.specs.Vec.{vec_len, vec_capacity};
+    ghost use Rattle.qqueue.specs.Contents.{Contents, IsRising};
+
+    ghost Value = { Contents };
+
+    ghost view = { λ q. record { items = q.items.items; room = vec_capacity q.items - vec_len q.items } };
+
+    ghost invariant = { λ q. IsRising q.items.items };
+}
+
+impl Queue {
+    /// An empty queue; takes no memory.
+    pub fn new(alloc: Global) -> Queue
+        ensures { result ≡ record { items = []; room = 0 } }
+    {
+        Queue {
+            items: Vec::new(alloc),
+        }
+    }
+
+    /// Makes room for `n` more items, the only call of a queue that takes memory.
+    pub fn reserve(&mut self, n: usize) -> Result<(), Errno>
+        ensures items { self.new.items ≡ self.old.items }
+        ensures room { OnOk result (n ≤ self.new.room) }
+        ensures kept { self.old.room ≤ self.new.room }
+
+        // The error is want of memory, where the room was missing; then nothing is changed.
+        ensures succeeds { n ≤ self.old.room → IsOk result }
+        ensures error { IfErr result (λ e. e ≡ NoMemory) }
+        ensures err { OnErr result (self.new ≡ self.old) }
+    {
+        self.items.reserve(n).map_err(|_| Errno::NoMemory)
+    }
+
+    /// Puts an item behind all others, into the room that was reserved.
+    pub fn push(&mut self, item: Item)
+        requires room { 0 < self.old.room }
+        requires newest { AllByRecursion (λ x. x.number < item.number) self.old.items }
+        ensures items { self.new.items ≡ self.old.items ++ item ∷ [] }
+        ensures room { self.old.room ≤ self.new.room + 1 }
+    {
+        append(&mut self.items, item);
+    }
+
+    /// The item that `take` would give.
+    pub fn best(&self, kind: Kind) -> Option<&Item>
+        ensures { option_copied result ≡ best_of kind self.now.items }
+    {
+        let place = place_of_best(&self.items, kind)?;
+        Some(&self.items[place])
+    }
+
+    /// Takes out the item of greatest priority that a receive of this kind may take; among equals the one
+    /// that was sent first (messages and pulses in one order: own profile).
+    pub fn take(&mut self, kind: Kind) -> Option<Item>
+        ensures best { result ≡ best_of kind self.old.items }
+        ensures rest { IfSome result (λ item. self.new.items ≡ without item.number self.old.items) }
+        ensures unchanged { IfNone result (self.new ≡ self.old) }
+        ensures room { self.old.room ≤ self.new.room }
+    {
+        let best = place_of_best(&self.items, kind)?;
+        Some(take_at(&mut self.items, best))
+    }
+
+    /// Takes out the item of this number, whatever its priority.
+    pub fn remove(&mut self, number: u64) -> Option<Item>
+        ensures found { result ≡ numbered number self.old.items }
+        ensures rest { self.new.items ≡ without number self.old.items }
+        ensures unchanged { IfNone result (self.new ≡ self.old) }
+        ensures room { self.old.room ≤ self.new.room }
+    {
+        let place = place_of_number(&self.items, number)?;
+        Some(take_at(&mut self.items, place))
+    }
+
+    /// How many items wait.
+    pub fn len(&self) -> usize
+        ensures count { result ≡ length self.now.items }
+        ensures rising { IsRising self.now.items }
+    {
+        self.items.len()
+    }
+
+    /// Whether none waits.
+    pub fn is_empty(&self) -> bool
+        ensures { result ≡ (length self.now.items == 0) }
+    {
+        self.items.is_empty()
+    }
+
+    /// How many of the items are pulses, the kernel's own among them.
+    pub fn pulses(&self) -> usize
+        ensures { result ≡ count_by (λ x. is_pulse x.what) self.now.items }
+    {
+        self.items
+            .iter()
+            .filter(|item| item.what.is_pulse())
+            .count()
+    }
+}
