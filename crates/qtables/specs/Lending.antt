@@ -1,0 +1,22 @@
+-- What a table ends as, once a `&mut` to one of its records has ended: the record of this number is the last value written through r, and at `None` the table stays as it is.
+use Rattle.std.specs.Prelude.{ℕ, List, Option}
+use Rattle.std.specs.Borrow.{LendsIf, Fml, RattleType, MutBor}
+use Rattle.qtables.specs.Entries.{with_record}
+use Rattle.qtables.specs.contracts.entries.Entries.{the_row as entries_row}
+use Rattle.qtables.specs.contracts.channels.Channels.{the_row as channels_row}
+use Rattle.qtables.specs.contracts.connections.Connections.{the_row as connections_row}
+use Rattle.qtables.specs.contracts.connection.Connection.{the_row as connection_row}
+use Rattle.qtables.specs.declared.connection.Connection.{Connection}
+
+module _ (R : RattleType) (t : MutBor (List (ℕ × R.Denot))) (id : ℕ) (r : Option (MutBor R.Denot)) where
+  -- for the entries that channels and connections share
+  abbrev pub lends_entry : Fml
+  lends_entry = LendsIf (entries_row R) R t r (with_record t.now id) t.now
+
+  -- for channels
+  abbrev pub lends_channel : Fml
+  lends_channel = LendsIf (channels_row R) R t r (with_record t.now id) t.now
+
+-- for connections
+abbrev pub lends_connection : MutBor (List (ℕ × Connection)) → ℕ → Option (MutBor Connection) → Fml
+lends_connection t id r = LendsIf connections_row connection_row t r (with_record t.now id) t.now

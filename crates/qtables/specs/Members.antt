@@ -1,0 +1,25 @@
+-- A roster as its members, in rising thread number.
+use Rattle.std.specs.Prelude.{ℕ, ◌==◌, ◌<◌, nat_lt, List, [], ◌∷◌, length, Option, None, Some, is_some, if◌then◌else◌}
+use Rattle.std.specs.List.{AllByRecursion}
+use Rattle.qbase.specs.declared.errno.Errno.{Errno}
+use Rattle.qbase.specs.declared.errno.Errno.TheVariants.{Inval, Again}
+use Rattle.qtables.specs.declared.member.Member.{Member}
+
+-- the member that is this thread
+abbrev pub member_at : List Member → ℕ → Option Member
+member_at [] thread = None
+member_at (m ∷ members) thread = if m.thread == thread then Some m else member_at members thread
+
+-- the members with one more, in its place
+abbrev pub joined : Member → List Member → List Member
+joined m [] = m ∷ []
+joined m (x ∷ members) = if nat_lt m.thread x.thread then m ∷ x ∷ members else x ∷ joined m members
+
+-- each thread comes once, in rising number
+abbrev pub IsRoster : List Member → Type 0
+IsRoster [] = Unit {0}
+IsRoster (m ∷ members) = AllByRecursion (λ x. m.thread < x.thread) members × IsRoster members
+
+-- why a thread may not join: it is there, or else there are 64 threads
+abbrev pub join_refusal : List Member → ℕ → Option Errno
+join_refusal members thread = if is_some (member_at members thread) then Some Inval else (if length members == 64 then Some Again else None)

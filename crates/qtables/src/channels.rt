@@ -1,0 +1,101 @@
+//! The open channels.
+
+ghost use Rattle.std.specs.Prelude.{◌≡◌, ◌<◌, ◌≤◌, ◌==◌, [], ◌∷◌, ◌++◌, length, option_copied, if◌then◌else◌, IfErr, OnOk, OnErr};
+ghost use Rattle.std.specs.List.{AllByRecursion};
+ghost use Rattle.std.specs.Option.{option_copied_mut};
+ghost use Rattle.std.specs.Borrow.{sem};
+
+use crate::entries::Entries;
+use qbase::errno::Errno;
+use qbase::ids::ChannelId;
+use std::alloc::Global;
+use std::marker::Model;
+
+/// How many channels may be open at a time (own profile).
+pub const CHANNEL_LIMIT: usize = 64;
+
+/// The open channels: a map from id to what the kernel keeps of a channel. Contracts see the entries in
+/// rising id.
+#[derive(Drop)]
+pub struct Channels<Record> {
+    entries: Entries<Record>,
+}
+
+impl<Record> Model for Channels<Record> {
+    ghost use Rattle.std.specs.Prelude.{◌≤◌, List, ℕ, length};
+    ghost use Rattle.std.specs.Coded.{coded_ℕ, coded×, coded_list};
+
+    ghost Value = { List (ℕ × Record) };
+
+    ghost coded = { coded_list (coded× coded_ℕ Record.code) };
+
+    ghost view = { λ a. a.entries };
+
+    ghost invariant = { λ a. length a.entries ≤ 64 };
+}
+
+impl<Record: Drop> Channels<Record> {
+    ghost use Rattle.qtables.specs.Entries.{entry_at, without_entry, IsRising};
+    ghost use Rattle.qtables.specs.Lending.{lends_channel};
+
+    /// No channels, and no memory.
+    pub fn new(alloc: Global) -> Channels<Record>
+        ensures { result ≡ [] }
+    {
+        Channels {
+            entries: Entries::new(alloc),
+        }
+    }
+
+    /// Opens a channel whose id is greater than all open ones', or gives its record back: `Again` where
+    /// 64 are open, and `NoMemory` where the allocator refused.
+    pub fn create(&mut self, number: ChannelId, entry: Record) -> Result<(), (Errno, Record)>
+        requires { AllByRecursion (λ e. e.0 < number) self.old }
+        ensures ok { OnOk result (self.new ≡ self.old ++ (number, entry) ∷ []) }
+        ensures room { OnOk result (length self.old < 64) }
+        ensures err { OnErr result (self.new ≡ self.old) }
+        ensures error { IfErr result (λ e. e.0 ≡ (if length self.old == 64 then Errno.Again else Errno.NoMemory)) }
+        ensures returned { IfErr result (λ e. e.1 ≡ entry) }
+    {
+        self.entries.create(number.0, entry, CHANNEL_LIMIT)
+    }
+
+    /// What is kept of a channel.
+    pub fn get(&self, id: ChannelId) -> Option<&Record>
+        ensures { option_copied result ≡ entry_at self.now id }
+    {
+        self.entries.get(id.0)
+    }
+
+    /// What is kept of a channel, for writing.
+    pub fn get_mut(&mut self, id: ChannelId) -> Option<&mut Record>
+        ensures* writes_back { sem 𝓛 (lends_channel Record.row self.entry id result) }
+        ensures value { option_copied_mut result ≡ entry_at self.old id }
+    {
+        self.entries.get_mut(id.0)
+    }
+
+    /// Takes a channel out; takes no memory.
+    pub fn remove(&mut self, id: ChannelId) -> Option<Record>
+        ensures value { result ≡ entry_at self.old id }
+        ensures after { self.new ≡ without_entry self.old id }
+    {
+        self.entries.remove(id.0)
+    }
+
+    /// How many are open.
+    pub fn len(&self) -> usize
+        ensures value { result ≡ length self.now }
+        ensures fits { length self.now ≤ 64 }
+        ensures rising { IsRising self.now }
+    {
+        self.entries.len()
+    }
+
+    /// Whether none is open.
+    pub fn is_empty(&self) -> bool
+        ensures { result ≡ (length self.now == 0) }
+    {
+        self.len() == 0
+    }
+}

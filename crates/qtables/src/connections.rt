@@ -1,0 +1,114 @@
+//! The live connections.
+
+ghost use Rattle.std.specs.Prelude.{◌≡◌, ◌<◌, ◌≤◌, ◌==◌, ◌&&◌, [], ◌∷◌, ◌++◌, length, count_by, option_copied, if◌then◌else◌, IfErr, OnOk, OnErr};
+ghost use Rattle.std.specs.List.{AllByRecursion};
+ghost use Rattle.std.specs.Option.{option_copied_mut};
+ghost use Rattle.std.specs.Borrow.{sem};
+
+use crate::connection::Connection;
+use crate::entries::Entries;
+use qbase::errno::Errno;
+use qbase::ids::{ChannelId, ConnectionId, ProcessNo};
+use std::alloc::Global;
+use std::marker::Model;
+
+/// How many connections may be live at a time (own profile).
+pub const CONNECTION_LIMIT: usize = 1024;
+
+/// The live connections: a map from id to connection. Contracts see the entries in rising id.
+#[derive(Drop)]
+pub struct Connections {
+    entries: Entries<Connection>,
+}
+
+impl Model for Connections {
+    ghost use Rattle.std.specs.Prelude.{◌≤◌, List, ℕ, length};
+    ghost use Rattle.qtables.specs.declared.connection.Connection.{Connection};
+
+    ghost Value = { List (ℕ × Connection) };
+
+    ghost view = { λ a. a.entries };
+
+    ghost invariant = { λ a. length a.entries ≤ 1024 };
+}
+
+impl Connections {
+    ghost use Rattle.qtables.specs.Entries.{entry_at, without_entry, IsRising};
+    ghost use Rattle.qtables.specs.Lending.{lends_connection};
+
+    /// No connections, and no memory.
+    pub fn new(alloc: Global) -> Connections
+        ensures { result ≡ [] }
+    {
+        Connections {
+            entries: Entries::new(alloc),
+        }
+    }
+
+    /// Adds a connection whose id is greater than all live ones', or gives it back: `Again` where 1,024
+    /// are live, and `NoMemory` where the allocator refused.
+    pub fn create(
+        &mut self,
+        number: ConnectionId,
+        entry: Connection,
+    ) -> Result<(), (Errno, Connection)>
+        requires { AllByRecursion (λ e. e.0 < number) self.old }
+        ensures ok { OnOk result (self.new ≡ self.old ++ (number, entry) ∷ []) }
+        ensures room { OnOk result (length self.old < 1024) }
+        ensures err { OnErr result (self.new ≡ self.old) }
+        ensures error { IfErr result (λ e. e.0 ≡ (if length self.old == 1024 then Errno.Again else Errno.NoMemory)) }
+        ensures returned { IfErr result (λ e. e.1 ≡ entry) }
+    {
+        self.entries.create(number.0, entry, CONNECTION_LIMIT)
+    }
+
+    /// A connection.
+    pub fn get(&self, id: ConnectionId) -> Option<&Connection>
+        ensures { option_copied result ≡ entry_at self.now id }
+    {
+        self.entries.get(id.0)
+    }
+
+    /// A connection, for writing.
+    pub fn get_mut(&mut self, id: ConnectionId) -> Option<&mut Connection>
+        ensures* writes_back { sem 𝓛 (lends_connection self.entry id result) }
+        ensures value { option_copied_mut result ≡ entry_at self.old id }
+    {
+        self.entries.get_mut(id.0)
+    }
+
+    /// Takes a connection out; takes no memory.
+    pub fn remove(&mut self, id: ConnectionId) -> Option<Connection>
+        ensures value { result ≡ entry_at self.old id }
+        ensures after { self.new ≡ without_entry self.old id }
+    {
+        self.entries.remove(id.0)
+    }
+
+    /// How many are live.
+    pub fn len(&self) -> usize
+        ensures value { result ≡ length self.now }
+        ensures fits { length self.now ≤ 1024 }
+        ensures rising { IsRising self.now }
+    {
+        self.entries.len()
+    }
+
+    /// Whether none is live.
+    pub fn is_empty(&self) -> bool
+        ensures { result ≡ (length self.now == 0) }
+    {
+        self.len() == 0
+    }
+
+    /// How many connections a process has to a channel.
+    pub fn count(&self, process: ProcessNo, channel: ChannelId) -> usize
+        ensures { result ≡ count_by (λ e. (e.1.process == process) && (e.1.channel == channel)) self.now }
+    {
+        self.entries
+            .records()
+            .iter()
+            .filter(|c| c.process == process && c.channel == channel)
+            .count()
+    }
+}

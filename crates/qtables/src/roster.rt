@@ -1,0 +1,131 @@
+//! The threads that a kernel knows.
+
+ghost use Rattle.std.specs.Prelude.{◌≡◌, ◌<◌, ◌≤◌, ◌==◌, [], length, None, Some, IfOk, IfErr, OnOk, OnErr, MatchResult, is_some, option_map, slice_get, insert, true};
+ghost use Rattle.qtables.specs.declared.member.Member.{Member};
+
+use crate::member::Member;
+use arrayvec::ArrayVec;
+use qbase::errno::Errno;
+use qbase::ids::{ProcessNo, ThreadNo};
+use qbase::priority::Priority;
+use std::alloc::Global;
+use std::marker::Model;
+
+/// How many threads a roster may have (own profile).
+pub const THREAD_LIMIT: usize = 64;
+
+/// The threads, each with its process and the priority that it begins with. Contracts see the members in
+/// rising thread number.
+#[derive(Drop)]
+pub struct Roster {
+    members: ArrayVec<Member, THREAD_LIMIT, Global>,
+}
+
+impl Model for Roster {
+    ghost use Rattle.std.specs.Prelude.{List};
+    ghost use Rattle.qtables.specs.declared.member.Member.{Member};
+    ghost use Rattle.qtables.specs.Members.{IsRoster};
+
+    ghost Value = { List Member };
+
+    ghost view = { λ a. a.members.items };
+
+    ghost invariant = { λ a. IsRoster a.members.items };
+}
+
+impl Roster {
+    ghost use Rattle.qtables.specs.Members.{member_at, joined, join_refusal, IsRoster};
+
+    /// No threads, and no memory.
+    pub fn new(alloc: Global) -> Roster
+        ensures { result ≡ [] }
+    {
+        Roster {
+            members: ArrayVec::new_in(alloc),
+        }
+    }
+
+    /// Adds a thread; takes no memory. `Inval` where it is there, then `Again` where there are 64.
+    pub fn add(
+        &mut self,
+        thread: ThreadNo,
+        process: ProcessNo,
+        priority: Priority,
+    ) -> Result<(), Errno>
+        ensures answer { MatchResult result
+            (λ _. join_refusal self.old thread ≡ None)
+            (λ e. join_refusal self.old thread ≡ Some e) }
+        ensures ok { OnOk result
+            (self.new ≡ joined (record { thread = thread; process = process; priority = priority }) self.old) }
+        ensures err { OnErr result (self.new ≡ self.old) }
+    {
+        match self.search(thread) {
+            Ok(_) => Err(Errno::Inval),
+            Err(_) if self.members.is_full() => Err(Errno::Again),
+            Err(place) => {
+                self.members.insert(
+                    place,
+                    Member {
+                        thread,
+                        process,
+                        priority,
+                    },
+                );
+                Ok(())
+            }
+        }
+    }
+
+    /// A thread's process and the priority that it begins with.
+    pub fn get(&self, thread: ThreadNo) -> Option<(ProcessNo, Priority)>
+        ensures { result ≡ option_map (λ m. (m.process, m.priority)) (member_at self.now thread) }
+    {
+        match self.search(thread) {
+            Ok(place) => {
+                let member = self.members()[place];
+                Some((member.process, member.priority))
+            }
+            Err(_) => None,
+        }
+    }
+
+    /// The threads, in rising number.
+    pub fn members(&self) -> &[Member]
+        ensures all { result.now ≡ self.now }
+        ensures rising { IsRoster result.now }
+        ensures fits { length result.now ≤ 64 }
+    {
+        self.members.as_slice()
+    }
+
+    /// How many threads.
+    pub fn len(&self) -> usize
+        ensures value { result ≡ length self.now }
+        ensures fits { result ≤ 64 }
+    {
+        self.members.len()
+    }
+
+    /// Whether there are none.
+    pub fn is_empty(&self) -> bool
+        ensures { result ≡ (length self.now == 0) }
+    {
+        self.members.is_empty()
+    }
+
+    // The place of a thread, or the place that it would have.
+    fn search(&self, thread: ThreadNo) -> Result<usize, usize>
+        ensures there { IfOk result (λ i.
+            (i < length self.now)
+            × (slice_get self.now i ≡ member_at self.now thread)
+            × (is_some (member_at self.now thread) ≡ true)) }
+        ensures absent { IfErr result (λ i.
+            (i ≤ length self.now)
+            × (member_at self.now thread ≡ None)
+            × ((m : Member) → m.thread ≡ thread →
+            (insert self.now i m ≡ joined m self.now) × IsRoster (insert self.now i m))) }
+    {
+        self.members()
+            .binary_search_by_key(&thread.0, |m| m.thread.0)
+    }
+}
