@@ -1,0 +1,142 @@
+-- An ending that answers a message: whose it is, by each call's row.
+use Rattle.std.proofs.Common.{◌≡◌, ◌∙◌, ℕ, List, ap, refl, sym, subst, true, false, inl, inr}
+use Rattle.std.specs.Prelude.{Some}
+use Rattle.std.proofs.lemmas.Bool.{true≢false}
+use Rattle.std.proofs.lemmas.Option.{none-some, same_Some}
+use Rattle.qkernel.specs.Answer.{row_of, ending}
+use Rattle.qqueue.specs.declared.item.What.TheVariants.{Message}
+use Rattle.qtables.specs.declared.connection.Connection.{Connection}
+use Rattle.qkernel.specs.Facts.{Facts, is_for_answer, sender, threads_of}
+use Rattle.qkernel.specs.Headline.AnsweredToSender.{answered_by, is_answer, thread_of_send}
+use Rattle.qkernel.specs.Rows.{Made, asks, makes}
+use Rattle.qkernel.specs.declared.call.Call.{Call}
+use Rattle.qkernel.specs.declared.call.Call.TheVariants.{ChannelCreate, ConnectAttach, Send, Receive, Reply}
+use Rattle.qkernel.specs.declared.call.Completion.{Completion}
+use Rattle.qkernel.specs.declared.open_call.OpenCall.{OpenCall}
+use Rattle.qkernel.specs.declared.open_call.Wait.{Wait}
+use Rattle.qkernel.specs.declared.open_call.Wait.TheVariants.{Answer, Item as ForItem}
+use Rattle.qkernel.proofs.Past.Lists.{eqb_same}
+use Rattle.qkernel.proofs.Past.Senders.{sender_sends}
+use Rattle.qkernel.proofs.Past.Laws.{Passes}
+use Rattle.qkernel.proofs.Properties.Receipts.{ending_of}
+use Rattle.qkernel.proofs.Properties.Rows.Receive.{receive_takes}
+use Rattle.qkernel.proofs.Properties.Rows.Reply.{IsHeldFor, reply_answers, has_sender, held_for, answered_held, answering}
+use Rattle.qkernel.proofs.Properties.Rows.Send.{has_way, send_meets, way_leads}
+
+-- ---- what answers
+
+-- the call names the message of the ending, which thread u sent and is held for the caller
+pub record AnswersHeld (f : Facts) (t : ℕ) (c : Call) (u : ℕ) (y : Completion) : Type 0 where
+  pub named : answered_by c ≡ Some y.call
+  pub is_sender : sender f y.call ≡ Some u
+  pub held : IsHeldFor f t (f.open_call u)
+  pub number : held.waiting.number ≡ y.call
+  pub thread : y.thread ≡ u
+
+no_answer : {P : Type 0} (x y : Completion) → x ≡ y → is_answer x.mark ≡ false → is_answer y.mark ≡ true → P
+no_answer x y same none e = absurd (true≢false (sym e ∙ ap (λ z. is_answer z.mark) (sym same) ∙ none))
+
+own_answers : (f : Facts) (t : ℕ) (c : Call) (u : ℕ) (y : Completion) → (row_of f t c).own ≡ Some y → is_answer y.mark ≡ true → AnswersHeld f t c u y
+own_answers f t (ChannelCreate flags) u y e is = no_answer _ y (same_Some _ y e) refl is
+own_answers f t (ConnectAttach chid) u y e is = no_answer _ y (same_Some _ y e) refl is
+own_answers f t (Send coid message reply_buffer) u y e is = absurd (none-some y e)
+own_answers f t (Receive chid buffer) u y e is = no_answer _ y (receive_takes f t chid buffer y e).ending refl is
+own_answers f t (Reply rcvid status bytes) u y e is = no_answer _ y (same_Some _ y e) refl is
+
+ends_answers : (f : Facts) (t : ℕ) (c : Call) (u : ℕ) (y : Completion) → Passes f t c → (row_of f t c).ends u ≡ Some y → is_answer y.mark ≡ true → AnswersHeld f t c u y
+ends_answers f t (ChannelCreate flags) u y p e is = absurd (none-some y e)
+ends_answers f t (ConnectAttach chid) u y p e is = absurd (none-some y e)
+ends_answers f t (Send coid message reply_buffer) u y p e is = no_answer _ y (send_meets f t coid message u y e).ending refl is
+ends_answers f t (Receive chid buffer) u y p e is = absurd (none-some y e)
+ends_answers f t (Reply rcvid status bytes) u y p e is =
+    let r = reply_answers f t rcvid status bytes u y p.row e in
+    let call : rcvid ≡ y.call = ap (λ x. x.call) r.ending in
+    record {
+      named = ap (λ i. Some i) call;
+      is_sender = subst (λ i. sender f i ≡ Some u) call r.is_sender;
+      held = r.held;
+      number = r.number ∙ call;
+      thread = sym (ap (λ x. x.thread) r.ending);
+    }
+
+-- each ending that answers a message answers so
+pub answers_held : (f : Facts) (t : ℕ) (c : Call) (u : ℕ) (y : Completion) → Passes f t c → ending f t c u ≡ Some y → is_answer y.mark ≡ true → AnswersHeld f t c u y
+answers_held f t c u y p e is = elim (ending_of f t c u y e) [
+  | inl h ↦ own_answers f t c u y h.1 is
+  | inr h ↦ ends_answers f t c u y p h.1 is
+]
+
+-- an accepted call that answers message i ends the open call of its sender so
+pub record AnswersOne (f : Facts) (t : ℕ) (c : Call) (i : ℕ) : Type 0 where
+  pub thread : ℕ
+  pub is_sender : sender f i ≡ Some thread
+  pub waiting : OpenCall
+  pub is_open : f.open_call thread ≡ Some waiting
+  pub given : Completion
+  pub is : (row_of f t c).ends thread ≡ Some given
+  pub call : given.call ≡ i
+  pub answers : is_answer given.mark ≡ true
+
+pub answers_one : (f : Facts) (t : ℕ) (c : Call) (i : ℕ) → Passes f t c → answered_by c ≡ Some i → AnswersOne f t c i
+answers_one f t (ChannelCreate flags) i p e = absurd (none-some i e)
+answers_one f t (ConnectAttach chid) i p e = absurd (none-some i e)
+answers_one f t (Send coid message reply_buffer) i p e = absurd (none-some i e)
+answers_one f t (Receive chid buffer) i p e = absurd (none-some i e)
+answers_one f t (Reply rcvid status bytes) i p e =
+    let s = has_sender f t rcvid p.row in
+    let h = held_for f t rcvid s.0 p.row s.1 in
+    let k = sender_sends f.open_call rcvid (threads_of f.roster) s.0 s.1 in
+    let same : rcvid ≡ i = same_Some rcvid i e in
+    record {
+      thread = s.0;
+      is_sender = subst (λ j. sender f j ≡ Some s.0) same s.1;
+      waiting = h.waiting;
+      is_open = h.is_open;
+      given = answering h.waiting.number s.0 status h.reply_buffer bytes;
+      is = rw (s.1, eqb_same s.0) (answered_held f t status bytes s.0 (f.open_call s.0) h);
+      call = sym (ap (λ o. o.number) (same_Some k.waiting h.waiting (sym k.is ∙ h.is_open))) ∙ k.number ∙ same;
+      answers = refl;
+    }
+
+-- ---- what waits for an answer
+
+-- a call that waits for an answer is a Send, over a connection that its item's channel is of
+pub record SendsOver (f : Facts) (t : ℕ) (c : Call) (coid : ℕ) : Type 0 where
+  pub connection : Connection
+  pub is_connection : f.connection coid ≡ Some connection
+  pub made : Made
+  pub is_made : makes f.connection f.priority f.number t c ≡ Some made
+  pub channel : made.channel ≡ connection.channel
+
+-- the connection of a wait for an answer
+abbrev pub over : Wait → ℕ
+over (Answer coid message reply_buffer receipt) = coid
+over (ForItem chid buffer) = 0
+
+send_over : (f : Facts) (t coid : ℕ) (message reply_buffer : List ℕ) → Passes f t (Send coid message reply_buffer) → SendsOver f t (Send coid message reply_buffer) coid
+send_over f t coid message reply_buffer p =
+    let h = has_way f t coid p.row in
+    let l = way_leads f t coid h.0 h.1 in
+    record {
+      connection = l.connection;
+      is_connection = l.is;
+      made = record { item = record { number = f.number; priority = f.priority t; what = Message }; channel = l.connection.channel };
+      is_made = rw (l.is) refl;
+      channel = refl;
+    }
+
+pub sends_over : (f : Facts) (t : ℕ) (c : Call) (b : OpenCall) → Passes f t c → asks f.number c ≡ Some b → is_for_answer b.wait ≡ true → SendsOver f t c (over b.wait)
+sends_over f t (ChannelCreate flags) b p e w = absurd (none-some b e)
+sends_over f t (ConnectAttach chid) b p e w = absurd (none-some b e)
+sends_over f t (Reply rcvid status bytes) b p e w = absurd (none-some b e)
+sends_over f t (Receive chid buffer) b p e w = absurd (true≢false (sym w ∙ ap (λ o. is_for_answer o.wait) (sym (same_Some _ b e))))
+sends_over f t (Send coid message reply_buffer) b p e w =
+    subst (SendsOver f t (Send coid message reply_buffer)) (ap (λ o. over o.wait) (same_Some _ b e)) (send_over f t coid message reply_buffer p)
+
+-- and its thread is the caller
+pub sends_by : (n t : ℕ) (c : Call) (b : OpenCall) → asks n c ≡ Some b → is_for_answer b.wait ≡ true → thread_of_send t c ≡ Some t
+sends_by n t (ChannelCreate flags) b e w = absurd (none-some b e)
+sends_by n t (ConnectAttach chid) b e w = absurd (none-some b e)
+sends_by n t (Send coid message reply_buffer) b e w = refl
+sends_by n t (Receive chid buffer) b e w = absurd (true≢false (sym w ∙ ap (λ o. is_for_answer o.wait) (sym (same_Some _ b e))))
+sends_by n t (Reply rcvid status bytes) b e w = absurd (none-some b e)

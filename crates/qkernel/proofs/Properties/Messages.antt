@@ -1,0 +1,182 @@
+-- The messages and buffers of open calls are those that their calls brought, and a message that is pending has its Send open.
+use Rattle.std.proofs.Common.{◌≡◌, ◌∙◌, ℕ, ◌+◌, List, [], ◌∷◌, length, refl, ap, sym, subst, cond, eqb, true, false}
+use Rattle.std.specs.Prelude.{Option, None, Some, not, ◌&&◌}
+use Rattle.std.specs.Option.{option_and_then, option_map_or}
+use Rattle.std.proofs.lemmas.Bool.{eqb-true, or_parts, and_parts}
+use Rattle.std.proofs.lemmas.Option.{none-some, same_Some}
+use Rattle.qqueue.specs.Best.{is_pulse}
+use Rattle.qqueue.specs.declared.item.Item.{Item}
+use Rattle.qtables.specs.declared.connection.Connection.{Connection}
+use Rattle.qtables.specs.declared.member.Member.{Member}
+use Rattle.qkernel.specs.Buffers.{buffer_of}
+use Rattle.qkernel.specs.Facts.{is_for_answer, message, message_in, message_of, sender, threads_of, is_send}
+use Rattle.qkernel.specs.Headline.CopiedExactly.{buffer_at, message_at, message_of as message_in_call}
+use Rattle.qkernel.specs.Lawful.{facts_of, IsLawful}
+use Rattle.qkernel.specs.Past.{connection_at, ends, held_with, is_accepted, is_ended, item_of, newest_block, open_call, priority_of_item, priority_of_thread, receipt_of, with_receipt}
+use Rattle.qkernel.specs.Rows.{Made, asks, makes, sent_over}
+use Rattle.qkernel.specs.Trace.{Event, Trace}
+use Rattle.qkernel.specs.declared.call.Call.{Call}
+use Rattle.qkernel.specs.declared.call.Call.TheVariants.{ChannelCreate, ConnectAttach, Send, Receive, Reply}
+use Rattle.qkernel.specs.declared.open_call.OpenCall.{OpenCall}
+use Rattle.qkernel.specs.declared.open_call.Receipt.{Receipt}
+use Rattle.qkernel.specs.declared.open_call.Wait.{Wait}
+use Rattle.qkernel.specs.declared.open_call.Wait.TheVariants.{Answer, Item as ForItem}
+use Rattle.qkernel.proofs.Past.Ends.{known, open_known, passes_of}
+use Rattle.qkernel.proofs.Past.Items.{IsPending, item_at}
+use Rattle.qkernel.proofs.Past.Lists.{eqb_same}
+use Rattle.qkernel.proofs.Past.Numbers.{blocks, blocks_thread, block_asked, open_from, open_parts, open_thread, receipt_for_answer, receipt_number}
+use Rattle.qkernel.proofs.Past.RowLaws.{call_laws}
+use Rattle.qkernel.proofs.Past.Senders.{send_from, send_parts, sender_found}
+use Rattle.qkernel.proofs.Properties.Events.{outcome_of}
+use Rattle.qkernel.proofs.Properties.Sends.{open_keeps}
+
+-- ---- what a call brings is what it waits with
+
+-- the buffer that a thread waits with
+abbrev pub awaited : Wait → List ℕ
+awaited (Answer coid sent reply_buffer receipt) = reply_buffer
+awaited (ForItem chid buffer) = buffer
+
+-- a call that begins to wait keeps its buffer and its message
+pub record Keeps (c : Call) (b : OpenCall) : Type 0 where
+  pub buffer : buffer_of c ≡ awaited b.wait
+  pub sent : message_in_call c ≡ message_of b.wait
+
+pub keeps : (n : ℕ) (c : Call) (b : OpenCall) → asks n c ≡ Some b → Keeps c b
+keeps n (ChannelCreate flags) b e = absurd (none-some b e)
+keeps n (ConnectAttach chid) b e = absurd (none-some b e)
+keeps n (Reply rcvid status bytes) b e = absurd (none-some b e)
+keeps n (Send coid message reply_buffer) b e = subst (Keeps (Send coid message reply_buffer)) (same_Some _ b e) (record { buffer = refl; sent = refl })
+keeps n (Receive chid buffer) b e = subst (Keeps (Receive chid buffer)) (same_Some _ b e) (record { buffer = refl; sent = refl })
+
+held_awaited : (receipt : Receipt) (w : Wait) → awaited (held_with receipt w) ≡ awaited w
+held_awaited receipt (Answer coid sent reply_buffer before) = refl
+held_awaited receipt (ForItem chid buffer) = refl
+
+held_message : (receipt : Receipt) (w : Wait) → message_of (held_with receipt w) ≡ message_of w
+held_message receipt (Answer coid sent reply_buffer before) = refl
+held_message receipt (ForItem chid buffer) = refl
+
+-- the buffer of an open call is the one that the call of its number brought
+pub open_buffer : (roster : List Member) (past : Trace) (u : ℕ) (o : OpenCall) → open_call roster past u ≡ Some o → buffer_at past o.number ≡ awaited o.wait
+open_buffer roster past u o is =
+    let k = open_parts roster past u o is in
+    let a = block_asked past u k.block k.is in
+    ap (buffer_at past) k.number ∙ ap (λ c. option_map_or buffer_of c []) a.is ∙ (keeps k.block.number a.call k.block a.asks_it).buffer ∙ sym (open_keeps awaited roster past u o k held_awaited)
+
+-- and so is its message
+pub open_message : (roster : List Member) (past : Trace) (u : ℕ) (o : OpenCall) → open_call roster past u ≡ Some o → message_at past o.number ≡ message_of o.wait
+open_message roster past u o is =
+    let k = open_parts roster past u o is in
+    let a = block_asked past u k.block k.is in
+    ap (message_at past) k.number ∙ ap (λ c. option_map_or message_in_call c []) a.is ∙ (keeps k.block.number a.call k.block a.asks_it).sent ∙ sym (open_keeps message_of roster past u o k held_message)
+
+-- ---- what is pending is a message whose Send waits
+
+-- the item is a message, and the call that makes it waits for the answer
+pub record IsMessage (n : ℕ) (c : Call) (m : Made) : Type 0 where
+  pub is_message : is_pulse m.item.what ≡ false
+  pub begins : OpenCall
+  pub asked : asks n c ≡ Some begins
+  pub answer : is_for_answer begins.wait ≡ true
+
+sent_message : (o : Option Connection) (n priority : ℕ) (m : Made) → sent_over o n priority ≡ Some m → is_pulse m.item.what ≡ false
+sent_message None n priority m e = absurd (none-some m e)
+sent_message (Some c) n priority m e = ap (λ x. is_pulse x.item.what) (sym (same_Some _ m e))
+
+pub makes_message : (connection : ℕ → Option Connection) (priority : ℕ → ℕ) (n t : ℕ) (c : Call) (m : Made) → makes connection priority n t c ≡ Some m → IsMessage n c m
+makes_message connection priority n t (ChannelCreate flags) m e = absurd (none-some m e)
+makes_message connection priority n t (ConnectAttach chid) m e = absurd (none-some m e)
+makes_message connection priority n t (Receive chid buffer) m e = absurd (none-some m e)
+makes_message connection priority n t (Reply rcvid status bytes) m e = absurd (none-some m e)
+makes_message connection priority n t (Send coid message reply_buffer) m e = record {
+  is_message = sent_message (connection coid) n (priority t) m e;
+  begins = record { number = n; wait = Answer coid message reply_buffer None };
+  asked = refl;
+  answer = refl;
+}
+
+-- the call of number i is the newest blocking call of a thread, and waits for an answer
+pub record IsWaiting (past : Trace) (i : ℕ) : Type 0 where
+  pub thread : ℕ
+  pub block : OpenCall
+  pub is : newest_block past thread ≡ Some block
+  pub number : block.number ≡ i
+  pub answer : is_for_answer block.wait ≡ true
+
+-- an event that made an item was accepted, and its call makes it
+pub made_accepted : (roster : List Member) (e : Event) (past : Trace) (m : Made) → item_of roster e past ≡ Some m
+    → (is_accepted e past ≡ true) × (makes (connection_at roster past) (priority_of_thread roster past) (length past + 1) e.thread e.call ≡ Some m)
+made_accepted roster e past m is =
+    elim (is_accepted e past) as (λ b. cond b (makes (connection_at roster past) (priority_of_thread roster past) (length past + 1) e.thread e.call) None ≡ Some m
+    → (b ≡ true) × (makes (connection_at roster past) (priority_of_thread roster past) (length past + 1) e.thread e.call ≡ Some m)) [
+      | true ↦ λ at. (refl, at)
+      | false ↦ λ at. absurd (none-some m at)
+    ] is
+
+-- a newest block that waits stays the newest, until it is ended
+pub block_stays : (roster : List Member) (e : Event) (past : Trace) (u : ℕ) (b : OpenCall) → IsLawful roster (e ∷ past) → newest_block past u ≡ Some b → is_ended past b.number ≡ false → newest_block (e ∷ past) u ≡ Some b
+block_stays roster e past u b l is going =
+    elim (blocks e past u) as (λ t. blocks e past u ≡ t → cond t (asks (length past + 1) e.call) (newest_block past u) ≡ Some b) [
+      | true ↦ λ h.
+          let a = outcome_of roster e past l.2 (and_parts _ _ (and_parts _ _ h).0).1 in
+          let idle : open_call roster past e.thread ≡ None = (passes_of (facts_of roster past) e.thread e.call e.endings a).idle in
+          absurd (none-some _ (sym idle ∙ ap (open_call roster past) (blocks_thread e past u h) ∙ open_from roster past u b is going))
+      | false ↦ λ h. is
+    ] refl
+
+pub item_waits : (roster : List Member) (past : Trace) (i : ℕ) (m : Made) → IsLawful roster past → item_at roster past i ≡ Some m → is_ended past i ≡ false → IsWaiting past i
+item_waits roster [] i m l is going = absurd (none-some m is)
+item_waits roster (e ∷ past) i m l is going =
+    elim (eqb i (length past + 1)) as (λ b. eqb i (length past + 1) ≡ b → cond b (item_of roster e past) (item_at roster past i) ≡ Some m → IsWaiting (e ∷ past) i) [
+      | true ↦ λ same at.
+          let k = made_accepted roster e past m at in
+          let w = makes_message (connection_at roster past) (priority_of_thread roster past) (length past + 1) e.thread e.call m k.1 in
+          record {
+            thread = e.thread;
+            block = w.begins;
+            is = rw (eqb_same e.thread, k.0, w.asked) refl;
+            number = ((call_laws e.call).asks_one (length past + 1) w.begins w.asked).number ∙ sym (eqb-true _ _ same);
+            answer = w.answer;
+          }
+      | false ↦ λ other at.
+          let before : is_ended past i ≡ false = (or_parts (ends e.endings i) (is_ended past i) going).1 in
+          let k = item_waits roster past i m l.0 at before in
+          record {
+            thread = k.thread;
+            block = k.block;
+            is = block_stays roster e past k.thread k.block l k.is (subst (λ j. is_ended past j ≡ false) (sym k.number) before);
+            number = k.number;
+            answer = k.answer;
+          }
+    ] refl is
+
+-- each item is a message
+pub item_message : (roster : List Member) (past : Trace) (i : ℕ) (m : Made) → item_at roster past i ≡ Some m → is_pulse m.item.what ≡ false
+item_message roster [] i m is = absurd (none-some m is)
+item_message roster (e ∷ past) i m is =
+    elim (eqb i (length past + 1)) as (λ b. eqb i (length past + 1) ≡ b → cond b (item_of roster e past) (item_at roster past i) ≡ Some m → is_pulse m.item.what ≡ false) [
+      | true ↦ λ same at. (makes_message (connection_at roster past) (priority_of_thread roster past) (length past + 1) e.thread e.call m (made_accepted roster e past m at).1).is_message
+      | false ↦ λ other at. item_message roster past i m at
+    ] refl is
+
+-- a message that is pending isn't ended
+pending_going : (roster : List Member) (past : Trace) (h : ℕ) (item : Item) → IsPending roster past h item → is_ended past item.number ≡ false
+pending_going roster past h item p =
+    subst (λ b. (not b && is_ended past item.number) ≡ false) (item_message roster past item.number (record { item = item; channel = h }) p.made) (or_parts _ _ p.stays).1
+
+-- the message of a pending item is that of the call of its number
+pub pending_message : (roster : List Member) (past : Trace) (h : ℕ) (item : Item) → IsLawful roster past → IsPending roster past h item → message (facts_of roster past) item.number ≡ message_at past item.number
+pending_message roster past h item l p =
+    let going : is_ended past item.number ≡ false = pending_going roster past h item p in
+    let w = item_waits roster past item.number (record { item = item; channel = h }) l p.made going in
+    let o = with_receipt (priority_of_item roster past w.block.number) (receipt_of past w.block.number) w.block in
+    let is : open_call roster past w.thread ≡ Some o = open_from roster past w.thread w.block w.is (subst (λ j. is_ended past j ≡ false) (sym w.number) going) in
+    let number : o.number ≡ item.number = receipt_number (priority_of_item roster past w.block.number) (receipt_of past w.block.number) w.block ∙ w.number in
+    let answer : is_for_answer o.wait ≡ true = receipt_for_answer (priority_of_item roster past w.block.number) (receipt_of past w.block.number) w.block ∙ w.answer in
+    let sends : is_send item.number (open_call roster past w.thread) ≡ true = ap (is_send item.number) is ∙ send_from item.number o number answer in
+    let found : sender (facts_of roster past) item.number ≡ Some w.thread =
+    sender_found (open_call roster past) item.number (threads_of roster) w.thread (known roster w.thread (open_known roster past w.thread o l is)) sends (λ v e.
+    let s = send_parts item.number (open_call roster past v) e in
+    open_thread roster past v w.thread s.waiting o s.is is (s.number ∙ sym number)) in
+    ap (λ s. message_in (option_and_then (open_call roster past) s)) found ∙ ap message_in is ∙ sym (open_message roster past w.thread o is) ∙ ap (message_at past) number

@@ -1,0 +1,136 @@
+-- An event ends no more calls than its own and the open ones.
+use Rattle.std.proofs.Common.{◌≡◌, ℕ, ◌+◌, ◌<◌, ◌≤◌, List, [], ◌∷◌, length, refl, ap, sym, subst, ◌∙◌, cond, arith, Bool, true, false, eqb}
+use Rattle.std.specs.Prelude.{Option, None, Some, is_some, ◌||◌}
+use Rattle.std.specs.List.{filter_map, cons_option, AllByRecursion}
+use Rattle.std.specs.Option.{option_map}
+use Rattle.std.proofs.lemmas.Bool.{eqb-true, eq-eqb, ne_eqb, true≢false}
+use Rattle.qtables.specs.Members.{IsRoster}
+use Rattle.qkernel.specs.declared.call.Call.{Call}
+use Rattle.qkernel.specs.declared.call.Completion.{Completion}
+use Rattle.qkernel.specs.declared.open_call.OpenCall.{OpenCall}
+use Rattle.qkernel.specs.declared.thread.Thread.{Thread}
+use Rattle.qkernel.specs.Answer.{row_of, ending, Outcome}
+use Rattle.qkernel.specs.Facts.{threads_of}
+use Rattle.qkernel.specs.Rows.{Received}
+use Rattle.qkernel.specs.State.{State, facts_in}
+use Rattle.qkernel.specs.Stands.{Step, Steps}
+use Rattle.qkernel.specs.Step.{Follows, unless, after_receipt, is_thread, held_call}
+use Rattle.qkernel.specs.Threads.{members_of, open_in, blocked_count}
+use Rattle.qkernel.proofs.Past.Ends.{row_passes}
+use Rattle.qkernel.proofs.Past.Laws.{RowLaws}
+use Rattle.qkernel.proofs.Past.RowLaws.{row_laws}
+use Rattle.qkernel.proofs.Rosters.{Rises, rises, is_among}
+use Rattle.qkernel.proofs.Senders.{own_open}
+
+-- one where there is something
+abbrev one : {A : Type 0} → Option A → ℕ
+one None = 0
+one (Some x) = 1
+
+one_most : {A : Type 0} (o : Option A) → one o ≤ 1
+one_most None = omega arith
+one_most (Some x) = omega arith
+
+-- how many of these threads wait
+opens : (ℕ → Option OpenCall) → List ℕ → ℕ
+opens f [] = 0
+opens f (u ∷ ts) = one (f u) + opens f ts
+
+length-cons : {A : Type 0} (o : Option A) (xs : List A) → length (cons_option o xs) ≡ one o + length xs
+length-cons None xs = omega arith
+length-cons (Some x) xs = omega arith
+
+not_later : (t : ℕ) (ts : List ℕ) → AllByRecursion (λ u. t < u) ts → is_among ts t ≡ false
+not_later t [] h = refl
+not_later t (u ∷ ts) h = let other : eqb u t ≡ false = ne_eqb u t (λ s. let l : t < u = h.0 in omega arith) in rw (other, not_later t ts h.1) refl
+
+-- the caller ends or waits, and any other thread only ends what it waited for
+sum_elsewhere : (e : ℕ → Option Completion) (f g : ℕ → Option OpenCall) (t : ℕ) (ts : List ℕ) → ((u : ℕ) → eqb u t ≡ false → one (e u) + one (g u) ≤ one (f u)) → is_among ts t ≡ false
+    → length (filter_map e ts) + opens g ts ≤ opens f ts
+unfolding opens
+sum_elsewhere e f g t [] h away = omega arith
+sum_elsewhere e f g t (u ∷ ts) h away =
+    elim (eqb u t) as (λ b. eqb u t ≡ b → (b || is_among ts t) ≡ false → length (cons_option (e u) (filter_map e ts)) + (one (g u) + opens g ts) ≤ one (f u) + opens f ts) [
+      | true ↦ λ s a. absurd (true≢false a)
+      | false ↦ λ s a.
+          let here : one (e u) + one (g u) ≤ one (f u) = h u s in
+          let rest : length (filter_map e ts) + opens g ts ≤ opens f ts = sum_elsewhere e f g t ts h a in
+          rw (length-cons (e u) (filter_map e ts)) (omega arith)
+    ] refl away
+
+sum_all : (e : ℕ → Option Completion) (f g : ℕ → Option OpenCall) (t : ℕ) (ts : List ℕ) → ((u : ℕ) → eqb u t ≡ false → one (e u) + one (g u) ≤ one (f u)) → one (e t) + one (g t) ≤ 1 → Rises ts
+    → length (filter_map e ts) + opens g ts ≤ opens f ts + 1
+unfolding opens
+sum_all e f g t [] h own r = omega arith
+sum_all e f g t (u ∷ ts) h own r =
+    elim (eqb u t) as (λ b. eqb u t ≡ b → length (cons_option (e u) (filter_map e ts)) + (one (g u) + opens g ts) ≤ one (f u) + opens f ts + 1) [
+      | true ↦ λ s.
+          let same : u ≡ t = eqb-true u t s in
+          let here : one (e u) + one (g u) ≤ 1 = subst (λ v. one (e v) + one (g v) ≤ 1) (sym same) own in
+          let rest : length (filter_map e ts) + opens g ts ≤ opens f ts = sum_elsewhere e f g t ts h (subst (λ v. is_among ts v ≡ false) same (not_later u ts r.0)) in
+          rw (length-cons (e u) (filter_map e ts)) (omega arith)
+      | false ↦ λ s.
+          let here : one (e u) + one (g u) ≤ one (f u) = h u s in
+          let rest : length (filter_map e ts) + opens g ts ≤ opens f ts + 1 = sum_all e f g t ts h own r.1 in
+          rw (length-cons (e u) (filter_map e ts)) (omega arith)
+    ] refl
+
+one-map : {A B : Type 0} (k : A → B) (o : Option A) → one (option_map k o) ≡ one o
+one-map k None = refl
+one-map k (Some x) = refl
+
+one-receipt : (r : Option Received) (u : ℕ) (o : Option OpenCall) → one (after_receipt r u o) ≡ one o
+one-receipt None u o = refl
+one-receipt (Some r) u o = elim (is_thread r.sender u) as (λ b. one (cond b (option_map (held_call r.kept) o) o) ≡ one o) [ true ↦ one-map (held_call r.kept) o | false ↦ refl ]
+
+one-unless : (y : Option Completion) (o : Option OpenCall) → one y + one (unless (is_some y) o) ≤ 1
+one-unless None o = let most : one o ≤ 1 = one_most o in omega arith
+one-unless (Some y) o = omega arith
+
+-- ---- a step
+
+opens_same : (f g : ℕ → Option OpenCall) (ts : List ℕ) → ((u : ℕ) → f u ≡ g u) → opens f ts ≡ opens g ts
+unfolding opens
+opens_same f g [] h = refl
+opens_same f g (u ∷ ts) h = rw (h u, opens_same f g ts h) refl
+
+opens_blocked : (f : ℕ → Option OpenCall) (threads : List Thread) → AllByRecursion (λ x. f x.member.thread ≡ x.open_call) threads → opens f (threads_of (members_of threads)) ≡ blocked_count threads
+unfolding opens
+opens_blocked f [] h = refl
+opens_blocked f (t ∷ threads) h = rw (h.0, opens_blocked f threads h.1) (elim t.open_call as (λ o. one o + blocked_count threads ≡ cond (is_some o) 1 0 + blocked_count threads) [ None ↦ refl | Some o ↦ refl ])
+
+module _ (old : State) (t : ℕ) (c : Call) (X : List Completion) (new : State) (roster : IsRoster (members_of old.threads)) where
+  before : opens (open_in old.threads) (threads_of (members_of old.threads)) ≡ blocked_count old.threads
+  before = opens_blocked (open_in old.threads) old.threads (own_open old.threads roster)
+
+  after : members_of new.threads ≡ members_of old.threads → opens (open_in new.threads) (threads_of (members_of old.threads)) ≡ blocked_count new.threads
+  after same = ap (λ ms. opens (open_in new.threads) (threads_of ms)) (sym same) ∙ opens_blocked (open_in new.threads) new.threads (own_open new.threads (subst IsRoster (sym same) roster))
+
+  room_accepted : Outcome true (facts_in old) t c X → Follows (facts_in old) t c true (facts_in new) → length X + blocked_count new.threads ≤ blocked_count old.threads + 1
+  room_accepted answer follows =
+      let passes = row_passes (facts_in old) t c answer.0 in
+      let laws = row_laws (facts_in old) t c passes in
+      let apart = λ (u : ℕ) (other : eqb u t ≡ false). one_apart u other laws follows in
+      let own : one (ending (facts_in old) t c t) + one (open_in new.threads t) ≤ 1 = rw (follows.open_call t, eq-eqb t t refl) (one-unless (row_of (facts_in old) t c).own _) in
+      let sum : length (filter_map (ending (facts_in old) t c) (threads_of (members_of old.threads))) + opens (open_in new.threads) (threads_of (members_of old.threads)) ≤ opens (open_in old.threads) (threads_of (members_of old.threads)) + 1
+      = sum_all (ending (facts_in old) t c) (open_in old.threads) (open_in new.threads) t (threads_of (members_of old.threads)) apart own (rises (members_of old.threads) roster) in
+      rw (answer.1, ← before, ← after follows.roster) sum
+    where
+      one_apart : (u : ℕ) → eqb u t ≡ false → RowLaws (facts_in old) t c → Follows (facts_in old) t c true (facts_in new) → one (ending (facts_in old) t c u) + one (open_in new.threads u) ≤ one (open_in old.threads u)
+      one_apart u other laws follows = rw (follows.open_call u, other) (
+          elim ((row_of (facts_in old) t c).ends u) as (λ y. (row_of (facts_in old) t c).ends u ≡ y → one y + one (unless (is_some y) (after_receipt (row_of (facts_in old) t c).receipt u (open_in old.threads u))) ≤ one (open_in old.threads u)) [
+            | None ↦ λ e. rw (one-receipt (row_of (facts_in old) t c).receipt u (open_in old.threads u)) (omega arith)
+            | Some y ↦ λ e. let waits = laws.ends_open u y e in rw (waits.is) (omega arith)
+          ] refl)
+
+  room_refused : Outcome false (facts_in old) t c X → Follows (facts_in old) t c false (facts_in new) → length X + blocked_count new.threads ≤ blocked_count old.threads + 1
+  room_refused answer follows =
+      let same : opens (open_in new.threads) (threads_of (members_of old.threads)) ≡ opens (open_in old.threads) (threads_of (members_of old.threads)) = opens_same _ _ _ follows.open_call in
+      let kept : blocked_count new.threads ≡ blocked_count old.threads = sym (after follows.roster) ∙ same ∙ before in
+      rw (answer.2, kept) (omega arith)
+
+  pub steps_room : Steps old t c X new → length X + blocked_count new.threads ≤ blocked_count old.threads + 1
+  steps_room step = by step.0 step.1 where
+    by : (accepted : Bool) → Step old t c accepted X new → length X + blocked_count new.threads ≤ blocked_count old.threads + 1
+    by true step = room_accepted step.answer step.follows
+    by false step = room_refused step.answer step.follows

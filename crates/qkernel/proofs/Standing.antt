@@ -1,0 +1,109 @@
+-- A step of the kernel's content is a step at each trace at which it stands.
+use Rattle.std.proofs.Common.{◌≡◌, ℕ, ◌+◌, ◌≤◌, List, [], ◌∷◌, suc, map, cond, eqb, length, refl, ap, sym, subst, ◌∙◌, arith, Bool, true, false, inl, inr}
+use Rattle.std.specs.Prelude.{None, Some, is_some}
+use Rattle.qtables.specs.Members.{member_at, IsRoster}
+use Rattle.qtables.specs.declared.member.Member.{Member}
+use Rattle.qkernel.specs.declared.call.Call.{Call}
+use Rattle.qkernel.specs.declared.call.Completion.{Completion}
+use Rattle.qkernel.specs.Answer.{Outcome, Answers}
+use Rattle.qkernel.specs.Facts.{Facts}
+use Rattle.qkernel.specs.Lawful.{facts_of, with_event}
+use Rattle.qkernel.specs.Past.{priority_in}
+use Rattle.qkernel.specs.Stands.{StandsAt, Steps, AnswersAtTraces}
+use Rattle.qkernel.specs.State.{State, IsSound, facts_in}
+use Rattle.qkernel.specs.Step.{Follows}
+use Rattle.qkernel.specs.Threads.{members_of, open_in, level_in, ready}
+use Rattle.qkernel.specs.Trace.{Trace}
+use Rattle.qkernel.proofs.Past.Follows.{past_follows}
+
+-- facts that say the same of each thing are one
+same_facts : (f g : Facts) → f.roster ≡ g.roster → f.number ≡ g.number → ((h : ℕ) → f.channel h ≡ g.channel h) → f.open_channels ≡ g.open_channels → ((k : ℕ) → f.connection k ≡ g.connection k)
+    → f.live_connections ≡ g.live_connections → ((u : ℕ) → f.open_call u ≡ g.open_call u) → ((h : ℕ) → f.pending h ≡ g.pending h) → ((u : ℕ) → f.priority u ≡ g.priority u) → f ≡ g
+same_facts f g r n c oc k lk o p q = λ i. record {
+  roster = r i;
+  number = n i;
+  channel = λ h. c h i;
+  open_channels = oc i;
+  connection = λ x. k x i;
+  live_connections = lk i;
+  open_call = λ u. o u i;
+  pending = λ h. p h i;
+  priority = λ u. q u i;
+}
+
+follows_once : (f g k : Facts) (t : ℕ) (c : Call) (accept : Bool) → Follows f t c accept g → Follows f t c accept k → g ≡ k
+follows_once f g k t c accept a b = same_facts g k (a.roster ∙ sym b.roster) (a.number ∙ sym b.number) (λ h. a.channel h ∙ sym (b.channel h)) (a.open_channels ∙ sym b.open_channels)
+    (λ x. a.connection x ∙ sym (b.connection x)) (a.live_connections ∙ sym b.live_connections) (λ u. a.open_call u ∙ sym (b.open_call u)) (λ h. a.pending h ∙ sym (b.pending h)) (λ u. a.priority u ∙ sym (b.priority u))
+
+pub stands_facts : (roster : List Member) (s : State) (past : Trace) → StandsAt roster s past → facts_in s ≡ facts_of roster past
+stands_facts roster s past st = same_facts _ _ st.roster_is (ap (λ n. n + 1) st.made) st.channel st.open_channels st.connection st.live_connections st.open_call st.pending st.priority
+
+answer_of : (accept : Bool) (f : Facts) (t : ℕ) (c : Call) (X : List Completion) → Outcome accept f t c X → Answers f t c X
+answer_of true f t c X a = inl a
+answer_of false f t c X a = inr a
+
+pub step_at_traces : (old : State) (t : ℕ) (c : Call) (X : List Completion) (new : State) → IsRoster (members_of old.threads) → is_some (member_at (members_of old.threads) t) ≡ true → Steps old t c X new → AnswersAtTraces old t c X new
+step_at_traces old t c X new rises known step roster past lawful stands =
+    let accept = step.0 in
+    let same : facts_in old ≡ facts_of roster past = stands_facts roster old past stands in
+    let outcome : Outcome accept (facts_of roster past) t c X = subst (λ f. Outcome accept f t c X) same step.1.answer in
+    let now : Follows (facts_of roster past) t c accept (facts_in new) = subst (λ f. Follows f t c accept (facts_in new)) same step.1.follows in
+    let is_roster : IsRoster roster = subst IsRoster stands.roster_is rises in
+    let is_known : is_some (member_at roster t) ≡ true = subst (λ r. is_some (member_at r t) ≡ true) stands.roster_is known in
+    let after : facts_in new ≡ facts_of roster (with_event t c X past) = follows_once _ _ _ t c accept now (past_follows accept roster past t c X is_roster lawful is_known outcome) in
+    let number : new.made + 1 ≡ length past + 1 + 1 = ap (λ f. f.number) after ∙ omega arith in (
+      answer_of accept _ t c X outcome,
+      record {
+        roster_is = ap (λ f. f.roster) after;
+        made = omega arith;
+        channel = λ h. ap (λ f. f.channel h) after;
+        open_channels = ap (λ f. f.open_channels) after;
+        connection = λ k. ap (λ f. f.connection k) after;
+        live_connections = ap (λ f. f.live_connections) after;
+        open_call = λ u. ap (λ f. f.open_call u) after;
+        pending = λ h. ap (λ f. f.pending h) after;
+        priority = λ u. ap (λ f. f.priority u) after;
+      },
+    )
+
+-- the roster stays
+pub steps_roster : (old : State) (t : ℕ) (c : Call) (X : List Completion) (new : State) → Steps old t c X new → members_of new.threads ≡ members_of old.threads
+steps_roster old t c X new step = step.1.follows.roster
+
+-- one more call was made
+pub steps_made : (old : State) (t : ℕ) (c : Call) (X : List Completion) (new : State) → Steps old t c X new → new.made ≡ old.made + 1
+steps_made old t c X new step = let number : new.made + 1 ≡ old.made + 1 + 1 = step.1.follows.number in omega arith
+
+-- ---- a new kernel
+
+ready_members : (roster : List Member) → members_of (map ready roster) ≡ roster
+ready_members [] = refl
+ready_members (m ∷ roster) = ap (λ ms. m ∷ ms) (ready_members roster)
+
+ready_open : (roster : List Member) (u : ℕ) → open_in (map ready roster) u ≡ None
+ready_open [] u = refl
+ready_open (m ∷ roster) u = elim (eqb m.thread u) as (λ b. cond b None (open_in (map ready roster) u) ≡ None) [ true ↦ refl | false ↦ ready_open roster u ]
+
+ready_level : (roster : List Member) (u : ℕ) → level_in (map ready roster) u ≡ priority_in (member_at roster u)
+ready_level [] u = refl
+ready_level (m ∷ roster) u = elim (eqb m.thread u) as (λ b. cond b m.priority (level_in (map ready roster) u) ≡ priority_in (cond b (Some m) (member_at roster u))) [ true ↦ refl | false ↦ ready_level roster u ]
+
+ready_length : (roster : List Member) → length (map ready roster) ≡ length roster
+ready_length [] = refl
+ready_length (m ∷ roster) = ap suc (ready_length roster)
+
+pub sound_new : (roster : List Member) → length roster ≤ 64 → IsRoster roster → IsSound (record { made = 0; threads = map ready roster; channels = []; connections = [] })
+sound_new roster few r = record { few = rw (ready_length roster) few; roster = rw (ready_members roster) r; channel_ids = tt; connection_ids = tt; items = λ h. tt }
+
+pub stands_new : (roster : List Member) → StandsAt roster (record { made = 0; threads = map ready roster; channels = []; connections = [] }) []
+stands_new roster = record {
+  roster_is = ready_members roster;
+  made = refl;
+  channel = λ h. refl;
+  open_channels = refl;
+  connection = λ k. refl;
+  live_connections = refl;
+  open_call = λ u. ready_open roster u;
+  pending = λ h. refl;
+  priority = λ u. ready_level roster u;
+}

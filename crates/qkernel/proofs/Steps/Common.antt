@@ -1,0 +1,116 @@
+-- What the steps of all calls share.
+use Rattle.std.proofs.Common.{◌≡◌, ℕ, suc, ◌+◌, ◌<◌, ◌≤◌, List, [], ◌∷◌, ◌++◌, length, refl, ap, sym, ◌∙◌, cond, arith, true, false, eqb, add-zero}
+use Rattle.std.specs.Prelude.{Option, None, Some, is_some, ◌&&◌}
+use Rattle.std.specs.List.{AllByRecursion}
+use Rattle.std.proofs.lemmas.Bool.{eqb-true}
+use Rattle.qtables.specs.Entries.{entry_at}
+use Rattle.qtables.specs.Members.{member_at}
+use Rattle.qtables.specs.declared.connection.Connection.{Connection}
+use Rattle.qtables.specs.declared.member.Member.{Member}
+use Rattle.qkernel.specs.declared.call.Call.{Call}
+use Rattle.qkernel.specs.declared.call.Completion.{Completion}
+use Rattle.qkernel.specs.declared.channel.Channel.{Channel}
+use Rattle.qkernel.specs.declared.thread.Thread.{Thread}
+use Rattle.qbase.specs.declared.errno.Errno.{Errno}
+use Rattle.qkernel.specs.Answer.{MayRefuse, failed}
+use Rattle.qkernel.specs.Channels.{channel_in, pending_in, ids_of, is_of, way_in}
+use Rattle.qkernel.specs.Facts.{Facts, OpenChannel, is_in_process, is_owned_by, leads_to}
+use Rattle.qkernel.specs.State.{State, IsSound, facts_in}
+use Rattle.qkernel.specs.Stands.{Steps}
+use Rattle.qkernel.specs.Threads.{members_of, open_in, level_in}
+
+-- ---- refused calls
+
+-- one more call was made, and of the channels at most their room has changed
+pub record Counted (old new : State) : Type 0 where
+  pub made : new.made ≡ old.made + 1
+  pub threads : new.threads ≡ old.threads
+  pub connections : new.connections ≡ old.connections
+  pub ids : ids_of new.channels ≡ ids_of old.channels
+  pub channel : (h : ℕ) → channel_in new.channels h ≡ channel_in old.channels h
+  pub pending : (h : ℕ) → pending_in new.channels h ≡ pending_in old.channels h
+
+abbrev pub counted : State → State
+counted s = record { made = s.made + 1; threads = s.threads; channels = s.channels; connections = s.connections }
+
+pub counted_alone : (s : State) → Counted s (counted s)
+counted_alone s = record { made = refl; threads = refl; connections = refl; ids = refl; channel = λ h. refl; pending = λ h. refl }
+
+pub length_ids : (channels : List (ℕ × Channel)) → length (ids_of channels) ≡ length channels
+length_ids [] = refl
+length_ids (e ∷ channels) = ap suc (length_ids channels)
+
+pub count_same : (old new : List (ℕ × Channel)) → ids_of new ≡ ids_of old → length new ≡ length old
+count_same old new e = sym (length_ids new) ∙ ap length e ∙ length_ids old
+
+-- a call that is refused only counts
+pub step_refused : (s : State) (t : ℕ) (c : Call) (e : Errno) (X : List Completion) (new : State) → MayRefuse (facts_in s) t c e → X ≡ failed (facts_in s) t c e ∷ [] → Counted s new → Steps s t c X new
+step_refused s t c e X new may is counted = (
+  false,
+  record {
+    answer = (e, may, is);
+    follows = record {
+      roster = ap members_of counted.threads;
+      number = ap (λ n. n + 1) counted.made;
+      channel = counted.channel;
+      open_channels = count_same s.channels new.channels counted.ids ∙ sym (add-zero (length s.channels));
+      connection = λ k. ap (λ cs. entry_at cs k) counted.connections;
+      live_connections = ap length counted.connections ∙ sym (add-zero (length s.connections));
+      open_call = λ u. ap (λ ts. open_in ts u) counted.threads;
+      pending = counted.pending;
+      priority = λ u. ap (λ ts. level_in ts u) counted.threads;
+    };
+  },
+)
+
+-- the same where nothing else changed
+pub step_refused_alone : (s : State) (t : ℕ) (c : Call) (e : Errno) (X : List Completion) → MayRefuse (facts_in s) t c e → X ≡ failed (facts_in s) t c e ∷ []
+    → Steps s t c X (counted s)
+step_refused_alone s t c e X may is = step_refused s t c e X _ may is (counted_alone s)
+
+-- ---- soundness
+
+pub all_up_to : {X : Type 0} (f : X → ℕ) (n : ℕ) (xs : List X) → AllByRecursion (λ x. f x ≤ n) xs → AllByRecursion (λ x. f x ≤ n + 1) xs
+all_up_to f n [] h = tt
+all_up_to f n (x ∷ xs) h = let here : f x ≤ n = h.0 in (omega arith, all_up_to f n xs h.1)
+
+pub up_to_below : {X : Type 0} (f : X → ℕ) (n : ℕ) (xs : List X) → AllByRecursion (λ x. f x ≤ n) xs → AllByRecursion (λ x. f x < n + 1) xs
+up_to_below f n [] h = tt
+up_to_below f n (x ∷ xs) h = let here : f x ≤ n = h.0 in (omega arith, up_to_below f n xs h.1)
+
+pub all_push : {X : Type 0} (P : X → Type 0) (xs : List X) (x : X) → AllByRecursion P xs → P x → AllByRecursion P (xs ++ x ∷ [])
+all_push P [] x h p = (p, tt)
+all_push P (y ∷ xs) x h p = (h.0, all_push P xs x h.1 p)
+
+pub ids_below : (n : ℕ) (channels : List (ℕ × Channel)) → AllByRecursion (λ id. id ≤ n) (ids_of channels) → AllByRecursion (λ e. e.0 < n + 1) channels
+ids_below n [] h = tt
+ids_below n (e ∷ channels) h = let here : e.0 ≤ n = h.0 in (omega arith, ids_below n channels h.1)
+
+pub sound_counted : (old new : State) → Counted old new → IsSound old → IsSound new
+sound_counted old new counted sound = record {
+  few = rw (counted.threads) sound.few;
+  roster = rw (counted.threads) sound.roster;
+  channel_ids = rw (counted.ids, counted.made) (all_up_to (λ id. id) old.made (ids_of old.channels) sound.channel_ids);
+  connection_ids = rw (counted.connections, counted.made) (all_up_to (λ e. e.0) old.made old.connections sound.connection_ids);
+  items = λ h. rw (counted.pending h, counted.made) (all_up_to (λ item. item.number) old.made (pending_in old.channels h) (sound.items h));
+}
+
+pub sound_counted_alone : (s : State) → IsSound s → IsSound (counted s)
+sound_counted_alone s = sound_counted s _ (counted_alone s)
+
+-- ---- the caller
+
+pub owned_by_member : (f : Facts) (t : ℕ) (m : Member) (o : Option OpenChannel) → member_at f.roster t ≡ Some m → is_owned_by f t o ≡ is_of m.process o
+owned_by_member f t m None e = refl
+owned_by_member f t m (Some c) e = ap (is_in_process c.owner) e
+
+pub way-leads_to : (s : State) (t : ℕ) (m : Member) (o : Option Connection) → member_at (members_of s.threads) t ≡ Some m → leads_to (facts_in s) t o ≡ way_in m.process s.channels o
+way-leads_to s t m None e = refl
+way-leads_to s t m (Some c) e = ap (λ x. cond (is_in_process c.process x && is_some (channel_in s.channels c.channel)) (Some c.channel) None) e
+
+-- a caller that isn't blocked waits for nothing after a call that doesn't block it
+pub stays_free : (threads : List Thread) (t : ℕ) (u : ℕ) → open_in threads t ≡ None → open_in threads u ≡ cond (eqb u t) None (open_in threads u)
+stays_free threads t u free = elim (eqb u t) as (λ b. eqb u t ≡ b → open_in threads u ≡ cond b None (open_in threads u)) [
+  | true ↦ λ e. ap (open_in threads) (eqb-true u t e) ∙ free
+  | false ↦ λ e. refl
+] refl

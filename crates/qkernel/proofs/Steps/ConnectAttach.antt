@@ -1,0 +1,81 @@
+-- ConnectAttach as a step of the kernel.
+use Rattle.std.proofs.Common.{◌≡◌, ℕ, ◌+◌, ◌≤◌, List, [], ◌∷◌, ◌++◌, length, refl, ap, sym, ◌∙◌, cond, arith, true, false, eqb, append-nil, inl, inr}
+use Rattle.std.specs.Prelude.{None, Some, is_some}
+use Rattle.qbase.specs.declared.errno.Errno.{Errno}
+use Rattle.qbase.specs.declared.errno.Errno.TheVariants.{Srch, Again, NoMemory}
+use Rattle.qtables.specs.Entries.{entry_at}
+use Rattle.qtables.specs.Members.{member_at}
+use Rattle.qtables.specs.declared.member.Member.{Member}
+use Rattle.qkernel.specs.declared.call.Call.TheVariants.{ConnectAttach}
+use Rattle.qkernel.specs.declared.call.Completion.{Completion}
+use Rattle.qkernel.specs.declared.call.Mark.TheVariants as mark
+use Rattle.qkernel.specs.Answer.{MayRefuse, failed}
+use Rattle.qkernel.specs.Channels.{channel_in}
+use Rattle.qkernel.specs.Past.{attaches}
+use Rattle.qkernel.specs.State.{State, IsSound, facts_in}
+use Rattle.qkernel.specs.Stands.{Steps}
+use Rattle.qkernel.specs.Step.{put_at, one_for}
+use Rattle.qkernel.specs.Threads.{members_of, open_in}
+use Rattle.qkernel.proofs.Rosters.{rises, among, only_own}
+use Rattle.qkernel.proofs.Steps.Common.{counted, step_refused_alone, all_up_to, all_push, stays_free}
+use Rattle.qkernel.proofs.Tables.{entry_at-push, length-push}
+
+pub step_attach_nowhere : (s : State) (t chid : ℕ) (X : List Completion) → open_in s.threads t ≡ None → is_some (channel_in s.channels chid) ≡ false
+    → X ≡ failed (facts_in s) t (ConnectAttach chid) Srch ∷ [] → Steps s t (ConnectAttach chid) X (counted s)
+step_attach_nowhere s t chid X free closed is = step_refused_alone s t (ConnectAttach chid) Srch X (inl (rw (free, closed) refl)) is
+
+-- the table's refusal is the row's, or want of memory
+may_refuse : (s : State) (t chid : ℕ) (e : Errno) → open_in s.threads t ≡ None → is_some (channel_in s.channels chid) ≡ true → e ≡ cond (eqb (length s.connections) 1024) Again NoMemory
+    → MayRefuse (facts_in s) t (ConnectAttach chid) e
+may_refuse s t chid e free opens is =
+    elim (eqb (length s.connections) 1024) as (λ b. eqb (length s.connections) 1024 ≡ b → e ≡ cond b Again NoMemory → MayRefuse (facts_in s) t (ConnectAttach chid) e) [
+      | true ↦ λ full same. inl (rw (free, opens, full) (ap Some (sym same)))
+      | false ↦ λ room same. inr (rw (free, opens, room) refl, refl, same)
+    ] refl is
+
+pub step_attach_refused : (s : State) (t chid : ℕ) (e : Errno) (X : List Completion) → open_in s.threads t ≡ None → is_some (channel_in s.channels chid) ≡ true → e ≡ cond (eqb (length s.connections) 1024) Again NoMemory
+    → X ≡ failed (facts_in s) t (ConnectAttach chid) e ∷ [] → Steps s t (ConnectAttach chid) X (counted s)
+step_attach_refused s t chid e X free opens is X_is = step_refused_alone s t (ConnectAttach chid) e X (may_refuse s t chid e free opens is) X_is
+
+module _ (s : State) (t chid : ℕ) (m : Member) (sound : IsSound s) where
+  -- the kernel with the new connection
+  abbrev pub with_connection : State
+  with_connection = record {
+    made = s.made + 1;
+    threads = s.threads;
+    channels = s.channels;
+    connections = s.connections ++ (s.made + 1, record { process = m.process; channel = chid }) ∷ [];
+  }
+
+  pub step_attached : (X : List Completion) → member_at (members_of s.threads) t ≡ Some m → open_in s.threads t ≡ None → is_some (channel_in s.channels chid) ≡ true → eqb (length s.connections) 1024 ≡ false
+      → X ≡ record { call = s.made + 1; thread = t; mark = mark.Connection (s.made + 1); buffer = [] } ∷ [] → Steps s t (ConnectAttach chid) X with_connection
+  step_attached X known free opens room is = (
+    true,
+    record {
+      answer = (
+        rw (free, opens, room) refl,
+        is ∙ sym (only_own _ t (Some (record { call = s.made + 1; thread = t; mark = mark.Connection (s.made + 1); buffer = [] })) (rises (members_of s.threads) sound.roster) (among (members_of s.threads) t m known)),
+      );
+      follows = record {
+        roster = refl;
+        number = refl;
+        channel = λ h. rw known refl;
+        open_channels = rw known (omega arith);
+        connection = λ k. entry_at-push s.connections s.made (record { process = m.process; channel = chid }) k sound.connection_ids
+            ∙ ap (λ o. put_at (attaches o (ConnectAttach chid)) (s.made + 1) (entry_at s.connections) k) (sym known);
+        live_connections = length-push s.connections _ ∙ ap (λ o. length s.connections + one_for (attaches o (ConnectAttach chid))) (sym known);
+        open_call = λ u. stays_free s.threads t u free;
+        pending = λ h. sym (append-nil _);
+        priority = λ u. refl;
+      };
+    },
+  )
+
+  pub sound_attached : IsSound with_connection
+  sound_attached = record {
+    few = sound.few;
+    roster = sound.roster;
+    channel_ids = all_up_to (λ id. id) s.made _ sound.channel_ids;
+    connection_ids = all_push (λ e. e.0 ≤ s.made + 1) s.connections _ (all_up_to (λ e. e.0) s.made s.connections sound.connection_ids) (omega arith);
+    items = λ h. all_up_to (λ item. item.number) s.made _ (sound.items h);
+  }

@@ -1,0 +1,4 @@
+-- What the definitions of the past mean.
+pub mod Sent
+pub mod Unended
+pub mod Pending

@@ -1,0 +1,28 @@
+use Rattle.std.proofs.Common.{◌≡◌, sym, ap, false, eqb, length, arith}
+use Rattle.std.proofs.lemmas.Bool.{ne_eqb}
+use Rattle.qkernel.proofs.Steps.Common.{sound_counted_alone, ids_below}
+use Rattle.qkernel.proofs.Steps.ChannelCreate.{step_created, sound_created, step_create_refused}
+use Rattle.qkernel.proofs.kernel.Kernel.channel_create.Goals as goal
+use Rattle.qkernel.proofs.kernel.Kernel.channel_create.Goals.{in-Ok, in-Err}
+
+pub create-requires : goal.create-requires
+create-requires c = ids_below c.self.inside.made c.self.inside.channels c.self.invariant.channel_ids
+
+pub invariant_of-self-2 : goal.invariant_of-self-2
+invariant_of-self-2 c = elim c.match-create.branch [
+  | in-Ok w ↦ rw (w.in-Ok.ensures.ok) (sound_created _ c.args.thread c.args.flags c.member_of.result c.new-2.result c.self.invariant (ap (λ q. q.items) c.new-2.ensures))
+  | in-Err w ↦ rw (w.in-Err.ensures.err) (sound_counted_alone _ c.self.invariant)
+]
+
+pub returns : goal.returns
+returns c =
+    let free = rw (← c.self.view_is) at c.requires.free in
+    let known = rw c.deref.ensures.value at c.member_of.ensures in
+    let flags = sym c.if-not-is_known.ensures in
+    elim c.match-create.branch [
+      | in-Ok w ↦
+          let room : eqb (length c.self.inside.channels) 64 ≡ false = ne_eqb _ _ (λ e. omega (arith, w.in-Ok.ensures.room, e)) in
+          rw (w.endings-is, ← c.self.view_is, w.in-Ok.ensures.ok) (step_created _ c.args.thread c.args.flags c.member_of.result c.new-2.result c.self.invariant (ap (λ q. q.items) c.new-2.ensures) _ known free flags room w.end_own.ensures)
+      | in-Err w ↦ rw (w.endings-is, ← c.self.view_is, w.in-Err.ensures.err)
+          (step_create_refused _ c.args.thread c.args.flags w.in-Err.errno _ free flags w.in-Err.ensures.error (rw w.new-in-Err.ensures at w.refuse-in-Err.ensures))
+    ]

@@ -1,0 +1,30 @@
+use Rattle.std.proofs.Common.{◌≡◌, sym, false, true, eqb, length, arith}
+use Rattle.std.specs.Prelude.{is_some}
+use Rattle.std.proofs.lemmas.Bool.{ne_eqb}
+use Rattle.qkernel.specs.Channels.{channel_in}
+use Rattle.qkernel.proofs.Steps.Common.{sound_counted_alone, up_to_below}
+use Rattle.qkernel.proofs.Steps.ConnectAttach.{step_attach_refused, step_attached, sound_attached}
+use Rattle.qkernel.proofs.kernel.Kernel.connect_attach.Goals as goal
+use Rattle.qkernel.proofs.kernel.Kernel.connect_attach.Goals.{in-Ok, in-Err}
+
+pub create-requires : goal.create-requires
+create-requires c = up_to_below (λ e. e.0) c.self.inside.made c.self.inside.connections c.self.invariant.connection_ids
+
+pub invariant_of-self-2 : goal.invariant_of-self-2
+invariant_of-self-2 c = elim c.match-create.branch [
+  | in-Ok w ↦ rw (w.in-Ok.ensures.ok) (sound_attached _ c.args.thread c.args.chid c.member_of.result c.self.invariant)
+  | in-Err w ↦ rw (w.in-Err.ensures.err) (sound_counted_alone _ c.self.invariant)
+]
+
+pub returns : goal.returns
+returns c =
+    let free = rw (← c.self.view_is) at c.requires.free in
+    let known = rw c.deref.ensures.value at c.member_of.ensures in
+    let opens : is_some (channel_in c.self.inside.channels c.args.chid) ≡ true = sym c.if-not-is_open.ensures in
+    elim c.match-create.branch [
+      | in-Ok w ↦
+          let room : eqb (length c.self.inside.connections) 1024 ≡ false = ne_eqb _ _ (λ e. omega (arith, w.in-Ok.ensures.room, e)) in
+          rw (w.endings-is, ← c.self.view_is, w.in-Ok.ensures.ok) (step_attached _ c.args.thread c.args.chid c.member_of.result c.self.invariant _ known free opens room w.end_own.ensures)
+      | in-Err w ↦ rw (w.endings-is, ← c.self.view_is, w.in-Err.ensures.err)
+          (step_attach_refused _ c.args.thread c.args.chid w.in-Err.errno _ free opens w.in-Err.ensures.error (rw w.new-in-Err.ensures at w.refuse-in-Err.ensures))
+    ]

@@ -1,0 +1,4 @@
+use Rattle.qkernel.proofs.kernel.Kernel.made.Goals as goal
+
+pub returns-clause-sound : goal.returns-clause-sound
+returns-clause-sound c = rw (← c.self.view_is) c.self.invariant

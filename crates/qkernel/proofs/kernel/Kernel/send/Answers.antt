@@ -1,0 +1,63 @@
+use Rattle.std.proofs.Common.{sym, ap, ◌∙◌, ◌+◌, Some, refl}
+use Rattle.qkernel.specs.Rows.{takes}
+use Rattle.qkernel.proofs.Seats.{seat_kept}
+use Rattle.qkernel.proofs.Steps.Send.{step_send_nowhere, newest_receives, newest_is, waits_among, step_send_waits, step_send_met, taken_there, sound_with_item, sound_threads}
+use Rattle.qkernel.proofs.kernel.Kernel.send.Goals as goal
+use Rattle.qkernel.proofs.kernel.Kernel.send.Goals.{in-None+in_default-enqueue, in-Some-newest_receiver+in-Some-taken}
+
+pub unreachable-requires : goal.unreachable-requires
+unreachable-requires c =
+    let newest = rw c.deref-3.ensures.value at (sym c.newest_receiver.ensures ∙ c.in-Some-newest_receiver.is) in
+    let waits = newest_receives _ c.in-Some.chid c.in-Some-newest_receiver.newest c.self.invariant newest in
+    taken_there c.in-Some.chid _ _ _ _ _ c.take_open-call.result c.taken.result waits c.take_open-call.ensures.had c.taken.ensures.ended c.in_default-taken.is
+
+pub block-requires : goal.block-requires
+block-requires c =
+    let at = rw (← c.self.view_is) at c.requires.seat in
+    elim c.match-newest_receiver.branch [
+      | in-None+in_default-enqueue w ↦ rw (w.self-inside-is) at
+      | in-Some-newest_receiver+in-Some-taken w ↦ rw (w.self-inside-is) (seat_kept c.args.thread _ _ w.take_open-call.ensures.after.members ∙ at)
+    ]
+
+pub invariant_of-self-2 : goal.invariant_of-self-2
+invariant_of-self-2 c = elim c.match-newest_receiver.branch [
+  | in-None+in_default-enqueue w ↦
+      let members = rw (w.self-inside-is) at c.block.ensures.members in
+      rw (w.self-inside-is) (sound_with_item _ _ _ c.in-Some.chid _ c.self.invariant members w.in_default-enqueue.ensures.ok refl)
+  | in-Some-newest_receiver+in-Some-taken w ↦
+      let members = rw (w.self-inside-is) at c.block.ensures.members in
+      rw (w.self-inside-is) (sound_threads _ _ c.self.invariant (members ∙ w.take_open-call.ensures.after.members))
+]
+
+pub returns-in_default : goal.returns-in_default
+returns-in_default c =
+    let free = rw (← c.self.view_is) at c.requires.free in
+    let known = rw c.deref.ensures.value at c.member_of.ensures in
+    let found = sym c.way.ensures ∙ c.in_default.is in
+    rw (← c.self.view_is) (step_send_nowhere _ c.args.thread c.args.coid c.args.message c.args.reply_buffer c.member_of.result _ known free found c.refuse.ensures)
+
+pub returns : goal.returns
+returns c =
+    let free = rw (← c.self.view_is) at c.requires.free in
+    let known = rw c.deref.ensures.value at c.member_of.ensures in
+    let found = sym c.way.ensures ∙ c.in-Some.is in
+    let priority = rw c.deref-2.ensures.value at c.level_of-priority.ensures in
+    elim c.match-newest_receiver.branch [
+      | in-None+in_default-enqueue w ↦
+          let nobody = rw c.deref-3.ensures.value at (sym c.newest_receiver.ensures ∙ w.in-None.is) in
+          let opens = rw (w.receipt-is, w.self-inside-is) at c.block.ensures in
+          let sets = rw priority at w.in_default-enqueue.ensures.ok in
+          rw (w.self-inside-is, w.endings-is, ← c.self.view_is)
+          (step_send_waits _ c.args.thread c.args.coid c.args.message c.args.reply_buffer c.member_of.result c.in-Some.chid c.self.invariant known free found _ _ _ nobody opens sets c.requires.none)
+      | in-Some-newest_receiver+in-Some-taken w ↦
+          let opens = rw (w.receipt-is, w.self-inside-is) at c.block.ensures in
+          let newest = rw c.deref-3.ensures.value at (sym c.newest_receiver.ensures ∙ w.in-Some-newest_receiver.is) in
+          let receiver = w.in-Some-newest_receiver.newest in
+          let waits = newest_receives _ c.in-Some.chid receiver c.self.invariant newest in
+          let ended = w.in-Some-taken.ensures.ended ∙ ap (takes (c.self.inside.made + 1) c.args.message receiver.1) w.take_open-call.ensures.had in
+          let sets = rw priority at opens in
+          rw (w.self-inside-is, w.endings-is, ← c.self.view_is)
+          (step_send_met _ c.args.thread c.args.coid c.args.message c.args.reply_buffer c.member_of.result c.in-Some.chid c.self.invariant known free found
+          receiver.1 w.in-Some-taken.met.0 w.in-Some-taken.met.1 (newest_is _ c.in-Some.chid (Some receiver) c.self.invariant newest) (waits_among c.in-Some.chid _ _ receiver.1 waits) (sym ended) w.in-Some-taken.ensures.copied
+          w.take_open-call.new.threads.items _ _ w.take_open-call.ensures.after sets w.end_one.ensures)
+    ]

@@ -1,0 +1,6 @@
+-- The rows of the table of calls, one file for each call.
+pub mod ChannelCreate
+pub mod ConnectAttach
+pub mod Send
+pub mod Receive
+pub mod Reply

@@ -1,0 +1,36 @@
+-- What was sent over one connection with one priority is received in the order in which it was sent.
+use Rattle.std.specs.Prelude.{◌≡◌, ℕ, ◌≤◌, List, [], ◌∷◌, Option, None, Some}
+use Rattle.std.specs.List.{AllByRecursion}
+use Rattle.std.specs.Option.{option_and_then}
+use Rattle.qtables.specs.declared.member.Member.{Member}
+use Rattle.qkernel.specs.declared.call.Call.{Call}
+use Rattle.qkernel.specs.declared.call.Call.TheVariants.{ChannelCreate, ConnectAttach, Send, Receive, Reply}
+use Rattle.qkernel.specs.Headline.BestFirst.{takeable}
+use Rattle.qkernel.specs.Headline.CopiedExactly.{call_at}
+use Rattle.qkernel.specs.Headline.ReceivedOnce.{item_received}
+use Rattle.qkernel.specs.Past.{priority_of_item}
+use Rattle.qkernel.specs.Trace.{Event, Trace}
+
+-- the connection that a call sends over
+abbrev pub sends_over : Call → Option ℕ
+sends_over (Send coid message reply_buffer) = Some coid
+sends_over (ChannelCreate flags) = None
+sends_over (ConnectAttach chid) = None
+sends_over (Receive chid buffer) = None
+sends_over (Reply rcvid status bytes) = None
+
+-- the connection over which item i was sent
+abbrev pub connection_of : Trace → ℕ → Option ℕ
+connection_of past i = option_and_then sends_over (call_at past i)
+
+-- of all that could be taken from channel h, what was sent over connection k with the priority of item j isn't earlier than j
+abbrev pub NoneSentEarlier : List Member → Trace → Event → ℕ → ℕ → ℕ → Type 0
+NoneSentEarlier roster past e k j h = AllByRecursion
+    (λ item. connection_of (e ∷ past) item.number ≡ Some k → item.priority ≡ priority_of_item roster (e ∷ past) j → j ≤ item.number)
+    (takeable roster past e h)
+
+-- so it is with each receipt of each event of an item that was sent over a connection, on every channel
+abbrev pub SentOrder : List Member → Trace → Type 0
+SentOrder roster [] = Unit {0}
+SentOrder roster (e ∷ past) =
+    AllByRecursion (λ x. (j k h : ℕ) → item_received x ≡ Some j → connection_of (e ∷ past) j ≡ Some k → NoneSentEarlier roster past e k j h) e.endings × SentOrder roster past

@@ -1,0 +1,184 @@
+-- What is searched for in the list of all past calls. The newest event stands first.
+use Rattle.std.specs.Prelude.{ℕ, ◌+◌, ◌==◌, ◌&&◌, ◌||◌, not, Bool, true, false, is_some, List, [], ◌∷◌, ◌++◌, length, map, filter, Option, None, Some, if◌then◌else◌}
+use Rattle.std.specs.List.{list_any}
+use Rattle.std.specs.Option.{option_map, option_to_list}
+use Rattle.qqueue.specs.Best.{is_pulse}
+use Rattle.qqueue.specs.declared.item.Item.{Item}
+use Rattle.qtables.specs.Members.{member_at}
+use Rattle.qtables.specs.declared.connection.Connection.{Connection}
+use Rattle.qtables.specs.declared.member.Member.{Member}
+use Rattle.qkernel.specs.declared.call.Call.{Call}
+use Rattle.qkernel.specs.declared.call.Call.TheVariants.{ChannelCreate, ConnectAttach, Send, Receive, Reply}
+use Rattle.qkernel.specs.declared.call.Completion.{Completion}
+use Rattle.qkernel.specs.declared.call.Mark.{Mark}
+use Rattle.qkernel.specs.declared.call.Mark.TheVariants as mark
+use Rattle.qkernel.specs.declared.open_call.OpenCall.{OpenCall}
+use Rattle.qkernel.specs.declared.open_call.Receipt.{Receipt}
+use Rattle.qkernel.specs.declared.open_call.Wait.{Wait}
+use Rattle.qkernel.specs.declared.open_call.Wait.TheVariants.{Answer, Item as ForItem}
+use Rattle.qkernel.specs.Trace.{Event, Trace}
+use Rattle.qkernel.specs.Facts.{OpenChannel}
+use Rattle.qkernel.specs.Rows.{Made, asks, makes, received}
+
+-- ---- accepted, ended
+
+-- the mark is a failure
+abbrev pub is_failure : Mark → Bool
+is_failure (mark.Failed errno) = true
+is_failure mark.Ok = false
+is_failure (mark.Channel chid) = false
+is_failure (mark.Connection coid) = false
+is_failure (mark.Replied status copied) = false
+is_failure (mark.Message rcvid copied) = false
+
+-- these endings refuse call n: one is of n itself, and a failure
+abbrev pub refuses : List Completion → ℕ → Bool
+refuses endings n = list_any (λ x. (x.call == n) && is_failure x.mark) endings
+
+-- the event after this past was accepted
+abbrev pub is_accepted : Event → Trace → Bool
+is_accepted e past = not (refuses e.endings (length past + 1))
+
+-- one of these endings is of call i
+abbrev pub ends : List Completion → ℕ → Bool
+ends endings i = list_any (λ x. x.call == i) endings
+
+-- call i is ended
+abbrev pub is_ended : Trace → ℕ → Bool
+is_ended past i = list_any (λ e. ends e.endings i) past
+
+-- ---- channels and connections
+
+-- what the event of number i made, where it was accepted
+abbrev pub made_at : {A : Type 0} → (Event → Option A) → Trace → ℕ → Option A
+made_at make [] i = None
+made_at make (e ∷ past) i = if i == length past + 1 then (if is_accepted e past then make e else None) else made_at make past i
+
+-- how many of the numbers up to n have something
+abbrev pub count_to : {A : Type 0} → (ℕ → Option A) → ℕ → ℕ
+count_to at Prim.Native.Nat.zero = 0
+count_to at (Prim.Native.Nat.suc n) = (if is_some (at (n + 1)) then 1 else 0) + count_to at n
+
+-- the channel that a call creates: of its thread's process, with the flags that it names
+abbrev pub creates : Option Member → Call → Option OpenChannel
+creates None c = None
+creates (Some m) (ChannelCreate flags) = Some (record { owner = m.process; flags = flags })
+creates (Some m) (ConnectAttach chid) = None
+creates (Some m) (Send coid message reply_buffer) = None
+creates (Some m) (Receive chid buffer) = None
+creates (Some m) (Reply rcvid status bytes) = None
+
+-- the open channel h: an accepted ChannelCreate has that number
+abbrev pub channel_at : List Member → Trace → ℕ → Option OpenChannel
+channel_at roster past h = made_at (λ e. creates (member_at roster e.thread) e.call) past h
+
+-- how many channels are open
+abbrev pub open_channels : List Member → Trace → ℕ
+open_channels roster past = count_to (channel_at roster past) (length past)
+
+-- the connection that a call attaches: of its thread's process, to the channel that it names
+abbrev pub attaches : Option Member → Call → Option Connection
+attaches None c = None
+attaches (Some m) (ConnectAttach chid) = Some (record { process = m.process; channel = chid })
+attaches (Some m) (ChannelCreate flags) = None
+attaches (Some m) (Send coid message reply_buffer) = None
+attaches (Some m) (Receive chid buffer) = None
+attaches (Some m) (Reply rcvid status bytes) = None
+
+-- the live connection k: an accepted ConnectAttach has that number
+abbrev pub connection_at : List Member → Trace → ℕ → Option Connection
+connection_at roster past k = made_at (λ e. attaches (member_at roster e.thread) e.call) past k
+
+-- how many connections are live
+abbrev pub live_connections : List Member → Trace → ℕ
+live_connections roster past = count_to (connection_at roster past) (length past)
+
+-- ---- priorities
+
+-- the priority of a member, 0 where there is none
+abbrev pub priority_in : Option Member → ℕ
+priority_in None = 0
+priority_in (Some m) = m.priority
+
+-- a thread's priority: so far nothing changes the one that the roster gives it
+abbrev pub priority_of_thread : List Member → Trace → ℕ → ℕ
+priority_of_thread roster past t = priority_in (member_at roster t)
+
+-- ---- items
+
+-- the item that an event makes, by the connections and priorities before it
+abbrev pub item_of : List Member → Event → Trace → Option Made
+item_of roster e past = if is_accepted e past then makes (connection_at roster past) (priority_of_thread roster past) (length past + 1) e.thread e.call else None
+
+-- all items made so far, in rising number
+abbrev pub items : List Member → Trace → List Made
+items roster [] = []
+items roster (e ∷ past) = items roster past ++ option_to_list (item_of roster e past)
+
+-- of these items the priority of the one of number i, 0 where there is none
+abbrev pub priority_among : List Made → ℕ → ℕ
+priority_among [] i = 0
+priority_among (m ∷ made) i = if m.item.number == i then m.item.priority else priority_among made i
+
+-- the priority that item i was made with
+abbrev pub priority_of_item : List Member → Trace → ℕ → ℕ
+priority_of_item roster past i = priority_among (items roster past) i
+
+-- the first of two, or else the second
+abbrev pub first_some : {A : Type 0} → Option A → Option A → Option A
+first_some None y = y
+first_some (Some x) y = Some x
+
+-- the receipt that an ending is of item i: how many bytes it copied
+abbrev pub copied_of : ℕ → Option (ℕ × ℕ) → Option ℕ
+copied_of i None = None
+copied_of i (Some r) = if r.0 == i then Some r.1 else None
+
+-- the receipt of item i among these endings
+abbrev pub receipt_among : List Completion → ℕ → Option ℕ
+receipt_among [] i = None
+receipt_among (x ∷ endings) i = first_some (copied_of i (received x.mark)) (receipt_among endings i)
+
+-- the receipt of item i, by an ending of some event
+abbrev pub receipt_of : Trace → ℕ → Option ℕ
+receipt_of [] i = None
+receipt_of (e ∷ past) i = first_some (receipt_among e.endings i) (receipt_of past i)
+
+-- item i is taken
+abbrev pub is_taken : Trace → ℕ → Bool
+is_taken past i = is_some (receipt_of past i)
+
+-- the item is taken, or is a message whose Send is ended
+abbrev pub is_gone : Trace → Item → Bool
+is_gone past item = is_taken past item.number || (not (is_pulse item.what) && is_ended past item.number)
+
+-- the items of channel h that are not gone, in rising number
+abbrev pub pending : List Member → Trace → ℕ → List Item
+pending roster past h = filter (λ item. not (is_gone past item)) (map (λ m. m.item) (filter (λ m. m.channel == h) (items roster past)))
+
+-- ---- open calls
+
+-- the newest accepted blocking call of thread t
+abbrev pub newest_block : Trace → ℕ → Option OpenCall
+newest_block [] t = None
+newest_block (e ∷ past) t =
+    if (e.thread == t) && is_accepted e past && is_some (asks (length past + 1) e.call) then asks (length past + 1) e.call else newest_block past t
+
+-- a wait for an answer with what is kept of the message's receipt
+abbrev pub held_with : Receipt → Wait → Wait
+held_with receipt (Answer coid message reply_buffer before) = Answer coid message reply_buffer (Some receipt)
+held_with receipt (ForItem chid buffer) = ForItem chid buffer
+
+-- a call, unless it is ended
+abbrev pub unless_ended : Trace → Option OpenCall → Option OpenCall
+unless_ended past None = None
+unless_ended past (Some o) = if is_ended past o.number then None else Some o
+
+-- a call with what is kept of its message's receipt, where there was one
+abbrev pub with_receipt : ℕ → Option ℕ → OpenCall → OpenCall
+with_receipt priority None o = o
+with_receipt priority (Some copied) o = record { number = o.number; wait = held_with (record { priority = priority; copied = copied }) o.wait }
+
+-- the open call of thread t
+abbrev pub open_call : List Member → Trace → ℕ → Option OpenCall
+open_call roster past t = option_map (λ o. with_receipt (priority_of_item roster past o.number) (receipt_of past o.number) o) (unless_ended past (newest_block past t))

@@ -1,0 +1,99 @@
+-- What a row of the table of calls says, and what the rows share.
+use Rattle.std.specs.Prelude.{ℕ, Bool, List, Option, None, Some}
+use Rattle.qbase.specs.Laying.{laid_count, lay_over}
+use Rattle.qbase.specs.declared.errno.Errno.{Errno}
+use Rattle.qqueue.specs.declared.item.Item.{Item}
+use Rattle.qqueue.specs.declared.item.What.TheVariants.{Message}
+use Rattle.qtables.specs.declared.connection.Connection.{Connection}
+use Rattle.qkernel.specs.declared.call.Call.{Call}
+use Rattle.qkernel.specs.declared.call.Call.TheVariants.{ChannelCreate, ConnectAttach, Send, Receive, Reply}
+use Rattle.qkernel.specs.declared.call.Completion.{Completion}
+use Rattle.qkernel.specs.declared.call.Mark.{Mark}
+use Rattle.qkernel.specs.declared.call.Mark.TheVariants as mark
+use Rattle.qkernel.specs.declared.open_call.OpenCall.{OpenCall}
+use Rattle.qkernel.specs.declared.open_call.Receipt.{Receipt}
+use Rattle.qkernel.specs.declared.open_call.Wait.{Wait}
+use Rattle.qkernel.specs.declared.open_call.Wait.TheVariants.{Answer, Item as ForItem}
+
+-- an item that an event makes, and the channel on which it is to be received
+pub record Made : Type 0 where
+  pub item : Item
+  pub channel : ℕ
+
+-- a receipt: the item's number and channel, the thread that takes it, the thread that waits for its answer, and what is kept of the receipt
+pub record Received : Type 0 where
+  pub item : ℕ
+  pub channel : ℕ
+  pub by : ℕ
+  pub sender : Option ℕ
+  pub kept : Receipt
+
+-- what a call is answered: the first of its own refusals that applies, whether it may also be refused for want of memory, how it ends in
+-- its own event where it does, how it ends the open call of another thread, and the receipt that it brings about
+pub record Row : Type 0 where
+  pub refusal : Option Errno
+  pub takes_memory : Bool
+  pub own : Option Completion
+  pub ends : ℕ → Option Completion
+  pub receipt : Option Received
+
+-- no other thread's call ends
+abbrev pub ends_none : ℕ → Option Completion
+ends_none u = None
+
+-- ---- blocking
+
+-- what a call waits for where it doesn't end in its own event
+abbrev pub asks : ℕ → Call → Option OpenCall
+asks n (Send coid message reply_buffer) = Some (record { number = n; wait = Answer coid message reply_buffer None })
+asks n (Receive chid buffer) = Some (record { number = n; wait = ForItem chid buffer })
+asks n (ChannelCreate flags) = None
+asks n (ConnectAttach chid) = None
+asks n (Reply rcvid status bytes) = None
+
+-- ---- items
+
+-- the message that a Send makes: of the sender's priority, on the connection's channel
+abbrev pub sent_over : Option Connection → ℕ → ℕ → Option Made
+sent_over None n priority = None
+sent_over (Some c) n priority = Some (record { item = record { number = n; priority = priority; what = Message }; channel = c.channel })
+
+-- the item that a call makes, by the connections and the priorities before it
+abbrev pub makes : (ℕ → Option Connection) → (ℕ → ℕ) → ℕ → ℕ → Call → Option Made
+makes connection priority n t (Send coid message reply_buffer) = sent_over (connection coid) n (priority t)
+makes connection priority n t (Receive chid buffer) = None
+makes connection priority n t (ChannelCreate flags) = None
+makes connection priority n t (ConnectAttach chid) = None
+makes connection priority n t (Reply rcvid status bytes) = None
+
+-- ---- receipts
+
+-- how the open call of number m ends, of thread u, that takes the message of number i into what it waits with
+abbrev pub takes_into : ℕ → List ℕ → ℕ → ℕ → Wait → Option Completion
+takes_into i message u m (Answer coid sent reply_buffer receipt) = None
+takes_into i message u m (ForItem chid buffer) =
+    Some (record { call = m; thread = u; mark = mark.Message i (laid_count buffer 0 message); buffer = lay_over buffer 0 message })
+
+-- how the open call of thread u ends that takes the message of number i
+abbrev pub takes : ℕ → List ℕ → ℕ → Option OpenCall → Option Completion
+takes i message u None = None
+takes i message u (Some o) = takes_into i message u o.number o.wait
+
+-- the number of the message that an ending receives, and how many bytes were copied
+abbrev pub received : Mark → Option (ℕ × ℕ)
+received (mark.Message rcvid copied) = Some (rcvid, copied)
+received mark.Ok = None
+received (mark.Failed errno) = None
+received (mark.Channel chid) = None
+received (mark.Connection coid) = None
+received (mark.Replied status copied) = None
+
+-- the receipt that thread u makes of a message of this channel, sender and priority
+abbrev pub receipt_at : ℕ → Option ℕ → ℕ → ℕ → Option (ℕ × ℕ) → Option Received
+receipt_at h sender priority u None = None
+receipt_at h sender priority u (Some r) = Some (record { item = r.0; channel = h; by = u; sender = sender; kept = record { priority = priority; copied = r.1 } })
+
+-- the receipt that an ending is, of a message of this channel, sender and priority
+abbrev pub receipt_in : ℕ → Option ℕ → ℕ → Option Completion → Option Received
+receipt_in h sender priority None = None
+receipt_in h sender priority (Some y) = receipt_at h sender priority y.thread (received y.mark)

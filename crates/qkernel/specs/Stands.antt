@@ -1,0 +1,48 @@
+-- A kernel stands at a trace if its content is that of the trace.
+use Rattle.std.specs.Prelude.{◌≡◌, ℕ, ◌^◌, ◌≤◌, Bool, true, false, is_some, List, length, ◌⊎◌}
+use Rattle.qbase.specs.declared.errno.Errno.{Errno}
+use Rattle.qbase.specs.declared.errno.Errno.TheVariants.{NoThread, Exhausted}
+use Rattle.qtables.specs.Entries.{entry_at}
+use Rattle.qtables.specs.Members.{member_at}
+use Rattle.qtables.specs.declared.member.Member.{Member}
+use Rattle.qkernel.specs.declared.call.Call.{Call}
+use Rattle.qkernel.specs.declared.call.Completion.{Completion}
+use Rattle.qkernel.specs.Answer.{Outcome, Answers}
+use Rattle.qkernel.specs.Channels.{channel_in, pending_in}
+use Rattle.qkernel.specs.Lawful.{IsLawful, facts_of, with_event}
+use Rattle.qkernel.specs.Past.{channel_at, open_channels, connection_at, live_connections, open_call, pending, priority_of_thread}
+use Rattle.qkernel.specs.State.{State, facts_in}
+use Rattle.qkernel.specs.Step.{Follows}
+use Rattle.qkernel.specs.Threads.{members_of, open_in, level_in}
+use Rattle.qkernel.specs.Trace.{Trace}
+
+-- the kernel's roster, count of calls, channels, connections, pending items, open calls and priorities are those of the trace
+pub record StandsAt (roster : List Member) (s : State) (past : Trace) : Type 0 where
+  pub roster_is : members_of s.threads ≡ roster
+  pub made : s.made ≡ length past
+  pub channel : (h : ℕ) → channel_in s.channels h ≡ channel_at roster past h
+  pub open_channels : length s.channels ≡ open_channels roster past
+  pub connection : (k : ℕ) → entry_at s.connections k ≡ connection_at roster past k
+  pub live_connections : length s.connections ≡ live_connections roster past
+  pub open_call : (t : ℕ) → open_in s.threads t ≡ open_call roster past t
+  pub pending : (h : ℕ) → pending_in s.channels h ≡ pending roster past h
+  pub priority : (t : ℕ) → level_in s.threads t ≡ priority_of_thread roster past t
+
+-- one call, by the kernel's content alone
+pub record Step (old : State) (t : ℕ) (c : Call) (accepted : Bool) (endings : List Completion) (new : State) : Type 0 where
+  pub answer : Outcome accepted (facts_in old) t c endings
+  pub follows : Follows (facts_in old) t c accepted (facts_in new)
+
+-- the same, accepted or refused
+abbrev pub Steps : State → ℕ → Call → List Completion → State → Type 0
+Steps old t c endings new = (accepted : Bool) × Step old t c accepted endings new
+
+-- one call at every lawful trace at which the kernel stood: its endings answer the trace, and the kernel stands at the trace with the event
+abbrev pub AnswersAtTraces : State → ℕ → Call → List Completion → State → Type 0
+AnswersAtTraces old t c endings new = (roster : List Member) (past : Trace) → IsLawful roster past → StandsAt roster old past
+    → Answers (facts_of roster past) t c endings × StandsAt roster new (with_event t c endings past)
+
+-- why a call is no event: its thread isn't in the roster, or else the kernel has made all the calls that it can number
+abbrev pub DispatchError : State → ℕ → Errno → Type 0
+DispatchError s t e = ((is_some (member_at (members_of s.threads) t) ≡ false) × (e ≡ NoThread))
+    ⊎ ((is_some (member_at (members_of s.threads) t) ≡ true) × (2 ^ 40 ≤ s.made) × (e ≡ Exhausted))

@@ -1,0 +1,40 @@
+-- What a kernel contains.
+use Rattle.std.specs.Prelude.{ℕ, ◌+◌, ◌≤◌, List, length}
+use Rattle.std.specs.List.{AllByRecursion}
+use Rattle.qtables.specs.Entries.{entry_at}
+use Rattle.qtables.specs.Members.{IsRoster}
+use Rattle.qtables.specs.declared.connection.Connection.{Connection}
+use Rattle.qkernel.specs.declared.channel.Channel.{Channel}
+use Rattle.qkernel.specs.declared.thread.Thread.{Thread}
+use Rattle.qkernel.specs.Channels.{channel_in, pending_in, ids_of}
+use Rattle.qkernel.specs.Facts.{Facts}
+use Rattle.qkernel.specs.Threads.{members_of, open_in, level_in}
+
+-- how many calls it made, its threads, its open channels and its live connections
+pub record State : Type 0 where
+  pub made : ℕ
+  pub threads : List Thread
+  pub channels : List (ℕ × Channel)
+  pub connections : List (ℕ × Connection)
+
+-- the same facts as are searched for in the past, looked up
+abbrev pub facts_in : State → Facts
+facts_in s = record {
+  roster = members_of s.threads;
+  number = s.made + 1;
+  channel = λ h. channel_in s.channels h;
+  open_channels = length s.channels;
+  connection = λ k. entry_at s.connections k;
+  live_connections = length s.connections;
+  open_call = λ t. open_in s.threads t;
+  pending = λ h. pending_in s.channels h;
+  priority = λ t. level_in s.threads t;
+}
+
+-- there are at most 64 threads, in rising number, and no channel, connection or item has the number of a call to come
+pub record IsSound (s : State) : Type 0 where
+  pub few : length s.threads ≤ 64
+  pub roster : IsRoster (members_of s.threads)
+  pub channel_ids : AllByRecursion (λ id. id ≤ s.made) (ids_of s.channels)
+  pub connection_ids : AllByRecursion (λ e. e.0 ≤ s.made) s.connections
+  pub items : (h : ℕ) → AllByRecursion (λ item. item.number ≤ s.made) (pending_in s.channels h)

@@ -1,0 +1,79 @@
+-- The threads of a kernel, one after another.
+use Rattle.std.specs.Prelude.{◌≡◌, ℕ, ◌+◌, ◌==◌, List, [], ◌∷◌, map, position, is_some, Option, None, Some, if◌then◌else◌}
+use Rattle.std.specs.Option.{option_map, option_and_then}
+use Rattle.qtables.specs.declared.member.Member.{Member}
+use Rattle.qkernel.specs.declared.open_call.OpenCall.{OpenCall}
+use Rattle.qkernel.specs.declared.open_call.Receipt.{Receipt}
+use Rattle.qkernel.specs.declared.open_call.Wait.{Wait}
+use Rattle.qkernel.specs.declared.open_call.Wait.TheVariants.{Answer, Item as ForItem}
+use Rattle.qkernel.specs.declared.thread.Thread.{Thread}
+use Rattle.qkernel.specs.Facts.{threads_of, sender_among, message_in}
+use Rattle.qkernel.specs.Receivers.{later_of}
+use Rattle.qkernel.specs.Step.{held_call, is_thread}
+
+-- the roster
+abbrev pub members_of : List Thread → List Member
+members_of threads = map (λ t. t.member) threads
+
+-- the open call of a thread
+abbrev pub open_in : List Thread → ℕ → Option OpenCall
+open_in [] u = None
+open_in (t ∷ threads) u = if t.member.thread == u then t.open_call else open_in threads u
+
+-- the priority of a thread, 0 where there is none
+abbrev pub level_in : List Thread → ℕ → ℕ
+level_in [] u = 0
+level_in (t ∷ threads) u = if t.member.thread == u then t.priority else level_in threads u
+
+-- how many threads are blocked
+abbrev pub blocked_count : List Thread → ℕ
+blocked_count [] = 0
+blocked_count (t ∷ threads) = (if is_some t.open_call then 1 else 0) + blocked_count threads
+
+-- where a thread stands
+abbrev pub seat_in : List Thread → ℕ → Option ℕ
+seat_in threads u = position (λ t. t.member.thread == u) threads
+
+-- a thread that isn't blocked and has the priority that it begins with
+abbrev pub ready : Member → Thread
+ready m = record { member = m; priority = m.priority; open_call = None }
+
+-- the later of the best receiver so far and a thread
+abbrev pub later_by : ℕ → Option (ℕ × ℕ) → Thread → Option (ℕ × ℕ)
+later_by h best t = later_of h best t.member.thread t.open_call
+
+-- the receiver that began last
+abbrev pub newest_by : ℕ → Option (ℕ × ℕ) → List Thread → Option (ℕ × ℕ)
+newest_by h best [] = best
+newest_by h best (t ∷ threads) = newest_by h (later_by h best t) threads
+
+-- thread u has this open call, and all else is as it was
+pub record SetsOpen (u : ℕ) (o : Option OpenCall) (old new : List Thread) : Type 0 where
+  pub members : members_of new ≡ members_of old
+  pub open_call : (v : ℕ) → open_in new v ≡ (if v == u then o else open_in old v)
+  pub priority : (v : ℕ) → level_in new v ≡ level_in old v
+
+-- the connection over which a message was sent that is held
+abbrev pub held_over_by : Wait → Option ℕ
+held_over_by (Answer coid message reply_buffer (Some receipt)) = Some coid
+held_over_by (Answer coid message reply_buffer None) = None
+held_over_by (ForItem chid buffer) = None
+
+-- the same of a thread's open call, if it has one
+abbrev pub held_over_in : Option OpenCall → Option ℕ
+held_over_in None = None
+held_over_in (Some o) = held_over_by o.wait
+
+-- the thread whose open call is the Send of number i
+abbrev pub sender_in : List Thread → ℕ → Option ℕ
+sender_in threads i = sender_among (open_in threads) i (threads_of (members_of threads))
+
+-- the message of the Send of number i
+abbrev pub message_from : List Thread → ℕ → List ℕ
+message_from threads i = message_in (option_and_then (open_in threads) (sender_in threads i))
+
+-- the sender of message i keeps this receipt, and all else is as it was
+pub record HandsOver (i : ℕ) (kept : Receipt) (old new : List Thread) : Type 0 where
+  pub members : members_of new ≡ members_of old
+  pub open_call : (v : ℕ) → open_in new v ≡ (if is_thread (sender_in old i) v then option_map (held_call kept) (open_in old v) else open_in old v)
+  pub priority : (v : ℕ) → level_in new v ≡ level_in old v

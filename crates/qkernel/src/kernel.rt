@@ -1,0 +1,168 @@
+//! The kernel.
+
+ghost use Rattle.std.specs.Prelude.{◌≡◌, ◌+◌, ◌<◌, ◌≤◌, ◌^◌, ◌↔◌, [], length, None, Some, is_some, true, false, IsTrue, IfOk, IfErr, OnOk};
+ghost use Rattle.qtables.specs.Members.{member_at};
+ghost use Rattle.qkernel.specs.Threads.{members_of, open_in, seat_in, blocked_count};
+
+mod blocked;
+mod channel_create;
+mod connect_attach;
+mod receive;
+mod reply;
+mod send;
+
+use crate::call::Call;
+use crate::channel::Channel;
+use crate::endings::{Endings, refuse};
+use crate::thread::{Thread, is_blocked, seat_of, threads_for};
+use arrayvec::ArrayVec;
+use qbase::errno::Errno;
+use qbase::ids::ThreadNo;
+use qtables::channels::Channels;
+use qtables::connections::Connections;
+use qtables::roster::Roster;
+use std::alloc::Global;
+use std::marker::Model;
+
+/// How many calls a kernel makes.
+pub const CALL_LIMIT: u64 = 1 << 40;
+
+/// A kernel: its threads, its channels and its connections. Contracts see its content as a record of
+/// lists; what it answers is said of the list of all past calls.
+#[derive(Drop)]
+pub struct Kernel {
+    alloc: Global,
+    made: u64,
+    threads: Vec<Thread>,
+    channels: Channels<Channel>,
+    connections: Connections,
+}
+
+impl Model for Kernel {
+    ghost use Rattle.qkernel.specs.State.{State, IsSound};
+
+    ghost Value = { State };
+
+    ghost view = { λ k. record { made = k.made; threads = k.threads.items; channels = k.channels; connections = k.connections } };
+
+    ghost invariant = { λ k. IsSound (record { made = k.made; threads = k.threads.items; channels = k.channels; connections = k.connections }) };
+}
+
+impl Kernel {
+    ghost use Rattle.qkernel.specs.Stands.{Steps, StandsAt, AnswersAtTraces, DispatchError};
+    ghost use Rattle.qkernel.specs.State.{IsSound};
+
+    /// A kernel without channels, all threads of the roster ready at the priority that they begin with. The
+    /// room for thread records and open calls is made here; `NoMemory` is the only error.
+    pub fn new(alloc: Global, roster: &Roster) -> Result<Kernel, Errno>
+        ensures stands { IfOk result (λ kernel. StandsAt roster.now kernel []) }
+        ensures error { IfErr result (λ e. e ≡ Errno.NoMemory) }
+    {
+        let Ok(threads) = threads_for(alloc, roster.members()) else {
+            return Err(Errno::NoMemory);
+        };
+        Ok(Kernel {
+            alloc,
+            made: 0,
+            threads,
+            channels: Channels::new(alloc),
+            connections: Connections::new(alloc),
+        })
+    }
+
+    /// Makes one call of the thread at a seat: its refusals before those of the call itself, and then the
+    /// call.
+    fn perform(&mut self, seat: usize, thread: ThreadNo, call: Call, endings: &mut Endings)
+        requires limit { self.old.made < 2 ^ 40 }
+        requires seat { seat_in self.old.threads thread ≡ Some seat }
+        requires none { endings.old.items ≡ [] }
+        ensures { Steps self.old thread call endings.new.items self.new }
+    {
+        if is_blocked(&self.threads, seat, thread) {
+            self.made += 1;
+            let buffer = call.into_buffer(self.alloc);
+            return refuse(endings, self.made, thread, Errno::Busy, buffer);
+        }
+        match call {
+            Call::ChannelCreate(flags) => self.channel_create(seat, thread, flags, endings),
+            Call::ConnectAttach(chid) => self.connect_attach(seat, thread, chid, endings),
+            Call::Send {
+                coid,
+                message,
+                reply_buffer,
+            } => self.send(seat, thread, coid, message, reply_buffer, endings),
+            Call::Receive { chid, buffer } => self.receive(seat, thread, chid, buffer, endings),
+            Call::Reply {
+                rcvid,
+                status,
+                bytes,
+            } => self.reply(seat, thread, rcvid, status, bytes, endings),
+        }
+    }
+
+    /// Makes one call of a thread of the roster, and puts its endings, in rising thread number, into a list
+    /// that is lent and may be used again once it is emptied. For a loop over many calls; `dispatch` is the
+    /// same with a list of its own.
+    pub fn step(&mut self, thread: ThreadNo, call: Call, endings: &mut Endings)
+        requires known { is_some (member_at (members_of self.old.threads) thread) ≡ true }
+        requires limit { self.old.made < 2 ^ 40 }
+        requires none { endings.old.items ≡ [] }
+        ensures event { AnswersAtTraces self.old thread call endings.new.items self.new }
+        ensures roster { members_of self.new.threads ≡ members_of self.old.threads }
+        ensures made { self.new.made ≡ self.old.made + 1 }
+
+        // An event ends at most its own call and calls that were open.
+        ensures room { length endings.new.items + blocked_count self.new.threads ≤ blocked_count self.old.threads + 1 }
+    {
+        if let Some(seat) = seat_of(&self.threads, thread) {
+            self.perform(seat, thread, call, endings);
+        } else {
+            unreachable!();
+        }
+    }
+
+    /// Makes one call. Every `Ok` is an event, whose number is one more than the last, and holds the endings
+    /// that it brought, in rising thread number. An `Err` is no event: it gives the call back and changes
+    /// nothing.
+    pub fn dispatch(&mut self, thread: ThreadNo, call: Call) -> Result<Endings, (Errno, Call)>
+        ensures event { IfOk result (λ endings. AnswersAtTraces self.old thread call endings.items self.new) }
+        ensures roster { members_of self.new.threads ≡ members_of self.old.threads }
+        ensures ok { OnOk result ((is_some (member_at (members_of self.old.threads) thread) ≡ true) × (self.old.made < 2 ^ 40) × (self.new.made ≡ self.old.made + 1)) }
+
+        // Which error, and that it changes nothing.
+        ensures unchanged { IfErr result (λ refused. (self.new ≡ self.old) × (refused.1 ≡ call)) }
+        ensures error { IfErr result (λ refused. DispatchError self.old thread refused.0) }
+    {
+        let Some(seat) = seat_of(&self.threads, thread) else {
+            return Err((Errno::NoThread, call));
+        };
+        if self.made >= CALL_LIMIT {
+            return Err((Errno::Exhausted, call));
+        }
+        let mut endings: Endings = ArrayVec::new_in(self.alloc);
+        self.perform(seat, thread, call, &mut endings);
+        Ok(endings)
+    }
+
+    /// Whether the thread is in the roster.
+    pub fn knows(&self, thread: ThreadNo) -> bool
+        ensures { result ≡ is_some (member_at (members_of self.now.threads) thread) }
+    {
+        seat_of(&self.threads, thread).is_some()
+    }
+
+    /// How many calls were made.
+    pub fn made(&self) -> u64
+        ensures value { result ≡ self.now.made }
+
+        // What is so of every kernel.
+        ensures sound { IsSound self.now }
+    {
+        self.made
+    }
+
+    /// The allocator.
+    pub fn alloc(&self) -> Global {
+        self.alloc
+    }
+}

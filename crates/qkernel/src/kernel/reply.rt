@@ -1,0 +1,110 @@
+//! Reply.
+
+ghost use Rattle.std.specs.Prelude.{◌≡◌, ◌<◌, ◌^◌, [], None, Some};
+ghost use Rattle.qkernel.specs.Calls.Reply.{answered};
+ghost use Rattle.qkernel.specs.Answerable.{answerable_thread};
+ghost use Rattle.qkernel.specs.Threads.{open_in, seat_in};
+
+use super::Kernel;
+use crate::call::{Call, Completion, Mark};
+use crate::channel::{Channel, owns};
+use crate::endings::{Endings, end_two, refuse};
+use crate::open_call::{OpenCall, Wait};
+use crate::thread::{Thread, member_of, sender_seat, take_open};
+use qbase::bytes::Bytes;
+use qbase::errno::Errno;
+use qbase::ids::{ProcessNo, ReceiveId, ThreadNo};
+use qtables::channels::Channels;
+use qtables::connections::Connections;
+
+/// The thread whose message is held under this id, on a channel of this process.
+fn answerable(
+    threads: &[Thread],
+    connections: &Connections,
+    channels: &Channels<Channel>,
+    process: ProcessNo,
+    rcvid: ReceiveId,
+) -> Option<ThreadNo>
+    ensures { result ≡ answerable_thread threads.now connections.now channels.now process rcvid }
+{
+    let seat = sender_seat(threads, rcvid.0)?;
+    let client = &threads[seat];
+    let coid = client.held_over()?;
+    let connection = connections.get(coid)?;
+    if owns(channels, process, connection.channel) {
+        Some(client.member.thread)
+    } else {
+        None
+    }
+}
+
+/// How an open Send ends that is answered; none where the call is no Send.
+fn answer(
+    call: Option<OpenCall>,
+    thread: ThreadNo,
+    status: i64,
+    bytes: &Bytes,
+) -> Option<Completion>
+    ensures { result ≡ answered status bytes.now thread call }
+{
+    let OpenCall { number: sent, wait } = call?;
+    match wait {
+        Wait::Item { .. } => None,
+        Wait::Answer { reply_buffer, .. } => {
+            let mut buffer = reply_buffer;
+            let copied = buffer.lay(0, bytes.as_slice());
+            Some(Completion {
+                call: sent,
+                thread,
+                mark: Mark::Replied { status, copied },
+                buffer,
+            })
+        }
+    }
+}
+
+impl Kernel {
+    ghost use Rattle.qkernel.specs.Stands.{Steps};
+
+    /// Answers a held message: its sender's call ends. Never blocks, and takes no memory.
+    pub(super) fn reply(
+        &mut self,
+        seat: usize,
+        thread: ThreadNo,
+        rcvid: ReceiveId,
+        status: i64,
+        bytes: Bytes,
+        endings: &mut Endings,
+    )
+        requires limit { self.old.made < 2 ^ 40 }
+        requires seat { seat_in self.old.threads thread ≡ Some seat }
+        requires free { open_in self.old.threads thread ≡ None }
+        requires none { endings.old.items ≡ [] }
+        ensures { Steps self.old thread (Call.Reply rcvid status bytes) endings.new.items self.new }
+    {
+        self.made += 1;
+        let number = self.made;
+        let alloc = self.alloc;
+        let process = member_of(&self.threads, seat, thread).process;
+        let Some(client) = answerable(
+            &self.threads,
+            &self.connections,
+            &self.channels,
+            process,
+            rcvid,
+        ) else {
+            return refuse(endings, number, thread, Errno::Srch, Bytes::new(alloc));
+        };
+        let call = take_open(&mut self.threads, client);
+        let Some(ended) = answer(call, client, status, &bytes) else {
+            unreachable!();
+        };
+        let mine = Completion {
+            call: number,
+            thread,
+            mark: Mark::Ok,
+            buffer: Bytes::new(alloc),
+        };
+        end_two(endings, mine, ended);
+    }
+}

@@ -1,0 +1,109 @@
+//! Send.
+
+ghost use Rattle.std.specs.Prelude.{◌≡◌, ◌<◌, ◌^◌, [], None, Some, option_map, IfSome};
+ghost use Rattle.qkernel.specs.Rows.{takes, received};
+ghost use Rattle.qkernel.specs.Threads.{open_in, seat_in};
+
+use super::Kernel;
+use crate::call::{Call, Completion, Mark};
+use crate::channel::{enqueue, way};
+use crate::endings::{Endings, end_one, refuse};
+use crate::open_call::{OpenCall, Receipt, Wait};
+use crate::thread::{block, level_of, member_of, newest_receiver, take_open};
+use qbase::bytes::Bytes;
+use qbase::errno::Errno;
+use qbase::ids::{ConnectionId, ReceiveId, ThreadNo};
+use qqueue::item::{Item, What};
+
+/// How the open call of a thread ends that takes the message of this number, and how many bytes were
+/// copied; none where it doesn't wait for an item.
+fn taken(
+    call: Option<OpenCall>,
+    thread: ThreadNo,
+    number: u64,
+    message: &Bytes,
+) -> Option<(Completion, usize)>
+    ensures ended { option_map (λ r. r.0) result ≡ takes number message.now thread call }
+    ensures copied { IfSome result (λ r. received r.0.mark ≡ Some (number, r.1)) }
+{
+    let OpenCall {
+        number: waited,
+        wait,
+    } = call?;
+    match wait {
+        Wait::Answer { .. } => None,
+        Wait::Item { buffer, .. } => {
+            let mut buffer = buffer;
+            let copied = buffer.lay(0, message.as_slice());
+            let completion = Completion {
+                call: waited,
+                thread,
+                mark: Mark::Message {
+                    rcvid: ReceiveId(number),
+                    copied,
+                },
+                buffer,
+            };
+            Some((completion, copied))
+        }
+    }
+}
+
+impl Kernel {
+    ghost use Rattle.qkernel.specs.Stands.{Steps};
+
+    /// Sends a message: to the receiver that began to wait last, or into the channel's queue, whose room is
+    /// all that takes memory. The caller stays blocked until it is answered.
+    pub(super) fn send(
+        &mut self,
+        seat: usize,
+        thread: ThreadNo,
+        coid: ConnectionId,
+        message: Bytes,
+        reply_buffer: Bytes,
+        endings: &mut Endings,
+    )
+        requires limit { self.old.made < 2 ^ 40 }
+        requires seat { seat_in self.old.threads thread ≡ Some seat }
+        requires free { open_in self.old.threads thread ≡ None }
+        requires none { endings.old.items ≡ [] }
+        ensures { Steps self.old thread (Call.Send coid message reply_buffer) endings.new.items self.new }
+    {
+        self.made += 1;
+        let number = self.made;
+        let process = member_of(&self.threads, seat, thread).process;
+        let Some(chid) = way(&self.connections, &self.channels, process, coid) else {
+            return refuse(endings, number, thread, Errno::Badf, reply_buffer);
+        };
+        let priority = level_of(&self.threads, seat, thread);
+        let receipt = match newest_receiver(&self.threads, chid) {
+            None => {
+                let item = Item {
+                    number,
+                    priority,
+                    what: What::Message,
+                };
+                if let Err(errno) = enqueue(&mut self.channels, chid, item) {
+                    return refuse(endings, number, thread, errno, reply_buffer);
+                }
+                None
+            }
+            Some(newest) => {
+                let call = take_open(&mut self.threads, newest.1);
+                let Some(met) = taken(call, newest.1, number, &message) else {
+                    unreachable!();
+                };
+                let (completion, copied) = met;
+                end_one(endings, completion);
+                Some(Receipt { priority, copied })
+            }
+        };
+        let wait = Wait::Answer {
+            coid,
+            message,
+            reply_buffer,
+            receipt,
+        };
+        block(&mut self.threads, seat, thread, OpenCall { number, wait });
+    }
+}
