@@ -1,0 +1,5 @@
+pub mod Texts
+pub mod Output
+pub mod Joining
+pub mod Runnable
+pub mod OneText

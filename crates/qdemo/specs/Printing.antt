@@ -1,0 +1,7 @@
+-- The text of a run.
+pub mod Words
+pub mod Marks
+pub mod Buffer
+pub mod OpenLine
+pub mod Printed
+pub mod Laws

@@ -1,0 +1,7 @@
+-- A buffer in hexadecimal digits.
+use Rattle.std.specs.Prelude.{ℕ, ◌==◌, List, [], ◌∷◌, length, if◌then◌else◌, codes}
+use Rattle.hex.specs.Hex.{encode_lower}
+
+-- small hexadecimal digits, or `-` for no bytes
+abbrev pub buffer_words : List ℕ → List (List ℕ)
+buffer_words bytes = (if length bytes == 0 then codes "-" else encode_lower bytes) ∷ []

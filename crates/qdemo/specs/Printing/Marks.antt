@@ -1,0 +1,25 @@
+-- How a call ended, in words.
+pub mod Done
+pub mod Failed
+pub mod Channel
+pub mod Connection
+pub mod Replied
+pub mod Message
+use Rattle.std.specs.Prelude.{ℕ, List}
+use Rattle.qkernel.specs.declared.call.Mark.{Mark}
+use Rattle.qkernel.specs.declared.call.Mark.TheVariants as marks
+use Rattle.qdemo.specs.Printing.Marks.Done.{done_words}
+use Rattle.qdemo.specs.Printing.Marks.Failed.{failed_words}
+use Rattle.qdemo.specs.Printing.Marks.Channel.{channel_words}
+use Rattle.qdemo.specs.Printing.Marks.Connection.{connection_words}
+use Rattle.qdemo.specs.Printing.Marks.Replied.{replied_words}
+use Rattle.qdemo.specs.Printing.Marks.Message.{message_words}
+
+-- the words of a mark
+abbrev pub mark_words : Mark → List (List ℕ)
+mark_words marks.Ok = done_words
+mark_words (marks.Failed errno) = failed_words errno
+mark_words (marks.Channel chid) = channel_words chid
+mark_words (marks.Connection coid) = connection_words coid
+mark_words (marks.Replied status copied) = replied_words status copied
+mark_words (marks.Message rcvid copied) = message_words rcvid copied

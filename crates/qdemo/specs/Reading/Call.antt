@@ -1,0 +1,36 @@
+-- The call that a word and its operands name.
+use Rattle.std.specs.Prelude.{ℕ, List, Option, Some, None, Result, Err, if◌then◌else◌, codes}
+use Rattle.std.specs.Str.{bytes_eq}
+use Rattle.qkernel.specs.declared.call.Call.{Call}
+use Rattle.qdemo.specs.declared.reading.verb.Verb.{Verb}
+use Rattle.qdemo.specs.declared.reading.verb.Verb.TheVariants as verbs
+use Rattle.qdemo.specs.declared.fault.LineFault.{LineFault}
+use Rattle.qdemo.specs.declared.fault.LineFault.TheVariants.{UnknownWord}
+use Rattle.qdemo.specs.Reading.Forms.Attach.{attach_of}
+use Rattle.qdemo.specs.Reading.Forms.Create.{create_of}
+use Rattle.qdemo.specs.Reading.Forms.Receive.{receive_of}
+use Rattle.qdemo.specs.Reading.Forms.Reply.{reply_of}
+use Rattle.qdemo.specs.Reading.Forms.Send.{send_of}
+
+-- the verb that a word is
+unfoldable pub verb_of : List ℕ → Option Verb
+verb_of word =
+    if bytes_eq word (codes "create") then Some verbs.Create
+    else if bytes_eq word (codes "attach") then Some verbs.Attach
+    else if bytes_eq word (codes "send") then Some verbs.Send
+    else if bytes_eq word (codes "receive") then Some verbs.Receive
+    else if bytes_eq word (codes "reply") then Some verbs.Reply
+    else None
+
+-- the call of a verb and its operands
+abbrev pub call_by : Option Verb → List (List ℕ) → Result Call LineFault
+call_by (Some verbs.Create) operands = create_of operands
+call_by (Some verbs.Attach) operands = attach_of operands
+call_by (Some verbs.Send) operands = send_of operands
+call_by (Some verbs.Receive) operands = receive_of operands
+call_by (Some verbs.Reply) operands = reply_of operands
+call_by None operands = Err UnknownWord
+
+-- the call of a word and its operands
+unfoldable pub call_of : List ℕ → List (List ℕ) → Result Call LineFault
+call_of word operands = call_by (verb_of word) operands

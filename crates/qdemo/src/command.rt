@@ -1,0 +1,69 @@
+//! The command line.
+
+use clap::{Command, Error};
+use std::alloc::{AllocError, Global};
+
+/// What the program is asked to do.
+#[derive(Clone, Copy)]
+pub enum Action {
+    /// To run the script on standard input.
+    Script,
+}
+
+const ABOUT: &str = "A kernel of synchronous messages, after QNX Neutrino's";
+
+const SCRIPT_ABOUT: &str = "Runs the script on standard input and prints what its calls answer";
+
+const SCRIPT_LONG: &str = "Runs the script on standard input and prints what its calls answer.
+
+A script is a line for each thread, with its process and its priority, and
+then a line for each kernel call, with the thread that makes it. The calls are
+numbered from 1; a channel, a connection and a message have the number of the
+call that made them.
+
+  thread THREAD PROCESS PRIORITY
+  THREAD create FLAGS
+  THREAD attach CHANNEL
+  THREAD send CONNECTION MESSAGE REPLY_BUFFER
+  THREAD receive CHANNEL BUFFER
+  THREAD reply MESSAGE_NUMBER STATUS DATA
+
+Bytes are hexadecimal digits (0aff), so many equal ones (16x00), or - for none.
+Empty lines and lines that begin with # are passed over.
+
+For each call that ends the output has a line: the number of the call that
+ended it, its own number, its thread, how it ended, and the buffer of a Send
+or Receive. Then comes a line for each thread that is blocked at the end.";
+
+const SCRIPT_EXAMPLE: &str = "Example:
+  input            output
+  thread 1 1 10
+  thread 2 2 20
+  1 create 0       1 1 1 channel 1
+  2 attach 1       2 2 2 connection 2
+  2 send 2 - -
+  1 receive 1 -    4 4 1 message 3 0 -
+  1 reply 3 0 -    5 5 1 ok
+                   5 3 2 reply 0 0 -
+
+Status: 0; 1 for a faulty script; 2 for a faulty command line; 3 where reading,
+writing or memory fails.";
+
+fn command<'a>(alloc: Global) -> Result<Command<'a>, AllocError> {
+    let script = Command::new(alloc, "script")
+        .about(SCRIPT_ABOUT)
+        .long_about(SCRIPT_LONG)
+        .after_help(SCRIPT_EXAMPLE);
+    Command::new(alloc, "qdemo")
+        .about(ABOUT)
+        .subcommand_required(true)
+        .subcommand(script)
+}
+
+/// What the words of the command line ask for, the first of which is the program's name. The error may
+/// be a wanted help text.
+pub fn action_of(alloc: Global, words: &[String]) -> Result<Action, Error> {
+    let command = command(alloc)?;
+    let _ = command.try_get_matches_from(words)?;
+    Ok(Action::Script)
+}

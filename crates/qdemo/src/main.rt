@@ -1,0 +1,69 @@
+//! A kernel of synchronous messages, run from a script.
+#![tactic(auto)]
+
+mod command;
+mod fault;
+mod printing;
+mod reading;
+mod script;
+#[cfg(test)]
+mod tests;
+mod transfer;
+mod watched;
+
+use clap::error::ErrorKind;
+use command::{Action, action_of};
+use script::script;
+use std::process::ExitCode;
+use std::{env, io};
+use watched::Watched;
+
+fn main(rt: HostRuntime) -> ExitCode {
+    let arguments = match env::args(&rt) {
+        Ok(arguments) => arguments,
+        Err(error) => return refused(&rt, error.kind()),
+    };
+    let words: Result<Vec<String>, _> = arguments.collect(rt.alloc());
+    let Ok(words) = words else {
+        return failed(&rt, "out of memory");
+    };
+    match action_of(rt.alloc(), words.as_slice()) {
+        Ok(Action::Script) => run_script(&rt),
+        Err(error) => {
+            if error.kind() == ErrorKind::OutOfMemory {
+                return failed(&rt, "out of memory");
+            }
+            if error.print(&rt).is_err() {
+                return failed(&rt, "write failed");
+            }
+            ExitCode::from(error.exit_code() as u8)
+        }
+    }
+}
+
+/// Runs the script on standard input.
+fn run_script<R: Input + Print + Eprint + AllocGlobal>(rt: &R) -> ExitCode {
+    let mut reader = Watched::new(rt.reader());
+    let mut writer = Watched::new(io::writer(rt));
+    match script(rt.alloc(), &mut reader, &mut writer) {
+        Ok(()) => ExitCode::SUCCESS,
+        Err(fault) => {
+            let _ = eprintln!(rt; "qdemo: {fault}");
+            ExitCode::from(fault.status())
+        }
+    }
+}
+
+/// Ends a program whose arguments can't be read: one of them isn't UTF-8, or there is no memory.
+fn refused(rt: &impl Eprint, kind: io::ErrorKind) -> ExitCode {
+    if kind == io::ErrorKind::OutOfMemory {
+        return failed(rt, "out of memory");
+    }
+    let _ = eprintln!(rt; "error: an argument is not UTF-8");
+    ExitCode::from(2)
+}
+
+fn failed(rt: &impl Eprint, words: &str) -> ExitCode {
+    let _ = eprintln!(rt; "qdemo: {words}");
+    ExitCode::from(3)
+}

@@ -1,0 +1,29 @@
+//! How a call ended, in words. Each mark has a file of its own.
+
+ghost use Rattle.std.specs.Prelude.{◌≡◌, ◌++◌, OnOk, string_bytes};
+ghost use Rattle.qdemo.specs.Printing.Words.{spaced};
+ghost use Rattle.qdemo.specs.Printing.Marks.{mark_words};
+
+mod channel;
+mod connection;
+mod failed;
+mod message;
+mod ok;
+mod replied;
+
+use qkernel::call::Mark;
+use std::alloc::AllocError;
+
+/// The mark's words, each with a space before it.
+pub fn push_mark(out: &mut String, mark: Mark) -> Result<(), AllocError>
+    ensures { OnOk result (string_bytes out.new ≡ string_bytes out.old ++ spaced (mark_words mark)) }
+{
+    match mark {
+        Mark::Ok => ok::push(out),
+        Mark::Failed(errno) => failed::push(out, errno),
+        Mark::Channel(chid) => channel::push(out, chid),
+        Mark::Connection(coid) => connection::push(out, coid),
+        Mark::Replied { status, copied } => replied::push(out, status, copied),
+        Mark::Message { rcvid, copied } => message::push(out, rcvid, copied),
+    }
+}

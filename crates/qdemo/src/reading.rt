@@ -1,0 +1,14 @@
+//! What the bytes of a script mean: its lines, their words, the roster and the calls.
+
+pub mod bytes;
+pub mod call;
+pub mod forms;
+pub mod laws;
+pub mod line;
+pub mod lines;
+pub mod number;
+pub mod script;
+#[cfg(test)]
+mod tests;
+pub mod verb;
+pub mod words;

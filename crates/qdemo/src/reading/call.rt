@@ -1,0 +1,26 @@
+//! The call that a word and its operands name.
+
+ghost use Rattle.qdemo.specs.Reading.Call.{call_of};
+ghost use Rattle.qdemo.specs.Reading.Steps.{Gives};
+ghost use Rattle.qdemo.specs.Reading.Words.{words_of};
+
+use crate::fault::{LineFault, ParseError};
+use crate::reading::forms::{attach, create, receive, reply, send};
+use crate::reading::verb::{Verb, verb_named};
+use qkernel::call::Call;
+use std::alloc::Global;
+
+/// The call of a word and its operands.
+#[tactic(auto, unfolding(crate::specs::Reading::Call::call_of))]
+pub fn call_named(alloc: Global, word: &[u8], operands: &[u8]) -> Result<Call, ParseError>
+    ensures { Gives result (call_of word.now (words_of operands.now)) }
+{
+    match verb_named(word) {
+        Some(Verb::Create) => create::call(operands),
+        Some(Verb::Attach) => attach::call(operands),
+        Some(Verb::Send) => send::call(alloc, operands),
+        Some(Verb::Receive) => receive::call(alloc, operands),
+        Some(Verb::Reply) => reply::call(alloc, operands),
+        None => Err(ParseError::Fault(LineFault::UnknownWord)),
+    }
+}

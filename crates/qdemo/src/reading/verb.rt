@@ -1,0 +1,42 @@
+//! The words that name a call.
+
+ghost use Rattle.std.specs.Prelude.{◌≡◌};
+ghost use Rattle.std.specs.Str.{bytes_eq};
+ghost use Rattle.qdemo.specs.Reading.Call.{verb_of};
+
+/// A word that names a call.
+#[derive(Clone, Copy)]
+pub enum Verb {
+    Create,
+    Attach,
+    Send,
+    Receive,
+    Reply,
+}
+
+/// Whether the word is this one.
+pub fn is(word: &[u8], name: &str) -> bool
+    ensures { result ≡ bytes_eq word.now name.now }
+{
+    word == name.as_bytes()
+}
+
+/// The verb that a word is.
+#[tactic(auto, unfolding(crate::specs::Reading::Call::verb_of))]
+pub fn verb_named(word: &[u8]) -> Option<Verb>
+    ensures { result ≡ verb_of word.now }
+{
+    if is(word, "create") {
+        Some(Verb::Create)
+    } else if is(word, "attach") {
+        Some(Verb::Attach)
+    } else if is(word, "send") {
+        Some(Verb::Send)
+    } else if is(word, "receive") {
+        Some(Verb::Receive)
+    } else if is(word, "reply") {
+        Some(Verb::Reply)
+    } else {
+        None
+    }
+}

@@ -1,0 +1,125 @@
+//! Worked scripts, with the texts that were written for them by hand.
+
+use crate::tests::{PRELUDE, PRELUDE_TEXT, expect_after_prelude, expect_refusal, expect_text};
+use std::test::Fail;
+
+#[test]
+fn one_message(rt: HostRuntime) {
+    expect_text(
+        &rt,
+        rt.alloc(),
+        b"thread 1 1 10\nthread 2 2 20\n1 create 0\n2 attach 1\n2 send 2 - -\n1 receive 1 -\n1 reply 3 0 -\n",
+        b"1 1 1 channel 1\n2 2 2 connection 2\n4 4 1 message 3 0 -\n5 5 1 ok\n5 3 2 reply 0 0 -\n",
+    );
+}
+
+#[test]
+fn the_more_urgent_first(rt: HostRuntime) -> Result<(), Fail> {
+    expect_after_prelude(
+        &rt,
+        rt.alloc(),
+        b"4 attach 1\n4 send 3 - -\n2 send 2 - -\n1 receive 1 -\n1 receive 1 -\n",
+        b"3 3 4 connection 3\n6 6 1 message 5 0 -\n7 7 1 message 4 0 -\nopen 5 2 reply 1\nopen 4 4 reply 1\n",
+    )
+}
+
+#[test]
+fn no_calls(rt: HostRuntime) {
+    expect_text(&rt, rt.alloc(), b"", b"");
+    expect_text(&rt, rt.alloc(), b"thread 1 1 10\nthread 2 2 20\n", b"");
+}
+
+#[test]
+fn refused(rt: HostRuntime) -> Result<(), Fail> {
+    for (input, words) in [
+        (
+            b"thread 1 1 10\n1 create\n".as_slice(),
+            "line 2: word count",
+        ),
+        (b"thread 1 1 64\n".as_slice(), "line 1: bad priority"),
+        (
+            b"thread 1 1 10\n1 send 2 abc -\n".as_slice(),
+            "line 2: bad bytes",
+        ),
+        (
+            b"thread 1 1 10\n7 create 0\n".as_slice(),
+            "line 2: unknown thread",
+        ),
+    ] {
+        expect_refusal(&rt, rt.alloc(), input, words, 1)?;
+    }
+    Ok(())
+}
+
+#[test]
+fn bytes_copied(rt: HostRuntime) -> Result<(), Fail> {
+    for (lines, text) in [
+        (
+            b"1 receive 1 8xaa\n2 send 2 68656c6c6f 4x00\n1 reply 4 0 ff\n".as_slice(),
+            b"4 3 1 message 4 5 68656c6c6faaaaaa\n5 5 1 ok\n5 4 2 reply 0 1 ff000000\n".as_slice(),
+        ),
+        (
+            b"2 send 2 0102030405 3xcc\n1 receive 1 2x00\n1 reply 3 -5 aabbccdd\n".as_slice(),
+            b"4 4 1 message 3 2 0102\n5 5 1 ok\n5 3 2 reply -5 3 aabbcc\n".as_slice(),
+        ),
+        (
+            b"2 send 2 - -\n1 receive 1 2xaa\n1 reply 3 7 010203\n".as_slice(),
+            b"4 4 1 message 3 0 aaaa\n5 5 1 ok\n5 3 2 reply 7 0 -\n".as_slice(),
+        ),
+        (
+            b"2 send 2 aa -\n1 receive 1 -\n1 reply 3 0 -\n4 reply 3 0 -\n".as_slice(),
+            b"4 4 1 message 3 0 -\n5 5 1 ok\n5 3 2 reply 0 0 -\n6 6 4 fail srch\n".as_slice(),
+        ),
+    ] {
+        expect_after_prelude(&rt, rt.alloc(), lines, text)?;
+    }
+    Ok(())
+}
+
+#[test]
+fn the_oldest_among_equals(rt: HostRuntime) -> Result<(), Fail> {
+    expect_after_prelude(
+        &rt,
+        rt.alloc(),
+        b"4 attach 1\n4 send 3 01 -\n2 send 2 02 -\n3 send 2 03 -\n1 receive 1 1x00\n1 receive 1 1x00\n1 receive 1 1x00\n",
+        b"3 3 4 connection 3\n7 7 1 message 5 1 02\n8 8 1 message 6 1 03\n9 9 1 message 4 1 01\nopen 5 2 reply 1\nopen 6 3 reply 1\nopen 4 4 reply 1\n",
+    )
+}
+
+#[test]
+fn owners(rt: HostRuntime) -> Result<(), Fail> {
+    expect_after_prelude(
+        &rt,
+        rt.alloc(),
+        b"2 receive 1 1xaa\n1 send 2 - 1xbb\n1 attach 9\n1 create 8\n3 send 2 cc -\n2 reply 7 0 -\n4 receive 1 1x00\n2 reply 7 0 -\n1 reply 7 0 -\n",
+        b"3 3 2 fail srch aa\n4 4 1 fail badf bb\n5 5 1 fail srch\n6 6 1 fail inval\n8 8 2 fail srch\n9 9 4 message 7 1 cc\n10 10 2 fail srch\n11 11 1 ok\n11 7 3 reply 0 0 -\n",
+    )
+}
+
+#[test]
+fn as_many_channels(rt: HostRuntime) -> Result<(), Fail> {
+    let mut input = Vec::from_slice(rt.alloc(), PRELUDE)?;
+    let mut text = String::from_utf8(Vec::from_slice(rt.alloc(), PRELUDE_TEXT)?)?;
+    for n in 3..=65 {
+        input.extend_from_slice(b"1 create 0\n")?;
+        write!(text, "{n} {n} 1 channel {n}\n")?;
+    }
+    input.extend_from_slice(b"1 create 0\n1 create 8\n")?;
+    text.push_str("66 66 1 fail again\n67 67 1 fail inval\n")?;
+    expect_text(&rt, rt.alloc(), input.as_slice(), text.as_bytes());
+    Ok(())
+}
+
+#[test]
+fn as_many_connections(rt: HostRuntime) -> Result<(), Fail> {
+    let mut input = Vec::from_slice(rt.alloc(), PRELUDE)?;
+    let mut text = String::from_utf8(Vec::from_slice(rt.alloc(), PRELUDE_TEXT)?)?;
+    for n in 3..=1025 {
+        input.extend_from_slice(b"2 attach 1\n")?;
+        write!(text, "{n} {n} 2 connection {n}\n")?;
+    }
+    input.extend_from_slice(b"2 attach 1\n2 attach 9\n")?;
+    text.push_str("1026 1026 2 fail again\n1027 1027 2 fail srch\n")?;
+    expect_text(&rt, rt.alloc(), input.as_slice(), text.as_bytes());
+    Ok(())
+}
