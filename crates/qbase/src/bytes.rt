@@ -1,9 +1,9 @@
 //! Bytes on the heap.
 
-ghost use Rattle.std.specs.Prelude.{◌≡◌, ℕ, List, [], IfOk, length, ◌==◌};
+ghost use Rattle.std.specs.Prelude.{◌≡◌, ℕ, List, [], IfOk, length, drop, ◌==◌};
 ghost use Rattle.qbase.specs.Laying.{lay_over, laid_count};
 
-use crate::laying::lay;
+use crate::laying::{lay, take};
 use std::alloc::{AllocError, Global};
 use std::marker::Model;
 
@@ -82,5 +82,14 @@ impl Bytes {
         ensures count { result ≡ laid_count self.old at bytes.now }
     {
         lay(&mut self.items, at, bytes)
+    }
+
+    /// Copies `source` from the place `at` on to the front of these bytes, cut at the end, and answers how
+    /// many.
+    pub fn take(&mut self, source: &[u8], at: usize) -> usize
+        ensures after { self.new ≡ lay_over self.old 0 (drop at source.now) }
+        ensures count { result ≡ laid_count self.old 0 (drop at source.now) }
+    {
+        take(source, at, &mut self.items)
     }
 }

@@ -1,6 +1,6 @@
 //! Copying to the shorter length.
 
-ghost use Rattle.std.specs.Prelude.{◌≡◌};
+ghost use Rattle.std.specs.Prelude.{◌≡◌, drop};
 ghost use Rattle.qbase.specs.Laying.{lay_over, laid_count};
 
 /// Copies `bytes` over the target from the place `at`, cut at the target's end, and answers how many
@@ -15,4 +15,17 @@ pub fn lay(target: &mut [u8], at: usize, bytes: &[u8]) -> usize
     let count = bytes.len().min(target.len() - at);
     target[at..at + count].copy_from_slice(&bytes[..count]);
     count
+}
+
+/// Copies `source` from the place `at` on to the front of the target, cut at the target's end, and answers
+/// how many bytes that are: none where `at` is at or past the source's end.
+pub fn take(source: &[u8], at: usize, target: &mut [u8]) -> usize
+    ensures after { target.new ≡ lay_over target.old 0 (drop at source.now) }
+    ensures count { result ≡ laid_count target.old 0 (drop at source.now) }
+{
+    if at < source.len() {
+        lay(target, 0, &source[at..])
+    } else {
+        0
+    }
 }
