@@ -27,13 +27,17 @@ call that made them.
   THREAD send CONNECTION MESSAGE REPLY_BUFFER
   THREAD receive CHANNEL BUFFER
   THREAD reply MESSAGE_NUMBER STATUS DATA
+  THREAD error MESSAGE_NUMBER CODE
+  THREAD read MESSAGE_NUMBER OFFSET BUFFER
+  THREAD write MESSAGE_NUMBER OFFSET DATA
+  THREAD info MESSAGE_NUMBER
 
 Bytes are hexadecimal digits (0aff), so many equal ones (16x00), or - for none.
 Empty lines and lines that begin with # are passed over.
 
 For each call that ends the output has a line: the number of the call that
-ended it, its own number, its thread, how it ended, and the buffer of a Send
-or Receive. Then comes a line for each thread that is blocked at the end.";
+ended it, its own number, its thread, how it ended, and the buffer of a Send,
+Receive or Read. Then comes a line for each thread that is blocked at the end.";
 
 const SCRIPT_EXAMPLE: &str = "Example:
   input            output

@@ -8,6 +8,7 @@ pub mod Ends
 pub mod Items
 pub mod Receipts
 pub mod Senders
+pub mod Writes
 pub mod OpenCalls
 pub mod Channels
 pub mod Pending

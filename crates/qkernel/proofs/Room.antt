@@ -10,11 +10,11 @@ use Rattle.qkernel.specs.declared.call.Completion.{Completion}
 use Rattle.qkernel.specs.declared.open_call.OpenCall.{OpenCall}
 use Rattle.qkernel.specs.declared.thread.Thread.{Thread}
 use Rattle.qkernel.specs.Answer.{row_of, ending, Outcome}
-use Rattle.qkernel.specs.Facts.{threads_of}
-use Rattle.qkernel.specs.Rows.{Received}
+use Rattle.qkernel.specs.Facts.{Facts, sender, threads_of}
+use Rattle.qkernel.specs.Rows.{Received, Written, writes}
 use Rattle.qkernel.specs.State.{State, facts_in}
 use Rattle.qkernel.specs.Stands.{Step, Steps}
-use Rattle.qkernel.specs.Step.{Follows, unless, after_receipt, is_thread, held_call}
+use Rattle.qkernel.specs.Step.{Follows, unless, after_receipt, after_write, is_thread, held_call, written_call}
 use Rattle.qkernel.specs.Threads.{members_of, open_in, blocked_count}
 use Rattle.qkernel.proofs.Past.Ends.{row_passes}
 use Rattle.qkernel.proofs.Past.Laws.{RowLaws}
@@ -83,6 +83,10 @@ one-receipt : (r : Option Received) (u : ℕ) (o : Option OpenCall) → one (aft
 one-receipt None u o = refl
 one-receipt (Some r) u o = elim (is_thread r.sender u) as (λ b. one (cond b (option_map (held_call r.kept) o) o) ≡ one o) [ true ↦ one-map (held_call r.kept) o | false ↦ refl ]
 
+one-write : (f : Facts) (w : Option Written) (u : ℕ) (o : Option OpenCall) → one (after_write f w u o) ≡ one o
+one-write f None u o = refl
+one-write f (Some w) u o = elim (is_thread (sender f w.message) u) as (λ b. one (cond b (option_map (written_call w.offset w.bytes) o) o) ≡ one o) [ true ↦ one-map (written_call w.offset w.bytes) o | false ↦ refl ]
+
 one-unless : (y : Option Completion) (o : Option OpenCall) → one y + one (unless (is_some y) o) ≤ 1
 one-unless None o = let most : one o ≤ 1 = one_most o in omega arith
 one-unless (Some y) o = omega arith
@@ -118,8 +122,8 @@ module _ (old : State) (t : ℕ) (c : Call) (X : List Completion) (new : State) 
     where
       one_apart : (u : ℕ) → eqb u t ≡ false → RowLaws (facts_in old) t c → Follows (facts_in old) t c true (facts_in new) → one (ending (facts_in old) t c u) + one (open_in new.threads u) ≤ one (open_in old.threads u)
       one_apart u other laws follows = rw (follows.open_call u, other) (
-          elim ((row_of (facts_in old) t c).ends u) as (λ y. (row_of (facts_in old) t c).ends u ≡ y → one y + one (unless (is_some y) (after_receipt (row_of (facts_in old) t c).receipt u (open_in old.threads u))) ≤ one (open_in old.threads u)) [
-            | None ↦ λ e. rw (one-receipt (row_of (facts_in old) t c).receipt u (open_in old.threads u)) (omega arith)
+          elim ((row_of (facts_in old) t c).ends u) as (λ y. (row_of (facts_in old) t c).ends u ≡ y → one y + one (unless (is_some y) (after_receipt (row_of (facts_in old) t c).receipt u (after_write (facts_in old) (writes c) u (open_in old.threads u)))) ≤ one (open_in old.threads u)) [
+            | None ↦ λ e. rw (one-receipt (row_of (facts_in old) t c).receipt u (after_write (facts_in old) (writes c) u (open_in old.threads u)), one-write (facts_in old) (writes c) u (open_in old.threads u)) (omega arith)
             | Some y ↦ λ e. let waits = laws.ends_open u y e in rw (waits.is) (omega arith)
           ] refl)
 

@@ -1,20 +1,21 @@
 -- The thread whose open call is a Send, by its place and by its number.
 use Rattle.std.proofs.Common.{◌≡◌, ℕ, suc, zero, ◌+◌, ◌<◌, List, [], ◌∷◌, length, set, get_or, refl, ap, sym, subst, ◌∙◌, cond, arith, true, false, eqb}
-use Rattle.std.specs.Prelude.{Option, None, Some, position}
+use Rattle.std.specs.Prelude.{Option, None, Some, is_some, position}
 use Rattle.std.specs.List.{position_from, AllByRecursion}
 use Rattle.std.specs.Option.{option_map}
 use Rattle.std.proofs.lemmas.Grind.{common_steps}
-use Rattle.std.proofs.lemmas.Bool.{eqb-true, eq-eqb, ne_eqb}
+use Rattle.std.proofs.lemmas.Bool.{eqb-true, eq-eqb, ne_eqb, true≢false}
 use Rattle.std.proofs.lemmas.Iterator.Adapters.{position_from-zero}
 use Rattle.std.proofs.lemmas.Option.{same_Some, none-some}
 use Rattle.qbase.specs.Laying.{laid_count, lay_over}
 use Rattle.qtables.specs.Members.{IsRoster}
+use Rattle.qtables.specs.declared.connection.Connection.{Connection}
+use Rattle.qkernel.specs.declared.channel.Channel.{Channel}
 use Rattle.qkernel.specs.declared.open_call.OpenCall.{OpenCall}
-use Rattle.qkernel.specs.declared.open_call.Receipt.{Receipt}
 use Rattle.qkernel.specs.declared.thread.Thread.{Thread}
 use Rattle.qkernel.specs.Facts.{threads_of, is_send, sender_among, message_in}
-use Rattle.qkernel.specs.Step.{held_call}
-use Rattle.qkernel.specs.Threads.{members_of, open_in, sender_in, message_from, HandsOver}
+use Rattle.qkernel.specs.HeldIn.{is_held_in, is_held_over}
+use Rattle.qkernel.specs.Threads.{held_over_in, members_of, open_in, sender_in, sent_call, message_from, ChangesSender}
 use Rattle.qkernel.proofs.Seats.{IsFirstAt, first_open, set_members, set_open, set_level}
 
 -- nothing laid over bytes leaves them
@@ -105,10 +106,10 @@ roster_first (t ∷ threads) zero d r l = refl
 roster_first (t ∷ threads) (suc k) d r l =
     (ne_eqb _ _ (λ e. let above : t.member.thread < (get_or threads k d).member.thread = above_all t.member.thread threads k d r.0 (omega arith) in omega arith), roster_first threads k d r.1 (omega arith))
 
--- ---- the sender keeps a receipt
+-- ---- the open call of the sender is changed
 
-pub hands_nowhere : (i : ℕ) (kept : Receipt) (threads : List Thread) → IsRoster (members_of threads) → position (λ t. is_send i t.open_call) threads ≡ None → HandsOver i kept threads threads
-hands_nowhere i kept threads r e =
+pub changes_nowhere : (i : ℕ) (change : OpenCall → OpenCall) (threads : List Thread) → IsRoster (members_of threads) → position (λ t. is_send i t.open_call) threads ≡ None → ChangesSender i change threads threads
+changes_nowhere i change threads r e =
     let none : sender_in threads i ≡ None = sender_in-by i threads r ∙ no_sender i threads e in
     record { members = refl; open_call = λ v. rw none refl; priority = λ v. refl }
 
@@ -120,23 +121,45 @@ module _ (i : ℕ) (threads : List Thread) (k : ℕ) (d : Thread) (r : IsRoster 
   there : IsSenderAt threads i k
   there = sender_at i threads k at
 
-  sender_there : sender_in threads i ≡ Some (get_or threads k d).member.thread
+  pub sender_there : sender_in threads i ≡ Some (get_or threads k d).member.thread
   sender_there = sender_in-by i threads r ∙ sender_is i threads k d there
 
-  first_there : IsFirstAt threads (get_or threads k d).member.thread k
+  pub first_there : IsFirstAt threads (get_or threads k d).member.thread k
   first_there = roster_first threads k d r (sender_below i threads k there)
 
-  pub message_there : message_from threads i ≡ message_in (get_or threads k d).open_call
-  message_there = rw sender_there (ap message_in (first_open _ threads k d first_there))
+  pub call_there : sent_call threads i ≡ (get_or threads k d).open_call
+  call_there = rw sender_there (first_open _ threads k d first_there)
 
-  pub hands_there : (kept : Receipt) (x : Thread) → x.member ≡ (get_or threads k d).member → x.priority ≡ (get_or threads k d).priority
-      → x.open_call ≡ option_map (held_call kept) (get_or threads k d).open_call → HandsOver i kept threads (set threads k x)
-  hands_there kept x m p o = record {
+  pub message_there : message_from threads i ≡ message_in (get_or threads k d).open_call
+  message_there = ap message_in call_there
+
+  pub changes_there : (change : OpenCall → OpenCall) (x : Thread) → x.member ≡ (get_or threads k d).member → x.priority ≡ (get_or threads k d).priority
+      → x.open_call ≡ option_map change (get_or threads k d).open_call → ChangesSender i change threads (set threads k x)
+  changes_there change x m p o = record {
     members = set_members _ threads k d x first_there m;
     open_call = λ v. set_open _ threads k d x v first_there m
-        ∙ rw sender_there (elim (eqb v (get_or threads k d).member.thread) as (λ b. eqb v (get_or threads k d).member.thread ≡ b → cond b x.open_call (open_in threads v) ≡ cond b (option_map (held_call kept) (open_in threads v)) (open_in threads v)) [
-          | true ↦ λ e. o ∙ ap (option_map (held_call kept)) (sym (ap (open_in threads) (eqb-true v _ e) ∙ first_open _ threads k d first_there))
+        ∙ rw sender_there (elim (eqb v (get_or threads k d).member.thread) as (λ b. eqb v (get_or threads k d).member.thread ≡ b → cond b x.open_call (open_in threads v) ≡ cond b (option_map change (open_in threads v)) (open_in threads v)) [
+          | true ↦ λ e. o ∙ ap (option_map change) (sym (ap (open_in threads) (eqb-true v _ e) ∙ first_open _ threads k d first_there))
           | false ↦ λ e. refl
         ] refl);
     priority = λ v. set_level _ threads k d x v first_there m p;
   }
+
+-- ---- whether its message is held
+
+pub held_nowhere : (connections : List (ℕ × Connection)) (channels : List (ℕ × Channel)) (p i : ℕ) (threads : List Thread) → IsRoster (members_of threads) → position (λ t. is_send i t.open_call) threads ≡ None
+    → is_held_in threads connections channels p i ≡ false
+held_nowhere connections channels p i threads r e =
+    let none : sender_in threads i ≡ None = sender_in-by i threads r ∙ no_sender i threads e in rw none refl
+
+pub held_there : (connections : List (ℕ × Connection)) (channels : List (ℕ × Channel)) (p i : ℕ) (threads : List Thread) (k : ℕ) (d : Thread) → IsRoster (members_of threads) → position (λ t. is_send i t.open_call) threads ≡ Some k
+    → is_held_in threads connections channels p i ≡ is_held_over connections channels p (held_over_in (get_or threads k d).open_call)
+held_there connections channels p i threads k d r at = ap (λ o. is_held_over connections channels p (held_over_in o)) (call_there i threads k d r at)
+
+-- a message that is held has a sender
+pub sender_of_held : (connections : List (ℕ × Connection)) (channels : List (ℕ × Channel)) (p : ℕ) (o : Option OpenCall) → is_held_over connections channels p (held_over_in o) ≡ true → is_some (held_over_in o) ≡ true
+sender_of_held connections channels p o e =
+    elim (held_over_in o) as (λ x. is_held_over connections channels p x ≡ true → is_some x ≡ true) [
+      | None ↦ λ h. absurd (true≢false (sym h))
+      | Some coid ↦ λ h. refl
+    ] e

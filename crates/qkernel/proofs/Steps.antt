@@ -4,4 +4,9 @@ pub mod ChannelCreate
 pub mod ConnectAttach
 pub mod Send
 pub mod Receive
+pub mod Held
 pub mod Reply
+pub mod Error
+pub mod Read
+pub mod Write
+pub mod Info

@@ -4,7 +4,7 @@ use Rattle.std.specs.List.{filter_map}
 use Rattle.qbase.specs.declared.errno.Errno.{Errno}
 use Rattle.qbase.specs.declared.errno.Errno.TheVariants.{Busy, NoMemory}
 use Rattle.qkernel.specs.declared.call.Call.{Call}
-use Rattle.qkernel.specs.declared.call.Call.TheVariants.{ChannelCreate, ConnectAttach, Send, Receive, Reply}
+use Rattle.qkernel.specs.declared.call.Call.TheVariants.{ChannelCreate, ConnectAttach, Send, Receive, Reply, Error, Read, Write, Info}
 use Rattle.qkernel.specs.declared.call.Completion.{Completion}
 use Rattle.qkernel.specs.declared.call.Mark.TheVariants as mark
 use Rattle.qkernel.specs.Buffers.{buffer_of}
@@ -15,6 +15,10 @@ use Rattle.qkernel.specs.Calls.ConnectAttach as connect_attach
 use Rattle.qkernel.specs.Calls.Send as send
 use Rattle.qkernel.specs.Calls.Receive as receive
 use Rattle.qkernel.specs.Calls.Reply as reply
+use Rattle.qkernel.specs.Calls.Error as error
+use Rattle.qkernel.specs.Calls.Read as read
+use Rattle.qkernel.specs.Calls.Write as write
+use Rattle.qkernel.specs.Calls.Info as info
 
 -- the row of a call
 abbrev pub row_of : Facts → ℕ → Call → Row
@@ -23,6 +27,10 @@ row_of f t (ConnectAttach chid) = connect_attach.row f t chid
 row_of f t (Send coid message reply_buffer) = send.row f t coid message
 row_of f t (Receive chid buffer) = receive.row f t chid buffer
 row_of f t (Reply rcvid status bytes) = reply.row f t rcvid status bytes
+row_of f t (Error rcvid code) = error.row f t rcvid code
+row_of f t (Read rcvid offset buffer) = read.row f t rcvid offset buffer
+row_of f t (Write rcvid offset bytes) = write.row f t rcvid offset bytes
+row_of f t (Info rcvid) = info.row f t rcvid
 
 -- the first refusal that applies: a thread that is blocked makes no call, and then those of the row
 abbrev pub refusal : Facts → ℕ → Call → Option Errno

@@ -1,12 +1,16 @@
 -- The buffer that a call brings.
 use Rattle.std.specs.Prelude.{ℕ, List, []}
 use Rattle.qkernel.specs.declared.call.Call.{Call}
-use Rattle.qkernel.specs.declared.call.Call.TheVariants.{ChannelCreate, ConnectAttach, Send, Receive, Reply}
+use Rattle.qkernel.specs.declared.call.Call.TheVariants.{ChannelCreate, ConnectAttach, Send, Receive, Reply, Error, Read, Write, Info}
 
--- a Send brings its reply buffer and a Receive its buffer; any other call has none
+-- a Send brings its reply buffer, a Receive and a Read their buffer; any other call has none
 abbrev pub buffer_of : Call → List ℕ
 buffer_of (Send coid message reply_buffer) = reply_buffer
 buffer_of (Receive chid buffer) = buffer
 buffer_of (ChannelCreate flags) = []
 buffer_of (ConnectAttach chid) = []
 buffer_of (Reply rcvid status bytes) = []
+buffer_of (Error rcvid code) = []
+buffer_of (Read rcvid offset buffer) = buffer
+buffer_of (Write rcvid offset bytes) = []
+buffer_of (Info rcvid) = []

@@ -4,3 +4,7 @@ pub mod ConnectAttach
 pub mod Send
 pub mod Receive
 pub mod Reply
+pub mod Error
+pub mod Read
+pub mod Write
+pub mod Info

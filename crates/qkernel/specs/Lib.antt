@@ -3,6 +3,7 @@ pub mod Trace
 pub mod Kept
 pub mod Facts
 pub mod Rows
+pub mod Held
 pub mod Receivers
 pub mod Calls
 pub mod Answer
@@ -12,7 +13,7 @@ pub mod Step
 pub mod Threads
 pub mod Channels
 pub mod State
-pub mod Answerable
+pub mod HeldIn
 pub mod Stands
 pub mod OnlyRun
 pub mod Runs

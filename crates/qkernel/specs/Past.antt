@@ -8,7 +8,7 @@ use Rattle.qtables.specs.Members.{member_at}
 use Rattle.qtables.specs.declared.connection.Connection.{Connection}
 use Rattle.qtables.specs.declared.member.Member.{Member}
 use Rattle.qkernel.specs.declared.call.Call.{Call}
-use Rattle.qkernel.specs.declared.call.Call.TheVariants.{ChannelCreate, ConnectAttach, Send, Receive, Reply}
+use Rattle.qkernel.specs.declared.call.Call.TheVariants.{ChannelCreate, ConnectAttach, Send, Receive, Reply, Error, Read, Write, Info}
 use Rattle.qkernel.specs.declared.call.Completion.{Completion}
 use Rattle.qkernel.specs.declared.call.Mark.{Mark}
 use Rattle.qkernel.specs.declared.call.Mark.TheVariants as mark
@@ -18,7 +18,7 @@ use Rattle.qkernel.specs.declared.open_call.Wait.{Wait}
 use Rattle.qkernel.specs.declared.open_call.Wait.TheVariants.{Answer, Item as ForItem}
 use Rattle.qkernel.specs.Trace.{Event, Trace}
 use Rattle.qkernel.specs.Facts.{OpenChannel}
-use Rattle.qkernel.specs.Rows.{Made, asks, makes, received}
+use Rattle.qkernel.specs.Rows.{Made, asks, makes, received, writes, written_over, with_buffer}
 
 -- ---- accepted, ended
 
@@ -30,6 +30,9 @@ is_failure (mark.Channel chid) = false
 is_failure (mark.Connection coid) = false
 is_failure (mark.Replied status copied) = false
 is_failure (mark.Message rcvid copied) = false
+is_failure (mark.Errored code) = false
+is_failure (mark.Count copied) = false
+is_failure (mark.Info info) = false
 
 -- these endings refuse call n: one is of n itself, and a failure
 abbrev pub refuses : List Completion → ℕ → Bool
@@ -67,6 +70,10 @@ creates (Some m) (ConnectAttach chid) = None
 creates (Some m) (Send coid message reply_buffer) = None
 creates (Some m) (Receive chid buffer) = None
 creates (Some m) (Reply rcvid status bytes) = None
+creates (Some m) (Error rcvid code) = None
+creates (Some m) (Read rcvid offset buffer) = None
+creates (Some m) (Write rcvid offset bytes) = None
+creates (Some m) (Info rcvid) = None
 
 -- the open channel h: an accepted ChannelCreate has that number
 abbrev pub channel_at : List Member → Trace → ℕ → Option OpenChannel
@@ -84,6 +91,10 @@ attaches (Some m) (ChannelCreate flags) = None
 attaches (Some m) (Send coid message reply_buffer) = None
 attaches (Some m) (Receive chid buffer) = None
 attaches (Some m) (Reply rcvid status bytes) = None
+attaches (Some m) (Error rcvid code) = None
+attaches (Some m) (Read rcvid offset buffer) = None
+attaches (Some m) (Write rcvid offset bytes) = None
+attaches (Some m) (Info rcvid) = None
 
 -- the live connection k: an accepted ConnectAttach has that number
 abbrev pub connection_at : List Member → Trace → ℕ → Option Connection
@@ -169,6 +180,15 @@ abbrev pub held_with : Receipt → Wait → Wait
 held_with receipt (Answer coid message reply_buffer before) = Answer coid message reply_buffer (Some receipt)
 held_with receipt (ForItem chid buffer) = ForItem chid buffer
 
+-- a reply buffer of message i with the data of each accepted Write to it, in order
+abbrev pub with_writes : Trace → ℕ → List ℕ → List ℕ
+with_writes [] i b = b
+with_writes (e ∷ past) i b = if is_accepted e past then written_over (writes e.call) i (with_writes past i b) else with_writes past i b
+
+-- a call with its reply buffer as it is by now
+abbrev pub filled : Trace → OpenCall → OpenCall
+filled past o = record { number = o.number; wait = with_buffer (with_writes past o.number) o.wait }
+
 -- a call, unless it is ended
 abbrev pub unless_ended : Trace → Option OpenCall → Option OpenCall
 unless_ended past None = None
@@ -181,4 +201,4 @@ with_receipt priority (Some copied) o = record { number = o.number; wait = held_
 
 -- the open call of thread t
 abbrev pub open_call : List Member → Trace → ℕ → Option OpenCall
-open_call roster past t = option_map (λ o. with_receipt (priority_of_item roster past o.number) (receipt_of past o.number) o) (unless_ended past (newest_block past t))
+open_call roster past t = option_map (λ o. with_receipt (priority_of_item roster past o.number) (receipt_of past o.number) (filled past o)) (unless_ended past (newest_block past t))

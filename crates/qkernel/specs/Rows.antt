@@ -1,12 +1,12 @@
 -- What a row of the table of calls says, and what the rows share.
-use Rattle.std.specs.Prelude.{ℕ, Bool, List, Option, None, Some}
+use Rattle.std.specs.Prelude.{ℕ, ◌==◌, Bool, List, Option, None, Some, if◌then◌else◌}
 use Rattle.qbase.specs.Laying.{laid_count, lay_over}
 use Rattle.qbase.specs.declared.errno.Errno.{Errno}
 use Rattle.qqueue.specs.declared.item.Item.{Item}
 use Rattle.qqueue.specs.declared.item.What.TheVariants.{Message}
 use Rattle.qtables.specs.declared.connection.Connection.{Connection}
 use Rattle.qkernel.specs.declared.call.Call.{Call}
-use Rattle.qkernel.specs.declared.call.Call.TheVariants.{ChannelCreate, ConnectAttach, Send, Receive, Reply}
+use Rattle.qkernel.specs.declared.call.Call.TheVariants.{ChannelCreate, ConnectAttach, Send, Receive, Reply, Error, Read, Write, Info}
 use Rattle.qkernel.specs.declared.call.Completion.{Completion}
 use Rattle.qkernel.specs.declared.call.Mark.{Mark}
 use Rattle.qkernel.specs.declared.call.Mark.TheVariants as mark
@@ -50,6 +50,10 @@ asks n (Receive chid buffer) = Some (record { number = n; wait = ForItem chid bu
 asks n (ChannelCreate flags) = None
 asks n (ConnectAttach chid) = None
 asks n (Reply rcvid status bytes) = None
+asks n (Error rcvid code) = None
+asks n (Read rcvid offset buffer) = None
+asks n (Write rcvid offset bytes) = None
+asks n (Info rcvid) = None
 
 -- ---- items
 
@@ -65,6 +69,40 @@ makes connection priority n t (Receive chid buffer) = None
 makes connection priority n t (ChannelCreate flags) = None
 makes connection priority n t (ConnectAttach chid) = None
 makes connection priority n t (Reply rcvid status bytes) = None
+makes connection priority n t (Error rcvid code) = None
+makes connection priority n t (Read rcvid offset buffer) = None
+makes connection priority n t (Write rcvid offset bytes) = None
+makes connection priority n t (Info rcvid) = None
+
+-- ---- writing
+
+-- what is written: over the reply buffer of which message, from which place, and the bytes
+pub record Written : Type 0 where
+  pub message : ℕ
+  pub offset : ℕ
+  pub bytes : List ℕ
+
+-- what a call writes
+abbrev pub writes : Call → Option Written
+writes (Write rcvid offset bytes) = Some (record { message = rcvid; offset = offset; bytes = bytes })
+writes (ChannelCreate flags) = None
+writes (ConnectAttach chid) = None
+writes (Send coid message reply_buffer) = None
+writes (Receive chid buffer) = None
+writes (Reply rcvid status bytes) = None
+writes (Error rcvid code) = None
+writes (Read rcvid offset buffer) = None
+writes (Info rcvid) = None
+
+-- the reply buffer of message i with what is written over it
+abbrev pub written_over : Option Written → ℕ → List ℕ → List ℕ
+written_over None i b = b
+written_over (Some w) i b = if w.message == i then lay_over b w.offset w.bytes else b
+
+-- a wait with its reply buffer changed
+abbrev pub with_buffer : (List ℕ → List ℕ) → Wait → Wait
+with_buffer f (Answer coid message reply_buffer receipt) = Answer coid message (f reply_buffer) receipt
+with_buffer f (ForItem chid buffer) = ForItem chid buffer
 
 -- ---- receipts
 
@@ -87,6 +125,9 @@ received (mark.Failed errno) = None
 received (mark.Channel chid) = None
 received (mark.Connection coid) = None
 received (mark.Replied status copied) = None
+received (mark.Errored code) = None
+received (mark.Count copied) = None
+received (mark.Info info) = None
 
 -- the receipt that thread u makes of a message of this channel, sender and priority
 abbrev pub receipt_at : ℕ → Option ℕ → ℕ → ℕ → Option (ℕ × ℕ) → Option Received

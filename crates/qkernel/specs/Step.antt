@@ -1,6 +1,7 @@
 -- One call by its facts: what they are after it.
 use Rattle.std.specs.Prelude.{◌≡◌, ℕ, ◌+◌, ◌==◌, Bool, false, is_some, List, [], ◌∷◌, ◌++◌, Option, None, Some, if◌then◌else◌}
 use Rattle.std.specs.Option.{option_map}
+use Rattle.qbase.specs.Laying.{lay_over}
 use Rattle.qqueue.specs.Best.{without}
 use Rattle.qqueue.specs.declared.item.Item.{Item}
 use Rattle.qtables.specs.Members.{member_at}
@@ -8,8 +9,8 @@ use Rattle.qtables.specs.declared.connection.Connection.{Connection}
 use Rattle.qkernel.specs.declared.call.Call.{Call}
 use Rattle.qkernel.specs.declared.open_call.OpenCall.{OpenCall}
 use Rattle.qkernel.specs.declared.open_call.Receipt.{Receipt}
-use Rattle.qkernel.specs.Facts.{Facts, OpenChannel}
-use Rattle.qkernel.specs.Rows.{Made, Received, asks, makes}
+use Rattle.qkernel.specs.Facts.{Facts, OpenChannel, sender}
+use Rattle.qkernel.specs.Rows.{Made, Received, Written, asks, makes, writes, with_buffer}
 use Rattle.qkernel.specs.Answer.{row_of}
 use Rattle.qkernel.specs.Past.{creates, attaches, held_with}
 
@@ -43,13 +44,22 @@ abbrev pub after_receipt : Option Received → ℕ → Option OpenCall → Optio
 after_receipt None u o = o
 after_receipt (Some r) u o = if is_thread r.sender u then option_map (held_call r.kept) o else o
 
+-- an open call whose reply buffer is written over
+abbrev pub written_call : ℕ → List ℕ → OpenCall → OpenCall
+written_call offset bytes o = record { number = o.number; wait = with_buffer (λ b. lay_over b offset bytes) o.wait }
+
+-- what thread u waits for after a write
+abbrev pub after_write : Facts → Option Written → ℕ → Option OpenCall → Option OpenCall
+after_write f None u o = o
+after_write f (Some w) u o = if is_thread (sender f w.message) u then option_map (written_call w.offset w.bytes) o else o
+
 abbrev pub unless : Bool → Option OpenCall → Option OpenCall
 unless b o = if b then None else o
 
 abbrev pub open_call_after : Facts → ℕ → Call → ℕ → Option OpenCall
 open_call_after f t c u =
     if u == t then unless (is_some (row_of f t c).own) (after_receipt (row_of f t c).receipt u (asks f.number c))
-    else unless (is_some ((row_of f t c).ends u)) (after_receipt (row_of f t c).receipt u (f.open_call u))
+    else unless (is_some ((row_of f t c).ends u)) (after_receipt (row_of f t c).receipt u (after_write f (writes c) u (f.open_call u)))
 
 -- the item that is made, where it is of channel h
 abbrev pub made_on : ℕ → Option Made → List Item

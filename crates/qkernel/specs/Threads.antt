@@ -3,13 +3,12 @@ use Rattle.std.specs.Prelude.{◌≡◌, ℕ, ◌+◌, ◌==◌, List, [], ◌�
 use Rattle.std.specs.Option.{option_map, option_and_then}
 use Rattle.qtables.specs.declared.member.Member.{Member}
 use Rattle.qkernel.specs.declared.open_call.OpenCall.{OpenCall}
-use Rattle.qkernel.specs.declared.open_call.Receipt.{Receipt}
 use Rattle.qkernel.specs.declared.open_call.Wait.{Wait}
 use Rattle.qkernel.specs.declared.open_call.Wait.TheVariants.{Answer, Item as ForItem}
 use Rattle.qkernel.specs.declared.thread.Thread.{Thread}
 use Rattle.qkernel.specs.Facts.{threads_of, sender_among, message_in}
 use Rattle.qkernel.specs.Receivers.{later_of}
-use Rattle.qkernel.specs.Step.{held_call, is_thread}
+use Rattle.qkernel.specs.Step.{is_thread}
 
 -- the roster
 abbrev pub members_of : List Thread → List Member
@@ -68,12 +67,16 @@ held_over_in (Some o) = held_over_by o.wait
 abbrev pub sender_in : List Thread → ℕ → Option ℕ
 sender_in threads i = sender_among (open_in threads) i (threads_of (members_of threads))
 
+-- the open call that is the Send of number i
+abbrev pub sent_call : List Thread → ℕ → Option OpenCall
+sent_call threads i = option_and_then (open_in threads) (sender_in threads i)
+
 -- the message of the Send of number i
 abbrev pub message_from : List Thread → ℕ → List ℕ
-message_from threads i = message_in (option_and_then (open_in threads) (sender_in threads i))
+message_from threads i = message_in (sent_call threads i)
 
--- the sender of message i keeps this receipt, and all else is as it was
-pub record HandsOver (i : ℕ) (kept : Receipt) (old new : List Thread) : Type 0 where
+-- the open call of the thread that sent message i is changed so, and all else is as it was
+pub record ChangesSender (i : ℕ) (change : OpenCall → OpenCall) (old new : List Thread) : Type 0 where
   pub members : members_of new ≡ members_of old
-  pub open_call : (v : ℕ) → open_in new v ≡ (if is_thread (sender_in old i) v then option_map (held_call kept) (open_in old v) else open_in old v)
+  pub open_call : (v : ℕ) → open_in new v ≡ (if is_thread (sender_in old i) v then option_map change (open_in old v) else open_in old v)
   pub priority : (v : ℕ) → level_in new v ≡ level_in old v

@@ -7,9 +7,13 @@ ghost use Rattle.qkernel.specs.Threads.{members_of, open_in, seat_in, blocked_co
 mod blocked;
 mod channel_create;
 mod connect_attach;
+mod error;
+mod info;
+mod read;
 mod receive;
 mod reply;
 mod send;
+mod write;
 
 use crate::call::Call;
 use crate::channel::Channel;
@@ -97,6 +101,18 @@ impl Kernel {
                 status,
                 bytes,
             } => self.reply(seat, thread, rcvid, status, bytes, endings),
+            Call::Error { rcvid, code } => self.error(seat, thread, rcvid, code, endings),
+            Call::Read {
+                rcvid,
+                offset,
+                buffer,
+            } => self.read(seat, thread, rcvid, offset, buffer, endings),
+            Call::Write {
+                rcvid,
+                offset,
+                bytes,
+            } => self.write(seat, thread, rcvid, offset, bytes, endings),
+            Call::Info(rcvid) => self.info(seat, thread, rcvid, endings),
         }
     }
 

@@ -5,12 +5,11 @@
 pub mod call;
 pub mod channel;
 pub mod endings;
+pub mod held;
 pub mod kernel;
 pub mod laws;
 pub mod open_call;
 pub mod run;
-#[cfg(test)]
-mod tests;
 pub mod thread;
 pub mod trace;
 pub mod worked;

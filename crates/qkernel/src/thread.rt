@@ -5,7 +5,7 @@ ghost use Rattle.qbase.specs.Laying.{laid_count, lay_over};
 ghost use Rattle.qtables.specs.Members.{member_at, IsRoster};
 ghost use Rattle.qkernel.specs.Facts.{is_send, message_in};
 ghost use Rattle.qkernel.specs.Step.{held_call};
-ghost use Rattle.qkernel.specs.Threads.{members_of, open_in, seat_in, level_in, ready, newest_by, later_by, held_over_in, message_from, SetsOpen, HandsOver};
+ghost use Rattle.qkernel.specs.Threads.{members_of, open_in, seat_in, level_in, ready, newest_by, later_by, held_over_in, message_from, SetsOpen, ChangesSender};
 ghost use Rattle.qkernel.specs.Receivers.{wait_on};
 
 use crate::open_call::{OpenCall, Receipt, Wait};
@@ -114,7 +114,7 @@ pub fn hand_over(
     buffer: &mut Bytes,
 ) -> usize
     requires { IsRoster (members_of threads.old.items) }
-    ensures kept { HandsOver number (record { priority = priority; copied = result }) threads.old.items threads.new.items }
+    ensures kept { ChangesSender number (held_call (record { priority = priority; copied = result })) threads.old.items threads.new.items }
     ensures buffer { buffer.new ≡ lay_over buffer.old 0 (message_from threads.old.items number) }
     ensures count { result ≡ laid_count buffer.old 0 (message_from threads.old.items number) }
 {

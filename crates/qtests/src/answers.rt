@@ -1,14 +1,14 @@
 //! Calls that do what they say.
 
-use super::{
+use crate::making::{
     attach, brings, channel, connected, connection, create, kernel, message, receive, replied,
     reply, send,
 };
-use crate::call::{Call, Completion, Mark};
-use crate::endings::Endings;
-use crate::kernel::{CALL_LIMIT, Kernel};
 use arrayvec::ArrayVec;
 use qbase::ids::ThreadNo;
+use qkernel::call::{Call, Completion, Mark};
+use qkernel::endings::Endings;
+use qkernel::kernel::{CALL_LIMIT, Kernel};
 use qtables::roster::Roster;
 use std::test::Fail;
 

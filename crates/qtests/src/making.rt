@@ -1,25 +1,22 @@
-//! Runs of a few calls, with the endings that each brings written out in whole.
+//! Making calls, and comparing the endings that they bring.
 
-mod answers;
-mod refusals;
-
-use crate::call::{Call, Mark};
-use crate::kernel::Kernel;
 use qbase::bytes::Bytes;
 use qbase::errno::Errno;
 use qbase::flags::ChannelFlags;
 use qbase::ids::{ChannelId, ConnectionId, ProcessNo, ReceiveId, ThreadNo};
 use qbase::priority::Priority;
+use qkernel::call::{Call, Mark};
+use qkernel::kernel::Kernel;
 use qtables::roster::Roster;
 use std::alloc::{AllocError, Global};
 use std::process::Abort;
 use std::test::Fail;
 
-// An ending: the number of the ended call, its thread, its mark, and the buffer that it gives back.
-type Ending<'a> = (u64, u8, Mark, &'a [u8]);
+/// An ending: the number of the ended call, its thread, its mark, and the buffer that it gives back.
+pub type Ending<'a> = (u64, u8, Mark, &'a [u8]);
 
-// The threads 1 and 4 of process 1 at priority 10, and 2 and 3 of process 2 at priority 20.
-fn kernel(alloc: Global) -> Result<Kernel, Fail> {
+/// The threads 1 and 4 of process 1 at priority 10, and 2 and 3 of process 2 at priority 20.
+pub fn kernel(alloc: Global) -> Result<Kernel, Fail> {
     let mut roster = Roster::new(alloc);
     for (thread, process, level) in [(1, 1, 10), (2, 2, 20), (3, 2, 20), (4, 1, 10)] {
         let priority = Priority::new(level).ok_or("no such priority")?;
@@ -28,8 +25,8 @@ fn kernel(alloc: Global) -> Result<Kernel, Fail> {
     Ok(Kernel::new(alloc, &roster)?)
 }
 
-// Makes a call, and asserts that it brings these endings and no other.
-fn brings(
+/// Makes a call, and asserts that it brings these endings and no other.
+pub fn brings(
     rt: &impl Abort,
     kernel: &mut Kernel,
     thread: u8,
@@ -48,23 +45,23 @@ fn brings(
     Ok(())
 }
 
-// Thread 1 creates channel 1, and thread 2 attaches connection 2 to it.
-fn connected(rt: &impl Abort, alloc: Global) -> Result<Kernel, Fail> {
+/// Thread 1 creates channel 1, and thread 2 attaches connection 2 to it.
+pub fn connected(rt: &impl Abort, alloc: Global) -> Result<Kernel, Fail> {
     let mut kernel = kernel(alloc)?;
     brings(rt, &mut kernel, 1, create(0), &[(1, 1, channel(1), b"")])?;
     brings(rt, &mut kernel, 2, attach(1), &[(2, 2, connection(2), b"")])?;
     Ok(kernel)
 }
 
-fn create(bits: u8) -> Call {
+pub fn create(bits: u8) -> Call {
     Call::ChannelCreate(ChannelFlags::of(bits))
 }
 
-fn attach(chid: u64) -> Call {
+pub fn attach(chid: u64) -> Call {
     Call::ConnectAttach(ChannelId(chid))
 }
 
-fn send(alloc: Global, coid: u64, message: &[u8], buffer: &[u8]) -> Result<Call, AllocError> {
+pub fn send(alloc: Global, coid: u64, message: &[u8], buffer: &[u8]) -> Result<Call, AllocError> {
     Ok(Call::Send {
         coid: ConnectionId(coid),
         message: Bytes::copied(alloc, message)?,
@@ -72,14 +69,14 @@ fn send(alloc: Global, coid: u64, message: &[u8], buffer: &[u8]) -> Result<Call,
     })
 }
 
-fn receive(alloc: Global, chid: u64, buffer: &[u8]) -> Result<Call, AllocError> {
+pub fn receive(alloc: Global, chid: u64, buffer: &[u8]) -> Result<Call, AllocError> {
     Ok(Call::Receive {
         chid: ChannelId(chid),
         buffer: Bytes::copied(alloc, buffer)?,
     })
 }
 
-fn reply(alloc: Global, rcvid: u64, status: i64, bytes: &[u8]) -> Result<Call, AllocError> {
+pub fn reply(alloc: Global, rcvid: u64, status: i64, bytes: &[u8]) -> Result<Call, AllocError> {
     Ok(Call::Reply {
         rcvid: ReceiveId(rcvid),
         status,
@@ -87,23 +84,50 @@ fn reply(alloc: Global, rcvid: u64, status: i64, bytes: &[u8]) -> Result<Call, A
     })
 }
 
-fn message(rcvid: u64, copied: usize) -> Mark {
+pub fn error(rcvid: u64, code: i32) -> Call {
+    Call::Error {
+        rcvid: ReceiveId(rcvid),
+        code,
+    }
+}
+
+pub fn read(alloc: Global, rcvid: u64, offset: usize, buffer: &[u8]) -> Result<Call, AllocError> {
+    Ok(Call::Read {
+        rcvid: ReceiveId(rcvid),
+        offset,
+        buffer: Bytes::copied(alloc, buffer)?,
+    })
+}
+
+pub fn write(alloc: Global, rcvid: u64, offset: usize, bytes: &[u8]) -> Result<Call, AllocError> {
+    Ok(Call::Write {
+        rcvid: ReceiveId(rcvid),
+        offset,
+        bytes: Bytes::copied(alloc, bytes)?,
+    })
+}
+
+pub fn info(rcvid: u64) -> Call {
+    Call::Info(ReceiveId(rcvid))
+}
+
+pub fn message(rcvid: u64, copied: usize) -> Mark {
     let rcvid = ReceiveId(rcvid);
     Mark::Message { rcvid, copied }
 }
 
-fn replied(status: i64, copied: usize) -> Mark {
+pub fn replied(status: i64, copied: usize) -> Mark {
     Mark::Replied { status, copied }
 }
 
-fn channel(number: u64) -> Mark {
+pub fn channel(number: u64) -> Mark {
     Mark::Channel(ChannelId(number))
 }
 
-fn connection(number: u64) -> Mark {
+pub fn connection(number: u64) -> Mark {
     Mark::Connection(ConnectionId(number))
 }
 
-fn failed(errno: Errno) -> Mark {
+pub fn failed(errno: Errno) -> Mark {
     Mark::Failed(errno)
 }

@@ -1,12 +1,12 @@
 //! Calls that are refused: each with the first error that applies, and with its buffer given back.
 
-use super::{
+use crate::making::{
     attach, brings, channel, connected, connection, create, failed, kernel, message, receive,
     replied, reply, send,
 };
-use crate::call::{Call, Mark};
 use qbase::errno::Errno;
 use qbase::ids::{ConnectionId, ThreadNo};
+use qkernel::call::{Call, Mark};
 use qtables::channels::CHANNEL_LIMIT;
 use qtables::connections::CONNECTION_LIMIT;
 use std::test::Fail;

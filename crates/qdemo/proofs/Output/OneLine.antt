@@ -104,12 +104,17 @@ error_word TraceFull = tested (word_of TraceFull) refl
 error_word NoThread = tested (word_of NoThread) refl
 
 mark_row : (mark : Mark) → AllByRecursion IsOneLine (mark_words mark)
+unfolding mark_words
 mark_row marks.Ok = (tested (codes "ok") refl, tt)
 mark_row (marks.Failed errno) = (tested (codes "fail") refl, (error_word errno, tt))
 mark_row (marks.Channel chid) = (tested (codes "channel") refl, (number chid, tt))
 mark_row (marks.Connection coid) = (tested (codes "connection") refl, (number coid, tt))
 mark_row (marks.Replied status copied) = (tested (codes "reply") refl, (signed status, (number copied, tt)))
 mark_row (marks.Message rcvid copied) = (tested (codes "message") refl, (number rcvid, (number copied, tt)))
+mark_row (marks.Errored code) = (tested (codes "error") refl, (signed code, tt))
+mark_row (marks.Count copied) = (tested (codes "count") refl, (number copied, tt))
+mark_row (marks.Info i) =
+    (tested (codes "info") refl, (number i.process, (number i.thread, (number i.connection, (number i.msglen, (number i.srcmsglen, (number i.dstmsglen, (number i.priority, tt))))))))
 
 buffer_row : (bytes : List ℕ) → AllByRecursion IsOneLine (buffer_words bytes)
 buffer_row bytes = elim (length bytes == 0) as (λ b. IsOneLine (cond b (codes "-") (encode_lower bytes)) × Unit {0}) [
@@ -150,12 +155,12 @@ lines_both a b n m k e first then_more = record {
   text_is = rw (first.text_is, then_more.text_is) (sym (flat_map-append with_newline first.lines then_more.lines));
 }
 
-ending_line : (run : Run) (event : ℕ) (e : Completion) → IsOneLine (decimal event ++ spaced ((decimal e.call ∷ decimal e.thread ∷ []) ++ mark_words e.mark ++ ended_words run event e))
+ending_line : (run : Run) (event : ℕ) (e : Completion) → IsOneLine (decimal event ++ spaced (decimal e.call ∷ decimal e.thread ∷ []) ++ spaced (mark_words e.mark) ++ spaced (ended_words run event e))
 ending_line run event e =
-    let front = both_rows (decimal e.call ∷ decimal e.thread ∷ []) (mark_words e.mark) (number e.call, (number e.thread, tt)) (mark_row e.mark) in
-    let words = (decimal e.call ∷ decimal e.thread ∷ []) ++ mark_words e.mark ++ ended_words run event e in
-    let row = both_rows ((decimal e.call ∷ decimal e.thread ∷ []) ++ mark_words e.mark) (ended_words run event e) front (ended_row run event e) in
-    both (decimal event) (spaced words) (number event) (in_row words row)
+    let who = in_row (decimal e.call ∷ decimal e.thread ∷ []) (number e.call, (number e.thread, tt)) in
+    let front = both (decimal event) (spaced (decimal e.call ∷ decimal e.thread ∷ [])) (number event) who in
+    let marked = both (decimal event ++ spaced (decimal e.call ∷ decimal e.thread ∷ [])) (spaced (mark_words e.mark)) front (in_row (mark_words e.mark) (mark_row e.mark)) in
+    both (decimal event ++ spaced (decimal e.call ∷ decimal e.thread ∷ []) ++ spaced (mark_words e.mark)) (spaced (ended_words run event e)) marked (in_row (ended_words run event e) (ended_row run event e))
 
 event_lines : (run : Run) (event : ℕ) (xs : List Completion) → IsLines (event_text run event xs) (length xs)
 event_lines run event [] = no_lines

@@ -5,6 +5,9 @@ pub mod Channel
 pub mod Connection
 pub mod Replied
 pub mod Message
+pub mod Errored
+pub mod Count
+pub mod Info
 use Rattle.std.specs.Prelude.{ℕ, List}
 use Rattle.qkernel.specs.declared.call.Mark.{Mark}
 use Rattle.qkernel.specs.declared.call.Mark.TheVariants as marks
@@ -14,12 +17,18 @@ use Rattle.qdemo.specs.Printing.Marks.Channel.{channel_words}
 use Rattle.qdemo.specs.Printing.Marks.Connection.{connection_words}
 use Rattle.qdemo.specs.Printing.Marks.Replied.{replied_words}
 use Rattle.qdemo.specs.Printing.Marks.Message.{message_words}
+use Rattle.qdemo.specs.Printing.Marks.Errored.{errored_words}
+use Rattle.qdemo.specs.Printing.Marks.Count.{count_words}
+use Rattle.qdemo.specs.Printing.Marks.Info.{info_words}
 
 -- the words of a mark
-abbrev pub mark_words : Mark → List (List ℕ)
+unfoldable pub mark_words : Mark → List (List ℕ)
 mark_words marks.Ok = done_words
 mark_words (marks.Failed errno) = failed_words errno
 mark_words (marks.Channel chid) = channel_words chid
 mark_words (marks.Connection coid) = connection_words coid
 mark_words (marks.Replied status copied) = replied_words status copied
 mark_words (marks.Message rcvid copied) = message_words rcvid copied
+mark_words (marks.Errored code) = errored_words code
+mark_words (marks.Count copied) = count_words copied
+mark_words (marks.Info info) = info_words info

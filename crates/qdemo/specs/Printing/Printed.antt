@@ -3,7 +3,7 @@ use Rattle.std.specs.Prelude.{ℕ, ◌+◌, ◌-◌, ◌&&◌, nat_le, Bool, tru
 use Rattle.std.specs.List.{flat_map}
 use Rattle.std.specs.Option.{option_map}
 use Rattle.qkernel.specs.declared.call.Call.{Call}
-use Rattle.qkernel.specs.declared.call.Call.TheVariants.{ChannelCreate, ConnectAttach, Send, Receive, Reply}
+use Rattle.qkernel.specs.declared.call.Call.TheVariants.{ChannelCreate, ConnectAttach, Send, Receive, Reply, Error, Read, Write, Info}
 use Rattle.qkernel.specs.declared.call.Completion.{Completion}
 use Rattle.qkernel.specs.declared.open_call.Blocked.{Blocked}
 use Rattle.qkernel.specs.Trace.{Event, Run}
@@ -19,6 +19,10 @@ shows_buffer (ConnectAttach chid) = false
 shows_buffer (Send coid message reply_buffer) = true
 shows_buffer (Receive chid buffer) = true
 shows_buffer (Reply rcvid status bytes) = false
+shows_buffer (Error rcvid code) = false
+shows_buffer (Read rcvid offset buffer) = true
+shows_buffer (Write rcvid offset bytes) = false
+shows_buffer (Info rcvid) = false
 
 -- the call of this number, which is that of the event of this number, among a run's events up to another
 abbrev pub call_by : Run → ℕ → ℕ → Option Call
@@ -36,7 +40,7 @@ ended_words run event e = if is_shown (call_by run event e.call) then buffer_wor
 -- one line: the event, the ended call, its thread, its mark and its buffer
 abbrev pub ending_text : Run → ℕ → Completion → List ℕ
 ending_text run event e =
-    decimal event ++ spaced ((decimal e.call ∷ decimal e.thread ∷ []) ++ mark_words e.mark ++ ended_words run event e) ++ 10 ∷ []
+    decimal event ++ spaced (decimal e.call ∷ decimal e.thread ∷ []) ++ spaced (mark_words e.mark) ++ spaced (ended_words run event e) ++ 10 ∷ []
 
 -- a line for each ending of an event
 abbrev pub event_text : Run → ℕ → List Completion → List ℕ

@@ -11,6 +11,10 @@ use Rattle.qdemo.specs.Reading.Forms.Create.{create_of}
 use Rattle.qdemo.specs.Reading.Forms.Receive.{receive_of}
 use Rattle.qdemo.specs.Reading.Forms.Reply.{reply_of}
 use Rattle.qdemo.specs.Reading.Forms.Send.{send_of}
+use Rattle.qdemo.specs.Reading.Forms.Error.{error_of}
+use Rattle.qdemo.specs.Reading.Forms.Read.{read_of}
+use Rattle.qdemo.specs.Reading.Forms.Write.{write_of}
+use Rattle.qdemo.specs.Reading.Forms.Info.{info_of}
 
 -- the verb that a word is
 unfoldable pub verb_of : List ℕ → Option Verb
@@ -20,6 +24,10 @@ verb_of word =
     else if bytes_eq word (codes "send") then Some verbs.Send
     else if bytes_eq word (codes "receive") then Some verbs.Receive
     else if bytes_eq word (codes "reply") then Some verbs.Reply
+    else if bytes_eq word (codes "error") then Some verbs.Error
+    else if bytes_eq word (codes "read") then Some verbs.Read
+    else if bytes_eq word (codes "write") then Some verbs.Write
+    else if bytes_eq word (codes "info") then Some verbs.Info
     else None
 
 -- the call of a verb and its operands
@@ -29,6 +37,10 @@ call_by (Some verbs.Attach) operands = attach_of operands
 call_by (Some verbs.Send) operands = send_of operands
 call_by (Some verbs.Receive) operands = receive_of operands
 call_by (Some verbs.Reply) operands = reply_of operands
+call_by (Some verbs.Error) operands = error_of operands
+call_by (Some verbs.Read) operands = read_of operands
+call_by (Some verbs.Write) operands = write_of operands
+call_by (Some verbs.Info) operands = info_of operands
 call_by None operands = Err UnknownWord
 
 -- the call of a word and its operands

@@ -1,7 +1,11 @@
 -- A form for each kind of line: its operands, from the left.
 pub mod Attach
 pub mod Create
+pub mod Error
+pub mod Info
+pub mod Read
 pub mod Receive
 pub mod Reply
 pub mod Send
 pub mod Thread
+pub mod Write

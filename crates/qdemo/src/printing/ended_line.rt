@@ -21,6 +21,10 @@ fn shows(call: &Call) -> bool
         Call::Send { .. } => true,
         Call::Receive { .. } => true,
         Call::Reply { .. } => false,
+        Call::Error { .. } => false,
+        Call::Read { .. } => true,
+        Call::Write { .. } => false,
+        Call::Info(_) => false,
     }
 }
 

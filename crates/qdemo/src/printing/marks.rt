@@ -6,7 +6,10 @@ ghost use Rattle.qdemo.specs.Printing.Marks.{mark_words};
 
 mod channel;
 mod connection;
+mod count;
+mod errored;
 mod failed;
+mod info;
 mod message;
 mod ok;
 mod replied;
@@ -15,6 +18,7 @@ use qkernel::call::Mark;
 use std::alloc::AllocError;
 
 /// The mark's words, each with a space before it.
+#[tactic(auto, unfolding(crate::specs::Printing::Marks::mark_words))]
 pub fn push_mark(out: &mut String, mark: Mark) -> Result<(), AllocError>
     ensures { OnOk result (string_bytes out.new ≡ string_bytes out.old ++ spaced (mark_words mark)) }
 {
@@ -25,5 +29,8 @@ pub fn push_mark(out: &mut String, mark: Mark) -> Result<(), AllocError>
         Mark::Connection(coid) => connection::push(out, coid),
         Mark::Replied { status, copied } => replied::push(out, status, copied),
         Mark::Message { rcvid, copied } => message::push(out, rcvid, copied),
+        Mark::Errored(code) => errored::push(out, code),
+        Mark::Count(copied) => count::push(out, copied),
+        Mark::Info(info) => info::push(out, info),
     }
 }

@@ -5,7 +5,7 @@ ghost use Rattle.qdemo.specs.Reading.Steps.{Gives};
 ghost use Rattle.qdemo.specs.Reading.Words.{words_of};
 
 use crate::fault::{LineFault, ParseError};
-use crate::reading::forms::{attach, create, receive, reply, send};
+use crate::reading::forms::{attach, create, error, info, read, receive, reply, send, write};
 use crate::reading::verb::{Verb, verb_named};
 use qkernel::call::Call;
 use std::alloc::Global;
@@ -21,6 +21,10 @@ pub fn call_named(alloc: Global, word: &[u8], operands: &[u8]) -> Result<Call, P
         Some(Verb::Send) => send::call(alloc, operands),
         Some(Verb::Receive) => receive::call(alloc, operands),
         Some(Verb::Reply) => reply::call(alloc, operands),
+        Some(Verb::Error) => error::call(operands),
+        Some(Verb::Read) => read::call(alloc, operands),
+        Some(Verb::Write) => write::call(alloc, operands),
+        Some(Verb::Info) => info::call(operands),
         None => Err(ParseError::Fault(LineFault::UnknownWord)),
     }
 }

@@ -2,7 +2,11 @@
 
 pub mod attach;
 pub mod create;
+pub mod error;
+pub mod info;
+pub mod read;
 pub mod receive;
 pub mod reply;
 pub mod send;
 pub mod thread;
+pub mod write;

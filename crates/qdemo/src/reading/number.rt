@@ -88,3 +88,14 @@ pub fn wide(word: &[u8]) -> Result<i64, LineFault>
         _ => Err(LineFault::BadNumber),
     }
 }
+
+/// A signed number of 32 bits.
+#[tactic(auto, unfolding(crate::specs::Reading::Number::integer_of))]
+pub fn narrow(word: &[u8]) -> Result<i32, LineFault>
+    ensures { result ≡ integer_of (2 ^ 31) word.now }
+{
+    match signed(word) {
+        Some(value) if value >= i32::MIN as i128 && value <= i32::MAX as i128 => Ok(value as i32),
+        _ => Err(LineFault::BadNumber),
+    }
+}

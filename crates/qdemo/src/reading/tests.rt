@@ -48,9 +48,9 @@ fn reads_a_thread_of_the_roster(rt: HostRuntime) -> Result<(), Fail> {
 #[test]
 fn reads_each_form(rt: HostRuntime) -> Result<(), Fail> {
     let text =
-        b"thread 1 2 63\n\n  # all forms\n1 create 4\r\n\t1  attach 7\n1 send 8 - 3xAb\n1 receive 7 00fF\n1 reply 9 -1 05".as_slice();
+        b"thread 1 2 63\n\n  # all forms\n1 create 4\r\n\t1  attach 7\n1 send 8 - 3xAb\n1 receive 7 00fF\n1 reply 9 -1 05\n1 error 9 -2\n1 read 9 3 2x01\n1 write 9 4 06\n1 info 9".as_slice();
     let script = parse(rt.alloc(), text)?;
-    assert_eq!(rt; script.calls.len(), 5);
+    assert_eq!(rt; script.calls.len(), 9);
     for (thread, call) in &script.calls {
         assert_eq!(rt; thread.0, 1);
         match call {
@@ -78,6 +78,29 @@ fn reads_each_form(rt: HostRuntime) -> Result<(), Fail> {
                 assert_eq!(rt; *status, -1);
                 assert_eq!(rt; bytes.as_slice(), [5].as_slice());
             }
+            Call::Error { rcvid, code } => {
+                assert_eq!(rt; rcvid.0, 9);
+                assert_eq!(rt; *code, -2);
+            }
+            Call::Read {
+                rcvid,
+                offset,
+                buffer,
+            } => {
+                assert_eq!(rt; rcvid.0, 9);
+                assert_eq!(rt; *offset, 3);
+                assert_eq!(rt; buffer.as_slice(), [1, 1].as_slice());
+            }
+            Call::Write {
+                rcvid,
+                offset,
+                bytes,
+            } => {
+                assert_eq!(rt; rcvid.0, 9);
+                assert_eq!(rt; *offset, 4);
+                assert_eq!(rt; bytes.as_slice(), [6].as_slice());
+            }
+            Call::Info(rcvid) => assert_eq!(rt; rcvid.0, 9),
         }
     }
     Ok(())
@@ -145,6 +168,16 @@ fn names_the_fault_of_a_second_line(rt: HostRuntime) -> Result<(), Fail> {
         (b"1 reply -1 1 -", "line 2: bad number"),
         (b"1 reply 1 9223372036854775808 -", "line 2: bad number"),
         (b"1 reply 1 -9223372036854775809 -", "line 2: bad number"),
+        (b"1 error 1 2147483648", "line 2: bad number"),
+        (b"1 error 1 -2147483649", "line 2: bad number"),
+        (b"1 error 1", "line 2: word count"),
+        (b"1 read 1 -1 -", "line 2: bad number"),
+        (b"1 read 1 18446744073709551616 -", "line 2: bad number"),
+        (b"1 read 1 0 0", "line 2: bad bytes"),
+        (b"1 write 1 x -", "line 2: bad number"),
+        (b"1 write 1 0", "line 2: word count"),
+        (b"1 info", "line 2: word count"),
+        (b"1 info -1", "line 2: bad number"),
         (b"1 attach 18446744073709551616", "line 2: bad number"),
         (b"1 attach 000000000000000000001", "line 2: bad number"),
         (b"1 create 0\nthread 2 1 10", "line 3: late thread"),

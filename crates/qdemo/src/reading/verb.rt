@@ -12,6 +12,10 @@ pub enum Verb {
     Send,
     Receive,
     Reply,
+    Error,
+    Read,
+    Write,
+    Info,
 }
 
 /// Whether the word is this one.
@@ -36,6 +40,14 @@ pub fn verb_named(word: &[u8]) -> Option<Verb>
         Some(Verb::Receive)
     } else if is(word, "reply") {
         Some(Verb::Reply)
+    } else if is(word, "error") {
+        Some(Verb::Error)
+    } else if is(word, "read") {
+        Some(Verb::Read)
+    } else if is(word, "write") {
+        Some(Verb::Write)
+    } else if is(word, "info") {
+        Some(Verb::Info)
     } else {
         None
     }

@@ -123,3 +123,26 @@ fn as_many_connections(rt: HostRuntime) -> Result<(), Fail> {
     expect_text(&rt, rt.alloc(), input.as_slice(), text.as_bytes());
     Ok(())
 }
+
+// Read, Write, Error and Info: first past the ends of message and buffer, and then the message told of
+// before and after, with a stale id, and a code 0.
+#[test]
+fn held_messages(rt: HostRuntime) -> Result<(), Fail> {
+    for (lines, text) in [
+        (
+            b"2 send 2 00010203040506070809 4x00\n1 receive 1 4xff\n1 read 3 4 10xee\n1 reply 3 0 0102030405\n".as_slice(),
+            b"4 4 1 message 3 4 00010203\n5 5 1 count 6 040506070809eeeeeeee\n6 6 1 ok\n6 3 2 reply 0 4 01020304\n".as_slice(),
+        ),
+        (
+            b"2 send 2 0102 2x00\n1 receive 1 -\n1 write 3 18446744073709551615 ff\n1 read 3 2 1xaa\n1 write 3 1 aabb\n1 error 3 5\n".as_slice(),
+            b"4 4 1 message 3 0 -\n5 5 1 count 0\n6 6 1 count 0 aa\n7 7 1 count 1\n8 8 1 ok\n8 3 2 error 5 00aa\n".as_slice(),
+        ),
+        (
+            b"2 send 2 010203 2x00\n1 receive 1 2x00\n1 info 3\n1 read 3 1 8xff\n1 info 3\n1 write 3 1 aabb\n1 reply 3 0 -\n1 info 3\n2 send 2 - 1xbb\n1 receive 1 -\n1 error 11 0\n".as_slice(),
+            b"4 4 1 message 3 2 0102\n5 5 1 info 2 2 2 2 3 2 20\n6 6 1 count 2 0203ffffffffffff\n7 7 1 info 2 2 2 2 3 2 20\n8 8 1 count 1\n9 9 1 ok\n9 3 2 reply 0 0 00aa\n10 10 1 fail srch\n12 12 1 message 11 0 -\n13 13 1 ok\n13 11 2 reply 0 0 bb\n".as_slice(),
+        ),
+    ] {
+        expect_after_prelude(&rt, rt.alloc(), lines, text)?;
+    }
+    Ok(())
+}

@@ -20,6 +20,7 @@ pub call_laws : (chid : ℕ) (buffer : List ℕ) → CallLaws (Receive chid buff
 call_laws chid buffer = record {
   asks_one = λ n o e. subst (BeginsToWait n) (same_Some _ o e) (record { number = refl; fresh = refl });
   makes_one = λ connection priority n t m e. absurd (none-some m e);
+  waits_write = λ n o e. refl;
 }
 
 -- the ending that takes this item
@@ -70,4 +71,5 @@ row_laws f t chid buffer p = record {
   ends_receives = λ u y q e m. absurd (none-some y e);
   receives = λ r e. best_received f t chid buffer (best_of Any (f.pending chid)) r refl e;
   sends = λ m e message. absurd (none-some m e);
+  writes_sent = λ w e. absurd (none-some w e);
 }

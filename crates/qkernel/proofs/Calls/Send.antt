@@ -29,6 +29,7 @@ call_laws coid message reply_buffer = record {
     number = sent_number (connection coid) n (priority t) m e;
     waits = λ o a. ap (λ x. is_for_answer x.wait) (sym (same_Some _ o a));
   };
+  waits_write = λ n o e. refl;
 }
 
 -- ---- the receiver that it meets
@@ -135,4 +136,5 @@ row_laws f t coid message reply_buffer p = record {
   ends_receives = λ u y q e m. let r = met_receives f t message (way f t coid) u y q e m in record { receipt = r.0; is = r.1; by = r.2; item = r.3; copied = r.4 };
   receives = λ r e. new_received f t coid message reply_buffer r p.idle (sent_over_way f t message (way f t coid) (receiver f (way f t coid)) r e);
   sends = λ m e item. refl;
+  writes_sent = λ w e. absurd (none-some w e);
 }

@@ -8,7 +8,7 @@ use Rattle.qtables.specs.declared.connection.Connection.{Connection}
 use Rattle.qkernel.specs.Answer.{row_of, ending}
 use Rattle.qkernel.specs.Facts.{Facts, sender, is_for_answer}
 use Rattle.qkernel.specs.Past.{is_failure}
-use Rattle.qkernel.specs.Rows.{Row, Made, Received, asks, makes, received}
+use Rattle.qkernel.specs.Rows.{Row, Made, Received, Written, asks, makes, received, writes}
 use Rattle.qkernel.specs.declared.call.Call.{Call}
 use Rattle.qkernel.specs.declared.call.Completion.{Completion}
 use Rattle.qkernel.specs.declared.open_call.OpenCall.{OpenCall}
@@ -35,6 +35,7 @@ pub record MakesItem (n : ℕ) (c : Call) (m : Made) : Type 0 where
 pub record CallLaws (c : Call) : Type 0 where
   pub asks_one : (n : ℕ) (o : OpenCall) → asks n c ≡ Some o → BeginsToWait n o
   pub makes_one : (connection : ℕ → Option Connection) (priority : ℕ → ℕ) (n t : ℕ) (m : Made) → makes connection priority n t c ≡ Some m → MakesItem n c m
+  pub waits_write : (n : ℕ) (o : OpenCall) → asks n c ≡ Some o → writes c ≡ None
 
 -- ---- a call that is accepted
 
@@ -93,3 +94,4 @@ pub record RowLaws (f : Facts) (t : ℕ) (c : Call) : Type 0 where
   pub ends_receives : (u : ℕ) (y : Completion) (p : ℕ × ℕ) → (row_of f t c).ends u ≡ Some y → received y.mark ≡ Some p → IsReceipt (row_of f t c) u p
   pub receives : (r : Received) → (row_of f t c).receipt ≡ Some r → IsReceived f t c r
   pub sends : (m : Made) → makes f.connection f.priority f.number t c ≡ Some m → is_pulse m.item.what ≡ false → (row_of f t c).own ≡ None
+  pub writes_sent : (w : Written) → writes c ≡ Some w → (s : ℕ) × (sender f w.message ≡ Some s)

@@ -7,8 +7,8 @@ use Rattle.std.proofs.lemmas.Option.{same_Some, none-some}
 use Rattle.qtables.specs.declared.member.Member.{Member}
 use Rattle.qkernel.specs.Facts.{is_for_answer}
 use Rattle.qkernel.specs.Headline.CopiedExactly.{call_at}
-use Rattle.qkernel.specs.Past.{is_accepted, is_ended, made_at, newest_block, unless_ended, with_receipt, held_with, open_call, receipt_of, priority_of_item}
-use Rattle.qkernel.specs.Rows.{asks}
+use Rattle.qkernel.specs.Past.{filled, is_accepted, is_ended, made_at, newest_block, unless_ended, with_receipt, held_with, open_call, receipt_of, priority_of_item}
+use Rattle.qkernel.specs.Rows.{asks, with_buffer}
 use Rattle.qkernel.specs.Trace.{Event, Trace}
 use Rattle.qkernel.specs.declared.call.Call.{Call}
 use Rattle.qkernel.specs.declared.open_call.OpenCall.{OpenCall}
@@ -134,17 +134,32 @@ pub receipt_for_answer : (priority : ℕ) (r : Option ℕ) (b : OpenCall) → is
 receipt_for_answer priority None b = refl
 receipt_for_answer priority (Some copied) b = held_for_answer _ b.wait
 
+-- what is written changes no more than the reply buffer
+pub buffer_answer : (f : List ℕ → List ℕ) (w : Wait) → is_for_answer (with_buffer f w) ≡ is_for_answer w
+buffer_answer f (Answer coid message reply_buffer receipt) = refl
+buffer_answer f (ForItem chid buffer) = refl
+
+pub buffer_settled : (f : List ℕ → List ℕ) (w : Wait) → is_settled (with_buffer f w) ≡ is_settled w
+buffer_settled f (Answer coid message reply_buffer receipt) = refl
+buffer_settled f (ForItem chid buffer) = refl
+
+pub filled_answer : (past : Trace) (b : OpenCall) → is_for_answer (filled past b).wait ≡ is_for_answer b.wait
+filled_answer past b = buffer_answer _ b.wait
+
+pub filled_settled : (past : Trace) (b : OpenCall) → is_settled (filled past b).wait ≡ is_settled b.wait
+filled_settled past b = buffer_settled _ b.wait
+
 -- an open call is the newest blocking call of its thread, and isn't ended
 pub record IsOpen (roster : List Member) (past : Trace) (u : ℕ) (o : OpenCall) : Type 0 where
   pub block : OpenCall
   pub is : newest_block past u ≡ Some block
   pub going : is_ended past block.number ≡ false
-  pub same : o ≡ with_receipt (priority_of_item roster past block.number) (receipt_of past block.number) block
+  pub same : o ≡ with_receipt (priority_of_item roster past block.number) (receipt_of past block.number) (filled past block)
   pub number : o.number ≡ block.number
 
 pub open_parts : (roster : List Member) (past : Trace) (u : ℕ) (o : OpenCall) → open_call roster past u ≡ Some o → IsOpen roster past u o
 open_parts roster past u o is =
-    let kept = λ (b : OpenCall). with_receipt (priority_of_item roster past b.number) (receipt_of past b.number) b in
+    let kept = λ (b : OpenCall). with_receipt (priority_of_item roster past b.number) (receipt_of past b.number) (filled past b) in
     elim (newest_block past u) as (λ n. newest_block past u ≡ n → option_map kept (unless_ended past n) ≡ Some o → IsOpen roster past u o) [
       | None ↦ λ e at. absurd (none-some o at)
       | Some b ↦ λ e.
@@ -152,7 +167,7 @@ open_parts roster past u o is =
             | true ↦ λ h at. absurd (none-some o at)
             | false ↦ λ h at.
                 let same : o ≡ kept b = sym (same_Some (kept b) o at) in
-                record { block = b; is = e; going = h; same = same; number = ap (λ x. x.number) same ∙ receipt_number _ _ b }
+                record { block = b; is = e; going = h; same = same; number = ap (λ x. x.number) same ∙ receipt_number _ _ (filled past b) }
           ] refl
     ] refl is
 
@@ -161,7 +176,7 @@ open_below roster past u o is = let k = open_parts roster past u o is in let bel
 
 -- a newest blocking call that isn't ended is open
 pub open_from : (roster : List Member) (past : Trace) (u : ℕ) (b : OpenCall) → newest_block past u ≡ Some b → is_ended past b.number ≡ false
-    → open_call roster past u ≡ Some (with_receipt (priority_of_item roster past b.number) (receipt_of past b.number) b)
+    → open_call roster past u ≡ Some (with_receipt (priority_of_item roster past b.number) (receipt_of past b.number) (filled past b))
 open_from roster past u b is going = rw (is, going) refl
 
 -- the open calls of two threads have two numbers

@@ -9,9 +9,9 @@ use Rattle.qtables.specs.declared.member.Member.{Member}
 use Rattle.qkernel.specs.Answer.{row_of, Outcome}
 use Rattle.qkernel.specs.Facts.{Facts, sender, threads_of}
 use Rattle.qkernel.specs.Lawful.{facts_of, IsLawful, with_event}
-use Rattle.qkernel.specs.Past.{refuses, ends, is_ended, is_taken, item_of, first_some, receipt_of, priority_of_item, newest_block, held_with, unless_ended, with_receipt, open_call}
-use Rattle.qkernel.specs.Rows.{Received, asks}
-use Rattle.qkernel.specs.Step.{held_call, is_thread, after_receipt, unless, open_call_after}
+use Rattle.qkernel.specs.Past.{filled, refuses, ends, is_ended, is_taken, item_of, first_some, receipt_of, priority_of_item, newest_block, held_with, unless_ended, with_receipt, open_call}
+use Rattle.qkernel.specs.Rows.{Received, Written, asks, writes, written_over}
+use Rattle.qkernel.specs.Step.{held_call, is_thread, after_receipt, after_write, unless, written_call, open_call_after}
 use Rattle.qkernel.specs.Trace.{Event, Trace}
 use Rattle.qkernel.specs.declared.call.Call.{Call}
 use Rattle.qkernel.specs.declared.call.Completion.{Completion}
@@ -19,11 +19,12 @@ use Rattle.qkernel.specs.declared.open_call.OpenCall.{OpenCall}
 use Rattle.qkernel.proofs.Past.Lists.{eqb_same, none_of, and_false, or_true, or_false}
 use Rattle.qkernel.proofs.Past.Laws.{IsReceived}
 use Rattle.qkernel.proofs.Past.RowLaws.{call_laws}
-use Rattle.qkernel.proofs.Past.Numbers.{block_below, open_from, open_thread, receipt_number, receipt_for_answer}
+use Rattle.qkernel.proofs.Past.Numbers.{block_below, filled_answer, open_from, open_thread, receipt_number, receipt_for_answer}
 use Rattle.qkernel.proofs.Past.Ends.{laws_of, passes_of, accepted, refused, refused_ends, ended_below, ends_other, ends_own, known, block_known}
 use Rattle.qkernel.proofs.Past.Items.{item_at, item_answer, item_below, item_priority, priority_earlier, priority_newest}
 use Rattle.qkernel.proofs.Past.Receipts.{copied_by, accepted_receipts, refused_receipts, best_pending, receipt_beyond}
 use Rattle.qkernel.proofs.Past.Senders.{send_parts, send_from, sender_sends, sender_found}
+use Rattle.qkernel.proofs.Past.Writes.{changed, filled_accepted, filled_fresh, filled_refused, receipt_written, written_sender}
 
 -- ---- a receipt, and the thread that waits for its answer
 
@@ -81,9 +82,9 @@ other_holds roster past t c u b r l other is going k =
             | inl same ↦
                 let number : k.item.number ≡ b.number = k.number ∙ eqb-true _ _ same in
                 let made = subst (λ i. item_at roster past i ≡ Some (record { item = k.item; channel = r.channel })) number place.made in
-                let sends = send_from r.item (with_receipt (priority_of_item roster past b.number) (receipt_of past b.number) b) (receipt_number _ _ b ∙ sym (eqb-true _ _ same)) (receipt_for_answer _ _ b ∙ item_answer roster past u _ b made is) in
+                let sends = send_from r.item (with_receipt (priority_of_item roster past b.number) (receipt_of past b.number) (filled past b)) (receipt_number _ _ (filled past b) ∙ sym (eqb-true _ _ same)) (receipt_for_answer _ _ (filled past b) ∙ filled_answer past b ∙ item_answer roster past u _ b made is) in
                 let found : sender f r.item ≡ Some u = sender_found f.open_call r.item (threads_of roster) u (known roster u (block_known roster past u b l is)) (rw waits sends)
-                (λ v e. let w = send_parts r.item (f.open_call v) e in open_thread roster past v u w.waiting _ w.is waits (w.number ∙ eqb-true _ _ same ∙ sym (receipt_number _ _ b))) in
+                (λ v e. let w = send_parts r.item (f.open_call v) e in open_thread roster past v u w.waiting _ w.is waits (w.number ∙ eqb-true _ _ same ∙ sym (receipt_number _ _ (filled past b)))) in
                 inl (record {
                   item = same;
                   sender = rw (old.sender_is ∙ found) (eqb_same u);
@@ -92,7 +93,7 @@ other_holds roster past t c u b r l other is going k =
                 })
             | inr differs ↦ inr (record {
               item = differs;
-              sender = rw (old.sender_is) (not_sender f r.item u (λ o e n. eqb-false _ _ differs (sym n ∙ ap (λ w. w.number) (same_Some o _ (sym e ∙ waits)) ∙ receipt_number _ _ b)));
+              sender = rw (old.sender_is) (not_sender f r.item u (λ o e n. eqb-false _ _ differs (sym n ∙ ap (λ w. w.number) (same_Some o _ (sym e ∙ waits)) ∙ receipt_number _ _ (filled past b))));
             })
           ]
     ]
@@ -124,7 +125,7 @@ own_holds roster past t c X o r l a asked k =
 
 -- what is kept of an open call's receipt, if it had one
 abbrev kept : List Member → Trace → OpenCall → OpenCall
-kept roster past o = with_receipt (priority_of_item roster past o.number) (receipt_of past o.number) o
+kept roster past o = with_receipt (priority_of_item roster past o.number) (receipt_of past o.number) (filled past o)
 
 -- the newest blocking calls after an event
 newest_refused : (past : Trace) (t : ℕ) (c : Call) (X : List Completion) (u : ℕ) → refuses X (length past + 1) ≡ true → newest_block (with_event t c X past) u ≡ newest_block past u
@@ -148,7 +149,10 @@ open_refused roster past t c X u a =
           let priority : priority_of_item roster (with_event t c X past) b.number ≡ priority_of_item roster past b.number = priority_earlier roster (record { thread = t; call = c; endings = X }) past b.number below in
           let receipt : receipt_of (with_event t c X past) b.number ≡ receipt_of past b.number = rw (refused_receipts (facts_of roster past) t c X b.number a) refl in
           let ended : is_ended (with_event t c X past) b.number ≡ is_ended past b.number = rw (refused_ends roster past t c X b.number a (λ s. omega arith)) refl in
-          let same : now b ≡ kept roster past b = ap (λ p. with_receipt p (receipt_of (with_event t c X past) b.number) b) priority ∙ ap (λ r. with_receipt (priority_of_item roster past b.number) r b) receipt in
+          let written : filled (with_event t c X past) b ≡ filled past b = filled_refused (record { thread = t; call = c; endings = X }) past b (refused roster past t c X a) in
+          let same : now b ≡ kept roster past b =
+          ap (λ p. with_receipt p (receipt_of (with_event t c X past) b.number) (filled (with_event t c X past) b)) priority ∙ ap (λ r. with_receipt (priority_of_item roster past b.number) r (filled (with_event t c X past) b)) receipt
+          ∙ ap (with_receipt (priority_of_item roster past b.number) (receipt_of past b.number)) written in
           ap (λ d. option_map now (cond d None (Some b))) ended ∙ (
           elim (is_ended past b.number) as (λ d. option_map now (cond d None (Some b)) ≡ option_map (kept roster past) (cond d None (Some b))) [ true ↦ refl | false ↦ ap Some same ])
     ] refl)
@@ -163,31 +167,42 @@ after_none : (r : Option Received) (u : ℕ) → after_receipt r u None ≡ None
 after_none None u = refl
 after_none (Some r) u = elim (is_thread r.sender u) as (λ b. cond b (option_map (held_call r.kept) None) None ≡ None) [ true ↦ refl | false ↦ refl ]
 
+write_none : (f : Facts) (w : Option Written) (u : ℕ) → after_write f w u None ≡ None
+write_none f None u = refl
+write_none f (Some w) u = elim (is_thread (sender f w.message) u) as (λ b. cond b (option_map (written_call w.offset w.bytes) None) None ≡ None) [ true ↦ refl | false ↦ refl ]
+
 -- of another thread
 open_other : (roster : List Member) (past : Trace) (t : ℕ) (c : Call) (X : List Completion) (u : ℕ) → IsLawful roster past → is_some (member_at roster t) ≡ true → Outcome true (facts_of roster past) t c X → eqb u t ≡ false
     → option_map (kept roster (with_event t c X past)) (unless_ended (with_event t c X past) (newest_block past u))
-    ≡ unless (is_some ((row_of (facts_of roster past) t c).ends u)) (after_receipt (row_of (facts_of roster past) t c).receipt u (open_call roster past u))
+    ≡ unless (is_some ((row_of (facts_of roster past) t c).ends u)) (after_receipt (row_of (facts_of roster past) t c).receipt u (after_write (facts_of roster past) (writes c) u (open_call roster past u)))
 open_other roster past t c X u l member a other =
     let R = row_of (facts_of roster past) t c in
+    let nothing : unless (is_some (R.ends u)) (after_receipt R.receipt u (after_write (facts_of roster past) (writes c) u None)) ≡ None =
+    ap (λ o. unless (is_some (R.ends u)) (after_receipt R.receipt u o)) (write_none (facts_of roster past) (writes c) u) ∙ ap (unless (is_some (R.ends u))) (after_none R.receipt u) ∙ unless_none (is_some (R.ends u)) in
     elim (newest_block past u) as (λ o. newest_block past u ≡ o → option_map (kept roster (with_event t c X past)) (unless_ended (with_event t c X past) o)
-    ≡ unless (is_some (R.ends u)) (after_receipt R.receipt u (option_map (kept roster past) (unless_ended past o)))) [
-      | None ↦ λ e. sym (ap (unless (is_some (R.ends u))) (after_none R.receipt u) ∙ unless_none (is_some (R.ends u)))
+    ≡ unless (is_some (R.ends u)) (after_receipt R.receipt u (after_write (facts_of roster past) (writes c) u (option_map (kept roster past) (unless_ended past o))))) [
+      | None ↦ λ e. sym nothing
       | Some b ↦ λ e.
           elim (is_ended past b.number) as (λ d. is_ended past b.number ≡ d → option_map (kept roster (with_event t c X past)) (cond (ends X b.number || d) None (Some b))
-          ≡ unless (is_some (R.ends u)) (after_receipt R.receipt u (option_map (kept roster past) (cond d None (Some b))))) [
-            | true ↦ λ gone. rw (or_true (ends X b.number)) (sym (ap (unless (is_some (R.ends u))) (after_none R.receipt u) ∙ unless_none (is_some (R.ends u))))
+          ≡ unless (is_some (R.ends u)) (after_receipt R.receipt u (after_write (facts_of roster past) (writes c) u (option_map (kept roster past) (cond d None (Some b)))))) [
+            | true ↦ λ gone. rw (or_true (ends X b.number)) (sym nothing)
             | false ↦ λ going.
                 let below : b.number ≤ length past = block_below past u b e in
                 let ended : ends X b.number ≡ is_some (R.ends u) =
-                ap (ends X) (sym (receipt_number _ _ b)) ∙ ends_other roster past t c X u (kept roster past b) l a other (open_from roster past u b e going) in
+                ap (ends X) (sym (receipt_number _ _ (filled past b))) ∙ ends_other roster past t c X u (kept roster past b) l a other (open_from roster past u b e going) in
                 let priority : priority_of_item roster (with_event t c X past) b.number ≡ priority_of_item roster past b.number = priority_earlier roster (record { thread = t; call = c; endings = X }) past b.number below in
                 let receipt : receipt_of (with_event t c X past) b.number ≡ first_some (copied_by R.receipt b.number) (receipt_of past b.number) = rw (accepted_receipts roster past t c X b.number l member a) refl in
-                let now : Some (kept roster (with_event t c X past) b) ≡ after_receipt R.receipt u (Some (kept roster past b)) =
-                ap (λ p. Some (with_receipt p (receipt_of (with_event t c X past) b.number) b)) priority ∙ ap (λ r. Some (with_receipt (priority_of_item roster past b.number) r b)) receipt
-                ∙ kept_after R.receipt u b.number (priority_of_item roster past b.number) (receipt_of past b.number) b
-                (λ r is. other_holds roster past t c u b r l other e going ((laws_of (facts_of roster past) t c X a).receives r is)) in
+                let waits = open_from roster past u b e going in
+                let now : Some (kept roster (with_event t c X past) b) ≡ after_receipt R.receipt u (after_write (facts_of roster past) (writes c) u (Some (kept roster past b))) =
+                ap (λ p. Some (with_receipt p (receipt_of (with_event t c X past) b.number) (filled (with_event t c X past) b))) priority
+                ∙ ap (λ r. Some (with_receipt (priority_of_item roster past b.number) r (filled (with_event t c X past) b))) receipt
+                ∙ ap (λ w. Some (with_receipt (priority_of_item roster past b.number) (first_some (copied_by R.receipt b.number) (receipt_of past b.number)) w)) (filled_accepted (record { thread = t; call = c; endings = X }) past b (accepted roster past t c X a))
+                ∙ kept_after R.receipt u b.number (priority_of_item roster past b.number) (receipt_of past b.number) (changed (written_over (writes c) b.number) (filled past b))
+                (λ r is. other_holds roster past t c u b r l other e going ((laws_of (facts_of roster past) t c X a).receives r is))
+                ∙ ap (after_receipt R.receipt u) (receipt_written (facts_of roster past) (writes c) u (priority_of_item roster past b.number) (receipt_of past b.number) (filled past b) (receipt_number _ _ (filled past b))
+                (λ x is. written_sender roster past t c X u (kept roster past b) x a waits is ∙ ap (eqb x.message) (receipt_number _ _ (filled past b)))) in
                 rw (or_false (ends X b.number), ended) (
-                elim (is_some (R.ends u)) as (λ d. option_map (kept roster (with_event t c X past)) (cond d None (Some b)) ≡ unless d (after_receipt R.receipt u (Some (kept roster past b)))) [ true ↦ refl | false ↦ now ])
+                elim (is_some (R.ends u)) as (λ d. option_map (kept roster (with_event t c X past)) (cond d None (Some b)) ≡ unless d (after_receipt R.receipt u (after_write (facts_of roster past) (writes c) u (Some (kept roster past b))))) [ true ↦ refl | false ↦ now ])
           ] refl
     ] refl
 
@@ -218,7 +233,8 @@ open_own roster past t c X l member a =
           let receipt : receipt_of (with_event t c X past) (length past + 1) ≡ first_some (copied_by R.receipt (length past + 1)) None =
           rw (accepted_receipts roster past t c X (length past + 1) l member a, receipt_beyond roster past (length past + 1) l (omega arith)) refl in
           let now : Some (kept roster (with_event t c X past) o) ≡ after_receipt R.receipt t (Some o) =
-          ap (λ i. Some (with_receipt (priority_of_item roster (with_event t c X past) i) (receipt_of (with_event t c X past) i) o)) number
+          ap (λ w. Some (with_receipt (priority_of_item roster (with_event t c X past) o.number) (receipt_of (with_event t c X past) o.number) w)) (filled_fresh roster past t c X o l (accepted roster past t c X a) e number)
+          ∙ ap (λ i. Some (with_receipt (priority_of_item roster (with_event t c X past) i) (receipt_of (with_event t c X past) i) o)) number
           ∙ ap (λ r. Some (with_receipt (priority_of_item roster (with_event t c X past) (length past + 1)) r o)) receipt
           ∙ kept_after R.receipt t (length past + 1) (priority_of_item roster (with_event t c X past) (length past + 1)) None o
           (λ r is. own_holds roster past t c X o r l a e ((laws_of (facts_of roster past) t c X a).receives r is)) in

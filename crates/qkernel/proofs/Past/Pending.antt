@@ -14,7 +14,7 @@ use Rattle.qtables.specs.declared.member.Member.{Member}
 use Rattle.qkernel.specs.Answer.{row_of, ending, Outcome}
 use Rattle.qkernel.specs.Facts.{threads_of}
 use Rattle.qkernel.specs.Lawful.{facts_of, IsLawful, with_event}
-use Rattle.qkernel.specs.Past.{ends, is_ended, is_taken, is_gone, items, item_of, pending, first_some, receipt_among, receipt_of, priority_of_item, with_receipt}
+use Rattle.qkernel.specs.Past.{filled, ends, is_ended, is_taken, is_gone, items, item_of, pending, first_some, receipt_among, receipt_of, priority_of_item, with_receipt}
 use Rattle.qkernel.specs.Rows.{Made, Received, makes}
 use Rattle.qkernel.specs.Step.{made_on, taken_out, pending_after}
 use Rattle.qkernel.specs.Trace.{Event, Trace}
@@ -23,7 +23,7 @@ use Rattle.qkernel.specs.declared.call.Completion.{Completion}
 use Rattle.qkernel.proofs.Past.Lists.{none_of, or_false, any_filter_map, all_append, all_every, all_more, filter_same, filter_twice, filter_all}
 use Rattle.qkernel.proofs.Past.Laws.{is_settled, IsReceived}
 use Rattle.qkernel.proofs.Past.RowLaws.{call_laws}
-use Rattle.qkernel.proofs.Past.Numbers.{block_fresh, open_parts}
+use Rattle.qkernel.proofs.Past.Numbers.{block_fresh, filled_settled, open_parts}
 use Rattle.qkernel.proofs.Past.Ends.{laws_of, ending_names, accepted, refused, refused_ends, ended_below, ends_own}
 use Rattle.qkernel.proofs.Past.Items.{IsPending, Stands, items_on, stands_all, pending_all, item_at, item_below, item_answer}
 use Rattle.qkernel.proofs.Past.Receipts.{copied_by, accepted_receipts, refused_receipts, best_pending, receipt_beyond}
@@ -81,8 +81,8 @@ pending_goes_on roster past t c X h item a k =
           let number : item.number ≡ b.block.number = sym s ∙ other.names.call ∙ b.number in
           let made = subst (λ i. item_at roster past i ≡ Some (record { item = item; channel = h })) number k.made in
           let unread : receipt_of past b.block.number ≡ None = subst (λ i. receipt_of past i ≡ None) number fresh in
-          let same : o ≡ b.block = b.same ∙ ap (λ r. with_receipt (priority_of_item roster past b.block.number) r b.block) unread in
-          true≢false (sym other.names.settled ∙ ap (λ w. is_settled w.wait) same ∙ block_fresh past v b.block b.is ∙ ap not (item_answer roster past v _ b.block made b.is)))
+          let same : o ≡ filled past b.block = b.same ∙ ap (λ r. with_receipt (priority_of_item roster past b.block.number) r (filled past b.block)) unread in
+          true≢false (sym other.names.settled ∙ ap (λ w. is_settled w.wait) same ∙ filled_settled past b.block ∙ block_fresh past v b.block b.is ∙ ap not (item_answer roster past v _ b.block made b.is)))
     ]))
 
 -- the row's receipt leaves the item

@@ -2,13 +2,17 @@
 use Rattle.std.proofs.Common.{ℕ}
 use Rattle.qkernel.specs.Facts.{Facts}
 use Rattle.qkernel.specs.declared.call.Call.{Call}
-use Rattle.qkernel.specs.declared.call.Call.TheVariants.{ChannelCreate, ConnectAttach, Send, Receive, Reply}
+use Rattle.qkernel.specs.declared.call.Call.TheVariants.{ChannelCreate, ConnectAttach, Send, Receive, Reply, Error, Read, Write, Info}
 use Rattle.qkernel.proofs.Past.Laws.{CallLaws, RowLaws, Passes}
 use Rattle.qkernel.proofs.Calls.ChannelCreate as channel_create
 use Rattle.qkernel.proofs.Calls.ConnectAttach as connect_attach
 use Rattle.qkernel.proofs.Calls.Send as send
 use Rattle.qkernel.proofs.Calls.Receive as receive
 use Rattle.qkernel.proofs.Calls.Reply as reply
+use Rattle.qkernel.proofs.Calls.Error as error
+use Rattle.qkernel.proofs.Calls.Read as read
+use Rattle.qkernel.proofs.Calls.Write as write
+use Rattle.qkernel.proofs.Calls.Info as info
 
 pub call_laws : (c : Call) → CallLaws c
 call_laws (ChannelCreate flags) = channel_create.call_laws flags
@@ -16,6 +20,10 @@ call_laws (ConnectAttach chid) = connect_attach.call_laws chid
 call_laws (Send coid message reply_buffer) = send.call_laws coid message reply_buffer
 call_laws (Receive chid buffer) = receive.call_laws chid buffer
 call_laws (Reply rcvid status bytes) = reply.call_laws rcvid status bytes
+call_laws (Error rcvid code) = error.call_laws rcvid code
+call_laws (Read rcvid offset buffer) = read.call_laws rcvid offset buffer
+call_laws (Write rcvid offset bytes) = write.call_laws rcvid offset bytes
+call_laws (Info rcvid) = info.call_laws rcvid
 
 pub row_laws : (f : Facts) (t : ℕ) (c : Call) → Passes f t c → RowLaws f t c
 row_laws f t (ChannelCreate flags) p = channel_create.row_laws f t flags p
@@ -23,3 +31,7 @@ row_laws f t (ConnectAttach chid) p = connect_attach.row_laws f t chid p
 row_laws f t (Send coid message reply_buffer) p = send.row_laws f t coid message reply_buffer p
 row_laws f t (Receive chid buffer) p = receive.row_laws f t chid buffer p
 row_laws f t (Reply rcvid status bytes) p = reply.row_laws f t rcvid status bytes p
+row_laws f t (Error rcvid code) p = error.row_laws f t rcvid code p
+row_laws f t (Read rcvid offset buffer) p = read.row_laws f t rcvid offset buffer p
+row_laws f t (Write rcvid offset bytes) p = write.row_laws f t rcvid offset bytes p
+row_laws f t (Info rcvid) p = info.row_laws f t rcvid p

@@ -9,7 +9,7 @@ use Rattle.qtables.specs.declared.connection.Connection.{Connection}
 use Rattle.qtables.specs.declared.member.Member.{Member}
 use Rattle.qtables.specs.Members.{IsRoster}
 use Rattle.qkernel.specs.Answer.{ending, Outcome, Answers}
-use Rattle.qkernel.specs.Calls.Reply.{owns_end}
+use Rattle.qkernel.specs.Held.{owns_end}
 use Rattle.qkernel.specs.Facts.{Facts, is_for_answer, owns, sender, threads_of}
 use Rattle.qkernel.specs.Headline.AnsweredToSender.{AnsweredToSender, AnswersIts, AnswersOnce, EachAnswersIts, is_answer, is_held, owns_channel_of, owns_that, sender_of}
 use Rattle.qkernel.specs.Lawful.{facts_of, IsLawful}
@@ -19,7 +19,7 @@ use Rattle.qkernel.specs.declared.call.Completion.{Completion}
 use Rattle.qkernel.proofs.Past.Ends.{known, open_known, passes_of}
 use Rattle.qkernel.proofs.Past.Laws.{is_settled}
 use Rattle.qkernel.proofs.Past.Lists.{all_filter_map, all_more, is_among}
-use Rattle.qkernel.proofs.Past.Numbers.{held_for_answer, open_parts}
+use Rattle.qkernel.proofs.Past.Numbers.{buffer_answer, held_for_answer, open_parts}
 use Rattle.qkernel.proofs.Properties.Answers.{AnswersHeld, answers_held, answers_one, over}
 use Rattle.qkernel.proofs.Properties.Events.{is_accepted_by, outcome_of}
 use Rattle.qkernel.proofs.Properties.Sends.{block_sender, held_is_taken, item_channel, open_keeps, open_over}
@@ -38,7 +38,7 @@ answers_its roster past e u y l a h =
     let k = open_parts roster past u o h.held.is_open in
     let number : k.block.number ≡ y.call = sym k.number ∙ h.number in
     let answer : is_for_answer o.wait ≡ true = ap is_for_answer h.held.waits in
-    let began : is_for_answer k.block.wait ≡ true = sym (open_keeps is_for_answer roster past u o k held_for_answer) ∙ answer in
+    let began : is_for_answer k.block.wait ≡ true = sym (open_keeps is_for_answer roster past u o k held_for_answer buffer_answer) ∙ answer in
     let taken : is_taken past k.block.number ≡ true = held_is_taken roster past u o k answer (ap is_settled h.held.waits) in
     let s = open_over roster past u o k l answer in
     let connection : connection_at roster past h.held.coid ≡ Some s.connection = ap (connection_at roster past) (sym (ap over h.held.waits)) ∙ s.is_connection in

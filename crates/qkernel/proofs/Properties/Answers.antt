@@ -1,26 +1,34 @@
 -- An ending that answers a message: whose it is, by each call's row.
-use Rattle.std.proofs.Common.{◌≡◌, ◌∙◌, ℕ, List, ap, refl, sym, subst, true, false, inl, inr}
-use Rattle.std.specs.Prelude.{Some}
+use Rattle.std.proofs.Common.{◌≡◌, ◌∙◌, ℕ, List, cond, ap, refl, sym, subst, true, false, inl, inr}
+use Rattle.std.specs.Prelude.{ℤ, pos, Option, None, Some}
+use Rattle.std.specs.Option.{option_map}
+use Rattle.std.specs.Ordering.{int_eq}
 use Rattle.std.proofs.lemmas.Bool.{true≢false}
 use Rattle.std.proofs.lemmas.Option.{none-some, same_Some}
 use Rattle.qkernel.specs.Answer.{row_of, ending}
 use Rattle.qqueue.specs.declared.item.What.TheVariants.{Message}
 use Rattle.qtables.specs.declared.connection.Connection.{Connection}
+use Rattle.qkernel.specs.Calls.Error.{errored, mark_of}
+use Rattle.qkernel.specs.Calls.Info.{told, telling}
+use Rattle.qkernel.specs.Calls.Reply.{replied}
+use Rattle.qkernel.specs.Held.{Finish, ends_sender, refusal}
+use Rattle.qkernel.specs.declared.call.Info.{Info as Told}
+use Rattle.qkernel.specs.declared.call.Mark.TheVariants as mark
 use Rattle.qkernel.specs.Facts.{Facts, is_for_answer, sender, threads_of}
 use Rattle.qkernel.specs.Headline.AnsweredToSender.{answered_by, is_answer, thread_of_send}
 use Rattle.qkernel.specs.Rows.{Made, asks, makes}
 use Rattle.qkernel.specs.declared.call.Call.{Call}
-use Rattle.qkernel.specs.declared.call.Call.TheVariants.{ChannelCreate, ConnectAttach, Send, Receive, Reply}
+use Rattle.qkernel.specs.declared.call.Call.TheVariants.{ChannelCreate, ConnectAttach, Send, Receive, Reply, Error, Read, Write, Info}
 use Rattle.qkernel.specs.declared.call.Completion.{Completion}
 use Rattle.qkernel.specs.declared.open_call.OpenCall.{OpenCall}
 use Rattle.qkernel.specs.declared.open_call.Wait.{Wait}
 use Rattle.qkernel.specs.declared.open_call.Wait.TheVariants.{Answer, Item as ForItem}
+use Rattle.qkernel.proofs.Calls.Held.{IsHeldFor, SenderEnds, answering, finished_held, has_sender, held_for, sender_ends}
 use Rattle.qkernel.proofs.Past.Lists.{eqb_same}
 use Rattle.qkernel.proofs.Past.Senders.{sender_sends}
 use Rattle.qkernel.proofs.Past.Laws.{Passes}
 use Rattle.qkernel.proofs.Properties.Receipts.{ending_of}
 use Rattle.qkernel.proofs.Properties.Rows.Receive.{receive_takes}
-use Rattle.qkernel.proofs.Properties.Rows.Reply.{IsHeldFor, reply_answers, has_sender, held_for, answered_held, answering}
 use Rattle.qkernel.proofs.Properties.Rows.Send.{has_way, send_meets, way_leads}
 
 -- ---- what answers
@@ -36,28 +44,44 @@ pub record AnswersHeld (f : Facts) (t : ℕ) (c : Call) (u : ℕ) (y : Completio
 no_answer : {P : Type 0} (x y : Completion) → x ≡ y → is_answer x.mark ≡ false → is_answer y.mark ≡ true → P
 no_answer x y same none e = absurd (true≢false (sym e ∙ ap (λ z. is_answer z.mark) (sym same) ∙ none))
 
+-- what is told is no answer
+tells_only : (n t : ℕ) (o : Option Told) (y : Completion) → option_map (telling n t) o ≡ Some y → is_answer y.mark ≡ false
+tells_only n t None y e = absurd (none-some y e)
+tells_only n t (Some told_so) y e = ap (λ x. is_answer x.mark) (sym (same_Some _ y e))
+
 own_answers : (f : Facts) (t : ℕ) (c : Call) (u : ℕ) (y : Completion) → (row_of f t c).own ≡ Some y → is_answer y.mark ≡ true → AnswersHeld f t c u y
 own_answers f t (ChannelCreate flags) u y e is = no_answer _ y (same_Some _ y e) refl is
 own_answers f t (ConnectAttach chid) u y e is = no_answer _ y (same_Some _ y e) refl is
 own_answers f t (Send coid message reply_buffer) u y e is = absurd (none-some y e)
 own_answers f t (Receive chid buffer) u y e is = no_answer _ y (receive_takes f t chid buffer y e).ending refl is
 own_answers f t (Reply rcvid status bytes) u y e is = no_answer _ y (same_Some _ y e) refl is
+own_answers f t (Error rcvid code) u y e is = no_answer _ y (same_Some _ y e) refl is
+own_answers f t (Read rcvid offset buffer) u y e is = no_answer _ y (same_Some _ y e) refl is
+own_answers f t (Write rcvid offset bytes) u y e is = no_answer _ y (same_Some _ y e) refl is
+own_answers f t (Info rcvid) u y e is = absurd (true≢false (sym is ∙ tells_only f.number t (told f (sender f rcvid)) y e))
+
+-- the Send that a call ends is the one that it names
+answers_by : (f : Facts) (t : ℕ) (c : Call) (rcvid : ℕ) (finish : Finish) (u : ℕ) (y : Completion) → answered_by c ≡ Some rcvid → SenderEnds f t rcvid finish u y → AnswersHeld f t c u y
+answers_by f t c rcvid finish u y named r =
+    let call : rcvid ≡ y.call = ap (λ x. x.call) r.ending in
+    record {
+      named = named ∙ ap (λ i. Some i) call;
+      is_sender = subst (λ i. sender f i ≡ Some u) call r.is_sender;
+      held = r.held;
+      number = r.number ∙ call;
+      thread = sym (ap (λ x. x.thread) r.ending);
+    }
 
 ends_answers : (f : Facts) (t : ℕ) (c : Call) (u : ℕ) (y : Completion) → Passes f t c → (row_of f t c).ends u ≡ Some y → is_answer y.mark ≡ true → AnswersHeld f t c u y
 ends_answers f t (ChannelCreate flags) u y p e is = absurd (none-some y e)
 ends_answers f t (ConnectAttach chid) u y p e is = absurd (none-some y e)
 ends_answers f t (Send coid message reply_buffer) u y p e is = no_answer _ y (send_meets f t coid message u y e).ending refl is
 ends_answers f t (Receive chid buffer) u y p e is = absurd (none-some y e)
-ends_answers f t (Reply rcvid status bytes) u y p e is =
-    let r = reply_answers f t rcvid status bytes u y p.row e in
-    let call : rcvid ≡ y.call = ap (λ x. x.call) r.ending in
-    record {
-      named = ap (λ i. Some i) call;
-      is_sender = subst (λ i. sender f i ≡ Some u) call r.is_sender;
-      held = r.held;
-      number = r.number ∙ call;
-      thread = sym (ap (λ x. x.thread) r.ending);
-    }
+ends_answers f t (Reply rcvid status bytes) u y p e is = answers_by f t (Reply rcvid status bytes) rcvid (replied status bytes) u y refl (sender_ends f t rcvid (replied status bytes) u y p.row e)
+ends_answers f t (Error rcvid code) u y p e is = answers_by f t (Error rcvid code) rcvid (errored code) u y refl (sender_ends f t rcvid (errored code) u y p.row e)
+ends_answers f t (Read rcvid offset buffer) u y p e is = absurd (none-some y e)
+ends_answers f t (Write rcvid offset bytes) u y p e is = absurd (none-some y e)
+ends_answers f t (Info rcvid) u y p e is = absurd (none-some y e)
 
 -- each ending that answers a message answers so
 pub answers_held : (f : Facts) (t : ℕ) (c : Call) (u : ℕ) (y : Completion) → Passes f t c → ending f t c u ≡ Some y → is_answer y.mark ≡ true → AnswersHeld f t c u y
@@ -77,26 +101,39 @@ pub record AnswersOne (f : Facts) (t : ℕ) (c : Call) (i : ℕ) : Type 0 where
   pub call : given.call ≡ i
   pub answers : is_answer given.mark ≡ true
 
-pub answers_one : (f : Facts) (t : ℕ) (c : Call) (i : ℕ) → Passes f t c → answered_by c ≡ Some i → AnswersOne f t c i
-answers_one f t (ChannelCreate flags) i p e = absurd (none-some i e)
-answers_one f t (ConnectAttach chid) i p e = absurd (none-some i e)
-answers_one f t (Send coid message reply_buffer) i p e = absurd (none-some i e)
-answers_one f t (Receive chid buffer) i p e = absurd (none-some i e)
-answers_one f t (Reply rcvid status bytes) i p e =
-    let s = has_sender f t rcvid p.row in
-    let h = held_for f t rcvid s.0 p.row s.1 in
+-- a call that ends the sender of the message that it names ends it so
+ends_one : (f : Facts) (t : ℕ) (c : Call) (rcvid : ℕ) (finish : Finish) (i : ℕ) → refusal f t rcvid ≡ None → ((u : ℕ) → (row_of f t c).ends u ≡ ends_sender f finish (sender f rcvid) u)
+    → ((buffer : List ℕ) → is_answer (finish buffer).0 ≡ true) → rcvid ≡ i → AnswersOne f t c i
+ends_one f t c rcvid finish i passed ends marks same =
+    let s = has_sender f t rcvid passed in
+    let h = held_for f t rcvid s.0 passed s.1 in
     let k = sender_sends f.open_call rcvid (threads_of f.roster) s.0 s.1 in
-    let same : rcvid ≡ i = same_Some rcvid i e in
+    let at : ends_sender f finish (sender f rcvid) s.0 ≡ Some (answering h.waiting.number s.0 finish h.reply_buffer) = rw (s.1, eqb_same s.0) (finished_held f t finish s.0 (f.open_call s.0) h) in
     record {
       thread = s.0;
       is_sender = subst (λ j. sender f j ≡ Some s.0) same s.1;
       waiting = h.waiting;
       is_open = h.is_open;
-      given = answering h.waiting.number s.0 status h.reply_buffer bytes;
-      is = rw (s.1, eqb_same s.0) (answered_held f t status bytes s.0 (f.open_call s.0) h);
+      given = answering h.waiting.number s.0 finish h.reply_buffer;
+      is = ends s.0 ∙ at;
       call = sym (ap (λ o. o.number) (same_Some k.waiting h.waiting (sym k.is ∙ h.is_open))) ∙ k.number ∙ same;
-      answers = refl;
+      answers = marks h.reply_buffer;
     }
+
+-- an Error marks an answer
+error_answers : (code : ℤ) → is_answer (mark_of code) ≡ true
+error_answers code = elim (int_eq code (pos 0)) as (λ b. is_answer (cond b (mark.Replied (pos 0) 0) (mark.Errored code)) ≡ true) [ true ↦ refl | false ↦ refl ]
+
+pub answers_one : (f : Facts) (t : ℕ) (c : Call) (i : ℕ) → Passes f t c → answered_by c ≡ Some i → AnswersOne f t c i
+answers_one f t (ChannelCreate flags) i p e = absurd (none-some i e)
+answers_one f t (ConnectAttach chid) i p e = absurd (none-some i e)
+answers_one f t (Send coid message reply_buffer) i p e = absurd (none-some i e)
+answers_one f t (Receive chid buffer) i p e = absurd (none-some i e)
+answers_one f t (Read rcvid offset buffer) i p e = absurd (none-some i e)
+answers_one f t (Write rcvid offset bytes) i p e = absurd (none-some i e)
+answers_one f t (Info rcvid) i p e = absurd (none-some i e)
+answers_one f t (Reply rcvid status bytes) i p e = ends_one f t (Reply rcvid status bytes) rcvid (replied status bytes) i p.row (λ u. refl) (λ buffer. refl) (same_Some rcvid i e)
+answers_one f t (Error rcvid code) i p e = ends_one f t (Error rcvid code) rcvid (errored code) i p.row (λ u. refl) (λ buffer. error_answers code) (same_Some rcvid i e)
 
 -- ---- what waits for an answer
 
@@ -129,6 +166,10 @@ pub sends_over : (f : Facts) (t : ℕ) (c : Call) (b : OpenCall) → Passes f t 
 sends_over f t (ChannelCreate flags) b p e w = absurd (none-some b e)
 sends_over f t (ConnectAttach chid) b p e w = absurd (none-some b e)
 sends_over f t (Reply rcvid status bytes) b p e w = absurd (none-some b e)
+sends_over f t (Error rcvid code) b p e w = absurd (none-some b e)
+sends_over f t (Read rcvid offset buffer) b p e w = absurd (none-some b e)
+sends_over f t (Write rcvid offset bytes) b p e w = absurd (none-some b e)
+sends_over f t (Info rcvid) b p e w = absurd (none-some b e)
 sends_over f t (Receive chid buffer) b p e w = absurd (true≢false (sym w ∙ ap (λ o. is_for_answer o.wait) (sym (same_Some _ b e))))
 sends_over f t (Send coid message reply_buffer) b p e w =
     subst (SendsOver f t (Send coid message reply_buffer)) (ap (λ o. over o.wait) (same_Some _ b e)) (send_over f t coid message reply_buffer p)
@@ -140,3 +181,7 @@ sends_by n t (ConnectAttach chid) b e w = absurd (none-some b e)
 sends_by n t (Send coid message reply_buffer) b e w = refl
 sends_by n t (Receive chid buffer) b e w = absurd (true≢false (sym w ∙ ap (λ o. is_for_answer o.wait) (sym (same_Some _ b e))))
 sends_by n t (Reply rcvid status bytes) b e w = absurd (none-some b e)
+sends_by n t (Error rcvid code) b e w = absurd (none-some b e)
+sends_by n t (Read rcvid offset buffer) b e w = absurd (none-some b e)
+sends_by n t (Write rcvid offset bytes) b e w = absurd (none-some b e)
+sends_by n t (Info rcvid) b e w = absurd (none-some b e)

@@ -22,7 +22,7 @@ use Rattle.qkernel.proofs.Past.Numbers.{block_asked, block_below, call_earlier, 
 use Rattle.qkernel.proofs.Properties.Events.{each_received, made_now, none_made}
 use Rattle.qkernel.proofs.Properties.Receipts.{TakesMade, TakesPending, waits_for}
 use Rattle.qkernel.proofs.Properties.Sends.{open_keeps}
-use Rattle.qkernel.proofs.Properties.Waiting.{held_waits_for, nothing_for, waits_for_asked}
+use Rattle.qkernel.proofs.Properties.Waiting.{buffer_waits_for, held_waits_for, nothing_for, waits_for_asked}
 
 -- ---- the caller takes the best of what was pending
 
@@ -61,7 +61,7 @@ takes_made roster past e u y i r l a k =
       channel = k.made.channel;
       kind = k.kind;
       is_call = ap (call_at (e ∷ past)) (k.call ∙ b.number) ∙ call_earlier e past b.block.number (block_below past u b.block b.is) ∙ c.is;
-      receives = waits_for_asked b.block.number c.call b.block c.asks_it ∙ sym (open_keeps waits_for roster past u k.waiting b held_waits_for) ∙ k.waits;
+      receives = waits_for_asked b.block.number c.call b.block c.asks_it ∙ sym (open_keeps waits_for roster past u k.waiting b held_waits_for buffer_waits_for) ∙ k.waits;
       best = ap (λ items. option_map (λ (item : Item). item.number) (best_of k.kind items)) all ∙ ap (option_map (λ (item : Item). item.number)) best ∙ ap (λ n. Some n) k.number;
     }
 

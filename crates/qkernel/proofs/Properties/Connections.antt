@@ -15,7 +15,7 @@ use Rattle.qkernel.specs.Rows.{Made, makes, sent_over}
 use Rattle.qkernel.specs.Step.{made_on}
 use Rattle.qkernel.specs.Trace.{Event, Trace}
 use Rattle.qkernel.specs.declared.call.Call.{Call}
-use Rattle.qkernel.specs.declared.call.Call.TheVariants.{ChannelCreate, ConnectAttach, Send, Receive, Reply}
+use Rattle.qkernel.specs.declared.call.Call.TheVariants.{ChannelCreate, ConnectAttach, Send, Receive, Reply, Error, Read, Write, Info}
 use Rattle.qkernel.proofs.Past.Items.{IsPending, item_at, item_below, item_earlier, item_newest, made_by, pending_all}
 use Rattle.qkernel.proofs.Past.Lists.{all_append, all_more}
 use Rattle.qkernel.proofs.Past.Pending.{made_all}
@@ -53,6 +53,10 @@ makes_over connection priority n t (ChannelCreate flags) m k e s = absurd (none-
 makes_over connection priority n t (ConnectAttach chid) m k e s = absurd (none-some k s)
 makes_over connection priority n t (Receive chid buffer) m k e s = absurd (none-some k s)
 makes_over connection priority n t (Reply rcvid status bytes) m k e s = absurd (none-some k s)
+makes_over connection priority n t (Error rcvid code) m k e s = absurd (none-some k s)
+makes_over connection priority n t (Read rcvid offset buffer) m k e s = absurd (none-some k s)
+makes_over connection priority n t (Write rcvid offset bytes) m k e s = absurd (none-some k s)
+makes_over connection priority n t (Info rcvid) m k e s = absurd (none-some k s)
 makes_over connection priority n t (Send coid message reply_buffer) m k e s =
     subst (λ i. IsOver connection i m) (same_Some coid k s) (sent_is_over connection coid n (priority t) m e)
 

@@ -8,15 +8,14 @@ use Rattle.qqueue.specs.Best.{is_pulse}
 use Rattle.qqueue.specs.declared.item.Item.{Item}
 use Rattle.qtables.specs.declared.connection.Connection.{Connection}
 use Rattle.qtables.specs.declared.member.Member.{Member}
-use Rattle.qkernel.specs.Buffers.{buffer_of}
 use Rattle.qkernel.specs.Facts.{is_for_answer, message, message_in, message_of, sender, threads_of, is_send}
-use Rattle.qkernel.specs.Headline.CopiedExactly.{buffer_at, message_at, message_of as message_in_call}
+use Rattle.qkernel.specs.Headline.CopiedExactly.{buffer_at, buffer_by, message_at, message_of as message_in_call}
 use Rattle.qkernel.specs.Lawful.{facts_of, IsLawful}
-use Rattle.qkernel.specs.Past.{connection_at, ends, held_with, is_accepted, is_ended, item_of, newest_block, open_call, priority_of_item, priority_of_thread, receipt_of, with_receipt}
-use Rattle.qkernel.specs.Rows.{Made, asks, makes, sent_over}
+use Rattle.qkernel.specs.Past.{connection_at, ends, filled, held_with, is_accepted, is_ended, item_of, newest_block, open_call, priority_of_item, priority_of_thread, receipt_of, with_receipt, with_writes}
+use Rattle.qkernel.specs.Rows.{Made, asks, makes, sent_over, with_buffer}
 use Rattle.qkernel.specs.Trace.{Event, Trace}
 use Rattle.qkernel.specs.declared.call.Call.{Call}
-use Rattle.qkernel.specs.declared.call.Call.TheVariants.{ChannelCreate, ConnectAttach, Send, Receive, Reply}
+use Rattle.qkernel.specs.declared.call.Call.TheVariants.{ChannelCreate, ConnectAttach, Send, Receive, Reply, Error, Read, Write, Info}
 use Rattle.qkernel.specs.declared.open_call.OpenCall.{OpenCall}
 use Rattle.qkernel.specs.declared.open_call.Receipt.{Receipt}
 use Rattle.qkernel.specs.declared.open_call.Wait.{Wait}
@@ -24,11 +23,11 @@ use Rattle.qkernel.specs.declared.open_call.Wait.TheVariants.{Answer, Item as Fo
 use Rattle.qkernel.proofs.Past.Ends.{known, open_known, passes_of}
 use Rattle.qkernel.proofs.Past.Items.{IsPending, item_at}
 use Rattle.qkernel.proofs.Past.Lists.{eqb_same}
-use Rattle.qkernel.proofs.Past.Numbers.{blocks, blocks_thread, block_asked, open_from, open_parts, open_thread, receipt_for_answer, receipt_number}
+use Rattle.qkernel.proofs.Past.Numbers.{blocks, blocks_thread, block_asked, filled_answer, open_from, open_parts, open_thread, receipt_for_answer, receipt_number}
 use Rattle.qkernel.proofs.Past.RowLaws.{call_laws}
 use Rattle.qkernel.proofs.Past.Senders.{send_from, send_parts, sender_found}
 use Rattle.qkernel.proofs.Properties.Events.{outcome_of}
-use Rattle.qkernel.proofs.Properties.Sends.{open_keeps}
+use Rattle.qkernel.proofs.Properties.Sends.{open_filled, open_keeps}
 
 -- ---- what a call brings is what it waits with
 
@@ -37,17 +36,21 @@ abbrev pub awaited : Wait → List ℕ
 awaited (Answer coid sent reply_buffer receipt) = reply_buffer
 awaited (ForItem chid buffer) = buffer
 
--- a call that begins to wait keeps its buffer and its message
-pub record Keeps (c : Call) (b : OpenCall) : Type 0 where
-  pub buffer : buffer_of c ≡ awaited b.wait
+-- a call that begins to wait keeps its buffer, which is written over, and its message
+pub record Keeps (past : Trace) (n : ℕ) (c : Call) (b : OpenCall) : Type 0 where
+  pub buffer : buffer_by past n c ≡ awaited (with_buffer (with_writes past n) b.wait)
   pub sent : message_in_call c ≡ message_of b.wait
 
-pub keeps : (n : ℕ) (c : Call) (b : OpenCall) → asks n c ≡ Some b → Keeps c b
-keeps n (ChannelCreate flags) b e = absurd (none-some b e)
-keeps n (ConnectAttach chid) b e = absurd (none-some b e)
-keeps n (Reply rcvid status bytes) b e = absurd (none-some b e)
-keeps n (Send coid message reply_buffer) b e = subst (Keeps (Send coid message reply_buffer)) (same_Some _ b e) (record { buffer = refl; sent = refl })
-keeps n (Receive chid buffer) b e = subst (Keeps (Receive chid buffer)) (same_Some _ b e) (record { buffer = refl; sent = refl })
+pub keeps : (past : Trace) (n : ℕ) (c : Call) (b : OpenCall) → asks n c ≡ Some b → Keeps past n c b
+keeps past n (ChannelCreate flags) b e = absurd (none-some b e)
+keeps past n (ConnectAttach chid) b e = absurd (none-some b e)
+keeps past n (Reply rcvid status bytes) b e = absurd (none-some b e)
+keeps past n (Error rcvid code) b e = absurd (none-some b e)
+keeps past n (Read rcvid offset buffer) b e = absurd (none-some b e)
+keeps past n (Write rcvid offset bytes) b e = absurd (none-some b e)
+keeps past n (Info rcvid) b e = absurd (none-some b e)
+keeps past n (Send coid message reply_buffer) b e = subst (Keeps past n (Send coid message reply_buffer)) (same_Some _ b e) (record { buffer = refl; sent = refl })
+keeps past n (Receive chid buffer) b e = subst (Keeps past n (Receive chid buffer)) (same_Some _ b e) (record { buffer = refl; sent = refl })
 
 held_awaited : (receipt : Receipt) (w : Wait) → awaited (held_with receipt w) ≡ awaited w
 held_awaited receipt (Answer coid sent reply_buffer before) = refl
@@ -57,19 +60,23 @@ held_message : (receipt : Receipt) (w : Wait) → message_of (held_with receipt 
 held_message receipt (Answer coid sent reply_buffer before) = refl
 held_message receipt (ForItem chid buffer) = refl
 
--- the buffer of an open call is the one that the call of its number brought
+buffer_message : (f : List ℕ → List ℕ) (w : Wait) → message_of (with_buffer f w) ≡ message_of w
+buffer_message f (Answer coid sent reply_buffer receipt) = refl
+buffer_message f (ForItem chid buffer) = refl
+
+-- the buffer of an open call is the one that the call of its number brought, with what was written over it
 pub open_buffer : (roster : List Member) (past : Trace) (u : ℕ) (o : OpenCall) → open_call roster past u ≡ Some o → buffer_at past o.number ≡ awaited o.wait
 open_buffer roster past u o is =
     let k = open_parts roster past u o is in
     let a = block_asked past u k.block k.is in
-    ap (buffer_at past) k.number ∙ ap (λ c. option_map_or buffer_of c []) a.is ∙ (keeps k.block.number a.call k.block a.asks_it).buffer ∙ sym (open_keeps awaited roster past u o k held_awaited)
+    ap (buffer_at past) k.number ∙ ap (λ c. option_map_or (buffer_by past k.block.number) c []) a.is ∙ (keeps past k.block.number a.call k.block a.asks_it).buffer ∙ sym (open_filled awaited roster past u o k held_awaited)
 
 -- and so is its message
 pub open_message : (roster : List Member) (past : Trace) (u : ℕ) (o : OpenCall) → open_call roster past u ≡ Some o → message_at past o.number ≡ message_of o.wait
 open_message roster past u o is =
     let k = open_parts roster past u o is in
     let a = block_asked past u k.block k.is in
-    ap (message_at past) k.number ∙ ap (λ c. option_map_or message_in_call c []) a.is ∙ (keeps k.block.number a.call k.block a.asks_it).sent ∙ sym (open_keeps message_of roster past u o k held_message)
+    ap (message_at past) k.number ∙ ap (λ c. option_map_or message_in_call c []) a.is ∙ (keeps past k.block.number a.call k.block a.asks_it).sent ∙ sym (open_keeps message_of roster past u o k held_message buffer_message)
 
 -- ---- what is pending is a message whose Send waits
 
@@ -89,6 +96,10 @@ makes_message connection priority n t (ChannelCreate flags) m e = absurd (none-s
 makes_message connection priority n t (ConnectAttach chid) m e = absurd (none-some m e)
 makes_message connection priority n t (Receive chid buffer) m e = absurd (none-some m e)
 makes_message connection priority n t (Reply rcvid status bytes) m e = absurd (none-some m e)
+makes_message connection priority n t (Error rcvid code) m e = absurd (none-some m e)
+makes_message connection priority n t (Read rcvid offset buffer) m e = absurd (none-some m e)
+makes_message connection priority n t (Write rcvid offset bytes) m e = absurd (none-some m e)
+makes_message connection priority n t (Info rcvid) m e = absurd (none-some m e)
 makes_message connection priority n t (Send coid message reply_buffer) m e = record {
   is_message = sent_message (connection coid) n (priority t) m e;
   begins = record { number = n; wait = Answer coid message reply_buffer None };
@@ -170,10 +181,10 @@ pub pending_message : (roster : List Member) (past : Trace) (h : ℕ) (item : It
 pending_message roster past h item l p =
     let going : is_ended past item.number ≡ false = pending_going roster past h item p in
     let w = item_waits roster past item.number (record { item = item; channel = h }) l p.made going in
-    let o = with_receipt (priority_of_item roster past w.block.number) (receipt_of past w.block.number) w.block in
+    let o = with_receipt (priority_of_item roster past w.block.number) (receipt_of past w.block.number) (filled past w.block) in
     let is : open_call roster past w.thread ≡ Some o = open_from roster past w.thread w.block w.is (subst (λ j. is_ended past j ≡ false) (sym w.number) going) in
-    let number : o.number ≡ item.number = receipt_number (priority_of_item roster past w.block.number) (receipt_of past w.block.number) w.block ∙ w.number in
-    let answer : is_for_answer o.wait ≡ true = receipt_for_answer (priority_of_item roster past w.block.number) (receipt_of past w.block.number) w.block ∙ w.answer in
+    let number : o.number ≡ item.number = receipt_number (priority_of_item roster past w.block.number) (receipt_of past w.block.number) (filled past w.block) ∙ w.number in
+    let answer : is_for_answer o.wait ≡ true = receipt_for_answer (priority_of_item roster past w.block.number) (receipt_of past w.block.number) (filled past w.block) ∙ filled_answer past w.block ∙ w.answer in
     let sends : is_send item.number (open_call roster past w.thread) ≡ true = ap (is_send item.number) is ∙ send_from item.number o number answer in
     let found : sender (facts_of roster past) item.number ≡ Some w.thread =
     sender_found (open_call roster past) item.number (threads_of roster) w.thread (known roster w.thread (open_known roster past w.thread o l is)) sends (λ v e.

@@ -10,19 +10,25 @@ use Rattle.qqueue.specs.declared.item.Kind.{Kind}
 use Rattle.qqueue.specs.declared.item.Kind.TheVariants.{Any}
 use Rattle.qqueue.specs.declared.item.What.TheVariants.{Message}
 use Rattle.qkernel.specs.Answer.{row_of, ending}
-use Rattle.qkernel.specs.Facts.{Facts}
+use Rattle.qkernel.specs.Calls.Error.{errored}
+use Rattle.qkernel.specs.Calls.Info.{told}
+use Rattle.qkernel.specs.Calls.Reply.{replied}
+use Rattle.qkernel.specs.Facts.{Facts, sender}
 use Rattle.qkernel.specs.Headline.BestFirst.{receives_on}
 use Rattle.qkernel.specs.Headline.ReceivedOnce.{item_received}
 use Rattle.qkernel.specs.Rows.{Made, makes, received}
 use Rattle.qkernel.specs.declared.call.Call.{Call}
-use Rattle.qkernel.specs.declared.call.Call.TheVariants.{ChannelCreate, ConnectAttach, Send, Receive, Reply}
+use Rattle.qkernel.specs.declared.call.Call.TheVariants.{ChannelCreate, ConnectAttach, Send, Receive, Reply, Error, Read, Write, Info}
 use Rattle.qkernel.specs.declared.call.Completion.{Completion}
 use Rattle.qkernel.specs.declared.open_call.OpenCall.{OpenCall}
 use Rattle.qkernel.specs.declared.open_call.Wait.{Wait}
 use Rattle.qkernel.specs.declared.open_call.Wait.TheVariants.{Answer, Item as ForItem}
 use Rattle.qkernel.proofs.Properties.Rows.Receive.{receive_takes}
 use Rattle.qkernel.proofs.Properties.Rows.Send.{send_meets}
-use Rattle.qkernel.proofs.Properties.Rows.Reply.{reply_answers}
+use Rattle.qkernel.proofs.Calls.Answering.{answer_receives}
+use Rattle.qkernel.proofs.Calls.Error.{no_receipt}
+use Rattle.qkernel.proofs.Calls.Held.{sender_ends}
+use Rattle.qkernel.proofs.Calls.Info.{plain}
 
 -- ---- whose ending it is
 
@@ -81,6 +87,10 @@ own_takes f t (ChannelCreate flags) u y p same e m = absurd (none-some p (ap (λ
 own_takes f t (ConnectAttach chid) u y p same e m = absurd (none-some p (ap (λ x. received x.mark) (same_Some _ y e) ∙ m))
 own_takes f t (Send coid message reply_buffer) u y p same e m = absurd (none-some y e)
 own_takes f t (Reply rcvid status bytes) u y p same e m = absurd (none-some p (ap (λ x. received x.mark) (same_Some _ y e) ∙ m))
+own_takes f t (Error rcvid code) u y p same e m = absurd (none-some p (ap (λ x. received x.mark) (same_Some _ y e) ∙ m))
+own_takes f t (Read rcvid offset buffer) u y p same e m = absurd (none-some p (ap (λ x. received x.mark) (same_Some _ y e) ∙ m))
+own_takes f t (Write rcvid offset bytes) u y p same e m = absurd (none-some p (ap (λ x. received x.mark) (same_Some _ y e) ∙ m))
+own_takes f t (Info rcvid) u y p same e m = absurd (none-some p (sym (plain f.number t (told f (sender f rcvid)) y e).mark ∙ m))
 own_takes f t (Receive chid buffer) u y p same e m =
     let r = receive_takes f t chid buffer y e in
     inl (record {
@@ -99,7 +109,12 @@ ends_takes : (f : Facts) (t : ℕ) (c : Call) (u : ℕ) (y : Completion) (p : �
 ends_takes f t (ChannelCreate flags) u y p r e m = absurd (none-some y e)
 ends_takes f t (ConnectAttach chid) u y p r e m = absurd (none-some y e)
 ends_takes f t (Receive chid buffer) u y p r e m = absurd (none-some y e)
-ends_takes f t (Reply rcvid status bytes) u y p r e m = absurd (none-some p (ap (λ x. received x.mark) (reply_answers f t rcvid status bytes u y r e).ending ∙ m))
+ends_takes f t (Reply rcvid status bytes) u y p r e m =
+    absurd (none-some p (sym (answer_receives f t rcvid (replied status bytes) u y (λ buffer. refl) (sender_ends f t rcvid (replied status bytes) u y r e)) ∙ m))
+ends_takes f t (Error rcvid code) u y p r e m = absurd (none-some p (sym (answer_receives f t rcvid (errored code) u y (λ buffer. no_receipt code) (sender_ends f t rcvid (errored code) u y r e)) ∙ m))
+ends_takes f t (Read rcvid offset buffer) u y p r e m = absurd (none-some y e)
+ends_takes f t (Write rcvid offset bytes) u y p r e m = absurd (none-some y e)
+ends_takes f t (Info rcvid) u y p r e m = absurd (none-some y e)
 ends_takes f t (Send coid message reply_buffer) u y p r e m =
     let s = send_meets f t coid message u y e in
     inr (record {

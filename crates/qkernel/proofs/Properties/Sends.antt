@@ -10,8 +10,8 @@ use Rattle.qtables.specs.declared.member.Member.{Member}
 use Rattle.qkernel.specs.Facts.{is_for_answer}
 use Rattle.qkernel.specs.Headline.AnsweredToSender.{channel_among, sender_of, thread_of_send}
 use Rattle.qkernel.specs.Lawful.{facts_of, IsLawful}
-use Rattle.qkernel.specs.Past.{connection_at, is_accepted, item_of, items, made_at, newest_block, priority_of_item, receipt_of, is_taken, with_receipt, held_with}
-use Rattle.qkernel.specs.Rows.{Made, asks}
+use Rattle.qkernel.specs.Past.{connection_at, filled, is_accepted, item_of, items, made_at, newest_block, priority_of_item, receipt_of, is_taken, with_receipt, with_writes, held_with}
+use Rattle.qkernel.specs.Rows.{Made, asks, with_buffer}
 use Rattle.qkernel.specs.Trace.{Event, Trace}
 use Rattle.qkernel.specs.declared.open_call.OpenCall.{OpenCall}
 use Rattle.qkernel.specs.declared.open_call.Receipt.{Receipt}
@@ -21,7 +21,7 @@ use Rattle.qkernel.proofs.Past.Ends.{passes_of}
 use Rattle.qkernel.proofs.Past.Items.{item_at, item_below, item_earlier, item_newest, items_below, made_by}
 use Rattle.qkernel.proofs.Past.Laws.{is_settled}
 use Rattle.qkernel.proofs.Past.Lists.{eqb_same, all_more}
-use Rattle.qkernel.proofs.Past.Numbers.{IsOpen, blocks, block_fresh, blocks_thread, held_for_answer, made_below}
+use Rattle.qkernel.proofs.Past.Numbers.{IsOpen, blocks, block_fresh, blocks_thread, buffer_answer, filled_answer, filled_settled, held_for_answer, made_below}
 use Rattle.qkernel.proofs.Past.RowLaws.{call_laws}
 use Rattle.qkernel.proofs.Properties.Answers.{over, sends_by, sends_over}
 use Rattle.qkernel.proofs.Properties.Events.{made_now, outcome_of}
@@ -105,21 +105,26 @@ block_over roster (e ∷ past) u b l is w = elim (begins_now e past u b is) [
 
 -- ---- what is open
 
--- what a receipt doesn't change of a wait is that of the call as it began
-pub open_keeps : {A : Type 0} (g : Wait → A) (roster : List Member) (past : Trace) (u : ℕ) (o : OpenCall) (k : IsOpen roster past u o) → ((receipt : Receipt) (w : Wait) → g (held_with receipt w) ≡ g w)
-    → g o.wait ≡ g k.block.wait
-open_keeps {A} g roster past u o k h =
-    elim (receipt_of past k.block.number) as (λ r. o ≡ with_receipt (priority_of_item roster past k.block.number) r k.block → g o.wait ≡ g k.block.wait) [
+-- what a receipt doesn't change of a wait is that of the call as it is written
+pub open_filled : {A : Type 0} (g : Wait → A) (roster : List Member) (past : Trace) (u : ℕ) (o : OpenCall) (k : IsOpen roster past u o) → ((receipt : Receipt) (w : Wait) → g (held_with receipt w) ≡ g w)
+    → g o.wait ≡ g (filled past k.block).wait
+open_filled {A} g roster past u o k h =
+    elim (receipt_of past k.block.number) as (λ r. o ≡ with_receipt (priority_of_item roster past k.block.number) r (filled past k.block) → g o.wait ≡ g (filled past k.block).wait) [
       | None ↦ λ same. ap (λ x. g x.wait) same
-      | Some copied ↦ λ same. ap (λ x. g x.wait) same ∙ h (record { priority = priority_of_item roster past k.block.number; copied = copied }) k.block.wait
+      | Some copied ↦ λ same. ap (λ x. g x.wait) same ∙ h (record { priority = priority_of_item roster past k.block.number; copied = copied }) (filled past k.block).wait
     ] k.same
+
+-- what neither a receipt nor a write changes is that of the call as it began
+pub open_keeps : {A : Type 0} (g : Wait → A) (roster : List Member) (past : Trace) (u : ℕ) (o : OpenCall) (k : IsOpen roster past u o) → ((receipt : Receipt) (w : Wait) → g (held_with receipt w) ≡ g w)
+    → ((f : List ℕ → List ℕ) (w : Wait) → g (with_buffer f w) ≡ g w) → g o.wait ≡ g k.block.wait
+open_keeps g roster past u o k h wrote = open_filled g roster past u o k h ∙ wrote (with_writes past k.block.number) k.block.wait
 
 -- an open call whose message is received: the receipt is in the past
 pub held_is_taken : (roster : List Member) (past : Trace) (u : ℕ) (o : OpenCall) (k : IsOpen roster past u o) → is_for_answer o.wait ≡ true → is_settled o.wait ≡ true → is_taken past k.block.number ≡ true
 held_is_taken roster past u o k w s =
-    elim (receipt_of past k.block.number) as (λ r. o ≡ with_receipt (priority_of_item roster past k.block.number) r k.block → is_some r ≡ true) [
+    elim (receipt_of past k.block.number) as (λ r. o ≡ with_receipt (priority_of_item roster past k.block.number) r (filled past k.block) → is_some r ≡ true) [
       | None ↦ λ same.
-          absurd (true≢false (sym (ap (λ x. is_settled x.wait) (sym same) ∙ s) ∙ block_fresh past u k.block k.is ∙ ap not (ap (λ x. is_for_answer x.wait) (sym same) ∙ w)))
+          absurd (true≢false (sym (ap (λ x. is_settled x.wait) (sym same) ∙ s) ∙ filled_settled past k.block ∙ block_fresh past u k.block k.is ∙ ap not (sym (filled_answer past k.block) ∙ ap (λ x. is_for_answer x.wait) (sym same) ∙ w)))
       | Some copied ↦ λ same. refl
     ] k.same
 
@@ -127,11 +132,15 @@ held_over : (receipt : Receipt) (w : Wait) → over (held_with receipt w) ≡ ov
 held_over receipt (Answer coid message reply_buffer before) = refl
 held_over receipt (ForItem chid buffer) = refl
 
+buffer_over : (f : List ℕ → List ℕ) (w : Wait) → over (with_buffer f w) ≡ over w
+buffer_over f (Answer coid message reply_buffer receipt) = refl
+buffer_over f (ForItem chid buffer) = refl
+
 -- the connection of an open Send, and its item
 pub open_over : (roster : List Member) (past : Trace) (u : ℕ) (o : OpenCall) (k : IsOpen roster past u o) → IsLawful roster past → is_for_answer o.wait ≡ true → IsSentOver roster past (over o.wait) k.block.number
 open_over roster past u o k l w =
-    subst (λ coid. IsSentOver roster past coid k.block.number) (sym (open_keeps over roster past u o k held_over))
-    (block_over roster past u k.block l k.is (sym (open_keeps is_for_answer roster past u o k held_for_answer) ∙ w))
+    subst (λ coid. IsSentOver roster past coid k.block.number) (sym (open_keeps over roster past u o k held_over buffer_over))
+    (block_over roster past u k.block l k.is (sym (open_keeps is_for_answer roster past u o k held_for_answer buffer_answer) ∙ w))
 
 -- ---- channels of items
 

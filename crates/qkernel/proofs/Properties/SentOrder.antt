@@ -18,7 +18,7 @@ use Rattle.qkernel.specs.Lawful.{IsLawful}
 use Rattle.qkernel.specs.Past.{priority_of_item}
 use Rattle.qkernel.specs.Trace.{Event, Trace}
 use Rattle.qkernel.specs.declared.call.Call.{Call}
-use Rattle.qkernel.specs.declared.call.Call.TheVariants.{ChannelCreate, ConnectAttach, Send, Receive, Reply}
+use Rattle.qkernel.specs.declared.call.Call.TheVariants.{ChannelCreate, ConnectAttach, Send, Receive, Reply, Error, Read, Write, Info}
 use Rattle.qkernel.specs.declared.call.Completion.{Completion}
 use Rattle.qkernel.proofs.Past.Best.{best_earliest}
 use Rattle.qkernel.proofs.Past.Items.{item_at, item_priority}
@@ -35,6 +35,10 @@ receives_any (ChannelCreate flags) p item e = absurd (none-some p e)
 receives_any (ConnectAttach chid) p item e = absurd (none-some p e)
 receives_any (Send coid message reply_buffer) p item e = absurd (none-some p e)
 receives_any (Reply rcvid status bytes) p item e = absurd (none-some p e)
+receives_any (Error rcvid code) p item e = absurd (none-some p e)
+receives_any (Read rcvid offset buffer) p item e = absurd (none-some p e)
+receives_any (Write rcvid offset bytes) p item e = absurd (none-some p e)
+receives_any (Info rcvid) p item e = absurd (none-some p e)
 
 -- the best of rising items is no later than any other of its priority
 first_of_equals : (kind : Kind) (items : List Item) (x : Item) → IsRising items → best_of kind items ≡ Some x → ((w : Item) → may_take kind w ≡ true)

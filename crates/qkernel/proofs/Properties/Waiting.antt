@@ -5,7 +5,7 @@ use Rattle.std.specs.List.{AllByRecursion}
 use Rattle.std.specs.Option.{option_map}
 use Rattle.std.proofs.lemmas.Bool.{eqb-true, eqb-false, not-true, true≢false}
 use Rattle.std.proofs.lemmas.Option.{none-some, same_Some, some_pair_parts}
-use Rattle.qbase.specs.Laying.{laid_count}
+use Rattle.qbase.specs.Laying.{laid_count, lay_over}
 use Rattle.qqueue.specs.Best.{best_of, may_take, without}
 use Rattle.qqueue.specs.declared.item.Item.{Item}
 use Rattle.qqueue.specs.declared.item.Kind.{Kind}
@@ -16,16 +16,16 @@ use Rattle.qtables.specs.declared.member.Member.{Member}
 use Rattle.qkernel.specs.Answer.{row_of}
 use Rattle.qkernel.specs.Calls.Receive.{receipt_of}
 use Rattle.qkernel.specs.Calls.Send.{row}
-use Rattle.qkernel.specs.Facts.{Facts, threads_of, way}
+use Rattle.qkernel.specs.Facts.{Facts, sender, threads_of, way}
 use Rattle.qkernel.specs.Headline.BestFirst.{receives_on}
 use Rattle.qkernel.specs.Lawful.{facts_of, IsLawful}
 use Rattle.qkernel.specs.Past.{held_with}
 use Rattle.qkernel.specs.Receivers.{newest}
-use Rattle.qkernel.specs.Rows.{Made, Received, asks, makes}
-use Rattle.qkernel.specs.Step.{after_receipt, held_call, is_thread, made_on, open_call_after, pending_after, taken_out, unless}
+use Rattle.qkernel.specs.Rows.{Made, Received, Written, asks, makes, with_buffer, writes}
+use Rattle.qkernel.specs.Step.{after_receipt, after_write, held_call, is_thread, made_on, open_call_after, pending_after, taken_out, unless, written_call}
 use Rattle.qkernel.specs.Trace.{Trace}
 use Rattle.qkernel.specs.declared.call.Call.{Call}
-use Rattle.qkernel.specs.declared.call.Call.TheVariants.{ChannelCreate, ConnectAttach, Send, Receive, Reply}
+use Rattle.qkernel.specs.declared.call.Call.TheVariants.{ChannelCreate, ConnectAttach, Send, Receive, Reply, Error, Read, Write, Info}
 use Rattle.qkernel.specs.declared.open_call.OpenCall.{OpenCall}
 use Rattle.qkernel.specs.declared.open_call.Receipt.{Receipt}
 use Rattle.qkernel.specs.declared.open_call.Wait.{Wait}
@@ -50,11 +50,19 @@ pub held_waits_for : (receipt : Receipt) (w : Wait) → waits_for (held_with rec
 held_waits_for receipt (Answer coid message reply_buffer before) = refl
 held_waits_for receipt (ForItem chid buffer) = refl
 
+pub buffer_waits_for : (f : List ℕ → List ℕ) (w : Wait) → waits_for (with_buffer f w) ≡ waits_for w
+buffer_waits_for f (Answer coid message reply_buffer receipt) = refl
+buffer_waits_for f (ForItem chid buffer) = refl
+
 -- a call waits for what it receives on
 pub waits_for_asked : (n : ℕ) (c : Call) (b : OpenCall) → asks n c ≡ Some b → receives_on c ≡ waits_for b.wait
 waits_for_asked n (ChannelCreate flags) b e = absurd (none-some b e)
 waits_for_asked n (ConnectAttach chid) b e = absurd (none-some b e)
 waits_for_asked n (Reply rcvid status bytes) b e = absurd (none-some b e)
+waits_for_asked n (Error rcvid code) b e = absurd (none-some b e)
+waits_for_asked n (Read rcvid offset buffer) b e = absurd (none-some b e)
+waits_for_asked n (Write rcvid offset bytes) b e = absurd (none-some b e)
+waits_for_asked n (Info rcvid) b e = absurd (none-some b e)
 waits_for_asked n (Send coid message reply_buffer) b e = ap (λ o. waits_for o.wait) (same_Some _ b e)
 waits_for_asked n (Receive chid buffer) b e = ap (λ o. waits_for o.wait) (same_Some _ b e)
 
@@ -72,6 +80,10 @@ begins_with_none : (f : Facts) (t : ℕ) (c : Call) (b : OpenCall) (p : ℕ × K
 begins_with_none f t (ChannelCreate flags) b p e w own = absurd (none-some b e)
 begins_with_none f t (ConnectAttach chid) b p e w own = absurd (none-some b e)
 begins_with_none f t (Reply rcvid status bytes) b p e w own = absurd (none-some b e)
+begins_with_none f t (Error rcvid code) b p e w own = absurd (none-some b e)
+begins_with_none f t (Read rcvid offset buffer) b p e w own = absurd (none-some b e)
+begins_with_none f t (Write rcvid offset bytes) b p e w own = absurd (none-some b e)
+begins_with_none f t (Info rcvid) b p e w own = absurd (none-some b e)
 begins_with_none f t (Send coid message reply_buffer) b p e w own = absurd (none-some p (ap (λ o. waits_for o.wait) (same_Some _ b e) ∙ w))
 begins_with_none f t (Receive chid buffer) b p e w own =
     subst (BeginsWithNone f t (Receive chid buffer)) (same_Some (chid, Any) p (ap (λ o. waits_for o.wait) (same_Some _ b e) ∙ w))
@@ -118,6 +130,10 @@ received_at_once f t (ChannelCreate flags) m u o kind p made among is waits may 
 received_at_once f t (ConnectAttach chid) m u o kind p made among is waits may = absurd (none-some m made)
 received_at_once f t (Receive chid buffer) m u o kind p made among is waits may = absurd (none-some m made)
 received_at_once f t (Reply rcvid status bytes) m u o kind p made among is waits may = absurd (none-some m made)
+received_at_once f t (Error rcvid code) m u o kind p made among is waits may = absurd (none-some m made)
+received_at_once f t (Read rcvid offset buffer) m u o kind p made among is waits may = absurd (none-some m made)
+received_at_once f t (Write rcvid offset bytes) m u o kind p made among is waits may = absurd (none-some m made)
+received_at_once f t (Info rcvid) m u o kind p made among is waits may = absurd (none-some m made)
 received_at_once f t (Send coid message reply_buffer) m u o kind p made among is waits may = sent_at_once f t coid message reply_buffer m u o kind p made among is waits
 
 -- ---- lists of items
@@ -162,6 +178,22 @@ before_receipt (Some r) u before o e =
       | true ↦ elim (before) as (λ x. option_map (held_call r.kept) x ≡ Some o → IsBefore x o) [
         | None ↦ λ s. absurd (none-some o s)
         | Some b ↦ λ s. record { call = b; is = refl; same = sym (held_waits_for r.kept b.wait) ∙ ap (λ (x : OpenCall). waits_for x.wait) (same_Some (held_call r.kept b) o s) }
+      ]
+      | false ↦ λ s. record { call = o; is = s; same = refl }
+    ] e
+
+-- and of the write
+before_write : (f : Facts) (w : Option Written) (u : ℕ) (before : Option OpenCall) (o : OpenCall) → after_write f w u before ≡ Some o → IsBefore before o
+before_write f None u before o e = record { call = o; is = e; same = refl }
+before_write f (Some w) u before o e =
+    elim (is_thread (sender f w.message) u) as (λ b. cond b (option_map (written_call w.offset w.bytes) before) before ≡ Some o → IsBefore before o) [
+      | true ↦ elim (before) as (λ x. option_map (written_call w.offset w.bytes) x ≡ Some o → IsBefore x o) [
+        | None ↦ λ s. absurd (none-some o s)
+        | Some b ↦ λ s. record {
+          call = b;
+          is = refl;
+          same = sym (buffer_waits_for (λ d. lay_over d w.offset w.bytes) b.wait) ∙ ap (λ (x : OpenCall). waits_for x.wait) (same_Some (written_call w.offset w.bytes b) o s);
+        }
       ]
       | false ↦ λ s. record { call = o; is = s; same = refl }
     ] e
@@ -215,15 +247,16 @@ nothing_after : (f : Facts) (t : ℕ) (c : Call) → Passes f t c → NothingFor
     → (u : ℕ) (o : OpenCall) (h : ℕ) (kind : Kind) → open_call_after f t c u ≡ Some o → waits_for o.wait ≡ Some (h, kind) → AllByRecursion (λ w. may_take kind w ≡ false) (pending_after f t c h)
 nothing_after f t c p nothing among u o h kind is waits =
     elim (eqb u t) as (λ b. eqb u t ≡ b
-    → cond b (unless (is_some (row_of f t c).own) (after_receipt (row_of f t c).receipt u (asks f.number c))) (unless (is_some ((row_of f t c).ends u)) (after_receipt (row_of f t c).receipt u (f.open_call u))) ≡ Some o
+    → cond b (unless (is_some (row_of f t c).own) (after_receipt (row_of f t c).receipt u (asks f.number c))) (unless (is_some ((row_of f t c).ends u)) (after_receipt (row_of f t c).receipt u (after_write f (writes c) u (f.open_call u)))) ≡ Some o
     → AllByRecursion (λ w. may_take kind w ≡ false) (pending_after f t c h)) [
       | true ↦ λ same e.
           caller_finds_none f t c o h kind
           (subst (λ v. unless (is_some (row_of f t c).own) (after_receipt (row_of f t c).receipt v (asks f.number c)) ≡ Some o) (eqb-true u t same) e) waits
       | false ↦ λ other e.
-          let x = unless_is (is_some ((row_of f t c).ends u)) (after_receipt (row_of f t c).receipt u (f.open_call u)) o e in
-          let b = before_receipt (row_of f t c).receipt u (f.open_call u) o x.1 in
-          other_finds_none f t c u b.call h kind p nothing (among u b.call b.is) b.is (b.same ∙ waits)
+          let x = unless_is (is_some ((row_of f t c).ends u)) (after_receipt (row_of f t c).receipt u (after_write f (writes c) u (f.open_call u))) o e in
+          let b = before_receipt (row_of f t c).receipt u (after_write f (writes c) u (f.open_call u)) o x.1 in
+          let d = before_write f (writes c) u (f.open_call u) b.call b.is in
+          other_finds_none f t c u d.call h kind p nothing (among u d.call d.is) d.is (d.same ∙ b.same ∙ waits)
     ] refl is
 
 pub nothing_for : (roster : List Member) (past : Trace) → IsRoster roster → IsLawful roster past → NothingFor (facts_of roster past)

@@ -23,7 +23,7 @@ use Rattle.qkernel.specs.Facts.{owns, threads_of}
 use Rattle.qkernel.specs.State.{State, IsSound, facts_in}
 use Rattle.qkernel.specs.Stands.{Steps}
 use Rattle.qkernel.specs.Step.{is_thread, held_call}
-use Rattle.qkernel.specs.Threads.{members_of, open_in, message_from, sender_in, SetsOpen, HandsOver}
+use Rattle.qkernel.specs.Threads.{members_of, open_in, message_from, sender_in, SetsOpen, ChangesSender}
 use Rattle.qkernel.proofs.Rosters.{rises, among, nothing, filter_same, only_own, cond_same}
 use Rattle.qkernel.proofs.Steps.Common.{counted, step_refused_alone, owned_by_member, all_up_to}
 use Rattle.qkernel.proofs.Steps.Send.{count_kept, sound_items, eqb_sym}
@@ -93,7 +93,7 @@ module _ (s : State) (t chid : ℕ) (buffer : List ℕ) (m : Member) (sound : Is
       | false ↦ λ e. refl
     ] refl)
 
-    pub step_receive_takes : (threads : List Thread) (channels : List (ℕ × Channel)) (X : List Completion) → HandsOver item.number (record { priority = item.priority; copied = copied }) s.threads threads
+    pub step_receive_takes : (threads : List Thread) (channels : List (ℕ × Channel)) (X : List Completion) → ChangesSender item.number (held_call (record { priority = item.priority; copied = copied })) s.threads threads
         → SetsItems chid (without item.number (pending_in s.channels chid)) s.channels channels → X ≡ receipt ∷ []
         → Steps s t (Receive chid buffer) X (record { made = s.made + 1; threads = threads; channels = channels; connections = s.connections })
     step_receive_takes threads channels X hands sets is = (

@@ -9,7 +9,7 @@ use Rattle.qkernel.specs.Facts.{is_for_answer}
 use Rattle.qkernel.specs.Headline.AnsweredToSender.{sender_of}
 use Rattle.qkernel.specs.Laws.{is_for_receipt, is_for_reply, IsNotHeld, IsOpenSend, NonePendingIsHeld, PendingIsOpen, PendingRises}
 use Rattle.qkernel.specs.Lawful.{IsLawful}
-use Rattle.qkernel.specs.Past.{is_ended, is_taken, pending, priority_of_item, receipt_of, with_receipt}
+use Rattle.qkernel.specs.Past.{filled, is_ended, is_taken, pending, priority_of_item, receipt_of, with_receipt}
 use Rattle.qkernel.specs.Trace.{Trace}
 use Rattle.qkernel.specs.declared.open_call.OpenCall.{OpenCall}
 use Rattle.qkernel.specs.declared.open_call.Wait.{Wait}
@@ -17,7 +17,7 @@ use Rattle.qkernel.specs.declared.open_call.Wait.TheVariants.{Answer, Item as Fo
 use Rattle.qkernel.proofs.Past.Items.{IsPending, pending_all}
 use Rattle.qkernel.proofs.Past.Laws.{is_settled}
 use Rattle.qkernel.proofs.Past.Lists.{all_more, none_of}
-use Rattle.qkernel.proofs.Past.Numbers.{IsOpen, block_fresh, open_from, open_parts}
+use Rattle.qkernel.proofs.Past.Numbers.{IsOpen, block_fresh, filled_answer, filled_settled, open_from, open_parts}
 use Rattle.qkernel.proofs.Past.Rising.{pending_rises}
 use Rattle.qkernel.proofs.Properties.Messages.{item_waits}
 use Rattle.qkernel.proofs.Properties.Sends.{block_sender}
@@ -43,17 +43,17 @@ unread : (roster : List Member) (past : Trace) (h : ℕ) (item : Item) → IsPen
 unread roster past h item p = (or_parts _ _ p.stays).0
 
 -- an open call of the number of an item that isn't received is as it began
-as_begun : (roster : List Member) (past : Trace) (u : ℕ) (o : OpenCall) (k : IsOpen roster past u o) → is_taken past k.block.number ≡ false → o ≡ k.block
-as_begun roster past u o k e = k.same ∙ ap (λ r. with_receipt (priority_of_item roster past k.block.number) r k.block) (none_of (receipt_of past k.block.number) e)
+as_begun : (roster : List Member) (past : Trace) (u : ℕ) (o : OpenCall) (k : IsOpen roster past u o) → is_taken past k.block.number ≡ false → o ≡ filled past k.block
+as_begun roster past u o k e = k.same ∙ ap (λ r. with_receipt (priority_of_item roster past k.block.number) r (filled past k.block)) (none_of (receipt_of past k.block.number) e)
 
 not_held : (roster : List Member) (past : Trace) (h : ℕ) (item : Item) → IsPending roster past h item → IsNotHeld roster past item.number
 not_held roster past h item p = record {
   unread = ap (λ b. b && not (is_ended past item.number)) (unread roster past h item p);
   unkept = λ u o is held. ne_eqb o.number item.number (λ same.
       let k = open_parts roster past u o is in
-      let begun : o ≡ k.block = as_begun roster past u o k (subst (λ i. is_taken past i ≡ false) (sym same ∙ k.number) (unread roster past h item p)) in
-      let w = reply_parts k.block.wait (subst (λ (x : OpenCall). is_for_reply x.wait ≡ true) begun held) in
-      true≢false (sym w.1 ∙ block_fresh past u k.block k.is ∙ ap not w.0));
+      let begun : o ≡ filled past k.block = as_begun roster past u o k (subst (λ i. is_taken past i ≡ false) (sym same ∙ k.number) (unread roster past h item p)) in
+      let w = reply_parts (filled past k.block).wait (subst (λ (x : OpenCall). is_for_reply x.wait ≡ true) begun held) in
+      true≢false (sym w.1 ∙ filled_settled past k.block ∙ block_fresh past u k.block k.is ∙ ap not (sym (filled_answer past k.block) ∙ w.0)));
 }
 
 send_open : (roster : List Member) (past : Trace) (h : ℕ) (item : Item) → IsLawful roster past → IsPending roster past h item → is_pulse item.what ≡ false → IsOpenSend roster past item.number
@@ -63,11 +63,11 @@ send_open roster past h item l p message =
     let none : receipt_of past w.block.number ≡ None = none_of (receipt_of past w.block.number) (subst (λ i. is_taken past i ≡ false) (sym w.number) (unread roster past h item p)) in
     record {
       sender = w.thread;
-      waiting = w.block;
+      waiting = filled past w.block;
       sent = subst (λ i. sender_of past i ≡ Some w.thread) w.number (block_sender past w.thread w.block w.is w.answer);
-      is_open = open_from roster past w.thread w.block w.is (subst (λ i. is_ended past i ≡ false) (sym w.number) going) ∙ ap (λ r. Some (with_receipt (priority_of_item roster past w.block.number) r w.block)) none;
+      is_open = open_from roster past w.thread w.block w.is (subst (λ i. is_ended past i ≡ false) (sym w.number) going) ∙ ap (λ r. Some (with_receipt (priority_of_item roster past w.block.number) r (filled past w.block))) none;
       number = w.number;
-      unread = receipt_from w.block.wait w.answer (block_fresh past w.thread w.block w.is ∙ ap not w.answer);
+      unread = receipt_from (filled past w.block).wait (filled_answer past w.block ∙ w.answer) (filled_settled past w.block ∙ block_fresh past w.thread w.block w.is ∙ ap not w.answer);
     }
 
 -- ---- the laws

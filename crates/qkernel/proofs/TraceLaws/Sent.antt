@@ -16,7 +16,7 @@ use Rattle.qkernel.specs.Past.{connection_at, item_of, items, made_at, priority_
 use Rattle.qkernel.specs.Rows.{Made, makes, sent_over}
 use Rattle.qkernel.specs.Trace.{Event, Trace}
 use Rattle.qkernel.specs.declared.call.Call.{Call}
-use Rattle.qkernel.specs.declared.call.Call.TheVariants.{ChannelCreate, ConnectAttach, Send, Receive, Reply}
+use Rattle.qkernel.specs.declared.call.Call.TheVariants.{ChannelCreate, ConnectAttach, Send, Receive, Reply, Error, Read, Write, Info}
 use Rattle.qkernel.specs.declared.call.Completion.{Completion}
 use Rattle.qkernel.proofs.Past.Items.{Stands, item_at}
 use Rattle.qkernel.proofs.Past.Lists.{all_more}
@@ -42,6 +42,10 @@ sends_to connection priority n t (ChannelCreate flags) m e = absurd (none-some m
 sends_to connection priority n t (ConnectAttach chid) m e = absurd (none-some m e)
 sends_to connection priority n t (Receive chid buffer) m e = absurd (none-some m e)
 sends_to connection priority n t (Reply rcvid status bytes) m e = absurd (none-some m e)
+sends_to connection priority n t (Error rcvid code) m e = absurd (none-some m e)
+sends_to connection priority n t (Read rcvid offset buffer) m e = absurd (none-some m e)
+sends_to connection priority n t (Write rcvid offset bytes) m e = absurd (none-some m e)
+sends_to connection priority n t (Info rcvid) m e = absurd (none-some m e)
 sends_to connection priority n t (Send coid message reply_buffer) m e =
     elim (connection coid) as (λ o. connection coid ≡ o → sent_over o n (priority t) ≡ Some m → SendsTo connection (Send coid message reply_buffer) m) [
       | None ↦ λ is at. absurd (none-some m at)

@@ -7,11 +7,11 @@ use Rattle.std.proofs.lemmas.Option.{none-some, same_Some}
 use Rattle.qtables.specs.declared.member.Member.{Member}
 use Rattle.qkernel.specs.Laws.{blocker, IsUnended, AtMostOneOpen, OpenIsUnended}
 use Rattle.qkernel.specs.Lawful.{IsLawful}
-use Rattle.qkernel.specs.Past.{ends, is_accepted, is_ended, made_at, newest_block, open_call, priority_of_item, receipt_of}
+use Rattle.qkernel.specs.Past.{filled, ends, is_accepted, is_ended, made_at, newest_block, open_call, priority_of_item, receipt_of}
 use Rattle.qkernel.specs.Rows.{asks}
 use Rattle.qkernel.specs.Trace.{Event, Trace}
 use Rattle.qkernel.specs.declared.call.Call.{Call}
-use Rattle.qkernel.specs.declared.call.Call.TheVariants.{ChannelCreate, ConnectAttach, Send, Receive, Reply}
+use Rattle.qkernel.specs.declared.call.Call.TheVariants.{ChannelCreate, ConnectAttach, Send, Receive, Reply, Error, Read, Write, Info}
 use Rattle.qkernel.specs.declared.open_call.OpenCall.{OpenCall}
 use Rattle.qkernel.proofs.Past.Lists.{eqb_same}
 use Rattle.qkernel.proofs.Past.Numbers.{open_from, open_parts, receipt_number}
@@ -26,6 +26,10 @@ asks_any n (ConnectAttach chid) = refl
 asks_any n (Send coid message reply_buffer) = refl
 asks_any n (Receive chid buffer) = refl
 asks_any n (Reply rcvid status bytes) = refl
+asks_any n (Error rcvid code) = refl
+asks_any n (Read rcvid offset buffer) = refl
+asks_any n (Write rcvid offset bytes) = refl
+asks_any n (Info rcvid) = refl
 
 -- ---- a call that begins to wait
 
@@ -114,7 +118,7 @@ open_unended : (roster : List Member) (past : Trace) (t i : ℕ) → IsLawful ro
 open_unended roster past t i l u =
     let k = unended_newest roster past t i l u.blocks u.going in
     ap (option_map (λ (o : OpenCall). o.number)) (open_from roster past t k.block k.is (subst (λ j. is_ended past j ≡ false) (sym k.number) u.going))
-    ∙ ap (λ n. Some n) (receipt_number (priority_of_item roster past k.block.number) (receipt_of past k.block.number) k.block ∙ k.number)
+    ∙ ap (λ n. Some n) (receipt_number (priority_of_item roster past k.block.number) (receipt_of past k.block.number) (filled past k.block) ∙ k.number)
 
 pub open_is_unended : OpenIsUnended
 open_is_unended roster past r l t i = (unended_open roster past t i, open_unended roster past t i l)

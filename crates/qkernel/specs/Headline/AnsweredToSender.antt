@@ -3,7 +3,7 @@ use Rattle.std.specs.Prelude.{◌≡◌, ℕ, ◌==◌, ◌&&◌, not, Bool, tru
 use Rattle.std.specs.List.{AllByRecursion}
 use Rattle.qtables.specs.declared.member.Member.{Member}
 use Rattle.qkernel.specs.declared.call.Call.{Call}
-use Rattle.qkernel.specs.declared.call.Call.TheVariants.{ChannelCreate, ConnectAttach, Send, Receive, Reply}
+use Rattle.qkernel.specs.declared.call.Call.TheVariants.{ChannelCreate, ConnectAttach, Send, Receive, Reply, Error, Read, Write, Info}
 use Rattle.qkernel.specs.declared.call.Completion.{Completion}
 use Rattle.qkernel.specs.declared.call.Mark.{Mark}
 use Rattle.qkernel.specs.declared.call.Mark.TheVariants as mark
@@ -38,6 +38,10 @@ thread_of_send t (ChannelCreate flags) = None
 thread_of_send t (ConnectAttach chid) = None
 thread_of_send t (Receive chid buffer) = None
 thread_of_send t (Reply rcvid status bytes) = None
+thread_of_send t (Error rcvid code) = None
+thread_of_send t (Read rcvid offset buffer) = None
+thread_of_send t (Write rcvid offset bytes) = None
+thread_of_send t (Info rcvid) = None
 
 -- the thread that sent message i
 abbrev pub sender_of : Trace → ℕ → Option ℕ
@@ -46,19 +50,26 @@ sender_of past i = made_at (λ e. thread_of_send e.thread e.call) past i
 -- the message that a call answers
 abbrev pub answered_by : Call → Option ℕ
 answered_by (Reply rcvid status bytes) = Some rcvid
+answered_by (Error rcvid code) = Some rcvid
 answered_by (ChannelCreate flags) = None
 answered_by (ConnectAttach chid) = None
 answered_by (Send coid message reply_buffer) = None
 answered_by (Receive chid buffer) = None
+answered_by (Read rcvid offset buffer) = None
+answered_by (Write rcvid offset bytes) = None
+answered_by (Info rcvid) = None
 
 -- the mark is an answer
 abbrev pub is_answer : Mark → Bool
 is_answer (mark.Replied status copied) = true
+is_answer (mark.Errored code) = true
 is_answer mark.Ok = false
 is_answer (mark.Failed errno) = false
 is_answer (mark.Channel chid) = false
 is_answer (mark.Connection coid) = false
 is_answer (mark.Message rcvid copied) = false
+is_answer (mark.Count copied) = false
+is_answer (mark.Info info) = false
 
 -- the ending is an answer to the message that the event's call names: while it was held, by a thread of the process that owns its channel,
 -- and to its sender

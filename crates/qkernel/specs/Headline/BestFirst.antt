@@ -8,7 +8,7 @@ use Rattle.qqueue.specs.declared.item.Kind.{Kind}
 use Rattle.qqueue.specs.declared.item.Kind.TheVariants.{Any}
 use Rattle.qtables.specs.declared.member.Member.{Member}
 use Rattle.qkernel.specs.declared.call.Call.{Call}
-use Rattle.qkernel.specs.declared.call.Call.TheVariants.{ChannelCreate, ConnectAttach, Send, Receive, Reply}
+use Rattle.qkernel.specs.declared.call.Call.TheVariants.{ChannelCreate, ConnectAttach, Send, Receive, Reply, Error, Read, Write, Info}
 use Rattle.qkernel.specs.declared.call.Completion.{Completion}
 use Rattle.qkernel.specs.Headline.CopiedExactly.{call_at}
 use Rattle.qkernel.specs.Headline.ReceivedOnce.{item_received}
@@ -23,6 +23,10 @@ receives_on (ChannelCreate flags) = None
 receives_on (ConnectAttach chid) = None
 receives_on (Send coid message reply_buffer) = None
 receives_on (Reply rcvid status bytes) = None
+receives_on (Error rcvid code) = None
+receives_on (Read rcvid offset buffer) = None
+receives_on (Write rcvid offset bytes) = None
+receives_on (Info rcvid) = None
 
 -- what could be taken from channel h in this event: what was pending before it, and the item that it makes
 abbrev pub takeable : List Member → Trace → Event → ℕ → List Item

@@ -4,7 +4,7 @@ use Rattle.std.specs.List.{AllByRecursion}
 use Rattle.std.specs.Option.{option_and_then}
 use Rattle.qtables.specs.declared.member.Member.{Member}
 use Rattle.qkernel.specs.declared.call.Call.{Call}
-use Rattle.qkernel.specs.declared.call.Call.TheVariants.{ChannelCreate, ConnectAttach, Send, Receive, Reply}
+use Rattle.qkernel.specs.declared.call.Call.TheVariants.{ChannelCreate, ConnectAttach, Send, Receive, Reply, Error, Read, Write, Info}
 use Rattle.qkernel.specs.Headline.BestFirst.{takeable}
 use Rattle.qkernel.specs.Headline.CopiedExactly.{call_at}
 use Rattle.qkernel.specs.Headline.ReceivedOnce.{item_received}
@@ -18,6 +18,10 @@ sends_over (ChannelCreate flags) = None
 sends_over (ConnectAttach chid) = None
 sends_over (Receive chid buffer) = None
 sends_over (Reply rcvid status bytes) = None
+sends_over (Error rcvid code) = None
+sends_over (Read rcvid offset buffer) = None
+sends_over (Write rcvid offset bytes) = None
+sends_over (Info rcvid) = None
 
 -- the connection over which item i was sent
 abbrev pub connection_of : Trace → ℕ → Option ℕ

@@ -1,51 +1,28 @@
 //! Reply.
 
 ghost use Rattle.std.specs.Prelude.{◌≡◌, ◌<◌, ◌^◌, [], None, Some};
-ghost use Rattle.qkernel.specs.Calls.Reply.{answered};
-ghost use Rattle.qkernel.specs.Answerable.{answerable_thread};
+ghost use Rattle.qkernel.specs.Calls.Reply.{replied};
+ghost use Rattle.qkernel.specs.Held.{finished};
 ghost use Rattle.qkernel.specs.Threads.{open_in, seat_in};
 
 use super::Kernel;
 use crate::call::{Call, Completion, Mark};
-use crate::channel::{Channel, owns};
 use crate::endings::{Endings, end_two, refuse};
+use crate::held::{held_seat, take_sent};
 use crate::open_call::{OpenCall, Wait};
-use crate::thread::{Thread, member_of, sender_seat, take_open};
+use crate::thread::member_of;
 use qbase::bytes::Bytes;
 use qbase::errno::Errno;
-use qbase::ids::{ProcessNo, ReceiveId, ThreadNo};
-use qtables::channels::Channels;
-use qtables::connections::Connections;
+use qbase::ids::{ReceiveId, ThreadNo};
 
-/// The thread whose message is held under this id, on a channel of this process.
-fn answerable(
-    threads: &[Thread],
-    connections: &Connections,
-    channels: &Channels<Channel>,
-    process: ProcessNo,
-    rcvid: ReceiveId,
-) -> Option<ThreadNo>
-    ensures { result ≡ answerable_thread threads.now connections.now channels.now process rcvid }
-{
-    let seat = sender_seat(threads, rcvid.0)?;
-    let client = &threads[seat];
-    let coid = client.held_over()?;
-    let connection = connections.get(coid)?;
-    if owns(channels, process, connection.channel) {
-        Some(client.member.thread)
-    } else {
-        None
-    }
-}
-
-/// How an open Send ends that is answered; none where the call is no Send.
-fn answer(
+/// How an open Send ends that is replied to; none where the call is no Send.
+fn replied_to(
     call: Option<OpenCall>,
     thread: ThreadNo,
     status: i64,
     bytes: &Bytes,
 ) -> Option<Completion>
-    ensures { result ≡ answered status bytes.now thread call }
+    ensures { result ≡ finished (replied status bytes.now) thread call }
 {
     let OpenCall { number: sent, wait } = call?;
     match wait {
@@ -86,7 +63,7 @@ impl Kernel {
         let number = self.made;
         let alloc = self.alloc;
         let process = member_of(&self.threads, seat, thread).process;
-        let Some(client) = answerable(
+        let Some(held) = held_seat(
             &self.threads,
             &self.connections,
             &self.channels,
@@ -95,8 +72,8 @@ impl Kernel {
         ) else {
             return refuse(endings, number, thread, Errno::Srch, Bytes::new(alloc));
         };
-        let call = take_open(&mut self.threads, client);
-        let Some(ended) = answer(call, client, status, &bytes) else {
+        let (client, call) = take_sent(&mut self.threads, held, rcvid.0);
+        let Some(ended) = replied_to(call, client, status, &bytes) else {
             unreachable!();
         };
         let mine = Completion {

@@ -1,37 +1,43 @@
-use Rattle.std.proofs.Common.{◌≡◌, None, Some, ap, sym, ◌∙◌, true, false}
-use Rattle.std.specs.Prelude.{position, option_copied}
-use Rattle.qkernel.specs.declared.thread.Thread.{Thread}
+use Rattle.std.proofs.Common.{◌≡◌, None, Some, ap, sym, ◌∙◌}
+use Rattle.std.specs.Prelude.{is_some, position, option_copied}
 use Rattle.qkernel.specs.Facts.{is_send}
+use Rattle.qkernel.specs.HeldIn.{is_held_over, leads_to_own}
 use Rattle.qkernel.specs.Threads.{held_over_in}
-use Rattle.qkernel.proofs.Senders.{no_sender, sender_at}
-use Rattle.qkernel.proofs.Steps.Reply.{answerable_nowhere, answerable_unheld, answerable_detached, answerable_owned}
-use Rattle.qkernel.proofs.kernel.reply.answerable.Goals as goal
+use Rattle.qkernel.proofs.Senders.{held_nowhere, held_there}
+use Rattle.qkernel.proofs.held.held_seat.Goals as goal
 
-pub returns-in_err-seat : goal.returns-in_err-seat
-returns-in_err-seat c =
+pub returns-in_err-seat-clause-held : goal.returns-in_err-seat-clause-held
+returns-in_err-seat-clause-held c =
     let none : position (λ t. is_send c.args.rcvid t.open_call) c.args.threads.now ≡ None = rw c.rcvid.view_is at (sym c.sender_seat.ensures ∙ c.in_err-seat.was) in
-    c.from_residual.ensures ∙ sym (answerable_nowhere c.args.connections.now c.args.channels.now c.args.process c.args.rcvid c.args.threads.now (no_sender c.args.rcvid c.args.threads.now none))
+    ap is_some c.from_residual.ensures ∙ sym (held_nowhere c.args.connections.now c.args.channels.now c.args.process c.args.rcvid c.args.threads.now c.requires none)
 
-pub returns-in_err-coid : goal.returns-in_err-coid
-returns-in_err-coid c =
+pub returns-in_err-coid-clause-held : goal.returns-in_err-coid-clause-held
+returns-in_err-coid-clause-held c =
     let at : position (λ t. is_send c.args.rcvid t.open_call) c.args.threads.now ≡ Some c.in_ok-seat.seat = rw c.rcvid.view_is at (sym c.sender_seat.ensures ∙ c.in_ok-seat.was) in
-    c.from_residual-in_err-coid.ensures ∙ sym (answerable_unheld c.args.connections.now c.args.channels.now c.args.process c.args.rcvid c.args.threads.now c.in_ok-seat.seat c.index-threads-seat.result (sender_at c.args.rcvid c.args.threads.now c.in_ok-seat.seat at)
-    (sym (ap (λ t. held_over_in t.open_call) c.index-threads-seat.is) ∙ sym c.held_over.ensures ∙ c.in_err-coid.was))
+    let over = sym (ap (λ t. held_over_in t.open_call) c.index-threads-seat.is) ∙ sym c.held_over.ensures ∙ c.in_err-coid.was in
+    ap is_some c.from_residual-in_err-coid.ensures
+    ∙ sym (held_there c.args.connections.now c.args.channels.now c.args.process c.args.rcvid c.args.threads.now c.in_ok-seat.seat c.index-threads-seat.result c.requires at ∙ ap (is_held_over c.args.connections.now c.args.channels.now c.args.process) over)
 
-pub returns-in_err-connection : goal.returns-in_err-connection
-returns-in_err-connection c =
+pub returns-in_err-connection-clause-held : goal.returns-in_err-connection-clause-held
+returns-in_err-connection-clause-held c =
     let at : position (λ t. is_send c.args.rcvid t.open_call) c.args.threads.now ≡ Some c.in_ok-seat.seat = rw c.rcvid.view_is at (sym c.sender_seat.ensures ∙ c.in_ok-seat.was) in
-    c.from_residual-in_err-connection.ensures ∙ sym (answerable_detached c.args.connections.now c.args.channels.now c.args.process c.args.rcvid c.args.threads.now c.in_ok-seat.seat c.index-threads-seat.result (sender_at c.args.rcvid c.args.threads.now c.in_ok-seat.seat at)
-    c.in_ok-coid.coid (sym (ap (λ t. held_over_in t.open_call) c.index-threads-seat.is) ∙ sym c.held_over.ensures ∙ c.in_ok-coid.was) (sym c.get.ensures ∙ ap option_copied c.in_err-connection.was))
+    let over = sym (ap (λ t. held_over_in t.open_call) c.index-threads-seat.is) ∙ sym c.held_over.ensures ∙ c.in_ok-coid.was in
+    let detached = sym c.get.ensures ∙ ap option_copied c.in_err-connection.was in
+    ap is_some c.from_residual-in_err-connection.ensures
+    ∙ sym (held_there c.args.connections.now c.args.channels.now c.args.process c.args.rcvid c.args.threads.now c.in_ok-seat.seat c.index-threads-seat.result c.requires at ∙ ap (is_held_over c.args.connections.now c.args.channels.now c.args.process) over ∙ ap (leads_to_own c.args.channels.now c.args.process) detached)
 
-pub returns-then-owns : goal.returns-then-owns
-returns-then-owns c =
+pub returns-then-owns-clause-held : goal.returns-then-owns-clause-held
+returns-then-owns-clause-held c =
     let at : position (λ t. is_send c.args.rcvid t.open_call) c.args.threads.now ≡ Some c.in_ok-seat.seat = rw c.rcvid.view_is at (sym c.sender_seat.ensures ∙ c.in_ok-seat.was) in
-    ap (λ (t : Thread). Some t.member.thread) c.index-threads-seat.is ∙ sym (answerable_owned c.args.connections.now c.args.channels.now c.args.process c.args.rcvid c.args.threads.now c.in_ok-seat.seat c.index-threads-seat.result (sender_at c.args.rcvid c.args.threads.now c.in_ok-seat.seat at)
-    c.in_ok-coid.coid c.in_ok-connection.connection.now true (sym (ap (λ t. held_over_in t.open_call) c.index-threads-seat.is) ∙ sym c.held_over.ensures ∙ c.in_ok-coid.was) (sym c.get.ensures ∙ ap option_copied c.in_ok-connection.was) (sym c.owns.ensures ∙ c.if-owns.true))
+    let over = sym (ap (λ t. held_over_in t.open_call) c.index-threads-seat.is) ∙ sym c.held_over.ensures ∙ c.in_ok-coid.was in
+    let attached = sym c.get.ensures ∙ ap option_copied c.in_ok-connection.was in
+    sym (held_there c.args.connections.now c.args.channels.now c.args.process c.args.rcvid c.args.threads.now c.in_ok-seat.seat c.index-threads-seat.result c.requires at ∙ ap (is_held_over c.args.connections.now c.args.channels.now c.args.process) over
+    ∙ rw attached (sym c.owns.ensures ∙ c.if-owns.true))
 
-pub returns-else-owns : goal.returns-else-owns
-returns-else-owns c =
+pub returns-else-owns-clause-held : goal.returns-else-owns-clause-held
+returns-else-owns-clause-held c =
     let at : position (λ t. is_send c.args.rcvid t.open_call) c.args.threads.now ≡ Some c.in_ok-seat.seat = rw c.rcvid.view_is at (sym c.sender_seat.ensures ∙ c.in_ok-seat.was) in
-    sym (answerable_owned c.args.connections.now c.args.channels.now c.args.process c.args.rcvid c.args.threads.now c.in_ok-seat.seat c.index-threads-seat.result (sender_at c.args.rcvid c.args.threads.now c.in_ok-seat.seat at)
-    c.in_ok-coid.coid c.in_ok-connection.connection.now false (sym (ap (λ t. held_over_in t.open_call) c.index-threads-seat.is) ∙ sym c.held_over.ensures ∙ c.in_ok-coid.was) (sym c.get.ensures ∙ ap option_copied c.in_ok-connection.was) (sym c.owns.ensures ∙ c.if-owns.false))
+    let over = sym (ap (λ t. held_over_in t.open_call) c.index-threads-seat.is) ∙ sym c.held_over.ensures ∙ c.in_ok-coid.was in
+    let attached = sym c.get.ensures ∙ ap option_copied c.in_ok-connection.was in
+    sym (held_there c.args.connections.now c.args.channels.now c.args.process c.args.rcvid c.args.threads.now c.in_ok-seat.seat c.index-threads-seat.result c.requires at ∙ ap (is_held_over c.args.connections.now c.args.channels.now c.args.process) over
+    ∙ rw attached (sym c.owns.ensures ∙ c.if-owns.false))

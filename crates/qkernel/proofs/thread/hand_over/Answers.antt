@@ -4,13 +4,13 @@ use Rattle.std.specs.Option.{option_map}
 use Rattle.qbase.specs.Laying.{laid_count, lay_over}
 use Rattle.qkernel.specs.Facts.{is_send, message_in}
 use Rattle.qkernel.specs.Step.{held_call}
-use Rattle.qkernel.proofs.Senders.{hands_nowhere, message_nowhere, message_there, hands_there, lay_nothing, count_nothing}
+use Rattle.qkernel.proofs.Senders.{changes_nowhere, message_nowhere, message_there, changes_there, lay_nothing, count_nothing}
 use Rattle.qkernel.proofs.thread.hand_over.Goals as goal
 
 pub returns-in-None-clause-kept : goal.returns-in-None-clause-kept
 returns-in-None-clause-kept c =
     let none : position (λ t. is_send c.args.number t.open_call) c.args.threads.now.items ≡ None = rw c.deref.ensures.value at (sym c.sender_seat.ensures ∙ c.in-None.is) in
-    hands_nowhere c.args.number _ c.args.threads.now.items c.requires none
+    changes_nowhere c.args.number _ c.args.threads.now.items c.requires none
 
 pub returns-in-None-clause-buffer : goal.returns-in-None-clause-buffer
 returns-in-None-clause-buffer c =
@@ -25,7 +25,7 @@ returns-in-None-clause-count c =
 pub returns-in-Some-clause-kept : goal.returns-in-Some-clause-kept
 returns-in-Some-clause-kept c =
     let at : position (λ t. is_send c.args.number t.open_call) c.args.threads.now.items ≡ Some c.in-Some.seat = rw c.deref.ensures.value at (sym c.sender_seat.ensures ∙ c.in-Some.is) in
-    hands_there c.args.number c.args.threads.now.items c.in-Some.seat c.index_mut-sender.result.now c.requires at _ c.hand_over.new.self
+    changes_there c.args.number c.args.threads.now.items c.in-Some.seat c.index_mut-sender.result.now c.requires at _ c.hand_over.new.self
     (c.hand_over.ensures.member ∙ ap (λ t. t.member) c.index_mut-sender.ensures.value) (c.hand_over.ensures.priority ∙ ap (λ t. t.priority) c.index_mut-sender.ensures.value)
     (c.hand_over.ensures.kept ∙ ap (λ t. option_map (held_call (record { priority = c.args.priority; copied = c.hand_over.result })) t.open_call) c.index_mut-sender.ensures.value)
 

@@ -1,31 +1,35 @@
-use Rattle.std.proofs.Common.{sym, ap, ◌∙◌, w64}
+use Rattle.std.proofs.Common.{refl, sym, ap, ◌∙◌, w64}
 use Rattle.std.proofs.lemmas.Int.{to_z-of_z}
-use Rattle.qkernel.specs.Calls.Reply.{answered}
+use Rattle.qkernel.specs.declared.call.Call.TheVariants.{Reply}
+use Rattle.qkernel.specs.Calls.Reply.{replied}
+use Rattle.qkernel.specs.Held.{finished}
+use Rattle.qkernel.proofs.Steps.Held.{finished_there, step_unheld}
+use Rattle.qkernel.proofs.Steps.Reply.{step_replied}
 use Rattle.qkernel.proofs.Steps.Send.{sound_threads}
-use Rattle.qkernel.proofs.Steps.Reply.{step_reply_refused, answered_there, step_replied}
 use Rattle.qkernel.proofs.kernel.Kernel.reply.Goals as goal
 
 pub returns-in_default : goal.returns-in_default
 returns-in_default c =
     let free = rw (← c.self.view_is) at c.requires.free in
     let known = rw c.deref.ensures.value at c.member_of-process.ensures in
-    let none = rw c.deref-2.ensures.value at (sym c.answerable.ensures ∙ c.in_default.is) in
-    rw (← c.self.view_is) (step_reply_refused _ c.args.thread c.member_of-process.result c.args.rcvid c.self.invariant known c.args.status c.args.bytes _ free none (rw c.new.ensures at c.refuse.ensures))
+    let none = rw c.deref-2.ensures.value at (sym c.in_default.ensures.held) in
+    rw (← c.self.view_is) (step_unheld _ c.args.thread c.member_of-process.result c.args.rcvid c.self.invariant known (Reply c.args.rcvid c.args.status c.args.bytes) _ refl free none (rw c.new.ensures at c.refuse.ensures))
 
 pub unreachable-requires : goal.unreachable-requires
 unreachable-requires c =
-    let known = rw c.deref.ensures.value at c.member_of-process.ensures in
-    let found = rw c.deref-2.ensures.value at (sym c.answerable.ensures ∙ c.in-Some.is) in
-    answered_there _ c.args.thread c.member_of-process.result c.args.rcvid c.self.invariant known c.args.status c.args.bytes c.in-Some.client c.take_open-call.result found c.take_open-call.ensures.had (rw (to_z-of_z w64 c.args.status c.ranges.status) at (sym c.answer.ensures ∙ c.in_default-answer.is))
+    let is_sender = rw c.rcvid.view_is at c.take_sent-client.ensures.thread in
+    finished_there _ c.args.rcvid c.take_sent-client.result.0 (replied c.args.status c.args.bytes) c.take_sent-client.result.1 is_sender c.take_sent-client.ensures.had
+    (rw (to_z-of_z w64 c.args.status c.ranges.status) at (sym c.replied_to.ensures ∙ c.in_default-replied_to.is))
 
 pub invariant_of-self-2 : goal.invariant_of-self-2
-invariant_of-self-2 c = sound_threads _ _ c.self.invariant c.take_open-call.ensures.after.members
+invariant_of-self-2 c = sound_threads _ _ c.self.invariant c.take_sent-client.ensures.after.members
 
 pub returns : goal.returns
 returns c =
     let free = rw (← c.self.view_is) at c.requires.free in
     let known = rw c.deref.ensures.value at c.member_of-process.ensures in
-    let found = rw c.deref-2.ensures.value at (sym c.answerable.ensures ∙ c.in-Some.is) in
-    let ended = ap (answered c.args.status c.args.bytes c.in-Some.client) (sym c.take_open-call.ensures.had) ∙ rw (to_z-of_z w64 c.args.status c.ranges.status) at (sym c.answer.ensures ∙ c.in-Some-answer.is) in
-    rw (← c.self.view_is) (step_replied _ c.args.thread c.member_of-process.result c.args.rcvid c.self.invariant known c.args.status c.args.bytes c.in-Some.client c.in-Some-answer.ended free found ended _ _
-    c.take_open-call.ensures.after (rw c.new-2.ensures at c.end_two.ensures))
+    let held = rw c.deref-2.ensures.value at (sym c.in-Some.ensures.held) in
+    let is_sender = rw c.rcvid.view_is at c.take_sent-client.ensures.thread in
+    let ended = ap (finished (replied c.args.status c.args.bytes) c.take_sent-client.result.0) (sym c.take_sent-client.ensures.had) ∙ rw (to_z-of_z w64 c.args.status c.ranges.status) at (sym c.replied_to.ensures ∙ c.in-Some-replied_to.is) in
+    rw (← c.self.view_is) (step_replied _ c.args.thread c.member_of-process.result c.args.rcvid c.self.invariant known c.args.status c.args.bytes c.take_sent-client.result.0 c.in-Some-replied_to.ended free held is_sender ended _ _
+    c.take_sent-client.ensures.after (rw c.new-2.ensures at c.end_two.ensures))

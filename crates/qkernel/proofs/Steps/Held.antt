@@ -1,0 +1,124 @@
+-- What the calls on held messages share, by the kernel's content.
+use Rattle.std.proofs.Common.{◌≡◌, ◌≢◌, ℕ, ◌+◌, List, [], ◌∷◌, refl, ap, sym, subst, ◌∙◌, cond, true, false, eqb, ltb, inl}
+use Rattle.std.specs.Prelude.{Option, None, Some, is_some, ◌||◌}
+use Rattle.std.specs.List.{filter_map}
+use Rattle.std.proofs.lemmas.Bool.{eqb-true, eq-eqb, true≢false, and_parts}
+use Rattle.std.proofs.lemmas.Option.{same_Some, none-some}
+use Rattle.qbase.specs.declared.errno.Errno.TheVariants.{Srch}
+use Rattle.qtables.specs.Entries.{entry_at}
+use Rattle.qtables.specs.Members.{member_at}
+use Rattle.qtables.specs.declared.connection.Connection.{Connection}
+use Rattle.qtables.specs.declared.member.Member.{Member}
+use Rattle.qkernel.specs.declared.call.Call.{Call}
+use Rattle.qkernel.specs.declared.call.Completion.{Completion}
+use Rattle.qkernel.specs.declared.call.Mark.TheVariants as mark
+use Rattle.qkernel.specs.declared.open_call.OpenCall.{OpenCall}
+use Rattle.qkernel.specs.declared.open_call.Wait.{Wait}
+use Rattle.qkernel.specs.declared.open_call.Wait.TheVariants.{Answer, Item as ForItem}
+use Rattle.qkernel.specs.declared.thread.Thread.{Thread}
+use Rattle.qkernel.specs.Answer.{row_of, failed}
+use Rattle.qkernel.specs.Channels.{channel_in}
+use Rattle.qkernel.specs.Endings.{in_order}
+use Rattle.qkernel.specs.Facts.{is_send, sender, sender_among, threads_of}
+use Rattle.qkernel.specs.Held.{Finish, ends_sender, finished, finished_with, is_held_for, owns_end, refusal}
+use Rattle.qkernel.specs.HeldIn.{leads_to_own, is_held_over, is_held_in}
+use Rattle.qkernel.specs.State.{State, IsSound, facts_in}
+use Rattle.qkernel.specs.Stands.{Steps}
+use Rattle.qkernel.specs.Step.{unless}
+use Rattle.qkernel.specs.Threads.{members_of, open_in, held_over_in, sender_in, sent_call, SetsOpen}
+use Rattle.qkernel.proofs.Rosters.{rises, among, is_among, filter_same, two_hits, cond_same}
+use Rattle.qkernel.proofs.Steps.Common.{counted, step_refused_alone, owned_by_member}
+
+module _ (s : State) (t : ℕ) (m : Member) (i : ℕ) (sound : IsSound s) (known : member_at (members_of s.threads) t ≡ Some m) where
+  is_own_end : (o : Option Connection) → owns_end (facts_in s) t o ≡ leads_to_own s.channels m.process o
+  is_own_end None = refl
+  is_own_end (Some c) = owned_by_member (facts_in s) t m (channel_in s.channels c.channel) known
+
+  held_same : (o : Option OpenCall) → is_held_for (facts_in s) t o ≡ is_held_over s.connections s.channels m.process (held_over_in o)
+  held_same None = refl
+  held_same (Some o) = by_wait o.number o.wait where
+    by_wait : (n : ℕ) (w : Wait) → is_held_for (facts_in s) t (Some (record { number = n; wait = w })) ≡ is_held_over s.connections s.channels m.process (held_over_in (Some (record { number = n; wait = w })))
+    by_wait n (Answer coid message reply_buffer (Some receipt)) = is_own_end (entry_at s.connections coid)
+    by_wait n (Answer coid message reply_buffer None) = refl
+    by_wait n (ForItem chid buffer) = refl
+
+  -- what the row tests is what the kernel finds
+  pub is_held : is_held_for (facts_in s) t (sent_call s.threads i) ≡ is_held_in s.threads s.connections s.channels m.process i
+  is_held = held_same (sent_call s.threads i)
+
+  -- refused where no message is held so
+  pub step_unheld : (c : Call) (X : List Completion) → (row_of (facts_in s) t c).refusal ≡ refusal (facts_in s) t i → open_in s.threads t ≡ None → is_held_in s.threads s.connections s.channels m.process i ≡ false
+      → X ≡ failed (facts_in s) t c Srch ∷ [] → Steps s t c X (counted s)
+  step_unheld c X row free none is = step_refused_alone s t c Srch X (inl (rw (free, row, is_held, none) refl)) is
+
+-- ---- the sender
+
+sends : (threads : List Thread) (i u : ℕ) → sender_in threads i ≡ Some u → is_send i (open_in threads u) ≡ true
+sends threads i u e = found (threads_of (members_of threads)) e where
+  found : (ts : List ℕ) → sender_among (open_in threads) i ts ≡ Some u → is_send i (open_in threads u) ≡ true
+  found [] e = absurd (none-some u e)
+  found (v ∷ ts) e = elim (is_send i (open_in threads v)) as (λ b. is_send i (open_in threads v) ≡ b → cond b (Some v) (sender_among (open_in threads) i ts) ≡ Some u → is_send i (open_in threads u) ≡ true) [
+    | true ↦ λ is e. subst (λ w. is_send i (open_in threads w) ≡ true) (same_Some v u e) is
+    | false ↦ λ is e. found ts e
+  ] refl e
+
+among_senders : (threads : List Thread) (i u : ℕ) → sender_in threads i ≡ Some u → is_among (threads_of (members_of threads)) u ≡ true
+among_senders threads i u e = found (threads_of (members_of threads)) e where
+  found : (ts : List ℕ) → sender_among (open_in threads) i ts ≡ Some u → is_among ts u ≡ true
+  found [] e = absurd (none-some u e)
+  found (v ∷ ts) e = elim (is_send i (open_in threads v)) as (λ b. cond b (Some v) (sender_among (open_in threads) i ts) ≡ Some u → is_among (v ∷ ts) u ≡ true) [
+    | true ↦ λ e. rw (eq-eqb v u (same_Some v u e)) refl
+    | false ↦ λ e. elim (eqb v u) as (λ b. (b || is_among ts u) ≡ true) [ true ↦ refl | false ↦ found ts e ]
+  ] e
+
+-- ---- an answer
+
+finished_some : (i : ℕ) (finish : Finish) (u : ℕ) (o : Option OpenCall) → is_send i o ≡ true → is_some (finished finish u o) ≡ true
+finished_some i finish u None e = absurd (true≢false (sym e))
+finished_some i finish u (Some o) e = by_wait o.wait e where
+  by_wait : (w : Wait) → is_send i (Some (record { number = o.number; wait = w })) ≡ true → is_some (finished finish u (Some (record { number = o.number; wait = w }))) ≡ true
+  by_wait (Answer coid message reply_buffer receipt) e = refl
+  by_wait (ForItem chid buffer) e = absurd (true≢false (sym (and_parts _ _ e).1))
+
+finished_thread : (finish : Finish) (u : ℕ) (o : Option OpenCall) (y : Completion) → finished finish u o ≡ Some y → y.thread ≡ u
+finished_thread finish u None y e = absurd (none-some y e)
+finished_thread finish u (Some o) y e = by_wait o.wait e where
+  by_wait : (w : Wait) → finished_with finish u o.number w ≡ Some y → y.thread ≡ u
+  by_wait (Answer coid message reply_buffer receipt) e = sym (ap (λ x. x.thread) (same_Some _ y e))
+  by_wait (ForItem chid buffer) e = absurd (none-some y e)
+
+-- the sender's call is a Send
+pub finished_there : (threads : List Thread) (i u : ℕ) (finish : Finish) (call : Option OpenCall) → sender_in threads i ≡ Some u → call ≡ open_in threads u → finished finish u call ≡ None → ⊥
+finished_there threads i u finish call is same none =
+    true≢false (sym (finished_some i finish u (open_in threads u) (sends threads i u is)) ∙ ap (λ o. is_some (finished finish u o)) (sym same) ∙ ap is_some none)
+
+module _ (s : State) (t : ℕ) (m : Member) (i : ℕ) (sound : IsSound s) (known : member_at (members_of s.threads) t ≡ Some m) (finish : Finish) (u : ℕ) (y : Completion) (free : open_in s.threads t ≡ None)
+    (is_sender : sender_in s.threads i ≡ Some u) (ended : finished finish u (open_in s.threads u) ≡ Some y) where
+  -- the ending of the call that answers
+  abbrev pub mine : Completion
+  mine = record { call = s.made + 1; thread = t; mark = mark.Ok; buffer = [] }
+
+  apart : t ≢ u
+  apart e = none-some y (sym (ap (finished finish u) (ap (open_in s.threads) (sym e) ∙ free)) ∙ ended)
+
+  -- the endings of the two threads
+  pub two_ended : (X : List Completion) → X ≡ in_order mine y → X ≡ filter_map (λ v. cond (eqb v t) (Some mine) (ends_sender (facts_in s) finish (sender (facts_in s) i) v)) (threads_of (members_of s.threads))
+  two_ended X is =
+      is ∙ ap (λ v. cond (ltb t v) (mine ∷ y ∷ []) (y ∷ mine ∷ [])) (finished_thread finish u (open_in s.threads u) y ended)
+      ∙ sym (filter_same (λ v. cond (eqb v t) (Some mine) (ends_sender (facts_in s) finish (sender (facts_in s) i) v)) (λ v. cond (eqb v t) (Some mine) (cond (eqb v u) (Some y) None)) (threads_of (members_of s.threads)) (λ v. rw is_sender
+      (ap (cond (eqb v t) (Some mine)) (elim (eqb v u) as (λ b. eqb v u ≡ b → cond b (finished finish v (open_in s.threads v)) None ≡ cond b (Some y) None) [
+        | true ↦ λ f. rw (eqb-true v u f) ended
+        | false ↦ λ f. refl
+      ] refl))) ∙ two_hits (threads_of (members_of s.threads)) t u mine y (rises (members_of s.threads) sound.roster) (among (members_of s.threads) t m known) (among_senders s.threads i u is_sender) apart)
+
+  -- the sender waits no more
+  pub answered_calls : (threads : List Thread) → SetsOpen u None s.threads threads → (v : ℕ)
+      → open_in threads v ≡ cond (eqb v t) None (unless (is_some (ends_sender (facts_in s) finish (sender (facts_in s) i) v)) (open_in s.threads v))
+  answered_calls threads takes v = rw is_sender (takes.open_call v ∙ (elim (eqb v t) as (λ b. eqb v t ≡ b → cond (eqb v u) None (open_in s.threads v)
+      ≡ cond b None (unless (is_some (cond (eqb v u) (finished finish v (open_in s.threads v)) None)) (open_in s.threads v))) [
+        | true ↦ λ e. let idle : open_in s.threads v ≡ None = ap (open_in s.threads) (eqb-true v t e) ∙ free in rw idle (cond_same (eqb v u) None)
+        | false ↦ λ e. elim (eqb v u) as (λ b. eqb v u ≡ b → cond b None (open_in s.threads v) ≡ unless (is_some (cond b (finished finish v (open_in s.threads v)) None)) (open_in s.threads v)) [
+          | true ↦ λ f. rw (eqb-true v u f, ended) refl
+          | false ↦ λ f. refl
+        ] refl
+      ] refl))

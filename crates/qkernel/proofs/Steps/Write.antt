@@ -1,0 +1,52 @@
+-- Write as a step of the kernel.
+use Rattle.std.proofs.Common.{◌≡◌, ℕ, ◌+◌, List, [], ◌∷◌, refl, ap, sym, ◌∙◌, cond, eqb, arith, true, false, append-nil}
+use Rattle.std.specs.Prelude.{None, Some}
+use Rattle.std.specs.Option.{option_map}
+use Rattle.std.proofs.lemmas.Bool.{eqb-true}
+use Rattle.qbase.specs.Laying.{laid_count}
+use Rattle.qtables.specs.Members.{member_at}
+use Rattle.qtables.specs.declared.member.Member.{Member}
+use Rattle.qkernel.specs.declared.call.Call.TheVariants.{Write}
+use Rattle.qkernel.specs.declared.call.Completion.{Completion}
+use Rattle.qkernel.specs.declared.call.Mark.TheVariants as mark
+use Rattle.qkernel.specs.declared.thread.Thread.{Thread}
+use Rattle.qkernel.specs.Held.{reply_buffer_in}
+use Rattle.qkernel.specs.HeldIn.{is_held_in}
+use Rattle.qkernel.specs.Step.{is_thread, written_call}
+use Rattle.qkernel.specs.State.{State, IsSound}
+use Rattle.qkernel.specs.Stands.{Steps}
+use Rattle.qkernel.specs.Threads.{members_of, open_in, sender_in, sent_call, ChangesSender}
+use Rattle.qkernel.proofs.Rosters.{among, only_own, rises, cond_same}
+use Rattle.qkernel.proofs.Steps.Held.{is_held}
+
+module _ (s : State) (t : ℕ) (m : Member) (i : ℕ) (sound : IsSound s) (known : member_at (members_of s.threads) t ≡ Some m) (free : open_in s.threads t ≡ None)
+    (held : is_held_in s.threads s.connections s.channels m.process i ≡ true) where
+  -- the caller waits for nothing, and the sender's buffer is written over
+  calls_after : (offset : ℕ) (bytes : List ℕ) (u : ℕ) → cond (is_thread (sender_in s.threads i) u) (option_map (written_call offset bytes) (open_in s.threads u)) (open_in s.threads u)
+      ≡ cond (eqb u t) None (cond (is_thread (sender_in s.threads i) u) (option_map (written_call offset bytes) (open_in s.threads u)) (open_in s.threads u))
+  calls_after offset bytes u = elim (eqb u t) as (λ b. eqb u t ≡ b → cond (is_thread (sender_in s.threads i) u) (option_map (written_call offset bytes) (open_in s.threads u)) (open_in s.threads u)
+      ≡ cond b None (cond (is_thread (sender_in s.threads i) u) (option_map (written_call offset bytes) (open_in s.threads u)) (open_in s.threads u))) [
+        | true ↦ λ e. let idle : open_in s.threads u ≡ None = ap (open_in s.threads) (eqb-true u t e) ∙ free in rw idle (cond_same (is_thread (sender_in s.threads i) u) None)
+        | false ↦ λ e. refl
+      ] refl
+
+  pub step_written : (offset : ℕ) (bytes : List ℕ) (threads : List Thread) (X : List Completion) → ChangesSender i (written_call offset bytes) s.threads threads
+      → X ≡ record { call = s.made + 1; thread = t; mark = mark.Count (laid_count (reply_buffer_in (sent_call s.threads i)) offset bytes); buffer = [] } ∷ []
+      → Steps s t (Write i offset bytes) X (record { made = s.made + 1; threads = threads; channels = s.channels; connections = s.connections })
+  step_written offset bytes threads X changes is = (
+    true,
+    record {
+      answer = (rw (free, is_held s t m i sound known, held) refl, is ∙ sym (only_own _ t _ (rises (members_of s.threads) sound.roster) (among (members_of s.threads) t m known)));
+      follows = record {
+        roster = changes.members;
+        number = refl;
+        channel = λ k. rw known refl;
+        open_channels = rw known (omega arith);
+        connection = λ k. rw known refl;
+        live_connections = rw known (omega arith);
+        open_call = λ u. changes.open_call u ∙ calls_after offset bytes u;
+        pending = λ k. sym (append-nil _);
+        priority = changes.priority;
+      };
+    },
+  )

@@ -1,0 +1,35 @@
+use Rattle.std.proofs.Common.{refl, sym, ap, ◌∙◌, w32}
+use Rattle.std.proofs.lemmas.Int.{to_z-of_z}
+use Rattle.qkernel.specs.declared.call.Call.TheVariants.{Error}
+use Rattle.qkernel.specs.Calls.Error.{errored}
+use Rattle.qkernel.specs.Held.{finished}
+use Rattle.qkernel.proofs.Steps.Held.{finished_there, step_unheld}
+use Rattle.qkernel.proofs.Steps.Error.{step_errored}
+use Rattle.qkernel.proofs.Steps.Send.{sound_threads}
+use Rattle.qkernel.proofs.kernel.Kernel.error.Goals as goal
+
+pub returns-in_default : goal.returns-in_default
+returns-in_default c =
+    let free = rw (← c.self.view_is) at c.requires.free in
+    let known = rw c.deref.ensures.value at c.member_of-process.ensures in
+    let none = rw c.deref-2.ensures.value at (sym c.in_default.ensures.held) in
+    rw (← c.self.view_is) (step_unheld _ c.args.thread c.member_of-process.result c.args.rcvid c.self.invariant known (Error c.args.rcvid c.args.code) _ refl free none (rw c.new.ensures at c.refuse.ensures))
+
+pub unreachable-requires : goal.unreachable-requires
+unreachable-requires c =
+    let is_sender = rw c.rcvid.view_is at c.take_sent-client.ensures.thread in
+    finished_there _ c.args.rcvid c.take_sent-client.result.0 (errored c.args.code) c.take_sent-client.result.1 is_sender c.take_sent-client.ensures.had
+    (rw (to_z-of_z w32 c.args.code c.ranges.code) at (sym c.errored_to.ensures ∙ c.in_default-errored_to.is))
+
+pub invariant_of-self-2 : goal.invariant_of-self-2
+invariant_of-self-2 c = sound_threads _ _ c.self.invariant c.take_sent-client.ensures.after.members
+
+pub returns : goal.returns
+returns c =
+    let free = rw (← c.self.view_is) at c.requires.free in
+    let known = rw c.deref.ensures.value at c.member_of-process.ensures in
+    let held = rw c.deref-2.ensures.value at (sym c.in-Some.ensures.held) in
+    let is_sender = rw c.rcvid.view_is at c.take_sent-client.ensures.thread in
+    let ended = ap (finished (errored c.args.code) c.take_sent-client.result.0) (sym c.take_sent-client.ensures.had) ∙ rw (to_z-of_z w32 c.args.code c.ranges.code) at (sym c.errored_to.ensures ∙ c.in-Some-errored_to.is) in
+    rw (← c.self.view_is) (step_errored _ c.args.thread c.member_of-process.result c.args.rcvid c.self.invariant known c.args.code c.take_sent-client.result.0 c.in-Some-errored_to.ended free held is_sender ended _ _
+    c.take_sent-client.ensures.after (rw c.new-2.ensures at c.end_two.ensures))

@@ -1,0 +1,27 @@
+use Rattle.std.proofs.Common.{◌≡◌, refl, sym, ap, ◌∙◌, Some}
+use Rattle.std.specs.Prelude.{position}
+use Rattle.qkernel.specs.Facts.{is_send, message_in}
+use Rattle.qkernel.specs.Threads.{message_from}
+use Rattle.qkernel.proofs.Senders.{message_there}
+use Rattle.qkernel.specs.declared.call.Call.TheVariants.{Read}
+use Rattle.qkernel.proofs.Steps.Held.{step_unheld}
+use Rattle.qkernel.proofs.Steps.Read.{step_read}
+use Rattle.qkernel.proofs.kernel.Kernel.read.Goals as goal
+
+pub returns-in_default : goal.returns-in_default
+returns-in_default c =
+    let free = rw (← c.self.view_is) at c.requires.free in
+    let known = rw c.deref.ensures.value at c.member_of-process.ensures in
+    let none = rw c.deref-2.ensures.value at (sym c.in_default.ensures.held) in
+    rw (← c.self.view_is) (step_unheld _ c.args.thread c.member_of-process.result c.args.rcvid c.self.invariant known (Read c.args.rcvid c.args.offset c.args.buffer) _ refl free none c.refuse.ensures)
+
+pub returns : goal.returns
+returns c =
+    let free = rw (← c.self.view_is) at c.requires.free in
+    let known = rw c.deref.ensures.value at c.member_of-process.ensures in
+    let held = rw c.deref-2.ensures.value at (sym c.in-Some.ensures.held) in
+    let at : position (λ t. is_send c.args.rcvid t.open_call) c.self.inside.threads.items ≡ Some c.in-Some.held = rw c.deref-2.ensures.value at c.in-Some.ensures.seat in
+    let message : c.message.result.now ≡ message_from c.self.inside.threads.items c.args.rcvid =
+    c.message.ensures ∙ ap (λ t. message_in t.open_call) c.index.ensures ∙ sym (message_there c.args.rcvid c.self.inside.threads.items c.in-Some.held c.index.result.now c.self.invariant.roster at) in
+    let ended = rw (c.take-copied.ensures.count, c.take-copied.ensures.after, message) at c.end_one.ensures in
+    rw (← c.self.view_is) (step_read _ c.args.thread c.member_of-process.result c.args.rcvid c.self.invariant known free held c.args.offset c.args.buffer _ ended)
