@@ -31,6 +31,8 @@ call that made them.
   THREAD read MESSAGE_NUMBER OFFSET BUFFER
   THREAD write MESSAGE_NUMBER OFFSET DATA
   THREAD info MESSAGE_NUMBER
+  THREAD receivepulse CHANNEL
+  THREAD pulse CONNECTION PRIORITY CODE VALUE
 
 Bytes are hexadecimal digits (0aff), so many equal ones (16x00), or - for none.
 Empty lines and lines that begin with # are passed over.

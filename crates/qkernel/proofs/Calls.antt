@@ -3,6 +3,8 @@ pub mod Alone
 pub mod Taking
 pub mod Held
 pub mod Answering
+pub mod Receiving
+pub mod Delivering
 pub mod ChannelCreate
 pub mod ConnectAttach
 pub mod Send
@@ -12,3 +14,5 @@ pub mod Error
 pub mod Read
 pub mod Write
 pub mod Info
+pub mod ReceivePulse
+pub mod Pulse

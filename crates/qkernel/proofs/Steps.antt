@@ -2,8 +2,10 @@
 pub mod Common
 pub mod ChannelCreate
 pub mod ConnectAttach
+pub mod Delivering
 pub mod Send
-pub mod Receive
+pub mod Pulse
+pub mod Receiving
 pub mod Held
 pub mod Reply
 pub mod Error

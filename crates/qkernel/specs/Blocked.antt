@@ -22,7 +22,7 @@ channel_over connection = option_map_or (λ c. c.channel) connection 0
 abbrev pub state_of : (ℕ → Option Connection) → Wait → ThreadState
 state_of connection (Answer coid message reply_buffer None) = SendBlocked (channel_over (connection coid))
 state_of connection (Answer coid message reply_buffer (Some receipt)) = ReplyBlocked (channel_over (connection coid))
-state_of connection (ForItem chid buffer) = ReceiveBlocked chid
+state_of connection (ForItem chid kind buffer) = ReceiveBlocked chid
 
 -- what is told of a thread, if it has an open call
 abbrev pub told_of : (ℕ → Option Connection) → ℕ → Option OpenCall → Option Blocked

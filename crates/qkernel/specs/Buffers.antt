@@ -1,7 +1,7 @@
 -- The buffer that a call brings.
 use Rattle.std.specs.Prelude.{ℕ, List, []}
 use Rattle.qkernel.specs.declared.call.Call.{Call}
-use Rattle.qkernel.specs.declared.call.Call.TheVariants.{ChannelCreate, ConnectAttach, Send, Receive, Reply, Error, Read, Write, Info}
+use Rattle.qkernel.specs.declared.call.Call.TheVariants.{ChannelCreate, ConnectAttach, Send, Receive, Reply, Error, Read, Write, Info, ReceivePulse, Pulse}
 
 -- a Send brings its reply buffer, a Receive and a Read their buffer; any other call has none
 abbrev pub buffer_of : Call → List ℕ
@@ -14,3 +14,5 @@ buffer_of (Error rcvid code) = []
 buffer_of (Read rcvid offset buffer) = buffer
 buffer_of (Write rcvid offset bytes) = []
 buffer_of (Info rcvid) = []
+buffer_of (ReceivePulse chid) = []
+buffer_of (Pulse coid priority code value) = []

@@ -8,3 +8,5 @@ pub mod Error
 pub mod Read
 pub mod Write
 pub mod Info
+pub mod ReceivePulse
+pub mod Pulse

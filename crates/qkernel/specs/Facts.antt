@@ -68,7 +68,7 @@ way f t k = leads_to f t (f.connection k)
 -- the thread waits for an answer, and not for an item
 abbrev pub is_for_answer : Wait → Bool
 is_for_answer (Answer coid message reply_buffer receipt) = true
-is_for_answer (ForItem chid buffer) = false
+is_for_answer (ForItem chid kind buffer) = false
 
 -- the open call is the Send of number i
 abbrev pub is_send : ℕ → Option OpenCall → Bool
@@ -87,7 +87,7 @@ sender f i = sender_among f.open_call i (threads_of f.roster)
 -- the message whose answer is waited for
 abbrev pub message_of : Wait → List ℕ
 message_of (Answer coid message reply_buffer receipt) = message
-message_of (ForItem chid buffer) = []
+message_of (ForItem chid kind buffer) = []
 
 -- the message of a Send that is open
 abbrev pub message_in : Option OpenCall → List ℕ

@@ -22,7 +22,7 @@ owns_end f t (Some c) = owns f t c.channel
 abbrev pub is_held_by : Facts → ℕ → Wait → Bool
 is_held_by f t (Answer coid message reply_buffer (Some receipt)) = owns_end f t (f.connection coid)
 is_held_by f t (Answer coid message reply_buffer None) = false
-is_held_by f t (ForItem chid buffer) = false
+is_held_by f t (ForItem chid kind buffer) = false
 
 -- the same of a thread's open call, if it has one
 abbrev pub is_held_for : Facts → ℕ → Option OpenCall → Bool
@@ -43,7 +43,7 @@ Finish = List ℕ → Mark × List ℕ
 abbrev pub finished_with : Finish → ℕ → ℕ → Wait → Option Completion
 finished_with finish u m (Answer coid message reply_buffer receipt) =
     Some (record { call = m; thread = u; mark = (finish reply_buffer).0; buffer = (finish reply_buffer).1 })
-finished_with finish u m (ForItem chid buffer) = None
+finished_with finish u m (ForItem chid kind buffer) = None
 
 -- the same of a thread's open call, if it has one
 abbrev pub finished : Finish → ℕ → Option OpenCall → Option Completion
@@ -60,7 +60,7 @@ ends_sender f finish (Some s) u = if u == s then finished finish u (f.open_call 
 -- the reply buffer of a wait for an answer
 abbrev pub reply_buffer_of : Wait → List ℕ
 reply_buffer_of (Answer coid message reply_buffer receipt) = reply_buffer
-reply_buffer_of (ForItem chid buffer) = []
+reply_buffer_of (ForItem chid kind buffer) = []
 
 -- the reply buffer of a Send that is open
 abbrev pub reply_buffer_in : Option OpenCall → List ℕ

@@ -78,13 +78,13 @@ OpenIsUnended = (roster : List Member) (past : Trace) → IsRoster roster → Is
 abbrev pub is_for_receipt : Wait → Bool
 is_for_receipt (Answer coid message reply_buffer None) = true
 is_for_receipt (Answer coid message reply_buffer (Some receipt)) = false
-is_for_receipt (ForItem chid buffer) = false
+is_for_receipt (ForItem chid kind buffer) = false
 
 -- a wait for the answer to a message that is received
 abbrev pub is_for_reply : Wait → Bool
 is_for_reply (Answer coid message reply_buffer None) = false
 is_for_reply (Answer coid message reply_buffer (Some receipt)) = true
-is_for_reply (ForItem chid buffer) = false
+is_for_reply (ForItem chid kind buffer) = false
 
 -- the items of a channel are pending in rising number
 abbrev pub PendingRises : Type 0

@@ -4,6 +4,8 @@ pub mod Kept
 pub mod Facts
 pub mod Rows
 pub mod Held
+pub mod Receiving
+pub mod Delivering
 pub mod Receivers
 pub mod Calls
 pub mod Answer

@@ -8,7 +8,7 @@ use Rattle.qtables.specs.Members.{member_at}
 use Rattle.qtables.specs.declared.connection.Connection.{Connection}
 use Rattle.qtables.specs.declared.member.Member.{Member}
 use Rattle.qkernel.specs.declared.call.Call.{Call}
-use Rattle.qkernel.specs.declared.call.Call.TheVariants.{ChannelCreate, ConnectAttach, Send, Receive, Reply, Error, Read, Write, Info}
+use Rattle.qkernel.specs.declared.call.Call.TheVariants.{ChannelCreate, ConnectAttach, Send, Receive, Reply, Error, Read, Write, Info, ReceivePulse, Pulse}
 use Rattle.qkernel.specs.declared.call.Completion.{Completion}
 use Rattle.qkernel.specs.declared.call.Mark.{Mark}
 use Rattle.qkernel.specs.declared.call.Mark.TheVariants as mark
@@ -33,6 +33,7 @@ is_failure (mark.Message rcvid copied) = false
 is_failure (mark.Errored code) = false
 is_failure (mark.Count copied) = false
 is_failure (mark.Info info) = false
+is_failure (mark.Pulse item priority what) = false
 
 -- these endings refuse call n: one is of n itself, and a failure
 abbrev pub refuses : List Completion → ℕ → Bool
@@ -74,6 +75,8 @@ creates (Some m) (Error rcvid code) = None
 creates (Some m) (Read rcvid offset buffer) = None
 creates (Some m) (Write rcvid offset bytes) = None
 creates (Some m) (Info rcvid) = None
+creates (Some m) (ReceivePulse chid) = None
+creates (Some m) (Pulse coid priority code value) = None
 
 -- the open channel h: an accepted ChannelCreate has that number
 abbrev pub channel_at : List Member → Trace → ℕ → Option OpenChannel
@@ -95,6 +98,8 @@ attaches (Some m) (Error rcvid code) = None
 attaches (Some m) (Read rcvid offset buffer) = None
 attaches (Some m) (Write rcvid offset bytes) = None
 attaches (Some m) (Info rcvid) = None
+attaches (Some m) (ReceivePulse chid) = None
+attaches (Some m) (Pulse coid priority code value) = None
 
 -- the live connection k: an accepted ConnectAttach has that number
 abbrev pub connection_at : List Member → Trace → ℕ → Option Connection
@@ -178,7 +183,7 @@ newest_block (e ∷ past) t =
 -- a wait for an answer with what is kept of the message's receipt
 abbrev pub held_with : Receipt → Wait → Wait
 held_with receipt (Answer coid message reply_buffer before) = Answer coid message reply_buffer (Some receipt)
-held_with receipt (ForItem chid buffer) = ForItem chid buffer
+held_with receipt (ForItem chid kind buffer) = ForItem chid kind buffer
 
 -- a reply buffer of message i with the data of each accepted Write to it, in order
 abbrev pub with_writes : Trace → ℕ → List ℕ → List ℕ

@@ -1,12 +1,14 @@
 -- What a row of the table of calls says, and what the rows share.
-use Rattle.std.specs.Prelude.{ℕ, ◌==◌, Bool, List, Option, None, Some, if◌then◌else◌}
+use Rattle.std.specs.Prelude.{ℕ, ℤ, ◌==◌, Bool, List, [], Option, None, Some, if◌then◌else◌}
 use Rattle.qbase.specs.Laying.{laid_count, lay_over}
 use Rattle.qbase.specs.declared.errno.Errno.{Errno}
 use Rattle.qqueue.specs.declared.item.Item.{Item}
-use Rattle.qqueue.specs.declared.item.What.TheVariants.{Message}
+use Rattle.qqueue.specs.Best.{is_pulse}
+use Rattle.qqueue.specs.declared.item.Kind.TheVariants.{Any, PulseOnly}
+use Rattle.qqueue.specs.declared.item.What.TheVariants.{Message, User}
 use Rattle.qtables.specs.declared.connection.Connection.{Connection}
 use Rattle.qkernel.specs.declared.call.Call.{Call}
-use Rattle.qkernel.specs.declared.call.Call.TheVariants.{ChannelCreate, ConnectAttach, Send, Receive, Reply, Error, Read, Write, Info}
+use Rattle.qkernel.specs.declared.call.Call.TheVariants.{ChannelCreate, ConnectAttach, Send, Receive, Reply, Error, Read, Write, Info, ReceivePulse, Pulse}
 use Rattle.qkernel.specs.declared.call.Completion.{Completion}
 use Rattle.qkernel.specs.declared.call.Mark.{Mark}
 use Rattle.qkernel.specs.declared.call.Mark.TheVariants as mark
@@ -46,7 +48,7 @@ ends_none u = None
 -- what a call waits for where it doesn't end in its own event
 abbrev pub asks : ℕ → Call → Option OpenCall
 asks n (Send coid message reply_buffer) = Some (record { number = n; wait = Answer coid message reply_buffer None })
-asks n (Receive chid buffer) = Some (record { number = n; wait = ForItem chid buffer })
+asks n (Receive chid buffer) = Some (record { number = n; wait = ForItem chid Any buffer })
 asks n (ChannelCreate flags) = None
 asks n (ConnectAttach chid) = None
 asks n (Reply rcvid status bytes) = None
@@ -54,17 +56,28 @@ asks n (Error rcvid code) = None
 asks n (Read rcvid offset buffer) = None
 asks n (Write rcvid offset bytes) = None
 asks n (Info rcvid) = None
+asks n (ReceivePulse chid) = Some (record { number = n; wait = ForItem chid PulseOnly [] })
+asks n (Pulse coid priority code value) = None
 
 -- ---- items
 
--- the message that a Send makes: of the sender's priority, on the connection's channel
-abbrev pub sent_over : Option Connection → ℕ → ℕ → Option Made
-sent_over None n priority = None
-sent_over (Some c) n priority = Some (record { item = record { number = n; priority = priority; what = Message }; channel = c.channel })
+-- the item that is sent over a connection, to its channel
+abbrev pub sent_over : Option Connection → Item → Option Made
+sent_over None item = None
+sent_over (Some c) item = Some (record { item = item; channel = c.channel })
 
--- the item that a call makes, by the connections and the priorities before it
+-- a message of this number and priority
+abbrev pub message_item : ℕ → ℕ → Item
+message_item n priority = record { number = n; priority = priority; what = Message }
+
+-- a user's pulse of this number and priority
+abbrev pub pulse_item : ℕ → ℕ → ℤ → ℤ → Item
+pulse_item n priority code value = record { number = n; priority = priority; what = User code value }
+
+-- the item that a call makes, by the connections and the priorities before it: a Send a message of its thread's priority, a Pulse a pulse of
+-- the priority that is given
 abbrev pub makes : (ℕ → Option Connection) → (ℕ → ℕ) → ℕ → ℕ → Call → Option Made
-makes connection priority n t (Send coid message reply_buffer) = sent_over (connection coid) n (priority t)
+makes connection priority n t (Send coid message reply_buffer) = sent_over (connection coid) (message_item n (priority t))
 makes connection priority n t (Receive chid buffer) = None
 makes connection priority n t (ChannelCreate flags) = None
 makes connection priority n t (ConnectAttach chid) = None
@@ -73,6 +86,8 @@ makes connection priority n t (Error rcvid code) = None
 makes connection priority n t (Read rcvid offset buffer) = None
 makes connection priority n t (Write rcvid offset bytes) = None
 makes connection priority n t (Info rcvid) = None
+makes connection priority n t (ReceivePulse chid) = None
+makes connection priority n t (Pulse coid level code value) = sent_over (connection coid) (pulse_item n level code value)
 
 -- ---- writing
 
@@ -93,6 +108,8 @@ writes (Reply rcvid status bytes) = None
 writes (Error rcvid code) = None
 writes (Read rcvid offset buffer) = None
 writes (Info rcvid) = None
+writes (ReceivePulse chid) = None
+writes (Pulse coid priority code value) = None
 
 -- the reply buffer of message i with what is written over it
 abbrev pub written_over : Option Written → ℕ → List ℕ → List ℕ
@@ -102,22 +119,31 @@ written_over (Some w) i b = if w.message == i then lay_over b w.offset w.bytes e
 -- a wait with its reply buffer changed
 abbrev pub with_buffer : (List ℕ → List ℕ) → Wait → Wait
 with_buffer f (Answer coid message reply_buffer receipt) = Answer coid message (f reply_buffer) receipt
-with_buffer f (ForItem chid buffer) = ForItem chid buffer
+with_buffer f (ForItem chid kind buffer) = ForItem chid kind buffer
 
 -- ---- receipts
 
--- how the open call of number m ends, of thread u, that takes the message of number i into what it waits with
-abbrev pub takes_into : ℕ → List ℕ → ℕ → ℕ → Wait → Option Completion
-takes_into i message u m (Answer coid sent reply_buffer receipt) = None
-takes_into i message u m (ForItem chid buffer) =
-    Some (record { call = m; thread = u; mark = mark.Message i (laid_count buffer 0 message); buffer = lay_over buffer 0 message })
+-- how a receive ends that takes an item into its buffer: a message is laid over the front, with that count; a pulse stands in the mark alone
+abbrev pub given : Item → List ℕ → List ℕ → Mark × List ℕ
+given item message buffer =
+    if is_pulse item.what then (mark.Pulse item.number item.priority item.what, buffer)
+    else (mark.Message item.number (laid_count buffer 0 message), lay_over buffer 0 message)
 
--- how the open call of thread u ends that takes the message of number i
-abbrev pub takes : ℕ → List ℕ → ℕ → Option OpenCall → Option Completion
-takes i message u None = None
-takes i message u (Some o) = takes_into i message u o.number o.wait
+-- the ending of call m of thread u that takes the item so
+abbrev pub taking : Item → List ℕ → ℕ → ℕ → List ℕ → Completion
+taking item message u m buffer = record { call = m; thread = u; mark = (given item message buffer).0; buffer = (given item message buffer).1 }
 
--- the number of the message that an ending receives, and how many bytes were copied
+-- how the open call of number m ends, of thread u, that takes the item into what it waits with
+abbrev pub takes_into : Item → List ℕ → ℕ → ℕ → Wait → Option Completion
+takes_into item message u m (Answer coid sent reply_buffer receipt) = None
+takes_into item message u m (ForItem chid kind buffer) = Some (taking item message u m buffer)
+
+-- how the open call of thread u ends that takes the item
+abbrev pub takes : Item → List ℕ → ℕ → Option OpenCall → Option Completion
+takes item message u None = None
+takes item message u (Some o) = takes_into item message u o.number o.wait
+
+-- the number of the item that an ending receives, and how many bytes were copied, none of a pulse
 abbrev pub received : Mark → Option (ℕ × ℕ)
 received (mark.Message rcvid copied) = Some (rcvid, copied)
 received mark.Ok = None
@@ -128,13 +154,14 @@ received (mark.Replied status copied) = None
 received (mark.Errored code) = None
 received (mark.Count copied) = None
 received (mark.Info info) = None
+received (mark.Pulse item priority what) = Some (item, 0)
 
--- the receipt that thread u makes of a message of this channel, sender and priority
+-- the receipt that thread u makes of an item of this channel, sender and priority
 abbrev pub receipt_at : ℕ → Option ℕ → ℕ → ℕ → Option (ℕ × ℕ) → Option Received
 receipt_at h sender priority u None = None
 receipt_at h sender priority u (Some r) = Some (record { item = r.0; channel = h; by = u; sender = sender; kept = record { priority = priority; copied = r.1 } })
 
--- the receipt that an ending is, of a message of this channel, sender and priority
+-- the receipt that an ending is, of an item of this channel, sender and priority
 abbrev pub receipt_in : ℕ → Option ℕ → ℕ → Option Completion → Option Received
 receipt_in h sender priority None = None
 receipt_in h sender priority (Some y) = receipt_at h sender priority y.thread (received y.mark)

@@ -1,14 +1,16 @@
 -- The threads of a kernel, one after another.
-use Rattle.std.specs.Prelude.{◌≡◌, ℕ, ◌+◌, ◌==◌, List, [], ◌∷◌, map, position, is_some, Option, None, Some, if◌then◌else◌}
+use Rattle.std.specs.Prelude.{◌≡◌, ℕ, ◌+◌, ◌==◌, Bool, true, false, List, [], ◌∷◌, map, position, is_some, Option, None, Some, if◌then◌else◌}
 use Rattle.std.specs.Option.{option_map, option_and_then}
+use Rattle.qqueue.specs.declared.item.Item.{Item}
 use Rattle.qtables.specs.declared.member.Member.{Member}
 use Rattle.qkernel.specs.declared.open_call.OpenCall.{OpenCall}
+use Rattle.qkernel.specs.declared.open_call.Receipt.{Receipt}
 use Rattle.qkernel.specs.declared.open_call.Wait.{Wait}
 use Rattle.qkernel.specs.declared.open_call.Wait.TheVariants.{Answer, Item as ForItem}
 use Rattle.qkernel.specs.declared.thread.Thread.{Thread}
 use Rattle.qkernel.specs.Facts.{threads_of, sender_among, message_in}
 use Rattle.qkernel.specs.Receivers.{later_of}
-use Rattle.qkernel.specs.Step.{is_thread}
+use Rattle.qkernel.specs.Step.{held_call, is_thread}
 
 -- the roster
 abbrev pub members_of : List Thread → List Member
@@ -38,13 +40,13 @@ abbrev pub ready : Member → Thread
 ready m = record { member = m; priority = m.priority; open_call = None }
 
 -- the later of the best receiver so far and a thread
-abbrev pub later_by : ℕ → Option (ℕ × ℕ) → Thread → Option (ℕ × ℕ)
-later_by h best t = later_of h best t.member.thread t.open_call
+abbrev pub later_by : ℕ → Item → Option (ℕ × ℕ) → Thread → Option (ℕ × ℕ)
+later_by h item best t = later_of h item best t.member.thread t.open_call
 
--- the receiver that began last
-abbrev pub newest_by : ℕ → Option (ℕ × ℕ) → List Thread → Option (ℕ × ℕ)
-newest_by h best [] = best
-newest_by h best (t ∷ threads) = newest_by h (later_by h best t) threads
+-- the receiver that may take the item and began last
+abbrev pub newest_by : ℕ → Item → Option (ℕ × ℕ) → List Thread → Option (ℕ × ℕ)
+newest_by h item best [] = best
+newest_by h item best (t ∷ threads) = newest_by h item (later_by h item best t) threads
 
 -- thread u has this open call, and all else is as it was
 pub record SetsOpen (u : ℕ) (o : Option OpenCall) (old new : List Thread) : Type 0 where
@@ -56,7 +58,7 @@ pub record SetsOpen (u : ℕ) (o : Option OpenCall) (old new : List Thread) : Ty
 abbrev pub held_over_by : Wait → Option ℕ
 held_over_by (Answer coid message reply_buffer (Some receipt)) = Some coid
 held_over_by (Answer coid message reply_buffer None) = None
-held_over_by (ForItem chid buffer) = None
+held_over_by (ForItem chid kind buffer) = None
 
 -- the same of a thread's open call, if it has one
 abbrev pub held_over_in : Option OpenCall → Option ℕ
@@ -80,3 +82,8 @@ pub record ChangesSender (i : ℕ) (change : OpenCall → OpenCall) (old new : L
   pub members : members_of new ≡ members_of old
   pub open_call : (v : ℕ) → open_in new v ≡ (if is_thread (sender_in old i) v then option_map change (open_in old v) else open_in old v)
   pub priority : (v : ℕ) → level_in new v ≡ level_in old v
+
+-- the sender of a message that is received keeps its receipt, and a pulse changes nothing
+abbrev pub HandsOver : Bool → ℕ → Receipt → List Thread → List Thread → Type 0
+HandsOver true i kept old new = new ≡ old
+HandsOver false i kept old new = ChangesSender i (held_call kept) old new

@@ -3,6 +3,7 @@
 ghost use Rattle.std.specs.Prelude.{◌≡◌, ◌==◌, ◌+◌, ◌≤◌, ◌<◌, ◌++◌, ◌∷◌, [], is_some, true, OnOk, OnErr, IfErr, IfSome, IfNone};
 ghost use Rattle.std.specs.List.{AllByRecursion};
 ghost use Rattle.qqueue.specs.Best.{best_of, without};
+ghost use Rattle.qkernel.specs.Calls.Pulse.{pulses_among};
 ghost use Rattle.qkernel.specs.Channels.{channel_in, pending_in, is_of, way_in, SetsItems};
 ghost use Rattle.qtables.specs.Entries.{entry_at};
 
@@ -55,6 +56,16 @@ pub fn way(
         Some(connection.channel)
     } else {
         None
+    }
+}
+
+/// How many pulses wait on a channel.
+pub fn pulses_on(channels: &Channels<Channel>, chid: ChannelId) -> usize
+    ensures { result ≡ pulses_among (pending_in channels.now chid) }
+{
+    match channels.get(chid) {
+        None => 0,
+        Some(channel) => channel.queue.pulses(),
     }
 }
 

@@ -9,8 +9,10 @@ mod channel_create;
 mod connect_attach;
 mod error;
 mod info;
+mod pulse;
 mod read;
 mod receive;
+mod receive_pulse;
 mod reply;
 mod send;
 mod write;
@@ -113,6 +115,13 @@ impl Kernel {
                 bytes,
             } => self.write(seat, thread, rcvid, offset, bytes, endings),
             Call::Info(rcvid) => self.info(seat, thread, rcvid, endings),
+            Call::ReceivePulse(chid) => self.receive_pulse(seat, thread, chid, endings),
+            Call::Pulse {
+                coid,
+                priority,
+                code,
+                value,
+            } => self.pulse(seat, thread, coid, priority, code, value, endings),
         }
     }
 

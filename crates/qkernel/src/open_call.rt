@@ -4,6 +4,7 @@ use qbase::bytes::Bytes;
 use qbase::ids::{ChannelId, ConnectionId, ThreadNo};
 use qbase::priority::Priority;
 use qbase::state::ThreadState;
+use qqueue::item::Kind;
 
 /// What is kept of a message's receipt.
 #[derive(Clone, Copy, Debug, PartialEq, Eq)]
@@ -24,9 +25,10 @@ pub enum Wait {
         reply_buffer: Bytes,
         receipt: Option<Receipt>,
     },
-    /// For a message or a pulse: RECEIVE-blocked.
+    /// For an item of this kind: RECEIVE-blocked.
     Item {
         chid: ChannelId,
+        kind: Kind,
         buffer: Bytes,
     },
 }

@@ -3,15 +3,19 @@
 ghost use Rattle.std.specs.Prelude.{◌≡◌, ◌==◌, ◌<◌, ◌≤◌, Some, None, is_some, position, length, option_map, IfOk, map};
 ghost use Rattle.qbase.specs.Laying.{laid_count, lay_over};
 ghost use Rattle.qtables.specs.Members.{member_at, IsRoster};
+ghost use Rattle.qqueue.specs.Best.{is_pulse};
 ghost use Rattle.qkernel.specs.Facts.{is_send, message_in};
+ghost use Rattle.qkernel.specs.Rows.{given};
 ghost use Rattle.qkernel.specs.Step.{held_call};
-ghost use Rattle.qkernel.specs.Threads.{members_of, open_in, seat_in, level_in, ready, newest_by, later_by, held_over_in, message_from, SetsOpen, ChangesSender};
+ghost use Rattle.qkernel.specs.Threads.{members_of, open_in, seat_in, level_in, ready, newest_by, later_by, held_over_in, message_from, SetsOpen, ChangesSender, HandsOver};
 ghost use Rattle.qkernel.specs.Receivers.{wait_on};
 
+use crate::call::Mark;
 use crate::open_call::{OpenCall, Receipt, Wait};
 use qbase::bytes::Bytes;
-use qbase::ids::{ChannelId, ConnectionId, ThreadNo};
+use qbase::ids::{ChannelId, ConnectionId, ReceiveId, ThreadNo};
 use qbase::priority::Priority;
+use qqueue::item::Item;
 use qtables::member::Member;
 use std::alloc::{AllocError, Global};
 use std::mem;
@@ -127,6 +131,28 @@ pub fn hand_over(
     }
 }
 
+/// Hands an item over to a receive: lays a message over the front of its buffer and keeps the receipt with
+/// the sender; a pulse changes neither. Answers the mark of the receive's ending.
+pub fn hand_item(threads: &mut Vec<Thread>, item: Item, buffer: &mut Bytes) -> Mark
+    requires { IsRoster (members_of threads.old.items) }
+    ensures kept { HandsOver (is_pulse item.what) item.number (record { priority = item.priority; copied = laid_count buffer.old 0 (message_from threads.old.items item.number) }) threads.old.items threads.new.items }
+    ensures mark { result ≡ (given item (message_from threads.old.items item.number) buffer.old).0 }
+    ensures buffer { buffer.new ≡ (given item (message_from threads.old.items item.number) buffer.old).1 }
+{
+    if item.what.is_pulse() {
+        return Mark::Pulse {
+            item: item.number,
+            priority: item.priority,
+            what: item.what,
+        };
+    }
+    let copied = hand_over(threads, item.number, item.priority, buffer);
+    Mark::Message {
+        rcvid: ReceiveId(item.number),
+        copied,
+    }
+}
+
 impl Thread {
     /// Whether its open call is the Send of this number.
     pub fn sends(&self, number: u64) -> bool
@@ -190,15 +216,17 @@ pub fn sender_seat(threads: &[Thread], number: u64) -> Option<usize>
     threads.iter().position(|t| t.sends(number))
 }
 
-/// The later of the best receiver so far and a thread, where that waits on the channel.
+/// The later of the best receiver so far and a thread, where that waits on the channel and may take the
+/// item.
 fn later(
     best: Option<(u64, ThreadNo)>,
     thread: &Thread,
     channel: ChannelId,
+    item: &Item,
 ) -> Option<(u64, ThreadNo)>
-    ensures { result ≡ later_by channel best thread.now }
+    ensures { result ≡ later_by channel item.now best thread.now }
 {
-    let Some(number) = waits_on(thread, channel) else {
+    let Some(number) = waits_on(thread, channel, item) else {
         return best;
     };
     match best {
@@ -213,24 +241,31 @@ fn later(
     }
 }
 
-/// The number of a thread's open call, where that waits for an item of the channel.
-fn waits_on(thread: &Thread, channel: ChannelId) -> Option<u64>
-    ensures { result ≡ wait_on channel thread.now.open_call }
+/// The number of a thread's open call, where that waits for an item of the channel and may take this one.
+fn waits_on(thread: &Thread, channel: ChannelId, item: &Item) -> Option<u64>
+    ensures { result ≡ wait_on channel item.now thread.now.open_call }
 {
     let call = thread.open_call.as_ref()?;
     match &call.wait {
-        Wait::Item { chid, .. } if *chid == channel => Some(call.number),
+        Wait::Item { chid, kind, .. } if *chid == channel && kind.may_take(item) => {
+            Some(call.number)
+        }
         _ => None,
     }
 }
 
-/// The receiver on a channel that began to wait last: the number of its call, and its thread.
-pub fn newest_receiver(threads: &[Thread], channel: ChannelId) -> Option<(u64, ThreadNo)>
-    ensures { result ≡ newest_by channel None threads.now }
+/// The receiver on a channel that may take an item and began to wait last: the number of its call, and its
+/// thread.
+pub fn newest_receiver(
+    threads: &[Thread],
+    channel: ChannelId,
+    item: &Item,
+) -> Option<(u64, ThreadNo)>
+    ensures { result ≡ newest_by channel item.now None threads.now }
 {
     let mut best = None;
     for thread in threads {
-        best = later(best, thread, channel);
+        best = later(best, thread, channel, item);
     }
     best
 }

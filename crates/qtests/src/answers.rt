@@ -1,8 +1,8 @@
 //! Calls that do what they say.
 
 use crate::making::{
-    attach, brings, channel, connected, connection, create, kernel, message, receive, replied,
-    reply, send,
+    attach, brings, channel, connected, connection, create, error, info, kernel, message, pulse,
+    read, receive, receive_pulse, replied, reply, send, write,
 };
 use arrayvec::ArrayVec;
 use qbase::ids::ThreadNo;
@@ -124,6 +124,12 @@ fn calls_are_copied_and_give_their_buffer(rt: HostRuntime) -> Result<(), Fail> {
     calls.push((send(alloc, 2, b"message", b"buffer")?, b"buffer"))?;
     calls.push((receive(alloc, 1, b"buffer")?, b"buffer"))?;
     calls.push((reply(alloc, 3, 0, b"bytes")?, b""))?;
+    calls.push((error(3, -1), b""))?;
+    calls.push((read(alloc, 3, 7, b"buffer")?, b"buffer"))?;
+    calls.push((write(alloc, 3, 8, b"bytes")?, b""))?;
+    calls.push((info(3), b""))?;
+    calls.push((receive_pulse(1), b""))?;
+    calls.push((pulse(2, 9, 1, -1)?, b""))?;
     for (call, buffer) in calls {
         let copy = call.copied(alloc)?;
         let text = format!(in alloc; "{call:?}")?;

@@ -10,4 +10,6 @@ mod held;
 #[cfg(test)]
 mod making;
 #[cfg(test)]
+mod pulses;
+#[cfg(test)]
 mod refusals;

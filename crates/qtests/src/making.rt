@@ -7,6 +7,7 @@ use qbase::ids::{ChannelId, ConnectionId, ProcessNo, ReceiveId, ThreadNo};
 use qbase::priority::Priority;
 use qkernel::call::{Call, Mark};
 use qkernel::kernel::Kernel;
+use qqueue::item::What;
 use qtables::roster::Roster;
 use std::alloc::{AllocError, Global};
 use std::process::Abort;
@@ -109,6 +110,28 @@ pub fn write(alloc: Global, rcvid: u64, offset: usize, bytes: &[u8]) -> Result<C
 
 pub fn info(rcvid: u64) -> Call {
     Call::Info(ReceiveId(rcvid))
+}
+
+pub fn receive_pulse(chid: u64) -> Call {
+    Call::ReceivePulse(ChannelId(chid))
+}
+
+pub fn pulse(coid: u64, level: u8, code: i8, value: i32) -> Result<Call, Fail> {
+    Ok(Call::Pulse {
+        coid: ConnectionId(coid),
+        priority: Priority::new(level).ok_or("no such priority")?,
+        code,
+        value,
+    })
+}
+
+/// The mark of a receipt of a user's pulse.
+pub fn told(item: u64, level: u8, code: i8, value: i32) -> Result<Mark, Fail> {
+    Ok(Mark::Pulse {
+        item,
+        priority: Priority::new(level).ok_or("no such priority")?,
+        what: What::User { code, value },
+    })
 }
 
 pub fn message(rcvid: u64, copied: usize) -> Mark {

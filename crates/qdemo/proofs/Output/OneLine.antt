@@ -11,6 +11,9 @@ use Rattle.qbase.specs.Errno.{word_of}
 use Rattle.qbase.specs.declared.state.ThreadState.{ThreadState}
 use Rattle.qbase.specs.declared.state.ThreadState.TheVariants.{Ready, SendBlocked, ReceiveBlocked, ReplyBlocked}
 use Rattle.qkernel.specs.declared.call.Completion.{Completion}
+use Rattle.qqueue.specs.declared.item.What.{What}
+use Rattle.qqueue.specs.declared.item.What.TheVariants.{Message, User, Unblock, Disconnect}
+use Rattle.qdemo.specs.Printing.Marks.Pulse.{pulse_words}
 use Rattle.qkernel.specs.declared.call.Mark.{Mark}
 use Rattle.qkernel.specs.declared.call.Mark.TheVariants as marks
 use Rattle.qkernel.specs.declared.open_call.Blocked.{Blocked}
@@ -103,6 +106,12 @@ error_word Exhausted = tested (word_of Exhausted) refl
 error_word TraceFull = tested (word_of TraceFull) refl
 error_word NoThread = tested (word_of NoThread) refl
 
+pulse_row : (item priority : ℕ) (what : What) → AllByRecursion IsOneLine (pulse_words item priority what)
+pulse_row item priority Message = (tested (codes "pulse") refl, (number item, (number priority, tt)))
+pulse_row item priority (User code value) = (tested (codes "pulse") refl, (number item, (number priority, (tested (codes "user") refl, (signed code, (signed value, tt))))))
+pulse_row item priority (Unblock message) = (tested (codes "pulse") refl, (number item, (number priority, (tested (codes "unblock") refl, (number message, tt)))))
+pulse_row item priority (Disconnect process) = (tested (codes "pulse") refl, (number item, (number priority, (tested (codes "disconnect") refl, (number process, tt)))))
+
 mark_row : (mark : Mark) → AllByRecursion IsOneLine (mark_words mark)
 unfolding mark_words
 mark_row marks.Ok = (tested (codes "ok") refl, tt)
@@ -115,6 +124,7 @@ mark_row (marks.Errored code) = (tested (codes "error") refl, (signed code, tt))
 mark_row (marks.Count copied) = (tested (codes "count") refl, (number copied, tt))
 mark_row (marks.Info i) =
     (tested (codes "info") refl, (number i.process, (number i.thread, (number i.connection, (number i.msglen, (number i.srcmsglen, (number i.dstmsglen, (number i.priority, tt))))))))
+mark_row (marks.Pulse item priority what) = pulse_row item priority what
 
 buffer_row : (bytes : List ℕ) → AllByRecursion IsOneLine (buffer_words bytes)
 buffer_row bytes = elim (length bytes == 0) as (λ b. IsOneLine (cond b (codes "-") (encode_lower bytes)) × Unit {0}) [

@@ -3,7 +3,7 @@ use Rattle.std.specs.Prelude.{ℕ, ◌+◌, ◌-◌, ◌&&◌, nat_le, Bool, tru
 use Rattle.std.specs.List.{flat_map}
 use Rattle.std.specs.Option.{option_map}
 use Rattle.qkernel.specs.declared.call.Call.{Call}
-use Rattle.qkernel.specs.declared.call.Call.TheVariants.{ChannelCreate, ConnectAttach, Send, Receive, Reply, Error, Read, Write, Info}
+use Rattle.qkernel.specs.declared.call.Call.TheVariants.{ChannelCreate, ConnectAttach, Send, Receive, Reply, Error, Read, Write, Info, ReceivePulse, Pulse}
 use Rattle.qkernel.specs.declared.call.Completion.{Completion}
 use Rattle.qkernel.specs.declared.open_call.Blocked.{Blocked}
 use Rattle.qkernel.specs.Trace.{Event, Run}
@@ -23,6 +23,8 @@ shows_buffer (Error rcvid code) = false
 shows_buffer (Read rcvid offset buffer) = true
 shows_buffer (Write rcvid offset bytes) = false
 shows_buffer (Info rcvid) = false
+shows_buffer (ReceivePulse chid) = false
+shows_buffer (Pulse coid priority code value) = false
 
 -- the call of this number, which is that of the event of this number, among a run's events up to another
 abbrev pub call_by : Run → ℕ → ℕ → Option Call

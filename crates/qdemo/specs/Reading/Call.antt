@@ -15,6 +15,8 @@ use Rattle.qdemo.specs.Reading.Forms.Error.{error_of}
 use Rattle.qdemo.specs.Reading.Forms.Read.{read_of}
 use Rattle.qdemo.specs.Reading.Forms.Write.{write_of}
 use Rattle.qdemo.specs.Reading.Forms.Info.{info_of}
+use Rattle.qdemo.specs.Reading.Forms.ReceivePulse.{receivepulse_of}
+use Rattle.qdemo.specs.Reading.Forms.Pulse.{pulse_of}
 
 -- the verb that a word is
 unfoldable pub verb_of : List ℕ → Option Verb
@@ -28,6 +30,8 @@ verb_of word =
     else if bytes_eq word (codes "read") then Some verbs.Read
     else if bytes_eq word (codes "write") then Some verbs.Write
     else if bytes_eq word (codes "info") then Some verbs.Info
+    else if bytes_eq word (codes "receivepulse") then Some verbs.ReceivePulse
+    else if bytes_eq word (codes "pulse") then Some verbs.Pulse
     else None
 
 -- the call of a verb and its operands
@@ -41,6 +45,8 @@ call_by (Some verbs.Error) operands = error_of operands
 call_by (Some verbs.Read) operands = read_of operands
 call_by (Some verbs.Write) operands = write_of operands
 call_by (Some verbs.Info) operands = info_of operands
+call_by (Some verbs.ReceivePulse) operands = receivepulse_of operands
+call_by (Some verbs.Pulse) operands = pulse_of operands
 call_by None operands = Err UnknownWord
 
 -- the call of a word and its operands

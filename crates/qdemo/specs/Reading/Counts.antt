@@ -18,6 +18,11 @@ abbrev pub three_of : List (List ℕ) → Result (List ℕ × List ℕ × List �
 three_of (a ∷ b ∷ c ∷ []) = Ok (a, b, c)
 three_of words = Err WordCount
 
+-- four words
+abbrev pub four_of : List (List ℕ) → Result (List ℕ × List ℕ × List ℕ × List ℕ) LineFault
+four_of (a ∷ b ∷ c ∷ d ∷ []) = Ok (a, b, c, d)
+four_of words = Err WordCount
+
 -- the first word and the others
 abbrev pub first_of : List (List ℕ) → Result (List ℕ × List (List ℕ)) LineFault
 first_of [] = Err WordCount

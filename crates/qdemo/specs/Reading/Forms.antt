@@ -3,8 +3,10 @@ pub mod Attach
 pub mod Create
 pub mod Error
 pub mod Info
+pub mod Pulse
 pub mod Read
 pub mod Receive
+pub mod ReceivePulse
 pub mod Reply
 pub mod Send
 pub mod Thread

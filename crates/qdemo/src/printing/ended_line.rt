@@ -25,6 +25,8 @@ fn shows(call: &Call) -> bool
         Call::Read { .. } => true,
         Call::Write { .. } => false,
         Call::Info(_) => false,
+        Call::ReceivePulse(_) => false,
+        Call::Pulse { .. } => false,
     }
 }
 

@@ -12,6 +12,7 @@ mod failed;
 mod info;
 mod message;
 mod ok;
+mod pulse;
 mod replied;
 
 use qkernel::call::Mark;
@@ -32,5 +33,10 @@ pub fn push_mark(out: &mut String, mark: Mark) -> Result<(), AllocError>
         Mark::Errored(code) => errored::push(out, code),
         Mark::Count(copied) => count::push(out, copied),
         Mark::Info(info) => info::push(out, info),
+        Mark::Pulse {
+            item,
+            priority,
+            what,
+        } => pulse::push(out, item, priority, what),
     }
 }

@@ -5,7 +5,9 @@ ghost use Rattle.qdemo.specs.Reading.Steps.{Gives};
 ghost use Rattle.qdemo.specs.Reading.Words.{words_of};
 
 use crate::fault::{LineFault, ParseError};
-use crate::reading::forms::{attach, create, error, info, read, receive, reply, send, write};
+use crate::reading::forms::{
+    attach, create, error, info, pulse, read, receive, receivepulse, reply, send, write,
+};
 use crate::reading::verb::{Verb, verb_named};
 use qkernel::call::Call;
 use std::alloc::Global;
@@ -25,6 +27,8 @@ pub fn call_named(alloc: Global, word: &[u8], operands: &[u8]) -> Result<Call, P
         Some(Verb::Read) => read::call(alloc, operands),
         Some(Verb::Write) => write::call(alloc, operands),
         Some(Verb::Info) => info::call(operands),
+        Some(Verb::ReceivePulse) => receivepulse::call(operands),
+        Some(Verb::Pulse) => pulse::call(operands),
         None => Err(ParseError::Fault(LineFault::UnknownWord)),
     }
 }

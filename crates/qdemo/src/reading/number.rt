@@ -99,3 +99,14 @@ pub fn narrow(word: &[u8]) -> Result<i32, LineFault>
         _ => Err(LineFault::BadNumber),
     }
 }
+
+/// A signed number of 8 bits.
+#[tactic(auto, unfolding(crate::specs::Reading::Number::integer_of))]
+pub fn byte(word: &[u8]) -> Result<i8, LineFault>
+    ensures { result ≡ integer_of (2 ^ 7) word.now }
+{
+    match signed(word) {
+        Some(value) if value >= i8::MIN as i128 && value <= i8::MAX as i128 => Ok(value as i8),
+        _ => Err(LineFault::BadNumber),
+    }
+}

@@ -16,6 +16,8 @@ pub enum Verb {
     Read,
     Write,
     Info,
+    ReceivePulse,
+    Pulse,
 }
 
 /// Whether the word is this one.
@@ -48,6 +50,10 @@ pub fn verb_named(word: &[u8]) -> Option<Verb>
         Some(Verb::Write)
     } else if is(word, "info") {
         Some(Verb::Info)
+    } else if is(word, "receivepulse") {
+        Some(Verb::ReceivePulse)
+    } else if is(word, "pulse") {
+        Some(Verb::Pulse)
     } else {
         None
     }

@@ -2,7 +2,7 @@
 
 ghost use Rattle.std.specs.Prelude.{◌≡◌, ◌<◌, ◌≤◌, [], ◌∷◌, drop, length, not, position, IfSome, MatchOption, MatchResult};
 ghost use Rattle.std.specs.List.{position_or_len};
-ghost use Rattle.qdemo.specs.Reading.Counts.{one_of, two_of, three_of, first_of};
+ghost use Rattle.qdemo.specs.Reading.Counts.{one_of, two_of, three_of, four_of, first_of};
 ghost use Rattle.qdemo.specs.Reading.Words.{words_of, is_blank};
 
 use crate::fault::LineFault;
@@ -107,4 +107,15 @@ pub fn three(operands: &[u8]) -> Result<(&[u8], &[u8], &[u8]), LineFault>
     };
     let (second, third) = two(rest)?;
     Ok((first, second, third))
+}
+
+/// The four words that there are.
+pub fn four(operands: &[u8]) -> Result<(&[u8], &[u8], &[u8], &[u8]), LineFault>
+    ensures { MatchResult result (λ w. four_of (words_of operands.now) ≡ Ok (w.0.now, w.1.now, w.2.now, w.3.now)) (λ e. four_of (words_of operands.now) ≡ Err e) }
+{
+    let Some((first, rest)) = next_word(operands) else {
+        return Err(LineFault::WordCount);
+    };
+    let (second, third, fourth) = three(rest)?;
+    Ok((first, second, third, fourth))
 }

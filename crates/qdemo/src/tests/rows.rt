@@ -146,3 +146,49 @@ fn held_messages(rt: HostRuntime) -> Result<(), Fail> {
     }
     Ok(())
 }
+
+// Pulses beside messages: in one order with them, alone, to the newest receiver that may take them, and
+// refused.
+#[test]
+fn pulses(rt: HostRuntime) -> Result<(), Fail> {
+    for (lines, text) in [
+        (
+            b"2 send 2 aa -\n3 pulse 2 20 1 -100\n1 receive 1 -\n1 receive 1 -\n".as_slice(),
+            b"4 4 3 ok\n5 5 1 message 3 0 -\n6 6 1 pulse 4 20 user 1 -100 -\nopen 3 2 reply 1\n".as_slice(),
+        ),
+        (
+            b"2 send 2 aa -\n3 pulse 2 20 127 0\n1 receivepulse 1\n1 receive 1 1x00\n".as_slice(),
+            b"4 4 3 ok\n5 5 1 pulse 4 20 user 127 0\n6 6 1 message 3 1 aa\nopen 3 2 reply 1\n".as_slice(),
+        ),
+        (
+            b"1 receive 1 1x00\n4 receivepulse 1\n2 send 2 aa -\n3 pulse 2 5 0 0\n".as_slice(),
+            b"5 3 1 message 5 1 aa\n6 6 3 ok\n6 4 4 pulse 6 5 user 0 0\nopen 5 2 reply 1\n".as_slice(),
+        ),
+        (
+            b"2 pulse 2 20 -1 0\n1 pulse 2 20 -1 0\n2 pulse 2 20 -128 5\n".as_slice(),
+            b"3 3 2 fail inval\n4 4 1 fail badf\n5 5 2 fail inval\n".as_slice(),
+        ),
+        (
+            b"1 receive 1 -\n4 receive 1 -\n2 send 2 - -\n".as_slice(),
+            b"5 4 4 message 5 0 -\nopen 3 1 receive 1\nopen 5 2 reply 1\n".as_slice(),
+        ),
+    ] {
+        expect_after_prelude(&rt, rt.alloc(), lines, text)?;
+    }
+    Ok(())
+}
+
+#[test]
+fn as_many_pulses(rt: HostRuntime) -> Result<(), Fail> {
+    let mut input = Vec::from_slice(rt.alloc(), PRELUDE)?;
+    let mut text = String::from_utf8(Vec::from_slice(rt.alloc(), PRELUDE_TEXT)?)?;
+    for n in 3..=1026 {
+        input.extend_from_slice(b"2 pulse 2 1 0 0\n")?;
+        write!(text, "{n} {n} 2 ok\n")?;
+    }
+    input.extend_from_slice(b"2 pulse 2 1 0 0\n2 pulse 2 1 -1 0\n1 receive 1 -\n")?;
+    text.push_str("1027 1027 2 fail again\n1028 1028 2 fail inval\n")?;
+    text.push_str("1029 1029 1 pulse 3 1 user 0 0 -\n")?;
+    expect_text(&rt, rt.alloc(), input.as_slice(), text.as_bytes());
+    Ok(())
+}

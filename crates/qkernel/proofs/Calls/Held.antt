@@ -40,7 +40,7 @@ record HeldIn (f : Facts) (t : ℕ) (w : Wait) : Type 0 where
 held_in : (f : Facts) (t : ℕ) (w : Wait) → is_held_by f t w ≡ true → HeldIn f t w
 held_in f t (Answer coid message reply_buffer (Some receipt)) e = record { coid = coid; message = message; reply_buffer = reply_buffer; receipt = receipt; waits = refl; owner = e }
 held_in f t (Answer coid message reply_buffer None) e = absurd (true≢false (sym e))
-held_in f t (ForItem chid buffer) e = absurd (true≢false (sym e))
+held_in f t (ForItem chid kind buffer) e = absurd (true≢false (sym e))
 
 held_parts : (f : Facts) (t : ℕ) (call : Option OpenCall) → is_held_for f t call ≡ true → IsHeldFor f t call
 held_parts f t None e = absurd (true≢false (sym e))

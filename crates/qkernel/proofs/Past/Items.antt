@@ -6,6 +6,7 @@ use Rattle.std.specs.Option.{option_to_list}
 use Rattle.std.proofs.lemmas.Bool.{eqb-true, eq-eqb, ne_eqb, not-true}
 use Rattle.std.proofs.lemmas.Option.{same_Some, none-some}
 use Rattle.qqueue.specs.declared.item.Item.{Item}
+use Rattle.qqueue.specs.Best.{is_pulse}
 use Rattle.qtables.specs.declared.member.Member.{Member}
 use Rattle.qkernel.specs.Facts.{is_for_answer}
 use Rattle.qkernel.specs.Headline.CopiedExactly.{call_at}
@@ -65,6 +66,13 @@ item_answer roster past u m b at is =
     let k = item_made roster past b.number m at in
     let a = block_asked past u b is in
     k.makes_it.waits b (subst (λ c. asks b.number c ≡ Some b) (same_Some a.call k.call (sym a.is ∙ k.is)) a.asks_it)
+
+-- and the item is a message
+pub item_message : (roster : List Member) (past : Trace) (u : ℕ) (m : Made) (b : OpenCall) → item_at roster past b.number ≡ Some m → newest_block past u ≡ Some b → is_pulse m.item.what ≡ false
+item_message roster past u m b at is =
+    let k = item_made roster past b.number m at in
+    let a = block_asked past u b is in
+    k.makes_it.message b (subst (λ c. asks b.number c ≡ Some b) (same_Some a.call k.call (sym a.is ∙ k.is)) a.asks_it)
 
 -- ---- all items
 

@@ -8,6 +8,7 @@ use Rattle.qtables.specs.declared.connection.Connection.{Connection}
 use Rattle.qkernel.specs.Answer.{row_of, ending}
 use Rattle.qkernel.specs.Facts.{Facts, sender, is_for_answer}
 use Rattle.qkernel.specs.Past.{is_failure}
+use Rattle.qkernel.specs.Receiving.{sender_for}
 use Rattle.qkernel.specs.Rows.{Row, Made, Received, Written, asks, makes, received, writes}
 use Rattle.qkernel.specs.declared.call.Call.{Call}
 use Rattle.qkernel.specs.declared.call.Completion.{Completion}
@@ -20,17 +21,18 @@ use Rattle.qkernel.specs.declared.open_call.Wait.TheVariants.{Answer, Item as Fo
 -- the wait is for an item, or for the answer to a message that was received
 abbrev pub is_settled : Wait → Bool
 is_settled (Answer coid message reply_buffer receipt) = is_some receipt
-is_settled (ForItem chid buffer) = true
+is_settled (ForItem chid kind buffer) = true
 
 -- a call that begins to wait has its own number, and no receipt of it
 pub record BeginsToWait (n : ℕ) (o : OpenCall) : Type 0 where
   pub number : o.number ≡ n
   pub fresh : is_settled o.wait ≡ not (is_for_answer o.wait)
 
--- an item has the number of the call that makes it, and such a call waits for nothing but an answer
+-- an item has the number of the call that makes it, and where such a call waits, it is for the answer to a message
 pub record MakesItem (n : ℕ) (c : Call) (m : Made) : Type 0 where
   pub number : m.item.number ≡ n
   pub waits : (o : OpenCall) → asks n c ≡ Some o → is_for_answer o.wait ≡ true
+  pub message : (o : OpenCall) → asks n c ≡ Some o → is_pulse m.item.what ≡ false
 
 pub record CallLaws (c : Call) : Type 0 where
   pub asks_one : (n : ℕ) (o : OpenCall) → asks n c ≡ Some o → BeginsToWait n o
@@ -75,7 +77,7 @@ pub record IsNew (f : Facts) (t : ℕ) (c : Call) (r : Received) (item : Item) :
 pub record IsBest (f : Facts) (r : Received) (item : Item) : Type 0 where
   pub kind : Kind
   pub best : best_of kind (f.pending r.channel) ≡ Some item
-  pub sender_is : r.sender ≡ sender f r.item
+  pub sender_is : r.sender ≡ sender_for f item
 
 -- a receipt is an ending of its thread, of an item of that number and priority
 pub record IsReceived (f : Facts) (t : ℕ) (c : Call) (r : Received) : Type 0 where

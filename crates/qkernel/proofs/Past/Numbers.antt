@@ -127,7 +127,7 @@ receipt_number priority (Some copied) b = refl
 
 pub held_for_answer : (receipt : Receipt) (w : Wait) → is_for_answer (held_with receipt w) ≡ is_for_answer w
 held_for_answer receipt (Answer coid message reply_buffer before) = refl
-held_for_answer receipt (ForItem chid buffer) = refl
+held_for_answer receipt (ForItem chid kind buffer) = refl
 
 -- a receipt doesn't change what is waited for
 pub receipt_for_answer : (priority : ℕ) (r : Option ℕ) (b : OpenCall) → is_for_answer (with_receipt priority r b).wait ≡ is_for_answer b.wait
@@ -137,11 +137,11 @@ receipt_for_answer priority (Some copied) b = held_for_answer _ b.wait
 -- what is written changes no more than the reply buffer
 pub buffer_answer : (f : List ℕ → List ℕ) (w : Wait) → is_for_answer (with_buffer f w) ≡ is_for_answer w
 buffer_answer f (Answer coid message reply_buffer receipt) = refl
-buffer_answer f (ForItem chid buffer) = refl
+buffer_answer f (ForItem chid kind buffer) = refl
 
 pub buffer_settled : (f : List ℕ → List ℕ) (w : Wait) → is_settled (with_buffer f w) ≡ is_settled w
 buffer_settled f (Answer coid message reply_buffer receipt) = refl
-buffer_settled f (ForItem chid buffer) = refl
+buffer_settled f (ForItem chid kind buffer) = refl
 
 pub filled_answer : (past : Trace) (b : OpenCall) → is_for_answer (filled past b).wait ≡ is_for_answer b.wait
 filled_answer past b = buffer_answer _ b.wait

@@ -4,12 +4,15 @@ use Rattle.std.specs.Prelude.{Option, None, Some, is_some, ◌||◌}
 use Rattle.std.specs.Option.{option_map}
 use Rattle.std.proofs.lemmas.Bool.{cases_Bool, eqb-true, eqb-false, eq-eqb, ne_eqb, or_parts}
 use Rattle.std.proofs.lemmas.Option.{none-some, same_Some}
+use Rattle.qqueue.specs.Best.{is_pulse}
+use Rattle.qqueue.specs.declared.item.Item.{Item}
 use Rattle.qtables.specs.Members.{member_at}
 use Rattle.qtables.specs.declared.member.Member.{Member}
 use Rattle.qkernel.specs.Answer.{row_of, Outcome}
 use Rattle.qkernel.specs.Facts.{Facts, sender, threads_of}
 use Rattle.qkernel.specs.Lawful.{facts_of, IsLawful, with_event}
 use Rattle.qkernel.specs.Past.{filled, refuses, ends, is_ended, is_taken, item_of, first_some, receipt_of, priority_of_item, newest_block, held_with, unless_ended, with_receipt, open_call}
+use Rattle.qkernel.specs.Receiving.{sender_for}
 use Rattle.qkernel.specs.Rows.{Received, Written, asks, writes, written_over}
 use Rattle.qkernel.specs.Step.{held_call, is_thread, after_receipt, after_write, unless, written_call, open_call_after}
 use Rattle.qkernel.specs.Trace.{Event, Trace}
@@ -21,7 +24,7 @@ use Rattle.qkernel.proofs.Past.Laws.{IsReceived}
 use Rattle.qkernel.proofs.Past.RowLaws.{call_laws}
 use Rattle.qkernel.proofs.Past.Numbers.{block_below, filled_answer, open_from, open_thread, receipt_number, receipt_for_answer}
 use Rattle.qkernel.proofs.Past.Ends.{laws_of, passes_of, accepted, refused, refused_ends, ended_below, ends_other, ends_own, known, block_known}
-use Rattle.qkernel.proofs.Past.Items.{item_at, item_answer, item_below, item_priority, priority_earlier, priority_newest}
+use Rattle.qkernel.proofs.Past.Items.{item_at, item_answer, item_message, item_below, item_priority, priority_earlier, priority_newest}
 use Rattle.qkernel.proofs.Past.Receipts.{copied_by, accepted_receipts, refused_receipts, best_pending, receipt_beyond}
 use Rattle.qkernel.proofs.Past.Senders.{send_parts, send_from, sender_sends, sender_found}
 use Rattle.qkernel.proofs.Past.Writes.{changed, filled_accepted, filled_fresh, filled_refused, receipt_written, written_sender}
@@ -59,6 +62,13 @@ not_sender f i u h =
           ne_eqb u s (λ same. h k.waiting (ap f.open_call same ∙ k.is) k.number)
     ] refl
 
+-- a message is answered to its sender, and a pulse to none
+message_sender : (f : Facts) (item : Item) → is_pulse item.what ≡ false → sender_for f item ≡ sender f item.number
+message_sender f item message = rw message refl
+
+not_sender_for : (f : Facts) (item : Item) (u : ℕ) → is_thread (sender f item.number) u ≡ false → is_thread (sender_for f item) u ≡ false
+not_sender_for f item u h = elim (is_pulse item.what) as (λ b. is_thread (cond b None (sender f item.number)) u ≡ false) [ true ↦ refl | false ↦ h ]
+
 -- an open call of another thread than the caller, and the receipt of the row
 other_holds : (roster : List Member) (past : Trace) (t : ℕ) (c : Call) (u : ℕ) (b : OpenCall) (r : Received) → IsLawful roster past → eqb u t ≡ false → newest_block past u ≡ Some b → is_ended past b.number ≡ false
     → IsReceived (facts_of roster past) t c r → IsIts r u b.number (priority_of_item roster past b.number) (receipt_of past b.number) ⊎ IsOthers r u b.number
@@ -85,15 +95,16 @@ other_holds roster past t c u b r l other is going k =
                 let sends = send_from r.item (with_receipt (priority_of_item roster past b.number) (receipt_of past b.number) (filled past b)) (receipt_number _ _ (filled past b) ∙ sym (eqb-true _ _ same)) (receipt_for_answer _ _ (filled past b) ∙ filled_answer past b ∙ item_answer roster past u _ b made is) in
                 let found : sender f r.item ≡ Some u = sender_found f.open_call r.item (threads_of roster) u (known roster u (block_known roster past u b l is)) (rw waits sends)
                 (λ v e. let w = send_parts r.item (f.open_call v) e in open_thread roster past v u w.waiting _ w.is waits (w.number ∙ eqb-true _ _ same ∙ sym (receipt_number _ _ (filled past b)))) in
+                let message = item_message roster past u _ b made is in
                 inl (record {
                   item = same;
-                  sender = rw (old.sender_is ∙ found) (eqb_same u);
+                  sender = rw (old.sender_is ∙ message_sender f k.item message ∙ ap (sender f) k.number ∙ found) (eqb_same u);
                   first = none_of (receipt_of past b.number) (subst (λ i. is_taken past i ≡ false) number (or_parts _ _ place.stays).0);
                   priority_is = sym k.priority ∙ sym (item_priority roster past b.number _ made);
                 })
             | inr differs ↦ inr (record {
               item = differs;
-              sender = rw (old.sender_is) (not_sender f r.item u (λ o e n. eqb-false _ _ differs (sym n ∙ ap (λ w. w.number) (same_Some o _ (sym e ∙ waits)) ∙ receipt_number _ _ (filled past b))));
+              sender = rw (old.sender_is) (not_sender_for f k.item u (not_sender f k.item.number u (λ o e n. eqb-false _ _ differs (sym (n ∙ k.number) ∙ ap (λ w. w.number) (same_Some o _ (sym e ∙ waits)) ∙ receipt_number _ _ (filled past b)))));
             })
           ]
     ]
@@ -117,7 +128,7 @@ own_holds roster past t c X o r l a asked k =
           let below : k.item.number ≤ length past = item_below roster past k.item.number _ (best_pending roster past r.channel old.kind k.item old.best).made in
           inr (record {
             item = ne_eqb _ _ (λ same. omega (arith, k.number));
-            sender = rw (old.sender_is) (not_sender f r.item t (λ w e n. none-some w (sym (passes_of f t c X a).idle ∙ e)));
+            sender = rw (old.sender_is) (not_sender_for f k.item t (not_sender f k.item.number t (λ w e n. none-some w (sym (passes_of f t c X a).idle ∙ e))));
           })
     ]
 

@@ -48,19 +48,19 @@ change_same : (f g : List ℕ → List ℕ) (o : OpenCall) → ((b : List ℕ) �
 change_same f g o h = by_wait o.wait where
   by_wait : (w : Wait) → changed f (record { number = o.number; wait = w }) ≡ changed g (record { number = o.number; wait = w })
   by_wait (Answer coid message reply_buffer receipt) = ap (λ b. record { number = o.number; wait = Answer coid message b receipt }) (h reply_buffer)
-  by_wait (ForItem chid buffer) = refl
+  by_wait (ForItem chid kind buffer) = refl
 
 change_twice : (f g : List ℕ → List ℕ) (o : OpenCall) → changed (λ b. f (g b)) o ≡ changed f (changed g o)
 change_twice f g o = by_wait o.wait where
   by_wait : (w : Wait) → changed (λ b. f (g b)) (record { number = o.number; wait = w }) ≡ changed f (changed g (record { number = o.number; wait = w }))
   by_wait (Answer coid message reply_buffer receipt) = refl
-  by_wait (ForItem chid buffer) = refl
+  by_wait (ForItem chid kind buffer) = refl
 
 change_none : (f : List ℕ → List ℕ) (o : OpenCall) → ((b : List ℕ) → f b ≡ b) → changed f o ≡ o
 change_none f o h = by_wait o.wait where
   by_wait : (w : Wait) → changed f (record { number = o.number; wait = w }) ≡ record { number = o.number; wait = w }
   by_wait (Answer coid message reply_buffer receipt) = ap (λ b. record { number = o.number; wait = Answer coid message b receipt }) (h reply_buffer)
-  by_wait (ForItem chid buffer) = refl
+  by_wait (ForItem chid kind buffer) = refl
 
 pub filled_refused : (e : Event) (past : Trace) (o : OpenCall) → refuses e.endings (length past + 1) ≡ true → filled (e ∷ past) o ≡ filled past o
 filled_refused e past o r = change_same (with_writes (e ∷ past) o.number) (with_writes past o.number) o (λ b. writes_refused e past o.number b r)
@@ -78,7 +78,7 @@ changed_receipt f priority None o = refl
 changed_receipt f priority (Some copied) o = by_wait o.wait where
   by_wait : (w : Wait) → with_receipt priority (Some copied) (changed f (record { number = o.number; wait = w })) ≡ changed f (with_receipt priority (Some copied) (record { number = o.number; wait = w }))
   by_wait (Answer coid message reply_buffer receipt) = refl
-  by_wait (ForItem chid buffer) = refl
+  by_wait (ForItem chid kind buffer) = refl
 
 -- the call of thread u after a write, if it is written just where the sender is u
 written_after : (f : Facts) (w : Option Written) (u : ℕ) (o : OpenCall) → ((x : Written) → w ≡ Some x → is_thread (sender f x.message) u ≡ eqb x.message o.number) → Some (changed (written_over w o.number) o) ≡ after_write f w u (Some o)

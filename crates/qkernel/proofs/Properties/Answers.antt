@@ -1,24 +1,27 @@
 -- An ending that answers a message: whose it is, by each call's row.
-use Rattle.std.proofs.Common.{◌≡◌, ◌∙◌, ℕ, List, cond, ap, refl, sym, subst, true, false, inl, inr}
+use Rattle.std.proofs.Common.{◌≡◌, ◌∙◌, ℕ, List, [], cond, ap, refl, sym, subst, true, false, inl, inr}
 use Rattle.std.specs.Prelude.{ℤ, pos, Option, None, Some}
 use Rattle.std.specs.Option.{option_map}
 use Rattle.std.specs.Ordering.{int_eq}
 use Rattle.std.proofs.lemmas.Bool.{true≢false}
 use Rattle.std.proofs.lemmas.Option.{none-some, same_Some}
 use Rattle.qkernel.specs.Answer.{row_of, ending}
-use Rattle.qqueue.specs.declared.item.What.TheVariants.{Message}
+use Rattle.qqueue.specs.declared.item.Item.{Item}
+use Rattle.qqueue.specs.declared.item.Kind.{Kind}
+use Rattle.qqueue.specs.declared.item.Kind.TheVariants.{Any, PulseOnly}
 use Rattle.qtables.specs.declared.connection.Connection.{Connection}
 use Rattle.qkernel.specs.Calls.Error.{errored, mark_of}
 use Rattle.qkernel.specs.Calls.Info.{told, telling}
 use Rattle.qkernel.specs.Calls.Reply.{replied}
+use Rattle.qkernel.specs.Calls.Send.{item}
 use Rattle.qkernel.specs.Held.{Finish, ends_sender, refusal}
 use Rattle.qkernel.specs.declared.call.Info.{Info as Told}
 use Rattle.qkernel.specs.declared.call.Mark.TheVariants as mark
-use Rattle.qkernel.specs.Facts.{Facts, is_for_answer, sender, threads_of}
+use Rattle.qkernel.specs.Facts.{Facts, is_for_answer, message, sender, threads_of}
 use Rattle.qkernel.specs.Headline.AnsweredToSender.{answered_by, is_answer, thread_of_send}
-use Rattle.qkernel.specs.Rows.{Made, asks, makes}
+use Rattle.qkernel.specs.Rows.{Made, asks, given, makes, pulse_item}
 use Rattle.qkernel.specs.declared.call.Call.{Call}
-use Rattle.qkernel.specs.declared.call.Call.TheVariants.{ChannelCreate, ConnectAttach, Send, Receive, Reply, Error, Read, Write, Info}
+use Rattle.qkernel.specs.declared.call.Call.TheVariants.{ChannelCreate, ConnectAttach, Send, Receive, Reply, Error, Read, Write, Info, ReceivePulse, Pulse}
 use Rattle.qkernel.specs.declared.call.Completion.{Completion}
 use Rattle.qkernel.specs.declared.open_call.OpenCall.{OpenCall}
 use Rattle.qkernel.specs.declared.open_call.Wait.{Wait}
@@ -28,8 +31,9 @@ use Rattle.qkernel.proofs.Past.Lists.{eqb_same}
 use Rattle.qkernel.proofs.Past.Senders.{sender_sends}
 use Rattle.qkernel.proofs.Past.Laws.{Passes}
 use Rattle.qkernel.proofs.Properties.Receipts.{ending_of}
-use Rattle.qkernel.proofs.Properties.Rows.Receive.{receive_takes}
-use Rattle.qkernel.proofs.Properties.Rows.Send.{has_way, send_meets, way_leads}
+use Rattle.qkernel.proofs.Calls.Taking.{given_is}
+use Rattle.qkernel.proofs.Properties.Rows.Receiving.{ReceiveTakes, receive_takes}
+use Rattle.qkernel.proofs.Properties.Rows.Delivering.{Meets, delivery_meets, has_way, way_leads}
 
 -- ---- what answers
 
@@ -44,6 +48,16 @@ pub record AnswersHeld (f : Facts) (t : ℕ) (c : Call) (u : ℕ) (y : Completio
 no_answer : {P : Type 0} (x y : Completion) → x ≡ y → is_answer x.mark ≡ false → is_answer y.mark ≡ true → P
 no_answer x y same none e = absurd (true≢false (sym e ∙ ap (λ z. is_answer z.mark) (sym same) ∙ none))
 
+-- a receipt is no answer
+given_no_answer : (item : Item) (message buffer : List ℕ) → is_answer (given item message buffer).0 ≡ false
+given_no_answer item message buffer = given_is is_answer false (λ i n. refl) item message buffer refl
+
+takes_no_answer : {P : Type 0} (f : Facts) (t chid : ℕ) (kind : Kind) (buffer : List ℕ) (y : Completion) → ReceiveTakes f t chid kind buffer y → is_answer y.mark ≡ true → P
+takes_no_answer f t chid kind buffer y r is = no_answer _ y r.ending (given_no_answer r.item (message f r.item.number) buffer) is
+
+met_no_answer : {P : Type 0} (f : Facts) (t coid : ℕ) (item : Item) (sent : List ℕ) (u : ℕ) (y : Completion) → Meets f t coid item sent u y → is_answer y.mark ≡ true → P
+met_no_answer f t coid item sent u y s is = no_answer _ y s.ending (given_no_answer item sent s.buffer) is
+
 -- what is told is no answer
 tells_only : (n t : ℕ) (o : Option Told) (y : Completion) → option_map (telling n t) o ≡ Some y → is_answer y.mark ≡ false
 tells_only n t None y e = absurd (none-some y e)
@@ -53,7 +67,9 @@ own_answers : (f : Facts) (t : ℕ) (c : Call) (u : ℕ) (y : Completion) → (r
 own_answers f t (ChannelCreate flags) u y e is = no_answer _ y (same_Some _ y e) refl is
 own_answers f t (ConnectAttach chid) u y e is = no_answer _ y (same_Some _ y e) refl is
 own_answers f t (Send coid message reply_buffer) u y e is = absurd (none-some y e)
-own_answers f t (Receive chid buffer) u y e is = no_answer _ y (receive_takes f t chid buffer y e).ending refl is
+own_answers f t (Receive chid buffer) u y e is = takes_no_answer f t chid Any buffer y (receive_takes f t chid Any buffer y e) is
+own_answers f t (ReceivePulse chid) u y e is = takes_no_answer f t chid PulseOnly [] y (receive_takes f t chid PulseOnly [] y e) is
+own_answers f t (Pulse coid level code value) u y e is = no_answer _ y (same_Some _ y e) refl is
 own_answers f t (Reply rcvid status bytes) u y e is = no_answer _ y (same_Some _ y e) refl is
 own_answers f t (Error rcvid code) u y e is = no_answer _ y (same_Some _ y e) refl is
 own_answers f t (Read rcvid offset buffer) u y e is = no_answer _ y (same_Some _ y e) refl is
@@ -75,7 +91,10 @@ answers_by f t c rcvid finish u y named r =
 ends_answers : (f : Facts) (t : ℕ) (c : Call) (u : ℕ) (y : Completion) → Passes f t c → (row_of f t c).ends u ≡ Some y → is_answer y.mark ≡ true → AnswersHeld f t c u y
 ends_answers f t (ChannelCreate flags) u y p e is = absurd (none-some y e)
 ends_answers f t (ConnectAttach chid) u y p e is = absurd (none-some y e)
-ends_answers f t (Send coid message reply_buffer) u y p e is = no_answer _ y (send_meets f t coid message u y e).ending refl is
+ends_answers f t (Send coid message reply_buffer) u y p e is = met_no_answer f t coid (item f t) message u y (delivery_meets f t coid (item f t) message u y e) is
+ends_answers f t (Pulse coid level code value) u y p e is =
+    met_no_answer f t coid (pulse_item f.number level code value) [] u y (delivery_meets f t coid (pulse_item f.number level code value) [] u y e) is
+ends_answers f t (ReceivePulse chid) u y p e is = absurd (none-some y e)
 ends_answers f t (Receive chid buffer) u y p e is = absurd (none-some y e)
 ends_answers f t (Reply rcvid status bytes) u y p e is = answers_by f t (Reply rcvid status bytes) rcvid (replied status bytes) u y refl (sender_ends f t rcvid (replied status bytes) u y p.row e)
 ends_answers f t (Error rcvid code) u y p e is = answers_by f t (Error rcvid code) rcvid (errored code) u y refl (sender_ends f t rcvid (errored code) u y p.row e)
@@ -132,6 +151,8 @@ answers_one f t (Receive chid buffer) i p e = absurd (none-some i e)
 answers_one f t (Read rcvid offset buffer) i p e = absurd (none-some i e)
 answers_one f t (Write rcvid offset bytes) i p e = absurd (none-some i e)
 answers_one f t (Info rcvid) i p e = absurd (none-some i e)
+answers_one f t (ReceivePulse chid) i p e = absurd (none-some i e)
+answers_one f t (Pulse coid level code value) i p e = absurd (none-some i e)
 answers_one f t (Reply rcvid status bytes) i p e = ends_one f t (Reply rcvid status bytes) rcvid (replied status bytes) i p.row (λ u. refl) (λ buffer. refl) (same_Some rcvid i e)
 answers_one f t (Error rcvid code) i p e = ends_one f t (Error rcvid code) rcvid (errored code) i p.row (λ u. refl) (λ buffer. error_answers code) (same_Some rcvid i e)
 
@@ -148,7 +169,7 @@ pub record SendsOver (f : Facts) (t : ℕ) (c : Call) (coid : ℕ) : Type 0 wher
 -- the connection of a wait for an answer
 abbrev pub over : Wait → ℕ
 over (Answer coid message reply_buffer receipt) = coid
-over (ForItem chid buffer) = 0
+over (ForItem chid kind buffer) = 0
 
 send_over : (f : Facts) (t coid : ℕ) (message reply_buffer : List ℕ) → Passes f t (Send coid message reply_buffer) → SendsOver f t (Send coid message reply_buffer) coid
 send_over f t coid message reply_buffer p =
@@ -157,7 +178,7 @@ send_over f t coid message reply_buffer p =
     record {
       connection = l.connection;
       is_connection = l.is;
-      made = record { item = record { number = f.number; priority = f.priority t; what = Message }; channel = l.connection.channel };
+      made = record { item = item f t; channel = l.connection.channel };
       is_made = rw (l.is) refl;
       channel = refl;
     }
@@ -170,6 +191,8 @@ sends_over f t (Error rcvid code) b p e w = absurd (none-some b e)
 sends_over f t (Read rcvid offset buffer) b p e w = absurd (none-some b e)
 sends_over f t (Write rcvid offset bytes) b p e w = absurd (none-some b e)
 sends_over f t (Info rcvid) b p e w = absurd (none-some b e)
+sends_over f t (Pulse coid level code value) b p e w = absurd (none-some b e)
+sends_over f t (ReceivePulse chid) b p e w = absurd (true≢false (sym w ∙ ap (λ o. is_for_answer o.wait) (sym (same_Some _ b e))))
 sends_over f t (Receive chid buffer) b p e w = absurd (true≢false (sym w ∙ ap (λ o. is_for_answer o.wait) (sym (same_Some _ b e))))
 sends_over f t (Send coid message reply_buffer) b p e w =
     subst (SendsOver f t (Send coid message reply_buffer)) (ap (λ o. over o.wait) (same_Some _ b e)) (send_over f t coid message reply_buffer p)
@@ -185,3 +208,5 @@ sends_by n t (Error rcvid code) b e w = absurd (none-some b e)
 sends_by n t (Read rcvid offset buffer) b e w = absurd (none-some b e)
 sends_by n t (Write rcvid offset bytes) b e w = absurd (none-some b e)
 sends_by n t (Info rcvid) b e w = absurd (none-some b e)
+sends_by n t (Pulse coid level code value) b e w = absurd (none-some b e)
+sends_by n t (ReceivePulse chid) b e w = absurd (true≢false (sym w ∙ ap (λ o. is_for_answer o.wait) (sym (same_Some _ b e))))

@@ -11,11 +11,11 @@ use Rattle.qkernel.specs.Headline.BestFirst.{takeable}
 use Rattle.qkernel.specs.Headline.CopiedExactly.{call_at}
 use Rattle.qkernel.specs.Headline.SentOrder.{connection_of, sends_over}
 use Rattle.qkernel.specs.Past.{connection_at, item_of, pending, priority_of_thread}
-use Rattle.qkernel.specs.Rows.{Made, makes, sent_over}
+use Rattle.qkernel.specs.Rows.{message_item, pulse_item, Made, makes, sent_over}
 use Rattle.qkernel.specs.Step.{made_on}
 use Rattle.qkernel.specs.Trace.{Event, Trace}
 use Rattle.qkernel.specs.declared.call.Call.{Call}
-use Rattle.qkernel.specs.declared.call.Call.TheVariants.{ChannelCreate, ConnectAttach, Send, Receive, Reply, Error, Read, Write, Info}
+use Rattle.qkernel.specs.declared.call.Call.TheVariants.{ChannelCreate, ConnectAttach, Send, Receive, Reply, Error, Read, Write, Info, ReceivePulse, Pulse}
 use Rattle.qkernel.proofs.Past.Items.{IsPending, item_at, item_below, item_earlier, item_newest, made_by, pending_all}
 use Rattle.qkernel.proofs.Past.Lists.{all_append, all_more}
 use Rattle.qkernel.proofs.Past.Pending.{made_all}
@@ -41,9 +41,9 @@ pub record IsOver (connection : ℕ → Option Connection) (k : ℕ) (m : Made) 
   pub is : connection k ≡ Some over
   pub channel : m.channel ≡ over.channel
 
-sent_is_over : (connection : ℕ → Option Connection) (k n priority : ℕ) (m : Made) → sent_over (connection k) n priority ≡ Some m → IsOver connection k m
-sent_is_over connection k n priority m e =
-    elim (connection k) as (λ o. connection k ≡ o → sent_over o n priority ≡ Some m → IsOver connection k m) [
+sent_is_over : (connection : ℕ → Option Connection) (k : ℕ) (item : Item) (m : Made) → sent_over (connection k) item ≡ Some m → IsOver connection k m
+sent_is_over connection k item m e =
+    elim (connection k) as (λ o. connection k ≡ o → sent_over o item ≡ Some m → IsOver connection k m) [
       | None ↦ λ is s. absurd (none-some m s)
       | Some c ↦ λ is s. record { over = c; is = is; channel = ap (λ (x : Made). x.channel) (sym (same_Some _ m s)) }
     ] refl e
@@ -57,8 +57,10 @@ makes_over connection priority n t (Error rcvid code) m k e s = absurd (none-som
 makes_over connection priority n t (Read rcvid offset buffer) m k e s = absurd (none-some k s)
 makes_over connection priority n t (Write rcvid offset bytes) m k e s = absurd (none-some k s)
 makes_over connection priority n t (Info rcvid) m k e s = absurd (none-some k s)
+makes_over connection priority n t (ReceivePulse chid) m k e s = absurd (none-some k s)
+makes_over connection priority n t (Pulse coid level code value) m k e s = subst (λ i. IsOver connection i m) (same_Some coid k s) (sent_is_over connection coid (pulse_item n level code value) m e)
 makes_over connection priority n t (Send coid message reply_buffer) m k e s =
-    subst (λ i. IsOver connection i m) (same_Some coid k s) (sent_is_over connection coid n (priority t) m e)
+    subst (λ i. IsOver connection i m) (same_Some coid k s) (sent_is_over connection coid (message_item n (priority t)) m e)
 
 pub item_over : (roster : List Member) (past : Trace) (i k : ℕ) (m : Made) → item_at roster past i ≡ Some m → connection_of past i ≡ Some k → IsOver (connection_at roster past) k m
 item_over roster [] i k m is over = absurd (none-some m is)

@@ -1,29 +1,35 @@
 -- Every buffer and every count is what was to be copied.
-use Rattle.std.proofs.Common.{◌≡◌, ◌∙◌, ℕ, ◌+◌, ◌≤◌, List, [], ◌∷◌, length, refl, ap, sym, subst, cond, arith, true, false, inl, inr}
+use Rattle.std.proofs.Common.{◌≡◌, ◌∙◌, ℕ, ◌+◌, ◌≤◌, List, [], ◌∷◌, length, refl, ap, sym, subst, cond, arith, Bool, true, false, inl, inr}
 use Rattle.std.specs.Prelude.{ℤ, pos, Option, None, Some}
 use Rattle.std.specs.List.{AllByRecursion}
 use Rattle.std.specs.Option.{option_and_then, option_map, option_map_or}
 use Rattle.std.specs.Ordering.{int_eq}
+use Rattle.std.proofs.lemmas.Bool.{true≢false}
 use Rattle.std.proofs.lemmas.Option.{none-some, same_Some}
-use Rattle.qqueue.specs.declared.item.Kind.TheVariants.{Any}
-use Rattle.qbase.specs.Laying.{laid_count}
+use Rattle.qqueue.specs.Best.{is_pulse}
+use Rattle.qqueue.specs.declared.item.Item.{Item}
+use Rattle.qqueue.specs.declared.item.Kind.{Kind}
+use Rattle.qqueue.specs.declared.item.Kind.TheVariants.{Any, PulseOnly}
+use Rattle.qbase.specs.Laying.{laid_count, lay_over}
 use Rattle.qtables.specs.declared.member.Member.{Member}
 use Rattle.qkernel.specs.Answer.{row_of, ending, Answers}
 use Rattle.qkernel.specs.Buffers.{buffer_of}
 use Rattle.qkernel.specs.Calls.Error.{errored}
 use Rattle.qkernel.specs.Calls.Info.{told, telling}
 use Rattle.qkernel.specs.Calls.Reply.{replied}
+use Rattle.qkernel.specs.Calls.Send as send
 use Rattle.qkernel.specs.Facts.{Facts, message, message_in, sender, threads_of}
 use Rattle.qkernel.specs.Held.{Finish, refusal, reply_buffer, reply_buffer_in, reply_buffer_of}
 use Rattle.qkernel.specs.Headline.CopiedExactly.{CopiedExactly, IsCopied, buffer_at, buffer_by, call_at, message_at, message_of, replies_with}
 use Rattle.qkernel.specs.Lawful.{facts_of, IsLawful}
 use Rattle.qkernel.specs.Past.{open_call, refuses}
-use Rattle.qkernel.specs.Rows.{writes}
+use Rattle.qkernel.specs.Rows.{pulse_item, taking, writes}
 use Rattle.qkernel.specs.Trace.{Event, Trace}
 use Rattle.qkernel.specs.declared.call.Call.{Call}
-use Rattle.qkernel.specs.declared.call.Call.TheVariants.{ChannelCreate, ConnectAttach, Send, Receive, Reply, Error, Read, Write, Info}
+use Rattle.qkernel.specs.declared.call.Call.TheVariants.{ChannelCreate, ConnectAttach, Send, Receive, Reply, Error, Read, Write, Info, ReceivePulse, Pulse}
 use Rattle.qkernel.specs.declared.call.Completion.{Completion}
 use Rattle.qkernel.specs.declared.call.Info.{Info as Told}
+use Rattle.qkernel.specs.declared.call.Mark.{Mark}
 use Rattle.qkernel.specs.declared.call.Mark.TheVariants as mark
 use Rattle.qkernel.specs.declared.open_call.OpenCall.{OpenCall}
 use Rattle.qkernel.proofs.Past.Ends.{passes_of, refused}
@@ -37,9 +43,9 @@ use Rattle.qkernel.proofs.Past.Writes.{writes_beyond, writes_nothing, writes_ref
 use Rattle.qkernel.proofs.Properties.Messages.{awaited, open_buffer, open_message, pending_message}
 use Rattle.qkernel.proofs.Properties.Receipts.{ending_of}
 use Rattle.qkernel.proofs.Senders.{lay_nothing, count_nothing}
-use Rattle.qkernel.proofs.Properties.Rows.Receive.{receive_takes, taking}
+use Rattle.qkernel.proofs.Properties.Rows.Receiving.{ReceiveTakes, receive_takes}
 use Rattle.qkernel.proofs.Calls.Held.{IsHeldFor, SenderEnds, answering, has_sender, held_for, sender_ends}
-use Rattle.qkernel.proofs.Properties.Rows.Send.{send_meets}
+use Rattle.qkernel.proofs.Properties.Rows.Delivering.{Meets, delivery_meets}
 
 abbrev event : ℕ → Call → List Completion → Event
 event t c X = record { thread = t; call = c; endings = X }
@@ -66,6 +72,8 @@ buffer_stays e past i (Error rcvid code) none = refl
 buffer_stays e past i (Read rcvid offset buffer) none = refl
 buffer_stays e past i (Write rcvid offset bytes) none = refl
 buffer_stays e past i (Info rcvid) none = refl
+buffer_stays e past i (ReceivePulse chid) none = refl
+buffer_stays e past i (Pulse coid level code value) none = refl
 
 buffer_earlier : (e : Event) (past : Trace) (i : ℕ) → i ≤ length past → writes e.call ≡ None → buffer_at (e ∷ past) i ≡ buffer_at past i
 buffer_earlier e past i l none =
@@ -104,9 +112,17 @@ held_buffer roster past t rcvid passed =
 
 -- ---- the forms of an ending
 
--- a message is laid over the buffer
-taking_copied : (past : Trace) (e : Event) (m u i : ℕ) (buffer bytes : List ℕ) (y : Completion) → buffer_at (e ∷ past) m ≡ buffer → message_at (e ∷ past) i ≡ bytes → taking m u i buffer bytes ≡ y → IsCopied past e y y.mark
-taking_copied past e m u i buffer bytes y b s is = subst (λ (x : Completion). IsCopied past e x x.mark) is (rw (b, s) (refl, refl))
+-- what a receipt gives, by whether it is of a pulse
+abbrev as_given : Item → List ℕ → List ℕ → Bool → Mark × List ℕ
+as_given item buffer bytes t = cond {A = Mark × List ℕ} t (mark.Pulse item.number item.priority item.what, buffer) (mark.Message item.number (laid_count buffer 0 bytes), lay_over buffer 0 bytes)
+
+-- a message is laid over the buffer, and a pulse leaves it
+taking_copied : (past : Trace) (e : Event) (m u : ℕ) (item : Item) (buffer bytes : List ℕ) (y : Completion) → buffer_at (e ∷ past) m ≡ buffer → (is_pulse item.what ≡ false → message_at (e ∷ past) item.number ≡ bytes)
+    → taking item bytes u m buffer ≡ y → IsCopied past e y y.mark
+taking_copied past e m u item buffer bytes y b s is = subst (λ (x : Completion). IsCopied past e x x.mark) is (by (is_pulse item.what) s) where
+  by : (t : Bool) → (t ≡ false → message_at (e ∷ past) item.number ≡ bytes) → IsCopied past e (record { call = m; thread = u; mark = (as_given item buffer bytes t).0; buffer = (as_given item buffer bytes t).1 }) (as_given item buffer bytes t).0
+  by true s = sym b
+  by false s = rw (b, s refl) (refl, refl)
 
 -- the bytes of a Reply are laid over the buffer
 replied_copied : (past : Trace) (e : Event) (m u : ℕ) (status : ℤ) (bytes buffer : List ℕ) (y : Completion) → replies_with e.call ≡ Some (status, bytes) → buffer_at (e ∷ past) m ≡ buffer → answering m u (replied status bytes) buffer ≡ y
@@ -133,6 +149,16 @@ told_copied past e n t (Some told_so) y is b = plain_copied past e y (telling n 
 
 -- ---- each ending of an accepted call
 
+-- the best that is taken
+best_copied : (roster : List Member) (past : Trace) (t : ℕ) (c : Call) (X : List Completion) (y : Completion) (chid : ℕ) (kind : Kind) (buffer : List ℕ) → IsLawful roster past
+    → buffer_at (event t c X ∷ past) (length past + 1) ≡ buffer → ReceiveTakes (facts_of roster past) t chid kind buffer y → IsCopied past (event t c X) y y.mark
+best_copied roster past t c X y chid kind buffer l brought r =
+    let b = best_pending roster past chid kind r.item r.best in
+    let v = event t c X in
+    taking_copied past v (length past + 1) t r.item buffer (message (facts_of roster past) r.item.number) y brought
+    (λ sent. message_earlier v past r.item.number (item_below roster past r.item.number _ b.made) ∙ sym (pending_message roster past chid r.item l b sent))
+    r.ending
+
 own_copied : (roster : List Member) (past : Trace) (t : ℕ) (c : Call) (X : List Completion) (y : Completion) → IsLawful roster past → Passes (facts_of roster past) t c → (row_of (facts_of roster past) t c).own ≡ Some y
     → IsCopied past (event t c X) y y.mark
 own_copied roster past t (ChannelCreate flags) X y l p e = plain_copied past (event t (ChannelCreate flags) X) y _ (same_Some _ y e) (sym (buffer_newest (event t (ChannelCreate flags) X) past))
@@ -146,20 +172,21 @@ own_copied roster past t (Write rcvid offset bytes) X y l p e =
     plain_copied past (event t (Write rcvid offset bytes) X) y _ (same_Some _ y e) (refl, ap (λ b. laid_count b offset bytes) (held_buffer roster past t rcvid p.row))
 own_copied roster past t (Info rcvid) X y l p e =
     told_copied past (event t (Info rcvid) X) (length past + 1) t (told (facts_of roster past) (sender (facts_of roster past) rcvid)) y e (buffer_newest (event t (Info rcvid) X) past)
-own_copied roster past t (Receive chid buffer) X y l p e =
-    let r = receive_takes (facts_of roster past) t chid buffer y e in
-    let b = best_pending roster past chid Any r.item r.best in
-    let v = event t (Receive chid buffer) X in
-    taking_copied past v (length past + 1) t r.item.number buffer (message (facts_of roster past) r.item.number) y
-    (buffer_newest v past)
-    (message_earlier v past r.item.number (item_below roster past r.item.number _ b.made) ∙ sym (pending_message roster past chid r.item l b))
-    r.ending
+own_copied roster past t (Pulse coid level code value) X y l p e = plain_copied past (event t (Pulse coid level code value) X) y _ (same_Some _ y e) (sym (buffer_newest (event t (Pulse coid level code value) X) past))
+own_copied roster past t (Receive chid buffer) X y l p e = best_copied roster past t (Receive chid buffer) X y chid Any buffer l (buffer_newest (event t (Receive chid buffer) X) past) (receive_takes (facts_of roster past) t chid Any buffer y e)
+own_copied roster past t (ReceivePulse chid) X y l p e = best_copied roster past t (ReceivePulse chid) X y chid PulseOnly [] l (buffer_newest (event t (ReceivePulse chid) X) past) (receive_takes (facts_of roster past) t chid PulseOnly [] y e)
 
 -- the buffer of the Send that is answered
 answered_buffer : (roster : List Member) (past : Trace) (v : Event) (t rcvid : ℕ) (finish : Finish) (u : ℕ) (y : Completion) → writes v.call ≡ None → (r : SenderEnds (facts_of roster past) t rcvid finish u y)
     → buffer_at (v ∷ past) rcvid ≡ r.held.reply_buffer
 answered_buffer roster past v t rcvid finish u y none r =
     subst (λ i. buffer_at (v ∷ past) i ≡ r.held.reply_buffer) r.number (buffer_open roster v past u r.held.waiting none r.held.is_open ∙ ap awaited r.held.waits)
+
+-- what a receiver takes that is met
+met_copied : (roster : List Member) (past : Trace) (t : ℕ) (c : Call) (X : List Completion) (u : ℕ) (y : Completion) (coid : ℕ) (item : Item) (sent : List ℕ) → writes c ≡ None
+    → (is_pulse item.what ≡ false → message_at (event t c X ∷ past) item.number ≡ sent) → Meets (facts_of roster past) t coid item sent u y → IsCopied past (event t c X) y y.mark
+met_copied roster past t c X u y coid item sent none message s =
+    taking_copied past (event t c X) s.waiting.number u item s.buffer sent y (buffer_open roster (event t c X) past u s.waiting none s.is_open ∙ ap awaited s.waits) message s.ending
 
 ends_copied : (roster : List Member) (past : Trace) (t : ℕ) (c : Call) (X : List Completion) (u : ℕ) (y : Completion) → Passes (facts_of roster past) t c → (row_of (facts_of roster past) t c).ends u ≡ Some y
     → IsCopied past (event t c X) y y.mark
@@ -169,13 +196,13 @@ ends_copied roster past t (Receive chid buffer) X u y p e = absurd (none-some y 
 ends_copied roster past t (Read rcvid offset buffer) X u y p e = absurd (none-some y e)
 ends_copied roster past t (Write rcvid offset bytes) X u y p e = absurd (none-some y e)
 ends_copied roster past t (Info rcvid) X u y p e = absurd (none-some y e)
+ends_copied roster past t (ReceivePulse chid) X u y p e = absurd (none-some y e)
 ends_copied roster past t (Send coid sent reply_buffer) X u y p e =
-    let s = send_meets (facts_of roster past) t coid sent u y e in
-    let v = event t (Send coid sent reply_buffer) X in
-    taking_copied past v s.waiting.number u (length past + 1) s.buffer sent y
-    (buffer_open roster v past u s.waiting refl s.is_open ∙ ap awaited s.waits)
-    (message_newest v past)
-    s.ending
+    met_copied roster past t (Send coid sent reply_buffer) X u y coid (send.item (facts_of roster past) t) sent refl (λ message. message_newest (event t (Send coid sent reply_buffer) X) past)
+    (delivery_meets (facts_of roster past) t coid (send.item (facts_of roster past) t) sent u y e)
+ends_copied roster past t (Pulse coid level code value) X u y p e =
+    met_copied roster past t (Pulse coid level code value) X u y coid (pulse_item (length past + 1) level code value) [] refl (λ message. absurd (true≢false message))
+    (delivery_meets (facts_of roster past) t coid (pulse_item (length past + 1) level code value) [] u y e)
 ends_copied roster past t (Reply rcvid status bytes) X u y p e =
     let r = sender_ends (facts_of roster past) t rcvid (replied status bytes) u y p.row e in
     let v = event t (Reply rcvid status bytes) X in
@@ -207,6 +234,8 @@ refused_buffer roster past t c X l r = brought c ∙ sym (buffer_newest (event t
   brought (Read rcvid offset buffer) = refl
   brought (Write rcvid offset bytes) = refl
   brought (Info rcvid) = refl
+  brought (ReceivePulse chid) = refl
+  brought (Pulse coid level code value) = refl
 
 all_copied : (roster : List Member) (past : Trace) (t : ℕ) (c : Call) (X : List Completion) → IsLawful roster past → Answers (facts_of roster past) t c X
     → AllByRecursion (λ x. IsCopied past (event t c X) x x.mark) X

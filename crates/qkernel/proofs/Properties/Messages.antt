@@ -2,7 +2,7 @@
 use Rattle.std.proofs.Common.{◌≡◌, ◌∙◌, ℕ, ◌+◌, List, [], ◌∷◌, length, refl, ap, sym, subst, cond, eqb, true, false}
 use Rattle.std.specs.Prelude.{Option, None, Some, not, ◌&&◌}
 use Rattle.std.specs.Option.{option_and_then, option_map_or}
-use Rattle.std.proofs.lemmas.Bool.{eqb-true, or_parts, and_parts}
+use Rattle.std.proofs.lemmas.Bool.{eqb-true, or_parts, and_parts, true≢false}
 use Rattle.std.proofs.lemmas.Option.{none-some, same_Some}
 use Rattle.qqueue.specs.Best.{is_pulse}
 use Rattle.qqueue.specs.declared.item.Item.{Item}
@@ -12,14 +12,15 @@ use Rattle.qkernel.specs.Facts.{is_for_answer, message, message_in, message_of, 
 use Rattle.qkernel.specs.Headline.CopiedExactly.{buffer_at, buffer_by, message_at, message_of as message_in_call}
 use Rattle.qkernel.specs.Lawful.{facts_of, IsLawful}
 use Rattle.qkernel.specs.Past.{connection_at, ends, filled, held_with, is_accepted, is_ended, item_of, newest_block, open_call, priority_of_item, priority_of_thread, receipt_of, with_receipt, with_writes}
-use Rattle.qkernel.specs.Rows.{Made, asks, makes, sent_over, with_buffer}
+use Rattle.qkernel.specs.Rows.{pulse_item, Made, asks, makes, with_buffer}
 use Rattle.qkernel.specs.Trace.{Event, Trace}
 use Rattle.qkernel.specs.declared.call.Call.{Call}
-use Rattle.qkernel.specs.declared.call.Call.TheVariants.{ChannelCreate, ConnectAttach, Send, Receive, Reply, Error, Read, Write, Info}
+use Rattle.qkernel.specs.declared.call.Call.TheVariants.{ChannelCreate, ConnectAttach, Send, Receive, Reply, Error, Read, Write, Info, ReceivePulse, Pulse}
 use Rattle.qkernel.specs.declared.open_call.OpenCall.{OpenCall}
 use Rattle.qkernel.specs.declared.open_call.Receipt.{Receipt}
 use Rattle.qkernel.specs.declared.open_call.Wait.{Wait}
 use Rattle.qkernel.specs.declared.open_call.Wait.TheVariants.{Answer, Item as ForItem}
+use Rattle.qkernel.proofs.Calls.Delivering.{sent_item}
 use Rattle.qkernel.proofs.Past.Ends.{known, open_known, passes_of}
 use Rattle.qkernel.proofs.Past.Items.{IsPending, item_at}
 use Rattle.qkernel.proofs.Past.Lists.{eqb_same}
@@ -34,7 +35,7 @@ use Rattle.qkernel.proofs.Properties.Sends.{open_filled, open_keeps}
 -- the buffer that a thread waits with
 abbrev pub awaited : Wait → List ℕ
 awaited (Answer coid sent reply_buffer receipt) = reply_buffer
-awaited (ForItem chid buffer) = buffer
+awaited (ForItem chid kind buffer) = buffer
 
 -- a call that begins to wait keeps its buffer, which is written over, and its message
 pub record Keeps (past : Trace) (n : ℕ) (c : Call) (b : OpenCall) : Type 0 where
@@ -49,20 +50,22 @@ keeps past n (Error rcvid code) b e = absurd (none-some b e)
 keeps past n (Read rcvid offset buffer) b e = absurd (none-some b e)
 keeps past n (Write rcvid offset bytes) b e = absurd (none-some b e)
 keeps past n (Info rcvid) b e = absurd (none-some b e)
+keeps past n (Pulse coid level code value) b e = absurd (none-some b e)
+keeps past n (ReceivePulse chid) b e = subst (Keeps past n (ReceivePulse chid)) (same_Some _ b e) (record { buffer = refl; sent = refl })
 keeps past n (Send coid message reply_buffer) b e = subst (Keeps past n (Send coid message reply_buffer)) (same_Some _ b e) (record { buffer = refl; sent = refl })
 keeps past n (Receive chid buffer) b e = subst (Keeps past n (Receive chid buffer)) (same_Some _ b e) (record { buffer = refl; sent = refl })
 
 held_awaited : (receipt : Receipt) (w : Wait) → awaited (held_with receipt w) ≡ awaited w
 held_awaited receipt (Answer coid sent reply_buffer before) = refl
-held_awaited receipt (ForItem chid buffer) = refl
+held_awaited receipt (ForItem chid kind buffer) = refl
 
 held_message : (receipt : Receipt) (w : Wait) → message_of (held_with receipt w) ≡ message_of w
 held_message receipt (Answer coid sent reply_buffer before) = refl
-held_message receipt (ForItem chid buffer) = refl
+held_message receipt (ForItem chid kind buffer) = refl
 
 buffer_message : (f : List ℕ → List ℕ) (w : Wait) → message_of (with_buffer f w) ≡ message_of w
 buffer_message f (Answer coid sent reply_buffer receipt) = refl
-buffer_message f (ForItem chid buffer) = refl
+buffer_message f (ForItem chid kind buffer) = refl
 
 -- the buffer of an open call is the one that the call of its number brought, with what was written over it
 pub open_buffer : (roster : List Member) (past : Trace) (u : ℕ) (o : OpenCall) → open_call roster past u ≡ Some o → buffer_at past o.number ≡ awaited o.wait
@@ -78,31 +81,28 @@ open_message roster past u o is =
     let a = block_asked past u k.block k.is in
     ap (message_at past) k.number ∙ ap (λ c. option_map_or message_in_call c []) a.is ∙ (keeps past k.block.number a.call k.block a.asks_it).sent ∙ sym (open_keeps message_of roster past u o k held_message buffer_message)
 
--- ---- what is pending is a message whose Send waits
+-- ---- a message that is pending has its Send open
 
--- the item is a message, and the call that makes it waits for the answer
+-- the call that makes a message waits for the answer
 pub record IsMessage (n : ℕ) (c : Call) (m : Made) : Type 0 where
-  pub is_message : is_pulse m.item.what ≡ false
   pub begins : OpenCall
   pub asked : asks n c ≡ Some begins
   pub answer : is_for_answer begins.wait ≡ true
 
-sent_message : (o : Option Connection) (n priority : ℕ) (m : Made) → sent_over o n priority ≡ Some m → is_pulse m.item.what ≡ false
-sent_message None n priority m e = absurd (none-some m e)
-sent_message (Some c) n priority m e = ap (λ x. is_pulse x.item.what) (sym (same_Some _ m e))
-
-pub makes_message : (connection : ℕ → Option Connection) (priority : ℕ → ℕ) (n t : ℕ) (c : Call) (m : Made) → makes connection priority n t c ≡ Some m → IsMessage n c m
-makes_message connection priority n t (ChannelCreate flags) m e = absurd (none-some m e)
-makes_message connection priority n t (ConnectAttach chid) m e = absurd (none-some m e)
-makes_message connection priority n t (Receive chid buffer) m e = absurd (none-some m e)
-makes_message connection priority n t (Reply rcvid status bytes) m e = absurd (none-some m e)
-makes_message connection priority n t (Error rcvid code) m e = absurd (none-some m e)
-makes_message connection priority n t (Read rcvid offset buffer) m e = absurd (none-some m e)
-makes_message connection priority n t (Write rcvid offset bytes) m e = absurd (none-some m e)
-makes_message connection priority n t (Info rcvid) m e = absurd (none-some m e)
-makes_message connection priority n t (Send coid message reply_buffer) m e = record {
-  is_message = sent_message (connection coid) n (priority t) m e;
-  begins = record { number = n; wait = Answer coid message reply_buffer None };
+pub makes_message : (connection : ℕ → Option Connection) (priority : ℕ → ℕ) (n t : ℕ) (c : Call) (m : Made) → makes connection priority n t c ≡ Some m → is_pulse m.item.what ≡ false → IsMessage n c m
+makes_message connection priority n t (ChannelCreate flags) m e message = absurd (none-some m e)
+makes_message connection priority n t (ConnectAttach chid) m e message = absurd (none-some m e)
+makes_message connection priority n t (Receive chid buffer) m e message = absurd (none-some m e)
+makes_message connection priority n t (Reply rcvid status bytes) m e message = absurd (none-some m e)
+makes_message connection priority n t (Error rcvid code) m e message = absurd (none-some m e)
+makes_message connection priority n t (Read rcvid offset buffer) m e message = absurd (none-some m e)
+makes_message connection priority n t (Write rcvid offset bytes) m e message = absurd (none-some m e)
+makes_message connection priority n t (Info rcvid) m e message = absurd (none-some m e)
+makes_message connection priority n t (ReceivePulse chid) m e message = absurd (none-some m e)
+makes_message connection priority n t (Pulse coid level code value) m e message =
+    absurd (true≢false (ap (λ x. is_pulse x.what) (sym (sent_item (connection coid) (pulse_item n level code value) m e)) ∙ message))
+makes_message connection priority n t (Send coid sent reply_buffer) m e message = record {
+  begins = record { number = n; wait = Answer coid sent reply_buffer None };
   asked = refl;
   answer = refl;
 }
@@ -136,13 +136,13 @@ block_stays roster e past u b l is going =
       | false ↦ λ h. is
     ] refl
 
-pub item_waits : (roster : List Member) (past : Trace) (i : ℕ) (m : Made) → IsLawful roster past → item_at roster past i ≡ Some m → is_ended past i ≡ false → IsWaiting past i
-item_waits roster [] i m l is going = absurd (none-some m is)
-item_waits roster (e ∷ past) i m l is going =
+pub item_waits : (roster : List Member) (past : Trace) (i : ℕ) (m : Made) → IsLawful roster past → item_at roster past i ≡ Some m → is_pulse m.item.what ≡ false → is_ended past i ≡ false → IsWaiting past i
+item_waits roster [] i m l is message going = absurd (none-some m is)
+item_waits roster (e ∷ past) i m l is message going =
     elim (eqb i (length past + 1)) as (λ b. eqb i (length past + 1) ≡ b → cond b (item_of roster e past) (item_at roster past i) ≡ Some m → IsWaiting (e ∷ past) i) [
       | true ↦ λ same at.
           let k = made_accepted roster e past m at in
-          let w = makes_message (connection_at roster past) (priority_of_thread roster past) (length past + 1) e.thread e.call m k.1 in
+          let w = makes_message (connection_at roster past) (priority_of_thread roster past) (length past + 1) e.thread e.call m k.1 message in
           record {
             thread = e.thread;
             block = w.begins;
@@ -152,7 +152,7 @@ item_waits roster (e ∷ past) i m l is going =
           }
       | false ↦ λ other at.
           let before : is_ended past i ≡ false = (or_parts (ends e.endings i) (is_ended past i) going).1 in
-          let k = item_waits roster past i m l.0 at before in
+          let k = item_waits roster past i m l.0 at message before in
           record {
             thread = k.thread;
             block = k.block;
@@ -162,25 +162,15 @@ item_waits roster (e ∷ past) i m l is going =
           }
     ] refl is
 
--- each item is a message
-pub item_message : (roster : List Member) (past : Trace) (i : ℕ) (m : Made) → item_at roster past i ≡ Some m → is_pulse m.item.what ≡ false
-item_message roster [] i m is = absurd (none-some m is)
-item_message roster (e ∷ past) i m is =
-    elim (eqb i (length past + 1)) as (λ b. eqb i (length past + 1) ≡ b → cond b (item_of roster e past) (item_at roster past i) ≡ Some m → is_pulse m.item.what ≡ false) [
-      | true ↦ λ same at. (makes_message (connection_at roster past) (priority_of_thread roster past) (length past + 1) e.thread e.call m (made_accepted roster e past m at).1).is_message
-      | false ↦ λ other at. item_message roster past i m at
-    ] refl is
-
 -- a message that is pending isn't ended
-pending_going : (roster : List Member) (past : Trace) (h : ℕ) (item : Item) → IsPending roster past h item → is_ended past item.number ≡ false
-pending_going roster past h item p =
-    subst (λ b. (not b && is_ended past item.number) ≡ false) (item_message roster past item.number (record { item = item; channel = h }) p.made) (or_parts _ _ p.stays).1
+pending_going : (roster : List Member) (past : Trace) (h : ℕ) (item : Item) → IsPending roster past h item → is_pulse item.what ≡ false → is_ended past item.number ≡ false
+pending_going roster past h item p message = subst (λ b. (not b && is_ended past item.number) ≡ false) message (or_parts _ _ p.stays).1
 
 -- the message of a pending item is that of the call of its number
-pub pending_message : (roster : List Member) (past : Trace) (h : ℕ) (item : Item) → IsLawful roster past → IsPending roster past h item → message (facts_of roster past) item.number ≡ message_at past item.number
-pending_message roster past h item l p =
-    let going : is_ended past item.number ≡ false = pending_going roster past h item p in
-    let w = item_waits roster past item.number (record { item = item; channel = h }) l p.made going in
+pub pending_message : (roster : List Member) (past : Trace) (h : ℕ) (item : Item) → IsLawful roster past → IsPending roster past h item → is_pulse item.what ≡ false → message (facts_of roster past) item.number ≡ message_at past item.number
+pending_message roster past h item l p sent =
+    let going : is_ended past item.number ≡ false = pending_going roster past h item p sent in
+    let w = item_waits roster past item.number (record { item = item; channel = h }) l p.made sent going in
     let o = with_receipt (priority_of_item roster past w.block.number) (receipt_of past w.block.number) (filled past w.block) in
     let is : open_call roster past w.thread ≡ Some o = open_from roster past w.thread w.block w.is (subst (λ j. is_ended past j ≡ false) (sym w.number) going) in
     let number : o.number ≡ item.number = receipt_number (priority_of_item roster past w.block.number) (receipt_of past w.block.number) (filled past w.block) ∙ w.number in

@@ -1,5 +1,5 @@
 -- An ending that receives an item: the caller's own of what was pending, or of a thread that waited for what the call makes.
-use Rattle.std.proofs.Common.{◌≡◌, ◌∙◌, ℕ, ap, refl, sym, cond, eqb, true, false, inl, inr, ◌⊎◌}
+use Rattle.std.proofs.Common.{◌≡◌, ◌∙◌, ℕ, List, [], ap, refl, sym, cond, eqb, true, false, inl, inr, ◌⊎◌}
 use Rattle.std.specs.Prelude.{Option, None, Some}
 use Rattle.std.specs.Option.{option_map}
 use Rattle.std.proofs.lemmas.Bool.{eqb-true}
@@ -7,24 +7,25 @@ use Rattle.std.proofs.lemmas.Option.{none-some, same_Some}
 use Rattle.qqueue.specs.Best.{best_of, may_take}
 use Rattle.qqueue.specs.declared.item.Item.{Item}
 use Rattle.qqueue.specs.declared.item.Kind.{Kind}
-use Rattle.qqueue.specs.declared.item.Kind.TheVariants.{Any}
-use Rattle.qqueue.specs.declared.item.What.TheVariants.{Message}
+use Rattle.qqueue.specs.declared.item.Kind.TheVariants.{Any, PulseOnly}
 use Rattle.qkernel.specs.Answer.{row_of, ending}
 use Rattle.qkernel.specs.Calls.Error.{errored}
 use Rattle.qkernel.specs.Calls.Info.{told}
 use Rattle.qkernel.specs.Calls.Reply.{replied}
-use Rattle.qkernel.specs.Facts.{Facts, sender}
+use Rattle.qkernel.specs.Calls.Send.{item}
+use Rattle.qkernel.specs.Facts.{Facts, message, sender}
 use Rattle.qkernel.specs.Headline.BestFirst.{receives_on}
 use Rattle.qkernel.specs.Headline.ReceivedOnce.{item_received}
-use Rattle.qkernel.specs.Rows.{Made, makes, received}
+use Rattle.qkernel.specs.Rows.{Made, makes, pulse_item, received, sent_over}
 use Rattle.qkernel.specs.declared.call.Call.{Call}
-use Rattle.qkernel.specs.declared.call.Call.TheVariants.{ChannelCreate, ConnectAttach, Send, Receive, Reply, Error, Read, Write, Info}
+use Rattle.qkernel.specs.declared.call.Call.TheVariants.{ChannelCreate, ConnectAttach, Send, Receive, Reply, Error, Read, Write, Info, ReceivePulse, Pulse}
 use Rattle.qkernel.specs.declared.call.Completion.{Completion}
 use Rattle.qkernel.specs.declared.open_call.OpenCall.{OpenCall}
 use Rattle.qkernel.specs.declared.open_call.Wait.{Wait}
 use Rattle.qkernel.specs.declared.open_call.Wait.TheVariants.{Answer, Item as ForItem}
-use Rattle.qkernel.proofs.Properties.Rows.Receive.{receive_takes}
-use Rattle.qkernel.proofs.Properties.Rows.Send.{send_meets}
+use Rattle.qkernel.proofs.Calls.Taking.{given_received}
+use Rattle.qkernel.proofs.Properties.Rows.Delivering.{Meets, delivery_meets}
+use Rattle.qkernel.proofs.Properties.Rows.Receiving.{ReceiveTakes, receive_takes}
 use Rattle.qkernel.proofs.Calls.Answering.{answer_receives}
 use Rattle.qkernel.proofs.Calls.Error.{no_receipt}
 use Rattle.qkernel.proofs.Calls.Held.{sender_ends}
@@ -53,7 +54,7 @@ receives_it x i e =
 -- the channel and kind of items that a thread waits for
 abbrev pub waits_for : Wait → Option (ℕ × Kind)
 waits_for (Answer coid message reply_buffer receipt) = None
-waits_for (ForItem chid buffer) = Some (chid, Any)
+waits_for (ForItem chid kind buffer) = Some (chid, kind)
 
 -- the caller takes the best of what was pending
 pub record TakesPending (f : Facts) (t : ℕ) (c : Call) (u : ℕ) (y : Completion) (i : ℕ) : Type 0 where
@@ -82,6 +83,21 @@ pub record TakesMade (f : Facts) (t : ℕ) (c : Call) (u : ℕ) (y : Completion)
 abbrev pub TakesOne : Facts → ℕ → Call → ℕ → Completion → ℕ → Type 0
 TakesOne f t c u y i = TakesPending f t c u y i ⊎ TakesMade f t c u y i
 
+-- a receive that takes the best
+takes_best : (f : Facts) (t : ℕ) (c : Call) (chid : ℕ) (kind : Kind) (buffer : List ℕ) (u : ℕ) (y : Completion) (p : ℕ × ℕ) → u ≡ t → receives_on c ≡ Some (chid, kind) → makes f.connection f.priority f.number t c ≡ None
+    → ReceiveTakes f t chid kind buffer y → received y.mark ≡ Some p → TakesOne f t c u y p.0
+takes_best f t c chid kind buffer u y p same receives none r m = inl (record {
+  caller = same;
+  call = sym (ap (λ x. x.call) r.ending);
+  channel = chid;
+  kind = kind;
+  item = r.item;
+  receives = receives;
+  makes_none = none;
+  best = r.best;
+  number = ap (λ q. q.0) (same_Some (r.item.number, (given_received r.item (message f r.item.number) buffer).0) p (sym (given_received r.item (message f r.item.number) buffer).1 ∙ ap (λ x. received x.mark) r.ending ∙ m));
+})
+
 own_takes : (f : Facts) (t : ℕ) (c : Call) (u : ℕ) (y : Completion) (p : ℕ × ℕ) → u ≡ t → (row_of f t c).own ≡ Some y → received y.mark ≡ Some p → TakesOne f t c u y p.0
 own_takes f t (ChannelCreate flags) u y p same e m = absurd (none-some p (ap (λ x. received x.mark) (same_Some _ y e) ∙ m))
 own_takes f t (ConnectAttach chid) u y p same e m = absurd (none-some p (ap (λ x. received x.mark) (same_Some _ y e) ∙ m))
@@ -91,19 +107,24 @@ own_takes f t (Error rcvid code) u y p same e m = absurd (none-some p (ap (λ x.
 own_takes f t (Read rcvid offset buffer) u y p same e m = absurd (none-some p (ap (λ x. received x.mark) (same_Some _ y e) ∙ m))
 own_takes f t (Write rcvid offset bytes) u y p same e m = absurd (none-some p (ap (λ x. received x.mark) (same_Some _ y e) ∙ m))
 own_takes f t (Info rcvid) u y p same e m = absurd (none-some p (sym (plain f.number t (told f (sender f rcvid)) y e).mark ∙ m))
-own_takes f t (Receive chid buffer) u y p same e m =
-    let r = receive_takes f t chid buffer y e in
-    inl (record {
-      caller = same;
-      call = sym (ap (λ x. x.call) r.ending);
-      channel = chid;
-      kind = Any;
-      item = r.item;
-      receives = refl;
-      makes_none = refl;
-      best = r.best;
-      number = ap (λ q. q.0) (same_Some _ p (ap (λ x. received x.mark) r.ending ∙ m));
-    })
+own_takes f t (Pulse coid level code value) u y p same e m = absurd (none-some p (ap (λ x. received x.mark) (same_Some _ y e) ∙ m))
+own_takes f t (Receive chid buffer) u y p same e m = takes_best f t (Receive chid buffer) chid Any buffer u y p same refl refl (receive_takes f t chid Any buffer y e) m
+own_takes f t (ReceivePulse chid) u y p same e m = takes_best f t (ReceivePulse chid) chid PulseOnly [] u y p same refl refl (receive_takes f t chid PulseOnly [] y e) m
+
+-- a receiver that takes what is delivered
+takes_met : (f : Facts) (t : ℕ) (c : Call) (coid : ℕ) (item : Item) (message : List ℕ) (u : ℕ) (y : Completion) (p : ℕ × ℕ) → Meets f t coid item message u y → makes f.connection f.priority f.number t c ≡ sent_over (f.connection coid) item
+    → received y.mark ≡ Some p → TakesOne f t c u y p.0
+takes_met f t c coid item message u y p s made m = inr (record {
+  made = record { item = item; channel = s.channel };
+  is_made = made ∙ ap (λ o. sent_over o item) s.leads.is ∙ ap (λ h. Some (record { item = item; channel = h })) s.leads.channel;
+  number = ap (λ q. q.0) (same_Some (item.number, (given_received item message s.buffer).0) p (sym (given_received item message s.buffer).1 ∙ ap (λ x. received x.mark) s.ending ∙ m));
+  waiting = s.waiting;
+  is_open = s.is_open;
+  call = sym (ap (λ x. x.call) s.ending);
+  kind = s.kind;
+  waits = ap waits_for s.waits;
+  may = s.may;
+})
 
 ends_takes : (f : Facts) (t : ℕ) (c : Call) (u : ℕ) (y : Completion) (p : ℕ × ℕ) → (row_of f t c).refusal ≡ None → (row_of f t c).ends u ≡ Some y → received y.mark ≡ Some p → TakesOne f t c u y p.0
 ends_takes f t (ChannelCreate flags) u y p r e m = absurd (none-some y e)
@@ -115,19 +136,11 @@ ends_takes f t (Error rcvid code) u y p r e m = absurd (none-some p (sym (answer
 ends_takes f t (Read rcvid offset buffer) u y p r e m = absurd (none-some y e)
 ends_takes f t (Write rcvid offset bytes) u y p r e m = absurd (none-some y e)
 ends_takes f t (Info rcvid) u y p r e m = absurd (none-some y e)
+ends_takes f t (ReceivePulse chid) u y p r e m = absurd (none-some y e)
 ends_takes f t (Send coid message reply_buffer) u y p r e m =
-    let s = send_meets f t coid message u y e in
-    inr (record {
-      made = record { item = record { number = f.number; priority = f.priority t; what = Message }; channel = s.channel };
-      is_made = rw (s.leads.is, s.leads.channel) refl;
-      number = ap (λ q. q.0) (same_Some _ p (ap (λ x. received x.mark) s.ending ∙ m));
-      waiting = s.waiting;
-      is_open = s.is_open;
-      call = sym (ap (λ x. x.call) s.ending);
-      kind = Any;
-      waits = ap waits_for s.waits;
-      may = refl;
-    })
+    takes_met f t (Send coid message reply_buffer) coid (item f t) message u y p (delivery_meets f t coid (item f t) message u y e) refl m
+ends_takes f t (Pulse coid level code value) u y p r e m =
+    takes_met f t (Pulse coid level code value) coid (pulse_item f.number level code value) [] u y p (delivery_meets f t coid (pulse_item f.number level code value) [] u y e) refl m
 
 -- each ending that receives an item takes it so
 pub takes_one : (f : Facts) (t : ℕ) (c : Call) (u : ℕ) (y : Completion) (p : ℕ × ℕ) → (row_of f t c).refusal ≡ None → ending f t c u ≡ Some y → received y.mark ≡ Some p → TakesOne f t c u y p.0

@@ -1,3 +1,3 @@
--- What each row comes to where it ends a call, one file for each call.
-pub mod Receive
-pub mod Send
+-- What a row comes to where it receives or delivers an item.
+pub mod Receiving
+pub mod Delivering

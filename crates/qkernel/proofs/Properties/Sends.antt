@@ -130,11 +130,11 @@ held_is_taken roster past u o k w s =
 
 held_over : (receipt : Receipt) (w : Wait) → over (held_with receipt w) ≡ over w
 held_over receipt (Answer coid message reply_buffer before) = refl
-held_over receipt (ForItem chid buffer) = refl
+held_over receipt (ForItem chid kind buffer) = refl
 
 buffer_over : (f : List ℕ → List ℕ) (w : Wait) → over (with_buffer f w) ≡ over w
 buffer_over f (Answer coid message reply_buffer receipt) = refl
-buffer_over f (ForItem chid buffer) = refl
+buffer_over f (ForItem chid kind buffer) = refl
 
 -- the connection of an open Send, and its item
 pub open_over : (roster : List Member) (past : Trace) (u : ℕ) (o : OpenCall) (k : IsOpen roster past u o) → IsLawful roster past → is_for_answer o.wait ≡ true → IsSentOver roster past (over o.wait) k.block.number

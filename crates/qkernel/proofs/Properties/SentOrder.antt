@@ -9,16 +9,17 @@ use Rattle.qqueue.specs.Best.{best_of, may_take}
 use Rattle.qqueue.specs.Contents.{IsRising}
 use Rattle.qqueue.specs.declared.item.Item.{Item}
 use Rattle.qqueue.specs.declared.item.Kind.{Kind}
+use Rattle.qqueue.specs.declared.item.Kind.TheVariants.{Any}
 use Rattle.qtables.specs.Members.{IsRoster}
 use Rattle.qtables.specs.declared.member.Member.{Member}
 use Rattle.qkernel.specs.Headline.BestFirst.{BestFirst, TakesBest, receives_on, takeable}
 use Rattle.qkernel.specs.Headline.ReceivedOnce.{item_received}
-use Rattle.qkernel.specs.Headline.SentOrder.{NoneSentEarlier, SentOrder, connection_of}
+use Rattle.qkernel.specs.Headline.SentOrder.{IsPlainReceive, NoneSentEarlier, SentOrder, connection_of}
 use Rattle.qkernel.specs.Lawful.{IsLawful}
 use Rattle.qkernel.specs.Past.{priority_of_item}
 use Rattle.qkernel.specs.Trace.{Event, Trace}
 use Rattle.qkernel.specs.declared.call.Call.{Call}
-use Rattle.qkernel.specs.declared.call.Call.TheVariants.{ChannelCreate, ConnectAttach, Send, Receive, Reply, Error, Read, Write, Info}
+use Rattle.qkernel.specs.declared.call.Call.TheVariants.{Receive}
 use Rattle.qkernel.specs.declared.call.Completion.{Completion}
 use Rattle.qkernel.proofs.Past.Best.{best_earliest}
 use Rattle.qkernel.proofs.Past.Items.{item_at, item_priority}
@@ -28,17 +29,9 @@ use Rattle.qkernel.proofs.Past.Rising.{takeable_rises}
 use Rattle.qkernel.proofs.Properties.BestFirst.{best_first}
 use Rattle.qkernel.proofs.Properties.Connections.{item_over, takeable_made}
 
--- a receive may take any item
-receives_any : (c : Call) (p : ℕ × Kind) (item : Item) → receives_on c ≡ Some p → may_take p.1 item ≡ true
-receives_any (Receive chid buffer) p item e = ap (λ q. may_take q.1 item) (sym (same_Some _ p e))
-receives_any (ChannelCreate flags) p item e = absurd (none-some p e)
-receives_any (ConnectAttach chid) p item e = absurd (none-some p e)
-receives_any (Send coid message reply_buffer) p item e = absurd (none-some p e)
-receives_any (Reply rcvid status bytes) p item e = absurd (none-some p e)
-receives_any (Error rcvid code) p item e = absurd (none-some p e)
-receives_any (Read rcvid offset buffer) p item e = absurd (none-some p e)
-receives_any (Write rcvid offset bytes) p item e = absurd (none-some p e)
-receives_any (Info rcvid) p item e = absurd (none-some p e)
+-- a Receive may take any item
+plain_takes : (c : Call) (chid : ℕ) (buffer : List ℕ) (p : ℕ × Kind) (item : Item) → c ≡ Receive chid buffer → receives_on c ≡ Some p → may_take p.1 item ≡ true
+plain_takes c chid buffer p item is e = ap (λ q. may_take q.1 item) (sym (same_Some (chid, Any) p (ap receives_on (sym is) ∙ e)))
 
 -- the best of rising items is no later than any other of its priority
 first_of_equals : (kind : Kind) (items : List Item) (x : Item) → IsRising items → best_of kind items ≡ Some x → ((w : Item) → may_take kind w ≡ true)
@@ -52,8 +45,8 @@ some_number : (o : Option Item) (i : ℕ) → option_map (λ (x : Item). x.numbe
 some_number None i e = absurd (none-some i e)
 some_number (Some x) i e = (x, refl, same_Some x.number i e)
 
-none_sent_earlier : (roster : List Member) (past : Trace) (e : Event) (y : Completion) (j k h : ℕ) → TakesBest roster past e y j → connection_of (e ∷ past) j ≡ Some k → NoneSentEarlier roster past e k j h
-none_sent_earlier roster past e y j k h b over =
+none_sent_earlier : (roster : List Member) (past : Trace) (e : Event) (y : Completion) (j k h : ℕ) → IsPlainReceive (e ∷ past) y → TakesBest roster past e y j → connection_of (e ∷ past) j ≡ Some k → NoneSentEarlier roster past e k j h
+none_sent_earlier roster past e y j k h plain b over =
     let x = some_number (best_of b.kind (takeable roster past e b.channel)) j b.best in
     let At = λ (c : ℕ) (w : Item). item_at roster (e ∷ past) w.number ≡ Some (record { item = w; channel = c }) in
     let at : item_at roster (e ∷ past) x.0.number ≡ Some (record { item = x.0; channel = b.channel }) =
@@ -65,7 +58,7 @@ none_sent_earlier roster past e y j k h b over =
           subst (NoneSentEarlier roster past e k j) (sym same)
           (all_more (λ w. w.priority ≡ x.0.priority → x.0.number ≤ w.number) (λ w. connection_of (e ∷ past) w.number ≡ Some k → w.priority ≡ priority_of_item roster (e ∷ past) j → j ≤ w.number)
           (takeable roster past e b.channel)
-          (first_of_equals b.kind (takeable roster past e b.channel) x.0 (takeable_rises roster e past b.channel) x.1 (λ w. receives_any b.call (b.channel, b.kind) w b.receives))
+          (first_of_equals b.kind (takeable roster past e b.channel) x.0 (takeable_rises roster e past b.channel) x.1 (λ w. plain_takes b.call plain.0 plain.1 (b.channel, b.kind) w (same_Some b.call (Receive plain.0 plain.1) (sym b.is_call ∙ plain.2)) b.receives))
           (λ w first _ equal. let no_earlier : x.0.number ≤ w.number = first (equal ∙ priority) in omega (arith, x.2)))
       | inr other ↦
           all_more (λ w. item_at roster (e ∷ past) w.number ≡ Some (record { item = w; channel = h })) (λ w. connection_of (e ∷ past) w.number ≡ Some k → w.priority ≡ priority_of_item roster (e ∷ past) j → j ≤ w.number)
@@ -79,8 +72,8 @@ order_from : (roster : List Member) (past : Trace) → BestFirst roster past →
 order_from roster [] b = tt
 order_from roster (e ∷ past) b = (
   all_more (λ x. (i : ℕ) → item_received x ≡ Some i → TakesBest roster past e x i)
-      (λ x. (j k h : ℕ) → item_received x ≡ Some j → connection_of (e ∷ past) j ≡ Some k → NoneSentEarlier roster past e k j h) e.endings b.0
-      (λ x takes j k h is over. none_sent_earlier roster past e x j k h (takes j is) over),
+      (λ x. (j k h : ℕ) → IsPlainReceive (e ∷ past) x → item_received x ≡ Some j → connection_of (e ∷ past) j ≡ Some k → NoneSentEarlier roster past e k j h) e.endings b.0
+      (λ x takes j k h plain is over. none_sent_earlier roster past e x j k h plain (takes j is) over),
   order_from roster past b.1,
 )
 

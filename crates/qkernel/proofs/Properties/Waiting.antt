@@ -5,31 +5,32 @@ use Rattle.std.specs.List.{AllByRecursion}
 use Rattle.std.specs.Option.{option_map}
 use Rattle.std.proofs.lemmas.Bool.{eqb-true, eqb-false, not-true, true≢false}
 use Rattle.std.proofs.lemmas.Option.{none-some, same_Some, some_pair_parts}
-use Rattle.qbase.specs.Laying.{laid_count, lay_over}
+use Rattle.qbase.specs.Laying.{lay_over}
 use Rattle.qqueue.specs.Best.{best_of, may_take, without}
 use Rattle.qqueue.specs.declared.item.Item.{Item}
 use Rattle.qqueue.specs.declared.item.Kind.{Kind}
-use Rattle.qqueue.specs.declared.item.Kind.TheVariants.{Any}
-use Rattle.qqueue.specs.declared.item.What.TheVariants.{Message}
+use Rattle.qqueue.specs.declared.item.Kind.TheVariants.{Any, PulseOnly}
 use Rattle.qtables.specs.Members.{IsRoster}
 use Rattle.qtables.specs.declared.member.Member.{Member}
 use Rattle.qkernel.specs.Answer.{row_of}
-use Rattle.qkernel.specs.Calls.Receive.{receipt_of}
-use Rattle.qkernel.specs.Calls.Send.{row}
+use Rattle.qkernel.specs.Calls.Send.{item}
+use Rattle.qkernel.specs.Delivering.{receiver, received_of}
+use Rattle.qkernel.specs.Receiving.{receipt_of}
 use Rattle.qkernel.specs.Facts.{Facts, sender, threads_of, way}
 use Rattle.qkernel.specs.Headline.BestFirst.{receives_on}
 use Rattle.qkernel.specs.Lawful.{facts_of, IsLawful}
 use Rattle.qkernel.specs.Past.{held_with}
 use Rattle.qkernel.specs.Receivers.{newest}
-use Rattle.qkernel.specs.Rows.{Made, Received, Written, asks, makes, with_buffer, writes}
+use Rattle.qkernel.specs.Rows.{Made, Received, Written, asks, makes, pulse_item, sent_over, takes, taking, with_buffer, writes}
 use Rattle.qkernel.specs.Step.{after_receipt, after_write, held_call, is_thread, made_on, open_call_after, pending_after, taken_out, unless, written_call}
 use Rattle.qkernel.specs.Trace.{Trace}
 use Rattle.qkernel.specs.declared.call.Call.{Call}
-use Rattle.qkernel.specs.declared.call.Call.TheVariants.{ChannelCreate, ConnectAttach, Send, Receive, Reply, Error, Read, Write, Info}
+use Rattle.qkernel.specs.declared.call.Call.TheVariants.{ChannelCreate, ConnectAttach, Send, Receive, Reply, Error, Read, Write, Info, ReceivePulse, Pulse}
 use Rattle.qkernel.specs.declared.open_call.OpenCall.{OpenCall}
 use Rattle.qkernel.specs.declared.open_call.Receipt.{Receipt}
 use Rattle.qkernel.specs.declared.open_call.Wait.{Wait}
 use Rattle.qkernel.specs.declared.open_call.Wait.TheVariants.{Answer, Item as ForItem}
+use Rattle.qkernel.proofs.Calls.Taking.{given_received, receipt_from, receipt_in_at}
 use Rattle.qkernel.proofs.Past.Best.{none_may}
 use Rattle.qkernel.proofs.Past.Ends.{known, open_known, passes_of}
 use Rattle.qkernel.proofs.Past.Follows.{past_follows}
@@ -37,22 +38,22 @@ use Rattle.qkernel.proofs.Past.Laws.{Passes}
 use Rattle.qkernel.proofs.Past.Lists.{all_append, all_more, is_among, none_of}
 use Rattle.qkernel.proofs.Properties.Receipts.{waits_for}
 use Rattle.qkernel.proofs.Properties.Receivers.{WaitsOn, newest_some, newest_waits}
-use Rattle.qkernel.proofs.Properties.Rows.Send.{has_way, way_leads}
+use Rattle.qkernel.proofs.Properties.Rows.Delivering.{has_way, pulse_way, way_leads}
 
 -- ---- what a thread waits for
 
-waits_for_is : (w : Wait) (h : ℕ) (kind : Kind) → waits_for w ≡ Some (h, kind) → (buffer : List ℕ) × (w ≡ ForItem h buffer)
+waits_for_is : (w : Wait) (h : ℕ) (kind : Kind) → waits_for w ≡ Some (h, kind) → (buffer : List ℕ) × (w ≡ ForItem h kind buffer)
 waits_for_is (Answer coid message reply_buffer receipt) h kind e = absurd (none-some (h, kind) e)
-waits_for_is (ForItem chid buffer) h kind e = (buffer, ap (λ c. ForItem c buffer) (some_pair_parts chid h Any kind e).0)
+waits_for_is (ForItem chid taken buffer) h kind e = let p = some_pair_parts chid h taken kind e in (buffer, ap (λ c. ForItem c taken buffer) p.0 ∙ ap (λ k. ForItem h k buffer) p.1)
 
 -- a receipt changes nothing of it
 pub held_waits_for : (receipt : Receipt) (w : Wait) → waits_for (held_with receipt w) ≡ waits_for w
 held_waits_for receipt (Answer coid message reply_buffer before) = refl
-held_waits_for receipt (ForItem chid buffer) = refl
+held_waits_for receipt (ForItem chid kind buffer) = refl
 
 pub buffer_waits_for : (f : List ℕ → List ℕ) (w : Wait) → waits_for (with_buffer f w) ≡ waits_for w
 buffer_waits_for f (Answer coid message reply_buffer receipt) = refl
-buffer_waits_for f (ForItem chid buffer) = refl
+buffer_waits_for f (ForItem chid kind buffer) = refl
 
 -- a call waits for what it receives on
 pub waits_for_asked : (n : ℕ) (c : Call) (b : OpenCall) → asks n c ≡ Some b → receives_on c ≡ waits_for b.wait
@@ -65,6 +66,8 @@ waits_for_asked n (Write rcvid offset bytes) b e = absurd (none-some b e)
 waits_for_asked n (Info rcvid) b e = absurd (none-some b e)
 waits_for_asked n (Send coid message reply_buffer) b e = ap (λ o. waits_for o.wait) (same_Some _ b e)
 waits_for_asked n (Receive chid buffer) b e = ap (λ o. waits_for o.wait) (same_Some _ b e)
+waits_for_asked n (ReceivePulse chid) b e = ap (λ o. waits_for o.wait) (same_Some _ b e)
+waits_for_asked n (Pulse coid level code value) b e = absurd (none-some b e)
 
 -- ---- by each call's row
 
@@ -72,9 +75,9 @@ waits_for_asked n (Receive chid buffer) b e = ap (λ o. waits_for o.wait) (same_
 abbrev BeginsWithNone : Facts → ℕ → Call → ℕ × Kind → Type 0
 BeginsWithNone f t c p = (best_of p.1 (f.pending p.0) ≡ None) × (makes f.connection f.priority f.number t c ≡ None)
 
-none_to_take : (f : Facts) (t chid : ℕ) (buffer : List ℕ) (o : Option Item) → receipt_of f t chid buffer o ≡ None → o ≡ None
-none_to_take f t chid buffer None e = refl
-none_to_take f t chid buffer (Some item) e = absurd (none-some _ (sym e))
+none_to_take : (f : Facts) (t : ℕ) (buffer : List ℕ) (o : Option Item) → receipt_of f t buffer o ≡ None → o ≡ None
+none_to_take f t buffer None e = refl
+none_to_take f t buffer (Some item) e = absurd (none-some _ (sym e))
 
 begins_with_none : (f : Facts) (t : ℕ) (c : Call) (b : OpenCall) (p : ℕ × Kind) → asks f.number c ≡ Some b → waits_for b.wait ≡ Some p → (row_of f t c).own ≡ None → BeginsWithNone f t c p
 begins_with_none f t (ChannelCreate flags) b p e w own = absurd (none-some b e)
@@ -85,9 +88,11 @@ begins_with_none f t (Read rcvid offset buffer) b p e w own = absurd (none-some 
 begins_with_none f t (Write rcvid offset bytes) b p e w own = absurd (none-some b e)
 begins_with_none f t (Info rcvid) b p e w own = absurd (none-some b e)
 begins_with_none f t (Send coid message reply_buffer) b p e w own = absurd (none-some p (ap (λ o. waits_for o.wait) (same_Some _ b e) ∙ w))
+begins_with_none f t (Pulse coid level code value) b p e w own = absurd (none-some b e)
 begins_with_none f t (Receive chid buffer) b p e w own =
-    subst (BeginsWithNone f t (Receive chid buffer)) (same_Some (chid, Any) p (ap (λ o. waits_for o.wait) (same_Some _ b e) ∙ w))
-    (none_to_take f t chid buffer (best_of Any (f.pending chid)) own, refl)
+    subst (BeginsWithNone f t (Receive chid buffer)) (same_Some (chid, Any) p (ap (λ o. waits_for o.wait) (same_Some _ b e) ∙ w)) (none_to_take f t buffer (best_of Any (f.pending chid)) own, refl)
+begins_with_none f t (ReceivePulse chid) b p e w own =
+    subst (BeginsWithNone f t (ReceivePulse chid)) (same_Some (chid, PulseOnly) p (ap (λ o. waits_for o.wait) (same_Some _ b e) ∙ w)) (none_to_take f t [] (best_of PulseOnly (f.pending chid)) own, refl)
 
 -- an item that a thread waits for is received at once
 pub record IsReceivedAtOnce (f : Facts) (t : ℕ) (c : Call) (m : Made) : Type 0 where
@@ -100,28 +105,31 @@ some_of : {A : Type 0} (o : Option A) → is_some o ≡ true → (x : A) × (o �
 some_of None e = absurd (true≢false (sym e))
 some_of (Some x) e = (x, refl)
 
--- the receipt of a message by the newest receiver
-sent_receipt : (f : Facts) (t coid : ℕ) (message : List ℕ) (h r : ℕ) (v : WaitsOn h (f.open_call r)) → way f t coid ≡ Some h → newest f h ≡ Some r → (row f t coid message).receipt
-    ≡ Some (record { item = f.number; channel = h; by = r; sender = Some t; kept = record { priority = f.priority t; copied = laid_count v.buffer 0 message } })
-sent_receipt f t coid message h r v is_way is_newest = rw (is_way, is_newest, v.is_open, v.waits) refl
+-- the receipt of an item by the newest receiver
+delivered_receipt : (f : Facts) (sender : Option ℕ) (item : Item) (message : List ℕ) (w : Option ℕ) (h r : ℕ) (v : WaitsOn h item (f.open_call r)) → w ≡ Some h → newest f h item ≡ Some r
+    → received_of f sender item message w (receiver f item w) ≡ Some (receipt_from h sender item.priority r (item.number, (given_received item message v.buffer).0))
+delivered_receipt f sender item message w h r v is_way is_newest =
+    let takes_it : takes item message r (f.open_call r) ≡ Some (taking item message r v.waiting.number v.buffer) = rw (v.is_open, v.waits) refl in
+    ap (λ o. received_of f sender item message o (receiver f item o)) is_way ∙ ap (received_of f sender item message (Some h)) is_newest
+    ∙ receipt_in_at h sender item.priority (takes item message r (f.open_call r)) (taking item message r v.waiting.number v.buffer) (item.number, (given_received item message v.buffer).0) takes_it (given_received item message v.buffer).1
 
-sent_at_once : (f : Facts) (t coid : ℕ) (message reply_buffer : List ℕ) (m : Made) (u : ℕ) (o : OpenCall) (kind : Kind) → Passes f t (Send coid message reply_buffer)
-    → makes f.connection f.priority f.number t (Send coid message reply_buffer) ≡ Some m → is_among (threads_of f.roster) u ≡ true → f.open_call u ≡ Some o
-    → waits_for o.wait ≡ Some (m.channel, kind) → IsReceivedAtOnce f t (Send coid message reply_buffer) m
-sent_at_once f t coid message reply_buffer m u o kind p made among is waits =
-    let h = has_way f t coid p.row in
-    let l = way_leads f t coid h.0 h.1 in
-    let same : record { item = record { number = f.number; priority = f.priority t; what = Message }; channel = l.connection.channel } ≡ m = same_Some _ m (rw (l.is) at made) in
-    let there : h.0 ≡ m.channel = sym l.channel ∙ ap (λ (x : Made). x.channel) same in
+delivered_at_once : (f : Facts) (t coid : ℕ) (c : Call) (item : Item) (message : List ℕ) (sender : Option ℕ) (m : Made) (u : ℕ) (o : OpenCall) (kind : Kind) → (h : ℕ) → way f t coid ≡ Some h
+    → (row_of f t c).receipt ≡ received_of f sender item message (way f t coid) (receiver f item (way f t coid)) → sent_over (f.connection coid) item ≡ Some m → is_among (threads_of f.roster) u ≡ true → f.open_call u ≡ Some o
+    → waits_for o.wait ≡ Some (m.channel, kind) → may_take kind m.item ≡ true → IsReceivedAtOnce f t c m
+delivered_at_once f t coid c item message sender m u o kind h is_way receipt made among is waits may =
+    let l = way_leads f t coid h is_way in
+    let same : record { item = item; channel = l.connection.channel } ≡ m = same_Some _ m (ap (λ x. sent_over x item) (sym l.is) ∙ made) in
+    let there : h ≡ m.channel = sym l.channel ∙ ap (λ (x : Made). x.channel) same in
+    let it : m.item ≡ item = ap (λ (x : Made). x.item) (sym same) in
     let w = waits_for_is o.wait m.channel kind waits in
-    let on : WaitsOn h.0 (f.open_call u) = record { waiting = o; buffer = w.0; is_open = is; waits = w.1 ∙ ap (λ k. ForItem k w.0) (sym there) } in
-    let r = some_of (newest f h.0) (newest_some f h.0 u among on) in
-    let v = newest_waits f h.0 r.0 r.1 in
+    let on : WaitsOn h item (f.open_call u) = record { waiting = o; kind = kind; buffer = w.0; is_open = is; waits = w.1 ∙ ap (λ k. ForItem k kind w.0) (sym there); may = ap (may_take kind) (sym it) ∙ may } in
+    let r = some_of (newest f h item) (newest_some f h item u among on) in
+    let v = newest_waits f h item r.0 r.1 in
     record {
-      receipt = record { item = f.number; channel = h.0; by = r.0; sender = Some t; kept = record { priority = f.priority t; copied = laid_count v.buffer 0 message } };
-      is = sent_receipt f t coid message h.0 r.0 v h.1 r.1;
+      receipt = receipt_from h sender item.priority r.0 (item.number, (given_received item message v.buffer).0);
+      is = receipt ∙ delivered_receipt f sender item message (way f t coid) h r.0 v is_way r.1;
       channel = there;
-      item = ap (λ (x : Made). x.item.number) same;
+      item = ap (λ x. x.number) (sym it);
     }
 
 received_at_once : (f : Facts) (t : ℕ) (c : Call) (m : Made) (u : ℕ) (o : OpenCall) (kind : Kind) → Passes f t c → makes f.connection f.priority f.number t c ≡ Some m
@@ -134,7 +142,12 @@ received_at_once f t (Error rcvid code) m u o kind p made among is waits may = a
 received_at_once f t (Read rcvid offset buffer) m u o kind p made among is waits may = absurd (none-some m made)
 received_at_once f t (Write rcvid offset bytes) m u o kind p made among is waits may = absurd (none-some m made)
 received_at_once f t (Info rcvid) m u o kind p made among is waits may = absurd (none-some m made)
-received_at_once f t (Send coid message reply_buffer) m u o kind p made among is waits may = sent_at_once f t coid message reply_buffer m u o kind p made among is waits
+received_at_once f t (ReceivePulse chid) m u o kind p made among is waits may = absurd (none-some m made)
+received_at_once f t (Send coid message reply_buffer) m u o kind p made among is waits may =
+    let h = has_way f t coid p.row in delivered_at_once f t coid (Send coid message reply_buffer) (item f t) message (Some t) m u o kind h.0 h.1 refl made among is waits may
+received_at_once f t (Pulse coid level code value) m u o kind p made among is waits may =
+    let h = pulse_way f t coid code p.row in
+    delivered_at_once f t coid (Pulse coid level code value) (pulse_item f.number level code value) [] None m u o kind h.0 h.1 refl made among is waits may
 
 -- ---- lists of items
 

@@ -40,7 +40,7 @@ module _ (s : State) (t : ℕ) (m : Member) (i : ℕ) (sound : IsSound s) (known
     by_wait : (n : ℕ) (w : Wait) → is_held_for (facts_in s) t (Some (record { number = n; wait = w })) ≡ is_held_over s.connections s.channels m.process (held_over_in (Some (record { number = n; wait = w })))
     by_wait n (Answer coid message reply_buffer (Some receipt)) = is_own_end (entry_at s.connections coid)
     by_wait n (Answer coid message reply_buffer None) = refl
-    by_wait n (ForItem chid buffer) = refl
+    by_wait n (ForItem chid kind buffer) = refl
 
   -- what the row tests is what the kernel finds
   pub is_held : is_held_for (facts_in s) t (sent_call s.threads i) ≡ is_held_in s.threads s.connections s.channels m.process i
@@ -78,14 +78,14 @@ finished_some i finish u None e = absurd (true≢false (sym e))
 finished_some i finish u (Some o) e = by_wait o.wait e where
   by_wait : (w : Wait) → is_send i (Some (record { number = o.number; wait = w })) ≡ true → is_some (finished finish u (Some (record { number = o.number; wait = w }))) ≡ true
   by_wait (Answer coid message reply_buffer receipt) e = refl
-  by_wait (ForItem chid buffer) e = absurd (true≢false (sym (and_parts _ _ e).1))
+  by_wait (ForItem chid kind buffer) e = absurd (true≢false (sym (and_parts _ _ e).1))
 
 finished_thread : (finish : Finish) (u : ℕ) (o : Option OpenCall) (y : Completion) → finished finish u o ≡ Some y → y.thread ≡ u
 finished_thread finish u None y e = absurd (none-some y e)
 finished_thread finish u (Some o) y e = by_wait o.wait e where
   by_wait : (w : Wait) → finished_with finish u o.number w ≡ Some y → y.thread ≡ u
   by_wait (Answer coid message reply_buffer receipt) e = sym (ap (λ x. x.thread) (same_Some _ y e))
-  by_wait (ForItem chid buffer) e = absurd (none-some y e)
+  by_wait (ForItem chid kind buffer) e = absurd (none-some y e)
 
 -- the sender's call is a Send
 pub finished_there : (threads : List Thread) (i u : ℕ) (finish : Finish) (call : Option OpenCall) → sender_in threads i ≡ Some u → call ≡ open_in threads u → finished finish u call ≡ None → ⊥

@@ -43,7 +43,7 @@ told_some m (Some o) e = by_wait o.wait e where
   by_wait : (w : Wait) → is_some (held_over_in (Some (record { number = o.number; wait = w }))) ≡ true → is_some (told_of m (Some (record { number = o.number; wait = w }))) ≡ true
   by_wait (Answer coid message reply_buffer (Some receipt)) e = refl
   by_wait (Answer coid message reply_buffer None) e = e
-  by_wait (ForItem chid buffer) e = e
+  by_wait (ForItem chid kind buffer) e = e
 
 pub told_there : (connections : List (ℕ × Connection)) (channels : List (ℕ × Channel)) (p i : ℕ) (threads : List Thread) (k : ℕ) (d : Thread) → IsRoster (members_of threads) → position (λ t. is_send i t.open_call) threads ≡ Some k
     → is_held_in threads connections channels p i ≡ true → told_of (get_or threads k d).member (get_or threads k d).open_call ≡ None → ⊥

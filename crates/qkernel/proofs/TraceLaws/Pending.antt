@@ -28,13 +28,13 @@ use Rattle.qkernel.proofs.Properties.Sends.{block_sender}
 reply_parts : (w : Wait) → is_for_reply w ≡ true → (is_for_answer w ≡ true) × (is_settled w ≡ true)
 reply_parts (Answer coid message reply_buffer None) e = absurd (true≢false (sym e))
 reply_parts (Answer coid message reply_buffer (Some receipt)) e = (refl, refl)
-reply_parts (ForItem chid buffer) e = absurd (true≢false (sym e))
+reply_parts (ForItem chid kind buffer) e = absurd (true≢false (sym e))
 
 -- a wait for an answer that isn't settled is for the receipt
 receipt_from : (w : Wait) → is_for_answer w ≡ true → is_settled w ≡ false → is_for_receipt w ≡ true
 receipt_from (Answer coid message reply_buffer None) e s = refl
 receipt_from (Answer coid message reply_buffer (Some receipt)) e s = absurd (true≢false s)
-receipt_from (ForItem chid buffer) e s = absurd (true≢false (sym e))
+receipt_from (ForItem chid kind buffer) e s = absurd (true≢false (sym e))
 
 -- ---- a pending item
 
@@ -59,7 +59,7 @@ not_held roster past h item p = record {
 send_open : (roster : List Member) (past : Trace) (h : ℕ) (item : Item) → IsLawful roster past → IsPending roster past h item → is_pulse item.what ≡ false → IsOpenSend roster past item.number
 send_open roster past h item l p message =
     let going : is_ended past item.number ≡ false = subst (λ b. (not b && is_ended past item.number) ≡ false) message (or_parts _ _ p.stays).1 in
-    let w = item_waits roster past item.number (record { item = item; channel = h }) l p.made going in
+    let w = item_waits roster past item.number (record { item = item; channel = h }) l p.made message going in
     let none : receipt_of past w.block.number ≡ None = none_of (receipt_of past w.block.number) (subst (λ i. is_taken past i ≡ false) (sym w.number) (unread roster past h item p)) in
     record {
       sender = w.thread;

@@ -6,6 +6,7 @@ use Rattle.std.specs.Option.{option_map, option_to_list}
 use Rattle.std.proofs.lemmas.Bool.{eqb-true, eq-eqb, and_from}
 use Rattle.std.proofs.lemmas.Option.{none-some, same_Some}
 use Rattle.qqueue.specs.Best.{best_of}
+use Rattle.qqueue.specs.declared.item.Item.{Item}
 use Rattle.qtables.specs.declared.connection.Connection.{Connection}
 use Rattle.qtables.specs.declared.member.Member.{Member}
 use Rattle.qkernel.specs.Headline.BestFirst.{TakesBest, takeable}
@@ -13,10 +14,10 @@ use Rattle.qkernel.specs.Headline.ReceivedOnce.{item_received}
 use Rattle.qkernel.specs.Headline.SentOrder.{sends_over}
 use Rattle.qkernel.specs.Laws.{IsSentTo, ReceivedWasSent, WasSent}
 use Rattle.qkernel.specs.Past.{connection_at, item_of, items, made_at, priority_of_thread}
-use Rattle.qkernel.specs.Rows.{Made, makes, sent_over}
+use Rattle.qkernel.specs.Rows.{message_item, pulse_item, Made, makes, sent_over}
 use Rattle.qkernel.specs.Trace.{Event, Trace}
 use Rattle.qkernel.specs.declared.call.Call.{Call}
-use Rattle.qkernel.specs.declared.call.Call.TheVariants.{ChannelCreate, ConnectAttach, Send, Receive, Reply, Error, Read, Write, Info}
+use Rattle.qkernel.specs.declared.call.Call.TheVariants.{ChannelCreate, ConnectAttach, Send, Receive, Reply, Error, Read, Write, Info, ReceivePulse, Pulse}
 use Rattle.qkernel.specs.declared.call.Completion.{Completion}
 use Rattle.qkernel.proofs.Past.Items.{Stands, item_at}
 use Rattle.qkernel.proofs.Past.Lists.{all_more}
@@ -37,6 +38,13 @@ record SendsTo (connection : ℕ → Option Connection) (c : Call) (m : Made) : 
   pub is_over : connection coid ≡ Some over
   pub channel : over.channel ≡ m.channel
 
+sends_item : (connection : ℕ → Option Connection) (coid : ℕ) (c : Call) (item : Item) (m : Made) → sends_over c ≡ Some coid → sent_over (connection coid) item ≡ Some m → SendsTo connection c m
+sends_item connection coid c item m sends e =
+    elim (connection coid) as (λ o. connection coid ≡ o → sent_over o item ≡ Some m → SendsTo connection c m) [
+      | None ↦ λ is at. absurd (none-some m at)
+      | Some x ↦ λ is at. record { coid = coid; is = sends; over = x; is_over = is; channel = ap (λ y. y.channel) (same_Some _ m at) }
+    ] refl e
+
 sends_to : (connection : ℕ → Option Connection) (priority : ℕ → ℕ) (n t : ℕ) (c : Call) (m : Made) → makes connection priority n t c ≡ Some m → SendsTo connection c m
 sends_to connection priority n t (ChannelCreate flags) m e = absurd (none-some m e)
 sends_to connection priority n t (ConnectAttach chid) m e = absurd (none-some m e)
@@ -46,11 +54,9 @@ sends_to connection priority n t (Error rcvid code) m e = absurd (none-some m e)
 sends_to connection priority n t (Read rcvid offset buffer) m e = absurd (none-some m e)
 sends_to connection priority n t (Write rcvid offset bytes) m e = absurd (none-some m e)
 sends_to connection priority n t (Info rcvid) m e = absurd (none-some m e)
-sends_to connection priority n t (Send coid message reply_buffer) m e =
-    elim (connection coid) as (λ o. connection coid ≡ o → sent_over o n (priority t) ≡ Some m → SendsTo connection (Send coid message reply_buffer) m) [
-      | None ↦ λ is at. absurd (none-some m at)
-      | Some c ↦ λ is at. record { coid = coid; is = refl; over = c; is_over = is; channel = ap (λ x. x.channel) (same_Some _ m at) }
-    ] refl e
+sends_to connection priority n t (ReceivePulse chid) m e = absurd (none-some m e)
+sends_to connection priority n t (Pulse coid level code value) m e = sends_item connection coid (Pulse coid level code value) (pulse_item n level code value) m refl e
+sends_to connection priority n t (Send coid message reply_buffer) m e = sends_item connection coid (Send coid message reply_buffer) (message_item n (priority t)) m refl e
 
 sent_to : (roster : List Member) (past : Trace) (i : ℕ) (m : Made) → item_at roster past i ≡ Some m → IsSentTo roster past i m.channel
 sent_to roster [] i m is = absurd (none-some m is)

@@ -26,7 +26,7 @@ told_by m (Answer coid message reply_buffer (Some receipt)) = Some (record {
   priority = receipt.priority;
 })
 told_by m (Answer coid message reply_buffer None) = None
-told_by m (ForItem chid buffer) = None
+told_by m (ForItem chid kind buffer) = None
 
 -- the same of a member's open call, if it has one
 abbrev pub told_of : Member → Option OpenCall → Option Info

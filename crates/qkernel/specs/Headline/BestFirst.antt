@@ -5,10 +5,10 @@ use Rattle.std.specs.Option.{option_map}
 use Rattle.qqueue.specs.Best.{best_of}
 use Rattle.qqueue.specs.declared.item.Item.{Item}
 use Rattle.qqueue.specs.declared.item.Kind.{Kind}
-use Rattle.qqueue.specs.declared.item.Kind.TheVariants.{Any}
+use Rattle.qqueue.specs.declared.item.Kind.TheVariants.{Any, PulseOnly}
 use Rattle.qtables.specs.declared.member.Member.{Member}
 use Rattle.qkernel.specs.declared.call.Call.{Call}
-use Rattle.qkernel.specs.declared.call.Call.TheVariants.{ChannelCreate, ConnectAttach, Send, Receive, Reply, Error, Read, Write, Info}
+use Rattle.qkernel.specs.declared.call.Call.TheVariants.{ChannelCreate, ConnectAttach, Send, Receive, Reply, Error, Read, Write, Info, ReceivePulse, Pulse}
 use Rattle.qkernel.specs.declared.call.Completion.{Completion}
 use Rattle.qkernel.specs.Headline.CopiedExactly.{call_at}
 use Rattle.qkernel.specs.Headline.ReceivedOnce.{item_received}
@@ -27,6 +27,8 @@ receives_on (Error rcvid code) = None
 receives_on (Read rcvid offset buffer) = None
 receives_on (Write rcvid offset bytes) = None
 receives_on (Info rcvid) = None
+receives_on (ReceivePulse chid) = Some (chid, PulseOnly)
+receives_on (Pulse coid priority code value) = None
 
 -- what could be taken from channel h in this event: what was pending before it, and the item that it makes
 abbrev pub takeable : List Member → Trace → Event → ℕ → List Item

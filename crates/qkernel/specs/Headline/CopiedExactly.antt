@@ -5,7 +5,7 @@ use Rattle.std.specs.Option.{option_map_or}
 use Rattle.std.specs.Ordering.{int_eq}
 use Rattle.qbase.specs.Laying.{laid_count, lay_over}
 use Rattle.qkernel.specs.declared.call.Call.{Call}
-use Rattle.qkernel.specs.declared.call.Call.TheVariants.{ChannelCreate, ConnectAttach, Send, Receive, Reply, Error, Read, Write, Info}
+use Rattle.qkernel.specs.declared.call.Call.TheVariants.{ChannelCreate, ConnectAttach, Send, Receive, Reply, Error, Read, Write, Info, ReceivePulse, Pulse}
 use Rattle.qkernel.specs.declared.call.Completion.{Completion}
 use Rattle.qkernel.specs.declared.call.Mark.{Mark}
 use Rattle.qkernel.specs.declared.call.Mark.TheVariants as mark
@@ -28,6 +28,8 @@ buffer_by past i (Error rcvid code) = []
 buffer_by past i (Read rcvid offset buffer) = buffer
 buffer_by past i (Write rcvid offset bytes) = []
 buffer_by past i (Info rcvid) = []
+buffer_by past i (ReceivePulse chid) = []
+buffer_by past i (Pulse coid priority code value) = []
 
 -- the same of the call of that number, nothing where there is none
 abbrev pub buffer_at : Trace → ℕ → List ℕ
@@ -44,6 +46,8 @@ message_of (Error rcvid code) = []
 message_of (Read rcvid offset buffer) = []
 message_of (Write rcvid offset bytes) = []
 message_of (Info rcvid) = []
+message_of (ReceivePulse chid) = []
+message_of (Pulse coid priority code value) = []
 
 -- the bytes of message i
 abbrev pub message_at : Trace → ℕ → List ℕ
@@ -60,6 +64,8 @@ replies_with (Receive chid buffer) = None
 replies_with (Read rcvid offset buffer) = None
 replies_with (Write rcvid offset bytes) = None
 replies_with (Info rcvid) = None
+replies_with (ReceivePulse chid) = None
+replies_with (Pulse coid priority code value) = None
 
 -- what a call counts: a Read the bytes of the message from the offset on that it lays over its buffer, a Write those that it lays over the
 -- reply buffer from the offset on; no other call counts
@@ -74,6 +80,8 @@ IsCounted past (Receive chid buffer) x copied = ⊥
 IsCounted past (Reply rcvid status bytes) x copied = ⊥
 IsCounted past (Error rcvid code) x copied = ⊥
 IsCounted past (Info rcvid) x copied = ⊥
+IsCounted past (ReceivePulse chid) x copied = ⊥
+IsCounted past (Pulse coid priority code value) x copied = ⊥
 
 -- a receipt lays the message over the front of the receiver's buffer, a reply its bytes over the front of the sender's reply buffer, each to
 -- the shorter length and with that count; a Read and a Write copy what they count; any other ending gives the buffer as it is by then
@@ -89,6 +97,7 @@ IsCopied past e x (mark.Channel chid) = x.buffer ≡ buffer_at (e ∷ past) x.ca
 IsCopied past e x (mark.Connection coid) = x.buffer ≡ buffer_at (e ∷ past) x.call
 IsCopied past e x (mark.Errored code) = x.buffer ≡ buffer_at (e ∷ past) x.call
 IsCopied past e x (mark.Info info) = x.buffer ≡ buffer_at (e ∷ past) x.call
+IsCopied past e x (mark.Pulse item priority what) = x.buffer ≡ buffer_at (e ∷ past) x.call
 
 -- so it is with each ending of each event
 abbrev pub CopiedExactly : Trace → Type 0

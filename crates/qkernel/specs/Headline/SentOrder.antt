@@ -4,7 +4,8 @@ use Rattle.std.specs.List.{AllByRecursion}
 use Rattle.std.specs.Option.{option_and_then}
 use Rattle.qtables.specs.declared.member.Member.{Member}
 use Rattle.qkernel.specs.declared.call.Call.{Call}
-use Rattle.qkernel.specs.declared.call.Call.TheVariants.{ChannelCreate, ConnectAttach, Send, Receive, Reply, Error, Read, Write, Info}
+use Rattle.qkernel.specs.declared.call.Call.TheVariants.{ChannelCreate, ConnectAttach, Send, Receive, Reply, Error, Read, Write, Info, ReceivePulse, Pulse}
+use Rattle.qkernel.specs.declared.call.Completion.{Completion}
 use Rattle.qkernel.specs.Headline.BestFirst.{takeable}
 use Rattle.qkernel.specs.Headline.CopiedExactly.{call_at}
 use Rattle.qkernel.specs.Headline.ReceivedOnce.{item_received}
@@ -22,6 +23,8 @@ sends_over (Error rcvid code) = None
 sends_over (Read rcvid offset buffer) = None
 sends_over (Write rcvid offset bytes) = None
 sends_over (Info rcvid) = None
+sends_over (ReceivePulse chid) = None
+sends_over (Pulse coid priority code value) = Some coid
 
 -- the connection over which item i was sent
 abbrev pub connection_of : Trace → ℕ → Option ℕ
@@ -33,8 +36,12 @@ NoneSentEarlier roster past e k j h = AllByRecursion
     (λ item. connection_of (e ∷ past) item.number ≡ Some k → item.priority ≡ priority_of_item roster (e ∷ past) j → j ≤ item.number)
     (takeable roster past e h)
 
--- so it is with each receipt of each event of an item that was sent over a connection, on every channel
+-- the ending is one of a Receive, which takes messages and pulses
+abbrev pub IsPlainReceive : Trace → Completion → Type 0
+IsPlainReceive past x = (chid : ℕ) × (buffer : List ℕ) × (call_at past x.call ≡ Some (Receive chid buffer))
+
+-- so it is with each receipt by a Receive, of each event, of an item that was sent over a connection, on every channel
 abbrev pub SentOrder : List Member → Trace → Type 0
 SentOrder roster [] = Unit {0}
 SentOrder roster (e ∷ past) =
-    AllByRecursion (λ x. (j k h : ℕ) → item_received x ≡ Some j → connection_of (e ∷ past) j ≡ Some k → NoneSentEarlier roster past e k j h) e.endings × SentOrder roster past
+    AllByRecursion (λ x. (j k h : ℕ) → IsPlainReceive (e ∷ past) x → item_received x ≡ Some j → connection_of (e ∷ past) j ≡ Some k → NoneSentEarlier roster past e k j h) e.endings × SentOrder roster past

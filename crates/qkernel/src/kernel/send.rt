@@ -1,6 +1,7 @@
 //! Send.
 
-ghost use Rattle.std.specs.Prelude.{◌≡◌, ◌<◌, ◌^◌, [], None, Some, option_map, IfSome};
+ghost use Rattle.std.specs.Prelude.{◌≡◌, ◌<◌, ◌^◌, [], None, Some, false, option_map, IfSome};
+ghost use Rattle.qqueue.specs.Best.{is_pulse};
 ghost use Rattle.qkernel.specs.Rows.{takes, received};
 ghost use Rattle.qkernel.specs.Threads.{open_in, seat_in};
 
@@ -15,16 +16,17 @@ use qbase::errno::Errno;
 use qbase::ids::{ConnectionId, ReceiveId, ThreadNo};
 use qqueue::item::{Item, What};
 
-/// How the open call of a thread ends that takes the message of this number, and how many bytes were
-/// copied; none where it doesn't wait for an item.
+/// How the open call of a thread ends that takes a message, and how many bytes were copied; none where it
+/// doesn't wait for an item.
 fn taken(
     call: Option<OpenCall>,
     thread: ThreadNo,
-    number: u64,
+    item: &Item,
     message: &Bytes,
 ) -> Option<(Completion, usize)>
-    ensures ended { option_map (λ r. r.0) result ≡ takes number message.now thread call }
-    ensures copied { IfSome result (λ r. received r.0.mark ≡ Some (number, r.1)) }
+    requires { is_pulse item.now.what ≡ false }
+    ensures ended { option_map (λ r. r.0) result ≡ takes item.now message.now thread call }
+    ensures copied { IfSome result (λ r. received r.0.mark ≡ Some (item.now.number, r.1)) }
 {
     let OpenCall {
         number: waited,
@@ -39,7 +41,7 @@ fn taken(
                 call: waited,
                 thread,
                 mark: Mark::Message {
-                    rcvid: ReceiveId(number),
+                    rcvid: ReceiveId(item.number),
                     copied,
                 },
                 buffer,
@@ -76,13 +78,13 @@ impl Kernel {
             return refuse(endings, number, thread, Errno::Badf, reply_buffer);
         };
         let priority = level_of(&self.threads, seat, thread);
-        let receipt = match newest_receiver(&self.threads, chid) {
+        let item = Item {
+            number,
+            priority,
+            what: What::Message,
+        };
+        let receipt = match newest_receiver(&self.threads, chid, &item) {
             None => {
-                let item = Item {
-                    number,
-                    priority,
-                    what: What::Message,
-                };
                 if let Err(errno) = enqueue(&mut self.channels, chid, item) {
                     return refuse(endings, number, thread, errno, reply_buffer);
                 }
@@ -90,7 +92,7 @@ impl Kernel {
             }
             Some(newest) => {
                 let call = take_open(&mut self.threads, newest.1);
-                let Some(met) = taken(call, newest.1, number, &message) else {
+                let Some(met) = taken(call, newest.1, &item, &message) else {
                     unreachable!();
                 };
                 let (completion, copied) = met;

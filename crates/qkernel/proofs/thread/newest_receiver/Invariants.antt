@@ -4,4 +4,4 @@ use Rattle.qkernel.specs.Threads.{newest_by}
 use Rattle.qkernel.proofs.thread.newest_receiver.Given as goal
 
 abbrev pub invariant-loop-thread : goal.invariant-loop-thread
-invariant-loop-thread l = newest_by l.channel l.best (drop l.thread-index l.threads) ≡ newest_by l.channel None l.threads
+invariant-loop-thread l = newest_by l.channel l.item l.best (drop l.thread-index l.threads) ≡ newest_by l.channel l.item None l.threads

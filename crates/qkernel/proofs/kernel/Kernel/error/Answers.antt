@@ -5,7 +5,7 @@ use Rattle.qkernel.specs.Calls.Error.{errored}
 use Rattle.qkernel.specs.Held.{finished}
 use Rattle.qkernel.proofs.Steps.Held.{finished_there, step_unheld}
 use Rattle.qkernel.proofs.Steps.Error.{step_errored}
-use Rattle.qkernel.proofs.Steps.Send.{sound_threads}
+use Rattle.qkernel.proofs.Steps.Delivering.{sound_threads}
 use Rattle.qkernel.proofs.kernel.Kernel.error.Goals as goal
 
 pub returns-in_default : goal.returns-in_default

@@ -5,7 +5,7 @@ use Rattle.qkernel.specs.Calls.Reply.{replied}
 use Rattle.qkernel.specs.Held.{finished}
 use Rattle.qkernel.proofs.Steps.Held.{finished_there, step_unheld}
 use Rattle.qkernel.proofs.Steps.Reply.{step_replied}
-use Rattle.qkernel.proofs.Steps.Send.{sound_threads}
+use Rattle.qkernel.proofs.Steps.Delivering.{sound_threads}
 use Rattle.qkernel.proofs.kernel.Kernel.reply.Goals as goal
 
 pub returns-in_default : goal.returns-in_default

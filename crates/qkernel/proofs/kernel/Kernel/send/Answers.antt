@@ -1,14 +1,15 @@
-use Rattle.std.proofs.Common.{sym, ap, ◌∙◌, ◌+◌, Some, refl}
+use Rattle.std.proofs.Common.{sym, ap, ◌∙◌, Some, refl}
 use Rattle.qkernel.specs.Rows.{takes}
 use Rattle.qkernel.proofs.Seats.{seat_kept}
-use Rattle.qkernel.proofs.Steps.Send.{step_send_nowhere, newest_receives, newest_is, waits_among, step_send_waits, step_send_met, taken_there, sound_with_item, sound_threads}
+use Rattle.qkernel.proofs.Steps.Delivering.{newest_receives, newest_is, waits_among, taken_there, sound_with_item, sound_threads}
+use Rattle.qkernel.proofs.Steps.Send.{item, step_send_nowhere, step_send_waits, step_send_met}
 use Rattle.qkernel.proofs.kernel.Kernel.send.Goals as goal
 use Rattle.qkernel.proofs.kernel.Kernel.send.Goals.{in-None+in_default-enqueue, in-Some-newest_receiver+in-Some-taken}
 
 pub unreachable-requires : goal.unreachable-requires
 unreachable-requires c =
     let newest = rw c.deref-3.ensures.value at (sym c.newest_receiver.ensures ∙ c.in-Some-newest_receiver.is) in
-    let waits = newest_receives _ c.in-Some.chid c.in-Some-newest_receiver.newest c.self.invariant newest in
+    let waits = newest_receives _ c.in-Some.chid _ c.in-Some-newest_receiver.newest c.self.invariant newest in
     taken_there c.in-Some.chid _ _ _ _ _ c.take_open-call.result c.taken.result waits c.take_open-call.ensures.had c.taken.ensures.ended c.in_default-taken.is
 
 pub block-requires : goal.block-requires
@@ -44,20 +45,20 @@ returns c =
     let priority = rw c.deref-2.ensures.value at c.level_of-priority.ensures in
     elim c.match-newest_receiver.branch [
       | in-None+in_default-enqueue w ↦
-          let nobody = rw c.deref-3.ensures.value at (sym c.newest_receiver.ensures ∙ w.in-None.is) in
+          let nobody = rw (c.deref-3.ensures.value, priority) at (sym c.newest_receiver.ensures ∙ w.in-None.is) in
           let opens = rw (w.receipt-is, w.self-inside-is) at c.block.ensures in
           let sets = rw priority at w.in_default-enqueue.ensures.ok in
           rw (w.self-inside-is, w.endings-is, ← c.self.view_is)
           (step_send_waits _ c.args.thread c.args.coid c.args.message c.args.reply_buffer c.member_of.result c.in-Some.chid c.self.invariant known free found _ _ _ nobody opens sets c.requires.none)
       | in-Some-newest_receiver+in-Some-taken w ↦
           let opens = rw (w.receipt-is, w.self-inside-is) at c.block.ensures in
-          let newest = rw c.deref-3.ensures.value at (sym c.newest_receiver.ensures ∙ w.in-Some-newest_receiver.is) in
+          let newest = rw (c.deref-3.ensures.value, priority) at (sym c.newest_receiver.ensures ∙ w.in-Some-newest_receiver.is) in
           let receiver = w.in-Some-newest_receiver.newest in
-          let waits = newest_receives _ c.in-Some.chid receiver c.self.invariant newest in
-          let ended = w.in-Some-taken.ensures.ended ∙ ap (takes (c.self.inside.made + 1) c.args.message receiver.1) w.take_open-call.ensures.had in
+          let waits = newest_receives _ c.in-Some.chid _ receiver c.self.invariant newest in
+          let ended = rw priority at w.in-Some-taken.ensures.ended ∙ ap (takes (item _ c.args.thread c.args.coid c.args.message c.args.reply_buffer c.member_of.result c.in-Some.chid c.self.invariant known free found) c.args.message receiver.1) w.take_open-call.ensures.had in
           let sets = rw priority at opens in
           rw (w.self-inside-is, w.endings-is, ← c.self.view_is)
           (step_send_met _ c.args.thread c.args.coid c.args.message c.args.reply_buffer c.member_of.result c.in-Some.chid c.self.invariant known free found
-          receiver.1 w.in-Some-taken.met.0 w.in-Some-taken.met.1 (newest_is _ c.in-Some.chid (Some receiver) c.self.invariant newest) (waits_among c.in-Some.chid _ _ receiver.1 waits) (sym ended) w.in-Some-taken.ensures.copied
+          receiver.1 w.in-Some-taken.met.0 w.in-Some-taken.met.1 (newest_is _ c.in-Some.chid _ (Some receiver) c.self.invariant newest) (waits_among c.in-Some.chid _ _ _ receiver.1 waits) (sym ended) w.in-Some-taken.ensures.copied
           w.take_open-call.new.threads.items _ _ w.take_open-call.ensures.after sets w.end_one.ensures)
     ]

@@ -2,7 +2,7 @@ use Rattle.std.proofs.Common.{refl, sym}
 use Rattle.qkernel.specs.declared.call.Call.TheVariants.{Write}
 use Rattle.qkernel.proofs.Steps.Held.{step_unheld}
 use Rattle.qkernel.proofs.Steps.Write.{step_written}
-use Rattle.qkernel.proofs.Steps.Send.{sound_threads}
+use Rattle.qkernel.proofs.Steps.Delivering.{sound_threads}
 use Rattle.qkernel.proofs.kernel.Kernel.write.Goals as goal
 
 pub returns-in_default : goal.returns-in_default

@@ -1,0 +1,188 @@
+-- What the steps share that deliver an item.
+use Rattle.std.proofs.Common.{◌≡◌, ℕ, suc, ◌+◌, ◌≤◌, List, [], ◌∷◌, ◌++◌, refl, ap, sym, subst, ◌∙◌, cond, arith, true, false, eqb, append-nil, add-zero, length}
+use Rattle.std.specs.Prelude.{Option, None, Some, is_some, ◌||◌}
+use Rattle.std.specs.List.{AllByRecursion}
+use Rattle.std.specs.Option.{option_map}
+use Rattle.std.proofs.lemmas.Bool.{eqb-true, eqb-false, eq-eqb, ne_eqb, true≢false}
+use Rattle.std.proofs.lemmas.Option.{none-some, cond_some}
+use Rattle.qqueue.specs.Best.{without}
+use Rattle.qqueue.specs.declared.item.Item.{Item}
+use Rattle.qtables.specs.Entries.{entry_at}
+use Rattle.qtables.specs.Members.{member_at}
+use Rattle.qtables.specs.declared.connection.Connection.{Connection}
+use Rattle.qtables.specs.declared.member.Member.{Member}
+use Rattle.qkernel.specs.declared.call.Completion.{Completion}
+use Rattle.qkernel.specs.declared.channel.Channel.{Channel}
+use Rattle.qkernel.specs.declared.open_call.OpenCall.{OpenCall}
+use Rattle.qkernel.specs.declared.open_call.Wait.{Wait}
+use Rattle.qkernel.specs.declared.open_call.Wait.TheVariants.{Answer, Item as ForItem}
+use Rattle.qkernel.specs.declared.thread.Thread.{Thread}
+use Rattle.qkernel.specs.Channels.{pending_in, ids_of, way_in, SetsItems}
+use Rattle.qkernel.specs.Facts.{way, leads_to, threads_of}
+use Rattle.qkernel.specs.Receivers.{newest_among, newest, later, later_of, is_later, wait_on}
+use Rattle.qkernel.specs.Rows.{takes, sent_over}
+use Rattle.qkernel.specs.State.{State, IsSound, facts_in}
+use Rattle.qkernel.specs.Step.{made_on}
+use Rattle.qkernel.specs.Threads.{members_of, open_in, newest_by}
+use Rattle.qkernel.proofs.Rosters.{is_among}
+use Rattle.qkernel.proofs.Senders.{own_open}
+use Rattle.qkernel.proofs.Steps.Common.{Counted, count_same, all_up_to, all_push, way-leads_to}
+
+-- ---- the newest receiver, by records and by threads
+
+newest_same : (open_call : ℕ → Option OpenCall) (h : ℕ) (item : Item) (best : Option (ℕ × ℕ)) (threads : List Thread) → AllByRecursion (λ x. open_call x.member.thread ≡ x.open_call) threads
+    → newest_by h item best threads ≡ newest_among open_call h item best (threads_of (members_of threads))
+newest_same open_call h item best [] w = refl
+newest_same open_call h item best (t ∷ threads) w = rw (← w.0) (newest_same open_call h item (later_of h item best t.member.thread (open_call t.member.thread)) threads w.1)
+
+pub newest_is : (s : State) (h : ℕ) (item : Item) (best : Option (ℕ × ℕ)) → IsSound s → newest_by h item None s.threads ≡ best → newest (facts_in s) h item ≡ option_map (λ b. b.1) best
+newest_is s h item best sound e = ap (option_map (λ b. b.1)) (sym (newest_same (open_in s.threads) h item None s.threads (own_open s.threads sound.roster)) ∙ e)
+
+-- the best so far waits on h for such an item
+abbrev WaitsSoFar : (ℕ → Option OpenCall) → ℕ → Item → Option (ℕ × ℕ) → Type 0
+WaitsSoFar open_call h item None = Unit {0}
+WaitsSoFar open_call h item (Some b) = wait_on h item (open_call b.1) ≡ Some b.0
+
+later_waits : (open_call : ℕ → Option OpenCall) (h : ℕ) (item : Item) (u : ℕ) (best : Option (ℕ × ℕ)) (o : Option ℕ) → wait_on h item (open_call u) ≡ o → WaitsSoFar open_call h item best → WaitsSoFar open_call h item (later best u o)
+later_waits open_call h item u best None e w = w
+later_waits open_call h item u best (Some m) e w = elim (is_later m best) as (λ b. WaitsSoFar open_call h item (cond b (Some (m, u)) best)) [ true ↦ e | false ↦ w ]
+
+newest_waits : (open_call : ℕ → Option OpenCall) (h : ℕ) (item : Item) (ts : List ℕ) (best : Option (ℕ × ℕ)) → WaitsSoFar open_call h item best → WaitsSoFar open_call h item (newest_among open_call h item best ts)
+newest_waits open_call h item [] best w = w
+newest_waits open_call h item (u ∷ ts) best w = newest_waits open_call h item ts (later_of h item best u (open_call u)) (later_waits open_call h item u best (wait_on h item (open_call u)) refl w)
+
+-- the newest receiver waits for such an item of the channel
+pub newest_receives : (s : State) (h : ℕ) (item : Item) (b : ℕ × ℕ) → IsSound s → newest_by h item None s.threads ≡ Some b → wait_on h item (open_in s.threads b.1) ≡ Some b.0
+newest_receives s h item b sound e =
+    subst (WaitsSoFar (open_in s.threads) h item) (sym (newest_same (open_in s.threads) h item None s.threads (own_open s.threads sound.roster)) ∙ e)
+    (newest_waits (open_in s.threads) h item (threads_of (members_of s.threads)) None tt)
+
+-- what waits is among the threads
+pub waits_among : (h : ℕ) (item : Item) (m : ℕ) (threads : List Thread) (u : ℕ) → wait_on h item (open_in threads u) ≡ Some m → is_among (threads_of (members_of threads)) u ≡ true
+waits_among h item m [] u e = absurd (none-some m e)
+waits_among h item m (t ∷ threads) u e =
+    elim (eqb t.member.thread u) as (λ b. wait_on h item (cond b t.open_call (open_in threads u)) ≡ Some m → (b || is_among (threads_of (members_of threads)) u) ≡ true) [
+      | true ↦ λ e. refl
+      | false ↦ λ e. waits_among h item m threads u e
+    ] e
+
+-- what waits for an item takes one
+pub waits_takes : (h m : ℕ) (item : Item) (message : List ℕ) (u : ℕ) (o : Option OpenCall) → wait_on h item o ≡ Some m → is_some (takes item message u o) ≡ true
+waits_takes h m item message u None e = absurd (none-some m e)
+waits_takes h m item message u (Some o) e = waits o.wait e where
+  waits : (w : Wait) → wait_on h item (Some (record { number = o.number; wait = w })) ≡ Some m → is_some (takes item message u (Some (record { number = o.number; wait = w }))) ≡ true
+  waits (Answer coid sent reply_buffer receipt) e = absurd (none-some m e)
+  waits (ForItem chid kind buffer) e = refl
+
+-- as many channels as there were
+pub count_kept : (old new : List (ℕ × Channel)) → ids_of new ≡ ids_of old → length new ≡ length old + 0
+count_kept old new e = count_same old new e ∙ sym (add-zero (length old))
+
+-- so an ending is given, and with it what was copied
+pub met_there : (h m : ℕ) (item : Item) (message : List ℕ) (u : ℕ) (o call : Option OpenCall) (r : Option Completion) → wait_on h item o ≡ Some m → call ≡ o → r ≡ takes item message u call → r ≡ None → ⊥
+met_there h m item message u o call r waits same ended none =
+    true≢false (sym (waits_takes h m item message u o waits) ∙ ap (λ x. is_some (takes item message u x)) (sym same) ∙ ap is_some (sym ended) ∙ ap is_some none)
+
+pub taken_there : {R : Type 0} (h m : ℕ) (item : Item) (message : List ℕ) (u : ℕ) (o call : Option OpenCall) (r : Option (Completion × R)) → wait_on h item o ≡ Some m → call ≡ o → option_map (λ x. x.0) r ≡ takes item message u call → r ≡ None → ⊥
+taken_there h m item message u o call r waits same ended none =
+    true≢false (sym (waits_takes h m item message u o waits) ∙ ap (λ x. is_some (takes item message u x)) (sym same) ∙ ap is_some (sym ended) ∙ ap (λ x. is_some (option_map (λ y. y.0) x)) none)
+
+-- a write that leaves all items leaves all but the room
+pub counted_room : (s : State) (h : ℕ) (new : List (ℕ × Channel)) → SetsItems h (pending_in s.channels h) s.channels new
+    → Counted s (record { made = s.made + 1; threads = s.threads; channels = new; connections = s.connections })
+counted_room s h new sets = record {
+  made = refl;
+  threads = refl;
+  connections = refl;
+  ids = sets.ids;
+  channel = sets.channel;
+  pending = λ k. sets.pending k ∙ (elim (eqb k h) as (λ b. eqb k h ≡ b → cond b (pending_in s.channels h) (pending_in s.channels k) ≡ pending_in s.channels k) [
+    | true ↦ λ e. ap (pending_in s.channels) (sym (eqb-true k h e))
+    | false ↦ λ e. refl
+  ] refl);
+}
+
+pub eqb_sym : (a b : ℕ) → eqb a b ≡ eqb b a
+eqb_sym a b = elim (eqb a b) as (λ x. eqb a b ≡ x → x ≡ eqb b a) [
+  | true ↦ λ e. sym (eq-eqb b a (sym (eqb-true a b e)))
+  | false ↦ λ e. sym (ne_eqb b a (λ s. eqb-false a b e (sym s)))
+] refl
+
+-- ---- an item that waits, and one that is met
+
+-- no item of these has a number above n
+pub without_new : (n : ℕ) (items : List Item) (item : Item) → item.number ≡ n + 1 → AllByRecursion (λ x. x.number ≤ n) items → without (n + 1) (items ++ item ∷ []) ≡ items
+without_new n [] item is h = rw (eq-eqb item.number (n + 1) is) refl
+without_new n (x ∷ items) item is h =
+    let below : x.number ≤ n = h.0 in
+    let other : eqb x.number (n + 1) ≡ false = ne_eqb _ _ (λ e. omega arith) in
+    rw other (ap (λ xs. x ∷ xs) (without_new n items item is h.1))
+
+-- the connection over which a way leads
+pub way_over : (s : State) (t : ℕ) (o : Option Connection) (h : ℕ) → leads_to (facts_in s) t o ≡ Some h → (c : Connection) × ((o ≡ Some c) × (c.channel ≡ h))
+way_over s t None h e = absurd (none-some h e)
+way_over s t (Some c) h e = (c, (refl, (cond_some _ c.channel h e).1))
+
+module _ (s : State) (t coid : ℕ) (m : Member) (h : ℕ) (item : Item) (sound : IsSound s) (known : member_at (members_of s.threads) t ≡ Some m) (number : item.number ≡ s.made + 1)
+    (found : way_in m.process s.channels (entry_at s.connections coid) ≡ Some h) where
+  pub some_way : way (facts_in s) t coid ≡ Some h
+  some_way = way-leads_to s t m (entry_at s.connections coid) known ∙ found
+
+  over : (c : Connection) × ((entry_at s.connections coid ≡ Some c) × (c.channel ≡ h))
+  over = way_over s t (entry_at s.connections coid) h some_way
+
+  made_there : (k : ℕ) → made_on k (sent_over (entry_at s.connections coid) item) ≡ cond (eqb k h) (item ∷ []) []
+  made_there k = rw (over.1.0) (ap (λ n. cond (eqb n k) (item ∷ []) []) (over.1.1) ∙ ap (λ b. cond b (item ∷ []) []) (eqb_sym h k))
+
+  -- it waits behind the others
+  pub with_item : (k : ℕ) → cond (eqb k h) (pending_in s.channels h ++ item ∷ []) (pending_in s.channels k) ≡ pending_in s.channels k ++ made_on k (sent_over (entry_at s.connections coid) item)
+  with_item k = rw (made_there k) (elim (eqb k h) as (λ b. eqb k h ≡ b → cond b (pending_in s.channels h ++ item ∷ []) (pending_in s.channels k) ≡ pending_in s.channels k ++ cond b (item ∷ []) []) [
+    | true ↦ λ e. ap (λ n. pending_in s.channels n ++ item ∷ []) (sym (eqb-true k h e))
+    | false ↦ λ e. sym (append-nil _)
+  ] refl)
+
+  -- the item doesn't wait
+  pub items_after : (k : ℕ) → pending_in s.channels k ≡ cond (eqb h k) (without item.number (pending_in s.channels k ++ made_on k (sent_over (entry_at s.connections coid) item)))
+      (pending_in s.channels k ++ made_on k (sent_over (entry_at s.connections coid) item))
+  items_after k = rw (made_there k, eqb_sym h k) (
+      elim (eqb k h) as (λ b. pending_in s.channels k ≡ cond b (without item.number (pending_in s.channels k ++ cond b (item ∷ []) [])) (pending_in s.channels k ++ cond b (item ∷ []) [])) [
+        | true ↦ sym (ap (λ n. without n (pending_in s.channels k ++ item ∷ [])) number ∙ without_new s.made (pending_in s.channels k) item number (sound.items k))
+        | false ↦ sym (append-nil _)
+      ])
+
+-- ---- soundness
+
+members_length : (threads : List Thread) → length (members_of threads) ≡ length threads
+members_length [] = refl
+members_length (t ∷ threads) = ap suc (members_length threads)
+
+-- as many threads as there are members
+pub few_kept : (old new : List Thread) → members_of new ≡ members_of old → length old ≤ 64 → length new ≤ 64
+few_kept old new e few = let same : length new ≡ length old = sym (members_length new) ∙ ap length e ∙ members_length old in omega arith
+
+pub sound_threads : (s : State) (threads : List Thread) → IsSound s → members_of threads ≡ members_of s.threads → IsSound (record { made = s.made + 1; threads = threads; channels = s.channels; connections = s.connections })
+sound_threads s threads sound e = record {
+  few = few_kept s.threads threads e sound.few;
+  roster = rw e sound.roster;
+  channel_ids = all_up_to (λ id. id) s.made _ sound.channel_ids;
+  connection_ids = all_up_to (λ e. e.0) s.made _ sound.connection_ids;
+  items = λ h. all_up_to (λ item. item.number) s.made _ (sound.items h);
+}
+
+pub sound_items : (s : State) (threads : List Thread) (channels : List (ℕ × Channel)) (h : ℕ) (items : List Item) → IsSound s → members_of threads ≡ members_of s.threads → SetsItems h items s.channels channels
+    → AllByRecursion (λ item. item.number ≤ s.made + 1) items → IsSound (record { made = s.made + 1; threads = threads; channels = channels; connections = s.connections })
+sound_items s threads channels h items sound e sets all = record {
+  few = few_kept s.threads threads e sound.few;
+  roster = rw e sound.roster;
+  channel_ids = rw (sets.ids) (all_up_to (λ id. id) s.made _ sound.channel_ids);
+  connection_ids = all_up_to (λ e. e.0) s.made _ sound.connection_ids;
+  items = λ k. rw (sets.pending k) (elim (eqb k h) as (λ b. AllByRecursion (λ item. item.number ≤ s.made + 1) (cond b items (pending_in s.channels k))) [
+    | true ↦ all
+    | false ↦ all_up_to (λ item. item.number) s.made _ (sound.items k)
+  ]);
+}
+
+pub sound_with_item : (s : State) (threads : List Thread) (channels : List (ℕ × Channel)) (h : ℕ) (item : Item) → IsSound s → members_of threads ≡ members_of s.threads
+    → SetsItems h (pending_in s.channels h ++ item ∷ []) s.channels channels → item.number ≡ s.made + 1 → IsSound (record { made = s.made + 1; threads = threads; channels = channels; connections = s.connections })
+sound_with_item s threads channels h item sound e sets is =
+    sound_items s threads channels h _ sound e sets (all_push (λ x. x.number ≤ s.made + 1) (pending_in s.channels h) item (all_up_to (λ x. x.number) s.made _ (sound.items h)) (omega arith))

@@ -1,0 +1,208 @@
+-- Receive and ReceivePulse as steps of the kernel.
+use Rattle.std.proofs.Common.{◌≡◌, ℕ, ◌+◌, ◌≤◌, List, [], ◌∷◌, ◌++◌, refl, ap, sym, subst, ◌∙◌, cond, arith, Bool, true, false, eqb, append-nil, inl}
+use Rattle.std.specs.Prelude.{Option, None, Some, filter, is_some, not}
+use Rattle.std.specs.List.{AllByRecursion, filter_map}
+use Rattle.std.specs.Option.{option_map}
+use Rattle.std.proofs.lemmas.Bool.{eqb-true}
+use Rattle.qbase.specs.Laying.{laid_count}
+use Rattle.qbase.specs.declared.errno.Errno.TheVariants.{Srch}
+use Rattle.qqueue.specs.Best.{best_of, is_pulse, without}
+use Rattle.qqueue.specs.declared.item.Item.{Item}
+use Rattle.qqueue.specs.declared.item.Kind.{Kind}
+use Rattle.qqueue.specs.declared.item.Kind.TheVariants.{Any, PulseOnly}
+use Rattle.qtables.specs.Members.{member_at}
+use Rattle.qtables.specs.declared.member.Member.{Member}
+use Rattle.qkernel.specs.declared.call.Call.TheVariants.{Receive, ReceivePulse}
+use Rattle.qkernel.specs.declared.call.Completion.{Completion}
+use Rattle.qkernel.specs.declared.call.Mark.TheVariants as mark
+use Rattle.qkernel.specs.declared.channel.Channel.{Channel}
+use Rattle.qkernel.specs.declared.open_call.OpenCall.{OpenCall}
+use Rattle.qkernel.specs.declared.open_call.Receipt.{Receipt}
+use Rattle.qkernel.specs.declared.open_call.Wait.TheVariants.{Item as ForItem}
+use Rattle.qkernel.specs.declared.thread.Thread.{Thread}
+use Rattle.qkernel.specs.Answer.{ending}
+use Rattle.qkernel.specs.Channels.{channel_in, pending_in, ids_of, is_of, SetsItems}
+use Rattle.qkernel.specs.Facts.{owns, threads_of}
+use Rattle.qkernel.specs.Receiving.{receipt_of, received_of, receive_of}
+use Rattle.qkernel.specs.Rows.{Received, taking}
+use Rattle.qkernel.specs.State.{State, IsSound, facts_in}
+use Rattle.qkernel.specs.Stands.{Steps}
+use Rattle.qkernel.specs.Step.{after_receipt, is_thread, held_call, taken_out, unless}
+use Rattle.qkernel.specs.Threads.{members_of, open_in, level_in, message_from, sender_in, SetsOpen, HandsOver}
+use Rattle.qkernel.proofs.Rosters.{rises, among, nothing, filter_same, only_own, cond_same}
+use Rattle.qkernel.proofs.Steps.Common.{counted, step_refused_alone, owned_by_member, all_up_to, stays_free}
+use Rattle.qkernel.proofs.Steps.Delivering.{count_kept, sound_items, eqb_sym}
+
+-- ---- refused
+
+pub step_receive_refused : (s : State) (t chid : ℕ) (kind : Kind) (buffer : List ℕ) (m : Member) (X : List Completion) → (kind ≡ PulseOnly → buffer ≡ []) → member_at (members_of s.threads) t ≡ Some m → open_in s.threads t ≡ None
+    → is_of m.process (channel_in s.channels chid) ≡ false → X ≡ record { call = s.made + 1; thread = t; mark = mark.Failed Srch; buffer = buffer } ∷ [] → Steps s t (receive_of kind chid buffer) X (counted s)
+step_receive_refused s t chid Any buffer m X none known free other is =
+    let not_own : owns (facts_in s) t chid ≡ false = owned_by_member (facts_in s) t m (channel_in s.channels chid) known ∙ other in
+    step_refused_alone s t (Receive chid buffer) Srch X (inl (rw (free, not_own) refl)) is
+step_receive_refused s t chid PulseOnly buffer m X none known free other is =
+    let not_own : owns (facts_in s) t chid ≡ false = owned_by_member (facts_in s) t m (channel_in s.channels chid) known ∙ other in
+    step_refused_alone s t (ReceivePulse chid) Srch X (inl (rw (free, not_own) refl)) (rw (none refl) at is)
+
+-- the items of a channel that a write left as they were
+kept_items : (s : State) (h k : ℕ) → cond (eqb k h) (pending_in s.channels h) (pending_in s.channels k) ≡ pending_in s.channels k ++ []
+kept_items s h k = elim (eqb k h) as (λ b. eqb k h ≡ b → cond b (pending_in s.channels h) (pending_in s.channels k) ≡ pending_in s.channels k ++ []) [
+  | true ↦ λ e. ap (pending_in s.channels) (sym (eqb-true k h e)) ∙ sym (append-nil _)
+  | false ↦ λ e. sym (append-nil _)
+] refl
+
+-- ---- what is answered and what follows, whichever call it is
+
+-- how the call ends
+abbrev own_of : State → ℕ → List ℕ → Option Item → Option Completion
+own_of s t buffer o = receipt_of (facts_in s) t buffer o
+
+-- what it receives
+abbrev receipt_by : State → ℕ → ℕ → List ℕ → Option Item → Option Received
+receipt_by s t chid buffer o = received_of (facts_in s) chid (own_of s t buffer o) o
+
+-- the endings, the open calls and the items of the step that a row of this best item says
+record Receives (s : State) (t chid : ℕ) (kind : Kind) (buffer : List ℕ) (o : Option Item) (X : List Completion) (threads : List Thread) (channels : List (ℕ × Channel)) : Type 0 where
+  endings : X ≡ filter_map (λ u. cond (eqb u t) (own_of s t buffer o) None) (threads_of (members_of s.threads))
+  roster : members_of threads ≡ members_of s.threads
+  open_call : (u : ℕ) → open_in threads u ≡ cond (eqb u t) (unless (is_some (own_of s t buffer o)) (after_receipt (receipt_by s t chid buffer o) u (Some (record { number = s.made + 1; wait = ForItem chid kind buffer }))))
+      (unless false (after_receipt (receipt_by s t chid buffer o) u (open_in s.threads u)))
+  items : (k : ℕ) → pending_in channels k ≡ taken_out (receipt_by s t chid buffer o) k (pending_in s.channels k ++ [])
+  ids : ids_of channels ≡ ids_of s.channels
+  channel : (k : ℕ) → channel_in channels k ≡ channel_in s.channels k
+  priority : (u : ℕ) → level_in threads u ≡ level_in s.threads u
+
+step_of : (s : State) (t chid : ℕ) (kind : Kind) (buffer : List ℕ) (m : Member) (o : Option Item) (X : List Completion) (threads : List Thread) (channels : List (ℕ × Channel)) → (kind ≡ PulseOnly → buffer ≡ [])
+    → member_at (members_of s.threads) t ≡ Some m → open_in s.threads t ≡ None → owns (facts_in s) t chid ≡ true → best_of kind (pending_in s.channels chid) ≡ o → Receives s t chid kind buffer o X threads channels
+    → Steps s t (receive_of kind chid buffer) X (record { made = s.made + 1; threads = threads; channels = channels; connections = s.connections })
+step_of s t chid Any buffer m o X threads channels none known free owned best r = (
+  true,
+  record {
+    answer = (
+      rw (free, owned) refl,
+      r.endings ∙ sym (filter_same (ending (facts_in s) t (Receive chid buffer)) (λ u. cond (eqb u t) (own_of s t buffer o) None) (threads_of (members_of s.threads)) (λ u. rw best refl)),
+    );
+    follows = record {
+      roster = r.roster;
+      number = refl;
+      channel = λ k. r.channel k ∙ rw known refl;
+      open_channels = rw known (count_kept s.channels channels r.ids);
+      connection = λ k. rw known refl;
+      live_connections = rw known (omega arith);
+      open_call = λ u. rw best (r.open_call u);
+      pending = λ k. rw best (r.items k);
+      priority = r.priority;
+    };
+  },
+)
+step_of s t chid PulseOnly buffer m o X threads channels none known free owned best r = by (none refl) where
+  by : buffer ≡ [] → Steps s t (ReceivePulse chid) X (record { made = s.made + 1; threads = threads; channels = channels; connections = s.connections })
+  by empty = let q : Receives s t chid PulseOnly [] o X threads channels = subst (λ b. Receives s t chid PulseOnly b o X threads channels) empty r in (
+    true,
+    record {
+      answer = (
+        rw (free, owned) refl,
+        q.endings ∙ sym (filter_same (ending (facts_in s) t (ReceivePulse chid)) (λ u. cond (eqb u t) (own_of s t [] o) None) (threads_of (members_of s.threads)) (λ u. rw best refl)),
+      );
+      follows = record {
+        roster = q.roster;
+        number = refl;
+        channel = λ k. q.channel k ∙ rw known refl;
+        open_channels = rw known (count_kept s.channels channels q.ids);
+        connection = λ k. rw known refl;
+        live_connections = rw known (omega arith);
+        open_call = λ u. rw best (q.open_call u);
+        pending = λ k. rw best (q.items k);
+        priority = q.priority;
+      };
+    },
+  )
+
+-- ---- with nothing to take, and with an item
+
+module _ (s : State) (t chid : ℕ) (kind : Kind) (buffer : List ℕ) (m : Member) (sound : IsSound s) (known : member_at (members_of s.threads) t ≡ Some m) (free : open_in s.threads t ≡ None)
+    (own : is_of m.process (channel_in s.channels chid) ≡ true) (empty : kind ≡ PulseOnly → buffer ≡ []) where
+  owned : owns (facts_in s) t chid ≡ true
+  owned = owned_by_member (facts_in s) t m (channel_in s.channels chid) known ∙ own
+
+  pub step_receive_waits : (threads : List Thread) (channels : List (ℕ × Channel)) (X : List Completion) → best_of kind (pending_in s.channels chid) ≡ None
+      → SetsOpen t (Some (record { number = s.made + 1; wait = ForItem chid kind buffer })) s.threads threads → SetsItems chid (pending_in s.channels chid) s.channels channels → X ≡ []
+      → Steps s t (receive_of kind chid buffer) X (record { made = s.made + 1; threads = threads; channels = channels; connections = s.connections })
+  step_receive_waits threads channels X none opens sets is = step_of s t chid kind buffer m None X threads channels empty known free owned none (record {
+    endings = is ∙ sym (nothing (threads_of (members_of s.threads)) (λ u. cond (eqb u t) None None) (λ u. cond_same (eqb u t) None));
+    roster = opens.members;
+    open_call = opens.open_call;
+    items = λ k. sets.pending k ∙ kept_items s chid k;
+    ids = sets.ids;
+    channel = sets.channel;
+    priority = opens.priority;
+  })
+
+  module _ (item : Item) (best : best_of kind (pending_in s.channels chid) ≡ Some item) where
+    items_after : (k : ℕ) → cond (eqb k chid) (without item.number (pending_in s.channels chid)) (pending_in s.channels k) ≡ cond (eqb chid k) (without item.number (pending_in s.channels k ++ [])) (pending_in s.channels k ++ [])
+    items_after k = rw (append-nil, eqb_sym chid k) (elim (eqb k chid) as (λ b. eqb k chid ≡ b → cond b (without item.number (pending_in s.channels chid)) (pending_in s.channels k) ≡ cond b (without item.number (pending_in s.channels k)) (pending_in s.channels k)) [
+      | true ↦ λ e. ap (λ n. without item.number (pending_in s.channels n)) (sym (eqb-true k chid e))
+      | false ↦ λ e. refl
+    ] refl)
+
+    -- what the sender of a message keeps
+    abbrev pub kept : Receipt
+    kept = record { priority = item.priority; copied = laid_count buffer 0 (message_from s.threads item.number) }
+
+    calls_after : (change : OpenCall → OpenCall) (u : ℕ) → cond (is_thread (sender_in s.threads item.number) u) (option_map change (open_in s.threads u)) (open_in s.threads u)
+        ≡ cond (eqb u t) None (cond (is_thread (sender_in s.threads item.number) u) (option_map change (open_in s.threads u)) (open_in s.threads u))
+    calls_after change u = elim (eqb u t) as (λ b. eqb u t ≡ b → cond (is_thread (sender_in s.threads item.number) u) (option_map change (open_in s.threads u)) (open_in s.threads u)
+        ≡ cond b None (cond (is_thread (sender_in s.threads item.number) u) (option_map change (open_in s.threads u)) (open_in s.threads u))) [
+          | true ↦ λ e. let idle : open_in s.threads u ≡ None = ap (open_in s.threads) (eqb-true u t e) ∙ free in rw idle (cond_same (is_thread (sender_in s.threads item.number) u) None)
+          | false ↦ λ e. refl
+        ] refl
+
+    idle_after : (u : ℕ) → open_in s.threads u ≡ cond (eqb u t) None (open_in s.threads u)
+    idle_after u = stays_free s.threads t u free
+
+    pub step_receive_takes : (threads : List Thread) (channels : List (ℕ × Channel)) (X : List Completion) → HandsOver (is_pulse item.what) item.number kept s.threads threads
+        → SetsItems chid (without item.number (pending_in s.channels chid)) s.channels channels → X ≡ taking item (message_from s.threads item.number) t (s.made + 1) buffer ∷ []
+        → Steps s t (receive_of kind chid buffer) X (record { made = s.made + 1; threads = threads; channels = channels; connections = s.connections })
+    step_receive_takes threads channels X hands sets is = by (is_pulse item.what) refl hands where
+      ends : X ≡ filter_map (λ u. cond (eqb u t) (Some (taking item (message_from s.threads item.number) t (s.made + 1) buffer)) None) (threads_of (members_of s.threads))
+      ends = is ∙ sym (only_own (threads_of (members_of s.threads)) t (Some (taking item (message_from s.threads item.number) t (s.made + 1) buffer)) (rises (members_of s.threads) sound.roster) (among (members_of s.threads) t m known))
+
+      by : (b : Bool) → is_pulse item.what ≡ b → HandsOver b item.number kept s.threads threads
+          → Steps s t (receive_of kind chid buffer) X (record { made = s.made + 1; threads = threads; channels = channels; connections = s.connections })
+      by true pulse same = step_of s t chid kind buffer m (Some item) X threads channels empty known free owned best (record {
+        endings = ends;
+        roster = ap members_of same;
+        open_call = λ u. ap (λ ts. open_in ts u) same ∙ rw pulse (idle_after u);
+        items = λ k. sets.pending k ∙ rw pulse (items_after k);
+        ids = sets.ids;
+        channel = sets.channel;
+        priority = λ u. ap (λ ts. level_in ts u) same;
+      })
+      by false message changes = step_of s t chid kind buffer m (Some item) X threads channels empty known free owned best (record {
+        endings = ends;
+        roster = changes.members;
+        open_call = λ u. changes.open_call u ∙ rw message (calls_after (held_call kept) u);
+        items = λ k. sets.pending k ∙ rw message (items_after k);
+        ids = sets.ids;
+        channel = sets.channel;
+        priority = changes.priority;
+      })
+
+-- ---- soundness
+
+pub hands_members : (b : Bool) (i : ℕ) (receipt : Receipt) (old new : List Thread) → HandsOver b i receipt old new → members_of new ≡ members_of old
+hands_members true i receipt old new same = ap members_of same
+hands_members false i receipt old new changes = changes.members
+
+pub all_filter : {X : Type 0} (P : X → Type 0) (p : X → Bool) (xs : List X) → AllByRecursion P xs → AllByRecursion P (filter p xs)
+all_filter P p [] h = tt
+all_filter P p (x ∷ xs) h = elim (p x) as (λ b. AllByRecursion P (cond b (x ∷ filter p xs) (filter p xs))) [ true ↦ (h.0, all_filter P p xs h.1) | false ↦ all_filter P p xs h.1 ]
+
+pub sound_taken : (s : State) (threads : List Thread) (channels : List (ℕ × Channel)) (h i : ℕ) → IsSound s → members_of threads ≡ members_of s.threads
+    → SetsItems h (without i (pending_in s.channels h)) s.channels channels → IsSound (record { made = s.made + 1; threads = threads; channels = channels; connections = s.connections })
+sound_taken s threads channels h i sound e sets =
+    sound_items s threads channels h _ sound e sets (all_filter (λ x. x.number ≤ s.made + 1) (λ x. not (eqb x.number i)) (pending_in s.channels h) (all_up_to (λ x. x.number) s.made _ (sound.items h)))
+
+pub sound_kept : (s : State) (threads : List Thread) (channels : List (ℕ × Channel)) (h : ℕ) → IsSound s → members_of threads ≡ members_of s.threads
+    → SetsItems h (pending_in s.channels h) s.channels channels → IsSound (record { made = s.made + 1; threads = threads; channels = channels; connections = s.connections })
+sound_kept s threads channels h sound e sets = sound_items s threads channels h _ sound e sets (all_up_to (λ x. x.number) s.made _ (sound.items h))
