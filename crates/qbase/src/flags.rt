@@ -1,6 +1,6 @@
 //! The flags of a channel.
 
-ghost use Rattle.std.specs.Prelude.{⊤, ◌≡◌, [], ◌∷◌, codes, nat_lt};
+ghost use Rattle.std.specs.Prelude.{⊤, ◌≡◌, [], ◌∷◌, codes, nat_lt, bit_and, ◌==◌};
 
 use bitflags::{Flag, Flags, bitflag_items};
 
@@ -51,5 +51,12 @@ impl ChannelFlags {
         ensures { result ≡ nat_lt self.0 8 }
     {
         self.0 < 8
+    }
+
+    /// Whether a receipt on the channel leaves the receiver's priority as it is.
+    pub fn fixes_priority(self) -> bool
+        ensures { result ≡ (bit_and self.0 1 == 1) }
+    {
+        self.contains(ChannelFlags::FIXED_PRIORITY)
     }
 }

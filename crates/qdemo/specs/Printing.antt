@@ -1,5 +1,6 @@
 -- The text of a run.
 pub mod Words
+pub mod State
 pub mod Marks
 pub mod Buffer
 pub mod OpenLine

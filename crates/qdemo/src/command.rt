@@ -33,6 +33,8 @@ call that made them.
   THREAD info MESSAGE_NUMBER
   THREAD receivepulse CHANNEL
   THREAD pulse CONNECTION PRIORITY CODE VALUE
+  THREAD setprio THREAD PRIORITY
+  THREAD state THREAD
 
 Bytes are hexadecimal digits (0aff), so many equal ones (16x00), or - for none.
 Empty lines and lines that begin with # are passed over.

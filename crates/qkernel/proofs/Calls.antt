@@ -16,3 +16,5 @@ pub mod Write
 pub mod Info
 pub mod ReceivePulse
 pub mod Pulse
+pub mod PrioritySet
+pub mod State

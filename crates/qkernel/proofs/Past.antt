@@ -12,5 +12,6 @@ pub mod Writes
 pub mod OpenCalls
 pub mod Channels
 pub mod Pending
+pub mod Priorities
 pub mod Rising
 pub mod Follows

@@ -1,13 +1,15 @@
 -- Where a thread stands among the threads, and what a write there changes.
 use Rattle.std.proofs.Common.{◌≡◌, ℕ, suc, zero, ◌+◌, ◌<◌, List, [], ◌∷◌, length, set, get_or, refl, ap, sym, subst, ◌∙◌, cond, arith, true, false, eqb}
-use Rattle.std.specs.Prelude.{None, Some, is_some}
+use Rattle.std.specs.Prelude.{None, Some, is_some, Option, unwrap_or}
 use Rattle.std.specs.List.{position_from}
-use Rattle.std.proofs.lemmas.Bool.{eqb-true, eqb-false, eq-eqb, ne_eqb}
+use Rattle.std.proofs.lemmas.Bool.{eqb-true, eqb-false, eq-eqb, ne_eqb, true≢false}
 use Rattle.std.proofs.lemmas.Iterator.Adapters.{position_from-zero}
 use Rattle.std.proofs.lemmas.Option.{same_Some, none-some}
 use Rattle.qtables.specs.Members.{member_at}
+use Rattle.qtables.specs.declared.member.Member.{Member}
+use Rattle.qkernel.specs.Facts.{is_in_process}
 use Rattle.qkernel.specs.declared.thread.Thread.{Thread}
-use Rattle.qkernel.specs.Threads.{members_of, open_in, level_in, seat_in, SetsOpen}
+use Rattle.qkernel.specs.Threads.{members_of, open_in, level_in, seat_in, SetsOpen, SetsLevel, Wakes}
 
 -- the thread stands at k, and nowhere before
 abbrev pub IsFirstAt : List Thread → ℕ → ℕ → Type 0
@@ -93,6 +95,48 @@ sets_open u threads k d x h m p = record {
   priority = λ v. set_level u threads k d x v h m p;
 }
 
+-- a write at the seat that changes the priority
+set_any_level : (u : ℕ) (threads : List Thread) (k : ℕ) (d x : Thread) (v : ℕ) → IsFirstAt threads u k → x.member ≡ (get_or threads k d).member → level_in (set threads k x) v ≡ cond (eqb v u) x.priority (level_in threads v)
+set_any_level u [] k d x v h m = absurd h
+set_any_level u (t ∷ threads) zero d x v h m =
+    let same : x.member.thread ≡ u = ap (λ y. y.thread) m ∙ h in
+    rw (same, h) (elim (eqb u v) as (λ b. eqb u v ≡ b → cond b x.priority (level_in threads v) ≡ cond (eqb v u) x.priority (cond b t.priority (level_in threads v))) [
+      | true ↦ λ e. rw (eq-eqb v u (sym (eqb-true u v e))) refl
+      | false ↦ λ e. rw (ne_eqb v u (λ same. eqb-false u v e (sym same))) refl
+    ] refl)
+set_any_level u (t ∷ threads) (suc k) d x v h m =
+    elim (eqb t.member.thread v) as (λ b. eqb t.member.thread v ≡ b → cond b t.priority (level_in (set threads k x) v) ≡ cond (eqb v u) x.priority (cond b t.priority (level_in threads v))) [
+      | true ↦ λ e. let other : eqb v u ≡ false = subst (λ w. eqb w u ≡ false) (eqb-true t.member.thread v e) h.0 in rw other refl
+      | false ↦ λ e. set_any_level u threads k d x v h.1 m
+    ] refl
+
+-- where the priority is one that may be given, or the thread's own
+level_given : (u : ℕ) (threads : List Thread) (k : ℕ) (d : Thread) (p : Option ℕ) (v : ℕ) → IsFirstAt threads u k
+    → cond (eqb v u) (unwrap_or p (get_or threads k d).priority) (level_in threads v) ≡ unwrap_or (cond (eqb u v) p None) (level_in threads v)
+level_given u threads k d p v h = elim (eqb u v) as (λ b. eqb u v ≡ b → cond (eqb v u) (unwrap_or p (get_or threads k d).priority) (level_in threads v) ≡ unwrap_or (cond b p None) (level_in threads v)) [
+  | true ↦ λ e. rw (eq-eqb v u (sym (eqb-true u v e))) (ap (unwrap_or p) (sym (first_level u threads k d h) ∙ ap (level_in threads) (eqb-true u v e)))
+  | false ↦ λ e. rw (ne_eqb v u (λ same. eqb-false u v e (sym same))) refl
+] refl
+
+pub sets_level : (u : ℕ) (threads : List Thread) (k : ℕ) (d x : Thread) (p : Option ℕ) → IsFirstAt threads u k → x.member ≡ (get_or threads k d).member → x.open_call ≡ (get_or threads k d).open_call
+    → x.priority ≡ unwrap_or p (get_or threads k d).priority → SetsLevel u p threads (set threads k x)
+sets_level u threads k d x p h m o q = record {
+  members = set_members u threads k d x h m;
+  open_call = λ v. set_open u threads k d x v h m ∙ ap (λ w. cond (eqb v u) w (open_in threads v)) (o ∙ sym (first_open u threads k d h)) ∙ (elim (eqb v u) as (λ b. eqb v u ≡ b → cond b (open_in threads u) (open_in threads v) ≡ open_in threads v) [
+    | true ↦ λ e. ap (open_in threads) (sym (eqb-true v u e))
+    | false ↦ λ e. refl
+  ] refl);
+  priority = λ v. set_any_level u threads k d x v h m ∙ ap (λ w. cond (eqb v u) w (level_in threads v)) q ∙ level_given u threads k d p v h;
+}
+
+-- with another priority and then with no open call
+pub wakes : (u : ℕ) (p : Option ℕ) (old mid new : List Thread) → SetsLevel u p old mid → SetsOpen u None mid new → Wakes u p old new
+wakes u p old mid new takes ends = record {
+  members = ends.members ∙ takes.members;
+  open_call = λ v. ends.open_call v ∙ ap (cond (eqb v u) None) (takes.open_call v);
+  priority = λ v. ends.priority v ∙ takes.priority v;
+}
+
 -- ---- a thread that stands nowhere
 
 nowhere_from : (u : ℕ) (threads : List Thread) (i : ℕ) → position_from (λ t. eqb t.member.thread u) i threads ≡ None → open_in threads u ≡ None
@@ -140,3 +184,15 @@ found_some u (t ∷ threads) i =
 
 pub is_there : (u : ℕ) (threads : List Thread) → is_some (seat_in threads u) ≡ is_some (member_at (members_of threads) u)
 is_there u threads = ap is_some (position_from-zero (λ t. eqb t.member.thread u) threads) ∙ found_some u threads 0
+
+-- a thread that stands nowhere is in no process
+pub not_there : (p u : ℕ) (threads : List Thread) → seat_in threads u ≡ None → is_in_process p (member_at (members_of threads) u) ≡ false
+not_there p u threads e = nobody (member_at (members_of threads) u) (sym (is_there u threads) ∙ ap is_some e) where
+  nobody : (o : Option Member) → is_some o ≡ false → is_in_process p o ≡ false
+  nobody None none = refl
+  nobody (Some m) none = absurd (true≢false none)
+
+-- what is there, is some
+pub some_there : {A : Type 0} (o : Option A) → is_some o ≡ true → (x : A) × (o ≡ Some x)
+some_there None e = absurd (true≢false (sym e))
+some_there (Some x) e = (x, refl)

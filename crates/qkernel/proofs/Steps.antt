@@ -12,3 +12,5 @@ pub mod Error
 pub mod Read
 pub mod Write
 pub mod Info
+pub mod PrioritySet
+pub mod State

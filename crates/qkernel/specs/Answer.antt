@@ -4,7 +4,7 @@ use Rattle.std.specs.List.{filter_map}
 use Rattle.qbase.specs.declared.errno.Errno.{Errno}
 use Rattle.qbase.specs.declared.errno.Errno.TheVariants.{Busy, NoMemory}
 use Rattle.qkernel.specs.declared.call.Call.{Call}
-use Rattle.qkernel.specs.declared.call.Call.TheVariants.{ChannelCreate, ConnectAttach, Send, Receive, Reply, Error, Read, Write, Info, ReceivePulse, Pulse}
+use Rattle.qkernel.specs.declared.call.Call.TheVariants.{ChannelCreate, ConnectAttach, Send, Receive, Reply, Error, Read, Write, Info, ReceivePulse, Pulse, PrioritySet, State}
 use Rattle.qkernel.specs.declared.call.Completion.{Completion}
 use Rattle.qkernel.specs.declared.call.Mark.TheVariants as mark
 use Rattle.qkernel.specs.Buffers.{buffer_of}
@@ -21,6 +21,8 @@ use Rattle.qkernel.specs.Calls.Write as write
 use Rattle.qkernel.specs.Calls.Info as info
 use Rattle.qkernel.specs.Calls.ReceivePulse as receive_pulse
 use Rattle.qkernel.specs.Calls.Pulse as pulse
+use Rattle.qkernel.specs.Calls.PrioritySet as priority_set
+use Rattle.qkernel.specs.Calls.State as state
 
 -- the row of a call
 abbrev pub row_of : Facts → ℕ → Call → Row
@@ -35,6 +37,8 @@ row_of f t (Write rcvid offset bytes) = write.row f t rcvid offset bytes
 row_of f t (Info rcvid) = info.row f t rcvid
 row_of f t (ReceivePulse chid) = receive_pulse.row f t chid
 row_of f t (Pulse coid priority code value) = pulse.row f t coid priority code value
+row_of f t (PrioritySet thread priority) = priority_set.row f t thread
+row_of f t (State thread) = state.row f t thread
 
 -- the first refusal that applies: a thread that is blocked makes no call, and then those of the row
 abbrev pub refusal : Facts → ℕ → Call → Option Errno

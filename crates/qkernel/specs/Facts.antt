@@ -1,5 +1,5 @@
 -- What may be read of the past as a call is answered.
-use Rattle.std.specs.Prelude.{ℕ, ◌==◌, ◌&&◌, Bool, true, false, is_some, List, [], ◌∷◌, map, Option, None, Some, if◌then◌else◌}
+use Rattle.std.specs.Prelude.{ℕ, ◌==◌, ◌&&◌, Bool, true, false, is_some, List, [], ◌∷◌, map, Option, None, Some, if◌then◌else◌, bit_and}
 use Rattle.std.specs.Option.{option_and_then}
 use Rattle.qbase.specs.declared.flags.ChannelFlags.{ChannelFlags}
 use Rattle.qqueue.specs.declared.item.Item.{Item}
@@ -62,6 +62,11 @@ leads_to f t (Some c) = if is_of_process f t c.process && is_some (f.channel c.c
 -- the channel that the thread may send to over connection k
 abbrev pub way : Facts → ℕ → ℕ → Option ℕ
 way f t k = leads_to f t (f.connection k)
+
+-- the channel leaves its receivers' priorities as they are
+abbrev pub is_fixed : Option OpenChannel → Bool
+is_fixed None = false
+is_fixed (Some c) = bit_and c.flags.0 1 == 1
 
 -- ---- messages
 

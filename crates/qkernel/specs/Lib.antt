@@ -1,6 +1,7 @@
 pub mod Buffers
 pub mod Trace
 pub mod Kept
+pub mod ThreadStates
 pub mod Facts
 pub mod Rows
 pub mod Held

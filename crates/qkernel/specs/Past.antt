@@ -1,5 +1,5 @@
 -- What is searched for in the list of all past calls. The newest event stands first.
-use Rattle.std.specs.Prelude.{ℕ, ◌+◌, ◌==◌, ◌&&◌, ◌||◌, not, Bool, true, false, is_some, List, [], ◌∷◌, ◌++◌, length, map, filter, Option, None, Some, if◌then◌else◌}
+use Rattle.std.specs.Prelude.{ℕ, ◌+◌, ◌==◌, ◌&&◌, ◌||◌, not, Bool, true, false, is_some, List, [], ◌∷◌, ◌++◌, length, map, filter, Option, None, Some, if◌then◌else◌, option_and_then, unwrap_or}
 use Rattle.std.specs.List.{list_any}
 use Rattle.std.specs.Option.{option_map, option_to_list}
 use Rattle.qqueue.specs.Best.{is_pulse}
@@ -8,7 +8,7 @@ use Rattle.qtables.specs.Members.{member_at}
 use Rattle.qtables.specs.declared.connection.Connection.{Connection}
 use Rattle.qtables.specs.declared.member.Member.{Member}
 use Rattle.qkernel.specs.declared.call.Call.{Call}
-use Rattle.qkernel.specs.declared.call.Call.TheVariants.{ChannelCreate, ConnectAttach, Send, Receive, Reply, Error, Read, Write, Info, ReceivePulse, Pulse}
+use Rattle.qkernel.specs.declared.call.Call.TheVariants.{ChannelCreate, ConnectAttach, Send, Receive, Reply, Error, Read, Write, Info, ReceivePulse, Pulse, PrioritySet, State}
 use Rattle.qkernel.specs.declared.call.Completion.{Completion}
 use Rattle.qkernel.specs.declared.call.Mark.{Mark}
 use Rattle.qkernel.specs.declared.call.Mark.TheVariants as mark
@@ -17,8 +17,8 @@ use Rattle.qkernel.specs.declared.open_call.Receipt.{Receipt}
 use Rattle.qkernel.specs.declared.open_call.Wait.{Wait}
 use Rattle.qkernel.specs.declared.open_call.Wait.TheVariants.{Answer, Item as ForItem}
 use Rattle.qkernel.specs.Trace.{Event, Trace}
-use Rattle.qkernel.specs.Facts.{OpenChannel}
-use Rattle.qkernel.specs.Rows.{Made, asks, makes, received, writes, written_over, with_buffer}
+use Rattle.qkernel.specs.Facts.{OpenChannel, is_fixed}
+use Rattle.qkernel.specs.Rows.{Made, asks, makes, received, writes, written_over, with_buffer, set_for, sets}
 
 -- ---- accepted, ended
 
@@ -34,6 +34,7 @@ is_failure (mark.Errored code) = false
 is_failure (mark.Count copied) = false
 is_failure (mark.Info info) = false
 is_failure (mark.Pulse item priority what) = false
+is_failure (mark.State state priority) = false
 
 -- these endings refuse call n: one is of n itself, and a failure
 abbrev pub refuses : List Completion → ℕ → Bool
@@ -77,6 +78,8 @@ creates (Some m) (Write rcvid offset bytes) = None
 creates (Some m) (Info rcvid) = None
 creates (Some m) (ReceivePulse chid) = None
 creates (Some m) (Pulse coid priority code value) = None
+creates (Some m) (PrioritySet thread priority) = None
+creates (Some m) (State thread) = None
 
 -- the open channel h: an accepted ChannelCreate has that number
 abbrev pub channel_at : List Member → Trace → ℕ → Option OpenChannel
@@ -100,6 +103,8 @@ attaches (Some m) (Write rcvid offset bytes) = None
 attaches (Some m) (Info rcvid) = None
 attaches (Some m) (ReceivePulse chid) = None
 attaches (Some m) (Pulse coid priority code value) = None
+attaches (Some m) (PrioritySet thread priority) = None
+attaches (Some m) (State thread) = None
 
 -- the live connection k: an accepted ConnectAttach has that number
 abbrev pub connection_at : List Member → Trace → ℕ → Option Connection
@@ -109,41 +114,70 @@ connection_at roster past k = made_at (λ e. attaches (member_at roster e.thread
 abbrev pub live_connections : List Member → Trace → ℕ
 live_connections roster past = count_to (connection_at roster past) (length past)
 
--- ---- priorities
+-- ---- items and priorities
+
+-- the first of two, or else the second
+abbrev pub first_some : {A : Type 0} → Option A → Option A → Option A
+first_some None y = y
+first_some (Some x) y = Some x
+
+-- what the first of these endings has of which something is told
+abbrev pub first_among : {A : Type 0} → (Completion → Option A) → List Completion → Option A
+first_among tell [] = None
+first_among tell (x ∷ endings) = first_some (tell x) (first_among tell endings)
 
 -- the priority of a member, 0 where there is none
 abbrev pub priority_in : Option Member → ℕ
 priority_in None = 0
 priority_in (Some m) = m.priority
 
--- a thread's priority: so far nothing changes the one that the roster gives it
-abbrev pub priority_of_thread : List Member → Trace → ℕ → ℕ
-priority_of_thread roster past t = priority_in (member_at roster t)
+-- of these items the one of number i
+abbrev pub made_among : List Made → ℕ → Option Made
+made_among [] i = None
+made_among (m ∷ made) i = if m.item.number == i then Some m else made_among made i
 
--- ---- items
+-- the priority that a receiver of the item takes: the item's, unless its channel leaves priorities as they are
+abbrev pub carried : (ℕ → Option OpenChannel) → Option Made → Option ℕ
+carried channel None = None
+carried channel (Some m) = if is_fixed (channel m.channel) then None else Some m.item.priority
 
--- the item that an event makes, by the connections and priorities before it
+-- the priority that an ending gives thread t, where each item that is received carries one or none
+abbrev pub given_by : (ℕ → Option ℕ) → ℕ → Completion → Option ℕ
+given_by priority t x = if x.thread == t then option_and_then (λ r. priority r.0) (received x.mark) else None
+
+-- the priority that event e gives thread t, of all that was made by then: an accepted PrioritySet sets it, or the thread receives an item
+abbrev pub given : List Member → Event → Trace → List Made → ℕ → Option ℕ
+given roster e past made t =
+    first_some (if is_accepted e past then set_for (sets e.call) t else None) (first_among (given_by (λ i. carried (channel_at roster past) (made_among made i)) t) e.endings)
+
+-- the item that an event makes, by the connections before it and by the priorities that the threads had
+abbrev pub item_by : List Member → (ℕ → ℕ) → Event → Trace → Option Made
+item_by roster priority e past = if is_accepted e past then makes (connection_at roster past) priority (length past + 1) e.thread e.call else None
+
+abbrev mutual
+  -- all items made so far, in rising number
+  pub items : List Member → Trace → List Made
+  items roster [] = []
+  items roster (e ∷ past) = items roster past ++ option_to_list (item_by roster (λ t. priority_of_thread roster past t) e past)
+
+  -- a thread's priority: what the newest event gave it that gave it one, or else what the roster gives it
+  pub priority_of_thread : List Member → Trace → ℕ → ℕ
+  priority_of_thread roster [] t = priority_in (member_at roster t)
+  priority_of_thread roster (e ∷ past) t =
+      unwrap_or (given roster e past (items roster past ++ option_to_list (item_by roster (λ u. priority_of_thread roster past u) e past)) t) (priority_of_thread roster past t)
+
+-- the item that an event makes
 abbrev pub item_of : List Member → Event → Trace → Option Made
-item_of roster e past = if is_accepted e past then makes (connection_at roster past) (priority_of_thread roster past) (length past + 1) e.thread e.call else None
+item_of roster e past = item_by roster (priority_of_thread roster past) e past
 
--- all items made so far, in rising number
-abbrev pub items : List Member → Trace → List Made
-items roster [] = []
-items roster (e ∷ past) = items roster past ++ option_to_list (item_of roster e past)
-
--- of these items the priority of the one of number i, 0 where there is none
-abbrev pub priority_among : List Made → ℕ → ℕ
-priority_among [] i = 0
-priority_among (m ∷ made) i = if m.item.number == i then m.item.priority else priority_among made i
+-- the priority of an item, 0 where there is none
+abbrev pub priority_made : Option Made → ℕ
+priority_made None = 0
+priority_made (Some m) = m.item.priority
 
 -- the priority that item i was made with
 abbrev pub priority_of_item : List Member → Trace → ℕ → ℕ
-priority_of_item roster past i = priority_among (items roster past) i
-
--- the first of two, or else the second
-abbrev pub first_some : {A : Type 0} → Option A → Option A → Option A
-first_some None y = y
-first_some (Some x) y = Some x
+priority_of_item roster past i = priority_made (made_among (items roster past) i)
 
 -- the receipt that an ending is of item i: how many bytes it copied
 abbrev pub copied_of : ℕ → Option (ℕ × ℕ) → Option ℕ
@@ -152,8 +186,7 @@ copied_of i (Some r) = if r.0 == i then Some r.1 else None
 
 -- the receipt of item i among these endings
 abbrev pub receipt_among : List Completion → ℕ → Option ℕ
-receipt_among [] i = None
-receipt_among (x ∷ endings) i = first_some (copied_of i (received x.mark)) (receipt_among endings i)
+receipt_among endings i = first_among (λ x. copied_of i (received x.mark)) endings
 
 -- the receipt of item i, by an ending of some event
 abbrev pub receipt_of : Trace → ℕ → Option ℕ

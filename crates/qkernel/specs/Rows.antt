@@ -8,7 +8,7 @@ use Rattle.qqueue.specs.declared.item.Kind.TheVariants.{Any, PulseOnly}
 use Rattle.qqueue.specs.declared.item.What.TheVariants.{Message, User}
 use Rattle.qtables.specs.declared.connection.Connection.{Connection}
 use Rattle.qkernel.specs.declared.call.Call.{Call}
-use Rattle.qkernel.specs.declared.call.Call.TheVariants.{ChannelCreate, ConnectAttach, Send, Receive, Reply, Error, Read, Write, Info, ReceivePulse, Pulse}
+use Rattle.qkernel.specs.declared.call.Call.TheVariants.{ChannelCreate, ConnectAttach, Send, Receive, Reply, Error, Read, Write, Info, ReceivePulse, Pulse, PrioritySet, State}
 use Rattle.qkernel.specs.declared.call.Completion.{Completion}
 use Rattle.qkernel.specs.declared.call.Mark.{Mark}
 use Rattle.qkernel.specs.declared.call.Mark.TheVariants as mark
@@ -58,6 +58,8 @@ asks n (Write rcvid offset bytes) = None
 asks n (Info rcvid) = None
 asks n (ReceivePulse chid) = Some (record { number = n; wait = ForItem chid PulseOnly [] })
 asks n (Pulse coid priority code value) = None
+asks n (PrioritySet thread priority) = None
+asks n (State thread) = None
 
 -- ---- items
 
@@ -88,6 +90,8 @@ makes connection priority n t (Write rcvid offset bytes) = None
 makes connection priority n t (Info rcvid) = None
 makes connection priority n t (ReceivePulse chid) = None
 makes connection priority n t (Pulse coid level code value) = sent_over (connection coid) (pulse_item n level code value)
+makes connection priority n t (PrioritySet thread level) = None
+makes connection priority n t (State thread) = None
 
 -- ---- writing
 
@@ -110,6 +114,38 @@ writes (Read rcvid offset buffer) = None
 writes (Info rcvid) = None
 writes (ReceivePulse chid) = None
 writes (Pulse coid priority code value) = None
+writes (PrioritySet thread priority) = None
+writes (State thread) = None
+
+-- ---- setting priorities
+
+-- a thread's priority that is set
+pub record Setting : Type 0 where
+  pub thread : ℕ
+  pub priority : ℕ
+
+-- what a call sets
+abbrev pub sets : Call → Option Setting
+sets (PrioritySet thread priority) = Some (record { thread = thread; priority = priority })
+sets (ChannelCreate flags) = None
+sets (ConnectAttach chid) = None
+sets (Send coid message reply_buffer) = None
+sets (Receive chid buffer) = None
+sets (Reply rcvid status bytes) = None
+sets (Error rcvid code) = None
+sets (Read rcvid offset buffer) = None
+sets (Write rcvid offset bytes) = None
+sets (Info rcvid) = None
+sets (ReceivePulse chid) = None
+sets (Pulse coid priority code value) = None
+sets (State thread) = None
+
+-- the priority that is set for thread u
+abbrev pub set_for : Option Setting → ℕ → Option ℕ
+set_for None u = None
+set_for (Some s) u = if s.thread == u then Some s.priority else None
+
+-- ---- buffers
 
 -- the reply buffer of message i with what is written over it
 abbrev pub written_over : Option Written → ℕ → List ℕ → List ℕ
@@ -155,6 +191,7 @@ received (mark.Errored code) = None
 received (mark.Count copied) = None
 received (mark.Info info) = None
 received (mark.Pulse item priority what) = Some (item, 0)
+received (mark.State state priority) = None
 
 -- the receipt that thread u makes of an item of this channel, sender and priority
 abbrev pub receipt_at : ℕ → Option ℕ → ℕ → ℕ → Option (ℕ × ℕ) → Option Received

@@ -1,5 +1,5 @@
 -- One call by its facts: what they are after it.
-use Rattle.std.specs.Prelude.{◌≡◌, ℕ, ◌+◌, ◌==◌, Bool, false, is_some, List, [], ◌∷◌, ◌++◌, Option, None, Some, if◌then◌else◌}
+use Rattle.std.specs.Prelude.{◌≡◌, ℕ, ◌+◌, ◌==◌, Bool, false, is_some, List, [], ◌∷◌, ◌++◌, Option, None, Some, if◌then◌else◌, unwrap_or}
 use Rattle.std.specs.Option.{option_map}
 use Rattle.qbase.specs.Laying.{lay_over}
 use Rattle.qqueue.specs.Best.{without}
@@ -9,10 +9,10 @@ use Rattle.qtables.specs.declared.connection.Connection.{Connection}
 use Rattle.qkernel.specs.declared.call.Call.{Call}
 use Rattle.qkernel.specs.declared.open_call.OpenCall.{OpenCall}
 use Rattle.qkernel.specs.declared.open_call.Receipt.{Receipt}
-use Rattle.qkernel.specs.Facts.{Facts, OpenChannel, sender}
-use Rattle.qkernel.specs.Rows.{Made, Received, Written, asks, makes, writes, with_buffer}
+use Rattle.qkernel.specs.Facts.{Facts, OpenChannel, sender, is_fixed}
+use Rattle.qkernel.specs.Rows.{Made, Received, Written, asks, makes, writes, with_buffer, set_for, sets}
 use Rattle.qkernel.specs.Answer.{row_of}
-use Rattle.qkernel.specs.Past.{creates, attaches, held_with}
+use Rattle.qkernel.specs.Past.{creates, attaches, held_with, first_some}
 
 -- a look-up with one more record at n
 abbrev pub put_at : {A : Type 0} → Option A → ℕ → (ℕ → Option A) → ℕ → Option A
@@ -74,6 +74,14 @@ taken_out (Some r) h items = if r.channel == h then without r.item items else it
 abbrev pub pending_after : Facts → ℕ → Call → ℕ → List Item
 pending_after f t c h = taken_out (row_of f t c).receipt h (f.pending h ++ made_on h (makes f.connection f.priority f.number t c))
 
+-- the priority that thread u takes by a receipt: the item's, unless its channel leaves priorities as they are
+abbrev pub taken_by : Facts → Option Received → ℕ → Option ℕ
+taken_by f None u = None
+taken_by f (Some r) u = if r.by == u then (if is_fixed (f.channel r.channel) then None else Some r.kept.priority) else None
+
+abbrev pub priority_after : Facts → ℕ → Call → ℕ → ℕ
+priority_after f t c u = unwrap_or (first_some (set_for (sets c) u) (taken_by f (row_of f t c).receipt u)) (f.priority u)
+
 -- g are the facts after the call
 pub record Follows (f : Facts) (t : ℕ) (c : Call) (accepted : Bool) (g : Facts) : Type 0 where
   pub roster : g.roster ≡ f.roster
@@ -84,4 +92,4 @@ pub record Follows (f : Facts) (t : ℕ) (c : Call) (accepted : Bool) (g : Facts
   pub live_connections : g.live_connections ≡ f.live_connections + (if accepted then one_for (attaches (member_at f.roster t) c) else 0)
   pub open_call : (u : ℕ) → g.open_call u ≡ (if accepted then open_call_after f t c u else f.open_call u)
   pub pending : (h : ℕ) → g.pending h ≡ (if accepted then pending_after f t c h else f.pending h)
-  pub priority : (u : ℕ) → g.priority u ≡ f.priority u
+  pub priority : (u : ℕ) → g.priority u ≡ (if accepted then priority_after f t c u else f.priority u)

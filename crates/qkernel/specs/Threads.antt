@@ -1,5 +1,5 @@
 -- The threads of a kernel, one after another.
-use Rattle.std.specs.Prelude.{◌≡◌, ℕ, ◌+◌, ◌==◌, Bool, true, false, List, [], ◌∷◌, map, position, is_some, Option, None, Some, if◌then◌else◌}
+use Rattle.std.specs.Prelude.{◌≡◌, ℕ, ◌+◌, ◌==◌, Bool, true, false, List, [], ◌∷◌, map, position, is_some, unwrap_or, Option, None, Some, if◌then◌else◌}
 use Rattle.std.specs.Option.{option_map, option_and_then}
 use Rattle.qqueue.specs.declared.item.Item.{Item}
 use Rattle.qtables.specs.declared.member.Member.{Member}
@@ -53,6 +53,18 @@ pub record SetsOpen (u : ℕ) (o : Option OpenCall) (old new : List Thread) : Ty
   pub members : members_of new ≡ members_of old
   pub open_call : (v : ℕ) → open_in new v ≡ (if v == u then o else open_in old v)
   pub priority : (v : ℕ) → level_in new v ≡ level_in old v
+
+-- thread u has this priority, if one is given, and all else is as it was
+pub record SetsLevel (u : ℕ) (p : Option ℕ) (old new : List Thread) : Type 0 where
+  pub members : members_of new ≡ members_of old
+  pub open_call : (v : ℕ) → open_in new v ≡ open_in old v
+  pub priority : (v : ℕ) → level_in new v ≡ unwrap_or (if u == v then p else None) (level_in old v)
+
+-- thread u has no open call and has this priority, if one is given, and all else is as it was
+pub record Wakes (u : ℕ) (p : Option ℕ) (old new : List Thread) : Type 0 where
+  pub members : members_of new ≡ members_of old
+  pub open_call : (v : ℕ) → open_in new v ≡ (if v == u then None else open_in old v)
+  pub priority : (v : ℕ) → level_in new v ≡ unwrap_or (if u == v then p else None) (level_in old v)
 
 -- the connection over which a message was sent that is held
 abbrev pub held_over_by : Wait → Option ℕ

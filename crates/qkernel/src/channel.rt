@@ -1,15 +1,17 @@
 //! What the kernel keeps of an open channel.
 
-ghost use Rattle.std.specs.Prelude.{◌≡◌, ◌==◌, ◌+◌, ◌≤◌, ◌<◌, ◌++◌, ◌∷◌, [], is_some, true, OnOk, OnErr, IfErr, IfSome, IfNone};
+ghost use Rattle.std.specs.Prelude.{◌≡◌, ◌==◌, ◌+◌, ◌≤◌, ◌<◌, ◌++◌, ◌∷◌, [], is_some, true, None, Some, if◌then◌else◌, OnOk, OnErr, IfErr, IfSome, IfNone};
 ghost use Rattle.std.specs.List.{AllByRecursion};
 ghost use Rattle.qqueue.specs.Best.{best_of, without};
 ghost use Rattle.qkernel.specs.Calls.Pulse.{pulses_among};
+ghost use Rattle.qkernel.specs.Facts.{is_fixed};
 ghost use Rattle.qkernel.specs.Channels.{channel_in, pending_in, is_of, way_in, SetsItems};
 ghost use Rattle.qtables.specs.Entries.{entry_at};
 
 use qbase::errno::Errno;
 use qbase::flags::ChannelFlags;
 use qbase::ids::{ChannelId, ConnectionId, ProcessNo};
+use qbase::priority::Priority;
 use qqueue::item::{Item, Kind};
 use qqueue::queue::Queue;
 use qtables::channels::Channels;
@@ -66,6 +68,21 @@ pub fn pulses_on(channels: &Channels<Channel>, chid: ChannelId) -> usize
     match channels.get(chid) {
         None => 0,
         Some(channel) => channel.queue.pulses(),
+    }
+}
+
+/// The priority that a receiver on the channel takes of an item of this priority: none where the channel
+/// leaves its receivers' priorities as they are.
+pub fn carried(
+    channels: &Channels<Channel>,
+    chid: ChannelId,
+    priority: Priority,
+) -> Option<Priority>
+    ensures { result ≡ (if is_fixed (channel_in channels.now chid) then None else Some priority) }
+{
+    match channels.get(chid) {
+        Some(channel) if channel.flags.fixes_priority() => None,
+        _ => Some(priority),
     }
 }
 

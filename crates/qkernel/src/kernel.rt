@@ -9,12 +9,14 @@ mod channel_create;
 mod connect_attach;
 mod error;
 mod info;
+mod priority_set;
 mod pulse;
 mod read;
 mod receive;
 mod receive_pulse;
 mod reply;
 mod send;
+mod state;
 mod write;
 
 use crate::call::Call;
@@ -122,6 +124,11 @@ impl Kernel {
                 code,
                 value,
             } => self.pulse(seat, thread, coid, priority, code, value, endings),
+            Call::PrioritySet {
+                thread: target,
+                priority,
+            } => self.priority_set(seat, thread, target, priority, endings),
+            Call::State(target) => self.state(thread, target, endings),
         }
     }
 

@@ -11,5 +11,6 @@ pub mod laws;
 pub mod open_call;
 pub mod run;
 pub mod thread;
+pub mod thread_state;
 pub mod trace;
 pub mod worked;

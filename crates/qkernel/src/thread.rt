@@ -1,19 +1,19 @@
 //! The threads of a kernel: what is kept of each, and the searches through them.
 
-ghost use Rattle.std.specs.Prelude.{◌≡◌, ◌==◌, ◌<◌, ◌≤◌, Some, None, is_some, position, length, option_map, IfOk, map};
+ghost use Rattle.std.specs.Prelude.{◌≡◌, ◌==◌, ◌<◌, ◌≤◌, Some, None, true, is_some, position, length, option_map, IfOk, IfSome, map};
 ghost use Rattle.qbase.specs.Laying.{laid_count, lay_over};
 ghost use Rattle.qtables.specs.Members.{member_at, IsRoster};
 ghost use Rattle.qqueue.specs.Best.{is_pulse};
-ghost use Rattle.qkernel.specs.Facts.{is_send, message_in};
+ghost use Rattle.qkernel.specs.Facts.{is_in_process, is_send, message_in};
 ghost use Rattle.qkernel.specs.Rows.{given};
 ghost use Rattle.qkernel.specs.Step.{held_call};
-ghost use Rattle.qkernel.specs.Threads.{members_of, open_in, seat_in, level_in, ready, newest_by, later_by, held_over_in, message_from, SetsOpen, ChangesSender, HandsOver};
+ghost use Rattle.qkernel.specs.Threads.{members_of, open_in, seat_in, level_in, ready, newest_by, later_by, held_over_in, message_from, SetsOpen, SetsLevel, Wakes, ChangesSender, HandsOver};
 ghost use Rattle.qkernel.specs.Receivers.{wait_on};
 
 use crate::call::Mark;
 use crate::open_call::{OpenCall, Receipt, Wait};
 use qbase::bytes::Bytes;
-use qbase::ids::{ChannelId, ConnectionId, ReceiveId, ThreadNo};
+use qbase::ids::{ChannelId, ConnectionId, ProcessNo, ReceiveId, ThreadNo};
 use qbase::priority::Priority;
 use qqueue::item::Item;
 use qtables::member::Member;
@@ -61,6 +61,19 @@ pub fn member_of(threads: &[Thread], seat: usize, thread: ThreadNo) -> Member
     threads[seat].member
 }
 
+/// Where a thread stands that is one of this process.
+pub fn seat_in_process(threads: &[Thread], process: ProcessNo, thread: ThreadNo) -> Option<usize>
+    ensures seat { IfSome result (λ seat. seat_in threads.now thread ≡ Some seat) }
+    ensures own { is_some result ≡ is_in_process process (member_at (members_of threads.now) thread) }
+{
+    let seat = seat_of(threads, thread)?;
+    if member_of(threads, seat, thread).process == process {
+        Some(seat)
+    } else {
+        None
+    }
+}
+
 /// Whether the thread at a seat is blocked.
 pub fn is_blocked(threads: &[Thread], seat: usize, thread: ThreadNo) -> bool
     requires { seat_in threads.now thread ≡ Some seat }
@@ -92,6 +105,20 @@ pub fn level_of(threads: &[Thread], seat: usize, thread: ThreadNo) -> Priority
     threads[seat].priority
 }
 
+/// Gives the thread at a seat this priority, or leaves it its own.
+pub fn set_level(
+    threads: &mut Vec<Thread>,
+    seat: usize,
+    thread: ThreadNo,
+    priority: Option<Priority>,
+)
+    requires { seat_in threads.old.items thread ≡ Some seat }
+    ensures { SetsLevel thread priority threads.old.items threads.new.items }
+{
+    let there = &mut threads[seat];
+    there.priority = priority.unwrap_or(there.priority);
+}
+
 /// Blocks the thread at a seat in a call.
 pub fn block(threads: &mut Vec<Thread>, seat: usize, thread: ThreadNo, call: OpenCall)
     requires { seat_in threads.old.items thread ≡ Some seat }
@@ -100,12 +127,21 @@ pub fn block(threads: &mut Vec<Thread>, seat: usize, thread: ThreadNo, call: Ope
     let _ = replace_open(threads, seat, thread, Some(call));
 }
 
-/// Takes the open call of a thread, which then isn't blocked.
-pub fn take_open(threads: &mut Vec<Thread>, thread: ThreadNo) -> Option<OpenCall>
+/// Takes the open call of a thread, which then isn't blocked, and gives it this priority, or leaves it its
+/// own.
+pub fn wake(
+    threads: &mut Vec<Thread>,
+    thread: ThreadNo,
+    priority: Option<Priority>,
+) -> Option<OpenCall>
+    requires { is_some (open_in threads.old.items thread) ≡ true }
     ensures had { result ≡ open_in threads.old.items thread }
-    ensures after { SetsOpen thread None threads.old.items threads.new.items }
+    ensures after { Wakes thread priority threads.old.items threads.new.items }
 {
-    let seat = seat_of(threads, thread)?;
+    let Some(seat) = seat_of(threads, thread) else {
+        unreachable!();
+    };
+    set_level(threads, seat, thread, priority);
     replace_open(threads, seat, thread, None)
 }
 

@@ -2,7 +2,7 @@
 
 use crate::making::{
     attach, brings, channel, connected, connection, create, error, info, kernel, message, pulse,
-    read, receive, receive_pulse, replied, reply, send, write,
+    read, receive, receive_pulse, replied, reply, send, set_priority, state, write,
 };
 use arrayvec::ArrayVec;
 use qbase::ids::ThreadNo;
@@ -130,6 +130,8 @@ fn calls_are_copied_and_give_their_buffer(rt: HostRuntime) -> Result<(), Fail> {
     calls.push((info(3), b""))?;
     calls.push((receive_pulse(1), b""))?;
     calls.push((pulse(2, 9, 1, -1)?, b""))?;
+    calls.push((set_priority(1, 5)?, b""))?;
+    calls.push((state(2), b""))?;
     for (call, buffer) in calls {
         let copy = call.copied(alloc)?;
         let text = format!(in alloc; "{call:?}")?;

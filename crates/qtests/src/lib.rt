@@ -10,6 +10,8 @@ mod held;
 #[cfg(test)]
 mod making;
 #[cfg(test)]
+mod priorities;
+#[cfg(test)]
 mod pulses;
 #[cfg(test)]
 mod refusals;

@@ -5,6 +5,7 @@ use qbase::errno::Errno;
 use qbase::flags::ChannelFlags;
 use qbase::ids::{ChannelId, ConnectionId, ProcessNo, ReceiveId, ThreadNo};
 use qbase::priority::Priority;
+use qbase::state::ThreadState;
 use qkernel::call::{Call, Mark};
 use qkernel::kernel::Kernel;
 use qqueue::item::What;
@@ -122,6 +123,25 @@ pub fn pulse(coid: u64, level: u8, code: i8, value: i32) -> Result<Call, Fail> {
         priority: Priority::new(level).ok_or("no such priority")?,
         code,
         value,
+    })
+}
+
+pub fn set_priority(thread: u8, level: u8) -> Result<Call, Fail> {
+    Ok(Call::PrioritySet {
+        thread: ThreadNo(thread),
+        priority: Priority::new(level).ok_or("no such priority")?,
+    })
+}
+
+pub fn state(thread: u8) -> Call {
+    Call::State(ThreadNo(thread))
+}
+
+/// The mark of a State.
+pub fn in_state(state: ThreadState, level: u8) -> Result<Mark, Fail> {
+    Ok(Mark::State {
+        state,
+        priority: Priority::new(level).ok_or("no such priority")?,
     })
 }
 

@@ -21,7 +21,8 @@ use Rattle.qkernel.specs.Trace.{Event, Run}
 use Rattle.qdemo.specs.Printing.Words.{spaced}
 use Rattle.qdemo.specs.Printing.Marks.{mark_words}
 use Rattle.qdemo.specs.Printing.Buffer.{buffer_words}
-use Rattle.qdemo.specs.Printing.OpenLine.{state_words, open_text}
+use Rattle.qdemo.specs.Printing.OpenLine.{open_text}
+use Rattle.qdemo.specs.Printing.State.{state_words}
 use Rattle.qdemo.specs.Printing.Printed.{call_by, is_shown, ended_words, event_text, texts_from, printed}
 use Rattle.qdemo.specs.Printing.Laws.{IsOneLine, with_newline, IsLines, endings_in, HasLines}
 
@@ -106,6 +107,12 @@ error_word Exhausted = tested (word_of Exhausted) refl
 error_word TraceFull = tested (word_of TraceFull) refl
 error_word NoThread = tested (word_of NoThread) refl
 
+state_row : (state : ThreadState) → AllByRecursion IsOneLine (state_words state)
+state_row Ready = (tested (codes "ready") refl, tt)
+state_row (SendBlocked chid) = (tested (codes "send") refl, (number chid, tt))
+state_row (ReceiveBlocked chid) = (tested (codes "receive") refl, (number chid, tt))
+state_row (ReplyBlocked chid) = (tested (codes "reply") refl, (number chid, tt))
+
 pulse_row : (item priority : ℕ) (what : What) → AllByRecursion IsOneLine (pulse_words item priority what)
 pulse_row item priority Message = (tested (codes "pulse") refl, (number item, (number priority, tt)))
 pulse_row item priority (User code value) = (tested (codes "pulse") refl, (number item, (number priority, (tested (codes "user") refl, (signed code, (signed value, tt))))))
@@ -125,6 +132,7 @@ mark_row (marks.Count copied) = (tested (codes "count") refl, (number copied, tt
 mark_row (marks.Info i) =
     (tested (codes "info") refl, (number i.process, (number i.thread, (number i.connection, (number i.msglen, (number i.srcmsglen, (number i.dstmsglen, (number i.priority, tt))))))))
 mark_row (marks.Pulse item priority what) = pulse_row item priority what
+mark_row (marks.State state priority) = (tested (codes "state") refl, both_rows (state_words state) (decimal priority ∷ []) (state_row state) (number priority, tt))
 
 buffer_row : (bytes : List ℕ) → AllByRecursion IsOneLine (buffer_words bytes)
 buffer_row bytes = elim (length bytes == 0) as (λ b. IsOneLine (cond b (codes "-") (encode_lower bytes)) × Unit {0}) [
@@ -137,12 +145,6 @@ ended_row run event e = elim (is_shown (call_by run event e.call)) as (λ b. All
   | true ↦ buffer_row e.buffer
   | false ↦ tt
 ]
-
-state_row : (state : ThreadState) → AllByRecursion IsOneLine (state_words state)
-state_row Ready = (tested (codes "ready") refl, tt)
-state_row (SendBlocked chid) = (tested (codes "send") refl, (number chid, tt))
-state_row (ReceiveBlocked chid) = (tested (codes "receive") refl, (number chid, tt))
-state_row (ReplyBlocked chid) = (tested (codes "reply") refl, (number chid, tt))
 
 -- ---- lines
 

@@ -9,6 +9,7 @@ pub mod Errored
 pub mod Count
 pub mod Info
 pub mod Pulse
+pub mod State
 use Rattle.std.specs.Prelude.{ℕ, List}
 use Rattle.qkernel.specs.declared.call.Mark.{Mark}
 use Rattle.qkernel.specs.declared.call.Mark.TheVariants as marks
@@ -22,6 +23,7 @@ use Rattle.qdemo.specs.Printing.Marks.Errored.{errored_words}
 use Rattle.qdemo.specs.Printing.Marks.Count.{count_words}
 use Rattle.qdemo.specs.Printing.Marks.Info.{info_words}
 use Rattle.qdemo.specs.Printing.Marks.Pulse.{pulse_words}
+use Rattle.qdemo.specs.Printing.Marks.State.{told_words}
 
 -- the words of a mark
 unfoldable pub mark_words : Mark → List (List ℕ)
@@ -35,3 +37,4 @@ mark_words (marks.Errored code) = errored_words code
 mark_words (marks.Count copied) = count_words copied
 mark_words (marks.Info info) = info_words info
 mark_words (marks.Pulse item priority what) = pulse_words item priority what
+mark_words (marks.State state priority) = told_words state priority

@@ -3,7 +3,7 @@ use Rattle.std.specs.Prelude.{ℕ, ◌+◌, ◌-◌, ◌&&◌, nat_le, Bool, tru
 use Rattle.std.specs.List.{flat_map}
 use Rattle.std.specs.Option.{option_map}
 use Rattle.qkernel.specs.declared.call.Call.{Call}
-use Rattle.qkernel.specs.declared.call.Call.TheVariants.{ChannelCreate, ConnectAttach, Send, Receive, Reply, Error, Read, Write, Info, ReceivePulse, Pulse}
+use Rattle.qkernel.specs.declared.call.Call.TheVariants.{ChannelCreate, ConnectAttach, Send, Receive, Reply, Error, Read, Write, Info, ReceivePulse, Pulse, PrioritySet, State}
 use Rattle.qkernel.specs.declared.call.Completion.{Completion}
 use Rattle.qkernel.specs.declared.open_call.Blocked.{Blocked}
 use Rattle.qkernel.specs.Trace.{Event, Run}
@@ -25,6 +25,8 @@ shows_buffer (Write rcvid offset bytes) = false
 shows_buffer (Info rcvid) = false
 shows_buffer (ReceivePulse chid) = false
 shows_buffer (Pulse coid priority code value) = false
+shows_buffer (PrioritySet thread priority) = false
+shows_buffer (State thread) = false
 
 -- the call of this number, which is that of the event of this number, among a run's events up to another
 abbrev pub call_by : Run → ℕ → ℕ → Option Call

@@ -17,6 +17,8 @@ use Rattle.qdemo.specs.Reading.Forms.Write.{write_of}
 use Rattle.qdemo.specs.Reading.Forms.Info.{info_of}
 use Rattle.qdemo.specs.Reading.Forms.ReceivePulse.{receivepulse_of}
 use Rattle.qdemo.specs.Reading.Forms.Pulse.{pulse_of}
+use Rattle.qdemo.specs.Reading.Forms.SetPrio.{setprio_of}
+use Rattle.qdemo.specs.Reading.Forms.State.{state_of}
 
 -- the verb that a word is
 unfoldable pub verb_of : List ℕ → Option Verb
@@ -32,6 +34,8 @@ verb_of word =
     else if bytes_eq word (codes "info") then Some verbs.Info
     else if bytes_eq word (codes "receivepulse") then Some verbs.ReceivePulse
     else if bytes_eq word (codes "pulse") then Some verbs.Pulse
+    else if bytes_eq word (codes "setprio") then Some verbs.SetPrio
+    else if bytes_eq word (codes "state") then Some verbs.State
     else None
 
 -- the call of a verb and its operands
@@ -47,6 +51,8 @@ call_by (Some verbs.Write) operands = write_of operands
 call_by (Some verbs.Info) operands = info_of operands
 call_by (Some verbs.ReceivePulse) operands = receivepulse_of operands
 call_by (Some verbs.Pulse) operands = pulse_of operands
+call_by (Some verbs.SetPrio) operands = setprio_of operands
+call_by (Some verbs.State) operands = state_of operands
 call_by None operands = Err UnknownWord
 
 -- the call of a word and its operands

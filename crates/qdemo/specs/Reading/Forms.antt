@@ -9,5 +9,7 @@ pub mod Receive
 pub mod ReceivePulse
 pub mod Reply
 pub mod Send
+pub mod SetPrio
+pub mod State
 pub mod Thread
 pub mod Write

@@ -27,6 +27,8 @@ fn shows(call: &Call) -> bool
         Call::Info(_) => false,
         Call::ReceivePulse(_) => false,
         Call::Pulse { .. } => false,
+        Call::PrioritySet { .. } => false,
+        Call::State(_) => false,
     }
 }
 

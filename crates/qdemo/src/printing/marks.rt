@@ -14,6 +14,7 @@ mod message;
 mod ok;
 mod pulse;
 mod replied;
+mod state;
 
 use qkernel::call::Mark;
 use std::alloc::AllocError;
@@ -38,5 +39,6 @@ pub fn push_mark(out: &mut String, mark: Mark) -> Result<(), AllocError>
             priority,
             what,
         } => pulse::push(out, item, priority, what),
+        Mark::State { state, priority } => state::push(out, state, priority),
     }
 }

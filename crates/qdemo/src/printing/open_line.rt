@@ -2,7 +2,8 @@
 
 ghost use Rattle.std.specs.Prelude.{◌≡◌, ◌++◌, OnOk, string_bytes};
 ghost use Rattle.qdemo.specs.Printing.Words.{spaced};
-ghost use Rattle.qdemo.specs.Printing.OpenLine.{state_words, open_text};
+ghost use Rattle.qdemo.specs.Printing.OpenLine.{open_text};
+ghost use Rattle.qdemo.specs.Printing.State.{state_words};
 
 use qbase::state::ThreadState;
 use qkernel::open_call::Blocked;

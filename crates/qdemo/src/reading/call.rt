@@ -6,7 +6,8 @@ ghost use Rattle.qdemo.specs.Reading.Words.{words_of};
 
 use crate::fault::{LineFault, ParseError};
 use crate::reading::forms::{
-    attach, create, error, info, pulse, read, receive, receivepulse, reply, send, write,
+    attach, create, error, info, pulse, read, receive, receivepulse, reply, send, setprio, state,
+    write,
 };
 use crate::reading::verb::{Verb, verb_named};
 use qkernel::call::Call;
@@ -29,6 +30,8 @@ pub fn call_named(alloc: Global, word: &[u8], operands: &[u8]) -> Result<Call, P
         Some(Verb::Info) => info::call(operands),
         Some(Verb::ReceivePulse) => receivepulse::call(operands),
         Some(Verb::Pulse) => pulse::call(operands),
+        Some(Verb::SetPrio) => setprio::call(operands),
+        Some(Verb::State) => state::call(operands),
         None => Err(ParseError::Fault(LineFault::UnknownWord)),
     }
 }

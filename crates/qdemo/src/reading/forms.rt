@@ -10,5 +10,7 @@ pub mod receive;
 pub mod receivepulse;
 pub mod reply;
 pub mod send;
+pub mod setprio;
+pub mod state;
 pub mod thread;
 pub mod write;

@@ -18,6 +18,8 @@ pub enum Verb {
     Info,
     ReceivePulse,
     Pulse,
+    SetPrio,
+    State,
 }
 
 /// Whether the word is this one.
@@ -54,6 +56,10 @@ pub fn verb_named(word: &[u8]) -> Option<Verb>
         Some(Verb::ReceivePulse)
     } else if is(word, "pulse") {
         Some(Verb::Pulse)
+    } else if is(word, "setprio") {
+        Some(Verb::SetPrio)
+    } else if is(word, "state") {
+        Some(Verb::State)
     } else {
         None
     }

@@ -192,3 +192,34 @@ fn as_many_pulses(rt: HostRuntime) -> Result<(), Fail> {
     expect_text(&rt, rt.alloc(), input.as_slice(), text.as_bytes());
     Ok(())
 }
+
+// A receiver takes the priority of what it receives, unless its channel has FIXED_PRIORITY, until its
+// priority is set; any thread may ask.
+#[test]
+fn priorities(rt: HostRuntime) -> Result<(), Fail> {
+    for (lines, text) in [
+        (
+            b"1 receive 1 8xaa\n2 send 2 68656c6c6f 4x00\n1 state 2\n".as_slice(),
+            b"4 3 1 message 4 5 68656c6c6faaaaaa\n5 5 1 state reply 1 20\nopen 4 2 reply 1\n".as_slice(),
+        ),
+        (
+            b"2 pulse 2 15 1 100\n2 setprio 2 15\n2 send 2 aa -\n1 receive 1 -\n1 receive 1 -\n".as_slice(),
+            b"3 3 2 ok\n4 4 2 ok\n6 6 1 pulse 3 15 user 1 100 -\n7 7 1 message 5 0 -\nopen 5 2 reply 1\n".as_slice(),
+        ),
+        (
+            b"2 setprio 2 40\n2 send 2 aa -\n1 receive 1 -\n1 state 1\n3 create 0\n1 attach 7\n1 send 8 bb -\n3 receive 7 -\n3 info 9\n".as_slice(),
+            b"3 3 2 ok\n5 5 1 message 4 0 -\n6 6 1 state ready 40\n7 7 3 channel 7\n8 8 1 connection 8\n10 10 3 message 9 0 -\n11 11 3 info 1 1 8 0 1 0 40\nopen 9 1 reply 7\nopen 4 2 reply 1\n".as_slice(),
+        ),
+        (
+            b"1 create 1\n2 attach 3\n2 send 4 aa -\n1 receive 3 -\n1 state 1\n".as_slice(),
+            b"3 3 1 channel 3\n4 4 2 connection 4\n6 6 1 message 5 0 -\n7 7 1 state ready 10\nopen 5 2 reply 3\n".as_slice(),
+        ),
+        (
+            b"1 receive 1 -\n3 pulse 2 33 1 0\n1 state 1\n4 setprio 1 12\n1 state 1\n2 state 1\n2 setprio 1 5\n2 state 9\n".as_slice(),
+            b"4 3 1 pulse 4 33 user 1 0 -\n4 4 3 ok\n5 5 1 state ready 33\n6 6 4 ok\n7 7 1 state ready 12\n8 8 2 state ready 12\n9 9 2 fail srch\n10 10 2 fail srch\n".as_slice(),
+        ),
+    ] {
+        expect_after_prelude(&rt, rt.alloc(), lines, text)?;
+    }
+    Ok(())
+}

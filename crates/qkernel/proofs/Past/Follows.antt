@@ -14,6 +14,7 @@ use Rattle.qkernel.proofs.Past.Channels.{made_refused, made_accepted, count_refu
 use Rattle.qkernel.proofs.Past.Ends.{accepted, refused}
 use Rattle.qkernel.proofs.Past.OpenCalls.{open_refused, open_accepted}
 use Rattle.qkernel.proofs.Past.Pending.{pending_refused, pending_accepted}
+use Rattle.qkernel.proofs.Past.Priorities.{priority_accepted, priority_refused}
 
 pub past_follows : (accept : Bool) (roster : List Member) (past : Trace) (t : ℕ) (c : Call) (X : List Completion)
     → IsRoster roster → IsLawful roster past → is_some (member_at roster t) ≡ true → Outcome accept (facts_of roster past) t c X
@@ -30,7 +31,7 @@ past_follows true roster past t c X rising l member a =
       live_connections = count_accepted (λ e. attaches (member_at roster e.thread) e.call) e past r;
       open_call = λ u. open_accepted roster past t c X u l member a;
       pending = λ h. pending_accepted roster past t c X h l member a;
-      priority = λ u. refl;
+      priority = λ u. priority_accepted roster past t c X u l member a;
     }
 past_follows false roster past t c X rising l member a =
     let e : Event = record { thread = t; call = c; endings = X } in
@@ -44,5 +45,5 @@ past_follows false roster past t c X rising l member a =
       live_connections = omega (arith, count_refused (λ e. attaches (member_at roster e.thread) e.call) e past r);
       open_call = λ u. open_refused roster past t c X u a;
       pending = λ h. pending_refused roster past t c X h a;
-      priority = λ u. refl;
+      priority = λ u. priority_refused roster past t c X u a;
     }

@@ -10,7 +10,7 @@ use Rattle.qqueue.specs.Best.{is_pulse}
 use Rattle.qtables.specs.declared.member.Member.{Member}
 use Rattle.qkernel.specs.Facts.{is_for_answer}
 use Rattle.qkernel.specs.Headline.CopiedExactly.{call_at}
-use Rattle.qkernel.specs.Past.{is_accepted, connection_at, priority_of_thread, item_of, items, priority_among, priority_of_item, is_gone, pending, newest_block}
+use Rattle.qkernel.specs.Past.{is_accepted, connection_at, priority_of_thread, item_of, items, made_among, priority_made, priority_of_item, is_gone, pending, newest_block}
 use Rattle.qkernel.specs.Rows.{Made, asks, makes}
 use Rattle.qkernel.specs.Trace.{Event, Trace}
 use Rattle.qkernel.specs.declared.call.Call.{Call}
@@ -93,36 +93,47 @@ pub items_below : (roster : List Member) (past : Trace) → AllByRecursion (λ m
 items_below roster past =
     all_more (λ m. item_at roster past m.item.number ≡ Some m) (λ m. m.item.number ≤ length past) (items roster past) (items_at roster past) (λ m at. item_below roster past m.item.number m at)
 
--- ---- priorities
+-- ---- the item of a number, searched for among all
 
-among_other : (xs ys : List Made) (i : ℕ) → AllByRecursion (λ m. m.item.number ≢ i) ys → priority_among (xs ++ ys) i ≡ priority_among xs i
+among_other : (xs ys : List Made) (i : ℕ) → AllByRecursion (λ m. m.item.number ≢ i) ys → made_among (xs ++ ys) i ≡ made_among xs i
 among_other [] [] i h = refl
 among_other [] (y ∷ ys) i h = rw (ne_eqb y.item.number i h.0) (among_other [] ys i h.1)
 among_other (x ∷ xs) ys i h = rw (among_other xs ys i h) refl
 
-among_last : (xs : List Made) (m : Made) (i : ℕ) → AllByRecursion (λ x. x.item.number ≢ i) xs → m.item.number ≡ i → priority_among (xs ++ m ∷ []) i ≡ m.item.priority
+among_last : (xs : List Made) (m : Made) (i : ℕ) → AllByRecursion (λ x. x.item.number ≢ i) xs → m.item.number ≡ i → made_among (xs ++ m ∷ []) i ≡ Some m
 among_last [] m i h same = rw (eq-eqb m.item.number i same) refl
 among_last (x ∷ xs) m i h same = rw (ne_eqb x.item.number i h.0) (among_last xs m i h.1 same)
 
--- a new event changes no earlier item's priority
-pub priority_earlier : (roster : List Member) (e : Event) (past : Trace) (i : ℕ) → i ≤ length past → priority_of_item roster (e ∷ past) i ≡ priority_of_item roster past i
-priority_earlier roster e past i l = among_other (items roster past) (option_to_list (item_of roster e past)) i (
+-- a new event changes no earlier item
+pub found_earlier : (roster : List Member) (e : Event) (past : Trace) (i : ℕ) → i ≤ length past → made_among (items roster (e ∷ past)) i ≡ made_among (items roster past) i
+found_earlier roster e past i l = among_other (items roster past) (option_to_list (item_of roster e past)) i (
     elim (item_of roster e past) as (λ o. item_of roster e past ≡ o → AllByRecursion (λ m. m.item.number ≢ i) (option_to_list o)) [
       | None ↦ λ is. tt
       | Some m ↦ λ is. let number : m.item.number ≡ length past + 1 = (made_by roster e past m is).number in ((λ same. omega arith), tt)
     ] refl)
 
-pub priority_newest : (roster : List Member) (e : Event) (past : Trace) (m : Made) → item_of roster e past ≡ Some m → priority_of_item roster (e ∷ past) (length past + 1) ≡ m.item.priority
-priority_newest roster e past m is = rw is (among_last (items roster past) m (length past + 1)
+found_newest : (roster : List Member) (e : Event) (past : Trace) (m : Made) → item_of roster e past ≡ Some m → made_among (items roster (e ∷ past)) (length past + 1) ≡ Some m
+found_newest roster e past m is = rw is (among_last (items roster past) m (length past + 1)
     (all_more (λ x. x.item.number ≤ length past) (λ x. x.item.number ≢ length past + 1) (items roster past) (items_below roster past) (λ x l same. omega arith)) (made_by roster e past m is).number)
 
-pub item_priority : (roster : List Member) (past : Trace) (i : ℕ) (m : Made) → item_at roster past i ≡ Some m → priority_of_item roster past i ≡ m.item.priority
-item_priority roster [] i m is = absurd (none-some m is)
-item_priority roster (e ∷ past) i m is =
-    elim (eqb i (length past + 1)) as (λ b. eqb i (length past + 1) ≡ b → cond b (item_of roster e past) (item_at roster past i) ≡ Some m → priority_of_item roster (e ∷ past) i ≡ m.item.priority) [
-      | true ↦ λ same at. subst (λ k. priority_of_item roster (e ∷ past) k ≡ m.item.priority) (sym (eqb-true _ _ same)) (priority_newest roster e past m at)
-      | false ↦ λ other at. priority_earlier roster e past i (item_below roster past i m at) ∙ item_priority roster past i m at
+pub item_found : (roster : List Member) (past : Trace) (i : ℕ) (m : Made) → item_at roster past i ≡ Some m → made_among (items roster past) i ≡ Some m
+item_found roster [] i m is = absurd (none-some m is)
+item_found roster (e ∷ past) i m is =
+    elim (eqb i (length past + 1)) as (λ b. eqb i (length past + 1) ≡ b → cond b (item_of roster e past) (item_at roster past i) ≡ Some m → made_among (items roster (e ∷ past)) i ≡ Some m) [
+      | true ↦ λ same at. subst (λ k. made_among (items roster (e ∷ past)) k ≡ Some m) (sym (eqb-true _ _ same)) (found_newest roster e past m at)
+      | false ↦ λ other at. found_earlier roster e past i (item_below roster past i m at) ∙ item_found roster past i m at
     ] refl is
+
+-- ---- priorities
+
+pub priority_earlier : (roster : List Member) (e : Event) (past : Trace) (i : ℕ) → i ≤ length past → priority_of_item roster (e ∷ past) i ≡ priority_of_item roster past i
+priority_earlier roster e past i l = ap priority_made (found_earlier roster e past i l)
+
+pub priority_newest : (roster : List Member) (e : Event) (past : Trace) (m : Made) → item_of roster e past ≡ Some m → priority_of_item roster (e ∷ past) (length past + 1) ≡ m.item.priority
+priority_newest roster e past m is = ap priority_made (found_newest roster e past m is)
+
+pub item_priority : (roster : List Member) (past : Trace) (i : ℕ) (m : Made) → item_at roster past i ≡ Some m → priority_of_item roster past i ≡ m.item.priority
+item_priority roster past i m is = ap priority_made (item_found roster past i m is)
 
 -- ---- the items of a channel, and those that are pending
 

@@ -12,7 +12,7 @@ use Rattle.qtables.specs.declared.member.Member.{Member}
 use Rattle.qkernel.specs.Answer.{row_of, ending, Outcome, Answers}
 use Rattle.qkernel.specs.Facts.{Facts, threads_of}
 use Rattle.qkernel.specs.Lawful.{facts_of, IsLawful}
-use Rattle.qkernel.specs.Past.{copied_of, receipt_among, receipt_of}
+use Rattle.qkernel.specs.Past.{copied_of, first_among, receipt_among, receipt_of}
 use Rattle.qkernel.specs.Rows.{Received, received}
 use Rattle.qkernel.specs.Trace.{Trace}
 use Rattle.qkernel.specs.declared.call.Call.{Call}
@@ -23,26 +23,26 @@ use Rattle.qkernel.proofs.Past.RowLaws.{call_laws}
 use Rattle.qkernel.proofs.Past.Ends.{laws_of, ending_names, known, open_known}
 use Rattle.qkernel.proofs.Past.Items.{IsPending, pending_all, item_below}
 
--- ---- the receipt of an item among the endings that some threads get
+-- ---- what is told of one among the endings that some threads get
 
-among_none : (g : ℕ → Option Completion) (us : List ℕ) (i : ℕ) → ((u : ℕ) (y : Completion) → g u ≡ Some y → copied_of i (received y.mark) ≡ None) → receipt_among (filter_map g us) i ≡ None
-among_none g [] i h = refl
-among_none g (u ∷ us) i h =
-    elim (g u) as (λ o. g u ≡ o → receipt_among (cons_option o (filter_map g us)) i ≡ None) [
-      | None ↦ λ e. among_none g us i h
-      | Some y ↦ λ e. rw (h u y e) (among_none g us i h)
+pub among_none : {A : Type 0} (tell : Completion → Option A) (g : ℕ → Option Completion) (us : List ℕ) → ((u : ℕ) (y : Completion) → g u ≡ Some y → tell y ≡ None) → first_among tell (filter_map g us) ≡ None
+among_none tell g [] h = refl
+among_none tell g (u ∷ us) h =
+    elim (g u) as (λ o. g u ≡ o → first_among tell (cons_option o (filter_map g us)) ≡ None) [
+      | None ↦ λ e. among_none tell g us h
+      | Some y ↦ λ e. rw (h u y e) (among_none tell g us h)
     ] refl
 
--- all that receive it copy this many bytes, and one does receive it
-among_one : (g : ℕ → Option Completion) (us : List ℕ) (i k : ℕ) → ((u : ℕ) (y : Completion) → g u ≡ Some y → (copied_of i (received y.mark) ≡ None) ⊎ (copied_of i (received y.mark) ≡ Some k))
-    → (v : ℕ) (z : Completion) → is_among us v ≡ true → g v ≡ Some z → copied_of i (received z.mark) ≡ Some k → receipt_among (filter_map g us) i ≡ Some k
-among_one g [] i k h v z m e q = absurd (true≢false (sym m))
-among_one g (u ∷ us) i k h v z m e q =
+-- nothing else is told of any, and it is told of one
+pub among_one : {A : Type 0} (tell : Completion → Option A) (g : ℕ → Option Completion) (us : List ℕ) (k : A) → ((u : ℕ) (y : Completion) → g u ≡ Some y → (tell y ≡ None) ⊎ (tell y ≡ Some k))
+    → (v : ℕ) (z : Completion) → is_among us v ≡ true → g v ≡ Some z → tell z ≡ Some k → first_among tell (filter_map g us) ≡ Some k
+among_one tell g [] k h v z m e q = absurd (true≢false (sym m))
+among_one tell g (u ∷ us) k h v z m e q =
     elim (cases_Bool (eqb u v)) [
       | inl same ↦ let at : g u ≡ Some z = ap g (eqb-true u v same) ∙ e in rw (at, q) refl
       | inr other ↦
-          let rest : receipt_among (filter_map g us) i ≡ Some k = among_one g us i k h v z (rw other at m) e q in
-          elim (g u) as (λ o. g u ≡ o → receipt_among (cons_option o (filter_map g us)) i ≡ Some k) [
+          let rest : first_among tell (filter_map g us) ≡ Some k = among_one tell g us k h v z (rw other at m) e q in
+          elim (g u) as (λ o. g u ≡ o → first_among tell (cons_option o (filter_map g us)) ≡ Some k) [
             | None ↦ λ is. rest
             | Some y ↦ λ is. elim (h u y is) [ inl none ↦ rw none rest | inr some ↦ rw some refl ]
           ] refl
@@ -75,7 +75,7 @@ ending_copies f t c v y i laws e =
     ] refl
 
 -- the one that the row says is given to a thread of the roster
-given_known : (roster : List Member) (past : Trace) (t : ℕ) (c : Call) (v : ℕ) (y : Completion) → IsLawful roster past → is_some (member_at roster t) ≡ true → RowLaws (facts_of roster past) t c
+pub given_known : (roster : List Member) (past : Trace) (t : ℕ) (c : Call) (v : ℕ) (y : Completion) → IsLawful roster past → is_some (member_at roster t) ≡ true → RowLaws (facts_of roster past) t c
     → ending (facts_of roster past) t c v ≡ Some y → is_some (member_at roster v) ≡ true
 given_known roster past t c v y l member laws e = elim (ending_names (facts_of roster past) t c v y laws e) [
   | inl h ↦ subst (λ u. is_some (member_at roster u) ≡ true) (sym h.thread) member
@@ -90,17 +90,17 @@ accepted_receipts roster past t c X i l member a =
     let copies = λ (v : ℕ) (y : Completion) (e : ending (facts_of roster past) t c v ≡ Some y). ending_copies (facts_of roster past) t c v y i laws e in
     rw (a.1) (
     elim ((row_of f t c).receipt) as (λ o. (row_of f t c).receipt ≡ o → receipt_among (filter_map (ending f t c) (threads_of roster)) i ≡ copied_by o i) [
-      | None ↦ λ is. among_none (ending f t c) (threads_of roster) i (λ v y e. elim (copies v y e) [ inl h ↦ h | inr h ↦ h ∙ ap (λ o. copied_by o i) is ])
+      | None ↦ λ is. among_none (λ x. copied_of i (received x.mark)) (ending f t c) (threads_of roster) (λ v y e. elim (copies v y e) [ inl h ↦ h | inr h ↦ h ∙ ap (λ o. copied_by o i) is ])
       | Some r ↦ λ is.
           let k = laws.receives r is in
           elim (eqb r.item i) as (λ b. eqb r.item i ≡ b → receipt_among (filter_map (ending f t c) (threads_of roster)) i ≡ cond b (Some r.kept.copied) None) [
             | true ↦ λ same.
                 let by : copied_by (row_of f t c).receipt i ≡ Some r.kept.copied = rw (is, same) refl in
-                among_one (ending f t c) (threads_of roster) i r.kept.copied (λ v y e. elim (copies v y e) [ inl h ↦ inl h | inr h ↦ inr (h ∙ by) ])
+                among_one (λ x. copied_of i (received x.mark)) (ending f t c) (threads_of roster) r.kept.copied (λ v y e. elim (copies v y e) [ inl h ↦ inl h | inr h ↦ inr (h ∙ by) ])
                 r.by k.given (known roster r.by (given_known roster past t c r.by k.given l member laws k.is_given)) k.is_given (rw (k.mark, same) refl)
             | false ↦ λ other.
                 let by : copied_by (row_of f t c).receipt i ≡ None = rw (is, other) refl in
-                among_none (ending f t c) (threads_of roster) i (λ v y e. elim (copies v y e) [ inl h ↦ h | inr h ↦ h ∙ by ])
+                among_none (λ x. copied_of i (received x.mark)) (ending f t c) (threads_of roster) (λ v y e. elim (copies v y e) [ inl h ↦ h | inr h ↦ h ∙ by ])
           ] refl
     ] refl)
 

@@ -2,7 +2,7 @@
 use Rattle.std.proofs.Common.{ℕ}
 use Rattle.qkernel.specs.Facts.{Facts}
 use Rattle.qkernel.specs.declared.call.Call.{Call}
-use Rattle.qkernel.specs.declared.call.Call.TheVariants.{ChannelCreate, ConnectAttach, Send, Receive, Reply, Error, Read, Write, Info, ReceivePulse, Pulse}
+use Rattle.qkernel.specs.declared.call.Call.TheVariants.{ChannelCreate, ConnectAttach, Send, Receive, Reply, Error, Read, Write, Info, ReceivePulse, Pulse, PrioritySet, State}
 use Rattle.qkernel.proofs.Past.Laws.{CallLaws, RowLaws, Passes}
 use Rattle.qkernel.proofs.Calls.ChannelCreate as channel_create
 use Rattle.qkernel.proofs.Calls.ConnectAttach as connect_attach
@@ -15,6 +15,8 @@ use Rattle.qkernel.proofs.Calls.Write as write
 use Rattle.qkernel.proofs.Calls.Info as info
 use Rattle.qkernel.proofs.Calls.ReceivePulse as receive_pulse
 use Rattle.qkernel.proofs.Calls.Pulse as pulse
+use Rattle.qkernel.proofs.Calls.PrioritySet as priority_set
+use Rattle.qkernel.proofs.Calls.State as state
 
 pub call_laws : (c : Call) → CallLaws c
 call_laws (ChannelCreate flags) = channel_create.call_laws flags
@@ -28,6 +30,8 @@ call_laws (Write rcvid offset bytes) = write.call_laws rcvid offset bytes
 call_laws (Info rcvid) = info.call_laws rcvid
 call_laws (ReceivePulse chid) = receive_pulse.call_laws chid
 call_laws (Pulse coid priority code value) = pulse.call_laws coid priority code value
+call_laws (PrioritySet thread priority) = priority_set.call_laws thread priority
+call_laws (State thread) = state.call_laws thread
 
 pub row_laws : (f : Facts) (t : ℕ) (c : Call) → Passes f t c → RowLaws f t c
 row_laws f t (ChannelCreate flags) p = channel_create.row_laws f t flags p
@@ -41,3 +45,5 @@ row_laws f t (Write rcvid offset bytes) p = write.row_laws f t rcvid offset byte
 row_laws f t (Info rcvid) p = info.row_laws f t rcvid p
 row_laws f t (ReceivePulse chid) p = receive_pulse.row_laws f t chid p
 row_laws f t (Pulse coid priority code value) p = pulse.row_laws f t coid priority code value p
+row_laws f t (PrioritySet thread priority) p = priority_set.row_laws f t thread priority p
+row_laws f t (State thread) p = state.row_laws f t thread p

@@ -21,7 +21,7 @@ use Rattle.qkernel.specs.Facts.{Facts, is_for_answer, message, sender, threads_o
 use Rattle.qkernel.specs.Headline.AnsweredToSender.{answered_by, is_answer, thread_of_send}
 use Rattle.qkernel.specs.Rows.{Made, asks, given, makes, pulse_item}
 use Rattle.qkernel.specs.declared.call.Call.{Call}
-use Rattle.qkernel.specs.declared.call.Call.TheVariants.{ChannelCreate, ConnectAttach, Send, Receive, Reply, Error, Read, Write, Info, ReceivePulse, Pulse}
+use Rattle.qkernel.specs.declared.call.Call.TheVariants.{ChannelCreate, ConnectAttach, Send, Receive, Reply, Error, Read, Write, Info, ReceivePulse, Pulse, PrioritySet, State}
 use Rattle.qkernel.specs.declared.call.Completion.{Completion}
 use Rattle.qkernel.specs.declared.open_call.OpenCall.{OpenCall}
 use Rattle.qkernel.specs.declared.open_call.Wait.{Wait}
@@ -75,6 +75,8 @@ own_answers f t (Error rcvid code) u y e is = no_answer _ y (same_Some _ y e) re
 own_answers f t (Read rcvid offset buffer) u y e is = no_answer _ y (same_Some _ y e) refl is
 own_answers f t (Write rcvid offset bytes) u y e is = no_answer _ y (same_Some _ y e) refl is
 own_answers f t (Info rcvid) u y e is = absurd (true≢false (sym is ∙ tells_only f.number t (told f (sender f rcvid)) y e))
+own_answers f t (PrioritySet thread level) u y e is = no_answer _ y (same_Some _ y e) refl is
+own_answers f t (State thread) u y e is = no_answer _ y (same_Some _ y e) refl is
 
 -- the Send that a call ends is the one that it names
 answers_by : (f : Facts) (t : ℕ) (c : Call) (rcvid : ℕ) (finish : Finish) (u : ℕ) (y : Completion) → answered_by c ≡ Some rcvid → SenderEnds f t rcvid finish u y → AnswersHeld f t c u y
@@ -101,6 +103,8 @@ ends_answers f t (Error rcvid code) u y p e is = answers_by f t (Error rcvid cod
 ends_answers f t (Read rcvid offset buffer) u y p e is = absurd (none-some y e)
 ends_answers f t (Write rcvid offset bytes) u y p e is = absurd (none-some y e)
 ends_answers f t (Info rcvid) u y p e is = absurd (none-some y e)
+ends_answers f t (PrioritySet thread level) u y p e is = absurd (none-some y e)
+ends_answers f t (State thread) u y p e is = absurd (none-some y e)
 
 -- each ending that answers a message answers so
 pub answers_held : (f : Facts) (t : ℕ) (c : Call) (u : ℕ) (y : Completion) → Passes f t c → ending f t c u ≡ Some y → is_answer y.mark ≡ true → AnswersHeld f t c u y
@@ -151,6 +155,8 @@ answers_one f t (Receive chid buffer) i p e = absurd (none-some i e)
 answers_one f t (Read rcvid offset buffer) i p e = absurd (none-some i e)
 answers_one f t (Write rcvid offset bytes) i p e = absurd (none-some i e)
 answers_one f t (Info rcvid) i p e = absurd (none-some i e)
+answers_one f t (PrioritySet thread level) i p e = absurd (none-some i e)
+answers_one f t (State thread) i p e = absurd (none-some i e)
 answers_one f t (ReceivePulse chid) i p e = absurd (none-some i e)
 answers_one f t (Pulse coid level code value) i p e = absurd (none-some i e)
 answers_one f t (Reply rcvid status bytes) i p e = ends_one f t (Reply rcvid status bytes) rcvid (replied status bytes) i p.row (λ u. refl) (λ buffer. refl) (same_Some rcvid i e)
@@ -191,6 +197,8 @@ sends_over f t (Error rcvid code) b p e w = absurd (none-some b e)
 sends_over f t (Read rcvid offset buffer) b p e w = absurd (none-some b e)
 sends_over f t (Write rcvid offset bytes) b p e w = absurd (none-some b e)
 sends_over f t (Info rcvid) b p e w = absurd (none-some b e)
+sends_over f t (PrioritySet thread level) b p e w = absurd (none-some b e)
+sends_over f t (State thread) b p e w = absurd (none-some b e)
 sends_over f t (Pulse coid level code value) b p e w = absurd (none-some b e)
 sends_over f t (ReceivePulse chid) b p e w = absurd (true≢false (sym w ∙ ap (λ o. is_for_answer o.wait) (sym (same_Some _ b e))))
 sends_over f t (Receive chid buffer) b p e w = absurd (true≢false (sym w ∙ ap (λ o. is_for_answer o.wait) (sym (same_Some _ b e))))
@@ -208,5 +216,7 @@ sends_by n t (Error rcvid code) b e w = absurd (none-some b e)
 sends_by n t (Read rcvid offset buffer) b e w = absurd (none-some b e)
 sends_by n t (Write rcvid offset bytes) b e w = absurd (none-some b e)
 sends_by n t (Info rcvid) b e w = absurd (none-some b e)
+sends_by n t (PrioritySet thread level) b e w = absurd (none-some b e)
+sends_by n t (State thread) b e w = absurd (none-some b e)
 sends_by n t (Pulse coid level code value) b e w = absurd (none-some b e)
 sends_by n t (ReceivePulse chid) b e w = absurd (true≢false (sym w ∙ ap (λ o. is_for_answer o.wait) (sym (same_Some _ b e))))

@@ -15,7 +15,7 @@ use Rattle.qkernel.specs.Rows.{message_item, pulse_item, Made, makes, sent_over}
 use Rattle.qkernel.specs.Step.{made_on}
 use Rattle.qkernel.specs.Trace.{Event, Trace}
 use Rattle.qkernel.specs.declared.call.Call.{Call}
-use Rattle.qkernel.specs.declared.call.Call.TheVariants.{ChannelCreate, ConnectAttach, Send, Receive, Reply, Error, Read, Write, Info, ReceivePulse, Pulse}
+use Rattle.qkernel.specs.declared.call.Call.TheVariants.{ChannelCreate, ConnectAttach, Send, Receive, Reply, Error, Read, Write, Info, ReceivePulse, Pulse, PrioritySet, State}
 use Rattle.qkernel.proofs.Past.Items.{IsPending, item_at, item_below, item_earlier, item_newest, made_by, pending_all}
 use Rattle.qkernel.proofs.Past.Lists.{all_append, all_more}
 use Rattle.qkernel.proofs.Past.Pending.{made_all}
@@ -57,6 +57,8 @@ makes_over connection priority n t (Error rcvid code) m k e s = absurd (none-som
 makes_over connection priority n t (Read rcvid offset buffer) m k e s = absurd (none-some k s)
 makes_over connection priority n t (Write rcvid offset bytes) m k e s = absurd (none-some k s)
 makes_over connection priority n t (Info rcvid) m k e s = absurd (none-some k s)
+makes_over connection priority n t (PrioritySet thread level) m k e s = absurd (none-some k s)
+makes_over connection priority n t (State thread) m k e s = absurd (none-some k s)
 makes_over connection priority n t (ReceivePulse chid) m k e s = absurd (none-some k s)
 makes_over connection priority n t (Pulse coid level code value) m k e s = subst (λ i. IsOver connection i m) (same_Some coid k s) (sent_is_over connection coid (pulse_item n level code value) m e)
 makes_over connection priority n t (Send coid message reply_buffer) m k e s =

@@ -26,7 +26,7 @@ use Rattle.qkernel.specs.Past.{open_call, refuses}
 use Rattle.qkernel.specs.Rows.{pulse_item, taking, writes}
 use Rattle.qkernel.specs.Trace.{Event, Trace}
 use Rattle.qkernel.specs.declared.call.Call.{Call}
-use Rattle.qkernel.specs.declared.call.Call.TheVariants.{ChannelCreate, ConnectAttach, Send, Receive, Reply, Error, Read, Write, Info, ReceivePulse, Pulse}
+use Rattle.qkernel.specs.declared.call.Call.TheVariants.{ChannelCreate, ConnectAttach, Send, Receive, Reply, Error, Read, Write, Info, ReceivePulse, Pulse, PrioritySet, State}
 use Rattle.qkernel.specs.declared.call.Completion.{Completion}
 use Rattle.qkernel.specs.declared.call.Info.{Info as Told}
 use Rattle.qkernel.specs.declared.call.Mark.{Mark}
@@ -72,6 +72,8 @@ buffer_stays e past i (Error rcvid code) none = refl
 buffer_stays e past i (Read rcvid offset buffer) none = refl
 buffer_stays e past i (Write rcvid offset bytes) none = refl
 buffer_stays e past i (Info rcvid) none = refl
+buffer_stays e past i (PrioritySet thread level) none = refl
+buffer_stays e past i (State thread) none = refl
 buffer_stays e past i (ReceivePulse chid) none = refl
 buffer_stays e past i (Pulse coid level code value) none = refl
 
@@ -172,6 +174,8 @@ own_copied roster past t (Write rcvid offset bytes) X y l p e =
     plain_copied past (event t (Write rcvid offset bytes) X) y _ (same_Some _ y e) (refl, ap (λ b. laid_count b offset bytes) (held_buffer roster past t rcvid p.row))
 own_copied roster past t (Info rcvid) X y l p e =
     told_copied past (event t (Info rcvid) X) (length past + 1) t (told (facts_of roster past) (sender (facts_of roster past) rcvid)) y e (buffer_newest (event t (Info rcvid) X) past)
+own_copied roster past t (PrioritySet thread level) X y l p e = plain_copied past (event t (PrioritySet thread level) X) y _ (same_Some _ y e) (sym (buffer_newest (event t (PrioritySet thread level) X) past))
+own_copied roster past t (State thread) X y l p e = plain_copied past (event t (State thread) X) y _ (same_Some _ y e) (sym (buffer_newest (event t (State thread) X) past))
 own_copied roster past t (Pulse coid level code value) X y l p e = plain_copied past (event t (Pulse coid level code value) X) y _ (same_Some _ y e) (sym (buffer_newest (event t (Pulse coid level code value) X) past))
 own_copied roster past t (Receive chid buffer) X y l p e = best_copied roster past t (Receive chid buffer) X y chid Any buffer l (buffer_newest (event t (Receive chid buffer) X) past) (receive_takes (facts_of roster past) t chid Any buffer y e)
 own_copied roster past t (ReceivePulse chid) X y l p e = best_copied roster past t (ReceivePulse chid) X y chid PulseOnly [] l (buffer_newest (event t (ReceivePulse chid) X) past) (receive_takes (facts_of roster past) t chid PulseOnly [] y e)
@@ -196,6 +200,8 @@ ends_copied roster past t (Receive chid buffer) X u y p e = absurd (none-some y 
 ends_copied roster past t (Read rcvid offset buffer) X u y p e = absurd (none-some y e)
 ends_copied roster past t (Write rcvid offset bytes) X u y p e = absurd (none-some y e)
 ends_copied roster past t (Info rcvid) X u y p e = absurd (none-some y e)
+ends_copied roster past t (PrioritySet thread level) X u y p e = absurd (none-some y e)
+ends_copied roster past t (State thread) X u y p e = absurd (none-some y e)
 ends_copied roster past t (ReceivePulse chid) X u y p e = absurd (none-some y e)
 ends_copied roster past t (Send coid sent reply_buffer) X u y p e =
     met_copied roster past t (Send coid sent reply_buffer) X u y coid (send.item (facts_of roster past) t) sent refl (λ message. message_newest (event t (Send coid sent reply_buffer) X) past)
@@ -234,6 +240,8 @@ refused_buffer roster past t c X l r = brought c ∙ sym (buffer_newest (event t
   brought (Read rcvid offset buffer) = refl
   brought (Write rcvid offset bytes) = refl
   brought (Info rcvid) = refl
+  brought (PrioritySet thread level) = refl
+  brought (State thread) = refl
   brought (ReceivePulse chid) = refl
   brought (Pulse coid level code value) = refl
 

@@ -15,7 +15,7 @@ use Rattle.qkernel.specs.Past.{connection_at, ends, filled, held_with, is_accept
 use Rattle.qkernel.specs.Rows.{pulse_item, Made, asks, makes, with_buffer}
 use Rattle.qkernel.specs.Trace.{Event, Trace}
 use Rattle.qkernel.specs.declared.call.Call.{Call}
-use Rattle.qkernel.specs.declared.call.Call.TheVariants.{ChannelCreate, ConnectAttach, Send, Receive, Reply, Error, Read, Write, Info, ReceivePulse, Pulse}
+use Rattle.qkernel.specs.declared.call.Call.TheVariants.{ChannelCreate, ConnectAttach, Send, Receive, Reply, Error, Read, Write, Info, ReceivePulse, Pulse, PrioritySet, State}
 use Rattle.qkernel.specs.declared.open_call.OpenCall.{OpenCall}
 use Rattle.qkernel.specs.declared.open_call.Receipt.{Receipt}
 use Rattle.qkernel.specs.declared.open_call.Wait.{Wait}
@@ -50,6 +50,8 @@ keeps past n (Error rcvid code) b e = absurd (none-some b e)
 keeps past n (Read rcvid offset buffer) b e = absurd (none-some b e)
 keeps past n (Write rcvid offset bytes) b e = absurd (none-some b e)
 keeps past n (Info rcvid) b e = absurd (none-some b e)
+keeps past n (PrioritySet thread level) b e = absurd (none-some b e)
+keeps past n (State thread) b e = absurd (none-some b e)
 keeps past n (Pulse coid level code value) b e = absurd (none-some b e)
 keeps past n (ReceivePulse chid) b e = subst (Keeps past n (ReceivePulse chid)) (same_Some _ b e) (record { buffer = refl; sent = refl })
 keeps past n (Send coid message reply_buffer) b e = subst (Keeps past n (Send coid message reply_buffer)) (same_Some _ b e) (record { buffer = refl; sent = refl })
@@ -98,6 +100,8 @@ makes_message connection priority n t (Error rcvid code) m e message = absurd (n
 makes_message connection priority n t (Read rcvid offset buffer) m e message = absurd (none-some m e)
 makes_message connection priority n t (Write rcvid offset bytes) m e message = absurd (none-some m e)
 makes_message connection priority n t (Info rcvid) m e message = absurd (none-some m e)
+makes_message connection priority n t (PrioritySet thread level) m e message = absurd (none-some m e)
+makes_message connection priority n t (State thread) m e message = absurd (none-some m e)
 makes_message connection priority n t (ReceivePulse chid) m e message = absurd (none-some m e)
 makes_message connection priority n t (Pulse coid level code value) m e message =
     absurd (true≢false (ap (λ x. is_pulse x.what) (sym (sent_item (connection coid) (pulse_item n level code value) m e)) ∙ message))

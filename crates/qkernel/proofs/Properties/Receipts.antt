@@ -18,7 +18,7 @@ use Rattle.qkernel.specs.Headline.BestFirst.{receives_on}
 use Rattle.qkernel.specs.Headline.ReceivedOnce.{item_received}
 use Rattle.qkernel.specs.Rows.{Made, makes, pulse_item, received, sent_over}
 use Rattle.qkernel.specs.declared.call.Call.{Call}
-use Rattle.qkernel.specs.declared.call.Call.TheVariants.{ChannelCreate, ConnectAttach, Send, Receive, Reply, Error, Read, Write, Info, ReceivePulse, Pulse}
+use Rattle.qkernel.specs.declared.call.Call.TheVariants.{ChannelCreate, ConnectAttach, Send, Receive, Reply, Error, Read, Write, Info, ReceivePulse, Pulse, PrioritySet, State}
 use Rattle.qkernel.specs.declared.call.Completion.{Completion}
 use Rattle.qkernel.specs.declared.open_call.OpenCall.{OpenCall}
 use Rattle.qkernel.specs.declared.open_call.Wait.{Wait}
@@ -107,6 +107,8 @@ own_takes f t (Error rcvid code) u y p same e m = absurd (none-some p (ap (λ x.
 own_takes f t (Read rcvid offset buffer) u y p same e m = absurd (none-some p (ap (λ x. received x.mark) (same_Some _ y e) ∙ m))
 own_takes f t (Write rcvid offset bytes) u y p same e m = absurd (none-some p (ap (λ x. received x.mark) (same_Some _ y e) ∙ m))
 own_takes f t (Info rcvid) u y p same e m = absurd (none-some p (sym (plain f.number t (told f (sender f rcvid)) y e).mark ∙ m))
+own_takes f t (PrioritySet thread level) u y p same e m = absurd (none-some p (ap (λ x. received x.mark) (same_Some _ y e) ∙ m))
+own_takes f t (State thread) u y p same e m = absurd (none-some p (ap (λ x. received x.mark) (same_Some _ y e) ∙ m))
 own_takes f t (Pulse coid level code value) u y p same e m = absurd (none-some p (ap (λ x. received x.mark) (same_Some _ y e) ∙ m))
 own_takes f t (Receive chid buffer) u y p same e m = takes_best f t (Receive chid buffer) chid Any buffer u y p same refl refl (receive_takes f t chid Any buffer y e) m
 own_takes f t (ReceivePulse chid) u y p same e m = takes_best f t (ReceivePulse chid) chid PulseOnly [] u y p same refl refl (receive_takes f t chid PulseOnly [] y e) m
@@ -136,6 +138,8 @@ ends_takes f t (Error rcvid code) u y p r e m = absurd (none-some p (sym (answer
 ends_takes f t (Read rcvid offset buffer) u y p r e m = absurd (none-some y e)
 ends_takes f t (Write rcvid offset bytes) u y p r e m = absurd (none-some y e)
 ends_takes f t (Info rcvid) u y p r e m = absurd (none-some y e)
+ends_takes f t (PrioritySet thread level) u y p r e m = absurd (none-some y e)
+ends_takes f t (State thread) u y p r e m = absurd (none-some y e)
 ends_takes f t (ReceivePulse chid) u y p r e m = absurd (none-some y e)
 ends_takes f t (Send coid message reply_buffer) u y p r e m =
     takes_met f t (Send coid message reply_buffer) coid (item f t) message u y p (delivery_meets f t coid (item f t) message u y e) refl m

@@ -25,7 +25,7 @@ use Rattle.qkernel.specs.Rows.{Made, Received, Written, asks, makes, pulse_item,
 use Rattle.qkernel.specs.Step.{after_receipt, after_write, held_call, is_thread, made_on, open_call_after, pending_after, taken_out, unless, written_call}
 use Rattle.qkernel.specs.Trace.{Trace}
 use Rattle.qkernel.specs.declared.call.Call.{Call}
-use Rattle.qkernel.specs.declared.call.Call.TheVariants.{ChannelCreate, ConnectAttach, Send, Receive, Reply, Error, Read, Write, Info, ReceivePulse, Pulse}
+use Rattle.qkernel.specs.declared.call.Call.TheVariants.{ChannelCreate, ConnectAttach, Send, Receive, Reply, Error, Read, Write, Info, ReceivePulse, Pulse, PrioritySet, State}
 use Rattle.qkernel.specs.declared.open_call.OpenCall.{OpenCall}
 use Rattle.qkernel.specs.declared.open_call.Receipt.{Receipt}
 use Rattle.qkernel.specs.declared.open_call.Wait.{Wait}
@@ -64,6 +64,8 @@ waits_for_asked n (Error rcvid code) b e = absurd (none-some b e)
 waits_for_asked n (Read rcvid offset buffer) b e = absurd (none-some b e)
 waits_for_asked n (Write rcvid offset bytes) b e = absurd (none-some b e)
 waits_for_asked n (Info rcvid) b e = absurd (none-some b e)
+waits_for_asked n (PrioritySet thread level) b e = absurd (none-some b e)
+waits_for_asked n (State thread) b e = absurd (none-some b e)
 waits_for_asked n (Send coid message reply_buffer) b e = ap (λ o. waits_for o.wait) (same_Some _ b e)
 waits_for_asked n (Receive chid buffer) b e = ap (λ o. waits_for o.wait) (same_Some _ b e)
 waits_for_asked n (ReceivePulse chid) b e = ap (λ o. waits_for o.wait) (same_Some _ b e)
@@ -87,6 +89,8 @@ begins_with_none f t (Error rcvid code) b p e w own = absurd (none-some b e)
 begins_with_none f t (Read rcvid offset buffer) b p e w own = absurd (none-some b e)
 begins_with_none f t (Write rcvid offset bytes) b p e w own = absurd (none-some b e)
 begins_with_none f t (Info rcvid) b p e w own = absurd (none-some b e)
+begins_with_none f t (PrioritySet thread level) b p e w own = absurd (none-some b e)
+begins_with_none f t (State thread) b p e w own = absurd (none-some b e)
 begins_with_none f t (Send coid message reply_buffer) b p e w own = absurd (none-some p (ap (λ o. waits_for o.wait) (same_Some _ b e) ∙ w))
 begins_with_none f t (Pulse coid level code value) b p e w own = absurd (none-some b e)
 begins_with_none f t (Receive chid buffer) b p e w own =
@@ -142,6 +146,8 @@ received_at_once f t (Error rcvid code) m u o kind p made among is waits may = a
 received_at_once f t (Read rcvid offset buffer) m u o kind p made among is waits may = absurd (none-some m made)
 received_at_once f t (Write rcvid offset bytes) m u o kind p made among is waits may = absurd (none-some m made)
 received_at_once f t (Info rcvid) m u o kind p made among is waits may = absurd (none-some m made)
+received_at_once f t (PrioritySet thread level) m u o kind p made among is waits may = absurd (none-some m made)
+received_at_once f t (State thread) m u o kind p made among is waits may = absurd (none-some m made)
 received_at_once f t (ReceivePulse chid) m u o kind p made among is waits may = absurd (none-some m made)
 received_at_once f t (Send coid message reply_buffer) m u o kind p made among is waits may =
     let h = has_way f t coid p.row in delivered_at_once f t coid (Send coid message reply_buffer) (item f t) message (Some t) m u o kind h.0 h.1 refl made among is waits may

@@ -4,7 +4,7 @@ use Rattle.std.specs.Prelude.{Option, None, Some, is_some, ◌||◌}
 use Rattle.std.specs.List.{AllByRecursion}
 use Rattle.std.specs.Option.{option_map}
 use Rattle.std.proofs.lemmas.Bool.{eqb-true, eqb-false, eq-eqb, ne_eqb, true≢false}
-use Rattle.std.proofs.lemmas.Option.{none-some, cond_some}
+use Rattle.std.proofs.lemmas.Option.{none-some, cond_some, same_Some}
 use Rattle.qqueue.specs.Best.{without}
 use Rattle.qqueue.specs.declared.item.Item.{Item}
 use Rattle.qtables.specs.Entries.{entry_at}
@@ -17,10 +17,10 @@ use Rattle.qkernel.specs.declared.open_call.OpenCall.{OpenCall}
 use Rattle.qkernel.specs.declared.open_call.Wait.{Wait}
 use Rattle.qkernel.specs.declared.open_call.Wait.TheVariants.{Answer, Item as ForItem}
 use Rattle.qkernel.specs.declared.thread.Thread.{Thread}
-use Rattle.qkernel.specs.Channels.{pending_in, ids_of, way_in, SetsItems}
-use Rattle.qkernel.specs.Facts.{way, leads_to, threads_of}
+use Rattle.qkernel.specs.Channels.{pending_in, ids_of, way_in, SetsItems, channel_in}
+use Rattle.qkernel.specs.Facts.{way, leads_to, threads_of, is_fixed}
 use Rattle.qkernel.specs.Receivers.{newest_among, newest, later, later_of, is_later, wait_on}
-use Rattle.qkernel.specs.Rows.{takes, sent_over}
+use Rattle.qkernel.specs.Rows.{takes, sent_over, takes_into}
 use Rattle.qkernel.specs.State.{State, IsSound, facts_in}
 use Rattle.qkernel.specs.Step.{made_on}
 use Rattle.qkernel.specs.Threads.{members_of, open_in, newest_by}
@@ -74,9 +74,26 @@ waits_takes h m item message u (Some o) e = waits o.wait e where
   waits (Answer coid sent reply_buffer receipt) e = absurd (none-some m e)
   waits (ForItem chid kind buffer) e = refl
 
+-- how it ends is of its thread
+pub ended_thread : (item : Item) (message : List ℕ) (r : ℕ) (o : Option OpenCall) (y : Completion) → takes item message r o ≡ Some y → y.thread ≡ r
+ended_thread item message r None y e = absurd (none-some y e)
+ended_thread item message r (Some o) y e = by_wait o.wait e where
+  by_wait : (w : Wait) → takes_into item message r o.number w ≡ Some y → y.thread ≡ r
+  by_wait (Answer coid sent reply_buffer receipt) e = absurd (none-some y e)
+  by_wait (ForItem chid kind buffer) e = sym (ap (λ x. x.thread) (same_Some _ y e))
+
+-- the priority that a receiver on channel h takes of the item
+abbrev pub level_of : State → ℕ → Item → Option ℕ
+level_of s h item = cond (is_fixed (channel_in s.channels h)) None (Some item.priority)
+
 -- as many channels as there were
 pub count_kept : (old new : List (ℕ × Channel)) → ids_of new ≡ ids_of old → length new ≡ length old + 0
 count_kept old new e = count_same old new e ∙ sym (add-zero (length old))
+
+-- what waits has an open call
+pub waits_open : (h m : ℕ) (item : Item) (o : Option OpenCall) → wait_on h item o ≡ Some m → is_some o ≡ true
+waits_open h m item None e = absurd (none-some m e)
+waits_open h m item (Some o) e = refl
 
 -- so an ending is given, and with it what was copied
 pub met_there : (h m : ℕ) (item : Item) (message : List ℕ) (u : ℕ) (o call : Option OpenCall) (r : Option Completion) → wait_on h item o ≡ Some m → call ≡ o → r ≡ takes item message u call → r ≡ None → ⊥

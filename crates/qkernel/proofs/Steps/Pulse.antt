@@ -28,10 +28,10 @@ use Rattle.qkernel.specs.Rows.{pulse_item, received, takes, takes_into}
 use Rattle.qkernel.specs.State.{State, IsSound, facts_in}
 use Rattle.qkernel.specs.Stands.{Steps}
 use Rattle.qkernel.specs.Step.{unless}
-use Rattle.qkernel.specs.Threads.{members_of, open_in, newest_by, SetsOpen}
+use Rattle.qkernel.specs.Threads.{members_of, open_in, newest_by, Wakes}
 use Rattle.qkernel.proofs.Rosters.{rises, among, is_among, filter_same, only_own, two_hits, cond_same}
 use Rattle.qkernel.proofs.Steps.Common.{counted, step_refused, step_refused_alone, way-leads_to, stays_free}
-use Rattle.qkernel.proofs.Steps.Delivering.{counted_room, count_kept, items_after, newest_is, some_way, with_item}
+use Rattle.qkernel.proofs.Steps.Delivering.{counted_room, count_kept, items_after, newest_is, some_way, with_item, ended_thread, level_of}
 
 -- ---- the tests of the code and of the queue
 
@@ -102,17 +102,10 @@ module _ (s : State) (t coid priority : ℕ) (code value : ℤ) (m : Member) (h 
             live_connections = rw known (omega arith);
             open_call = λ u. rw (over_way, none) (stays_free s.threads t u free);
             pending = λ k. sets.pending k ∙ rw (over_way, none) (with_item s t coid m h item sound known refl found k);
-            priority = λ u. refl;
+            priority = λ u. rw (over_way, none) refl;
           };
         },
       )
-
-  ended_thread : (r : ℕ) (o : Option OpenCall) (y : Completion) → takes item [] r o ≡ Some y → y.thread ≡ r
-  ended_thread r None y e = absurd (none-some y e)
-  ended_thread r (Some o) y e = by_wait o.wait e where
-    by_wait : (w : Wait) → takes_into item [] r o.number w ≡ Some y → y.thread ≡ r
-    by_wait (Answer coid sent reply_buffer receipt) e = absurd (none-some y e)
-    by_wait (ForItem chid kind buffer) e = sym (ap (λ x. x.thread) (same_Some _ y e))
 
   ended_mark : (r : ℕ) (o : Option OpenCall) (y : Completion) → takes item [] r o ≡ Some y → received y.mark ≡ Some (s.made + 1, 0)
   ended_mark r None y e = absurd (none-some y e)
@@ -126,7 +119,7 @@ module _ (s : State) (t coid priority : ℕ) (code value : ℤ) (m : Member) (h 
     apart e = none-some y (sym (ap (takes item [] r) (ap (open_in s.threads) (sym e) ∙ free)) ∙ ended)
 
     -- the receiver waits no more
-    calls_after : (threads : List Thread) → SetsOpen r None s.threads threads → (u : ℕ)
+    calls_after : (threads : List Thread) → Wakes r (level_of s h item) s.threads threads → (u : ℕ)
         → open_in threads u ≡ cond (eqb u t) None (unless (is_some (cond (eqb u r) (takes item [] u (open_in s.threads u)) None)) (open_in s.threads u))
     calls_after threads takes_r u = takes_r.open_call u ∙ (elim (eqb u t) as (λ b. eqb u t ≡ b → cond (eqb u r) None (open_in s.threads u)
         ≡ cond b None (unless (is_some (cond (eqb u r) (takes item [] u (open_in s.threads u)) None)) (open_in s.threads u))) [
@@ -137,14 +130,14 @@ module _ (s : State) (t coid priority : ℕ) (code value : ℤ) (m : Member) (h 
           ] refl
         ] refl)
 
-    pub step_pulse_met : (threads : List Thread) (X : List Completion) → SetsOpen r None s.threads threads → X ≡ in_order mine y
+    pub step_pulse_met : (threads : List Thread) (X : List Completion) → Wakes r (level_of s h item) s.threads threads → X ≡ in_order mine y
         → Steps s t (Pulse coid priority code value) X (record { made = s.made + 1; threads = threads; channels = s.channels; connections = s.connections })
     step_pulse_met threads X takes_r is = (
       true,
       record {
         answer = (
           rw (free, over_way, positive, room) refl,
-          is ∙ ap (λ v. cond (ltb t v) (mine ∷ y ∷ []) (y ∷ mine ∷ [])) (ended_thread r (open_in s.threads r) y ended)
+          is ∙ ap (λ v. cond (ltb t v) (mine ∷ y ∷ []) (y ∷ mine ∷ [])) (ended_thread item [] r (open_in s.threads r) y ended)
               ∙ sym (filter_same (ending (facts_in s) t (Pulse coid priority code value)) (λ u. cond (eqb u t) (Some mine) (cond (eqb u r) (Some y) None)) (threads_of (members_of s.threads)) (λ u. rw (over_way, newest_is_r)
               (ap (cond (eqb u t) (Some mine)) (elim (eqb u r) as (λ b. eqb u r ≡ b → cond b (takes item [] u (open_in s.threads u)) None ≡ cond b (Some y) None) [
                 | true ↦ λ f. rw (eqb-true u r f) ended
@@ -160,7 +153,7 @@ module _ (s : State) (t coid priority : ℕ) (code value : ℤ) (m : Member) (h 
           live_connections = rw known (omega arith);
           open_call = λ u. rw (over_way, newest_is_r, ended, ended_mark r (open_in s.threads r) y ended) (calls_after threads takes_r u);
           pending = λ k. rw (over_way, newest_is_r, ended, ended_mark r (open_in s.threads r) y ended) (items_after s t coid m h item sound known refl found k);
-          priority = takes_r.priority;
+          priority = λ u. takes_r.priority u ∙ rw (over_way, newest_is_r, ended, ended_mark r (open_in s.threads r) y ended, ended_thread item [] r (open_in s.threads r) y ended) refl;
         };
       },
     )

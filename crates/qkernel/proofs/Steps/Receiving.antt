@@ -1,6 +1,6 @@
 -- Receive and ReceivePulse as steps of the kernel.
 use Rattle.std.proofs.Common.{◌≡◌, ℕ, ◌+◌, ◌≤◌, List, [], ◌∷◌, ◌++◌, refl, ap, sym, subst, ◌∙◌, cond, arith, Bool, true, false, eqb, append-nil, inl}
-use Rattle.std.specs.Prelude.{Option, None, Some, filter, is_some, not}
+use Rattle.std.specs.Prelude.{Option, None, Some, filter, is_some, not, unwrap_or}
 use Rattle.std.specs.List.{AllByRecursion, filter_map}
 use Rattle.std.specs.Option.{option_map}
 use Rattle.std.proofs.lemmas.Bool.{eqb-true}
@@ -22,13 +22,13 @@ use Rattle.qkernel.specs.declared.open_call.Wait.TheVariants.{Item as ForItem}
 use Rattle.qkernel.specs.declared.thread.Thread.{Thread}
 use Rattle.qkernel.specs.Answer.{ending}
 use Rattle.qkernel.specs.Channels.{channel_in, pending_in, ids_of, is_of, SetsItems}
-use Rattle.qkernel.specs.Facts.{owns, threads_of}
+use Rattle.qkernel.specs.Facts.{owns, threads_of, is_fixed}
 use Rattle.qkernel.specs.Receiving.{receipt_of, received_of, receive_of}
 use Rattle.qkernel.specs.Rows.{Received, taking}
 use Rattle.qkernel.specs.State.{State, IsSound, facts_in}
 use Rattle.qkernel.specs.Stands.{Steps}
-use Rattle.qkernel.specs.Step.{after_receipt, is_thread, held_call, taken_out, unless}
-use Rattle.qkernel.specs.Threads.{members_of, open_in, level_in, message_from, sender_in, SetsOpen, HandsOver}
+use Rattle.qkernel.specs.Step.{after_receipt, is_thread, held_call, taken_out, unless, taken_by}
+use Rattle.qkernel.specs.Threads.{members_of, open_in, level_in, message_from, sender_in, SetsOpen, HandsOver, SetsLevel}
 use Rattle.qkernel.proofs.Rosters.{rises, among, nothing, filter_same, only_own, cond_same}
 use Rattle.qkernel.proofs.Steps.Common.{counted, step_refused_alone, owned_by_member, all_up_to, stays_free}
 use Rattle.qkernel.proofs.Steps.Delivering.{count_kept, sound_items, eqb_sym}
@@ -70,7 +70,7 @@ record Receives (s : State) (t chid : ℕ) (kind : Kind) (buffer : List ℕ) (o 
   items : (k : ℕ) → pending_in channels k ≡ taken_out (receipt_by s t chid buffer o) k (pending_in s.channels k ++ [])
   ids : ids_of channels ≡ ids_of s.channels
   channel : (k : ℕ) → channel_in channels k ≡ channel_in s.channels k
-  priority : (u : ℕ) → level_in threads u ≡ level_in s.threads u
+  priority : (u : ℕ) → level_in threads u ≡ unwrap_or (taken_by (facts_in s) (receipt_by s t chid buffer o) u) (level_in s.threads u)
 
 step_of : (s : State) (t chid : ℕ) (kind : Kind) (buffer : List ℕ) (m : Member) (o : Option Item) (X : List Completion) (threads : List Thread) (channels : List (ℕ × Channel)) → (kind ≡ PulseOnly → buffer ≡ [])
     → member_at (members_of s.threads) t ≡ Some m → open_in s.threads t ≡ None → owns (facts_in s) t chid ≡ true → best_of kind (pending_in s.channels chid) ≡ o → Receives s t chid kind buffer o X threads channels
@@ -91,7 +91,7 @@ step_of s t chid Any buffer m o X threads channels none known free owned best r 
       live_connections = rw known (omega arith);
       open_call = λ u. rw best (r.open_call u);
       pending = λ k. rw best (r.items k);
-      priority = r.priority;
+      priority = λ u. rw best (r.priority u);
     };
   },
 )
@@ -113,7 +113,7 @@ step_of s t chid PulseOnly buffer m o X threads channels none known free owned b
         live_connections = rw known (omega arith);
         open_call = λ u. rw best (q.open_call u);
         pending = λ k. rw best (q.items k);
-        priority = q.priority;
+        priority = λ u. rw best (q.priority u);
       };
     },
   )
@@ -160,32 +160,40 @@ module _ (s : State) (t chid : ℕ) (kind : Kind) (buffer : List ℕ) (m : Membe
     idle_after : (u : ℕ) → open_in s.threads u ≡ cond (eqb u t) None (open_in s.threads u)
     idle_after u = stays_free s.threads t u free
 
-    pub step_receive_takes : (threads : List Thread) (channels : List (ℕ × Channel)) (X : List Completion) → HandsOver (is_pulse item.what) item.number kept s.threads threads
-        → SetsItems chid (without item.number (pending_in s.channels chid)) s.channels channels → X ≡ taking item (message_from s.threads item.number) t (s.made + 1) buffer ∷ []
-        → Steps s t (receive_of kind chid buffer) X (record { made = s.made + 1; threads = threads; channels = channels; connections = s.connections })
-    step_receive_takes threads channels X hands sets is = by (is_pulse item.what) refl hands where
+    -- the priority that the receiver takes
+    abbrev pub level : List (ℕ × Channel) → Option ℕ
+    level channels = cond (is_fixed (channel_in channels chid)) None (Some item.priority)
+
+    pub step_receive_takes : (threads_1 threads_2 : List Thread) (channels : List (ℕ × Channel)) (X : List Completion) → HandsOver (is_pulse item.what) item.number kept s.threads threads_1
+        → SetsLevel t (level channels) threads_1 threads_2 → SetsItems chid (without item.number (pending_in s.channels chid)) s.channels channels → X ≡ taking item (message_from s.threads item.number) t (s.made + 1) buffer ∷ []
+        → Steps s t (receive_of kind chid buffer) X (record { made = s.made + 1; threads = threads_2; channels = channels; connections = s.connections })
+    step_receive_takes threads_1 threads_2 channels X hands takes sets is = by (is_pulse item.what) refl hands where
       ends : X ≡ filter_map (λ u. cond (eqb u t) (Some (taking item (message_from s.threads item.number) t (s.made + 1) buffer)) None) (threads_of (members_of s.threads))
       ends = is ∙ sym (only_own (threads_of (members_of s.threads)) t (Some (taking item (message_from s.threads item.number) t (s.made + 1) buffer)) (rises (members_of s.threads) sound.roster) (among (members_of s.threads) t m known))
 
-      by : (b : Bool) → is_pulse item.what ≡ b → HandsOver b item.number kept s.threads threads
-          → Steps s t (receive_of kind chid buffer) X (record { made = s.made + 1; threads = threads; channels = channels; connections = s.connections })
-      by true pulse same = step_of s t chid kind buffer m (Some item) X threads channels empty known free owned best (record {
+      levels : (u : ℕ) → level_in threads_1 u ≡ level_in s.threads u → level_in threads_2 u ≡ unwrap_or (cond (eqb t u) (level s.channels) None) (level_in s.threads u)
+      levels u same = takes.priority u ∙ ap (unwrap_or (cond (eqb t u) (level channels) None)) same
+          ∙ ap (λ o. unwrap_or (cond (eqb t u) (cond (is_fixed o) None (Some item.priority)) None) (level_in s.threads u)) (sets.channel chid)
+
+      by : (b : Bool) → is_pulse item.what ≡ b → HandsOver b item.number kept s.threads threads_1
+          → Steps s t (receive_of kind chid buffer) X (record { made = s.made + 1; threads = threads_2; channels = channels; connections = s.connections })
+      by true pulse same = step_of s t chid kind buffer m (Some item) X threads_2 channels empty known free owned best (record {
         endings = ends;
-        roster = ap members_of same;
-        open_call = λ u. ap (λ ts. open_in ts u) same ∙ rw pulse (idle_after u);
+        roster = takes.members ∙ ap members_of same;
+        open_call = λ u. takes.open_call u ∙ ap (λ ts. open_in ts u) same ∙ rw pulse (idle_after u);
         items = λ k. sets.pending k ∙ rw pulse (items_after k);
         ids = sets.ids;
         channel = sets.channel;
-        priority = λ u. ap (λ ts. level_in ts u) same;
+        priority = λ u. levels u (ap (λ ts. level_in ts u) same) ∙ rw pulse refl;
       })
-      by false message changes = step_of s t chid kind buffer m (Some item) X threads channels empty known free owned best (record {
+      by false message changes = step_of s t chid kind buffer m (Some item) X threads_2 channels empty known free owned best (record {
         endings = ends;
-        roster = changes.members;
-        open_call = λ u. changes.open_call u ∙ rw message (calls_after (held_call kept) u);
+        roster = takes.members ∙ changes.members;
+        open_call = λ u. takes.open_call u ∙ changes.open_call u ∙ rw message (calls_after (held_call kept) u);
         items = λ k. sets.pending k ∙ rw message (items_after k);
         ids = sets.ids;
         channel = sets.channel;
-        priority = changes.priority;
+        priority = λ u. levels u (changes.priority u) ∙ rw message refl;
       })
 
 -- ---- soundness

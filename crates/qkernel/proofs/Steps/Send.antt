@@ -25,9 +25,9 @@ use Rattle.qkernel.specs.Rows.{message_item, takes, received}
 use Rattle.qkernel.specs.State.{State, IsSound, facts_in}
 use Rattle.qkernel.specs.Stands.{Steps}
 use Rattle.qkernel.specs.Step.{unless, held_call}
-use Rattle.qkernel.specs.Threads.{members_of, open_in, level_in, newest_by, SetsOpen}
+use Rattle.qkernel.specs.Threads.{members_of, open_in, level_in, newest_by, SetsOpen, Wakes}
 use Rattle.qkernel.proofs.Rosters.{rises, is_among, nothing, filter_same, only_own, cond_same}
-use Rattle.qkernel.proofs.Steps.Delivering.{counted_room, count_kept, items_after, newest_is, some_way, with_item}
+use Rattle.qkernel.proofs.Steps.Delivering.{counted_room, count_kept, items_after, newest_is, some_way, with_item, ended_thread, level_of}
 use Rattle.qkernel.proofs.Steps.Common.{counted, step_refused, step_refused_alone, way-leads_to}
 
 -- ---- refusals
@@ -79,7 +79,7 @@ module _ (s : State) (t coid : ℕ) (message reply_buffer : List ℕ) (m : Membe
             live_connections = rw known (omega arith);
             open_call = λ u. opens.open_call u ∙ rw (over_way, none) (elim (eqb u t) as (λ b. cond b (Some (waiting None)) (open_in s.threads u) ≡ cond b (Some (waiting None)) (open_in s.threads u)) [ true ↦ refl | false ↦ refl ]);
             pending = λ k. sets.pending k ∙ rw (over_way, none) (with_item s t coid m h item sound known refl found k);
-            priority = opens.priority;
+            priority = λ u. opens.priority u ∙ rw (over_way, none) refl;
           };
         },
       )
@@ -90,7 +90,7 @@ module _ (s : State) (t coid : ℕ) (message reply_buffer : List ℕ) (m : Membe
     apart e = none-some y (sym (ap (takes item message r) (ap (open_in s.threads) (sym e) ∙ free)) ∙ ended)
 
     -- the sender waits with the receipt, the receiver no longer
-    calls_after : (threads_1 : List Thread) → SetsOpen r None s.threads threads_1 → (u : ℕ)
+    calls_after : (threads_1 : List Thread) → Wakes r (level_of s h item) s.threads threads_1 → (u : ℕ)
         → cond (eqb u t) (Some (waiting (Some (record { priority = level_in s.threads t; copied = copied })))) (open_in threads_1 u)
         ≡ cond (eqb u t) (unless false (cond (eqb u t) (Some (waiting (Some (record { priority = level_in s.threads t; copied = copied })))) (Some (waiting None))))
         (unless (is_some (cond (eqb u r) (takes item message u (open_in s.threads u)) None)) (cond (eqb u t) (option_map (held_call (record { priority = level_in s.threads t; copied = copied })) (open_in s.threads u)) (open_in s.threads u)))
@@ -105,7 +105,7 @@ module _ (s : State) (t coid : ℕ) (message reply_buffer : List ℕ) (m : Membe
           ] refl)
         ]
 
-    pub step_send_met : (threads_1 threads_2 : List Thread) (X : List Completion) → SetsOpen r None s.threads threads_1 → SetsOpen t (Some (waiting (Some (record { priority = level_in s.threads t; copied = copied })))) threads_1 threads_2
+    pub step_send_met : (threads_1 threads_2 : List Thread) (X : List Completion) → Wakes r (level_of s h item) s.threads threads_1 → SetsOpen t (Some (waiting (Some (record { priority = level_in s.threads t; copied = copied })))) threads_1 threads_2
         → X ≡ y ∷ [] → Steps s t (Send coid message reply_buffer) X (record { made = s.made + 1; threads = threads_2; channels = s.channels; connections = s.connections })
     step_send_met threads_1 threads_2 X takes_r sets_t is = (
       true,
@@ -130,7 +130,7 @@ module _ (s : State) (t coid : ℕ) (message reply_buffer : List ℕ) (m : Membe
           live_connections = rw known (omega arith);
           open_call = λ u. sets_t.open_call u ∙ rw (over_way, newest_is_r, ended, is_receipt) (calls_after threads_1 takes_r u);
           pending = λ k. rw (over_way, newest_is_r, ended, is_receipt) (items_after s t coid m h item sound known refl found k);
-          priority = λ u. sets_t.priority u ∙ takes_r.priority u;
+          priority = λ u. sets_t.priority u ∙ takes_r.priority u ∙ rw (over_way, newest_is_r, ended, is_receipt, ended_thread item message r (open_in s.threads r) y ended) refl;
         };
       },
     )

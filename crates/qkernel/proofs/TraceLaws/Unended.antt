@@ -11,7 +11,7 @@ use Rattle.qkernel.specs.Past.{filled, ends, is_accepted, is_ended, made_at, new
 use Rattle.qkernel.specs.Rows.{asks}
 use Rattle.qkernel.specs.Trace.{Event, Trace}
 use Rattle.qkernel.specs.declared.call.Call.{Call}
-use Rattle.qkernel.specs.declared.call.Call.TheVariants.{ChannelCreate, ConnectAttach, Send, Receive, Reply, Error, Read, Write, Info, ReceivePulse, Pulse}
+use Rattle.qkernel.specs.declared.call.Call.TheVariants.{ChannelCreate, ConnectAttach, Send, Receive, Reply, Error, Read, Write, Info, ReceivePulse, Pulse, PrioritySet, State}
 use Rattle.qkernel.specs.declared.open_call.OpenCall.{OpenCall}
 use Rattle.qkernel.proofs.Past.Lists.{eqb_same}
 use Rattle.qkernel.proofs.Past.Numbers.{open_from, open_parts, receipt_number}
@@ -30,6 +30,8 @@ asks_any n (Error rcvid code) = refl
 asks_any n (Read rcvid offset buffer) = refl
 asks_any n (Write rcvid offset bytes) = refl
 asks_any n (Info rcvid) = refl
+asks_any n (PrioritySet thread level) = refl
+asks_any n (State thread) = refl
 asks_any n (ReceivePulse chid) = refl
 asks_any n (Pulse coid priority code value) = refl
 

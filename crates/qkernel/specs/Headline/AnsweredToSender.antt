@@ -3,7 +3,7 @@ use Rattle.std.specs.Prelude.{◌≡◌, ℕ, ◌==◌, ◌&&◌, not, Bool, tru
 use Rattle.std.specs.List.{AllByRecursion}
 use Rattle.qtables.specs.declared.member.Member.{Member}
 use Rattle.qkernel.specs.declared.call.Call.{Call}
-use Rattle.qkernel.specs.declared.call.Call.TheVariants.{ChannelCreate, ConnectAttach, Send, Receive, Reply, Error, Read, Write, Info, ReceivePulse, Pulse}
+use Rattle.qkernel.specs.declared.call.Call.TheVariants.{ChannelCreate, ConnectAttach, Send, Receive, Reply, Error, Read, Write, Info, ReceivePulse, Pulse, PrioritySet, State}
 use Rattle.qkernel.specs.declared.call.Completion.{Completion}
 use Rattle.qkernel.specs.declared.call.Mark.{Mark}
 use Rattle.qkernel.specs.declared.call.Mark.TheVariants as mark
@@ -44,6 +44,8 @@ thread_of_send t (Write rcvid offset bytes) = None
 thread_of_send t (Info rcvid) = None
 thread_of_send t (ReceivePulse chid) = None
 thread_of_send t (Pulse coid priority code value) = None
+thread_of_send t (PrioritySet thread priority) = None
+thread_of_send t (State thread) = None
 
 -- the thread that sent message i
 abbrev pub sender_of : Trace → ℕ → Option ℕ
@@ -62,6 +64,8 @@ answered_by (Write rcvid offset bytes) = None
 answered_by (Info rcvid) = None
 answered_by (ReceivePulse chid) = None
 answered_by (Pulse coid priority code value) = None
+answered_by (PrioritySet thread priority) = None
+answered_by (State thread) = None
 
 -- the mark is an answer
 abbrev pub is_answer : Mark → Bool
@@ -75,6 +79,7 @@ is_answer (mark.Message rcvid copied) = false
 is_answer (mark.Count copied) = false
 is_answer (mark.Info info) = false
 is_answer (mark.Pulse item priority what) = false
+is_answer (mark.State state priority) = false
 
 -- the ending is an answer to the message that the event's call names: while it was held, by a thread of the process that owns its channel,
 -- and to its sender

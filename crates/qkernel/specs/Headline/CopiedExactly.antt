@@ -5,7 +5,7 @@ use Rattle.std.specs.Option.{option_map_or}
 use Rattle.std.specs.Ordering.{int_eq}
 use Rattle.qbase.specs.Laying.{laid_count, lay_over}
 use Rattle.qkernel.specs.declared.call.Call.{Call}
-use Rattle.qkernel.specs.declared.call.Call.TheVariants.{ChannelCreate, ConnectAttach, Send, Receive, Reply, Error, Read, Write, Info, ReceivePulse, Pulse}
+use Rattle.qkernel.specs.declared.call.Call.TheVariants.{ChannelCreate, ConnectAttach, Send, Receive, Reply, Error, Read, Write, Info, ReceivePulse, Pulse, PrioritySet, State}
 use Rattle.qkernel.specs.declared.call.Completion.{Completion}
 use Rattle.qkernel.specs.declared.call.Mark.{Mark}
 use Rattle.qkernel.specs.declared.call.Mark.TheVariants as mark
@@ -30,6 +30,8 @@ buffer_by past i (Write rcvid offset bytes) = []
 buffer_by past i (Info rcvid) = []
 buffer_by past i (ReceivePulse chid) = []
 buffer_by past i (Pulse coid priority code value) = []
+buffer_by past i (PrioritySet thread priority) = []
+buffer_by past i (State thread) = []
 
 -- the same of the call of that number, nothing where there is none
 abbrev pub buffer_at : Trace → ℕ → List ℕ
@@ -48,6 +50,8 @@ message_of (Write rcvid offset bytes) = []
 message_of (Info rcvid) = []
 message_of (ReceivePulse chid) = []
 message_of (Pulse coid priority code value) = []
+message_of (PrioritySet thread priority) = []
+message_of (State thread) = []
 
 -- the bytes of message i
 abbrev pub message_at : Trace → ℕ → List ℕ
@@ -66,6 +70,8 @@ replies_with (Write rcvid offset bytes) = None
 replies_with (Info rcvid) = None
 replies_with (ReceivePulse chid) = None
 replies_with (Pulse coid priority code value) = None
+replies_with (PrioritySet thread priority) = None
+replies_with (State thread) = None
 
 -- what a call counts: a Read the bytes of the message from the offset on that it lays over its buffer, a Write those that it lays over the
 -- reply buffer from the offset on; no other call counts
@@ -82,6 +88,8 @@ IsCounted past (Error rcvid code) x copied = ⊥
 IsCounted past (Info rcvid) x copied = ⊥
 IsCounted past (ReceivePulse chid) x copied = ⊥
 IsCounted past (Pulse coid priority code value) x copied = ⊥
+IsCounted past (PrioritySet thread priority) x copied = ⊥
+IsCounted past (State thread) x copied = ⊥
 
 -- a receipt lays the message over the front of the receiver's buffer, a reply its bytes over the front of the sender's reply buffer, each to
 -- the shorter length and with that count; a Read and a Write copy what they count; any other ending gives the buffer as it is by then
@@ -98,6 +106,7 @@ IsCopied past e x (mark.Connection coid) = x.buffer ≡ buffer_at (e ∷ past) x
 IsCopied past e x (mark.Errored code) = x.buffer ≡ buffer_at (e ∷ past) x.call
 IsCopied past e x (mark.Info info) = x.buffer ≡ buffer_at (e ∷ past) x.call
 IsCopied past e x (mark.Pulse item priority what) = x.buffer ≡ buffer_at (e ∷ past) x.call
+IsCopied past e x (mark.State state priority) = x.buffer ≡ buffer_at (e ∷ past) x.call
 
 -- so it is with each ending of each event
 abbrev pub CopiedExactly : Trace → Type 0

@@ -4,7 +4,7 @@ use Rattle.std.specs.List.{AllByRecursion}
 use Rattle.std.specs.Option.{option_and_then}
 use Rattle.qtables.specs.declared.member.Member.{Member}
 use Rattle.qkernel.specs.declared.call.Call.{Call}
-use Rattle.qkernel.specs.declared.call.Call.TheVariants.{ChannelCreate, ConnectAttach, Send, Receive, Reply, Error, Read, Write, Info, ReceivePulse, Pulse}
+use Rattle.qkernel.specs.declared.call.Call.TheVariants.{ChannelCreate, ConnectAttach, Send, Receive, Reply, Error, Read, Write, Info, ReceivePulse, Pulse, PrioritySet, State}
 use Rattle.qkernel.specs.declared.call.Completion.{Completion}
 use Rattle.qkernel.specs.Headline.BestFirst.{takeable}
 use Rattle.qkernel.specs.Headline.CopiedExactly.{call_at}
@@ -25,6 +25,8 @@ sends_over (Write rcvid offset bytes) = None
 sends_over (Info rcvid) = None
 sends_over (ReceivePulse chid) = None
 sends_over (Pulse coid priority code value) = Some coid
+sends_over (PrioritySet thread priority) = None
+sends_over (State thread) = None
 
 -- the connection over which item i was sent
 abbrev pub connection_of : Trace → ℕ → Option ℕ

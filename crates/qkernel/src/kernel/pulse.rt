@@ -7,10 +7,10 @@ ghost use Rattle.qkernel.specs.Threads.{open_in, seat_in};
 
 use super::Kernel;
 use crate::call::{Call, Completion, Mark};
-use crate::channel::{enqueue, pulses_on, way};
+use crate::channel::{carried, enqueue, pulses_on, way};
 use crate::endings::{Endings, end_own, end_two, refuse};
 use crate::open_call::{OpenCall, Wait};
-use crate::thread::{member_of, newest_receiver, take_open};
+use crate::thread::{member_of, newest_receiver, wake};
 use qbase::bytes::Bytes;
 use qbase::errno::Errno;
 use qbase::ids::{ConnectionId, ThreadNo};
@@ -86,7 +86,8 @@ impl Kernel {
                 Err(errno) => refuse(endings, number, thread, errno, Bytes::new(alloc)),
             },
             Some(newest) => {
-                let call = take_open(&mut self.threads, newest.1);
+                let level = carried(&self.channels, chid, priority);
+                let call = wake(&mut self.threads, newest.1, level);
                 let Some(ended) = told(call, newest.1, &item) else {
                     unreachable!();
                 };

@@ -6,10 +6,10 @@ ghost use Rattle.qkernel.specs.Threads.{open_in, seat_in};
 
 use super::Kernel;
 use crate::call::{Call, Completion};
-use crate::channel::{owns, take_best};
+use crate::channel::{carried, owns, take_best};
 use crate::endings::{Endings, end_one, refuse};
 use crate::open_call::{OpenCall, Wait};
-use crate::thread::{block, hand_item, member_of};
+use crate::thread::{block, hand_item, member_of, set_level};
 use qbase::bytes::Bytes;
 use qbase::errno::Errno;
 use qbase::ids::{ChannelId, ThreadNo};
@@ -66,7 +66,9 @@ impl Kernel {
             }
             Some(item) => {
                 let mut buffer = buffer;
+                let level = carried(&self.channels, chid, item.priority);
                 let mark = hand_item(&mut self.threads, item, &mut buffer);
+                set_level(&mut self.threads, seat, thread, level);
                 end_one(
                     endings,
                     Completion {

@@ -7,10 +7,10 @@ ghost use Rattle.qkernel.specs.Threads.{open_in, seat_in};
 
 use super::Kernel;
 use crate::call::{Call, Completion, Mark};
-use crate::channel::{enqueue, way};
+use crate::channel::{carried, enqueue, way};
 use crate::endings::{Endings, end_one, refuse};
 use crate::open_call::{OpenCall, Receipt, Wait};
-use crate::thread::{block, level_of, member_of, newest_receiver, take_open};
+use crate::thread::{block, level_of, member_of, newest_receiver, wake};
 use qbase::bytes::Bytes;
 use qbase::errno::Errno;
 use qbase::ids::{ConnectionId, ReceiveId, ThreadNo};
@@ -91,7 +91,8 @@ impl Kernel {
                 None
             }
             Some(newest) => {
-                let call = take_open(&mut self.threads, newest.1);
+                let level = carried(&self.channels, chid, priority);
+                let call = wake(&mut self.threads, newest.1, level);
                 let Some(met) = taken(call, newest.1, &item, &message) else {
                     unreachable!();
                 };

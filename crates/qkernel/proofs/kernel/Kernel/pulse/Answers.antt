@@ -2,18 +2,24 @@ use Rattle.std.proofs.Common.{[], ◌+◌, sym, ap, ◌∙◌, Some, w8, w32}
 use Rattle.std.proofs.lemmas.Bool.{lt-ltb}
 use Rattle.std.proofs.lemmas.Int.{to_z-of_z}
 use Rattle.qkernel.specs.Rows.{takes, pulse_item}
-use Rattle.qkernel.proofs.Steps.Delivering.{met_there, newest_is, newest_receives, sound_threads, waits_among}
+use Rattle.qkernel.proofs.Steps.Delivering.{met_there, newest_is, newest_receives, sound_threads, waits_among, waits_open}
 use Rattle.qkernel.proofs.Steps.Pulse.{natural, step_pulse_met, step_pulse_no_memory, step_pulse_waits}
 use Rattle.qkernel.proofs.kernel.Kernel.pulse.Goals as goal
+
+pub wake-call-requires : goal.wake-call-requires
+wake-call-requires c =
+    let newest = rw c.deref-2.ensures.value at (sym c.newest_receiver.ensures ∙ c.in-Some-newest_receiver.is) in
+    let waits = newest_receives _ c.in-Some.chid _ c.in-Some-newest_receiver.newest c.self.invariant newest in
+    waits_open c.in-Some.chid _ _ _ waits
 
 pub unreachable-requires : goal.unreachable-requires
 unreachable-requires c =
     let newest = rw c.deref-2.ensures.value at (sym c.newest_receiver.ensures ∙ c.in-Some-newest_receiver.is) in
     let waits = newest_receives _ c.in-Some.chid _ c.in-Some-newest_receiver.newest c.self.invariant newest in
-    met_there c.in-Some.chid _ _ [] _ _ c.take_open-call.result c.told.result waits c.take_open-call.ensures.had c.told.ensures c.in_default-told.is
+    met_there c.in-Some.chid _ _ [] _ _ c.wake-call.result c.told.result waits c.wake-call.ensures.had c.told.ensures c.in_default-told.is
 
 pub invariant_of-self-in-Some-newest_receiver : goal.invariant_of-self-in-Some-newest_receiver
-invariant_of-self-in-Some-newest_receiver c = sound_threads _ _ c.self.invariant c.take_open-call.ensures.after.members
+invariant_of-self-in-Some-newest_receiver c = sound_threads _ _ c.self.invariant c.wake-call.ensures.after.members
 
 pub returns-in-Ok : goal.returns-in-Ok
 returns-in-Ok c =
@@ -45,7 +51,7 @@ returns-in-Some-told c =
     let newest = rw (c.deref-2.ensures.value, to_z-of_z w8 c.args.code c.ranges.code, to_z-of_z w32 c.args.value c.ranges.value) at (sym c.newest_receiver.ensures ∙ c.in-Some-newest_receiver.is) in
     let receiver = c.in-Some-newest_receiver.newest in
     let waits = newest_receives _ c.in-Some.chid _ receiver c.self.invariant newest in
-    let ended = sym c.in-Some-told.is ∙ rw (to_z-of_z w8 c.args.code c.ranges.code, to_z-of_z w32 c.args.value c.ranges.value) at c.told.ensures ∙ ap (takes (pulse_item (c.self.inside.made + 1) c.args.priority c.args.code c.args.value) [] receiver.1) c.take_open-call.ensures.had in
+    let ended = sym c.in-Some-told.is ∙ rw (to_z-of_z w8 c.args.code c.ranges.code, to_z-of_z w32 c.args.value c.ranges.value) at c.told.ensures ∙ ap (takes (pulse_item (c.self.inside.made + 1) c.args.priority c.args.code c.args.value) [] receiver.1) c.wake-call.ensures.had in
     rw (← c.self.view_is) (step_pulse_met _ c.args.thread c.args.coid c.args.priority c.args.code c.args.value c.member_of.result c.in-Some.chid c.self.invariant known free found positive room
-    receiver.1 c.in-Some-told.ended (newest_is _ c.in-Some.chid _ (Some receiver) c.self.invariant newest) (waits_among c.in-Some.chid _ _ _ receiver.1 waits) (sym ended) _ _ c.take_open-call.ensures.after
+    receiver.1 c.in-Some-told.ended (newest_is _ c.in-Some.chid _ (Some receiver) c.self.invariant newest) (waits_among c.in-Some.chid _ _ _ receiver.1 waits) (sym ended) _ _ (rw c.carried-level.ensures at c.wake-call.ensures.after)
     (rw c.new-in-Some-newest_receiver.ensures at c.end_two.ensures))

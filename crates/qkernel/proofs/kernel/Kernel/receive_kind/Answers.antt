@@ -1,4 +1,5 @@
-use Rattle.std.proofs.Common.{sym}
+use Rattle.std.proofs.Common.{sym, ◌∙◌}
+use Rattle.qkernel.proofs.Seats.{seat_kept}
 use Rattle.qqueue.specs.Best.{is_pulse}
 use Rattle.qkernel.proofs.Steps.Receiving.{hands_members, step_receive_refused, step_receive_waits, step_receive_takes, sound_taken, sound_kept}
 use Rattle.qkernel.proofs.kernel.Kernel.receive_kind.Goals as goal
@@ -8,25 +9,30 @@ invariant_of-self-in-None c = sound_kept _ _ _ c.args.chid c.self.invariant c.bl
 
 pub invariant_of-self-in-Some : goal.invariant_of-self-in-Some
 invariant_of-self-in-Some c =
-    sound_taken _ _ _ c.args.chid c.in-Some.item.number c.self.invariant (hands_members (is_pulse c.in-Some.item.what) _ _ _ _ c.hand_item-mark.ensures.kept) c.in-Some.ensures.taken
+    sound_taken _ _ _ c.args.chid c.in-Some.item.number c.self.invariant (c.set_level.ensures.members ∙ hands_members (is_pulse c.in-Some.item.what) _ _ _ _ c.hand_item-mark.ensures.kept) c.in-Some.ensures.taken
+
+pub set_level-requires : goal.set_level-requires
+set_level-requires c =
+    let at = rw (← c.self.view_is) at c.requires.seat in
+    seat_kept c.args.thread _ _ (hands_members (is_pulse c.in-Some.item.what) _ _ _ _ c.hand_item-mark.ensures.kept) ∙ at
 
 pub returns-then-not-owns : goal.returns-then-not-owns
 returns-then-not-owns c =
     let free = rw (← c.self.view_is) at c.requires.free in
-    let known = rw c.deref.ensures.value at c.member_of-process.ensures in
-    rw (← c.self.view_is) (step_receive_refused _ c.args.thread c.args.chid c.args.kind c.args.buffer c.member_of-process.result _ c.requires.buffer known free (sym c.if-not-owns.ensures) c.refuse.ensures)
+    let known = rw c.deref.ensures.value at c.member_of.ensures in
+    rw (← c.self.view_is) (step_receive_refused _ c.args.thread c.args.chid c.args.kind c.args.buffer c.member_of.result _ c.requires.buffer known free (sym c.if-not-owns.ensures) c.refuse.ensures)
 
 pub returns-in-None : goal.returns-in-None
 returns-in-None c =
     let free = rw (← c.self.view_is) at c.requires.free in
-    let known = rw c.deref.ensures.value at c.member_of-process.ensures in
-    rw (← c.self.view_is) (step_receive_waits _ c.args.thread c.args.chid c.args.kind c.args.buffer c.member_of-process.result c.self.invariant known free (sym c.if-not-owns.ensures) c.requires.buffer _ _ _
+    let known = rw c.deref.ensures.value at c.member_of.ensures in
+    rw (← c.self.view_is) (step_receive_waits _ c.args.thread c.args.chid c.args.kind c.args.buffer c.member_of.result c.self.invariant known free (sym c.if-not-owns.ensures) c.requires.buffer _ _ _
     (sym c.in-None.ensures.best) c.block.ensures c.in-None.ensures.none c.requires.none)
 
 pub returns-in-Some : goal.returns-in-Some
 returns-in-Some c =
     let free = rw (← c.self.view_is) at c.requires.free in
-    let known = rw c.deref.ensures.value at c.member_of-process.ensures in
+    let known = rw c.deref.ensures.value at c.member_of.ensures in
     let ended = rw (c.hand_item-mark.ensures.mark, c.hand_item-mark.ensures.buffer) at c.end_one.ensures in
-    rw (← c.self.view_is) (step_receive_takes _ c.args.thread c.args.chid c.args.kind c.args.buffer c.member_of-process.result c.self.invariant known free (sym c.if-not-owns.ensures) c.requires.buffer c.in-Some.item (sym c.in-Some.ensures.best) _ _ _
-    c.hand_item-mark.ensures.kept c.in-Some.ensures.taken ended)
+    rw (← c.self.view_is) (step_receive_takes _ c.args.thread c.args.chid c.args.kind c.args.buffer c.member_of.result c.self.invariant known free (sym c.if-not-owns.ensures) c.requires.buffer c.in-Some.item (sym c.in-Some.ensures.best) _ _ _ _
+    c.hand_item-mark.ensures.kept (rw c.carried-level.ensures at c.set_level.ensures) c.in-Some.ensures.taken ended)

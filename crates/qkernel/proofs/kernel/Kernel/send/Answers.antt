@@ -1,23 +1,29 @@
 use Rattle.std.proofs.Common.{sym, ap, ◌∙◌, Some, refl}
 use Rattle.qkernel.specs.Rows.{takes}
 use Rattle.qkernel.proofs.Seats.{seat_kept}
-use Rattle.qkernel.proofs.Steps.Delivering.{newest_receives, newest_is, waits_among, taken_there, sound_with_item, sound_threads}
+use Rattle.qkernel.proofs.Steps.Delivering.{newest_receives, newest_is, waits_among, taken_there, sound_with_item, sound_threads, waits_open}
 use Rattle.qkernel.proofs.Steps.Send.{item, step_send_nowhere, step_send_waits, step_send_met}
 use Rattle.qkernel.proofs.kernel.Kernel.send.Goals as goal
 use Rattle.qkernel.proofs.kernel.Kernel.send.Goals.{in-None+in_default-enqueue, in-Some-newest_receiver+in-Some-taken}
+
+pub wake-call-requires : goal.wake-call-requires
+wake-call-requires c =
+    let newest = rw c.deref-3.ensures.value at (sym c.newest_receiver.ensures ∙ c.in-Some-newest_receiver.is) in
+    let waits = newest_receives _ c.in-Some.chid _ c.in-Some-newest_receiver.newest c.self.invariant newest in
+    waits_open c.in-Some.chid _ _ _ waits
 
 pub unreachable-requires : goal.unreachable-requires
 unreachable-requires c =
     let newest = rw c.deref-3.ensures.value at (sym c.newest_receiver.ensures ∙ c.in-Some-newest_receiver.is) in
     let waits = newest_receives _ c.in-Some.chid _ c.in-Some-newest_receiver.newest c.self.invariant newest in
-    taken_there c.in-Some.chid _ _ _ _ _ c.take_open-call.result c.taken.result waits c.take_open-call.ensures.had c.taken.ensures.ended c.in_default-taken.is
+    taken_there c.in-Some.chid _ _ _ _ _ c.wake-call.result c.taken.result waits c.wake-call.ensures.had c.taken.ensures.ended c.in_default-taken.is
 
 pub block-requires : goal.block-requires
 block-requires c =
     let at = rw (← c.self.view_is) at c.requires.seat in
     elim c.match-newest_receiver.branch [
       | in-None+in_default-enqueue w ↦ rw (w.self-inside-is) at
-      | in-Some-newest_receiver+in-Some-taken w ↦ rw (w.self-inside-is) (seat_kept c.args.thread _ _ w.take_open-call.ensures.after.members ∙ at)
+      | in-Some-newest_receiver+in-Some-taken w ↦ rw (w.self-inside-is) (seat_kept c.args.thread _ _ w.wake-call.ensures.after.members ∙ at)
     ]
 
 pub invariant_of-self-2 : goal.invariant_of-self-2
@@ -27,7 +33,7 @@ invariant_of-self-2 c = elim c.match-newest_receiver.branch [
       rw (w.self-inside-is) (sound_with_item _ _ _ c.in-Some.chid _ c.self.invariant members w.in_default-enqueue.ensures.ok refl)
   | in-Some-newest_receiver+in-Some-taken w ↦
       let members = rw (w.self-inside-is) at c.block.ensures.members in
-      rw (w.self-inside-is) (sound_threads _ _ c.self.invariant (members ∙ w.take_open-call.ensures.after.members))
+      rw (w.self-inside-is) (sound_threads _ _ c.self.invariant (members ∙ w.wake-call.ensures.after.members))
 ]
 
 pub returns-in_default : goal.returns-in_default
@@ -55,10 +61,11 @@ returns c =
           let newest = rw (c.deref-3.ensures.value, priority) at (sym c.newest_receiver.ensures ∙ w.in-Some-newest_receiver.is) in
           let receiver = w.in-Some-newest_receiver.newest in
           let waits = newest_receives _ c.in-Some.chid _ receiver c.self.invariant newest in
-          let ended = rw priority at w.in-Some-taken.ensures.ended ∙ ap (takes (item _ c.args.thread c.args.coid c.args.message c.args.reply_buffer c.member_of.result c.in-Some.chid c.self.invariant known free found) c.args.message receiver.1) w.take_open-call.ensures.had in
+          let ended = rw priority at w.in-Some-taken.ensures.ended ∙ ap (takes (item _ c.args.thread c.args.coid c.args.message c.args.reply_buffer c.member_of.result c.in-Some.chid c.self.invariant known free found) c.args.message receiver.1) w.wake-call.ensures.had in
           let sets = rw priority at opens in
+          let wakes = rw (w.carried-level.ensures, priority) at w.wake-call.ensures.after in
           rw (w.self-inside-is, w.endings-is, ← c.self.view_is)
           (step_send_met _ c.args.thread c.args.coid c.args.message c.args.reply_buffer c.member_of.result c.in-Some.chid c.self.invariant known free found
           receiver.1 w.in-Some-taken.met.0 w.in-Some-taken.met.1 (newest_is _ c.in-Some.chid _ (Some receiver) c.self.invariant newest) (waits_among c.in-Some.chid _ _ _ receiver.1 waits) (sym ended) w.in-Some-taken.ensures.copied
-          w.take_open-call.new.threads.items _ _ w.take_open-call.ensures.after sets w.end_one.ensures)
+          w.wake-call.new.threads.items _ _ wakes sets w.end_one.ensures)
     ]

@@ -1,0 +1,48 @@
+-- State as a step of the kernel.
+use Rattle.std.proofs.Common.{◌≡◌, ℕ, ◌+◌, List, [], ◌∷◌, refl, sym, ◌∙◌, arith, true, inl, false}
+use Rattle.std.specs.Prelude.{None, Some, is_some}
+use Rattle.std.proofs.lemmas.List.{append-nil}
+use Rattle.qbase.specs.declared.errno.Errno.TheVariants.{Srch}
+use Rattle.qtables.specs.Entries.{entry_at}
+use Rattle.qtables.specs.Members.{member_at}
+use Rattle.qtables.specs.declared.member.Member.{Member}
+use Rattle.qkernel.specs.Answer.{failed}
+use Rattle.qkernel.specs.ThreadStates.{state_in}
+use Rattle.qkernel.specs.declared.call.Call.TheVariants.{State as Ask}
+use Rattle.qkernel.specs.declared.call.Completion.{Completion}
+use Rattle.qkernel.specs.declared.call.Mark.TheVariants as mark
+use Rattle.qkernel.specs.State.{State, IsSound, facts_in}
+use Rattle.qkernel.specs.Stands.{Steps}
+use Rattle.qkernel.specs.Threads.{level_in, members_of, open_in}
+use Rattle.qkernel.proofs.Rosters.{among, only_own, rises}
+use Rattle.qkernel.proofs.Steps.Common.{counted, stays_free, step_refused_alone}
+
+module _ (s : State) (t target : ℕ) (m : Member) (known : member_at (members_of s.threads) t ≡ Some m) (free : open_in s.threads t ≡ None) where
+  pub step_state_nobody : (X : List Completion) → is_some (member_at (members_of s.threads) target) ≡ false → X ≡ failed (facts_in s) t (Ask target) Srch ∷ [] → Steps s t (Ask target) X (counted s)
+  step_state_nobody X nobody is = step_refused_alone s t (Ask target) Srch X (inl (rw (free, nobody) refl)) is
+
+  -- how the call ends
+  abbrev pub telling : Completion
+  telling = record { call = s.made + 1; thread = t; mark = mark.State (state_in (entry_at s.connections) (open_in s.threads target)) (level_in s.threads target); buffer = [] }
+
+  pub step_state : (X : List Completion) → IsSound s → is_some (member_at (members_of s.threads) target) ≡ true → X ≡ telling ∷ [] → Steps s t (Ask target) X (counted s)
+  step_state X sound there is = (
+    true,
+    record {
+      answer = (
+        rw (free, there) refl,
+        is ∙ sym (only_own _ t (Some telling) (rises (members_of s.threads) sound.roster) (among (members_of s.threads) t m known)),
+      );
+      follows = record {
+        roster = refl;
+        number = refl;
+        channel = λ k. rw known refl;
+        open_channels = rw known (omega arith);
+        connection = λ k. rw known refl;
+        live_connections = rw known (omega arith);
+        open_call = λ u. stays_free s.threads t u free;
+        pending = λ k. sym (append-nil _);
+        priority = λ u. refl;
+      };
+    },
+  )

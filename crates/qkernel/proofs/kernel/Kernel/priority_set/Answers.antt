@@ -1,0 +1,11 @@
+use Rattle.std.proofs.Common.{ap, sym, ◌∙◌}
+use Rattle.std.specs.Prelude.{is_some}
+use Rattle.qkernel.proofs.Steps.PrioritySet.{step_set}
+use Rattle.qkernel.proofs.kernel.Kernel.priority_set.Goals as goal
+
+pub returns : goal.returns
+returns c =
+    let free = rw (← c.self.view_is) at c.requires.free in
+    let known = rw c.deref.ensures.value at c.member_of-process.ensures in
+    let own = rw c.deref-2.ensures.value at (sym c.seat_in_process.ensures.own ∙ ap is_some c.in-Some.is) in
+    rw (← c.self.view_is) (step_set _ c.args.thread c.args.target c.args.priority c.member_of-process.result known free _ _ c.self.invariant own c.set_level.ensures c.end_own.ensures)

@@ -1,0 +1,44 @@
+//! PrioritySet.
+
+ghost use Rattle.std.specs.Prelude.{◌≡◌, ◌<◌, ◌^◌, [], None, Some};
+ghost use Rattle.qkernel.specs.Threads.{open_in, seat_in};
+
+use super::Kernel;
+use crate::call::{Call, Mark};
+use crate::endings::{Endings, end_own, refuse};
+use crate::thread::{member_of, seat_in_process, set_level};
+use qbase::bytes::Bytes;
+use qbase::errno::Errno;
+use qbase::ids::ThreadNo;
+use qbase::priority::Priority;
+
+impl Kernel {
+    ghost use Rattle.qkernel.specs.Stands.{Steps};
+
+    /// Gives a thread of the caller's process another priority, which moves nothing that waits. Never
+    /// blocks, and takes no memory.
+    pub(super) fn priority_set(
+        &mut self,
+        seat: usize,
+        thread: ThreadNo,
+        target: ThreadNo,
+        priority: Priority,
+        endings: &mut Endings,
+    )
+        requires limit { self.old.made < 2 ^ 40 }
+        requires seat { seat_in self.old.threads thread ≡ Some seat }
+        requires free { open_in self.old.threads thread ≡ None }
+        requires none { endings.old.items ≡ [] }
+        ensures { Steps self.old thread (Call.PrioritySet target priority) endings.new.items self.new }
+    {
+        self.made += 1;
+        let number = self.made;
+        let alloc = self.alloc;
+        let process = member_of(&self.threads, seat, thread).process;
+        let Some(there) = seat_in_process(&self.threads, process, target) else {
+            return refuse(endings, number, thread, Errno::Srch, Bytes::new(alloc));
+        };
+        set_level(&mut self.threads, there, target, Some(priority));
+        end_own(endings, alloc, number, thread, Mark::Ok);
+    }
+}
