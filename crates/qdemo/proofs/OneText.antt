@@ -1,14 +1,14 @@
 -- The text of a run on a new kernel.
 use Rattle.std.proofs.Common.{◌≡◌, ℕ, List, [], map, refl, ap, sym, ◌∙◌}
 use Rattle.qtables.specs.declared.member.Member.{Member}
-use Rattle.qkernel.specs.declared.call.Call.{Call}
-use Rattle.qkernel.specs.declared.open_call.Blocked.{Blocked}
-use Rattle.qkernel.specs.Blocked.{blocked_at}
-use Rattle.qkernel.specs.Lawful.{followed_by}
-use Rattle.qkernel.specs.OnlyRun.{event_call}
+use Rattle.qrules.specs.declared.call.Call.{Call}
+use Rattle.qrules.specs.declared.open_call.Blocked.{Blocked}
+use Rattle.qrules.specs.Blocked.{blocked_at}
+use Rattle.qrules.specs.Lawful.{followed_by}
+use Rattle.qrules.specs.OnlyRun.{event_call}
 use Rattle.qkernel.specs.Runs.{IsWellRun}
 use Rattle.qkernel.specs.State.{State}
-use Rattle.qkernel.specs.Trace.{Event, Run}
+use Rattle.qrules.specs.Trace.{Event, Run}
 use Rattle.qdemo.specs.Enrolled.{enrolled}
 use Rattle.qdemo.specs.Printing.Printed.{printed}
 use Rattle.qdemo.specs.Script.{IsTextOfRun}

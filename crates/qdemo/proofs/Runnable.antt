@@ -7,7 +7,7 @@ use Rattle.std.proofs.lemmas.List.Splits.{length-slice_split}
 use Rattle.std.proofs.lemmas.List.Sums.{count_by-le-length}
 use Rattle.qtables.specs.declared.member.Member.{Member}
 use Rattle.qtables.specs.Members.{member_at, joined, join_refusal}
-use Rattle.qkernel.specs.declared.call.Call.{Call}
+use Rattle.qrules.specs.declared.call.Call.{Call}
 use Rattle.qdemo.specs.declared.reading.line.Line.{Line}
 use Rattle.qdemo.specs.declared.reading.line.Line.TheVariants as lines
 use Rattle.qdemo.specs.declared.fault.LineFault.{LineFault}

@@ -2,14 +2,14 @@
 use Rattle.std.specs.Prelude.{◌≡◌, ℕ, ◌≤◌, ◌^◌, Bool, List, [], length, map, Option}
 use Rattle.std.specs.Io.KnownBytes.{Appends}
 use Rattle.qtables.specs.declared.member.Member.{Member}
-use Rattle.qkernel.specs.declared.call.Call.{Call}
-use Rattle.qkernel.specs.declared.open_call.Blocked.{Blocked}
-use Rattle.qkernel.specs.Blocked.{blocked_at}
-use Rattle.qkernel.specs.Trace.{Run}
-use Rattle.qkernel.specs.OnlyRun.{HadMemory, event_call}
+use Rattle.qrules.specs.declared.call.Call.{Call}
+use Rattle.qrules.specs.declared.open_call.Blocked.{Blocked}
+use Rattle.qrules.specs.Blocked.{blocked_at}
+use Rattle.qrules.specs.Trace.{Run}
+use Rattle.qrules.specs.OnlyRun.{HadMemory, event_call}
 use Rattle.qkernel.specs.Runs.{AllKnown}
-use Rattle.qkernel.specs.Properties.{HasProperties}
-use Rattle.qkernel.specs.Lawful.{IsLawful, followed_by}
+use Rattle.qrules.specs.Properties.{HasProperties}
+use Rattle.qrules.specs.Lawful.{IsLawful, followed_by}
 use Rattle.qdemo.specs.declared.fault.LineFault.{LineFault}
 use Rattle.qdemo.specs.Enrolled.{enrolled, AllJoin}
 use Rattle.qdemo.specs.Reading.Meaning.{meaning, Says, Faulty}

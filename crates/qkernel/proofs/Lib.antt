@@ -1,15 +1,6 @@
-pub mod Past
-pub mod Calls
-pub mod Properties
-pub mod TraceLaws
-pub mod Seats
-pub mod Senders
-pub mod ChannelWrites
-pub mod Rosters
 pub mod Tables
 pub mod Steps
 pub mod Standing
 pub mod Room
-pub mod OnlyRun
 pub mod Running
 pub mod BlockedThreads

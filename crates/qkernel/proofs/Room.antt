@@ -5,22 +5,22 @@ use Rattle.std.specs.List.{filter_map, cons_option, AllByRecursion}
 use Rattle.std.specs.Option.{option_map}
 use Rattle.std.proofs.lemmas.Bool.{eqb-true, eq-eqb, ne_eqb, true≢false}
 use Rattle.qtables.specs.Members.{IsRoster}
-use Rattle.qkernel.specs.declared.call.Call.{Call}
-use Rattle.qkernel.specs.declared.call.Completion.{Completion}
-use Rattle.qkernel.specs.declared.open_call.OpenCall.{OpenCall}
-use Rattle.qkernel.specs.declared.thread.Thread.{Thread}
-use Rattle.qkernel.specs.Answer.{row_of, ending, Outcome}
-use Rattle.qkernel.specs.Facts.{Facts, sender, threads_of}
-use Rattle.qkernel.specs.Rows.{Received, Written, writes}
+use Rattle.qrules.specs.declared.call.Call.{Call}
+use Rattle.qrules.specs.declared.call.Completion.{Completion}
+use Rattle.qrules.specs.declared.open_call.OpenCall.{OpenCall}
+use Rattle.qrecords.specs.declared.thread.Thread.{Thread}
+use Rattle.qrules.specs.Answer.{row_of, ending, Outcome}
+use Rattle.qrules.specs.Facts.{Facts, sender, threads_of}
+use Rattle.qrules.specs.Rows.{Received, Written, writes}
 use Rattle.qkernel.specs.State.{State, facts_in}
 use Rattle.qkernel.specs.Stands.{Step, Steps}
-use Rattle.qkernel.specs.Step.{Follows, unless, after_receipt, after_write, is_thread, held_call, written_call}
-use Rattle.qkernel.specs.Threads.{members_of, open_in, blocked_count}
-use Rattle.qkernel.proofs.Past.Ends.{row_passes}
-use Rattle.qkernel.proofs.Past.Laws.{RowLaws}
-use Rattle.qkernel.proofs.Past.RowLaws.{row_laws}
-use Rattle.qkernel.proofs.Rosters.{Rises, rises, is_among}
-use Rattle.qkernel.proofs.Senders.{own_open}
+use Rattle.qrules.specs.Step.{Follows, unless, after_receipt, after_write, is_thread, held_call, written_call}
+use Rattle.qrecords.specs.Threads.{members_of, open_in, blocked_count}
+use Rattle.qrules.proofs.Past.Ends.{row_passes}
+use Rattle.qrules.proofs.Past.Laws.{RowLaws}
+use Rattle.qrules.proofs.Past.RowLaws.{row_laws}
+use Rattle.qrules.proofs.Rosters.{Rises, rises, is_among}
+use Rattle.qrecords.proofs.Senders.{own_open}
 
 -- one where there is something
 abbrev one : {A : Type 0} → Option A → ℕ

@@ -6,20 +6,20 @@ use Rattle.std.proofs.Math.ListN.{get_or-map}
 use Rattle.std.proofs.lemmas.List.{reverse-append}
 use Rattle.std.proofs.lemmas.Grind.{common_steps}
 use Rattle.qtables.specs.Members.{member_at, IsRoster}
-use Rattle.qkernel.specs.declared.call.Call.{Call}
-use Rattle.qkernel.specs.declared.call.Completion.{Completion}
-use Rattle.qkernel.specs.declared.thread.Thread.{Thread}
+use Rattle.qrules.specs.declared.call.Call.{Call}
+use Rattle.qrules.specs.declared.call.Completion.{Completion}
+use Rattle.qrecords.specs.declared.thread.Thread.{Thread}
 use Rattle.qkernel.specs.declared.trace.Entry.{Entry}
 use Rattle.qkernel.specs.Kept.{event_of, events_of, AllWithin}
-use Rattle.qkernel.specs.Lawful.{followed_by}
+use Rattle.qrules.specs.Lawful.{followed_by}
 use Rattle.qkernel.specs.Runs.{RunsAtTraces, AllKnown, Headline, entry_call, blank_entry}
-use Rattle.qkernel.specs.OnlyRun.{event_call}
+use Rattle.qrules.specs.OnlyRun.{event_call}
 use Rattle.qkernel.specs.Stands.{AnswersAtTraces}
 use Rattle.qkernel.specs.State.{State}
-use Rattle.qkernel.specs.Threads.{members_of, blocked_count}
-use Rattle.qkernel.specs.Trace.{Event, Trace}
-use Rattle.qkernel.proofs.OnlyRun.{only_run}
-use Rattle.qkernel.proofs.Properties.All.{has_properties}
+use Rattle.qrecords.specs.Threads.{members_of, blocked_count}
+use Rattle.qrules.specs.Trace.{Event, Trace}
+use Rattle.qrules.proofs.OnlyRun.{only_run}
+use Rattle.qrules.proofs.Properties.All.{has_properties}
 
 -- ---- events one after another
 

@@ -3,18 +3,18 @@ use Rattle.std.proofs.Common.{◌≡◌, ℕ, ◌+◌, ◌≤◌, List, [], ◌�
 use Rattle.std.specs.Prelude.{None, Some, is_some}
 use Rattle.qtables.specs.Members.{member_at, IsRoster}
 use Rattle.qtables.specs.declared.member.Member.{Member}
-use Rattle.qkernel.specs.declared.call.Call.{Call}
-use Rattle.qkernel.specs.declared.call.Completion.{Completion}
-use Rattle.qkernel.specs.Answer.{Outcome, Answers}
-use Rattle.qkernel.specs.Facts.{Facts}
-use Rattle.qkernel.specs.Lawful.{facts_of, with_event}
-use Rattle.qkernel.specs.Past.{priority_in}
+use Rattle.qrules.specs.declared.call.Call.{Call}
+use Rattle.qrules.specs.declared.call.Completion.{Completion}
+use Rattle.qrules.specs.Answer.{Outcome, Answers}
+use Rattle.qrules.specs.Facts.{Facts}
+use Rattle.qrules.specs.Lawful.{facts_of, with_event}
+use Rattle.qrules.specs.Past.{priority_in}
 use Rattle.qkernel.specs.Stands.{StandsAt, Steps, AnswersAtTraces}
 use Rattle.qkernel.specs.State.{State, IsSound, facts_in}
-use Rattle.qkernel.specs.Step.{Follows}
-use Rattle.qkernel.specs.Threads.{members_of, open_in, level_in, ready}
-use Rattle.qkernel.specs.Trace.{Trace}
-use Rattle.qkernel.proofs.Past.Follows.{past_follows}
+use Rattle.qrules.specs.Step.{Follows}
+use Rattle.qrecords.specs.Threads.{members_of, open_in, level_in, ready}
+use Rattle.qrules.specs.Trace.{Trace}
+use Rattle.qrules.proofs.Past.Follows.{past_follows}
 
 -- facts that say the same of each thing are one
 same_facts : (f g : Facts) → f.roster ≡ g.roster → f.number ≡ g.number → ((h : ℕ) → f.channel h ≡ g.channel h) → f.open_channels ≡ g.open_channels → ((k : ℕ) → f.connection k ≡ g.connection k)

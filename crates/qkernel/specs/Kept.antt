@@ -1,9 +1,9 @@
 -- How a run's events are kept: the calls, and all their endings one after another.
 use Rattle.std.specs.Prelude.{◌≤◌, List, map, length, slice_range}
 use Rattle.std.specs.List.{AllByRecursion}
-use Rattle.qkernel.specs.declared.call.Completion.{Completion}
+use Rattle.qrules.specs.declared.call.Completion.{Completion}
 use Rattle.qkernel.specs.declared.trace.Entry.{Entry}
-use Rattle.qkernel.specs.Trace.{Event}
+use Rattle.qrules.specs.Trace.{Event}
 
 -- the event of an entry, whose endings stand between two places of the list of all
 abbrev pub event_of : List Completion → Entry → Event

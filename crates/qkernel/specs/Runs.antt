@@ -5,15 +5,15 @@ use Rattle.qbase.specs.declared.errno.Errno.{Errno}
 use Rattle.qbase.specs.declared.errno.Errno.TheVariants.{NoThread, Exhausted, NoMemory}
 use Rattle.qtables.specs.Members.{member_at}
 use Rattle.qtables.specs.declared.member.Member.{Member}
-use Rattle.qkernel.specs.declared.call.Call.{Call}
+use Rattle.qrules.specs.declared.call.Call.{Call}
 use Rattle.qkernel.specs.declared.trace.Entry.{Entry}
-use Rattle.qkernel.specs.Lawful.{IsLawful, followed_by}
-use Rattle.qkernel.specs.OnlyRun.{IsOnlyRun}
-use Rattle.qkernel.specs.Properties.{HasProperties}
+use Rattle.qrules.specs.Lawful.{IsLawful, followed_by}
+use Rattle.qrules.specs.OnlyRun.{IsOnlyRun}
+use Rattle.qrules.specs.Properties.{HasProperties}
 use Rattle.qkernel.specs.Stands.{StandsAt}
 use Rattle.qkernel.specs.State.{State}
-use Rattle.qkernel.specs.Threads.{members_of}
-use Rattle.qkernel.specs.Trace.{Event, Trace, Run}
+use Rattle.qrecords.specs.Threads.{members_of}
+use Rattle.qrules.specs.Trace.{Event, Trace, Run}
 
 -- who made a call, and which, of an entry of a kept trace
 abbrev pub entry_call : Entry → ℕ × Call

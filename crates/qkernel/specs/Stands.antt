@@ -5,16 +5,16 @@ use Rattle.qbase.specs.declared.errno.Errno.TheVariants.{NoThread, Exhausted}
 use Rattle.qtables.specs.Entries.{entry_at}
 use Rattle.qtables.specs.Members.{member_at}
 use Rattle.qtables.specs.declared.member.Member.{Member}
-use Rattle.qkernel.specs.declared.call.Call.{Call}
-use Rattle.qkernel.specs.declared.call.Completion.{Completion}
-use Rattle.qkernel.specs.Answer.{Outcome, Answers}
-use Rattle.qkernel.specs.Channels.{channel_in, pending_in}
-use Rattle.qkernel.specs.Lawful.{IsLawful, facts_of, with_event}
-use Rattle.qkernel.specs.Past.{channel_at, open_channels, connection_at, live_connections, open_call, pending, priority_of_thread}
+use Rattle.qrules.specs.declared.call.Call.{Call}
+use Rattle.qrules.specs.declared.call.Completion.{Completion}
+use Rattle.qrules.specs.Answer.{Outcome, Answers}
+use Rattle.qrecords.specs.Channels.{channel_in, pending_in}
+use Rattle.qrules.specs.Lawful.{IsLawful, facts_of, with_event}
+use Rattle.qrules.specs.Past.{channel_at, open_channels, connection_at, live_connections, open_call, pending, priority_of_thread}
 use Rattle.qkernel.specs.State.{State, facts_in}
-use Rattle.qkernel.specs.Step.{Follows}
-use Rattle.qkernel.specs.Threads.{members_of, open_in, level_in}
-use Rattle.qkernel.specs.Trace.{Trace}
+use Rattle.qrules.specs.Step.{Follows}
+use Rattle.qrecords.specs.Threads.{members_of, open_in, level_in}
+use Rattle.qrules.specs.Trace.{Trace}
 
 -- the kernel's roster, count of calls, channels, connections, pending items, open calls and priorities are those of the trace
 pub record StandsAt (roster : List Member) (s : State) (past : Trace) : Type 0 where

@@ -2,7 +2,7 @@
 
 ghost use Rattle.std.specs.Prelude.{◌≡◌, ◌+◌, ◌<◌, ◌≤◌, ◌^◌, ◌↔◌, [], length, None, Some, is_some, true, false, IsTrue, IfOk, IfErr, OnOk};
 ghost use Rattle.qtables.specs.Members.{member_at};
-ghost use Rattle.qkernel.specs.Threads.{members_of, open_in, seat_in, blocked_count};
+ghost use Rattle.qrecords.specs.Threads.{members_of, open_in, seat_in, blocked_count};
 
 mod blocked;
 mod channel_create;
@@ -19,13 +19,13 @@ mod send;
 mod state;
 mod write;
 
-use crate::call::Call;
-use crate::channel::Channel;
-use crate::endings::{Endings, refuse};
-use crate::thread::{Thread, is_blocked, seat_of, threads_for};
 use arrayvec::ArrayVec;
 use qbase::errno::Errno;
 use qbase::ids::ThreadNo;
+use qrecords::channel::Channel;
+use qrecords::endings::{Endings, refuse};
+use qrecords::thread::{Thread, is_blocked, seat_of, threads_for};
+use qrules::call::Call;
 use qtables::channels::Channels;
 use qtables::connections::Connections;
 use qtables::roster::Roster;

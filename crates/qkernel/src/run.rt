@@ -4,17 +4,17 @@ ghost use Rattle.std.specs.Prelude.{◌≡◌, ◌+◌, ◌<◌, ◌≤◌, ◌^
 ghost use Rattle.std.specs.List.{AllByRecursion};
 ghost use Rattle.arrayvec.specs.ArrayVec.{array_vec_len};
 ghost use Rattle.qkernel.specs.Runs.{Headline, RunsAtTraces, AllKnown, RunError, blank_entry, entry_call};
-ghost use Rattle.qkernel.specs.OnlyRun.{event_call};
+ghost use Rattle.qrules.specs.OnlyRun.{event_call};
 ghost use Rattle.qkernel.specs.Kept.{events_of, AllWithin};
-ghost use Rattle.qkernel.specs.Threads.{blocked_count, members_of};
+ghost use Rattle.qrecords.specs.Threads.{blocked_count, members_of};
 
-use crate::call::{Call, Completion};
-use crate::endings::Endings;
 use crate::kernel::{CALL_LIMIT, Kernel};
 use crate::trace::{Entry, Trace};
 use arrayvec::ArrayVec;
 use qbase::errno::Errno;
 use qbase::ids::ThreadNo;
+use qrecords::endings::Endings;
+use qrules::call::{Call, Completion};
 use qtables::roster::THREAD_LIMIT;
 use std::alloc::{AllocError, Global};
 

@@ -4,8 +4,8 @@ ghost use Rattle.std.specs.Prelude.{◌≡◌, ◌<◌, length, slice_get, Some}
 ghost use Rattle.std.specs.Option.{option_map};
 ghost use Rattle.qkernel.specs.Kept.{events_of, AllWithin};
 
-use crate::call::{Call, Completion};
 use qbase::ids::ThreadNo;
+use qrules::call::{Call, Completion};
 use std::marker::Model;
 
 /// A call, and where its endings stand.
@@ -27,7 +27,7 @@ pub struct Trace {
 }
 
 impl Model for Trace {
-    ghost use Rattle.qkernel.specs.Trace.{Run};
+    ghost use Rattle.qrules.specs.Trace.{Run};
 
     ghost Value = { Run };
 

@@ -1,7 +1,7 @@
 -- The lines of a run's events, one event after another.
 use Rattle.std.proofs.Common.{◌≡◌, refl, ℕ, zero, suc, ◌+◌, List, [], ◌∷◌, ◌++◌, take, slice_get, Some, ◌∙◌, sym, append_assoc, append-nil, add-zero, add-one, arith}
 use Rattle.std.specs.Option.{option_map}
-use Rattle.qkernel.specs.Trace.{Event, Run}
+use Rattle.qrules.specs.Trace.{Event, Run}
 use Rattle.qdemo.specs.Printing.Printed.{event_text, texts_from}
 
 -- the event at a place comes after those before it

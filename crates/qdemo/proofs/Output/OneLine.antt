@@ -10,14 +10,14 @@ use Rattle.qbase.specs.declared.errno.Errno.TheVariants.{Srch, Badf, Inval, Agai
 use Rattle.qbase.specs.Errno.{word_of}
 use Rattle.qbase.specs.declared.state.ThreadState.{ThreadState}
 use Rattle.qbase.specs.declared.state.ThreadState.TheVariants.{Ready, SendBlocked, ReceiveBlocked, ReplyBlocked}
-use Rattle.qkernel.specs.declared.call.Completion.{Completion}
+use Rattle.qrules.specs.declared.call.Completion.{Completion}
 use Rattle.qqueue.specs.declared.item.What.{What}
 use Rattle.qqueue.specs.declared.item.What.TheVariants.{Message, User, Unblock, Disconnect}
 use Rattle.qdemo.specs.Printing.Marks.Pulse.{pulse_words}
-use Rattle.qkernel.specs.declared.call.Mark.{Mark}
-use Rattle.qkernel.specs.declared.call.Mark.TheVariants as marks
-use Rattle.qkernel.specs.declared.open_call.Blocked.{Blocked}
-use Rattle.qkernel.specs.Trace.{Event, Run}
+use Rattle.qrules.specs.declared.call.Mark.{Mark}
+use Rattle.qrules.specs.declared.call.Mark.TheVariants as marks
+use Rattle.qrules.specs.declared.open_call.Blocked.{Blocked}
+use Rattle.qrules.specs.Trace.{Event, Run}
 use Rattle.qdemo.specs.Printing.Words.{spaced}
 use Rattle.qdemo.specs.Printing.Marks.{mark_words}
 use Rattle.qdemo.specs.Printing.Buffer.{buffer_words}

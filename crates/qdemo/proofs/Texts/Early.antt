@@ -3,7 +3,7 @@ use Rattle.std.proofs.Common.{◌≡◌, ℕ, List, [], ◌∷◌, Bool, true, f
 use Rattle.std.specs.List.{list_all}
 use Rattle.std.specs.Str.{bytes_eq}
 use Rattle.qtables.specs.declared.member.Member.{Member}
-use Rattle.qkernel.specs.declared.call.Call.{Call}
+use Rattle.qrules.specs.declared.call.Call.{Call}
 use Rattle.qdemo.specs.declared.reading.line.Line.{Line}
 use Rattle.qdemo.specs.declared.reading.line.Line.TheVariants as lines
 use Rattle.qdemo.specs.declared.fault.LineFault.{LineFault}

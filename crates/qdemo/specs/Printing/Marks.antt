@@ -11,8 +11,8 @@ pub mod Info
 pub mod Pulse
 pub mod State
 use Rattle.std.specs.Prelude.{ℕ, List}
-use Rattle.qkernel.specs.declared.call.Mark.{Mark}
-use Rattle.qkernel.specs.declared.call.Mark.TheVariants as marks
+use Rattle.qrules.specs.declared.call.Mark.{Mark}
+use Rattle.qrules.specs.declared.call.Mark.TheVariants as marks
 use Rattle.qdemo.specs.Printing.Marks.Done.{done_words}
 use Rattle.qdemo.specs.Printing.Marks.Failed.{failed_words}
 use Rattle.qdemo.specs.Printing.Marks.Channel.{channel_words}

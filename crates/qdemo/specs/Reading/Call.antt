@@ -1,7 +1,7 @@
 -- The call that a word and its operands name.
 use Rattle.std.specs.Prelude.{ℕ, List, Option, Some, None, Result, Err, if◌then◌else◌, codes}
 use Rattle.std.specs.Str.{bytes_eq}
-use Rattle.qkernel.specs.declared.call.Call.{Call}
+use Rattle.qrules.specs.declared.call.Call.{Call}
 use Rattle.qdemo.specs.declared.reading.verb.Verb.{Verb}
 use Rattle.qdemo.specs.declared.reading.verb.Verb.TheVariants as verbs
 use Rattle.qdemo.specs.declared.fault.LineFault.{LineFault}

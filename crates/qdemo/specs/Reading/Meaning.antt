@@ -2,7 +2,7 @@
 use Rattle.std.specs.Prelude.{◌≡◌, ℕ, zero, suc, ◌+◌, ◌==◌, Bool, false, List, [], length, take, Option, Some, None, Result, Ok, Err, nat_lt, nat_le, if◌then◌else◌, slice_index_or}
 use Rattle.std.specs.List.{list_any, filter_map}
 use Rattle.qtables.specs.declared.member.Member.{Member}
-use Rattle.qkernel.specs.declared.call.Call.{Call}
+use Rattle.qrules.specs.declared.call.Call.{Call}
 use Rattle.qdemo.specs.declared.reading.line.Line.{Line}
 use Rattle.qdemo.specs.declared.reading.line.Line.TheVariants as lines
 use Rattle.qdemo.specs.declared.fault.LineFault.{LineFault}

@@ -11,18 +11,18 @@ use Rattle.qqueue.specs.Contents.{Contents}
 use Rattle.qtables.specs.Entries.{entry_at}
 use Rattle.qtables.specs.Members.{member_at}
 use Rattle.qtables.specs.declared.member.Member.{Member}
-use Rattle.qkernel.specs.declared.call.Call.TheVariants.{ChannelCreate}
-use Rattle.qkernel.specs.declared.call.Completion.{Completion}
-use Rattle.qkernel.specs.declared.call.Mark.TheVariants as mark
-use Rattle.qkernel.specs.declared.channel.Channel.{Channel}
-use Rattle.qkernel.specs.Answer.{MayRefuse, failed}
-use Rattle.qkernel.specs.Channels.{opened, channel_in, waiting_on, pending_in, ids_of}
-use Rattle.qkernel.specs.Past.{creates}
+use Rattle.qrules.specs.declared.call.Call.TheVariants.{ChannelCreate}
+use Rattle.qrules.specs.declared.call.Completion.{Completion}
+use Rattle.qrules.specs.declared.call.Mark.TheVariants as mark
+use Rattle.qrecords.specs.declared.channel.Channel.{Channel}
+use Rattle.qrules.specs.Answer.{MayRefuse, failed}
+use Rattle.qrecords.specs.Channels.{opened, channel_in, waiting_on, pending_in, ids_of}
+use Rattle.qrules.specs.Past.{creates}
 use Rattle.qkernel.specs.State.{State, IsSound, facts_in}
 use Rattle.qkernel.specs.Stands.{Steps}
-use Rattle.qkernel.specs.Step.{put_at, one_for}
-use Rattle.qkernel.specs.Threads.{members_of, open_in}
-use Rattle.qkernel.proofs.Rosters.{rises, among, only_own}
+use Rattle.qrules.specs.Step.{put_at, one_for}
+use Rattle.qrecords.specs.Threads.{members_of, open_in}
+use Rattle.qrules.proofs.Rosters.{rises, among, only_own}
 use Rattle.qkernel.proofs.Steps.Common.{counted, step_refused_alone, all_up_to, all_push, stays_free}
 use Rattle.qkernel.proofs.Tables.{entry_at-push, entry_at-above, length-push}
 

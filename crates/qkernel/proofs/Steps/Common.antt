@@ -7,17 +7,17 @@ use Rattle.qtables.specs.Entries.{entry_at}
 use Rattle.qtables.specs.Members.{member_at}
 use Rattle.qtables.specs.declared.connection.Connection.{Connection}
 use Rattle.qtables.specs.declared.member.Member.{Member}
-use Rattle.qkernel.specs.declared.call.Call.{Call}
-use Rattle.qkernel.specs.declared.call.Completion.{Completion}
-use Rattle.qkernel.specs.declared.channel.Channel.{Channel}
-use Rattle.qkernel.specs.declared.thread.Thread.{Thread}
+use Rattle.qrules.specs.declared.call.Call.{Call}
+use Rattle.qrules.specs.declared.call.Completion.{Completion}
+use Rattle.qrecords.specs.declared.channel.Channel.{Channel}
+use Rattle.qrecords.specs.declared.thread.Thread.{Thread}
 use Rattle.qbase.specs.declared.errno.Errno.{Errno}
-use Rattle.qkernel.specs.Answer.{MayRefuse, failed}
-use Rattle.qkernel.specs.Channels.{channel_in, pending_in, ids_of, is_of, way_in}
-use Rattle.qkernel.specs.Facts.{Facts, OpenChannel, is_in_process, is_owned_by, leads_to}
+use Rattle.qrules.specs.Answer.{MayRefuse, failed}
+use Rattle.qrecords.specs.Channels.{channel_in, pending_in, ids_of, is_of, way_in}
+use Rattle.qrules.specs.Facts.{Facts, OpenChannel, is_in_process, is_owned_by, leads_to}
 use Rattle.qkernel.specs.State.{State, IsSound, facts_in}
 use Rattle.qkernel.specs.Stands.{Steps}
-use Rattle.qkernel.specs.Threads.{members_of, open_in, level_in}
+use Rattle.qrecords.specs.Threads.{members_of, open_in, level_in}
 
 -- ---- refused calls
 

@@ -6,17 +6,17 @@ use Rattle.qbase.specs.declared.errno.Errno.TheVariants.{Srch, Again, NoMemory}
 use Rattle.qtables.specs.Entries.{entry_at}
 use Rattle.qtables.specs.Members.{member_at}
 use Rattle.qtables.specs.declared.member.Member.{Member}
-use Rattle.qkernel.specs.declared.call.Call.TheVariants.{ConnectAttach}
-use Rattle.qkernel.specs.declared.call.Completion.{Completion}
-use Rattle.qkernel.specs.declared.call.Mark.TheVariants as mark
-use Rattle.qkernel.specs.Answer.{MayRefuse, failed}
-use Rattle.qkernel.specs.Channels.{channel_in}
-use Rattle.qkernel.specs.Past.{attaches}
+use Rattle.qrules.specs.declared.call.Call.TheVariants.{ConnectAttach}
+use Rattle.qrules.specs.declared.call.Completion.{Completion}
+use Rattle.qrules.specs.declared.call.Mark.TheVariants as mark
+use Rattle.qrules.specs.Answer.{MayRefuse, failed}
+use Rattle.qrecords.specs.Channels.{channel_in}
+use Rattle.qrules.specs.Past.{attaches}
 use Rattle.qkernel.specs.State.{State, IsSound, facts_in}
 use Rattle.qkernel.specs.Stands.{Steps}
-use Rattle.qkernel.specs.Step.{put_at, one_for}
-use Rattle.qkernel.specs.Threads.{members_of, open_in}
-use Rattle.qkernel.proofs.Rosters.{rises, among, only_own}
+use Rattle.qrules.specs.Step.{put_at, one_for}
+use Rattle.qrecords.specs.Threads.{members_of, open_in}
+use Rattle.qrules.proofs.Rosters.{rises, among, only_own}
 use Rattle.qkernel.proofs.Steps.Common.{counted, step_refused_alone, all_up_to, all_push, stays_free}
 use Rattle.qkernel.proofs.Tables.{entry_at-push, length-push}
 

@@ -11,21 +11,21 @@ use Rattle.qtables.specs.Entries.{entry_at}
 use Rattle.qtables.specs.Members.{member_at}
 use Rattle.qtables.specs.declared.connection.Connection.{Connection}
 use Rattle.qtables.specs.declared.member.Member.{Member}
-use Rattle.qkernel.specs.declared.call.Completion.{Completion}
-use Rattle.qkernel.specs.declared.channel.Channel.{Channel}
-use Rattle.qkernel.specs.declared.open_call.OpenCall.{OpenCall}
-use Rattle.qkernel.specs.declared.open_call.Wait.{Wait}
-use Rattle.qkernel.specs.declared.open_call.Wait.TheVariants.{Answer, Item as ForItem}
-use Rattle.qkernel.specs.declared.thread.Thread.{Thread}
-use Rattle.qkernel.specs.Channels.{pending_in, ids_of, way_in, SetsItems, channel_in}
-use Rattle.qkernel.specs.Facts.{way, leads_to, threads_of, is_fixed}
-use Rattle.qkernel.specs.Receivers.{newest_among, newest, later, later_of, is_later, wait_on}
-use Rattle.qkernel.specs.Rows.{takes, sent_over, takes_into}
+use Rattle.qrules.specs.declared.call.Completion.{Completion}
+use Rattle.qrecords.specs.declared.channel.Channel.{Channel}
+use Rattle.qrules.specs.declared.open_call.OpenCall.{OpenCall}
+use Rattle.qrules.specs.declared.open_call.Wait.{Wait}
+use Rattle.qrules.specs.declared.open_call.Wait.TheVariants.{Answer, Item as ForItem}
+use Rattle.qrecords.specs.declared.thread.Thread.{Thread}
+use Rattle.qrecords.specs.Channels.{pending_in, ids_of, way_in, SetsItems, channel_in}
+use Rattle.qrules.specs.Facts.{way, leads_to, threads_of, is_fixed}
+use Rattle.qrules.specs.Receivers.{newest_among, newest, later, later_of, is_later, wait_on}
+use Rattle.qrules.specs.Rows.{takes, sent_over, takes_into}
 use Rattle.qkernel.specs.State.{State, IsSound, facts_in}
-use Rattle.qkernel.specs.Step.{made_on}
-use Rattle.qkernel.specs.Threads.{members_of, open_in, newest_by}
-use Rattle.qkernel.proofs.Rosters.{is_among}
-use Rattle.qkernel.proofs.Senders.{own_open}
+use Rattle.qrules.specs.Step.{made_on}
+use Rattle.qrecords.specs.Threads.{members_of, open_in, newest_by}
+use Rattle.qrules.proofs.Rosters.{is_among}
+use Rattle.qrecords.proofs.Senders.{own_open}
 use Rattle.qkernel.proofs.Steps.Common.{Counted, count_same, all_up_to, all_push, way-leads_to}
 
 -- ---- the newest receiver, by records and by threads

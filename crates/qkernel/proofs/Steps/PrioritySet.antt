@@ -5,17 +5,17 @@ use Rattle.std.proofs.lemmas.List.{append-nil}
 use Rattle.qbase.specs.declared.errno.Errno.TheVariants.{Srch}
 use Rattle.qtables.specs.Members.{member_at}
 use Rattle.qtables.specs.declared.member.Member.{Member}
-use Rattle.qkernel.specs.Answer.{failed}
-use Rattle.qkernel.specs.Facts.{is_in_process}
-use Rattle.qkernel.specs.Past.{first_some}
-use Rattle.qkernel.specs.declared.call.Call.TheVariants.{PrioritySet}
-use Rattle.qkernel.specs.declared.call.Completion.{Completion}
-use Rattle.qkernel.specs.declared.call.Mark.TheVariants as mark
-use Rattle.qkernel.specs.declared.thread.Thread.{Thread}
+use Rattle.qrules.specs.Answer.{failed}
+use Rattle.qrules.specs.Facts.{is_in_process}
+use Rattle.qrules.specs.Past.{first_some}
+use Rattle.qrules.specs.declared.call.Call.TheVariants.{PrioritySet}
+use Rattle.qrules.specs.declared.call.Completion.{Completion}
+use Rattle.qrules.specs.declared.call.Mark.TheVariants as mark
+use Rattle.qrecords.specs.declared.thread.Thread.{Thread}
 use Rattle.qkernel.specs.State.{State, IsSound, facts_in}
 use Rattle.qkernel.specs.Stands.{Steps}
-use Rattle.qkernel.specs.Threads.{level_in, members_of, open_in, SetsLevel}
-use Rattle.qkernel.proofs.Rosters.{among, only_own, rises}
+use Rattle.qrecords.specs.Threads.{level_in, members_of, open_in, SetsLevel}
+use Rattle.qrules.proofs.Rosters.{among, only_own, rises}
 use Rattle.qkernel.proofs.Steps.Common.{counted, stays_free, step_refused_alone}
 
 module _ (s : State) (t thread priority : ℕ) (m : Member) (known : member_at (members_of s.threads) t ≡ Some m) (free : open_in s.threads t ≡ None) where

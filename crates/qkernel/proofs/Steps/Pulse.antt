@@ -10,26 +10,26 @@ use Rattle.qqueue.specs.declared.item.Item.{Item}
 use Rattle.qtables.specs.Entries.{entry_at}
 use Rattle.qtables.specs.Members.{member_at}
 use Rattle.qtables.specs.declared.member.Member.{Member}
-use Rattle.qkernel.specs.declared.call.Call.TheVariants.{Pulse}
-use Rattle.qkernel.specs.declared.call.Completion.{Completion}
-use Rattle.qkernel.specs.declared.call.Mark.TheVariants as mark
-use Rattle.qkernel.specs.declared.channel.Channel.{Channel}
-use Rattle.qkernel.specs.declared.open_call.OpenCall.{OpenCall}
-use Rattle.qkernel.specs.declared.open_call.Wait.{Wait}
-use Rattle.qkernel.specs.declared.open_call.Wait.TheVariants.{Answer, Item as ForItem}
-use Rattle.qkernel.specs.declared.thread.Thread.{Thread}
-use Rattle.qkernel.specs.Answer.{failed, ending}
-use Rattle.qkernel.specs.Calls.Pulse.{is_negative, pulses_among}
-use Rattle.qkernel.specs.Channels.{pending_in, way_in, SetsItems}
-use Rattle.qkernel.specs.Endings.{in_order}
-use Rattle.qkernel.specs.Facts.{way, threads_of}
-use Rattle.qkernel.specs.Receivers.{newest}
-use Rattle.qkernel.specs.Rows.{pulse_item, received, takes, takes_into}
+use Rattle.qrules.specs.declared.call.Call.TheVariants.{Pulse}
+use Rattle.qrules.specs.declared.call.Completion.{Completion}
+use Rattle.qrules.specs.declared.call.Mark.TheVariants as mark
+use Rattle.qrecords.specs.declared.channel.Channel.{Channel}
+use Rattle.qrules.specs.declared.open_call.OpenCall.{OpenCall}
+use Rattle.qrules.specs.declared.open_call.Wait.{Wait}
+use Rattle.qrules.specs.declared.open_call.Wait.TheVariants.{Answer, Item as ForItem}
+use Rattle.qrecords.specs.declared.thread.Thread.{Thread}
+use Rattle.qrules.specs.Answer.{failed, ending}
+use Rattle.qrules.specs.Calls.Pulse.{is_negative, pulses_among}
+use Rattle.qrecords.specs.Channels.{pending_in, way_in, SetsItems}
+use Rattle.qrecords.specs.Endings.{in_order}
+use Rattle.qrules.specs.Facts.{way, threads_of}
+use Rattle.qrules.specs.Receivers.{newest}
+use Rattle.qrules.specs.Rows.{pulse_item, received, takes, takes_into}
 use Rattle.qkernel.specs.State.{State, IsSound, facts_in}
 use Rattle.qkernel.specs.Stands.{Steps}
-use Rattle.qkernel.specs.Step.{unless}
-use Rattle.qkernel.specs.Threads.{members_of, open_in, newest_by, Wakes}
-use Rattle.qkernel.proofs.Rosters.{rises, among, is_among, filter_same, only_own, two_hits, cond_same}
+use Rattle.qrules.specs.Step.{unless}
+use Rattle.qrecords.specs.Threads.{members_of, open_in, newest_by, Wakes}
+use Rattle.qrules.proofs.Rosters.{rises, among, is_among, filter_same, only_own, two_hits, cond_same}
 use Rattle.qkernel.proofs.Steps.Common.{counted, step_refused, step_refused_alone, way-leads_to, stays_free}
 use Rattle.qkernel.proofs.Steps.Delivering.{counted_room, count_kept, items_after, newest_is, some_way, with_item, ended_thread, level_of}
 

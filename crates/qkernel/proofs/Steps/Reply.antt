@@ -3,17 +3,17 @@ use Rattle.std.proofs.Common.{◌≡◌, ℕ, ◌+◌, List, [], refl, sym, arit
 use Rattle.std.specs.Prelude.{ℤ, None, Some}
 use Rattle.qtables.specs.Members.{member_at}
 use Rattle.qtables.specs.declared.member.Member.{Member}
-use Rattle.qkernel.specs.declared.call.Call.TheVariants.{Reply}
-use Rattle.qkernel.specs.declared.call.Completion.{Completion}
-use Rattle.qkernel.specs.declared.call.Mark.TheVariants as mark
-use Rattle.qkernel.specs.declared.thread.Thread.{Thread}
-use Rattle.qkernel.specs.Calls.Reply.{replied}
-use Rattle.qkernel.specs.Endings.{in_order}
-use Rattle.qkernel.specs.Held.{finished}
-use Rattle.qkernel.specs.HeldIn.{is_held_in}
+use Rattle.qrules.specs.declared.call.Call.TheVariants.{Reply}
+use Rattle.qrules.specs.declared.call.Completion.{Completion}
+use Rattle.qrules.specs.declared.call.Mark.TheVariants as mark
+use Rattle.qrecords.specs.declared.thread.Thread.{Thread}
+use Rattle.qrules.specs.Calls.Reply.{replied}
+use Rattle.qrecords.specs.Endings.{in_order}
+use Rattle.qrules.specs.Held.{finished}
+use Rattle.qrecords.specs.HeldIn.{is_held_in}
 use Rattle.qkernel.specs.State.{State, IsSound}
 use Rattle.qkernel.specs.Stands.{Steps}
-use Rattle.qkernel.specs.Threads.{members_of, open_in, sender_in, SetsOpen}
+use Rattle.qrecords.specs.Threads.{members_of, open_in, sender_in, SetsOpen}
 use Rattle.qkernel.proofs.Steps.Held.{is_held, two_ended, answered_calls}
 
 pub step_replied : (s : State) (t : ℕ) (m : Member) (i : ℕ) (sound : IsSound s) (known : member_at (members_of s.threads) t ≡ Some m) (status : ℤ) (bytes : List ℕ) (u : ℕ) (y : Completion)

@@ -10,23 +10,23 @@ use Rattle.qqueue.specs.declared.item.Item.{Item}
 use Rattle.qtables.specs.Entries.{entry_at}
 use Rattle.qtables.specs.Members.{member_at}
 use Rattle.qtables.specs.declared.member.Member.{Member}
-use Rattle.qkernel.specs.declared.call.Call.TheVariants.{Send}
-use Rattle.qkernel.specs.declared.call.Completion.{Completion}
-use Rattle.qkernel.specs.declared.channel.Channel.{Channel}
-use Rattle.qkernel.specs.declared.open_call.OpenCall.{OpenCall}
-use Rattle.qkernel.specs.declared.open_call.Receipt.{Receipt}
-use Rattle.qkernel.specs.declared.open_call.Wait.TheVariants.{Answer}
-use Rattle.qkernel.specs.declared.thread.Thread.{Thread}
-use Rattle.qkernel.specs.Answer.{failed, ending}
-use Rattle.qkernel.specs.Channels.{pending_in, way_in, SetsItems}
-use Rattle.qkernel.specs.Facts.{way, threads_of}
-use Rattle.qkernel.specs.Receivers.{newest}
-use Rattle.qkernel.specs.Rows.{message_item, takes, received}
+use Rattle.qrules.specs.declared.call.Call.TheVariants.{Send}
+use Rattle.qrules.specs.declared.call.Completion.{Completion}
+use Rattle.qrecords.specs.declared.channel.Channel.{Channel}
+use Rattle.qrules.specs.declared.open_call.OpenCall.{OpenCall}
+use Rattle.qrules.specs.declared.open_call.Receipt.{Receipt}
+use Rattle.qrules.specs.declared.open_call.Wait.TheVariants.{Answer}
+use Rattle.qrecords.specs.declared.thread.Thread.{Thread}
+use Rattle.qrules.specs.Answer.{failed, ending}
+use Rattle.qrecords.specs.Channels.{pending_in, way_in, SetsItems}
+use Rattle.qrules.specs.Facts.{way, threads_of}
+use Rattle.qrules.specs.Receivers.{newest}
+use Rattle.qrules.specs.Rows.{message_item, takes, received}
 use Rattle.qkernel.specs.State.{State, IsSound, facts_in}
 use Rattle.qkernel.specs.Stands.{Steps}
-use Rattle.qkernel.specs.Step.{unless, held_call}
-use Rattle.qkernel.specs.Threads.{members_of, open_in, level_in, newest_by, SetsOpen, Wakes}
-use Rattle.qkernel.proofs.Rosters.{rises, is_among, nothing, filter_same, only_own, cond_same}
+use Rattle.qrules.specs.Step.{unless, held_call}
+use Rattle.qrecords.specs.Threads.{members_of, open_in, level_in, newest_by, SetsOpen, Wakes}
+use Rattle.qrules.proofs.Rosters.{rises, is_among, nothing, filter_same, only_own, cond_same}
 use Rattle.qkernel.proofs.Steps.Delivering.{counted_room, count_kept, items_after, newest_is, some_way, with_item, ended_thread, level_of}
 use Rattle.qkernel.proofs.Steps.Common.{counted, step_refused, step_refused_alone, way-leads_to}
 

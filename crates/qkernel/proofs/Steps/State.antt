@@ -6,15 +6,15 @@ use Rattle.qbase.specs.declared.errno.Errno.TheVariants.{Srch}
 use Rattle.qtables.specs.Entries.{entry_at}
 use Rattle.qtables.specs.Members.{member_at}
 use Rattle.qtables.specs.declared.member.Member.{Member}
-use Rattle.qkernel.specs.Answer.{failed}
-use Rattle.qkernel.specs.ThreadStates.{state_in}
-use Rattle.qkernel.specs.declared.call.Call.TheVariants.{State as Ask}
-use Rattle.qkernel.specs.declared.call.Completion.{Completion}
-use Rattle.qkernel.specs.declared.call.Mark.TheVariants as mark
+use Rattle.qrules.specs.Answer.{failed}
+use Rattle.qrules.specs.ThreadStates.{state_in}
+use Rattle.qrules.specs.declared.call.Call.TheVariants.{State as Ask}
+use Rattle.qrules.specs.declared.call.Completion.{Completion}
+use Rattle.qrules.specs.declared.call.Mark.TheVariants as mark
 use Rattle.qkernel.specs.State.{State, IsSound, facts_in}
 use Rattle.qkernel.specs.Stands.{Steps}
-use Rattle.qkernel.specs.Threads.{level_in, members_of, open_in}
-use Rattle.qkernel.proofs.Rosters.{among, only_own, rises}
+use Rattle.qrecords.specs.Threads.{level_in, members_of, open_in}
+use Rattle.qrules.proofs.Rosters.{among, only_own, rises}
 use Rattle.qkernel.proofs.Steps.Common.{counted, stays_free, step_refused_alone}
 
 module _ (s : State) (t target : ℕ) (m : Member) (known : member_at (members_of s.threads) t ≡ Some m) (free : open_in s.threads t ≡ None) where

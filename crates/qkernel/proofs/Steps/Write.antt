@@ -6,17 +6,17 @@ use Rattle.std.proofs.lemmas.Bool.{eqb-true}
 use Rattle.qbase.specs.Laying.{laid_count}
 use Rattle.qtables.specs.Members.{member_at}
 use Rattle.qtables.specs.declared.member.Member.{Member}
-use Rattle.qkernel.specs.declared.call.Call.TheVariants.{Write}
-use Rattle.qkernel.specs.declared.call.Completion.{Completion}
-use Rattle.qkernel.specs.declared.call.Mark.TheVariants as mark
-use Rattle.qkernel.specs.declared.thread.Thread.{Thread}
-use Rattle.qkernel.specs.Held.{reply_buffer_in}
-use Rattle.qkernel.specs.HeldIn.{is_held_in}
-use Rattle.qkernel.specs.Step.{is_thread, written_call}
+use Rattle.qrules.specs.declared.call.Call.TheVariants.{Write}
+use Rattle.qrules.specs.declared.call.Completion.{Completion}
+use Rattle.qrules.specs.declared.call.Mark.TheVariants as mark
+use Rattle.qrecords.specs.declared.thread.Thread.{Thread}
+use Rattle.qrules.specs.Held.{reply_buffer_in}
+use Rattle.qrecords.specs.HeldIn.{is_held_in}
+use Rattle.qrules.specs.Step.{is_thread, written_call}
 use Rattle.qkernel.specs.State.{State, IsSound}
 use Rattle.qkernel.specs.Stands.{Steps}
-use Rattle.qkernel.specs.Threads.{members_of, open_in, sender_in, sent_call, ChangesSender}
-use Rattle.qkernel.proofs.Rosters.{among, only_own, rises, cond_same}
+use Rattle.qrecords.specs.Threads.{members_of, open_in, sender_in, sent_call, ChangesSender}
+use Rattle.qrules.proofs.Rosters.{among, only_own, rises, cond_same}
 use Rattle.qkernel.proofs.Steps.Held.{is_held}
 
 module _ (s : State) (t : ℕ) (m : Member) (i : ℕ) (sound : IsSound s) (known : member_at (members_of s.threads) t ≡ Some m) (free : open_in s.threads t ≡ None)

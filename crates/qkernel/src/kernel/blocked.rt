@@ -4,14 +4,14 @@ ghost use Rattle.std.specs.Prelude.{◌≡◌, ◌++◌, List, Some, IfOk, OnOk}
 ghost use Rattle.std.specs.Option.{option_to_list};
 ghost use Rattle.qtables.specs.Entries.{entry_at};
 ghost use Rattle.qtables.specs.declared.member.Member.{Member};
-ghost use Rattle.qkernel.specs.Blocked.{told_of, blocked_at};
-ghost use Rattle.qkernel.specs.Trace.{Trace};
+ghost use Rattle.qrules.specs.Blocked.{told_of, blocked_at};
+ghost use Rattle.qrules.specs.Trace.{Trace};
 
 use super::Kernel;
-use crate::open_call::Blocked;
-use crate::thread::Thread;
-use crate::thread_state::state_of_wait;
 use qbase::state::ThreadState;
+use qrecords::thread::Thread;
+use qrecords::thread_state::state_of_wait;
+use qrules::open_call::Blocked;
 use qtables::connections::Connections;
 use std::alloc::{AllocError, Global};
 

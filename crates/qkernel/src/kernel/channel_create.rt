@@ -1,18 +1,18 @@
 //! ChannelCreate.
 
 ghost use Rattle.std.specs.Prelude.{◌≡◌, ◌<◌, ◌^◌, [], None, Some};
-ghost use Rattle.qkernel.specs.Threads.{open_in, seat_in};
+ghost use Rattle.qrecords.specs.Threads.{open_in, seat_in};
 
 use super::Kernel;
-use crate::call::{Call, Mark};
-use crate::channel::Channel;
-use crate::endings::{Endings, end_own, refuse};
-use crate::thread::member_of;
 use qbase::bytes::Bytes;
 use qbase::errno::Errno;
 use qbase::flags::ChannelFlags;
 use qbase::ids::{ChannelId, ThreadNo};
 use qqueue::queue::Queue;
+use qrecords::channel::Channel;
+use qrecords::endings::{Endings, end_own, refuse};
+use qrecords::thread::member_of;
+use qrules::call::{Call, Mark};
 
 impl Kernel {
     ghost use Rattle.qkernel.specs.Stands.{Steps};

@@ -1,16 +1,16 @@
 //! ConnectAttach.
 
 ghost use Rattle.std.specs.Prelude.{◌≡◌, ◌<◌, ◌^◌, [], None, Some};
-ghost use Rattle.qkernel.specs.Threads.{open_in, seat_in};
+ghost use Rattle.qrecords.specs.Threads.{open_in, seat_in};
 
 use super::Kernel;
-use crate::call::{Call, Mark};
-use crate::channel::is_open;
-use crate::endings::{Endings, end_own, refuse};
-use crate::thread::member_of;
 use qbase::bytes::Bytes;
 use qbase::errno::Errno;
 use qbase::ids::{ChannelId, ConnectionId, ThreadNo};
+use qrecords::channel::is_open;
+use qrecords::endings::{Endings, end_own, refuse};
+use qrecords::thread::member_of;
+use qrules::call::{Call, Mark};
 use qtables::connection::Connection;
 
 impl Kernel {

@@ -1,16 +1,16 @@
 //! PrioritySet.
 
 ghost use Rattle.std.specs.Prelude.{◌≡◌, ◌<◌, ◌^◌, [], None, Some};
-ghost use Rattle.qkernel.specs.Threads.{open_in, seat_in};
+ghost use Rattle.qrecords.specs.Threads.{open_in, seat_in};
 
 use super::Kernel;
-use crate::call::{Call, Mark};
-use crate::endings::{Endings, end_own, refuse};
-use crate::thread::{member_of, seat_in_process, set_level};
 use qbase::bytes::Bytes;
 use qbase::errno::Errno;
 use qbase::ids::ThreadNo;
 use qbase::priority::Priority;
+use qrecords::endings::{Endings, end_own, refuse};
+use qrecords::thread::{member_of, seat_in_process, set_level};
+use qrules::call::{Call, Mark};
 
 impl Kernel {
     ghost use Rattle.qkernel.specs.Stands.{Steps};

@@ -2,20 +2,20 @@
 
 ghost use Rattle.std.specs.Prelude.{◌≡◌, ◌<◌, ◌^◌, [], None, Some, true};
 ghost use Rattle.qqueue.specs.Best.{is_pulse};
-ghost use Rattle.qkernel.specs.Rows.{takes};
-ghost use Rattle.qkernel.specs.Threads.{open_in, seat_in};
+ghost use Rattle.qrules.specs.Rows.{takes};
+ghost use Rattle.qrecords.specs.Threads.{open_in, seat_in};
 
 use super::Kernel;
-use crate::call::{Call, Completion, Mark};
-use crate::channel::{carried, enqueue, pulses_on, way};
-use crate::endings::{Endings, end_own, end_two, refuse};
-use crate::open_call::{OpenCall, Wait};
-use crate::thread::{member_of, newest_receiver, wake};
 use qbase::bytes::Bytes;
 use qbase::errno::Errno;
 use qbase::ids::{ConnectionId, ThreadNo};
 use qbase::priority::Priority;
 use qqueue::item::{Item, What};
+use qrecords::channel::{carried, enqueue, pulses_on, way};
+use qrecords::endings::{Endings, end_own, end_two, refuse};
+use qrecords::thread::{member_of, newest_receiver, wake};
+use qrules::call::{Call, Completion, Mark};
+use qrules::open_call::{OpenCall, Wait};
 
 /// How many pulses wait on a channel at most.
 pub const PULSE_LIMIT: usize = 1024;

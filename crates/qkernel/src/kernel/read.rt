@@ -1,16 +1,16 @@
 //! Read.
 
 ghost use Rattle.std.specs.Prelude.{◌≡◌, ◌<◌, ◌^◌, [], None, Some};
-ghost use Rattle.qkernel.specs.Threads.{open_in, seat_in};
+ghost use Rattle.qrecords.specs.Threads.{open_in, seat_in};
 
 use super::Kernel;
-use crate::call::{Call, Completion, Mark};
-use crate::endings::{Endings, end_one, refuse};
-use crate::held::held_seat;
-use crate::thread::member_of;
 use qbase::bytes::Bytes;
 use qbase::errno::Errno;
 use qbase::ids::{ReceiveId, ThreadNo};
+use qrecords::endings::{Endings, end_one, refuse};
+use qrecords::held::held_seat;
+use qrecords::thread::member_of;
+use qrules::call::{Call, Completion, Mark};
 
 impl Kernel {
     ghost use Rattle.qkernel.specs.Stands.{Steps};

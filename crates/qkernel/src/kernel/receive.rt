@@ -1,19 +1,19 @@
 //! Receive, and what it shares with ReceivePulse.
 
 ghost use Rattle.std.specs.Prelude.{◌≡◌, ◌<◌, ◌^◌, [], None, Some};
-ghost use Rattle.qkernel.specs.Receiving.{receive_of};
-ghost use Rattle.qkernel.specs.Threads.{open_in, seat_in};
+ghost use Rattle.qrules.specs.Receiving.{receive_of};
+ghost use Rattle.qrecords.specs.Threads.{open_in, seat_in};
 
 use super::Kernel;
-use crate::call::{Call, Completion};
-use crate::channel::{carried, owns, take_best};
-use crate::endings::{Endings, end_one, refuse};
-use crate::open_call::{OpenCall, Wait};
-use crate::thread::{block, hand_item, member_of, set_level};
 use qbase::bytes::Bytes;
 use qbase::errno::Errno;
 use qbase::ids::{ChannelId, ThreadNo};
 use qqueue::item::Kind;
+use qrecords::channel::{carried, owns, take_best};
+use qrecords::endings::{Endings, end_one, refuse};
+use qrecords::thread::{block, hand_item, member_of, set_level};
+use qrules::call::{Call, Completion};
+use qrules::open_call::{OpenCall, Wait};
 
 impl Kernel {
     ghost use Rattle.qkernel.specs.Stands.{Steps};

@@ -1,14 +1,14 @@
 //! ReceivePulse.
 
 ghost use Rattle.std.specs.Prelude.{◌≡◌, ◌<◌, ◌^◌, [], None, Some};
-ghost use Rattle.qkernel.specs.Threads.{open_in, seat_in};
+ghost use Rattle.qrecords.specs.Threads.{open_in, seat_in};
 
 use super::Kernel;
-use crate::call::Call;
-use crate::endings::Endings;
 use qbase::bytes::Bytes;
 use qbase::ids::{ChannelId, ThreadNo};
 use qqueue::item::Kind;
+use qrecords::endings::Endings;
+use qrules::call::Call;
 
 impl Kernel {
     ghost use Rattle.qkernel.specs.Stands.{Steps};

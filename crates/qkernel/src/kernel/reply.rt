@@ -1,19 +1,19 @@
 //! Reply.
 
 ghost use Rattle.std.specs.Prelude.{◌≡◌, ◌<◌, ◌^◌, [], None, Some};
-ghost use Rattle.qkernel.specs.Calls.Reply.{replied};
-ghost use Rattle.qkernel.specs.Held.{finished};
-ghost use Rattle.qkernel.specs.Threads.{open_in, seat_in};
+ghost use Rattle.qrules.specs.Calls.Reply.{replied};
+ghost use Rattle.qrules.specs.Held.{finished};
+ghost use Rattle.qrecords.specs.Threads.{open_in, seat_in};
 
 use super::Kernel;
-use crate::call::{Call, Completion, Mark};
-use crate::endings::{Endings, end_two, refuse};
-use crate::held::{held_seat, take_sent};
-use crate::open_call::{OpenCall, Wait};
-use crate::thread::member_of;
 use qbase::bytes::Bytes;
 use qbase::errno::Errno;
 use qbase::ids::{ReceiveId, ThreadNo};
+use qrecords::endings::{Endings, end_two, refuse};
+use qrecords::held::{held_seat, take_sent};
+use qrecords::thread::member_of;
+use qrules::call::{Call, Completion, Mark};
+use qrules::open_call::{OpenCall, Wait};
 
 /// How an open Send ends that is replied to; none where the call is no Send.
 fn replied_to(

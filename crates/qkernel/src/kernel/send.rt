@@ -2,19 +2,19 @@
 
 ghost use Rattle.std.specs.Prelude.{◌≡◌, ◌<◌, ◌^◌, [], None, Some, false, option_map, IfSome};
 ghost use Rattle.qqueue.specs.Best.{is_pulse};
-ghost use Rattle.qkernel.specs.Rows.{takes, received};
-ghost use Rattle.qkernel.specs.Threads.{open_in, seat_in};
+ghost use Rattle.qrules.specs.Rows.{takes, received};
+ghost use Rattle.qrecords.specs.Threads.{open_in, seat_in};
 
 use super::Kernel;
-use crate::call::{Call, Completion, Mark};
-use crate::channel::{carried, enqueue, way};
-use crate::endings::{Endings, end_one, refuse};
-use crate::open_call::{OpenCall, Receipt, Wait};
-use crate::thread::{block, level_of, member_of, newest_receiver, wake};
 use qbase::bytes::Bytes;
 use qbase::errno::Errno;
 use qbase::ids::{ConnectionId, ReceiveId, ThreadNo};
 use qqueue::item::{Item, What};
+use qrecords::channel::{carried, enqueue, way};
+use qrecords::endings::{Endings, end_one, refuse};
+use qrecords::thread::{block, level_of, member_of, newest_receiver, wake};
+use qrules::call::{Call, Completion, Mark};
+use qrules::open_call::{OpenCall, Receipt, Wait};
 
 /// How the open call of a thread ends that takes a message, and how many bytes were copied; none where it
 /// doesn't wait for an item.

@@ -2,16 +2,16 @@
 
 ghost use Rattle.std.specs.Prelude.{◌≡◌, ◌<◌, ◌^◌, [], None, is_some, true};
 ghost use Rattle.qtables.specs.Members.{member_at};
-ghost use Rattle.qkernel.specs.Threads.{members_of, open_in};
+ghost use Rattle.qrecords.specs.Threads.{members_of, open_in};
 
 use super::Kernel;
-use crate::call::{Call, Mark};
-use crate::endings::{Endings, end_own, refuse};
-use crate::thread::{level_of, seat_of};
-use crate::thread_state::state_at;
 use qbase::bytes::Bytes;
 use qbase::errno::Errno;
 use qbase::ids::ThreadNo;
+use qrecords::endings::{Endings, end_own, refuse};
+use qrecords::thread::{level_of, seat_of};
+use qrecords::thread_state::state_at;
+use qrules::call::{Call, Mark};
 
 impl Kernel {
     ghost use Rattle.qkernel.specs.Stands.{Steps};

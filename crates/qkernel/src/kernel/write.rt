@@ -1,16 +1,16 @@
 //! Write.
 
 ghost use Rattle.std.specs.Prelude.{◌≡◌, ◌<◌, ◌^◌, [], None, Some};
-ghost use Rattle.qkernel.specs.Threads.{open_in, seat_in};
+ghost use Rattle.qrecords.specs.Threads.{open_in, seat_in};
 
 use super::Kernel;
-use crate::call::{Call, Mark};
-use crate::endings::{Endings, end_own, refuse};
-use crate::held::{held_seat, write_sent};
-use crate::thread::member_of;
 use qbase::bytes::Bytes;
 use qbase::errno::Errno;
 use qbase::ids::{ReceiveId, ThreadNo};
+use qrecords::endings::{Endings, end_own, refuse};
+use qrecords::held::{held_seat, write_sent};
+use qrecords::thread::member_of;
+use qrules::call::{Call, Mark};
 
 impl Kernel {
     ghost use Rattle.qkernel.specs.Stands.{Steps};

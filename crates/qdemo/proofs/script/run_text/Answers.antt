@@ -1,6 +1,6 @@
 use Rattle.std.proofs.Common.{◌≡◌, [], length, sym, ap, ◌∙◌, arith}
 use Rattle.std.proofs.lemmas.List.{length-map}
-use Rattle.qkernel.specs.OnlyRun.{event_call}
+use Rattle.qrules.specs.OnlyRun.{event_call}
 use Rattle.qkernel.specs.Stands.{StandsAt}
 use Rattle.qdemo.specs.Enrolled.{enrolled}
 use Rattle.qdemo.specs.Printing.Printed.{printed}

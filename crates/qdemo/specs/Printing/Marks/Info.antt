@@ -1,6 +1,6 @@
 -- What is told of a held message.
 use Rattle.std.specs.Prelude.{ℕ, List, [], ◌∷◌, codes, decimal}
-use Rattle.qkernel.specs.declared.call.Info.{Info}
+use Rattle.qrules.specs.declared.call.Info.{Info}
 
 -- `info`, the sender's process and thread, the connection, the three lengths and the priority
 abbrev pub info_words : Info → List (List ℕ)

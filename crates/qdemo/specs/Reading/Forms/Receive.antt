@@ -1,7 +1,7 @@
 -- The call line `T receive C BYTES`.
 use Rattle.std.specs.Prelude.{ℕ, ◌^◌, List, Result, Ok}
-use Rattle.qkernel.specs.declared.call.Call.{Call}
-use Rattle.qkernel.specs.declared.call.Call.TheVariants as calls
+use Rattle.qrules.specs.declared.call.Call.{Call}
+use Rattle.qrules.specs.declared.call.Call.TheVariants as calls
 use Rattle.qdemo.specs.declared.fault.LineFault.{LineFault}
 use Rattle.qdemo.specs.Reading.Steps.{◌>>=◌}
 use Rattle.qdemo.specs.Reading.Counts.{two_of}

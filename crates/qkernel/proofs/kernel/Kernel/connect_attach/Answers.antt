@@ -1,7 +1,7 @@
 use Rattle.std.proofs.Common.{◌≡◌, sym, false, true, eqb, length, arith}
 use Rattle.std.specs.Prelude.{is_some}
 use Rattle.std.proofs.lemmas.Bool.{ne_eqb}
-use Rattle.qkernel.specs.Channels.{channel_in}
+use Rattle.qrecords.specs.Channels.{channel_in}
 use Rattle.qkernel.proofs.Steps.Common.{sound_counted_alone, up_to_below}
 use Rattle.qkernel.proofs.Steps.ConnectAttach.{step_attach_refused, step_attached, sound_attached}
 use Rattle.qkernel.proofs.kernel.Kernel.connect_attach.Goals as goal

@@ -1,6 +1,6 @@
 use Rattle.std.proofs.Common.{ap, sym, ◌∙◌}
 use Rattle.std.specs.Prelude.{is_some}
-use Rattle.qkernel.proofs.Seats.{is_there}
+use Rattle.qrecords.proofs.Seats.{is_there}
 use Rattle.qkernel.proofs.kernel.Kernel.perform.Goals as goal
 
 pub state-requires-clause-known : goal.state-requires-clause-known

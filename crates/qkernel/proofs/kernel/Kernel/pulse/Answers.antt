@@ -1,7 +1,7 @@
 use Rattle.std.proofs.Common.{[], ◌+◌, sym, ap, ◌∙◌, Some, w8, w32}
 use Rattle.std.proofs.lemmas.Bool.{lt-ltb}
 use Rattle.std.proofs.lemmas.Int.{to_z-of_z}
-use Rattle.qkernel.specs.Rows.{takes, pulse_item}
+use Rattle.qrules.specs.Rows.{takes, pulse_item}
 use Rattle.qkernel.proofs.Steps.Delivering.{met_there, newest_is, newest_receives, sound_threads, waits_among, waits_open}
 use Rattle.qkernel.proofs.Steps.Pulse.{natural, step_pulse_met, step_pulse_no_memory, step_pulse_waits}
 use Rattle.qkernel.proofs.kernel.Kernel.pulse.Goals as goal

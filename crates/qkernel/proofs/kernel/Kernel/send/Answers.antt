@@ -1,6 +1,6 @@
 use Rattle.std.proofs.Common.{sym, ap, ◌∙◌, Some, refl}
-use Rattle.qkernel.specs.Rows.{takes}
-use Rattle.qkernel.proofs.Seats.{seat_kept}
+use Rattle.qrules.specs.Rows.{takes}
+use Rattle.qrecords.proofs.Seats.{seat_kept}
 use Rattle.qkernel.proofs.Steps.Delivering.{newest_receives, newest_is, waits_among, taken_there, sound_with_item, sound_threads, waits_open}
 use Rattle.qkernel.proofs.Steps.Send.{item, step_send_nowhere, step_send_waits, step_send_met}
 use Rattle.qkernel.proofs.kernel.Kernel.send.Goals as goal

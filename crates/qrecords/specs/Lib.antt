@@ -1,0 +1,4 @@
+pub mod Threads
+pub mod Channels
+pub mod HeldIn
+pub mod Endings

@@ -1,0 +1,68 @@
+//! The endings of one event.
+
+ghost use Rattle.std.specs.Prelude.{◌≡◌, [], ◌∷◌};
+ghost use Rattle.qrecords.specs.Endings.{in_order};
+
+use arrayvec::ArrayVec;
+use qbase::bytes::Bytes;
+use qbase::errno::Errno;
+use qbase::ids::ThreadNo;
+use qrules::call::{Completion, Mark};
+use std::alloc::Global;
+
+/// The endings of one event, in rising thread number: each thread of the roster gets at most one.
+pub type Endings = ArrayVec<Completion, 64, Global>;
+
+/// Ends a call in its own event, as the only one.
+pub fn end_one(endings: &mut Endings, completion: Completion)
+    requires { endings.old.items ≡ [] }
+    ensures { endings.new.items ≡ completion ∷ [] }
+{
+    endings.push(completion);
+}
+
+/// Ends a call in its own event with no buffer, as the only one.
+pub fn end_own(endings: &mut Endings, alloc: Global, call: u64, thread: ThreadNo, mark: Mark)
+    requires { endings.old.items ≡ [] }
+    ensures { endings.new.items ≡ record { call = call; thread = thread; mark = mark; buffer = [] } ∷ [] }
+{
+    end_one(
+        endings,
+        Completion {
+            call,
+            thread,
+            mark,
+            buffer: Bytes::new(alloc),
+        },
+    );
+}
+
+/// Refuses a call, and gives its buffer back.
+pub fn refuse(endings: &mut Endings, call: u64, thread: ThreadNo, errno: Errno, buffer: Bytes)
+    requires { endings.old.items ≡ [] }
+    ensures { endings.new.items ≡ record { call = call; thread = thread; mark = Mark.Failed errno; buffer = buffer } ∷ [] }
+{
+    end_one(
+        endings,
+        Completion {
+            call,
+            thread,
+            mark: Mark::Failed(errno),
+            buffer,
+        },
+    );
+}
+
+/// Ends two calls in one event.
+pub fn end_two(endings: &mut Endings, a: Completion, b: Completion)
+    requires { endings.old.items ≡ [] }
+    ensures { endings.new.items ≡ in_order a b }
+{
+    if a.thread.0 < b.thread.0 {
+        endings.push(a);
+        endings.push(b);
+    } else {
+        endings.push(b);
+        endings.push(a);
+    }
+}

@@ -1,0 +1,134 @@
+-- The laws of a call that delivers an item.
+use Rattle.std.proofs.Common.{◌≡◌, ◌∙◌, ℕ, List, ap, refl, sym, subst, inl, cond, eqb, true, false}
+use Rattle.std.specs.Prelude.{Option, None, Some, is_some, ◌&&◌}
+use Rattle.std.specs.Option.{option_map}
+use Rattle.std.proofs.lemmas.Bool.{eqb-true, ne_eqb}
+use Rattle.std.proofs.lemmas.Option.{none-some, same_Some}
+use Rattle.qqueue.specs.declared.item.Item.{Item}
+use Rattle.qtables.specs.declared.connection.Connection.{Connection}
+use Rattle.qrules.specs.Answer.{row_of, ending}
+use Rattle.qrules.specs.Delivering.{meets, receiver, receipt_by, received_of}
+use Rattle.qrules.specs.Facts.{Facts, leads_to, way, is_of_process}
+use Rattle.qrules.specs.Receivers.{newest}
+use Rattle.qrules.specs.Rows.{Received, Made, asks, makes, received, receipt_in, sent_over}
+use Rattle.qrules.specs.declared.call.Call.{Call}
+use Rattle.qrules.specs.declared.call.Completion.{Completion}
+use Rattle.qrules.proofs.Past.Lists.{eqb_same}
+use Rattle.qrules.proofs.Past.Laws.{IsOfOpen, IsReceipt, IsReceived}
+use Rattle.qrules.proofs.Calls.Taking.{Taken, taken_by, receipt_from, receipt_in_at}
+
+-- what goes over a connection is the item
+pub sent_item : (o : Option Connection) (item : Item) (m : Made) → sent_over o item ≡ Some m → m.item ≡ item
+sent_item None item m e = absurd (none-some m e)
+sent_item (Some c) item m e = ap (λ x. x.item) (sym (same_Some _ m e))
+
+-- ---- the receiver that it meets
+
+-- thread u is the receiver r, and its open call ends by taking the item
+record Meets (f : Facts) (item : Item) (message : List ℕ) (r : Option ℕ) (u : ℕ) (y : Completion) : Type 0 where
+  receiver_is : r ≡ Some u
+  given : receipt_by f item message u ≡ Some y
+
+met_by : (f : Facts) (item : Item) (message : List ℕ) (r : Option ℕ) (u : ℕ) (y : Completion) → meets f item message r u ≡ Some y → Meets f item message r u y
+met_by f item message None u y e = absurd (none-some y e)
+met_by f item message (Some v) u y e =
+    elim (eqb u v) as (λ b. eqb u v ≡ b → cond b (receipt_by f item message u) None ≡ Some y → Meets f item message (Some v) u y) [
+      | true ↦ λ same is. record { receiver_is = ap Some (sym (eqb-true u v same)); given = is }
+      | false ↦ λ other is. absurd (none-some y is)
+    ] refl e
+
+-- and so it does where it is the receiver
+met_at : (f : Facts) (item : Item) (message : List ℕ) (r : Option ℕ) (v : ℕ) (y : Completion) → r ≡ Some v → receipt_by f item message v ≡ Some y → meets f item message r v ≡ Some y
+met_at f item message r v y is given = rw (is, eqb_same v) given
+
+-- ---- the receipt
+
+-- the channel of a way is the connection's
+way_over : (f : Facts) (t : ℕ) (o : Option Connection) (h : ℕ) → leads_to f t o ≡ Some h → (c : Connection) × (o ≡ Some c) × (c.channel ≡ h)
+way_over f t None h e = absurd (none-some h e)
+way_over f t (Some c) h e =
+    elim (is_of_process f t c.process && is_some (f.channel c.channel)) as (λ b. cond b (Some c.channel) None ≡ Some h → (d : Connection) × (Some c ≡ Some d) × (d.channel ≡ h)) [
+      | true ↦ λ is. (c, refl, same_Some c.channel h is)
+      | false ↦ λ is. absurd (none-some h is)
+    ] e
+
+-- the item goes over channel h to thread v, whose call ends by y
+record Sent (f : Facts) (sender : Option ℕ) (item : Item) (message : List ℕ) (o r : Option ℕ) (q : Received) : Type 0 where
+  channel : ℕ
+  is_channel : o ≡ Some channel
+  by : ℕ
+  is_by : r ≡ Some by
+  given : Completion
+  is_given : receipt_by f item message by ≡ Some given
+  taken : Taken item.number by (f.open_call by) given
+  same : receipt_from channel sender item.priority given.thread (item.number, taken.copied) ≡ q
+
+sent_on : (f : Facts) (sender : Option ℕ) (item : Item) (message : List ℕ) (h : ℕ) (r : Option ℕ) (q : Received) → received_of f sender item message (Some h) r ≡ Some q → Sent f sender item message (Some h) r q
+sent_on f sender item message h None q e = absurd (none-some q e)
+sent_on f sender item message h (Some v) q e =
+    elim (receipt_by f item message v) as (λ o. receipt_by f item message v ≡ o → receipt_in h sender item.priority o ≡ Some q → Sent f sender item message (Some h) (Some v) q) [
+      | None ↦ λ is s. absurd (none-some q s)
+      | Some y ↦ λ is s.
+          let k = taken_by item message v (f.open_call v) y is in
+          record {
+            channel = h;
+            is_channel = refl;
+            by = v;
+            is_by = refl;
+            given = y;
+            is_given = is;
+            taken = k;
+            same = same_Some _ q (sym (receipt_in_at h sender item.priority (Some y) y (item.number, k.copied) refl k.mark) ∙ s);
+          }
+    ] refl e
+
+sent_over_way : (f : Facts) (sender : Option ℕ) (item : Item) (message : List ℕ) (o r : Option ℕ) (q : Received) → received_of f sender item message o r ≡ Some q → Sent f sender item message o r q
+sent_over_way f sender item message None r q e = absurd (none-some q e)
+sent_over_way f sender item message (Some h) r q e = sent_on f sender item message h r q e
+
+-- the receiver that is met has the receipt of the row
+met_receives : (f : Facts) (sender : Option ℕ) (item : Item) (message : List ℕ) (o : Option ℕ) (u : ℕ) (y : Completion) (p : ℕ × ℕ) → meets f item message (receiver f item o) u ≡ Some y → received y.mark ≡ Some p
+    → (q : Received) × (received_of f sender item message o (receiver f item o) ≡ Some q) × (q.by ≡ u) × (p.0 ≡ q.item) × (p.1 ≡ q.kept.copied)
+met_receives f sender item message None u y p e m = absurd (none-some y e)
+met_receives f sender item message (Some h) u y p e m =
+    let k = met_by f item message (newest f h item) u y e in
+    let taken = taken_by item message u (f.open_call u) y k.given in (
+      receipt_from h sender item.priority y.thread p,
+      ap (λ r. received_of f sender item message (Some h) r) k.receiver_is ∙ receipt_in_at h sender item.priority (receipt_by f item message u) y p k.given m,
+      taken.thread,
+      refl,
+      refl,
+    )
+
+module _ (f : Facts) (t coid : ℕ) (c : Call) (item : Item) (message : List ℕ) (sender : Option ℕ) (ends_is : (u : ℕ) → (row_of f t c).ends u ≡ meets f item message (receiver f item (way f t coid)) u)
+    (receipt_is : (row_of f t c).receipt ≡ received_of f sender item message (way f t coid) (receiver f item (way f t coid))) where
+  pub delivers_open : (u : ℕ) (y : Completion) → (row_of f t c).ends u ≡ Some y → IsOfOpen f u y
+  delivers_open u y e =
+      let k = taken_by item message u (f.open_call u) y (met_by f item message (receiver f item (way f t coid)) u y (sym (ends_is u) ∙ e)).given in
+      record { waiting = k.waiting; is = k.is; settled = k.settled; call = k.call; thread = k.thread }
+
+  pub delivers_receipt : (u : ℕ) (y : Completion) (p : ℕ × ℕ) → (row_of f t c).ends u ≡ Some y → received y.mark ≡ Some p → IsReceipt (row_of f t c) u p
+  delivers_receipt u y p e m =
+      let r = met_receives f sender item message (way f t coid) u y p (sym (ends_is u) ∙ e) m in
+      record { receipt = r.0; is = receipt_is ∙ r.1; by = r.2; item = r.3; copied = r.4 }
+
+  -- the receipt of the row is of the item that is sent
+  pub delivers_received : f.open_call t ≡ None → makes f.connection f.priority f.number t c ≡ sent_over (f.connection coid) item → sender ≡ option_map (λ o. t) (asks f.number c)
+      → (q : Received) → (row_of f t c).receipt ≡ Some q → IsReceived f t c q
+  delivers_received idle makes_is sender_is q e =
+      let s = sent_over_way f sender item message (way f t coid) (receiver f item (way f t coid)) q (sym receipt_is ∙ e) in
+      let over = way_over f t (f.connection coid) s.channel s.is_channel in
+      let other : eqb s.by t ≡ false = ne_eqb s.by t (λ same. none-some s.taken.waiting (sym idle ∙ ap f.open_call (sym same) ∙ s.taken.is)) in
+      let met = met_at f item message (receiver f item (way f t coid)) s.by s.given s.is_by s.is_given in
+      subst (IsReceived f t c) s.same (record {
+        item = item;
+        number = refl;
+        priority = refl;
+        source = inl (record {
+          made = makes_is ∙ ap (λ o. sent_over o item) over.1 ∙ ap (λ h. Some (record { item = item; channel = h })) over.2;
+          sender_is = sender_is;
+        });
+        given = s.given;
+        is_given = subst (λ v. ending f t c v ≡ Some s.given) (sym s.taken.thread) (rw other (ends_is s.by ∙ met));
+        mark = s.taken.mark;
+      })

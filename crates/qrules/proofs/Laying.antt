@@ -1,0 +1,11 @@
+-- Laying no bytes.
+use Rattle.std.proofs.Common.{◌≡◌, ℕ, List, [], arith}
+use Rattle.std.proofs.lemmas.Grind.{common_steps}
+use Rattle.qbase.specs.Laying.{laid_count, lay_over}
+
+-- nothing laid over bytes leaves them
+pub lay_nothing : (b : List ℕ) → b ≡ lay_over b 0 []
+lay_nothing b = grind (arith, common_steps)
+
+pub count_nothing : (b : List ℕ) → 0 ≡ laid_count b 0 []
+count_nothing b = omega arith

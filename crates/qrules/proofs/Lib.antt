@@ -1,0 +1,7 @@
+pub mod Laying
+pub mod Past
+pub mod Calls
+pub mod Properties
+pub mod TraceLaws
+pub mod Rosters
+pub mod OnlyRun

@@ -1,0 +1,52 @@
+-- The item that is received first among those that wait.
+use Rattle.std.proofs.Common.{◌≡◌, ◌<◌, ◌≤◌, List, [], ◌∷◌, ◌++◌, refl, sym, subst, ◌∙◌, cond, arith, true, false}
+use Rattle.std.specs.Prelude.{None, Some, nat_lt}
+use Rattle.std.specs.List.{AllByRecursion}
+use Rattle.std.proofs.lemmas.Bool.{ltb-true, true≢false}
+use Rattle.std.proofs.lemmas.Option.{none-some, same_Some}
+use Rattle.qqueue.specs.Best.{best_of, first_of_two, may_take}
+use Rattle.qqueue.specs.Contents.{IsRising}
+use Rattle.qqueue.specs.declared.item.Item.{Item}
+use Rattle.qqueue.specs.declared.item.Kind.{Kind}
+use Rattle.qrules.proofs.Past.Lists.{all_append, all_more}
+
+-- where nothing is first, nothing may be taken
+pub none_may : (kind : Kind) (items : List Item) → best_of kind items ≡ None → AllByRecursion (λ w. may_take kind w ≡ false) items
+none_may kind [] none = tt
+none_may kind (y ∷ items) none =
+    elim (may_take kind y) as (λ m. may_take kind y ≡ m → cond m (Some (first_of_two y (best_of kind items))) (best_of kind items) ≡ None → AllByRecursion (λ w. may_take kind w ≡ false) (y ∷ items)) [
+      | true ↦ λ _ some. absurd (none-some (first_of_two y (best_of kind items)) (sym some))
+      | false ↦ λ may rest. (may, none_may kind items rest)
+    ] refl none
+
+-- of what may be taken with the priority of x, nothing was made before x
+abbrev pub IsEarliest : Kind → List Item → Item → Type 0
+IsEarliest kind items x = AllByRecursion (λ w. may_take kind w ≡ true → w.priority ≡ x.priority → x.number ≤ w.number) items
+
+-- the first of rising items
+head_earliest : (kind : Kind) (y : Item) (items : List Item) → IsRising (y ∷ items) → IsEarliest kind (y ∷ items) y
+head_earliest kind y items rising =
+    (λ _ _. omega arith, all_more (λ w. y.number < w.number) (λ w. may_take kind w ≡ true → w.priority ≡ y.priority → y.number ≤ w.number) items rising.0 (λ w later _ _. omega (arith, later)))
+
+pub best_earliest : (kind : Kind) (items : List Item) (x : Item) → IsRising items → best_of kind items ≡ Some x → IsEarliest kind items x
+best_earliest kind [] x rising best = tt
+best_earliest kind (y ∷ items) x rising best =
+    elim (may_take kind y) as (λ m. may_take kind y ≡ m → cond m (Some (first_of_two y (best_of kind items))) (best_of kind items) ≡ Some x → IsEarliest kind (y ∷ items) x) [
+      | false ↦ λ not_may is. (λ may _. absurd (true≢false (sym may ∙ not_may)), best_earliest kind items x rising.1 is)
+      | true ↦ λ may is.
+          elim (best_of kind items) as (λ b. best_of kind items ≡ b → Some (first_of_two y b) ≡ Some x → IsEarliest kind (y ∷ items) x) [
+            | None ↦ λ none same. subst (IsEarliest kind (y ∷ items)) (same_Some y x same) (head_earliest kind y items rising)
+            | Some z ↦ λ some same.
+                elim (nat_lt y.priority z.priority) as (λ b. nat_lt y.priority z.priority ≡ b → Some (cond b z y) ≡ Some x → IsEarliest kind (y ∷ items) x) [
+                  | true ↦ λ less later.
+                      let greater : y.priority < z.priority = ltb-true y.priority z.priority less in
+                      subst (IsEarliest kind (y ∷ items)) (same_Some z x later) (λ _ equal. absurd (omega (arith, greater, equal)), best_earliest kind items z rising.1 some)
+                  | false ↦ λ _ earlier. subst (IsEarliest kind (y ∷ items)) (same_Some y x earlier) (head_earliest kind y items rising)
+                ] refl same
+          ] refl is
+    ] refl best
+
+-- one more item behind rising items
+pub rising_push : (items : List Item) (x : Item) → IsRising items → AllByRecursion (λ y. y.number < x.number) items → IsRising (items ++ x ∷ [])
+rising_push [] x rising newest = (tt, tt)
+rising_push (y ∷ items) x rising newest = (all_append (λ z. y.number < z.number) items (x ∷ []) rising.0 (newest.0, tt), rising_push items x rising.1 newest.1)

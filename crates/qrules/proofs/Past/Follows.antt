@@ -1,0 +1,49 @@
+-- The facts after one more event are those that its row says.
+use Rattle.std.proofs.Common.{◌≡◌, ℕ, ◌+◌, List, length, refl, arith, Bool, true, false}
+use Rattle.std.specs.Prelude.{is_some}
+use Rattle.qtables.specs.Members.{member_at, IsRoster}
+use Rattle.qtables.specs.declared.member.Member.{Member}
+use Rattle.qrules.specs.Answer.{Outcome}
+use Rattle.qrules.specs.Lawful.{facts_of, IsLawful, with_event}
+use Rattle.qrules.specs.Past.{refuses, creates, attaches}
+use Rattle.qrules.specs.Step.{Follows}
+use Rattle.qrules.specs.Trace.{Event, Trace}
+use Rattle.qrules.specs.declared.call.Call.{Call}
+use Rattle.qrules.specs.declared.call.Completion.{Completion}
+use Rattle.qrules.proofs.Past.Channels.{made_refused, made_accepted, count_refused, count_accepted}
+use Rattle.qrules.proofs.Past.Ends.{accepted, refused}
+use Rattle.qrules.proofs.Past.OpenCalls.{open_refused, open_accepted}
+use Rattle.qrules.proofs.Past.Pending.{pending_refused, pending_accepted}
+use Rattle.qrules.proofs.Past.Priorities.{priority_accepted, priority_refused}
+
+pub past_follows : (accept : Bool) (roster : List Member) (past : Trace) (t : ℕ) (c : Call) (X : List Completion)
+    → IsRoster roster → IsLawful roster past → is_some (member_at roster t) ≡ true → Outcome accept (facts_of roster past) t c X
+    → Follows (facts_of roster past) t c accept (facts_of roster (with_event t c X past))
+past_follows true roster past t c X rising l member a =
+    let e : Event = record { thread = t; call = c; endings = X } in
+    let r : refuses X (length past + 1) ≡ false = accepted roster past t c X a in
+    record {
+      roster = refl;
+      number = omega arith;
+      channel = λ h. made_accepted (λ e. creates (member_at roster e.thread) e.call) e past h r;
+      open_channels = count_accepted (λ e. creates (member_at roster e.thread) e.call) e past r;
+      connection = λ k. made_accepted (λ e. attaches (member_at roster e.thread) e.call) e past k r;
+      live_connections = count_accepted (λ e. attaches (member_at roster e.thread) e.call) e past r;
+      open_call = λ u. open_accepted roster past t c X u l member a;
+      pending = λ h. pending_accepted roster past t c X h l member a;
+      priority = λ u. priority_accepted roster past t c X u l member a;
+    }
+past_follows false roster past t c X rising l member a =
+    let e : Event = record { thread = t; call = c; endings = X } in
+    let r : refuses X (length past + 1) ≡ true = refused roster past t c X a in
+    record {
+      roster = refl;
+      number = omega arith;
+      channel = λ h. made_refused (λ e. creates (member_at roster e.thread) e.call) e past h r;
+      open_channels = omega (arith, count_refused (λ e. creates (member_at roster e.thread) e.call) e past r);
+      connection = λ k. made_refused (λ e. attaches (member_at roster e.thread) e.call) e past k r;
+      live_connections = omega (arith, count_refused (λ e. attaches (member_at roster e.thread) e.call) e past r);
+      open_call = λ u. open_refused roster past t c X u a;
+      pending = λ h. pending_refused roster past t c X h a;
+      priority = λ u. priority_refused roster past t c X u a;
+    }

@@ -1,0 +1,21 @@
+-- Every lawful trace has the properties.
+use Rattle.std.specs.Prelude.{List}
+use Rattle.qtables.specs.Members.{IsRoster}
+use Rattle.qtables.specs.declared.member.Member.{Member}
+use Rattle.qrules.specs.Lawful.{IsLawful}
+use Rattle.qrules.specs.Properties.{HasProperties}
+use Rattle.qrules.specs.Trace.{Trace}
+use Rattle.qrules.proofs.Properties.AnsweredToSender.{answered_to_sender}
+use Rattle.qrules.proofs.Properties.BestFirst.{best_first}
+use Rattle.qrules.proofs.Properties.CopiedExactly.{copied_exactly}
+use Rattle.qrules.proofs.Properties.ReceivedOnce.{received_once}
+use Rattle.qrules.proofs.Properties.SentOrder.{sent_order}
+
+pub has_properties : (roster : List Member) (past : Trace) → IsRoster roster → IsLawful roster past → HasProperties roster past
+has_properties roster past r l = record {
+  received_once = received_once roster past r l;
+  answered_to_sender = answered_to_sender roster past r l;
+  copied_exactly = copied_exactly roster past l;
+  best_first = best_first roster past r l;
+  sent_order = sent_order roster past r l;
+}

@@ -1,0 +1,78 @@
+-- What could be taken from a channel: items of that channel, and so of the connections over which they were sent.
+use Rattle.std.proofs.Common.{◌≡◌, ◌∙◌, ℕ, ◌+◌, List, [], ◌∷◌, length, refl, ap, sym, subst, cond, eqb, true, false}
+use Rattle.std.specs.Prelude.{Option, None, Some}
+use Rattle.std.specs.List.{AllByRecursion}
+use Rattle.std.specs.Option.{option_and_then}
+use Rattle.std.proofs.lemmas.Option.{none-some, same_Some}
+use Rattle.qqueue.specs.declared.item.Item.{Item}
+use Rattle.qtables.specs.declared.connection.Connection.{Connection}
+use Rattle.qtables.specs.declared.member.Member.{Member}
+use Rattle.qrules.specs.Headline.BestFirst.{takeable}
+use Rattle.qrules.specs.Headline.CopiedExactly.{call_at}
+use Rattle.qrules.specs.Headline.SentOrder.{connection_of, sends_over}
+use Rattle.qrules.specs.Past.{connection_at, item_of, pending, priority_of_thread}
+use Rattle.qrules.specs.Rows.{message_item, pulse_item, Made, makes, sent_over}
+use Rattle.qrules.specs.Step.{made_on}
+use Rattle.qrules.specs.Trace.{Event, Trace}
+use Rattle.qrules.specs.declared.call.Call.{Call}
+use Rattle.qrules.specs.declared.call.Call.TheVariants.{ChannelCreate, ConnectAttach, Send, Receive, Reply, Error, Read, Write, Info, ReceivePulse, Pulse, PrioritySet, State}
+use Rattle.qrules.proofs.Past.Items.{IsPending, item_at, item_below, item_earlier, item_newest, made_by, pending_all}
+use Rattle.qrules.proofs.Past.Lists.{all_append, all_more}
+use Rattle.qrules.proofs.Past.Pending.{made_all}
+use Rattle.qrules.proofs.Properties.Messages.{made_accepted}
+use Rattle.qrules.proofs.Properties.Sends.{made_stays}
+
+-- ---- each is an item of the channel
+
+pub takeable_made : (roster : List Member) (past : Trace) (e : Event) (h : ℕ) → AllByRecursion (λ w. item_at roster (e ∷ past) w.number ≡ Some (record { item = w; channel = h })) (takeable roster past e h)
+takeable_made roster past e h =
+    let P = λ (w : Item). item_at roster (e ∷ past) w.number ≡ Some (record { item = w; channel = h }) in
+    all_append P (pending roster past h) (made_on h (item_of roster e past))
+    (all_more (IsPending roster past h) P (pending roster past h) (pending_all roster past h) (λ w at. item_earlier roster e past w.number (item_below roster past w.number _ at.made) ∙ at.made))
+    (made_all P h (item_of roster e past) (λ m is on.
+    subst (λ i. item_at roster (e ∷ past) i ≡ Some (record { item = m.item; channel = h })) (sym (made_by roster e past m is).number)
+    (item_newest roster e past ∙ is ∙ ap (λ k. Some (record { item = m.item; channel = k })) on)))
+
+-- ---- what was sent over a connection is on its channel
+
+-- the connection, and that the item is on its channel
+pub record IsOver (connection : ℕ → Option Connection) (k : ℕ) (m : Made) : Type 0 where
+  pub over : Connection
+  pub is : connection k ≡ Some over
+  pub channel : m.channel ≡ over.channel
+
+sent_is_over : (connection : ℕ → Option Connection) (k : ℕ) (item : Item) (m : Made) → sent_over (connection k) item ≡ Some m → IsOver connection k m
+sent_is_over connection k item m e =
+    elim (connection k) as (λ o. connection k ≡ o → sent_over o item ≡ Some m → IsOver connection k m) [
+      | None ↦ λ is s. absurd (none-some m s)
+      | Some c ↦ λ is s. record { over = c; is = is; channel = ap (λ (x : Made). x.channel) (sym (same_Some _ m s)) }
+    ] refl e
+
+makes_over : (connection : ℕ → Option Connection) (priority : ℕ → ℕ) (n t : ℕ) (c : Call) (m : Made) (k : ℕ) → makes connection priority n t c ≡ Some m → sends_over c ≡ Some k → IsOver connection k m
+makes_over connection priority n t (ChannelCreate flags) m k e s = absurd (none-some k s)
+makes_over connection priority n t (ConnectAttach chid) m k e s = absurd (none-some k s)
+makes_over connection priority n t (Receive chid buffer) m k e s = absurd (none-some k s)
+makes_over connection priority n t (Reply rcvid status bytes) m k e s = absurd (none-some k s)
+makes_over connection priority n t (Error rcvid code) m k e s = absurd (none-some k s)
+makes_over connection priority n t (Read rcvid offset buffer) m k e s = absurd (none-some k s)
+makes_over connection priority n t (Write rcvid offset bytes) m k e s = absurd (none-some k s)
+makes_over connection priority n t (Info rcvid) m k e s = absurd (none-some k s)
+makes_over connection priority n t (PrioritySet thread level) m k e s = absurd (none-some k s)
+makes_over connection priority n t (State thread) m k e s = absurd (none-some k s)
+makes_over connection priority n t (ReceivePulse chid) m k e s = absurd (none-some k s)
+makes_over connection priority n t (Pulse coid level code value) m k e s = subst (λ i. IsOver connection i m) (same_Some coid k s) (sent_is_over connection coid (pulse_item n level code value) m e)
+makes_over connection priority n t (Send coid message reply_buffer) m k e s =
+    subst (λ i. IsOver connection i m) (same_Some coid k s) (sent_is_over connection coid (message_item n (priority t)) m e)
+
+pub item_over : (roster : List Member) (past : Trace) (i k : ℕ) (m : Made) → item_at roster past i ≡ Some m → connection_of past i ≡ Some k → IsOver (connection_at roster past) k m
+item_over roster [] i k m is over = absurd (none-some m is)
+item_over roster (e ∷ past) i k m is over =
+    elim (eqb i (length past + 1)) as (λ b. cond b (item_of roster e past) (item_at roster past i) ≡ Some m
+    → option_and_then sends_over (cond b (Some e.call) (call_at past i)) ≡ Some k → IsOver (connection_at roster (e ∷ past)) k m) [
+      | true ↦ λ at by.
+          let w = makes_over (connection_at roster past) (priority_of_thread roster past) (length past + 1) e.thread e.call m k (made_accepted roster e past m at).1 by in
+          record { over = w.over; is = made_stays _ e past k w.over w.is; channel = w.channel }
+      | false ↦ λ at by.
+          let w = item_over roster past i k m at by in
+          record { over = w.over; is = made_stays _ e past k w.over w.is; channel = w.channel }
+    ] is over

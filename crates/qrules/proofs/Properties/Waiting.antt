@@ -1,0 +1,294 @@
+-- While a thread waits for an item of a channel, nothing that it may take is pending there.
+use Rattle.std.proofs.Common.{◌≡◌, ◌∙◌, ℕ, List, [], ◌∷◌, ◌++◌, refl, ap, sym, subst, cond, eqb, Bool, true, false, inl, inr}
+use Rattle.std.specs.Prelude.{Option, None, Some, is_some, not, filter}
+use Rattle.std.specs.List.{AllByRecursion}
+use Rattle.std.specs.Option.{option_map}
+use Rattle.std.proofs.lemmas.Bool.{eqb-true, eqb-false, not-true, true≢false}
+use Rattle.std.proofs.lemmas.Option.{none-some, same_Some, some_pair_parts}
+use Rattle.qbase.specs.Laying.{lay_over}
+use Rattle.qqueue.specs.Best.{best_of, may_take, without}
+use Rattle.qqueue.specs.declared.item.Item.{Item}
+use Rattle.qqueue.specs.declared.item.Kind.{Kind}
+use Rattle.qqueue.specs.declared.item.Kind.TheVariants.{Any, PulseOnly}
+use Rattle.qtables.specs.Members.{IsRoster}
+use Rattle.qtables.specs.declared.member.Member.{Member}
+use Rattle.qrules.specs.Answer.{row_of}
+use Rattle.qrules.specs.Calls.Send.{item}
+use Rattle.qrules.specs.Delivering.{receiver, received_of}
+use Rattle.qrules.specs.Receiving.{receipt_of}
+use Rattle.qrules.specs.Facts.{Facts, sender, threads_of, way}
+use Rattle.qrules.specs.Headline.BestFirst.{receives_on}
+use Rattle.qrules.specs.Lawful.{facts_of, IsLawful}
+use Rattle.qrules.specs.Past.{held_with}
+use Rattle.qrules.specs.Receivers.{newest}
+use Rattle.qrules.specs.Rows.{Made, Received, Written, asks, makes, pulse_item, sent_over, takes, taking, with_buffer, writes}
+use Rattle.qrules.specs.Step.{after_receipt, after_write, held_call, is_thread, made_on, open_call_after, pending_after, taken_out, unless, written_call}
+use Rattle.qrules.specs.Trace.{Trace}
+use Rattle.qrules.specs.declared.call.Call.{Call}
+use Rattle.qrules.specs.declared.call.Call.TheVariants.{ChannelCreate, ConnectAttach, Send, Receive, Reply, Error, Read, Write, Info, ReceivePulse, Pulse, PrioritySet, State}
+use Rattle.qrules.specs.declared.open_call.OpenCall.{OpenCall}
+use Rattle.qrules.specs.declared.open_call.Receipt.{Receipt}
+use Rattle.qrules.specs.declared.open_call.Wait.{Wait}
+use Rattle.qrules.specs.declared.open_call.Wait.TheVariants.{Answer, Item as ForItem}
+use Rattle.qrules.proofs.Calls.Taking.{given_received, receipt_from, receipt_in_at}
+use Rattle.qrules.proofs.Past.Best.{none_may}
+use Rattle.qrules.proofs.Past.Ends.{known, open_known, passes_of}
+use Rattle.qrules.proofs.Past.Follows.{past_follows}
+use Rattle.qrules.proofs.Past.Laws.{Passes}
+use Rattle.qrules.proofs.Past.Lists.{all_append, all_more, is_among, none_of}
+use Rattle.qrules.proofs.Properties.Receipts.{waits_for}
+use Rattle.qrules.proofs.Properties.Receivers.{WaitsOn, newest_some, newest_waits}
+use Rattle.qrules.proofs.Properties.Rows.Delivering.{has_way, pulse_way, way_leads}
+
+-- ---- what a thread waits for
+
+waits_for_is : (w : Wait) (h : ℕ) (kind : Kind) → waits_for w ≡ Some (h, kind) → (buffer : List ℕ) × (w ≡ ForItem h kind buffer)
+waits_for_is (Answer coid message reply_buffer receipt) h kind e = absurd (none-some (h, kind) e)
+waits_for_is (ForItem chid taken buffer) h kind e = let p = some_pair_parts chid h taken kind e in (buffer, ap (λ c. ForItem c taken buffer) p.0 ∙ ap (λ k. ForItem h k buffer) p.1)
+
+-- a receipt changes nothing of it
+pub held_waits_for : (receipt : Receipt) (w : Wait) → waits_for (held_with receipt w) ≡ waits_for w
+held_waits_for receipt (Answer coid message reply_buffer before) = refl
+held_waits_for receipt (ForItem chid kind buffer) = refl
+
+pub buffer_waits_for : (f : List ℕ → List ℕ) (w : Wait) → waits_for (with_buffer f w) ≡ waits_for w
+buffer_waits_for f (Answer coid message reply_buffer receipt) = refl
+buffer_waits_for f (ForItem chid kind buffer) = refl
+
+-- a call waits for what it receives on
+pub waits_for_asked : (n : ℕ) (c : Call) (b : OpenCall) → asks n c ≡ Some b → receives_on c ≡ waits_for b.wait
+waits_for_asked n (ChannelCreate flags) b e = absurd (none-some b e)
+waits_for_asked n (ConnectAttach chid) b e = absurd (none-some b e)
+waits_for_asked n (Reply rcvid status bytes) b e = absurd (none-some b e)
+waits_for_asked n (Error rcvid code) b e = absurd (none-some b e)
+waits_for_asked n (Read rcvid offset buffer) b e = absurd (none-some b e)
+waits_for_asked n (Write rcvid offset bytes) b e = absurd (none-some b e)
+waits_for_asked n (Info rcvid) b e = absurd (none-some b e)
+waits_for_asked n (PrioritySet thread level) b e = absurd (none-some b e)
+waits_for_asked n (State thread) b e = absurd (none-some b e)
+waits_for_asked n (Send coid message reply_buffer) b e = ap (λ o. waits_for o.wait) (same_Some _ b e)
+waits_for_asked n (Receive chid buffer) b e = ap (λ o. waits_for o.wait) (same_Some _ b e)
+waits_for_asked n (ReceivePulse chid) b e = ap (λ o. waits_for o.wait) (same_Some _ b e)
+waits_for_asked n (Pulse coid level code value) b e = absurd (none-some b e)
+
+-- ---- by each call's row
+
+-- a call that begins to wait for an item finds none, and makes none
+abbrev BeginsWithNone : Facts → ℕ → Call → ℕ × Kind → Type 0
+BeginsWithNone f t c p = (best_of p.1 (f.pending p.0) ≡ None) × (makes f.connection f.priority f.number t c ≡ None)
+
+none_to_take : (f : Facts) (t : ℕ) (buffer : List ℕ) (o : Option Item) → receipt_of f t buffer o ≡ None → o ≡ None
+none_to_take f t buffer None e = refl
+none_to_take f t buffer (Some item) e = absurd (none-some _ (sym e))
+
+begins_with_none : (f : Facts) (t : ℕ) (c : Call) (b : OpenCall) (p : ℕ × Kind) → asks f.number c ≡ Some b → waits_for b.wait ≡ Some p → (row_of f t c).own ≡ None → BeginsWithNone f t c p
+begins_with_none f t (ChannelCreate flags) b p e w own = absurd (none-some b e)
+begins_with_none f t (ConnectAttach chid) b p e w own = absurd (none-some b e)
+begins_with_none f t (Reply rcvid status bytes) b p e w own = absurd (none-some b e)
+begins_with_none f t (Error rcvid code) b p e w own = absurd (none-some b e)
+begins_with_none f t (Read rcvid offset buffer) b p e w own = absurd (none-some b e)
+begins_with_none f t (Write rcvid offset bytes) b p e w own = absurd (none-some b e)
+begins_with_none f t (Info rcvid) b p e w own = absurd (none-some b e)
+begins_with_none f t (PrioritySet thread level) b p e w own = absurd (none-some b e)
+begins_with_none f t (State thread) b p e w own = absurd (none-some b e)
+begins_with_none f t (Send coid message reply_buffer) b p e w own = absurd (none-some p (ap (λ o. waits_for o.wait) (same_Some _ b e) ∙ w))
+begins_with_none f t (Pulse coid level code value) b p e w own = absurd (none-some b e)
+begins_with_none f t (Receive chid buffer) b p e w own =
+    subst (BeginsWithNone f t (Receive chid buffer)) (same_Some (chid, Any) p (ap (λ o. waits_for o.wait) (same_Some _ b e) ∙ w)) (none_to_take f t buffer (best_of Any (f.pending chid)) own, refl)
+begins_with_none f t (ReceivePulse chid) b p e w own =
+    subst (BeginsWithNone f t (ReceivePulse chid)) (same_Some (chid, PulseOnly) p (ap (λ o. waits_for o.wait) (same_Some _ b e) ∙ w)) (none_to_take f t [] (best_of PulseOnly (f.pending chid)) own, refl)
+
+-- an item that a thread waits for is received at once
+pub record IsReceivedAtOnce (f : Facts) (t : ℕ) (c : Call) (m : Made) : Type 0 where
+  pub receipt : Received
+  pub is : (row_of f t c).receipt ≡ Some receipt
+  pub channel : receipt.channel ≡ m.channel
+  pub item : receipt.item ≡ m.item.number
+
+some_of : {A : Type 0} (o : Option A) → is_some o ≡ true → (x : A) × (o ≡ Some x)
+some_of None e = absurd (true≢false (sym e))
+some_of (Some x) e = (x, refl)
+
+-- the receipt of an item by the newest receiver
+delivered_receipt : (f : Facts) (sender : Option ℕ) (item : Item) (message : List ℕ) (w : Option ℕ) (h r : ℕ) (v : WaitsOn h item (f.open_call r)) → w ≡ Some h → newest f h item ≡ Some r
+    → received_of f sender item message w (receiver f item w) ≡ Some (receipt_from h sender item.priority r (item.number, (given_received item message v.buffer).0))
+delivered_receipt f sender item message w h r v is_way is_newest =
+    let takes_it : takes item message r (f.open_call r) ≡ Some (taking item message r v.waiting.number v.buffer) = rw (v.is_open, v.waits) refl in
+    ap (λ o. received_of f sender item message o (receiver f item o)) is_way ∙ ap (received_of f sender item message (Some h)) is_newest
+    ∙ receipt_in_at h sender item.priority (takes item message r (f.open_call r)) (taking item message r v.waiting.number v.buffer) (item.number, (given_received item message v.buffer).0) takes_it (given_received item message v.buffer).1
+
+delivered_at_once : (f : Facts) (t coid : ℕ) (c : Call) (item : Item) (message : List ℕ) (sender : Option ℕ) (m : Made) (u : ℕ) (o : OpenCall) (kind : Kind) → (h : ℕ) → way f t coid ≡ Some h
+    → (row_of f t c).receipt ≡ received_of f sender item message (way f t coid) (receiver f item (way f t coid)) → sent_over (f.connection coid) item ≡ Some m → is_among (threads_of f.roster) u ≡ true → f.open_call u ≡ Some o
+    → waits_for o.wait ≡ Some (m.channel, kind) → may_take kind m.item ≡ true → IsReceivedAtOnce f t c m
+delivered_at_once f t coid c item message sender m u o kind h is_way receipt made among is waits may =
+    let l = way_leads f t coid h is_way in
+    let same : record { item = item; channel = l.connection.channel } ≡ m = same_Some _ m (ap (λ x. sent_over x item) (sym l.is) ∙ made) in
+    let there : h ≡ m.channel = sym l.channel ∙ ap (λ (x : Made). x.channel) same in
+    let it : m.item ≡ item = ap (λ (x : Made). x.item) (sym same) in
+    let w = waits_for_is o.wait m.channel kind waits in
+    let on : WaitsOn h item (f.open_call u) = record { waiting = o; kind = kind; buffer = w.0; is_open = is; waits = w.1 ∙ ap (λ k. ForItem k kind w.0) (sym there); may = ap (may_take kind) (sym it) ∙ may } in
+    let r = some_of (newest f h item) (newest_some f h item u among on) in
+    let v = newest_waits f h item r.0 r.1 in
+    record {
+      receipt = receipt_from h sender item.priority r.0 (item.number, (given_received item message v.buffer).0);
+      is = receipt ∙ delivered_receipt f sender item message (way f t coid) h r.0 v is_way r.1;
+      channel = there;
+      item = ap (λ x. x.number) (sym it);
+    }
+
+received_at_once : (f : Facts) (t : ℕ) (c : Call) (m : Made) (u : ℕ) (o : OpenCall) (kind : Kind) → Passes f t c → makes f.connection f.priority f.number t c ≡ Some m
+    → is_among (threads_of f.roster) u ≡ true → f.open_call u ≡ Some o → waits_for o.wait ≡ Some (m.channel, kind) → may_take kind m.item ≡ true → IsReceivedAtOnce f t c m
+received_at_once f t (ChannelCreate flags) m u o kind p made among is waits may = absurd (none-some m made)
+received_at_once f t (ConnectAttach chid) m u o kind p made among is waits may = absurd (none-some m made)
+received_at_once f t (Receive chid buffer) m u o kind p made among is waits may = absurd (none-some m made)
+received_at_once f t (Reply rcvid status bytes) m u o kind p made among is waits may = absurd (none-some m made)
+received_at_once f t (Error rcvid code) m u o kind p made among is waits may = absurd (none-some m made)
+received_at_once f t (Read rcvid offset buffer) m u o kind p made among is waits may = absurd (none-some m made)
+received_at_once f t (Write rcvid offset bytes) m u o kind p made among is waits may = absurd (none-some m made)
+received_at_once f t (Info rcvid) m u o kind p made among is waits may = absurd (none-some m made)
+received_at_once f t (PrioritySet thread level) m u o kind p made among is waits may = absurd (none-some m made)
+received_at_once f t (State thread) m u o kind p made among is waits may = absurd (none-some m made)
+received_at_once f t (ReceivePulse chid) m u o kind p made among is waits may = absurd (none-some m made)
+received_at_once f t (Send coid message reply_buffer) m u o kind p made among is waits may =
+    let h = has_way f t coid p.row in delivered_at_once f t coid (Send coid message reply_buffer) (item f t) message (Some t) m u o kind h.0 h.1 refl made among is waits may
+received_at_once f t (Pulse coid level code value) m u o kind p made among is waits may =
+    let h = pulse_way f t coid code p.row in
+    delivered_at_once f t coid (Pulse coid level code value) (pulse_item f.number level code value) [] None m u o kind h.0 h.1 refl made among is waits may
+
+-- ---- lists of items
+
+all_kept_by : (P : Item → Type 0) (p : Item → Bool) (items : List Item) → AllByRecursion (λ w. p w ≡ true → P w) items → AllByRecursion P (filter p items)
+all_kept_by P p [] all = tt
+all_kept_by P p (x ∷ items) all =
+    elim (p x) as (λ b. (b ≡ true → P x) → AllByRecursion P (cond b (x ∷ filter p items) (filter p items))) [
+      | true ↦ λ h. (h refl, all_kept_by P p items all.1)
+      | false ↦ λ h. all_kept_by P p items all.1
+    ] all.0
+
+-- what is so of each that isn't taken out is so of what is left
+all_left : (P : Item → Type 0) (o : Option Received) (h : ℕ) (items : List Item)
+    → AllByRecursion (λ w. ((r : Received) → o ≡ Some r → r.channel ≡ h → eqb w.number r.item ≡ false) → P w) items → AllByRecursion P (taken_out o h items)
+all_left P None h items all = all_more (λ w. ((r : Received) → None ≡ Some r → r.channel ≡ h → eqb w.number r.item ≡ false) → P w) P items all (λ w k. k (λ r none. absurd (none-some r none)))
+all_left P (Some r) h items all =
+    elim (eqb r.channel h) as (λ b. eqb r.channel h ≡ b → AllByRecursion P (cond b (without r.item items) items)) [
+      | true ↦ λ same. all_kept_by P (λ w. not (eqb w.number r.item)) items
+          (all_more (λ w. ((q : Received) → Some r ≡ Some q → q.channel ≡ h → eqb w.number q.item ≡ false) → P w) (λ w. not (eqb w.number r.item) ≡ true → P w) items all
+          (λ w k left. k (λ q is on. subst (λ (x : Received). eqb w.number x.item ≡ false) (same_Some r q is) (not-true (eqb w.number r.item) left))))
+      | false ↦ λ other. all_more (λ w. ((q : Received) → Some r ≡ Some q → q.channel ≡ h → eqb w.number q.item ≡ false) → P w) P items all
+          (λ w k. k (λ q is on. absurd (eqb-false r.channel h other (ap (λ (x : Received). x.channel) (same_Some r q is) ∙ on))))
+    ] refl
+
+-- ---- after one more event
+
+-- nothing that a waiting thread may take is pending
+abbrev pub NothingFor : Facts → Type 0
+NothingFor f = (u : ℕ) (o : OpenCall) (h : ℕ) (kind : Kind) → f.open_call u ≡ Some o → waits_for o.wait ≡ Some (h, kind) → AllByRecursion (λ w. may_take kind w ≡ false) (f.pending h)
+
+-- a receipt changes nothing of what is waited for
+record IsBefore (before : Option OpenCall) (o : OpenCall) : Type 0 where
+  call : OpenCall
+  is : before ≡ Some call
+  same : waits_for call.wait ≡ waits_for o.wait
+
+before_receipt : (r : Option Received) (u : ℕ) (before : Option OpenCall) (o : OpenCall) → after_receipt r u before ≡ Some o → IsBefore before o
+before_receipt None u before o e = record { call = o; is = e; same = refl }
+before_receipt (Some r) u before o e =
+    elim (is_thread r.sender u) as (λ b. cond b (option_map (held_call r.kept) before) before ≡ Some o → IsBefore before o) [
+      | true ↦ elim (before) as (λ x. option_map (held_call r.kept) x ≡ Some o → IsBefore x o) [
+        | None ↦ λ s. absurd (none-some o s)
+        | Some b ↦ λ s. record { call = b; is = refl; same = sym (held_waits_for r.kept b.wait) ∙ ap (λ (x : OpenCall). waits_for x.wait) (same_Some (held_call r.kept b) o s) }
+      ]
+      | false ↦ λ s. record { call = o; is = s; same = refl }
+    ] e
+
+-- and of the write
+before_write : (f : Facts) (w : Option Written) (u : ℕ) (before : Option OpenCall) (o : OpenCall) → after_write f w u before ≡ Some o → IsBefore before o
+before_write f None u before o e = record { call = o; is = e; same = refl }
+before_write f (Some w) u before o e =
+    elim (is_thread (sender f w.message) u) as (λ b. cond b (option_map (written_call w.offset w.bytes) before) before ≡ Some o → IsBefore before o) [
+      | true ↦ elim (before) as (λ x. option_map (written_call w.offset w.bytes) x ≡ Some o → IsBefore x o) [
+        | None ↦ λ s. absurd (none-some o s)
+        | Some b ↦ λ s. record {
+          call = b;
+          is = refl;
+          same = sym (buffer_waits_for (λ d. lay_over d w.offset w.bytes) b.wait) ∙ ap (λ (x : OpenCall). waits_for x.wait) (same_Some (written_call w.offset w.bytes b) o s);
+        }
+      ]
+      | false ↦ λ s. record { call = o; is = s; same = refl }
+    ] e
+
+unless_is : (b : Bool) (before : Option OpenCall) (o : OpenCall) → unless b before ≡ Some o → (b ≡ false) × (before ≡ Some o)
+unless_is true before o e = absurd (none-some o e)
+unless_is false before o e = (refl, e)
+
+-- the caller begins to wait: nothing was pending, and nothing is made
+caller_finds_none : (f : Facts) (t : ℕ) (c : Call) (o : OpenCall) (h : ℕ) (kind : Kind) → unless (is_some (row_of f t c).own) (after_receipt (row_of f t c).receipt t (asks f.number c)) ≡ Some o
+    → waits_for o.wait ≡ Some (h, kind) → AllByRecursion (λ w. may_take kind w ≡ false) (pending_after f t c h)
+caller_finds_none f t c o h kind is waits =
+    let x = unless_is (is_some (row_of f t c).own) (after_receipt (row_of f t c).receipt t (asks f.number c)) o is in
+    let b = before_receipt (row_of f t c).receipt t (asks f.number c) o x.1 in
+    let k = begins_with_none f t c b.call (h, kind) b.is (b.same ∙ waits) (none_of (row_of f t c).own x.0) in
+    let P = λ (w : Item). may_take kind w ≡ false in
+    let none : AllByRecursion (λ (w : Item). may_take kind w ≡ false) (f.pending h) = none_may kind (f.pending h) k.0 in
+    rw (k.1) (all_left P (row_of f t c).receipt h (f.pending h ++ [])
+    (all_append (λ w. ((r : Received) → (row_of f t c).receipt ≡ Some r → r.channel ≡ h → eqb w.number r.item ≡ false) → P w) (f.pending h) []
+    (all_more P (λ w. ((r : Received) → (row_of f t c).receipt ≡ Some r → r.channel ≡ h → eqb w.number r.item ≡ false) → P w) (f.pending h) none (λ w m _. m)) tt))
+
+-- another thread that waits on: what it may take is received at once
+other_finds_none : (f : Facts) (t : ℕ) (c : Call) (u : ℕ) (o : OpenCall) (h : ℕ) (kind : Kind) → Passes f t c → NothingFor f → is_among (threads_of f.roster) u ≡ true → f.open_call u ≡ Some o
+    → waits_for o.wait ≡ Some (h, kind) → AllByRecursion (λ w. may_take kind w ≡ false) (pending_after f t c h)
+other_finds_none f t c u o h kind p nothing among is waits =
+    let P = λ (w : Item). may_take kind w ≡ false in
+    let Q = λ (w : Item). ((r : Received) → (row_of f t c).receipt ≡ Some r → r.channel ≡ h → eqb w.number r.item ≡ false) → may_take kind w ≡ false in
+    all_left P (row_of f t c).receipt h (f.pending h ++ made_on h (makes f.connection f.priority f.number t c))
+    (all_append Q (f.pending h) (made_on h (makes f.connection f.priority f.number t c))
+    (all_more P Q (f.pending h) (nothing u o h kind is waits) (λ w m _. m))
+    (elim (makes f.connection f.priority f.number t c) as (λ x. makes f.connection f.priority f.number t c ≡ x → AllByRecursion Q (made_on h x)) [
+      | None ↦ λ none. tt
+      | Some m ↦ λ made.
+          elim (eqb m.channel h) as (λ b. eqb m.channel h ≡ b → AllByRecursion Q (cond b (m.item ∷ []) [])) [
+            | true ↦ λ on. (
+              (λ left.
+                  elim (may_take kind m.item) as (λ b. may_take kind m.item ≡ b → b ≡ false) [
+                    | true ↦ λ may.
+                        let there : m.channel ≡ h = eqb-true m.channel h on in
+                        let r = received_at_once f t c m u o kind p made among is (waits ∙ ap (λ k. Some (k, kind)) (sym there)) may in
+                        absurd (eqb-false m.item.number r.receipt.item (left r.receipt r.is (r.channel ∙ there)) (sym r.item))
+                    | false ↦ λ may. refl
+                  ] refl),
+              tt,
+            )
+            | false ↦ λ off. tt
+          ] refl
+    ] refl))
+
+nothing_after : (f : Facts) (t : ℕ) (c : Call) → Passes f t c → NothingFor f → ((u : ℕ) (o : OpenCall) → f.open_call u ≡ Some o → is_among (threads_of f.roster) u ≡ true)
+    → (u : ℕ) (o : OpenCall) (h : ℕ) (kind : Kind) → open_call_after f t c u ≡ Some o → waits_for o.wait ≡ Some (h, kind) → AllByRecursion (λ w. may_take kind w ≡ false) (pending_after f t c h)
+nothing_after f t c p nothing among u o h kind is waits =
+    elim (eqb u t) as (λ b. eqb u t ≡ b
+    → cond b (unless (is_some (row_of f t c).own) (after_receipt (row_of f t c).receipt u (asks f.number c))) (unless (is_some ((row_of f t c).ends u)) (after_receipt (row_of f t c).receipt u (after_write f (writes c) u (f.open_call u)))) ≡ Some o
+    → AllByRecursion (λ w. may_take kind w ≡ false) (pending_after f t c h)) [
+      | true ↦ λ same e.
+          caller_finds_none f t c o h kind
+          (subst (λ v. unless (is_some (row_of f t c).own) (after_receipt (row_of f t c).receipt v (asks f.number c)) ≡ Some o) (eqb-true u t same) e) waits
+      | false ↦ λ other e.
+          let x = unless_is (is_some ((row_of f t c).ends u)) (after_receipt (row_of f t c).receipt u (after_write f (writes c) u (f.open_call u))) o e in
+          let b = before_receipt (row_of f t c).receipt u (after_write f (writes c) u (f.open_call u)) o x.1 in
+          let d = before_write f (writes c) u (f.open_call u) b.call b.is in
+          other_finds_none f t c u d.call h kind p nothing (among u d.call d.is) d.is (d.same ∙ b.same ∙ waits)
+    ] refl is
+
+pub nothing_for : (roster : List Member) (past : Trace) → IsRoster roster → IsLawful roster past → NothingFor (facts_of roster past)
+nothing_for roster [] r l u o h kind is waits = absurd (none-some o is)
+nothing_for roster (e ∷ past) r l u o h kind is waits =
+    let f = facts_of roster past in
+    elim (l.2) as (λ _. AllByRecursion (λ w. may_take kind w ≡ false) ((facts_of roster (e ∷ past)).pending h)) [
+      | inl a ↦
+          let k = past_follows true roster past e.thread e.call e.endings r l.0 l.1 a in
+          subst (AllByRecursion (λ w. may_take kind w ≡ false)) (sym (k.pending h))
+          (nothing_after (facts_of roster past) e.thread e.call (passes_of (facts_of roster past) e.thread e.call e.endings a) (nothing_for roster past r l.0)
+          (λ v x open_v. known roster v (open_known roster past v x l.0 open_v)) u o h kind (sym (k.open_call u) ∙ is) waits)
+      | inr a ↦
+          let k = past_follows false roster past e.thread e.call e.endings r l.0 l.1 a in
+          subst (AllByRecursion (λ w. may_take kind w ≡ false)) (sym (k.pending h)) (nothing_for roster past r l.0 u o h kind (sym (k.open_call u) ∙ is) waits)
+    ]

@@ -1,0 +1,21 @@
+-- ConnectAttach: a connection of the caller's process to an open channel.
+use Rattle.std.specs.Prelude.{ℕ, ◌==◌, is_some, true, [], Option, None, Some, if◌then◌else◌}
+use Rattle.qbase.specs.declared.errno.Errno.{Errno}
+use Rattle.qbase.specs.declared.errno.Errno.TheVariants.{Srch, Again}
+use Rattle.qrules.specs.declared.call.Mark.TheVariants as mark
+use Rattle.qrules.specs.Facts.{Facts}
+use Rattle.qrules.specs.Rows.{Row, ends_none}
+
+-- no such channel, and then 1,024 live connections
+abbrev pub refusal : Facts → ℕ → Option Errno
+refusal f chid = if is_some (f.channel chid) then (if f.live_connections == 1024 then Some Again else None) else Some Srch
+
+-- its id is its number
+abbrev pub row : Facts → ℕ → ℕ → Row
+row f t chid = record {
+  refusal = refusal f chid;
+  takes_memory = true;
+  own = Some (record { call = f.number; thread = t; mark = mark.Connection f.number; buffer = [] });
+  ends = ends_none;
+  receipt = None;
+}

@@ -1,0 +1,26 @@
+-- Error: an answer without bytes.
+use Rattle.std.specs.Prelude.{ℕ, ℤ, pos, false, [], None, Some, if◌then◌else◌}
+use Rattle.std.specs.Ordering.{int_eq}
+use Rattle.qrules.specs.declared.call.Mark.{Mark}
+use Rattle.qrules.specs.declared.call.Mark.TheVariants as mark
+use Rattle.qrules.specs.Facts.{Facts, sender}
+use Rattle.qrules.specs.Held.{Finish, ends_sender, refusal}
+use Rattle.qrules.specs.Rows.{Row}
+
+-- the code 0 is a reply of status 0 with no bytes
+abbrev pub mark_of : ℤ → Mark
+mark_of code = if int_eq code (pos 0) then mark.Replied (pos 0) 0 else mark.Errored code
+
+-- the buffer stays as it is
+abbrev pub errored : ℤ → Finish
+errored code buffer = (mark_of code, buffer)
+
+-- it never blocks
+abbrev pub row : Facts → ℕ → ℕ → ℤ → Row
+row f t rcvid code = record {
+  refusal = refusal f t rcvid;
+  takes_memory = false;
+  own = Some (record { call = f.number; thread = t; mark = mark.Ok; buffer = [] });
+  ends = ends_sender f (errored code) (sender f rcvid);
+  receipt = None;
+}

@@ -1,0 +1,22 @@
+-- Read: bytes of a held message, from an offset on.
+use Rattle.std.specs.Prelude.{ℕ, false, List, drop, None, Some}
+use Rattle.qbase.specs.Laying.{laid_count, lay_over}
+use Rattle.qrules.specs.declared.call.Mark.TheVariants as mark
+use Rattle.qrules.specs.Facts.{Facts, message}
+use Rattle.qrules.specs.Held.{refusal}
+use Rattle.qrules.specs.Rows.{Row, ends_none}
+
+-- what stands in the message from the offset on, over the front of the buffer
+abbrev pub row : Facts → ℕ → ℕ → ℕ → List ℕ → Row
+row f t rcvid offset buffer = record {
+  refusal = refusal f t rcvid;
+  takes_memory = false;
+  own = Some (record {
+    call = f.number;
+    thread = t;
+    mark = mark.Count (laid_count buffer 0 (drop offset (message f rcvid)));
+    buffer = lay_over buffer 0 (drop offset (message f rcvid));
+  });
+  ends = ends_none;
+  receipt = None;
+}

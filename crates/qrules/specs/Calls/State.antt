@@ -1,0 +1,23 @@
+-- State: a thread's state and priority.
+use Rattle.std.specs.Prelude.{ℕ, [], Option, None, Some, false, is_some, if◌then◌else◌}
+use Rattle.qbase.specs.declared.errno.Errno.{Errno}
+use Rattle.qbase.specs.declared.errno.Errno.TheVariants.{Srch}
+use Rattle.qtables.specs.Members.{member_at}
+use Rattle.qrules.specs.declared.call.Mark.TheVariants as mark
+use Rattle.qrules.specs.Facts.{Facts}
+use Rattle.qrules.specs.ThreadStates.{state_in}
+use Rattle.qrules.specs.Rows.{Row, ends_none}
+
+-- a thread that the roster hasn't
+abbrev pub refusal : Facts → ℕ → Option Errno
+refusal f thread = if is_some (member_at f.roster thread) then None else Some Srch
+
+-- any thread may ask for any
+abbrev pub row : Facts → ℕ → ℕ → Row
+row f t thread = record {
+  refusal = refusal f thread;
+  takes_memory = false;
+  own = Some (record { call = f.number; thread = t; mark = mark.State (state_in f.connection (f.open_call thread)) (f.priority thread); buffer = [] });
+  ends = ends_none;
+  receipt = None;
+}

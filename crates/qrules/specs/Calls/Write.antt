@@ -1,0 +1,17 @@
+-- Write: bytes over the reply buffer of a held message's sender, from an offset on.
+use Rattle.std.specs.Prelude.{ℕ, false, List, [], None, Some}
+use Rattle.qbase.specs.Laying.{laid_count}
+use Rattle.qrules.specs.declared.call.Mark.TheVariants as mark
+use Rattle.qrules.specs.Facts.{Facts}
+use Rattle.qrules.specs.Held.{refusal, reply_buffer}
+use Rattle.qrules.specs.Rows.{Row, ends_none}
+
+-- how many bytes found room; what was written is read off the past calls
+abbrev pub row : Facts → ℕ → ℕ → ℕ → List ℕ → Row
+row f t rcvid offset bytes = record {
+  refusal = refusal f t rcvid;
+  takes_memory = false;
+  own = Some (record { call = f.number; thread = t; mark = mark.Count (laid_count (reply_buffer f rcvid) offset bytes); buffer = [] });
+  ends = ends_none;
+  receipt = None;
+}

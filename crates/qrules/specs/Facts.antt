@@ -1,0 +1,104 @@
+-- What may be read of the past as a call is answered.
+use Rattle.std.specs.Prelude.{ℕ, ◌==◌, ◌&&◌, Bool, true, false, is_some, List, [], ◌∷◌, map, Option, None, Some, if◌then◌else◌, bit_and}
+use Rattle.std.specs.Option.{option_and_then}
+use Rattle.qbase.specs.declared.flags.ChannelFlags.{ChannelFlags}
+use Rattle.qqueue.specs.declared.item.Item.{Item}
+use Rattle.qtables.specs.declared.connection.Connection.{Connection}
+use Rattle.qtables.specs.declared.member.Member.{Member}
+use Rattle.qtables.specs.Members.{member_at}
+use Rattle.qrules.specs.declared.open_call.OpenCall.{OpenCall}
+use Rattle.qrules.specs.declared.open_call.Wait.{Wait}
+use Rattle.qrules.specs.declared.open_call.Wait.TheVariants.{Answer, Item as ForItem}
+
+-- an open channel: the process that owns it, and its flags
+pub record OpenChannel : Type 0 where
+  pub owner : ℕ
+  pub flags : ChannelFlags
+
+-- the threads, the number of the call that is answered, each open channel and how many there are, each live connection and how many
+-- there are, each thread's open call, what waits on each channel in rising number, and each thread's priority
+pub record Facts : Type 0 where
+  pub roster : List Member
+  pub number : ℕ
+  pub channel : ℕ → Option OpenChannel
+  pub open_channels : ℕ
+  pub connection : ℕ → Option Connection
+  pub live_connections : ℕ
+  pub open_call : ℕ → Option OpenCall
+  pub pending : ℕ → List Item
+  pub priority : ℕ → ℕ
+
+-- ---- threads and processes
+
+-- the threads of a roster, in rising number
+abbrev pub threads_of : List Member → List ℕ
+threads_of roster = map (λ m. m.thread) roster
+
+-- the member is of this process
+abbrev pub is_in_process : ℕ → Option Member → Bool
+is_in_process p None = false
+is_in_process p (Some m) = m.process == p
+
+-- the thread is one of this process
+abbrev pub is_of_process : Facts → ℕ → ℕ → Bool
+is_of_process f t p = is_in_process p (member_at f.roster t)
+
+-- ---- channels and connections
+
+-- this channel is of the thread's process
+abbrev pub is_owned_by : Facts → ℕ → Option OpenChannel → Bool
+is_owned_by f t None = false
+is_owned_by f t (Some c) = is_of_process f t c.owner
+
+-- the channel is open, and of the thread's process
+abbrev pub owns : Facts → ℕ → ℕ → Bool
+owns f t h = is_owned_by f t (f.channel h)
+
+-- the channel that this connection leads to, where the thread's process attached it and the channel is open
+abbrev pub leads_to : Facts → ℕ → Option Connection → Option ℕ
+leads_to f t None = None
+leads_to f t (Some c) = if is_of_process f t c.process && is_some (f.channel c.channel) then Some c.channel else None
+
+-- the channel that the thread may send to over connection k
+abbrev pub way : Facts → ℕ → ℕ → Option ℕ
+way f t k = leads_to f t (f.connection k)
+
+-- the channel leaves its receivers' priorities as they are
+abbrev pub is_fixed : Option OpenChannel → Bool
+is_fixed None = false
+is_fixed (Some c) = bit_and c.flags.0 1 == 1
+
+-- ---- messages
+
+-- the thread waits for an answer, and not for an item
+abbrev pub is_for_answer : Wait → Bool
+is_for_answer (Answer coid message reply_buffer receipt) = true
+is_for_answer (ForItem chid kind buffer) = false
+
+-- the open call is the Send of number i
+abbrev pub is_send : ℕ → Option OpenCall → Bool
+is_send i None = false
+is_send i (Some o) = (o.number == i) && is_for_answer o.wait
+
+-- the first of these threads whose open call is the Send of number i
+abbrev pub sender_among : (ℕ → Option OpenCall) → ℕ → List ℕ → Option ℕ
+sender_among open_call i [] = None
+sender_among open_call i (u ∷ threads) = if is_send i (open_call u) then Some u else sender_among open_call i threads
+
+-- the thread whose open call is the Send of number i
+abbrev pub sender : Facts → ℕ → Option ℕ
+sender f i = sender_among f.open_call i (threads_of f.roster)
+
+-- the message whose answer is waited for
+abbrev pub message_of : Wait → List ℕ
+message_of (Answer coid message reply_buffer receipt) = message
+message_of (ForItem chid kind buffer) = []
+
+-- the message of a Send that is open
+abbrev pub message_in : Option OpenCall → List ℕ
+message_in None = []
+message_in (Some o) = message_of o.wait
+
+-- the message that was sent as number i
+abbrev pub message : Facts → ℕ → List ℕ
+message f i = message_in (option_and_then f.open_call (sender f i))

@@ -1,0 +1,108 @@
+-- A message is answered at most once, by a call that may answer it, and to the thread that sent it.
+use Rattle.std.specs.Prelude.{◌≡◌, ℕ, ◌==◌, ◌&&◌, not, Bool, true, false, List, [], ◌∷◌, count_by, Option, None, Some, if◌then◌else◌}
+use Rattle.std.specs.List.{AllByRecursion}
+use Rattle.qtables.specs.declared.member.Member.{Member}
+use Rattle.qrules.specs.declared.call.Call.{Call}
+use Rattle.qrules.specs.declared.call.Call.TheVariants.{ChannelCreate, ConnectAttach, Send, Receive, Reply, Error, Read, Write, Info, ReceivePulse, Pulse, PrioritySet, State}
+use Rattle.qrules.specs.declared.call.Completion.{Completion}
+use Rattle.qrules.specs.declared.call.Mark.{Mark}
+use Rattle.qrules.specs.declared.call.Mark.TheVariants as mark
+use Rattle.qrules.specs.Facts.{owns}
+use Rattle.qrules.specs.Lawful.{facts_of}
+use Rattle.qrules.specs.Past.{is_accepted, is_ended, is_taken, items, made_at}
+use Rattle.qrules.specs.Rows.{Made}
+use Rattle.qrules.specs.Trace.{Event, Trace}
+
+-- message i is received, and its Send isn't ended
+abbrev pub is_held : Trace → ℕ → Bool
+is_held past i = is_taken past i && not (is_ended past i)
+
+-- the channel of the item of number i among these
+abbrev pub channel_among : List Made → ℕ → Option ℕ
+channel_among [] i = None
+channel_among (m ∷ made) i = if m.item.number == i then Some m.channel else channel_among made i
+
+-- the thread's process owns this channel
+abbrev pub owns_that : List Member → Trace → ℕ → Option ℕ → Bool
+owns_that roster past t None = false
+owns_that roster past t (Some h) = owns (facts_of roster past) t h
+
+-- the thread's process owns the channel of message i
+abbrev pub owns_channel_of : List Member → Trace → ℕ → ℕ → Bool
+owns_channel_of roster past t i = owns_that roster past t (channel_among (items roster past) i)
+
+-- the thread of a Send
+abbrev pub thread_of_send : ℕ → Call → Option ℕ
+thread_of_send t (Send coid message reply_buffer) = Some t
+thread_of_send t (ChannelCreate flags) = None
+thread_of_send t (ConnectAttach chid) = None
+thread_of_send t (Receive chid buffer) = None
+thread_of_send t (Reply rcvid status bytes) = None
+thread_of_send t (Error rcvid code) = None
+thread_of_send t (Read rcvid offset buffer) = None
+thread_of_send t (Write rcvid offset bytes) = None
+thread_of_send t (Info rcvid) = None
+thread_of_send t (ReceivePulse chid) = None
+thread_of_send t (Pulse coid priority code value) = None
+thread_of_send t (PrioritySet thread priority) = None
+thread_of_send t (State thread) = None
+
+-- the thread that sent message i
+abbrev pub sender_of : Trace → ℕ → Option ℕ
+sender_of past i = made_at (λ e. thread_of_send e.thread e.call) past i
+
+-- the message that a call answers
+abbrev pub answered_by : Call → Option ℕ
+answered_by (Reply rcvid status bytes) = Some rcvid
+answered_by (Error rcvid code) = Some rcvid
+answered_by (ChannelCreate flags) = None
+answered_by (ConnectAttach chid) = None
+answered_by (Send coid message reply_buffer) = None
+answered_by (Receive chid buffer) = None
+answered_by (Read rcvid offset buffer) = None
+answered_by (Write rcvid offset bytes) = None
+answered_by (Info rcvid) = None
+answered_by (ReceivePulse chid) = None
+answered_by (Pulse coid priority code value) = None
+answered_by (PrioritySet thread priority) = None
+answered_by (State thread) = None
+
+-- the mark is an answer
+abbrev pub is_answer : Mark → Bool
+is_answer (mark.Replied status copied) = true
+is_answer (mark.Errored code) = true
+is_answer mark.Ok = false
+is_answer (mark.Failed errno) = false
+is_answer (mark.Channel chid) = false
+is_answer (mark.Connection coid) = false
+is_answer (mark.Message rcvid copied) = false
+is_answer (mark.Count copied) = false
+is_answer (mark.Info info) = false
+is_answer (mark.Pulse item priority what) = false
+is_answer (mark.State state priority) = false
+
+-- the ending is an answer to the message that the event's call names: while it was held, by a thread of the process that owns its channel,
+-- and to its sender
+pub record AnswersIts (roster : List Member) (past : Trace) (e : Event) (x : Completion) : Type 0 where
+  pub named : answered_by e.call ≡ Some x.call
+  pub accepted : is_accepted e past ≡ true
+  pub held : is_held past x.call ≡ true
+  pub owner : owns_channel_of roster past e.thread x.call ≡ true
+  pub sender : sender_of past x.call ≡ Some x.thread
+
+-- each answer of an event is such an answer
+abbrev pub EachAnswersIts : List Member → Trace → Event → Type 0
+EachAnswersIts roster past e = AllByRecursion (λ x. is_answer x.mark ≡ true → AnswersIts roster past e x) e.endings
+
+-- how many of these endings answer message i
+abbrev pub answers_to : ℕ → List Completion → ℕ
+answers_to i endings = count_by (λ x. (x.call == i) && is_answer x.mark) endings
+
+-- an accepted call that answers a message has just one answer to it
+abbrev pub AnswersOnce : Trace → Event → Type 0
+AnswersOnce past e = (i : ℕ) → answered_by e.call ≡ Some i → is_accepted e past ≡ true → answers_to i e.endings ≡ 1
+
+-- so it is in each event
+abbrev pub AnsweredToSender : List Member → Trace → Type 0
+AnsweredToSender roster [] = Unit {0}
+AnsweredToSender roster (e ∷ past) = EachAnswersIts roster past e × AnswersOnce past e × AnsweredToSender roster past

@@ -1,0 +1,49 @@
+-- What was sent over one connection with one priority is received in the order in which it was sent.
+use Rattle.std.specs.Prelude.{◌≡◌, ℕ, ◌≤◌, List, [], ◌∷◌, Option, None, Some}
+use Rattle.std.specs.List.{AllByRecursion}
+use Rattle.std.specs.Option.{option_and_then}
+use Rattle.qtables.specs.declared.member.Member.{Member}
+use Rattle.qrules.specs.declared.call.Call.{Call}
+use Rattle.qrules.specs.declared.call.Call.TheVariants.{ChannelCreate, ConnectAttach, Send, Receive, Reply, Error, Read, Write, Info, ReceivePulse, Pulse, PrioritySet, State}
+use Rattle.qrules.specs.declared.call.Completion.{Completion}
+use Rattle.qrules.specs.Headline.BestFirst.{takeable}
+use Rattle.qrules.specs.Headline.CopiedExactly.{call_at}
+use Rattle.qrules.specs.Headline.ReceivedOnce.{item_received}
+use Rattle.qrules.specs.Past.{priority_of_item}
+use Rattle.qrules.specs.Trace.{Event, Trace}
+
+-- the connection that a call sends over
+abbrev pub sends_over : Call → Option ℕ
+sends_over (Send coid message reply_buffer) = Some coid
+sends_over (ChannelCreate flags) = None
+sends_over (ConnectAttach chid) = None
+sends_over (Receive chid buffer) = None
+sends_over (Reply rcvid status bytes) = None
+sends_over (Error rcvid code) = None
+sends_over (Read rcvid offset buffer) = None
+sends_over (Write rcvid offset bytes) = None
+sends_over (Info rcvid) = None
+sends_over (ReceivePulse chid) = None
+sends_over (Pulse coid priority code value) = Some coid
+sends_over (PrioritySet thread priority) = None
+sends_over (State thread) = None
+
+-- the connection over which item i was sent
+abbrev pub connection_of : Trace → ℕ → Option ℕ
+connection_of past i = option_and_then sends_over (call_at past i)
+
+-- of all that could be taken from channel h, what was sent over connection k with the priority of item j isn't earlier than j
+abbrev pub NoneSentEarlier : List Member → Trace → Event → ℕ → ℕ → ℕ → Type 0
+NoneSentEarlier roster past e k j h = AllByRecursion
+    (λ item. connection_of (e ∷ past) item.number ≡ Some k → item.priority ≡ priority_of_item roster (e ∷ past) j → j ≤ item.number)
+    (takeable roster past e h)
+
+-- the ending is one of a Receive, which takes messages and pulses
+abbrev pub IsPlainReceive : Trace → Completion → Type 0
+IsPlainReceive past x = (chid : ℕ) × (buffer : List ℕ) × (call_at past x.call ≡ Some (Receive chid buffer))
+
+-- so it is with each receipt by a Receive, of each event, of an item that was sent over a connection, on every channel
+abbrev pub SentOrder : List Member → Trace → Type 0
+SentOrder roster [] = Unit {0}
+SentOrder roster (e ∷ past) =
+    AllByRecursion (λ x. (j k h : ℕ) → IsPlainReceive (e ∷ past) x → item_received x ≡ Some j → connection_of (e ∷ past) j ≡ Some k → NoneSentEarlier roster past e k j h) e.endings × SentOrder roster past

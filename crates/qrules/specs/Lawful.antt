@@ -1,0 +1,38 @@
+-- Lawful traces: each event's endings answer the events before it.
+use Rattle.std.specs.Prelude.{ℕ, ◌+◌, is_some, IsTrue, List, [], ◌∷◌, length}
+use Rattle.qtables.specs.Members.{member_at}
+use Rattle.qtables.specs.declared.member.Member.{Member}
+use Rattle.qrules.specs.declared.call.Call.{Call}
+use Rattle.qrules.specs.declared.call.Completion.{Completion}
+use Rattle.qrules.specs.Answer.{Answers}
+use Rattle.qrules.specs.Facts.{Facts}
+use Rattle.qrules.specs.Past.{channel_at, open_channels, connection_at, live_connections, open_call, pending, priority_of_thread}
+use Rattle.qrules.specs.Trace.{Event, Trace}
+
+-- all that a row may read, searched for in the past
+abbrev pub facts_of : List Member → Trace → Facts
+facts_of roster past = record {
+  roster = roster;
+  number = length past + 1;
+  channel = λ h. channel_at roster past h;
+  open_channels = open_channels roster past;
+  connection = λ k. connection_at roster past k;
+  live_connections = live_connections roster past;
+  open_call = λ t. open_call roster past t;
+  pending = λ h. pending roster past h;
+  priority = λ t. priority_of_thread roster past t;
+}
+
+-- each event is a call of a thread of the roster, and its endings answer the events before it
+abbrev pub IsLawful : List Member → Trace → Type 0
+IsLawful roster [] = Unit {0}
+IsLawful roster (e ∷ past) = IsLawful roster past × IsTrue (is_some (member_at roster e.thread)) × Answers (facts_of roster past) e.thread e.call e.endings
+
+-- the past followed by events, of which the oldest stands first
+abbrev pub followed_by : Trace → List Event → Trace
+followed_by past [] = past
+followed_by past (e ∷ events) = followed_by (e ∷ past) events
+
+-- the past with one more event
+abbrev pub with_event : ℕ → Call → List Completion → Trace → Trace
+with_event t c endings past = record { thread = t; call = c; endings = endings } ∷ past

@@ -1,0 +1,242 @@
+-- What is searched for in the list of all past calls. The newest event stands first.
+use Rattle.std.specs.Prelude.{ℕ, ◌+◌, ◌==◌, ◌&&◌, ◌||◌, not, Bool, true, false, is_some, List, [], ◌∷◌, ◌++◌, length, map, filter, Option, None, Some, if◌then◌else◌, option_and_then, unwrap_or}
+use Rattle.std.specs.List.{list_any}
+use Rattle.std.specs.Option.{option_map, option_to_list}
+use Rattle.qqueue.specs.Best.{is_pulse}
+use Rattle.qqueue.specs.declared.item.Item.{Item}
+use Rattle.qtables.specs.Members.{member_at}
+use Rattle.qtables.specs.declared.connection.Connection.{Connection}
+use Rattle.qtables.specs.declared.member.Member.{Member}
+use Rattle.qrules.specs.declared.call.Call.{Call}
+use Rattle.qrules.specs.declared.call.Call.TheVariants.{ChannelCreate, ConnectAttach, Send, Receive, Reply, Error, Read, Write, Info, ReceivePulse, Pulse, PrioritySet, State}
+use Rattle.qrules.specs.declared.call.Completion.{Completion}
+use Rattle.qrules.specs.declared.call.Mark.{Mark}
+use Rattle.qrules.specs.declared.call.Mark.TheVariants as mark
+use Rattle.qrules.specs.declared.open_call.OpenCall.{OpenCall}
+use Rattle.qrules.specs.declared.open_call.Receipt.{Receipt}
+use Rattle.qrules.specs.declared.open_call.Wait.{Wait}
+use Rattle.qrules.specs.declared.open_call.Wait.TheVariants.{Answer, Item as ForItem}
+use Rattle.qrules.specs.Trace.{Event, Trace}
+use Rattle.qrules.specs.Facts.{OpenChannel, is_fixed}
+use Rattle.qrules.specs.Rows.{Made, asks, makes, received, writes, written_over, with_buffer, set_for, sets}
+
+-- ---- accepted, ended
+
+-- the mark is a failure
+abbrev pub is_failure : Mark → Bool
+is_failure (mark.Failed errno) = true
+is_failure mark.Ok = false
+is_failure (mark.Channel chid) = false
+is_failure (mark.Connection coid) = false
+is_failure (mark.Replied status copied) = false
+is_failure (mark.Message rcvid copied) = false
+is_failure (mark.Errored code) = false
+is_failure (mark.Count copied) = false
+is_failure (mark.Info info) = false
+is_failure (mark.Pulse item priority what) = false
+is_failure (mark.State state priority) = false
+
+-- these endings refuse call n: one is of n itself, and a failure
+abbrev pub refuses : List Completion → ℕ → Bool
+refuses endings n = list_any (λ x. (x.call == n) && is_failure x.mark) endings
+
+-- the event after this past was accepted
+abbrev pub is_accepted : Event → Trace → Bool
+is_accepted e past = not (refuses e.endings (length past + 1))
+
+-- one of these endings is of call i
+abbrev pub ends : List Completion → ℕ → Bool
+ends endings i = list_any (λ x. x.call == i) endings
+
+-- call i is ended
+abbrev pub is_ended : Trace → ℕ → Bool
+is_ended past i = list_any (λ e. ends e.endings i) past
+
+-- ---- channels and connections
+
+-- what the event of number i made, where it was accepted
+abbrev pub made_at : {A : Type 0} → (Event → Option A) → Trace → ℕ → Option A
+made_at make [] i = None
+made_at make (e ∷ past) i = if i == length past + 1 then (if is_accepted e past then make e else None) else made_at make past i
+
+-- how many of the numbers up to n have something
+abbrev pub count_to : {A : Type 0} → (ℕ → Option A) → ℕ → ℕ
+count_to at Prim.Native.Nat.zero = 0
+count_to at (Prim.Native.Nat.suc n) = (if is_some (at (n + 1)) then 1 else 0) + count_to at n
+
+-- the channel that a call creates: of its thread's process, with the flags that it names
+abbrev pub creates : Option Member → Call → Option OpenChannel
+creates None c = None
+creates (Some m) (ChannelCreate flags) = Some (record { owner = m.process; flags = flags })
+creates (Some m) (ConnectAttach chid) = None
+creates (Some m) (Send coid message reply_buffer) = None
+creates (Some m) (Receive chid buffer) = None
+creates (Some m) (Reply rcvid status bytes) = None
+creates (Some m) (Error rcvid code) = None
+creates (Some m) (Read rcvid offset buffer) = None
+creates (Some m) (Write rcvid offset bytes) = None
+creates (Some m) (Info rcvid) = None
+creates (Some m) (ReceivePulse chid) = None
+creates (Some m) (Pulse coid priority code value) = None
+creates (Some m) (PrioritySet thread priority) = None
+creates (Some m) (State thread) = None
+
+-- the open channel h: an accepted ChannelCreate has that number
+abbrev pub channel_at : List Member → Trace → ℕ → Option OpenChannel
+channel_at roster past h = made_at (λ e. creates (member_at roster e.thread) e.call) past h
+
+-- how many channels are open
+abbrev pub open_channels : List Member → Trace → ℕ
+open_channels roster past = count_to (channel_at roster past) (length past)
+
+-- the connection that a call attaches: of its thread's process, to the channel that it names
+abbrev pub attaches : Option Member → Call → Option Connection
+attaches None c = None
+attaches (Some m) (ConnectAttach chid) = Some (record { process = m.process; channel = chid })
+attaches (Some m) (ChannelCreate flags) = None
+attaches (Some m) (Send coid message reply_buffer) = None
+attaches (Some m) (Receive chid buffer) = None
+attaches (Some m) (Reply rcvid status bytes) = None
+attaches (Some m) (Error rcvid code) = None
+attaches (Some m) (Read rcvid offset buffer) = None
+attaches (Some m) (Write rcvid offset bytes) = None
+attaches (Some m) (Info rcvid) = None
+attaches (Some m) (ReceivePulse chid) = None
+attaches (Some m) (Pulse coid priority code value) = None
+attaches (Some m) (PrioritySet thread priority) = None
+attaches (Some m) (State thread) = None
+
+-- the live connection k: an accepted ConnectAttach has that number
+abbrev pub connection_at : List Member → Trace → ℕ → Option Connection
+connection_at roster past k = made_at (λ e. attaches (member_at roster e.thread) e.call) past k
+
+-- how many connections are live
+abbrev pub live_connections : List Member → Trace → ℕ
+live_connections roster past = count_to (connection_at roster past) (length past)
+
+-- ---- items and priorities
+
+-- the first of two, or else the second
+abbrev pub first_some : {A : Type 0} → Option A → Option A → Option A
+first_some None y = y
+first_some (Some x) y = Some x
+
+-- what the first of these endings has of which something is told
+abbrev pub first_among : {A : Type 0} → (Completion → Option A) → List Completion → Option A
+first_among tell [] = None
+first_among tell (x ∷ endings) = first_some (tell x) (first_among tell endings)
+
+-- the priority of a member, 0 where there is none
+abbrev pub priority_in : Option Member → ℕ
+priority_in None = 0
+priority_in (Some m) = m.priority
+
+-- of these items the one of number i
+abbrev pub made_among : List Made → ℕ → Option Made
+made_among [] i = None
+made_among (m ∷ made) i = if m.item.number == i then Some m else made_among made i
+
+-- the priority that a receiver of the item takes: the item's, unless its channel leaves priorities as they are
+abbrev pub carried : (ℕ → Option OpenChannel) → Option Made → Option ℕ
+carried channel None = None
+carried channel (Some m) = if is_fixed (channel m.channel) then None else Some m.item.priority
+
+-- the priority that an ending gives thread t, where each item that is received carries one or none
+abbrev pub given_by : (ℕ → Option ℕ) → ℕ → Completion → Option ℕ
+given_by priority t x = if x.thread == t then option_and_then (λ r. priority r.0) (received x.mark) else None
+
+-- the priority that event e gives thread t, of all that was made by then: an accepted PrioritySet sets it, or the thread receives an item
+abbrev pub given : List Member → Event → Trace → List Made → ℕ → Option ℕ
+given roster e past made t =
+    first_some (if is_accepted e past then set_for (sets e.call) t else None) (first_among (given_by (λ i. carried (channel_at roster past) (made_among made i)) t) e.endings)
+
+-- the item that an event makes, by the connections before it and by the priorities that the threads had
+abbrev pub item_by : List Member → (ℕ → ℕ) → Event → Trace → Option Made
+item_by roster priority e past = if is_accepted e past then makes (connection_at roster past) priority (length past + 1) e.thread e.call else None
+
+abbrev mutual
+  -- all items made so far, in rising number
+  pub items : List Member → Trace → List Made
+  items roster [] = []
+  items roster (e ∷ past) = items roster past ++ option_to_list (item_by roster (λ t. priority_of_thread roster past t) e past)
+
+  -- a thread's priority: what the newest event gave it that gave it one, or else what the roster gives it
+  pub priority_of_thread : List Member → Trace → ℕ → ℕ
+  priority_of_thread roster [] t = priority_in (member_at roster t)
+  priority_of_thread roster (e ∷ past) t =
+      unwrap_or (given roster e past (items roster past ++ option_to_list (item_by roster (λ u. priority_of_thread roster past u) e past)) t) (priority_of_thread roster past t)
+
+-- the item that an event makes
+abbrev pub item_of : List Member → Event → Trace → Option Made
+item_of roster e past = item_by roster (priority_of_thread roster past) e past
+
+-- the priority of an item, 0 where there is none
+abbrev pub priority_made : Option Made → ℕ
+priority_made None = 0
+priority_made (Some m) = m.item.priority
+
+-- the priority that item i was made with
+abbrev pub priority_of_item : List Member → Trace → ℕ → ℕ
+priority_of_item roster past i = priority_made (made_among (items roster past) i)
+
+-- the receipt that an ending is of item i: how many bytes it copied
+abbrev pub copied_of : ℕ → Option (ℕ × ℕ) → Option ℕ
+copied_of i None = None
+copied_of i (Some r) = if r.0 == i then Some r.1 else None
+
+-- the receipt of item i among these endings
+abbrev pub receipt_among : List Completion → ℕ → Option ℕ
+receipt_among endings i = first_among (λ x. copied_of i (received x.mark)) endings
+
+-- the receipt of item i, by an ending of some event
+abbrev pub receipt_of : Trace → ℕ → Option ℕ
+receipt_of [] i = None
+receipt_of (e ∷ past) i = first_some (receipt_among e.endings i) (receipt_of past i)
+
+-- item i is taken
+abbrev pub is_taken : Trace → ℕ → Bool
+is_taken past i = is_some (receipt_of past i)
+
+-- the item is taken, or is a message whose Send is ended
+abbrev pub is_gone : Trace → Item → Bool
+is_gone past item = is_taken past item.number || (not (is_pulse item.what) && is_ended past item.number)
+
+-- the items of channel h that are not gone, in rising number
+abbrev pub pending : List Member → Trace → ℕ → List Item
+pending roster past h = filter (λ item. not (is_gone past item)) (map (λ m. m.item) (filter (λ m. m.channel == h) (items roster past)))
+
+-- ---- open calls
+
+-- the newest accepted blocking call of thread t
+abbrev pub newest_block : Trace → ℕ → Option OpenCall
+newest_block [] t = None
+newest_block (e ∷ past) t =
+    if (e.thread == t) && is_accepted e past && is_some (asks (length past + 1) e.call) then asks (length past + 1) e.call else newest_block past t
+
+-- a wait for an answer with what is kept of the message's receipt
+abbrev pub held_with : Receipt → Wait → Wait
+held_with receipt (Answer coid message reply_buffer before) = Answer coid message reply_buffer (Some receipt)
+held_with receipt (ForItem chid kind buffer) = ForItem chid kind buffer
+
+-- a reply buffer of message i with the data of each accepted Write to it, in order
+abbrev pub with_writes : Trace → ℕ → List ℕ → List ℕ
+with_writes [] i b = b
+with_writes (e ∷ past) i b = if is_accepted e past then written_over (writes e.call) i (with_writes past i b) else with_writes past i b
+
+-- a call with its reply buffer as it is by now
+abbrev pub filled : Trace → OpenCall → OpenCall
+filled past o = record { number = o.number; wait = with_buffer (with_writes past o.number) o.wait }
+
+-- a call, unless it is ended
+abbrev pub unless_ended : Trace → Option OpenCall → Option OpenCall
+unless_ended past None = None
+unless_ended past (Some o) = if is_ended past o.number then None else Some o
+
+-- a call with what is kept of its message's receipt, where there was one
+abbrev pub with_receipt : ℕ → Option ℕ → OpenCall → OpenCall
+with_receipt priority None o = o
+with_receipt priority (Some copied) o = record { number = o.number; wait = held_with (record { priority = priority; copied = copied }) o.wait }
+
+-- the open call of thread t
+abbrev pub open_call : List Member → Trace → ℕ → Option OpenCall
+open_call roster past t = option_map (λ o. with_receipt (priority_of_item roster past o.number) (receipt_of past o.number) (filled past o)) (unless_ended past (newest_block past t))

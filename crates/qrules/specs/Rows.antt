@@ -1,0 +1,204 @@
+-- What a row of the table of calls says, and what the rows share.
+use Rattle.std.specs.Prelude.{ℕ, ℤ, ◌==◌, Bool, List, [], Option, None, Some, if◌then◌else◌}
+use Rattle.qbase.specs.Laying.{laid_count, lay_over}
+use Rattle.qbase.specs.declared.errno.Errno.{Errno}
+use Rattle.qqueue.specs.declared.item.Item.{Item}
+use Rattle.qqueue.specs.Best.{is_pulse}
+use Rattle.qqueue.specs.declared.item.Kind.TheVariants.{Any, PulseOnly}
+use Rattle.qqueue.specs.declared.item.What.TheVariants.{Message, User}
+use Rattle.qtables.specs.declared.connection.Connection.{Connection}
+use Rattle.qrules.specs.declared.call.Call.{Call}
+use Rattle.qrules.specs.declared.call.Call.TheVariants.{ChannelCreate, ConnectAttach, Send, Receive, Reply, Error, Read, Write, Info, ReceivePulse, Pulse, PrioritySet, State}
+use Rattle.qrules.specs.declared.call.Completion.{Completion}
+use Rattle.qrules.specs.declared.call.Mark.{Mark}
+use Rattle.qrules.specs.declared.call.Mark.TheVariants as mark
+use Rattle.qrules.specs.declared.open_call.OpenCall.{OpenCall}
+use Rattle.qrules.specs.declared.open_call.Receipt.{Receipt}
+use Rattle.qrules.specs.declared.open_call.Wait.{Wait}
+use Rattle.qrules.specs.declared.open_call.Wait.TheVariants.{Answer, Item as ForItem}
+
+-- an item that an event makes, and the channel on which it is to be received
+pub record Made : Type 0 where
+  pub item : Item
+  pub channel : ℕ
+
+-- a receipt: the item's number and channel, the thread that takes it, the thread that waits for its answer, and what is kept of the receipt
+pub record Received : Type 0 where
+  pub item : ℕ
+  pub channel : ℕ
+  pub by : ℕ
+  pub sender : Option ℕ
+  pub kept : Receipt
+
+-- what a call is answered: the first of its own refusals that applies, whether it may also be refused for want of memory, how it ends in
+-- its own event where it does, how it ends the open call of another thread, and the receipt that it brings about
+pub record Row : Type 0 where
+  pub refusal : Option Errno
+  pub takes_memory : Bool
+  pub own : Option Completion
+  pub ends : ℕ → Option Completion
+  pub receipt : Option Received
+
+-- no other thread's call ends
+abbrev pub ends_none : ℕ → Option Completion
+ends_none u = None
+
+-- ---- blocking
+
+-- what a call waits for where it doesn't end in its own event
+abbrev pub asks : ℕ → Call → Option OpenCall
+asks n (Send coid message reply_buffer) = Some (record { number = n; wait = Answer coid message reply_buffer None })
+asks n (Receive chid buffer) = Some (record { number = n; wait = ForItem chid Any buffer })
+asks n (ChannelCreate flags) = None
+asks n (ConnectAttach chid) = None
+asks n (Reply rcvid status bytes) = None
+asks n (Error rcvid code) = None
+asks n (Read rcvid offset buffer) = None
+asks n (Write rcvid offset bytes) = None
+asks n (Info rcvid) = None
+asks n (ReceivePulse chid) = Some (record { number = n; wait = ForItem chid PulseOnly [] })
+asks n (Pulse coid priority code value) = None
+asks n (PrioritySet thread priority) = None
+asks n (State thread) = None
+
+-- ---- items
+
+-- the item that is sent over a connection, to its channel
+abbrev pub sent_over : Option Connection → Item → Option Made
+sent_over None item = None
+sent_over (Some c) item = Some (record { item = item; channel = c.channel })
+
+-- a message of this number and priority
+abbrev pub message_item : ℕ → ℕ → Item
+message_item n priority = record { number = n; priority = priority; what = Message }
+
+-- a user's pulse of this number and priority
+abbrev pub pulse_item : ℕ → ℕ → ℤ → ℤ → Item
+pulse_item n priority code value = record { number = n; priority = priority; what = User code value }
+
+-- the item that a call makes, by the connections and the priorities before it: a Send a message of its thread's priority, a Pulse a pulse of
+-- the priority that is given
+abbrev pub makes : (ℕ → Option Connection) → (ℕ → ℕ) → ℕ → ℕ → Call → Option Made
+makes connection priority n t (Send coid message reply_buffer) = sent_over (connection coid) (message_item n (priority t))
+makes connection priority n t (Receive chid buffer) = None
+makes connection priority n t (ChannelCreate flags) = None
+makes connection priority n t (ConnectAttach chid) = None
+makes connection priority n t (Reply rcvid status bytes) = None
+makes connection priority n t (Error rcvid code) = None
+makes connection priority n t (Read rcvid offset buffer) = None
+makes connection priority n t (Write rcvid offset bytes) = None
+makes connection priority n t (Info rcvid) = None
+makes connection priority n t (ReceivePulse chid) = None
+makes connection priority n t (Pulse coid level code value) = sent_over (connection coid) (pulse_item n level code value)
+makes connection priority n t (PrioritySet thread level) = None
+makes connection priority n t (State thread) = None
+
+-- ---- writing
+
+-- what is written: over the reply buffer of which message, from which place, and the bytes
+pub record Written : Type 0 where
+  pub message : ℕ
+  pub offset : ℕ
+  pub bytes : List ℕ
+
+-- what a call writes
+abbrev pub writes : Call → Option Written
+writes (Write rcvid offset bytes) = Some (record { message = rcvid; offset = offset; bytes = bytes })
+writes (ChannelCreate flags) = None
+writes (ConnectAttach chid) = None
+writes (Send coid message reply_buffer) = None
+writes (Receive chid buffer) = None
+writes (Reply rcvid status bytes) = None
+writes (Error rcvid code) = None
+writes (Read rcvid offset buffer) = None
+writes (Info rcvid) = None
+writes (ReceivePulse chid) = None
+writes (Pulse coid priority code value) = None
+writes (PrioritySet thread priority) = None
+writes (State thread) = None
+
+-- ---- setting priorities
+
+-- a thread's priority that is set
+pub record Setting : Type 0 where
+  pub thread : ℕ
+  pub priority : ℕ
+
+-- what a call sets
+abbrev pub sets : Call → Option Setting
+sets (PrioritySet thread priority) = Some (record { thread = thread; priority = priority })
+sets (ChannelCreate flags) = None
+sets (ConnectAttach chid) = None
+sets (Send coid message reply_buffer) = None
+sets (Receive chid buffer) = None
+sets (Reply rcvid status bytes) = None
+sets (Error rcvid code) = None
+sets (Read rcvid offset buffer) = None
+sets (Write rcvid offset bytes) = None
+sets (Info rcvid) = None
+sets (ReceivePulse chid) = None
+sets (Pulse coid priority code value) = None
+sets (State thread) = None
+
+-- the priority that is set for thread u
+abbrev pub set_for : Option Setting → ℕ → Option ℕ
+set_for None u = None
+set_for (Some s) u = if s.thread == u then Some s.priority else None
+
+-- ---- buffers
+
+-- the reply buffer of message i with what is written over it
+abbrev pub written_over : Option Written → ℕ → List ℕ → List ℕ
+written_over None i b = b
+written_over (Some w) i b = if w.message == i then lay_over b w.offset w.bytes else b
+
+-- a wait with its reply buffer changed
+abbrev pub with_buffer : (List ℕ → List ℕ) → Wait → Wait
+with_buffer f (Answer coid message reply_buffer receipt) = Answer coid message (f reply_buffer) receipt
+with_buffer f (ForItem chid kind buffer) = ForItem chid kind buffer
+
+-- ---- receipts
+
+-- how a receive ends that takes an item into its buffer: a message is laid over the front, with that count; a pulse stands in the mark alone
+abbrev pub given : Item → List ℕ → List ℕ → Mark × List ℕ
+given item message buffer =
+    if is_pulse item.what then (mark.Pulse item.number item.priority item.what, buffer)
+    else (mark.Message item.number (laid_count buffer 0 message), lay_over buffer 0 message)
+
+-- the ending of call m of thread u that takes the item so
+abbrev pub taking : Item → List ℕ → ℕ → ℕ → List ℕ → Completion
+taking item message u m buffer = record { call = m; thread = u; mark = (given item message buffer).0; buffer = (given item message buffer).1 }
+
+-- how the open call of number m ends, of thread u, that takes the item into what it waits with
+abbrev pub takes_into : Item → List ℕ → ℕ → ℕ → Wait → Option Completion
+takes_into item message u m (Answer coid sent reply_buffer receipt) = None
+takes_into item message u m (ForItem chid kind buffer) = Some (taking item message u m buffer)
+
+-- how the open call of thread u ends that takes the item
+abbrev pub takes : Item → List ℕ → ℕ → Option OpenCall → Option Completion
+takes item message u None = None
+takes item message u (Some o) = takes_into item message u o.number o.wait
+
+-- the number of the item that an ending receives, and how many bytes were copied, none of a pulse
+abbrev pub received : Mark → Option (ℕ × ℕ)
+received (mark.Message rcvid copied) = Some (rcvid, copied)
+received mark.Ok = None
+received (mark.Failed errno) = None
+received (mark.Channel chid) = None
+received (mark.Connection coid) = None
+received (mark.Replied status copied) = None
+received (mark.Errored code) = None
+received (mark.Count copied) = None
+received (mark.Info info) = None
+received (mark.Pulse item priority what) = Some (item, 0)
+received (mark.State state priority) = None
+
+-- the receipt that thread u makes of an item of this channel, sender and priority
+abbrev pub receipt_at : ℕ → Option ℕ → ℕ → ℕ → Option (ℕ × ℕ) → Option Received
+receipt_at h sender priority u None = None
+receipt_at h sender priority u (Some r) = Some (record { item = r.0; channel = h; by = u; sender = sender; kept = record { priority = priority; copied = r.1 } })
+
+-- the receipt that an ending is, of an item of this channel, sender and priority
+abbrev pub receipt_in : ℕ → Option ℕ → ℕ → Option Completion → Option Received
+receipt_in h sender priority None = None
+receipt_in h sender priority (Some y) = receipt_at h sender priority y.thread (received y.mark)

@@ -1,0 +1,95 @@
+-- One call by its facts: what they are after it.
+use Rattle.std.specs.Prelude.{◌≡◌, ℕ, ◌+◌, ◌==◌, Bool, false, is_some, List, [], ◌∷◌, ◌++◌, Option, None, Some, if◌then◌else◌, unwrap_or}
+use Rattle.std.specs.Option.{option_map}
+use Rattle.qbase.specs.Laying.{lay_over}
+use Rattle.qqueue.specs.Best.{without}
+use Rattle.qqueue.specs.declared.item.Item.{Item}
+use Rattle.qtables.specs.Members.{member_at}
+use Rattle.qtables.specs.declared.connection.Connection.{Connection}
+use Rattle.qrules.specs.declared.call.Call.{Call}
+use Rattle.qrules.specs.declared.open_call.OpenCall.{OpenCall}
+use Rattle.qrules.specs.declared.open_call.Receipt.{Receipt}
+use Rattle.qrules.specs.Facts.{Facts, OpenChannel, sender, is_fixed}
+use Rattle.qrules.specs.Rows.{Made, Received, Written, asks, makes, writes, with_buffer, set_for, sets}
+use Rattle.qrules.specs.Answer.{row_of}
+use Rattle.qrules.specs.Past.{creates, attaches, held_with, first_some}
+
+-- a look-up with one more record at n
+abbrev pub put_at : {A : Type 0} → Option A → ℕ → (ℕ → Option A) → ℕ → Option A
+put_at None n at i = at i
+put_at (Some x) n at i = if i == n then Some x else at i
+
+-- one where there is something
+abbrev pub one_for : {A : Type 0} → Option A → ℕ
+one_for None = 0
+one_for (Some x) = 1
+
+abbrev pub channel_after : Facts → ℕ → Call → ℕ → Option OpenChannel
+channel_after f t c = put_at (creates (member_at f.roster t) c) f.number f.channel
+
+abbrev pub connection_after : Facts → ℕ → Call → ℕ → Option Connection
+connection_after f t c = put_at (attaches (member_at f.roster t) c) f.number f.connection
+
+-- an open call whose message is received
+abbrev pub held_call : Receipt → OpenCall → OpenCall
+held_call kept o = record { number = o.number; wait = held_with kept o.wait }
+
+-- this thread
+abbrev pub is_thread : Option ℕ → ℕ → Bool
+is_thread None u = false
+is_thread (Some s) u = u == s
+
+-- what thread u waits for after a receipt
+abbrev pub after_receipt : Option Received → ℕ → Option OpenCall → Option OpenCall
+after_receipt None u o = o
+after_receipt (Some r) u o = if is_thread r.sender u then option_map (held_call r.kept) o else o
+
+-- an open call whose reply buffer is written over
+abbrev pub written_call : ℕ → List ℕ → OpenCall → OpenCall
+written_call offset bytes o = record { number = o.number; wait = with_buffer (λ b. lay_over b offset bytes) o.wait }
+
+-- what thread u waits for after a write
+abbrev pub after_write : Facts → Option Written → ℕ → Option OpenCall → Option OpenCall
+after_write f None u o = o
+after_write f (Some w) u o = if is_thread (sender f w.message) u then option_map (written_call w.offset w.bytes) o else o
+
+abbrev pub unless : Bool → Option OpenCall → Option OpenCall
+unless b o = if b then None else o
+
+abbrev pub open_call_after : Facts → ℕ → Call → ℕ → Option OpenCall
+open_call_after f t c u =
+    if u == t then unless (is_some (row_of f t c).own) (after_receipt (row_of f t c).receipt u (asks f.number c))
+    else unless (is_some ((row_of f t c).ends u)) (after_receipt (row_of f t c).receipt u (after_write f (writes c) u (f.open_call u)))
+
+-- the item that is made, where it is of channel h
+abbrev pub made_on : ℕ → Option Made → List Item
+made_on h None = []
+made_on h (Some m) = if m.channel == h then m.item ∷ [] else []
+
+-- the items of channel h but the one that was received from it
+abbrev pub taken_out : Option Received → ℕ → List Item → List Item
+taken_out None h items = items
+taken_out (Some r) h items = if r.channel == h then without r.item items else items
+
+abbrev pub pending_after : Facts → ℕ → Call → ℕ → List Item
+pending_after f t c h = taken_out (row_of f t c).receipt h (f.pending h ++ made_on h (makes f.connection f.priority f.number t c))
+
+-- the priority that thread u takes by a receipt: the item's, unless its channel leaves priorities as they are
+abbrev pub taken_by : Facts → Option Received → ℕ → Option ℕ
+taken_by f None u = None
+taken_by f (Some r) u = if r.by == u then (if is_fixed (f.channel r.channel) then None else Some r.kept.priority) else None
+
+abbrev pub priority_after : Facts → ℕ → Call → ℕ → ℕ
+priority_after f t c u = unwrap_or (first_some (set_for (sets c) u) (taken_by f (row_of f t c).receipt u)) (f.priority u)
+
+-- g are the facts after the call
+pub record Follows (f : Facts) (t : ℕ) (c : Call) (accepted : Bool) (g : Facts) : Type 0 where
+  pub roster : g.roster ≡ f.roster
+  pub number : g.number ≡ f.number + 1
+  pub channel : (h : ℕ) → g.channel h ≡ (if accepted then channel_after f t c h else f.channel h)
+  pub open_channels : g.open_channels ≡ f.open_channels + (if accepted then one_for (creates (member_at f.roster t) c) else 0)
+  pub connection : (k : ℕ) → g.connection k ≡ (if accepted then connection_after f t c k else f.connection k)
+  pub live_connections : g.live_connections ≡ f.live_connections + (if accepted then one_for (attaches (member_at f.roster t) c) else 0)
+  pub open_call : (u : ℕ) → g.open_call u ≡ (if accepted then open_call_after f t c u else f.open_call u)
+  pub pending : (h : ℕ) → g.pending h ≡ (if accepted then pending_after f t c h else f.pending h)
+  pub priority : (u : ℕ) → g.priority u ≡ (if accepted then priority_after f t c u else f.priority u)
