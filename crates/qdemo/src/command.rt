@@ -35,6 +35,8 @@ call that made them.
   THREAD pulse CONNECTION PRIORITY CODE VALUE
   THREAD setprio THREAD PRIORITY
   THREAD state THREAD
+  THREAD destroy CHANNEL
+  THREAD shutdown
 
 Bytes are hexadecimal digits (0aff), so many equal ones (16x00), or - for none.
 Empty lines and lines that begin with # are passed over.

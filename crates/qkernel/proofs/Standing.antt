@@ -17,11 +17,12 @@ use Rattle.qrules.specs.Trace.{Trace}
 use Rattle.qrules.proofs.Past.Follows.{past_follows}
 
 -- facts that say the same of each thing are one
-same_facts : (f g : Facts) → f.roster ≡ g.roster → f.number ≡ g.number → ((h : ℕ) → f.channel h ≡ g.channel h) → f.open_channels ≡ g.open_channels → ((k : ℕ) → f.connection k ≡ g.connection k)
+same_facts : (f g : Facts) → f.roster ≡ g.roster → f.number ≡ g.number → f.down ≡ g.down → ((h : ℕ) → f.channel h ≡ g.channel h) → f.open_channels ≡ g.open_channels → ((k : ℕ) → f.connection k ≡ g.connection k)
     → f.live_connections ≡ g.live_connections → ((u : ℕ) → f.open_call u ≡ g.open_call u) → ((h : ℕ) → f.pending h ≡ g.pending h) → ((u : ℕ) → f.priority u ≡ g.priority u) → f ≡ g
-same_facts f g r n c oc k lk o p q = λ i. record {
+same_facts f g r n d c oc k lk o p q = λ i. record {
   roster = r i;
   number = n i;
+  down = d i;
   channel = λ h. c h i;
   open_channels = oc i;
   connection = λ x. k x i;
@@ -31,12 +32,15 @@ same_facts f g r n c oc k lk o p q = λ i. record {
   priority = λ u. q u i;
 }
 
+same_sum : (a b x y : ℕ) → a + x ≡ y → b + x ≡ y → a ≡ b
+same_sum a b x y p q = omega (arith, p, q)
+
 follows_once : (f g k : Facts) (t : ℕ) (c : Call) (accept : Bool) → Follows f t c accept g → Follows f t c accept k → g ≡ k
-follows_once f g k t c accept a b = same_facts g k (a.roster ∙ sym b.roster) (a.number ∙ sym b.number) (λ h. a.channel h ∙ sym (b.channel h)) (a.open_channels ∙ sym b.open_channels)
+follows_once f g k t c accept a b = same_facts g k (a.roster ∙ sym b.roster) (a.number ∙ sym b.number) (a.down ∙ sym b.down) (λ h. a.channel h ∙ sym (b.channel h)) (same_sum _ _ _ _ a.open_channels b.open_channels)
     (λ x. a.connection x ∙ sym (b.connection x)) (a.live_connections ∙ sym b.live_connections) (λ u. a.open_call u ∙ sym (b.open_call u)) (λ h. a.pending h ∙ sym (b.pending h)) (λ u. a.priority u ∙ sym (b.priority u))
 
 pub stands_facts : (roster : List Member) (s : State) (past : Trace) → StandsAt roster s past → facts_in s ≡ facts_of roster past
-stands_facts roster s past st = same_facts _ _ st.roster_is (ap (λ n. n + 1) st.made) st.channel st.open_channels st.connection st.live_connections st.open_call st.pending st.priority
+stands_facts roster s past st = same_facts _ _ st.roster_is (ap (λ n. n + 1) st.made) st.down st.channel st.open_channels st.connection st.live_connections st.open_call st.pending st.priority
 
 answer_of : (accept : Bool) (f : Facts) (t : ℕ) (c : Call) (X : List Completion) → Outcome accept f t c X → Answers f t c X
 answer_of true f t c X a = inl a
@@ -56,6 +60,7 @@ step_at_traces old t c X new rises known step roster past lawful stands =
       record {
         roster_is = ap (λ f. f.roster) after;
         made = omega arith;
+        down = ap (λ f. f.down) after;
         channel = λ h. ap (λ f. f.channel h) after;
         open_channels = ap (λ f. f.open_channels) after;
         connection = λ k. ap (λ f. f.connection k) after;
@@ -92,13 +97,14 @@ ready_length : (roster : List Member) → length (map ready roster) ≡ length r
 ready_length [] = refl
 ready_length (m ∷ roster) = ap suc (ready_length roster)
 
-pub sound_new : (roster : List Member) → length roster ≤ 64 → IsRoster roster → IsSound (record { made = 0; threads = map ready roster; channels = []; connections = [] })
+pub sound_new : (roster : List Member) → length roster ≤ 64 → IsRoster roster → IsSound (record { made = 0; down = false; threads = map ready roster; channels = []; connections = [] })
 sound_new roster few r = record { few = rw (ready_length roster) few; roster = rw (ready_members roster) r; channel_ids = tt; connection_ids = tt; items = λ h. tt }
 
-pub stands_new : (roster : List Member) → StandsAt roster (record { made = 0; threads = map ready roster; channels = []; connections = [] }) []
+pub stands_new : (roster : List Member) → StandsAt roster (record { made = 0; down = false; threads = map ready roster; channels = []; connections = [] }) []
 stands_new roster = record {
   roster_is = ready_members roster;
   made = refl;
+  down = refl;
   channel = λ h. refl;
   open_channels = refl;
   connection = λ k. refl;

@@ -14,3 +14,6 @@ pub mod Write
 pub mod Info
 pub mod PrioritySet
 pub mod State
+pub mod Cutting
+pub mod ChannelDestroy
+pub mod Shutdown

@@ -10,16 +10,17 @@ use Rattle.qrules.specs.declared.call.Completion.{Completion}
 use Rattle.qrules.specs.Answer.{Outcome, Answers}
 use Rattle.qrecords.specs.Channels.{channel_in, pending_in}
 use Rattle.qrules.specs.Lawful.{IsLawful, facts_of, with_event}
-use Rattle.qrules.specs.Past.{channel_at, open_channels, connection_at, live_connections, open_call, pending, priority_of_thread}
+use Rattle.qrules.specs.Past.{is_down, channel_at, open_channels, connection_at, live_connections, open_call, pending, priority_of_thread}
 use Rattle.qkernel.specs.State.{State, facts_in}
 use Rattle.qrules.specs.Step.{Follows}
 use Rattle.qrecords.specs.Threads.{members_of, open_in, level_in}
 use Rattle.qrules.specs.Trace.{Trace}
 
--- the kernel's roster, count of calls, channels, connections, pending items, open calls and priorities are those of the trace
+-- the kernel's roster, count of calls, whether it is shut down, channels, connections, pending items, open calls and priorities are those of the trace
 pub record StandsAt (roster : List Member) (s : State) (past : Trace) : Type 0 where
   pub roster_is : members_of s.threads ≡ roster
   pub made : s.made ≡ length past
+  pub down : s.down ≡ is_down past
   pub channel : (h : ℕ) → channel_in s.channels h ≡ channel_at roster past h
   pub open_channels : length s.channels ≡ open_channels roster past
   pub connection : (k : ℕ) → entry_at s.connections k ≡ connection_at roster past k

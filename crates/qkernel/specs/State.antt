@@ -1,5 +1,5 @@
 -- What a kernel contains.
-use Rattle.std.specs.Prelude.{ℕ, ◌+◌, ◌≤◌, List, length}
+use Rattle.std.specs.Prelude.{ℕ, ◌+◌, ◌≤◌, Bool, List, length}
 use Rattle.std.specs.List.{AllByRecursion}
 use Rattle.qtables.specs.Entries.{entry_at}
 use Rattle.qtables.specs.Members.{IsRoster}
@@ -10,9 +10,10 @@ use Rattle.qrecords.specs.Channels.{channel_in, pending_in, ids_of}
 use Rattle.qrules.specs.Facts.{Facts}
 use Rattle.qrecords.specs.Threads.{members_of, open_in, level_in}
 
--- how many calls it made, its threads, its open channels and its live connections
+-- how many calls it made, whether it is shut down, its threads, its open channels and its live connections
 pub record State : Type 0 where
   pub made : ℕ
+  pub down : Bool
   pub threads : List Thread
   pub channels : List (ℕ × Channel)
   pub connections : List (ℕ × Connection)
@@ -22,6 +23,7 @@ abbrev pub facts_in : State → Facts
 facts_in s = record {
   roster = members_of s.threads;
   number = s.made + 1;
+  down = s.down;
   channel = λ h. channel_in s.channels h;
   open_channels = length s.channels;
   connection = λ k. entry_at s.connections k;

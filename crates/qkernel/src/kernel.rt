@@ -1,11 +1,12 @@
 //! The kernel.
 
-ghost use Rattle.std.specs.Prelude.{◌≡◌, ◌+◌, ◌<◌, ◌≤◌, ◌^◌, ◌↔◌, [], length, None, Some, is_some, true, false, IsTrue, IfOk, IfErr, OnOk};
+ghost use Rattle.std.specs.Prelude.{◌≡◌, ◌+◌, ◌<◌, ◌≤◌, ◌^◌, ◌↔◌, [], length, None, Some, is_some, true, false, IsTrue, if◌then◌else◌, IfOk, IfErr, OnOk};
 ghost use Rattle.qtables.specs.Members.{member_at};
 ghost use Rattle.qrecords.specs.Threads.{members_of, open_in, seat_in, blocked_count};
 
 mod blocked;
 mod channel_create;
+mod channel_destroy;
 mod connect_attach;
 mod error;
 mod info;
@@ -16,6 +17,7 @@ mod receive;
 mod receive_pulse;
 mod reply;
 mod send;
+mod shutdown;
 mod state;
 mod write;
 
@@ -41,6 +43,7 @@ pub const CALL_LIMIT: u64 = 1 << 40;
 pub struct Kernel {
     alloc: Global,
     made: u64,
+    down: bool,
     threads: Vec<Thread>,
     channels: Channels<Channel>,
     connections: Connections,
@@ -51,9 +54,9 @@ impl Model for Kernel {
 
     ghost Value = { State };
 
-    ghost view = { λ k. record { made = k.made; threads = k.threads.items; channels = k.channels; connections = k.connections } };
+    ghost view = { λ k. record { made = k.made; down = k.down; threads = k.threads.items; channels = k.channels; connections = k.connections } };
 
-    ghost invariant = { λ k. IsSound (record { made = k.made; threads = k.threads.items; channels = k.channels; connections = k.connections }) };
+    ghost invariant = { λ k. IsSound (record { made = k.made; down = k.down; threads = k.threads.items; channels = k.channels; connections = k.connections }) };
 }
 
 impl Kernel {
@@ -72,10 +75,26 @@ impl Kernel {
         Ok(Kernel {
             alloc,
             made: 0,
+            down: false,
             threads,
             channels: Channels::new(alloc),
             connections: Connections::new(alloc),
         })
+    }
+
+    /// Why no call of the thread at a seat is made, whichever it is: the kernel is shut down, or the thread is
+    /// blocked.
+    fn refusal(&self, seat: usize, thread: ThreadNo) -> Option<Errno>
+        requires { seat_in self.now.threads thread ≡ Some seat }
+        ensures { result ≡ (if self.now.down then Some Errno.Down else (if is_some (open_in self.now.threads thread) then Some Errno.Busy else None)) }
+    {
+        if self.down {
+            Some(Errno::Down)
+        } else if is_blocked(&self.threads, seat, thread) {
+            Some(Errno::Busy)
+        } else {
+            None
+        }
     }
 
     /// Makes one call of the thread at a seat: its refusals before those of the call itself, and then the
@@ -86,10 +105,11 @@ impl Kernel {
         requires none { endings.old.items ≡ [] }
         ensures { Steps self.old thread call endings.new.items self.new }
     {
-        if is_blocked(&self.threads, seat, thread) {
+        let refusal = self.refusal(seat, thread);
+        if let Some(errno) = refusal {
             self.made += 1;
             let buffer = call.into_buffer(self.alloc);
-            return refuse(endings, self.made, thread, Errno::Busy, buffer);
+            return refuse(endings, self.made, thread, errno, buffer);
         }
         match call {
             Call::ChannelCreate(flags) => self.channel_create(seat, thread, flags, endings),
@@ -129,6 +149,8 @@ impl Kernel {
                 priority,
             } => self.priority_set(seat, thread, target, priority, endings),
             Call::State(target) => self.state(thread, target, endings),
+            Call::ChannelDestroy(chid) => self.channel_destroy(seat, thread, chid, endings),
+            Call::Shutdown => self.shutdown(thread, endings),
         }
     }
 

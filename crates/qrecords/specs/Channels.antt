@@ -1,5 +1,6 @@
 -- The channels of a kernel, by id.
-use Rattle.std.specs.Prelude.{◌≡◌, ℕ, ◌==◌, ◌&&◌, Bool, false, is_some, List, [], map, Option, None, Some, if◌then◌else◌}
+use Rattle.std.specs.Prelude.{◌≡◌, ◌≤◌, ◌+◌, ℕ, ◌==◌, ◌&&◌, Bool, false, is_some, List, [], length, map, Option, None, Some, if◌then◌else◌}
+use Rattle.std.specs.List.{AllByRecursion}
 use Rattle.std.specs.Option.{option_map}
 use Rattle.qqueue.specs.declared.item.Item.{Item}
 use Rattle.qtables.specs.Entries.{entry_at}
@@ -43,3 +44,10 @@ pub record SetsItems (h : ℕ) (items : List Item) (old new : List (ℕ × Chann
   pub ids : ids_of new ≡ ids_of old
   pub channel : (k : ℕ) → channel_in new k ≡ channel_in old k
   pub pending : (k : ℕ) → pending_in new k ≡ (if k == h then items else pending_in old k)
+
+-- channel h is gone, and all else is as it was
+pub record ClosesIn (h : ℕ) (old new : List (ℕ × Channel)) : Type 0 where
+  pub ids : (n : ℕ) → AllByRecursion (λ id. id ≤ n) (ids_of old) → AllByRecursion (λ id. id ≤ n) (ids_of new)
+  pub channel : (k : ℕ) → channel_in new k ≡ (if h == k then None else channel_in old k)
+  pub pending : (k : ℕ) → pending_in new k ≡ (if h == k then [] else pending_in old k)
+  pub fewer : length new + 1 ≡ length old

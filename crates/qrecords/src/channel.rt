@@ -5,7 +5,7 @@ ghost use Rattle.std.specs.List.{AllByRecursion};
 ghost use Rattle.qqueue.specs.Best.{best_of, without};
 ghost use Rattle.qrules.specs.Calls.Pulse.{pulses_among};
 ghost use Rattle.qrules.specs.Facts.{is_fixed};
-ghost use Rattle.qrecords.specs.Channels.{channel_in, pending_in, is_of, way_in, SetsItems};
+ghost use Rattle.qrecords.specs.Channels.{channel_in, pending_in, is_of, way_in, ClosesIn, SetsItems};
 ghost use Rattle.qtables.specs.Entries.{entry_at};
 
 use qbase::errno::Errno;
@@ -112,4 +112,14 @@ pub fn enqueue(channels: &mut Channels<Channel>, chid: ChannelId, item: Item) ->
             Ok(())
         }
     }
+}
+
+/// Removes an open channel with all that waits on it.
+pub fn close(channels: &mut Channels<Channel>, chid: ChannelId)
+    requires { is_some (channel_in channels.old chid) ≡ true }
+    ensures { ClosesIn chid channels.old channels.new }
+{
+    // What `len` ensures says that the ids rise, so just one entry goes.
+    prove!(channels.len() > 0);
+    let _ = channels.remove(chid);
 }

@@ -3,6 +3,7 @@
 #![tactic(auto)]
 
 pub mod channel;
+pub mod cutting;
 pub mod endings;
 pub mod held;
 pub mod thread;

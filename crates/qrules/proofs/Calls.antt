@@ -18,3 +18,6 @@ pub mod ReceivePulse
 pub mod Pulse
 pub mod PrioritySet
 pub mod State
+pub mod Cutting
+pub mod ChannelDestroy
+pub mod Shutdown

@@ -10,6 +10,7 @@ pub mod Receipts
 pub mod Senders
 pub mod Writes
 pub mod OpenCalls
+pub mod Cuts
 pub mod Channels
 pub mod Pending
 pub mod Priorities

@@ -14,4 +14,5 @@ pub mod Waiting
 pub mod BestFirst
 pub mod Connections
 pub mod SentOrder
+pub mod ShutForGood
 pub mod All

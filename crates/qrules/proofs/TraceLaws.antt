@@ -2,3 +2,5 @@
 pub mod Sent
 pub mod Unended
 pub mod Pending
+pub mod Ending
+pub mod Limits

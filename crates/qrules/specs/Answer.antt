@@ -2,9 +2,9 @@
 use Rattle.std.specs.Prelude.{◌≡◌, ℕ, ◌==◌, Bool, true, false, is_some, List, [], ◌∷◌, Option, None, Some, if◌then◌else◌, ◌⊎◌}
 use Rattle.std.specs.List.{filter_map}
 use Rattle.qbase.specs.declared.errno.Errno.{Errno}
-use Rattle.qbase.specs.declared.errno.Errno.TheVariants.{Busy, NoMemory}
+use Rattle.qbase.specs.declared.errno.Errno.TheVariants.{Down, Busy, NoMemory}
 use Rattle.qrules.specs.declared.call.Call.{Call}
-use Rattle.qrules.specs.declared.call.Call.TheVariants.{ChannelCreate, ConnectAttach, Send, Receive, Reply, Error, Read, Write, Info, ReceivePulse, Pulse, PrioritySet, State}
+use Rattle.qrules.specs.declared.call.Call.TheVariants.{ChannelCreate, ConnectAttach, Send, Receive, Reply, Error, Read, Write, Info, ReceivePulse, Pulse, PrioritySet, State, ChannelDestroy, Shutdown}
 use Rattle.qrules.specs.declared.call.Completion.{Completion}
 use Rattle.qrules.specs.declared.call.Mark.TheVariants as mark
 use Rattle.qrules.specs.Buffers.{buffer_of}
@@ -23,6 +23,8 @@ use Rattle.qrules.specs.Calls.ReceivePulse as receive_pulse
 use Rattle.qrules.specs.Calls.Pulse as pulse
 use Rattle.qrules.specs.Calls.PrioritySet as priority_set
 use Rattle.qrules.specs.Calls.State as state
+use Rattle.qrules.specs.Calls.ChannelDestroy as channel_destroy
+use Rattle.qrules.specs.Calls.Shutdown as shutdown
 
 -- the row of a call
 abbrev pub row_of : Facts → ℕ → Call → Row
@@ -39,10 +41,12 @@ row_of f t (ReceivePulse chid) = receive_pulse.row f t chid
 row_of f t (Pulse coid priority code value) = pulse.row f t coid priority code value
 row_of f t (PrioritySet thread priority) = priority_set.row f t thread
 row_of f t (State thread) = state.row f t thread
+row_of f t (ChannelDestroy chid) = channel_destroy.row f t chid
+row_of f t Shutdown = shutdown.row f t
 
--- the first refusal that applies: a thread that is blocked makes no call, and then those of the row
+-- the first refusal that applies: a kernel that is shut down makes no call, nor a thread that is blocked, and then those of the row
 abbrev pub refusal : Facts → ℕ → Call → Option Errno
-refusal f t c = if is_some (f.open_call t) then Some Busy else (row_of f t c).refusal
+refusal f t c = if f.down then Some Down else (if is_some (f.open_call t) then Some Busy else (row_of f t c).refusal)
 
 -- the refusals that may be given: the first that applies, or want of memory where none does
 abbrev pub MayRefuse : Facts → ℕ → Call → Errno → Type 0

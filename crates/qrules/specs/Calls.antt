@@ -12,3 +12,5 @@ pub mod ReceivePulse
 pub mod Pulse
 pub mod PrioritySet
 pub mod State
+pub mod ChannelDestroy
+pub mod Shutdown

@@ -15,11 +15,12 @@ pub record OpenChannel : Type 0 where
   pub owner : ℕ
   pub flags : ChannelFlags
 
--- the threads, the number of the call that is answered, each open channel and how many there are, each live connection and how many
--- there are, each thread's open call, what waits on each channel in rising number, and each thread's priority
+-- the threads, the number of the call that is answered, whether the kernel is shut down, each open channel and how many there are, each live
+-- connection and how many there are, each thread's open call, what waits on each channel in rising number, and each thread's priority
 pub record Facts : Type 0 where
   pub roster : List Member
   pub number : ℕ
+  pub down : Bool
   pub channel : ℕ → Option OpenChannel
   pub open_channels : ℕ
   pub connection : ℕ → Option Connection
@@ -74,6 +75,12 @@ is_fixed (Some c) = bit_and c.flags.0 1 == 1
 abbrev pub is_for_answer : Wait → Bool
 is_for_answer (Answer coid message reply_buffer receipt) = true
 is_for_answer (ForItem chid kind buffer) = false
+
+-- the thread waits for the answer to a message that isn't received
+abbrev pub is_for_receipt : Wait → Bool
+is_for_receipt (Answer coid message reply_buffer None) = true
+is_for_receipt (Answer coid message reply_buffer (Some receipt)) = false
+is_for_receipt (ForItem chid kind buffer) = false
 
 -- the open call is the Send of number i
 abbrev pub is_send : ℕ → Option OpenCall → Bool

@@ -4,3 +4,4 @@ pub mod AnsweredToSender
 pub mod CopiedExactly
 pub mod BestFirst
 pub mod SentOrder
+pub mod ShutForGood

@@ -6,7 +6,7 @@ use Rattle.qrules.specs.declared.call.Call.{Call}
 use Rattle.qrules.specs.declared.call.Completion.{Completion}
 use Rattle.qrules.specs.Answer.{Answers}
 use Rattle.qrules.specs.Facts.{Facts}
-use Rattle.qrules.specs.Past.{channel_at, open_channels, connection_at, live_connections, open_call, pending, priority_of_thread}
+use Rattle.qrules.specs.Past.{is_down, channel_at, open_channels, connection_at, live_connections, open_call, pending, priority_of_thread}
 use Rattle.qrules.specs.Trace.{Event, Trace}
 
 -- all that a row may read, searched for in the past
@@ -14,6 +14,7 @@ abbrev pub facts_of : List Member → Trace → Facts
 facts_of roster past = record {
   roster = roster;
   number = length past + 1;
+  down = is_down past;
   channel = λ h. channel_at roster past h;
   open_channels = open_channels roster past;
   connection = λ k. connection_at roster past k;

@@ -1,7 +1,8 @@
 -- What the definitions of the past mean, as laws of all lawful traces.
-use Rattle.std.specs.Prelude.{◌≡◌, ◌↔◌, ℕ, ◌==◌, ◌&&◌, Bool, true, false, is_some, List, ◌∷◌, Option, None, Some, if◌then◌else◌}
+use Rattle.std.specs.Prelude.{◌≡◌, ◌↔◌, ℕ, ◌+◌, ◌≤◌, ◌==◌, ◌&&◌, Bool, true, false, is_some, length, List, [], ◌∷◌, Option, None, Some, if◌then◌else◌}
 use Rattle.std.specs.List.{AllByRecursion, list_any}
 use Rattle.std.specs.Option.{option_map}
+use Rattle.qbase.specs.declared.errno.Errno.TheVariants.{Down}
 use Rattle.qqueue.specs.Best.{is_pulse}
 use Rattle.qqueue.specs.Contents.{IsRising}
 use Rattle.qqueue.specs.declared.item.Kind.{Kind}
@@ -10,16 +11,21 @@ use Rattle.qtables.specs.declared.connection.Connection.{Connection}
 use Rattle.qtables.specs.declared.member.Member.{Member}
 use Rattle.qrules.specs.declared.call.Call.{Call}
 use Rattle.qrules.specs.declared.call.Completion.{Completion}
+use Rattle.qrules.specs.declared.call.Mark.TheVariants as mark
 use Rattle.qrules.specs.declared.open_call.OpenCall.{OpenCall}
 use Rattle.qrules.specs.declared.open_call.Wait.{Wait}
 use Rattle.qrules.specs.declared.open_call.Wait.TheVariants.{Answer, Item as ForItem}
+use Rattle.qrules.specs.Buffers.{buffer_of}
+use Rattle.qrules.specs.Calls.Pulse.{pulses_among}
+use Rattle.qrules.specs.Facts.{is_for_receipt}
 use Rattle.qrules.specs.Headline.AnsweredToSender.{is_held, sender_of}
 use Rattle.qrules.specs.Headline.BestFirst.{receives_on}
 use Rattle.qrules.specs.Headline.CopiedExactly.{call_at}
 use Rattle.qrules.specs.Headline.ReceivedOnce.{item_received}
 use Rattle.qrules.specs.Headline.SentOrder.{sends_over}
+use Rattle.qrules.specs.Headline.ShutForGood.{NoneReceivedFrom}
 use Rattle.qrules.specs.Lawful.{IsLawful}
-use Rattle.qrules.specs.Past.{made_at, connection_at, is_ended, items, open_call, pending}
+use Rattle.qrules.specs.Past.{made_at, connection_at, is_closed, is_down, is_ended, items, open_call, pending}
 use Rattle.qrules.specs.Rows.{asks}
 use Rattle.qrules.specs.Trace.{Event, Trace}
 
@@ -74,12 +80,6 @@ OpenIsUnended = (roster : List Member) (past : Trace) → IsRoster roster → Is
 
 -- ---- pending items
 
--- a wait for the answer to a message that isn't received
-abbrev pub is_for_receipt : Wait → Bool
-is_for_receipt (Answer coid message reply_buffer None) = true
-is_for_receipt (Answer coid message reply_buffer (Some receipt)) = false
-is_for_receipt (ForItem chid kind buffer) = false
-
 -- a wait for the answer to a message that is received
 abbrev pub is_for_reply : Wait → Bool
 is_for_reply (Answer coid message reply_buffer None) = false
@@ -113,3 +113,33 @@ pub record IsOpenSend (roster : List Member) (past : Trace) (i : ℕ) : Type 0 w
 abbrev pub PendingIsOpen : Type 0
 PendingIsOpen = (roster : List Member) (past : Trace) → IsRoster roster → IsLawful roster past
     → (h : ℕ) → AllByRecursion (λ item. is_pulse item.what ≡ false → IsOpenSend roster past item.number) (pending roster past h)
+
+-- ---- the end of a channel, and of the kernel
+
+-- nothing is received from a channel that is destroyed
+abbrev pub NothingFromDestroyed : Type 0
+NothingFromDestroyed = (roster : List Member) (past : Trace) (e : Event) → IsRoster roster → IsLawful roster (e ∷ past)
+    → (h : ℕ) → is_closed (e ∷ past) h ≡ true → NoneReceivedFrom roster (e ∷ past) h e.endings
+
+-- after an accepted Shutdown each event is a refusal: its one ending is its own, with Down and the buffer that the call brought
+abbrev pub OnlyRefusedWhenDown : Type 0
+OnlyRefusedWhenDown = (roster : List Member) (past : Trace) (e : Event) → IsRoster roster → IsLawful roster (e ∷ past)
+    → is_down past ≡ true → e.endings ≡ record { call = length past + 1; thread = e.thread; mark = mark.Failed Down; buffer = buffer_of e.call } ∷ []
+
+-- ---- endings
+
+-- the thread that made the call of number i
+abbrev pub thread_at : Trace → ℕ → Option ℕ
+thread_at [] i = None
+thread_at (e ∷ past) i = if i == length past + 1 then Some e.thread else thread_at past i
+
+-- each ending goes to the thread that made the call that it ends
+abbrev pub EndingsNameOwnCalls : Type 0
+EndingsNameOwnCalls = (roster : List Member) (past : Trace) (e : Event) → IsRoster roster → IsLawful roster (e ∷ past)
+    → AllByRecursion (λ x. thread_at (e ∷ past) x.call ≡ Some x.thread) e.endings
+
+-- ---- limits
+
+-- no more than 1,024 pulses are pending on a channel
+abbrev pub PulsesAreLimited : Type 0
+PulsesAreLimited = (roster : List Member) (past : Trace) → IsRoster roster → IsLawful roster past → (h : ℕ) → pulses_among (pending roster past h) ≤ 1024

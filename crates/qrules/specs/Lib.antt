@@ -7,6 +7,7 @@ pub mod Held
 pub mod Receiving
 pub mod Delivering
 pub mod Receivers
+pub mod Cutting
 pub mod Calls
 pub mod Answer
 pub mod Past

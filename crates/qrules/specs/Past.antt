@@ -8,7 +8,7 @@ use Rattle.qtables.specs.Members.{member_at}
 use Rattle.qtables.specs.declared.connection.Connection.{Connection}
 use Rattle.qtables.specs.declared.member.Member.{Member}
 use Rattle.qrules.specs.declared.call.Call.{Call}
-use Rattle.qrules.specs.declared.call.Call.TheVariants.{ChannelCreate, ConnectAttach, Send, Receive, Reply, Error, Read, Write, Info, ReceivePulse, Pulse, PrioritySet, State}
+use Rattle.qrules.specs.declared.call.Call.TheVariants.{ChannelCreate, ConnectAttach, Send, Receive, Reply, Error, Read, Write, Info, ReceivePulse, Pulse, PrioritySet, State, ChannelDestroy, Shutdown}
 use Rattle.qrules.specs.declared.call.Completion.{Completion}
 use Rattle.qrules.specs.declared.call.Mark.{Mark}
 use Rattle.qrules.specs.declared.call.Mark.TheVariants as mark
@@ -18,7 +18,7 @@ use Rattle.qrules.specs.declared.open_call.Wait.{Wait}
 use Rattle.qrules.specs.declared.open_call.Wait.TheVariants.{Answer, Item as ForItem}
 use Rattle.qrules.specs.Trace.{Event, Trace}
 use Rattle.qrules.specs.Facts.{OpenChannel, is_fixed}
-use Rattle.qrules.specs.Rows.{Made, asks, makes, received, writes, written_over, with_buffer, set_for, sets}
+use Rattle.qrules.specs.Rows.{Made, asks, closes, makes, names, shuts_down, received, writes, written_over, with_buffer, set_for, sets}
 
 -- ---- accepted, ended
 
@@ -80,10 +80,29 @@ creates (Some m) (ReceivePulse chid) = None
 creates (Some m) (Pulse coid priority code value) = None
 creates (Some m) (PrioritySet thread priority) = None
 creates (Some m) (State thread) = None
+creates (Some m) (ChannelDestroy chid) = None
+creates (Some m) Shutdown = None
 
--- the open channel h: an accepted ChannelCreate has that number
+-- a call of which this is so was accepted
+abbrev pub was_accepted : (Call → Bool) → Trace → Bool
+was_accepted is_such [] = false
+was_accepted is_such (e ∷ past) = (is_accepted e past && is_such e.call) || was_accepted is_such past
+
+-- the kernel is shut down
+abbrev pub is_down : Trace → Bool
+is_down past = was_accepted shuts_down past
+
+-- channel h is destroyed
+abbrev pub is_closed : Trace → ℕ → Bool
+is_closed past h = was_accepted (λ c. names (closes c) h) past
+
+-- the channel of number h that was created
+abbrev pub created : List Member → Trace → ℕ → Option OpenChannel
+created roster past h = made_at (λ e. creates (member_at roster e.thread) e.call) past h
+
+-- the open channel h: an accepted ChannelCreate has that number, and no accepted ChannelDestroy names it
 abbrev pub channel_at : List Member → Trace → ℕ → Option OpenChannel
-channel_at roster past h = made_at (λ e. creates (member_at roster e.thread) e.call) past h
+channel_at roster past h = if is_closed past h then None else created roster past h
 
 -- how many channels are open
 abbrev pub open_channels : List Member → Trace → ℕ
@@ -105,6 +124,8 @@ attaches (Some m) (ReceivePulse chid) = None
 attaches (Some m) (Pulse coid priority code value) = None
 attaches (Some m) (PrioritySet thread priority) = None
 attaches (Some m) (State thread) = None
+attaches (Some m) (ChannelDestroy chid) = None
+attaches (Some m) Shutdown = None
 
 -- the live connection k: an accepted ConnectAttach has that number
 abbrev pub connection_at : List Member → Trace → ℕ → Option Connection
@@ -201,9 +222,10 @@ is_taken past i = is_some (receipt_of past i)
 abbrev pub is_gone : Trace → Item → Bool
 is_gone past item = is_taken past item.number || (not (is_pulse item.what) && is_ended past item.number)
 
--- the items of channel h that are not gone, in rising number
+-- the items of channel h that are not gone, in rising number; none where it is destroyed
 abbrev pub pending : List Member → Trace → ℕ → List Item
-pending roster past h = filter (λ item. not (is_gone past item)) (map (λ m. m.item) (filter (λ m. m.channel == h) (items roster past)))
+pending roster past h =
+    if is_closed past h then [] else filter (λ item. not (is_gone past item)) (map (λ m. m.item) (filter (λ m. m.channel == h) (items roster past)))
 
 -- ---- open calls
 

@@ -7,6 +7,7 @@ use Rattle.qrules.specs.Headline.AnsweredToSender.{AnsweredToSender}
 use Rattle.qrules.specs.Headline.CopiedExactly.{CopiedExactly}
 use Rattle.qrules.specs.Headline.BestFirst.{BestFirst}
 use Rattle.qrules.specs.Headline.SentOrder.{SentOrder}
+use Rattle.qrules.specs.Headline.ShutForGood.{ShutForGood}
 
 -- all of them
 pub record HasProperties (roster : List Member) (past : Trace) : Type 0 where
@@ -15,3 +16,4 @@ pub record HasProperties (roster : List Member) (past : Trace) : Type 0 where
   pub copied_exactly : CopiedExactly past
   pub best_first : BestFirst roster past
   pub sent_order : SentOrder roster past
+  pub shut_for_good : ShutForGood roster past

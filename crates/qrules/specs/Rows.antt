@@ -1,5 +1,5 @@
 -- What a row of the table of calls says, and what the rows share.
-use Rattle.std.specs.Prelude.{ℕ, ℤ, ◌==◌, Bool, List, [], Option, None, Some, if◌then◌else◌}
+use Rattle.std.specs.Prelude.{ℕ, ℤ, ◌==◌, Bool, true, false, List, [], Option, None, Some, if◌then◌else◌}
 use Rattle.qbase.specs.Laying.{laid_count, lay_over}
 use Rattle.qbase.specs.declared.errno.Errno.{Errno}
 use Rattle.qqueue.specs.declared.item.Item.{Item}
@@ -8,7 +8,7 @@ use Rattle.qqueue.specs.declared.item.Kind.TheVariants.{Any, PulseOnly}
 use Rattle.qqueue.specs.declared.item.What.TheVariants.{Message, User}
 use Rattle.qtables.specs.declared.connection.Connection.{Connection}
 use Rattle.qrules.specs.declared.call.Call.{Call}
-use Rattle.qrules.specs.declared.call.Call.TheVariants.{ChannelCreate, ConnectAttach, Send, Receive, Reply, Error, Read, Write, Info, ReceivePulse, Pulse, PrioritySet, State}
+use Rattle.qrules.specs.declared.call.Call.TheVariants.{ChannelCreate, ConnectAttach, Send, Receive, Reply, Error, Read, Write, Info, ReceivePulse, Pulse, PrioritySet, State, ChannelDestroy, Shutdown}
 use Rattle.qrules.specs.declared.call.Completion.{Completion}
 use Rattle.qrules.specs.declared.call.Mark.{Mark}
 use Rattle.qrules.specs.declared.call.Mark.TheVariants as mark
@@ -60,6 +60,8 @@ asks n (ReceivePulse chid) = Some (record { number = n; wait = ForItem chid Puls
 asks n (Pulse coid priority code value) = None
 asks n (PrioritySet thread priority) = None
 asks n (State thread) = None
+asks n (ChannelDestroy chid) = None
+asks n Shutdown = None
 
 -- ---- items
 
@@ -92,6 +94,8 @@ makes connection priority n t (ReceivePulse chid) = None
 makes connection priority n t (Pulse coid level code value) = sent_over (connection coid) (pulse_item n level code value)
 makes connection priority n t (PrioritySet thread level) = None
 makes connection priority n t (State thread) = None
+makes connection priority n t (ChannelDestroy chid) = None
+makes connection priority n t Shutdown = None
 
 -- ---- writing
 
@@ -116,6 +120,8 @@ writes (ReceivePulse chid) = None
 writes (Pulse coid priority code value) = None
 writes (PrioritySet thread priority) = None
 writes (State thread) = None
+writes (ChannelDestroy chid) = None
+writes Shutdown = None
 
 -- ---- setting priorities
 
@@ -139,11 +145,56 @@ sets (Info rcvid) = None
 sets (ReceivePulse chid) = None
 sets (Pulse coid priority code value) = None
 sets (State thread) = None
+sets (ChannelDestroy chid) = None
+sets Shutdown = None
 
 -- the priority that is set for thread u
 abbrev pub set_for : Option Setting → ℕ → Option ℕ
 set_for None u = None
 set_for (Some s) u = if s.thread == u then Some s.priority else None
+
+-- ---- closing
+
+-- the channel that a call destroys
+abbrev pub closes : Call → Option ℕ
+closes (ChannelDestroy chid) = Some chid
+closes (ChannelCreate flags) = None
+closes (ConnectAttach chid) = None
+closes (Send coid message reply_buffer) = None
+closes (Receive chid buffer) = None
+closes (Reply rcvid status bytes) = None
+closes (Error rcvid code) = None
+closes (Read rcvid offset buffer) = None
+closes (Write rcvid offset bytes) = None
+closes (Info rcvid) = None
+closes (ReceivePulse chid) = None
+closes (Pulse coid priority code value) = None
+closes (PrioritySet thread priority) = None
+closes (State thread) = None
+closes Shutdown = None
+
+-- this is the one
+abbrev pub names : Option ℕ → ℕ → Bool
+names None h = false
+names (Some k) h = k == h
+
+-- the call shuts the kernel down
+abbrev pub shuts_down : Call → Bool
+shuts_down Shutdown = true
+shuts_down (ChannelCreate flags) = false
+shuts_down (ConnectAttach chid) = false
+shuts_down (Send coid message reply_buffer) = false
+shuts_down (Receive chid buffer) = false
+shuts_down (Reply rcvid status bytes) = false
+shuts_down (Error rcvid code) = false
+shuts_down (Read rcvid offset buffer) = false
+shuts_down (Write rcvid offset bytes) = false
+shuts_down (Info rcvid) = false
+shuts_down (ReceivePulse chid) = false
+shuts_down (Pulse coid priority code value) = false
+shuts_down (PrioritySet thread priority) = false
+shuts_down (State thread) = false
+shuts_down (ChannelDestroy chid) = false
 
 -- ---- buffers
 

@@ -1,5 +1,6 @@
 -- One call by its facts: what they are after it.
-use Rattle.std.specs.Prelude.{◌≡◌, ℕ, ◌+◌, ◌==◌, Bool, false, is_some, List, [], ◌∷◌, ◌++◌, Option, None, Some, if◌then◌else◌, unwrap_or}
+use Rattle.std.specs.Prelude.{◌≡◌, ℕ, ◌+◌, ◌==◌, ◌&&◌, ◌||◌, not, filter, Bool, false, is_some, List, [], ◌∷◌, ◌++◌, Option, None, Some, if◌then◌else◌, unwrap_or}
+use Rattle.std.specs.List.{list_any}
 use Rattle.std.specs.Option.{option_map}
 use Rattle.qbase.specs.Laying.{lay_over}
 use Rattle.qqueue.specs.Best.{without}
@@ -9,8 +10,9 @@ use Rattle.qtables.specs.declared.connection.Connection.{Connection}
 use Rattle.qrules.specs.declared.call.Call.{Call}
 use Rattle.qrules.specs.declared.open_call.OpenCall.{OpenCall}
 use Rattle.qrules.specs.declared.open_call.Receipt.{Receipt}
-use Rattle.qrules.specs.Facts.{Facts, OpenChannel, sender, is_fixed}
-use Rattle.qrules.specs.Rows.{Made, Received, Written, asks, makes, writes, with_buffer, set_for, sets}
+use Rattle.qrules.specs.Cutting.{is_unread_send}
+use Rattle.qrules.specs.Facts.{Facts, OpenChannel, sender, is_fixed, threads_of}
+use Rattle.qrules.specs.Rows.{Made, Received, Written, asks, closes, makes, names, shuts_down, writes, with_buffer, set_for, sets}
 use Rattle.qrules.specs.Answer.{row_of}
 use Rattle.qrules.specs.Past.{creates, attaches, held_with, first_some}
 
@@ -24,8 +26,9 @@ abbrev pub one_for : {A : Type 0} → Option A → ℕ
 one_for None = 0
 one_for (Some x) = 1
 
+-- a call may create a channel, and may destroy one
 abbrev pub channel_after : Facts → ℕ → Call → ℕ → Option OpenChannel
-channel_after f t c = put_at (creates (member_at f.roster t) c) f.number f.channel
+channel_after f t c h = if names (closes c) h then None else put_at (creates (member_at f.roster t) c) f.number f.channel h
 
 abbrev pub connection_after : Facts → ℕ → Call → ℕ → Option Connection
 connection_after f t c = put_at (attaches (member_at f.roster t) c) f.number f.connection
@@ -71,8 +74,19 @@ abbrev pub taken_out : Option Received → ℕ → List Item → List Item
 taken_out None h items = items
 taken_out (Some r) h items = if r.channel == h then without r.item items else items
 
+-- the call ends a Send of number i that is blocked on channel h and not received
+abbrev pub is_cut : Facts → ℕ → Call → ℕ → ℕ → Bool
+is_cut f t c h i = list_any (λ s. is_unread_send f.connection h i (f.open_call s) && is_some ((row_of f t c).ends s)) (threads_of f.roster)
+
+-- the items of channel h but the messages whose Sends the call ends
+abbrev pub left_by : Facts → ℕ → Call → ℕ → List Item → List Item
+left_by f t c h items = filter (λ item. not (is_cut f t c h item.number)) items
+
+-- nothing is left of a channel that is destroyed; from any other a message goes whose Send ends, the item that the call makes joins, and the
+-- one that is received goes
 abbrev pub pending_after : Facts → ℕ → Call → ℕ → List Item
-pending_after f t c h = taken_out (row_of f t c).receipt h (f.pending h ++ made_on h (makes f.connection f.priority f.number t c))
+pending_after f t c h =
+    if names (closes c) h then [] else taken_out (row_of f t c).receipt h (left_by f t c h (f.pending h) ++ made_on h (makes f.connection f.priority f.number t c))
 
 -- the priority that thread u takes by a receipt: the item's, unless its channel leaves priorities as they are
 abbrev pub taken_by : Facts → Option Received → ℕ → Option ℕ
@@ -86,8 +100,9 @@ priority_after f t c u = unwrap_or (first_some (set_for (sets c) u) (taken_by f 
 pub record Follows (f : Facts) (t : ℕ) (c : Call) (accepted : Bool) (g : Facts) : Type 0 where
   pub roster : g.roster ≡ f.roster
   pub number : g.number ≡ f.number + 1
+  pub down : g.down ≡ (if accepted then shuts_down c || f.down else f.down)
   pub channel : (h : ℕ) → g.channel h ≡ (if accepted then channel_after f t c h else f.channel h)
-  pub open_channels : g.open_channels ≡ f.open_channels + (if accepted then one_for (creates (member_at f.roster t) c) else 0)
+  pub open_channels : g.open_channels + (if accepted then one_for (closes c) else 0) ≡ f.open_channels + (if accepted then one_for (creates (member_at f.roster t) c) else 0)
   pub connection : (k : ℕ) → g.connection k ≡ (if accepted then connection_after f t c k else f.connection k)
   pub live_connections : g.live_connections ≡ f.live_connections + (if accepted then one_for (attaches (member_at f.roster t) c) else 0)
   pub open_call : (u : ℕ) → g.open_call u ≡ (if accepted then open_call_after f t c u else f.open_call u)

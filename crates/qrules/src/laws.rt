@@ -1,7 +1,7 @@
 //! What the definitions of the past mean. Each function does nothing: its contract is a law that is proved of
 //! all lawful traces.
 
-ghost use Rattle.qrules.specs.Laws.{AtMostOneOpen, NonePendingIsHeld, OpenIsUnended, PendingIsOpen, PendingRises, ReceivedWasSent};
+ghost use Rattle.qrules.specs.Laws.{AtMostOneOpen, EndingsNameOwnCalls, NonePendingIsHeld, NothingFromDestroyed, OnlyRefusedWhenDown, OpenIsUnended, PendingIsOpen, PendingRises, PulsesAreLimited, ReceivedWasSent};
 
 /// A message that is received was sent before or by the same event, to the channel on which it is received.
 pub fn received_was_sent()
@@ -20,4 +20,24 @@ pub fn pending_is_sent()
     ensures rising { PendingRises }
     ensures unheld { NonePendingIsHeld }
     ensures waiting { PendingIsOpen }
+{}
+
+/// Nothing is received from a channel once it is destroyed, in the event that destroys it or later.
+pub fn nothing_from_destroyed()
+    ensures { NothingFromDestroyed }
+{}
+
+/// After an accepted Shutdown every call is refused with `Down`, gets its buffer back, and ends no other.
+pub fn only_refused_when_down()
+    ensures { OnlyRefusedWhenDown }
+{}
+
+/// Each ending goes to the thread that made the call that it ends.
+pub fn endings_name_own_calls()
+    ensures { EndingsNameOwnCalls }
+{}
+
+/// There are never more than 1,024 pulses pending on a channel.
+pub fn pulses_are_limited()
+    ensures { PulsesAreLimited }
 {}

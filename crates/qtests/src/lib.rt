@@ -6,6 +6,8 @@
 #[cfg(test)]
 mod answers;
 #[cfg(test)]
+mod ending;
+#[cfg(test)]
 mod held;
 #[cfg(test)]
 mod making;

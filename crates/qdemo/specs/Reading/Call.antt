@@ -19,6 +19,8 @@ use Rattle.qdemo.specs.Reading.Forms.ReceivePulse.{receivepulse_of}
 use Rattle.qdemo.specs.Reading.Forms.Pulse.{pulse_of}
 use Rattle.qdemo.specs.Reading.Forms.SetPrio.{setprio_of}
 use Rattle.qdemo.specs.Reading.Forms.State.{state_of}
+use Rattle.qdemo.specs.Reading.Forms.Destroy.{destroy_of}
+use Rattle.qdemo.specs.Reading.Forms.Shutdown.{shutdown_of}
 
 -- the verb that a word is
 unfoldable pub verb_of : List ℕ → Option Verb
@@ -36,6 +38,8 @@ verb_of word =
     else if bytes_eq word (codes "pulse") then Some verbs.Pulse
     else if bytes_eq word (codes "setprio") then Some verbs.SetPrio
     else if bytes_eq word (codes "state") then Some verbs.State
+    else if bytes_eq word (codes "destroy") then Some verbs.Destroy
+    else if bytes_eq word (codes "shutdown") then Some verbs.Shutdown
     else None
 
 -- the call of a verb and its operands
@@ -53,6 +57,8 @@ call_by (Some verbs.ReceivePulse) operands = receivepulse_of operands
 call_by (Some verbs.Pulse) operands = pulse_of operands
 call_by (Some verbs.SetPrio) operands = setprio_of operands
 call_by (Some verbs.State) operands = state_of operands
+call_by (Some verbs.Destroy) operands = destroy_of operands
+call_by (Some verbs.Shutdown) operands = shutdown_of operands
 call_by None operands = Err UnknownWord
 
 -- the call of a word and its operands

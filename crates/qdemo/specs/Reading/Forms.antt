@@ -11,5 +11,7 @@ pub mod Reply
 pub mod Send
 pub mod SetPrio
 pub mod State
+pub mod Destroy
+pub mod Shutdown
 pub mod Thread
 pub mod Write

@@ -29,6 +29,8 @@ fn shows(call: &Call) -> bool
         Call::Pulse { .. } => false,
         Call::PrioritySet { .. } => false,
         Call::State(_) => false,
+        Call::ChannelDestroy(_) => false,
+        Call::Shutdown => false,
     }
 }
 

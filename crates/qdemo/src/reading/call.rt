@@ -6,8 +6,8 @@ ghost use Rattle.qdemo.specs.Reading.Words.{words_of};
 
 use crate::fault::{LineFault, ParseError};
 use crate::reading::forms::{
-    attach, create, error, info, pulse, read, receive, receivepulse, reply, send, setprio, state,
-    write,
+    attach, create, destroy, error, info, pulse, read, receive, receivepulse, reply, send, setprio,
+    shutdown, state, write,
 };
 use crate::reading::verb::{Verb, verb_named};
 use qkernel::call::Call;
@@ -32,6 +32,8 @@ pub fn call_named(alloc: Global, word: &[u8], operands: &[u8]) -> Result<Call, P
         Some(Verb::Pulse) => pulse::call(operands),
         Some(Verb::SetPrio) => setprio::call(operands),
         Some(Verb::State) => state::call(operands),
+        Some(Verb::Destroy) => destroy::call(operands),
+        Some(Verb::Shutdown) => shutdown::call(operands),
         None => Err(ParseError::Fault(LineFault::UnknownWord)),
     }
 }

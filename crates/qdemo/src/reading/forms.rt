@@ -2,6 +2,7 @@
 
 pub mod attach;
 pub mod create;
+pub mod destroy;
 pub mod error;
 pub mod info;
 pub mod pulse;
@@ -11,6 +12,7 @@ pub mod receivepulse;
 pub mod reply;
 pub mod send;
 pub mod setprio;
+pub mod shutdown;
 pub mod state;
 pub mod thread;
 pub mod write;

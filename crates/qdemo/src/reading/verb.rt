@@ -20,6 +20,8 @@ pub enum Verb {
     Pulse,
     SetPrio,
     State,
+    Destroy,
+    Shutdown,
 }
 
 /// Whether the word is this one.
@@ -60,6 +62,10 @@ pub fn verb_named(word: &[u8]) -> Option<Verb>
         Some(Verb::SetPrio)
     } else if is(word, "state") {
         Some(Verb::State)
+    } else if is(word, "destroy") {
+        Some(Verb::Destroy)
+    } else if is(word, "shutdown") {
+        Some(Verb::Shutdown)
     } else {
         None
     }

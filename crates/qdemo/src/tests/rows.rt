@@ -45,6 +45,10 @@ fn refused(rt: HostRuntime) -> Result<(), Fail> {
             b"thread 1 1 10\n7 create 0\n".as_slice(),
             "line 2: unknown thread",
         ),
+        (
+            b"thread 1 1 10\n7 shutdown\n".as_slice(),
+            "line 2: unknown thread",
+        ),
     ] {
         expect_refusal(&rt, rt.alloc(), input, words, 1)?;
     }
@@ -222,4 +226,33 @@ fn priorities(rt: HostRuntime) -> Result<(), Fail> {
         expect_after_prelude(&rt, rt.alloc(), lines, text)?;
     }
     Ok(())
+}
+
+// A destroyed channel, with the calls that it ends and those that come after, and a shutdown.
+#[test]
+fn endings_by_force(rt: HostRuntime) -> Result<(), Fail> {
+    for (lines, text) in [
+        (
+            b"1 receive 1 -\n1 state 1\n2 shutdown\n1 create 0\n".as_slice(),
+            b"4 4 1 fail busy\n5 3 1 fail srch -\n5 5 2 ok\n6 6 1 fail down\n".as_slice(),
+        ),
+        (
+            b"2 send 2 aa -\n1 receive 1 -\n3 send 2 bb -\n4 receivepulse 1\n1 destroy 1\n2 send 2 cc 1xaa\n1 receive 1 1xbb\n1 destroy 1\n".as_slice(),
+            b"4 4 1 message 3 0 -\n7 7 1 ok\n7 3 2 fail srch -\n7 5 3 fail srch -\n7 6 4 fail srch\n8 8 2 fail badf aa\n9 9 1 fail srch bb\n10 10 1 fail inval\n".as_slice(),
+        ),
+    ] {
+        expect_after_prelude(&rt, rt.alloc(), lines, text)?;
+    }
+    Ok(())
+}
+
+// A line that ends with the text, after a carriage return: no channel has this number.
+#[test]
+fn the_last_line_may_be_open(rt: HostRuntime) {
+    expect_text(
+        &rt,
+        rt.alloc(),
+        b"thread 1 1 10\n1 destroy 00000000000000000001\r",
+        b"1 1 1 fail inval\n",
+    );
 }

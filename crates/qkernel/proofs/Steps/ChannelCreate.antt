@@ -1,5 +1,5 @@
 -- ChannelCreate as a step of the kernel.
-use Rattle.std.proofs.Common.{◌≡◌, ℕ, ◌+◌, ◌≤◌, List, [], ◌∷◌, ◌++◌, length, refl, ap, sym, ◌∙◌, cond, arith, true, false, eqb, append-nil, inl, inr}
+use Rattle.std.proofs.Common.{◌≡◌, ℕ, ◌+◌, ◌≤◌, List, [], ◌∷◌, ◌++◌, length, refl, ap, sym, ◌∙◌, cond, arith, true, false, eqb, append-nil, inl, inr, add-zero}
 use Rattle.std.specs.Prelude.{None, Some, nat_lt}
 use Rattle.std.specs.List.{AllByRecursion}
 use Rattle.std.specs.Option.{option_map}
@@ -23,7 +23,7 @@ use Rattle.qkernel.specs.Stands.{Steps}
 use Rattle.qrules.specs.Step.{put_at, one_for}
 use Rattle.qrecords.specs.Threads.{members_of, open_in}
 use Rattle.qrules.proofs.Rosters.{rises, among, only_own}
-use Rattle.qkernel.proofs.Steps.Common.{counted, step_refused_alone, all_up_to, all_push, stays_free}
+use Rattle.qkernel.proofs.Steps.Common.{uncut, counted, step_refused_alone, all_up_to, all_push, stays_free}
 use Rattle.qkernel.proofs.Tables.{entry_at-push, entry_at-above, length-push}
 
 ids_entries : (n : ℕ) (channels : List (ℕ × Channel)) → AllByRecursion (λ id. id ≤ n) (ids_of channels) → AllByRecursion (λ e. e.0 ≤ n) channels
@@ -35,23 +35,24 @@ ids_push [] e = refl
 ids_push (x ∷ channels) e = ap (λ ns. x.0 ∷ ns) (ids_push channels e)
 
 -- the table's refusal is the row's, or want of memory
-may_refuse : (s : State) (t : ℕ) (flags : ChannelFlags) (e : Errno) → open_in s.threads t ≡ None → nat_lt flags.0 8 ≡ true → e ≡ cond (eqb (length s.channels) 64) Again NoMemory
+may_refuse : (s : State) (t : ℕ) (flags : ChannelFlags) (e : Errno) → s.down ≡ false → open_in s.threads t ≡ None → nat_lt flags.0 8 ≡ true → e ≡ cond (eqb (length s.channels) 64) Again NoMemory
     → MayRefuse (facts_in s) t (ChannelCreate flags) e
-may_refuse s t flags e free known is =
+may_refuse s t flags e up free known is =
     elim (eqb (length s.channels) 64) as (λ b. eqb (length s.channels) 64 ≡ b → e ≡ cond b Again NoMemory → MayRefuse (facts_in s) t (ChannelCreate flags) e) [
-      | true ↦ λ full same. inl (rw (free, known, full) (ap Some (sym same)))
-      | false ↦ λ room same. inr (rw (free, known, room) refl, refl, same)
+      | true ↦ λ full same. inl (rw (up, free, known, full) (ap Some (sym same)))
+      | false ↦ λ room same. inr (rw (up, free, known, room) refl, refl, same)
     ] refl is
 
-pub step_create_refused : (s : State) (t : ℕ) (flags : ChannelFlags) (e : Errno) (X : List Completion) → open_in s.threads t ≡ None → nat_lt flags.0 8 ≡ true → e ≡ cond (eqb (length s.channels) 64) Again NoMemory
+pub step_create_refused : (s : State) (t : ℕ) (flags : ChannelFlags) (e : Errno) (X : List Completion) → s.down ≡ false → open_in s.threads t ≡ None → nat_lt flags.0 8 ≡ true → e ≡ cond (eqb (length s.channels) 64) Again NoMemory
     → X ≡ failed (facts_in s) t (ChannelCreate flags) e ∷ [] → Steps s t (ChannelCreate flags) X (counted s)
-step_create_refused s t flags e X free known is X_is = step_refused_alone s t (ChannelCreate flags) e X (may_refuse s t flags e free known is) X_is
+step_create_refused s t flags e X up free known is X_is = step_refused_alone s t (ChannelCreate flags) e X (may_refuse s t flags e up free known is) X_is
 
 module _ (s : State) (t : ℕ) (flags : ChannelFlags) (m : Member) (q : Contents) (sound : IsSound s) (empty : q.items ≡ []) where
   -- the new channel, and the kernel with it
   abbrev pub with_channel : State
   with_channel = record {
     made = s.made + 1;
+    down = s.down;
     threads = s.threads;
     channels = s.channels ++ (s.made + 1, record { owner = m.process; flags = flags; queue = q }) ∷ [];
     connections = s.connections;
@@ -76,24 +77,25 @@ module _ (s : State) (t : ℕ) (flags : ChannelFlags) (m : Member) (q : Contents
         | false ↦ λ e. refl
       ] refl)
 
-  pub step_created : (X : List Completion) → member_at (members_of s.threads) t ≡ Some m → open_in s.threads t ≡ None → nat_lt flags.0 8 ≡ true → eqb (length s.channels) 64 ≡ false
+  pub step_created : (X : List Completion) → member_at (members_of s.threads) t ≡ Some m → s.down ≡ false → open_in s.threads t ≡ None → nat_lt flags.0 8 ≡ true → eqb (length s.channels) 64 ≡ false
       → X ≡ record { call = s.made + 1; thread = t; mark = mark.Channel (s.made + 1); buffer = [] } ∷ [] → Steps s t (ChannelCreate flags) X with_channel
-  step_created X known free is_known room is = (
+  step_created X known up free is_known room is = (
     true,
     record {
       answer = (
-        rw (free, is_known, room) refl,
+        rw (up, free, is_known, room) refl,
         is ∙ sym (only_own _ t (Some (record { call = s.made + 1; thread = t; mark = mark.Channel (s.made + 1); buffer = [] })) (rises (members_of s.threads) sound.roster) (among (members_of s.threads) t m known)),
       );
       follows = record {
         roster = refl;
         number = refl;
+        down = refl;
         channel = λ h. channel_there h ∙ ap (λ o. put_at (creates o (ChannelCreate flags)) (s.made + 1) (channel_in s.channels) h) (sym known);
-        open_channels = length-push s.channels _ ∙ ap (λ o. length s.channels + one_for (creates o (ChannelCreate flags))) (sym known);
+        open_channels = add-zero _ ∙ length-push s.channels _ ∙ ap (λ o. length s.channels + one_for (creates o (ChannelCreate flags))) (sym known);
         connection = λ k. rw known refl;
         live_connections = rw known (omega arith);
         open_call = λ u. stays_free s.threads t u free;
-        pending = λ h. pending_there h ∙ sym (append-nil (pending_in s.channels h));
+        pending = λ h. uncut s t (ChannelCreate flags) (rw (up, free, is_known, room) refl) refl refl h (pending_there h ∙ sym (append-nil (pending_in s.channels h)));
         priority = λ u. refl;
       };
     },

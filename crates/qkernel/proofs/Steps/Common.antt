@@ -12,7 +12,14 @@ use Rattle.qrules.specs.declared.call.Completion.{Completion}
 use Rattle.qrecords.specs.declared.channel.Channel.{Channel}
 use Rattle.qrecords.specs.declared.thread.Thread.{Thread}
 use Rattle.qbase.specs.declared.errno.Errno.{Errno}
-use Rattle.qrules.specs.Answer.{MayRefuse, failed}
+use Rattle.qqueue.specs.declared.item.Item.{Item}
+use Rattle.qrules.specs.Answer.{MayRefuse, failed, refusal, row_of}
+use Rattle.qrules.specs.Rows.{closes, makes, names}
+use Rattle.qrules.specs.Step.{left_by, made_on, pending_after, taken_out}
+use Rattle.qrules.proofs.Past.Cuts.{none_cut}
+use Rattle.qrules.proofs.Past.Ends.{row_passes}
+use Rattle.qrules.proofs.Past.Laws.{is_forceful}
+use Rattle.qrules.proofs.Past.RowLaws.{row_laws}
 use Rattle.qrecords.specs.Channels.{channel_in, pending_in, ids_of, is_of, way_in}
 use Rattle.qrules.specs.Facts.{Facts, OpenChannel, is_in_process, is_owned_by, leads_to}
 use Rattle.qkernel.specs.State.{State, IsSound, facts_in}
@@ -24,6 +31,7 @@ use Rattle.qrecords.specs.Threads.{members_of, open_in, level_in}
 -- one more call was made, and of the channels at most their room has changed
 pub record Counted (old new : State) : Type 0 where
   pub made : new.made ≡ old.made + 1
+  pub down : new.down ≡ old.down
   pub threads : new.threads ≡ old.threads
   pub connections : new.connections ≡ old.connections
   pub ids : ids_of new.channels ≡ ids_of old.channels
@@ -31,10 +39,10 @@ pub record Counted (old new : State) : Type 0 where
   pub pending : (h : ℕ) → pending_in new.channels h ≡ pending_in old.channels h
 
 abbrev pub counted : State → State
-counted s = record { made = s.made + 1; threads = s.threads; channels = s.channels; connections = s.connections }
+counted s = record { made = s.made + 1; down = s.down; threads = s.threads; channels = s.channels; connections = s.connections }
 
 pub counted_alone : (s : State) → Counted s (counted s)
-counted_alone s = record { made = refl; threads = refl; connections = refl; ids = refl; channel = λ h. refl; pending = λ h. refl }
+counted_alone s = record { made = refl; down = refl; threads = refl; connections = refl; ids = refl; channel = λ h. refl; pending = λ h. refl }
 
 pub length_ids : (channels : List (ℕ × Channel)) → length (ids_of channels) ≡ length channels
 length_ids [] = refl
@@ -52,8 +60,9 @@ step_refused s t c e X new may is counted = (
     follows = record {
       roster = ap members_of counted.threads;
       number = ap (λ n. n + 1) counted.made;
+      down = counted.down;
       channel = counted.channel;
-      open_channels = count_same s.channels new.channels counted.ids ∙ sym (add-zero (length s.channels));
+      open_channels = ap (λ n. n + 0) (count_same s.channels new.channels counted.ids);
       connection = λ k. ap (λ cs. entry_at cs k) counted.connections;
       live_connections = ap length counted.connections ∙ sym (add-zero (length s.connections));
       open_call = λ u. ap (λ ts. open_in ts u) counted.threads;
@@ -67,6 +76,18 @@ step_refused s t c e X new may is counted = (
 pub step_refused_alone : (s : State) (t : ℕ) (c : Call) (e : Errno) (X : List Completion) → MayRefuse (facts_in s) t c e → X ≡ failed (facts_in s) t c e ∷ []
     → Steps s t c X (counted s)
 step_refused_alone s t c e X may is = step_refused s t c e X _ may is (counted_alone s)
+
+-- ---- accepted calls
+
+-- what is pending after a call that neither destroys a channel nor ends others by force
+pub uncut : (s : State) (t : ℕ) (c : Call) → refusal (facts_in s) t c ≡ None → is_forceful c ≡ false → closes c ≡ None → (h : ℕ) {x : List Item}
+    → x ≡ taken_out (row_of (facts_in s) t c).receipt h (pending_in s.channels h ++ made_on h (makes (facts_in s).connection (facts_in s).priority (s.made + 1) t c)) → x ≡ pending_after (facts_in s) t c h
+uncut s t c passed mild closes_none h {x} is =
+    let f = facts_in s in
+    let M = made_on h (makes (facts_in s).connection (facts_in s).priority (s.made + 1) t c) in
+    is
+    ∙ ap (λ l. taken_out (row_of f t c).receipt h (l ++ M)) (sym (none_cut f t c (row_laws f t c (row_passes f t c passed)) mild h (pending_in s.channels h)))
+    ∙ ap (λ o. cond (names o h) [] (taken_out (row_of f t c).receipt h (left_by f t c h (pending_in s.channels h) ++ M))) (sym closes_none)
 
 -- ---- soundness
 

@@ -17,55 +17,57 @@ use Rattle.qkernel.specs.Stands.{Steps}
 use Rattle.qrules.specs.Step.{put_at, one_for}
 use Rattle.qrecords.specs.Threads.{members_of, open_in}
 use Rattle.qrules.proofs.Rosters.{rises, among, only_own}
-use Rattle.qkernel.proofs.Steps.Common.{counted, step_refused_alone, all_up_to, all_push, stays_free}
+use Rattle.qkernel.proofs.Steps.Common.{uncut, counted, step_refused_alone, all_up_to, all_push, stays_free}
 use Rattle.qkernel.proofs.Tables.{entry_at-push, length-push}
 
-pub step_attach_nowhere : (s : State) (t chid : ℕ) (X : List Completion) → open_in s.threads t ≡ None → is_some (channel_in s.channels chid) ≡ false
+pub step_attach_nowhere : (s : State) (t chid : ℕ) (X : List Completion) → s.down ≡ false → open_in s.threads t ≡ None → is_some (channel_in s.channels chid) ≡ false
     → X ≡ failed (facts_in s) t (ConnectAttach chid) Srch ∷ [] → Steps s t (ConnectAttach chid) X (counted s)
-step_attach_nowhere s t chid X free closed is = step_refused_alone s t (ConnectAttach chid) Srch X (inl (rw (free, closed) refl)) is
+step_attach_nowhere s t chid X up free closed is = step_refused_alone s t (ConnectAttach chid) Srch X (inl (rw (up, free, closed) refl)) is
 
 -- the table's refusal is the row's, or want of memory
-may_refuse : (s : State) (t chid : ℕ) (e : Errno) → open_in s.threads t ≡ None → is_some (channel_in s.channels chid) ≡ true → e ≡ cond (eqb (length s.connections) 1024) Again NoMemory
+may_refuse : (s : State) (t chid : ℕ) (e : Errno) → s.down ≡ false → open_in s.threads t ≡ None → is_some (channel_in s.channels chid) ≡ true → e ≡ cond (eqb (length s.connections) 1024) Again NoMemory
     → MayRefuse (facts_in s) t (ConnectAttach chid) e
-may_refuse s t chid e free opens is =
+may_refuse s t chid e up free opens is =
     elim (eqb (length s.connections) 1024) as (λ b. eqb (length s.connections) 1024 ≡ b → e ≡ cond b Again NoMemory → MayRefuse (facts_in s) t (ConnectAttach chid) e) [
-      | true ↦ λ full same. inl (rw (free, opens, full) (ap Some (sym same)))
-      | false ↦ λ room same. inr (rw (free, opens, room) refl, refl, same)
+      | true ↦ λ full same. inl (rw (up, free, opens, full) (ap Some (sym same)))
+      | false ↦ λ room same. inr (rw (up, free, opens, room) refl, refl, same)
     ] refl is
 
-pub step_attach_refused : (s : State) (t chid : ℕ) (e : Errno) (X : List Completion) → open_in s.threads t ≡ None → is_some (channel_in s.channels chid) ≡ true → e ≡ cond (eqb (length s.connections) 1024) Again NoMemory
+pub step_attach_refused : (s : State) (t chid : ℕ) (e : Errno) (X : List Completion) → s.down ≡ false → open_in s.threads t ≡ None → is_some (channel_in s.channels chid) ≡ true → e ≡ cond (eqb (length s.connections) 1024) Again NoMemory
     → X ≡ failed (facts_in s) t (ConnectAttach chid) e ∷ [] → Steps s t (ConnectAttach chid) X (counted s)
-step_attach_refused s t chid e X free opens is X_is = step_refused_alone s t (ConnectAttach chid) e X (may_refuse s t chid e free opens is) X_is
+step_attach_refused s t chid e X up free opens is X_is = step_refused_alone s t (ConnectAttach chid) e X (may_refuse s t chid e up free opens is) X_is
 
 module _ (s : State) (t chid : ℕ) (m : Member) (sound : IsSound s) where
   -- the kernel with the new connection
   abbrev pub with_connection : State
   with_connection = record {
     made = s.made + 1;
+    down = s.down;
     threads = s.threads;
     channels = s.channels;
     connections = s.connections ++ (s.made + 1, record { process = m.process; channel = chid }) ∷ [];
   }
 
-  pub step_attached : (X : List Completion) → member_at (members_of s.threads) t ≡ Some m → open_in s.threads t ≡ None → is_some (channel_in s.channels chid) ≡ true → eqb (length s.connections) 1024 ≡ false
+  pub step_attached : (X : List Completion) → member_at (members_of s.threads) t ≡ Some m → s.down ≡ false → open_in s.threads t ≡ None → is_some (channel_in s.channels chid) ≡ true → eqb (length s.connections) 1024 ≡ false
       → X ≡ record { call = s.made + 1; thread = t; mark = mark.Connection (s.made + 1); buffer = [] } ∷ [] → Steps s t (ConnectAttach chid) X with_connection
-  step_attached X known free opens room is = (
+  step_attached X known up free opens room is = (
     true,
     record {
       answer = (
-        rw (free, opens, room) refl,
+        rw (up, free, opens, room) refl,
         is ∙ sym (only_own _ t (Some (record { call = s.made + 1; thread = t; mark = mark.Connection (s.made + 1); buffer = [] })) (rises (members_of s.threads) sound.roster) (among (members_of s.threads) t m known)),
       );
       follows = record {
         roster = refl;
         number = refl;
+        down = refl;
         channel = λ h. rw known refl;
         open_channels = rw known (omega arith);
         connection = λ k. entry_at-push s.connections s.made (record { process = m.process; channel = chid }) k sound.connection_ids
             ∙ ap (λ o. put_at (attaches o (ConnectAttach chid)) (s.made + 1) (entry_at s.connections) k) (sym known);
         live_connections = length-push s.connections _ ∙ ap (λ o. length s.connections + one_for (attaches o (ConnectAttach chid))) (sym known);
         open_call = λ u. stays_free s.threads t u free;
-        pending = λ h. sym (append-nil _);
+        pending = λ h. uncut s t (ConnectAttach chid) (rw (up, free, opens, room) refl) refl refl h (sym (append-nil _));
         priority = λ u. refl;
       };
     },

@@ -1,5 +1,5 @@
 -- What the steps share that deliver an item.
-use Rattle.std.proofs.Common.{◌≡◌, ℕ, suc, ◌+◌, ◌≤◌, List, [], ◌∷◌, ◌++◌, refl, ap, sym, subst, ◌∙◌, cond, arith, true, false, eqb, append-nil, add-zero, length}
+use Rattle.std.proofs.Common.{◌≡◌, ℕ, suc, ◌+◌, ◌≤◌, List, [], ◌∷◌, ◌++◌, refl, ap, sym, subst, ◌∙◌, cond, arith, true, false, eqb, append-nil, length}
 use Rattle.std.specs.Prelude.{Option, None, Some, is_some, ◌||◌}
 use Rattle.std.specs.List.{AllByRecursion}
 use Rattle.std.specs.Option.{option_map}
@@ -87,8 +87,8 @@ abbrev pub level_of : State → ℕ → Item → Option ℕ
 level_of s h item = cond (is_fixed (channel_in s.channels h)) None (Some item.priority)
 
 -- as many channels as there were
-pub count_kept : (old new : List (ℕ × Channel)) → ids_of new ≡ ids_of old → length new ≡ length old + 0
-count_kept old new e = count_same old new e ∙ sym (add-zero (length old))
+pub count_kept : (old new : List (ℕ × Channel)) → ids_of new ≡ ids_of old → length new + 0 ≡ length old + 0
+count_kept old new e = ap (λ n. n + 0) (count_same old new e)
 
 -- what waits has an open call
 pub waits_open : (h m : ℕ) (item : Item) (o : Option OpenCall) → wait_on h item o ≡ Some m → is_some o ≡ true
@@ -106,9 +106,10 @@ taken_there h m item message u o call r waits same ended none =
 
 -- a write that leaves all items leaves all but the room
 pub counted_room : (s : State) (h : ℕ) (new : List (ℕ × Channel)) → SetsItems h (pending_in s.channels h) s.channels new
-    → Counted s (record { made = s.made + 1; threads = s.threads; channels = new; connections = s.connections })
+    → Counted s (record { made = s.made + 1; down = s.down; threads = s.threads; channels = new; connections = s.connections })
 counted_room s h new sets = record {
   made = refl;
+  down = refl;
   threads = refl;
   connections = refl;
   ids = sets.ids;
@@ -177,7 +178,7 @@ members_length (t ∷ threads) = ap suc (members_length threads)
 pub few_kept : (old new : List Thread) → members_of new ≡ members_of old → length old ≤ 64 → length new ≤ 64
 few_kept old new e few = let same : length new ≡ length old = sym (members_length new) ∙ ap length e ∙ members_length old in omega arith
 
-pub sound_threads : (s : State) (threads : List Thread) → IsSound s → members_of threads ≡ members_of s.threads → IsSound (record { made = s.made + 1; threads = threads; channels = s.channels; connections = s.connections })
+pub sound_threads : (s : State) (threads : List Thread) → IsSound s → members_of threads ≡ members_of s.threads → IsSound (record { made = s.made + 1; down = s.down; threads = threads; channels = s.channels; connections = s.connections })
 sound_threads s threads sound e = record {
   few = few_kept s.threads threads e sound.few;
   roster = rw e sound.roster;
@@ -187,7 +188,7 @@ sound_threads s threads sound e = record {
 }
 
 pub sound_items : (s : State) (threads : List Thread) (channels : List (ℕ × Channel)) (h : ℕ) (items : List Item) → IsSound s → members_of threads ≡ members_of s.threads → SetsItems h items s.channels channels
-    → AllByRecursion (λ item. item.number ≤ s.made + 1) items → IsSound (record { made = s.made + 1; threads = threads; channels = channels; connections = s.connections })
+    → AllByRecursion (λ item. item.number ≤ s.made + 1) items → IsSound (record { made = s.made + 1; down = s.down; threads = threads; channels = channels; connections = s.connections })
 sound_items s threads channels h items sound e sets all = record {
   few = few_kept s.threads threads e sound.few;
   roster = rw e sound.roster;
@@ -200,6 +201,6 @@ sound_items s threads channels h items sound e sets all = record {
 }
 
 pub sound_with_item : (s : State) (threads : List Thread) (channels : List (ℕ × Channel)) (h : ℕ) (item : Item) → IsSound s → members_of threads ≡ members_of s.threads
-    → SetsItems h (pending_in s.channels h ++ item ∷ []) s.channels channels → item.number ≡ s.made + 1 → IsSound (record { made = s.made + 1; threads = threads; channels = channels; connections = s.connections })
+    → SetsItems h (pending_in s.channels h ++ item ∷ []) s.channels channels → item.number ≡ s.made + 1 → IsSound (record { made = s.made + 1; down = s.down; threads = threads; channels = channels; connections = s.connections })
 sound_with_item s threads channels h item sound e sets is =
     sound_items s threads channels h _ sound e sets (all_push (λ x. x.number ≤ s.made + 1) (pending_in s.channels h) item (all_up_to (λ x. x.number) s.made _ (sound.items h)) (omega arith))

@@ -1,5 +1,5 @@
 -- Error as a step of the kernel.
-use Rattle.std.proofs.Common.{◌≡◌, ℕ, ◌+◌, List, [], refl, sym, arith, true, append-nil}
+use Rattle.std.proofs.Common.{◌≡◌, ℕ, ◌+◌, List, [], refl, sym, arith, true, append-nil, false}
 use Rattle.std.specs.Prelude.{ℤ, None, Some}
 use Rattle.qtables.specs.Members.{member_at}
 use Rattle.qtables.specs.declared.member.Member.{Member}
@@ -14,25 +14,27 @@ use Rattle.qrecords.specs.HeldIn.{is_held_in}
 use Rattle.qkernel.specs.State.{State, IsSound}
 use Rattle.qkernel.specs.Stands.{Steps}
 use Rattle.qrecords.specs.Threads.{members_of, open_in, sender_in, SetsOpen}
+use Rattle.qkernel.proofs.Steps.Common.{uncut}
 use Rattle.qkernel.proofs.Steps.Held.{is_held, two_ended, answered_calls}
 
 pub step_errored : (s : State) (t : ℕ) (m : Member) (i : ℕ) (sound : IsSound s) (known : member_at (members_of s.threads) t ≡ Some m) (code : ℤ) (u : ℕ) (y : Completion)
-    → open_in s.threads t ≡ None → is_held_in s.threads s.connections s.channels m.process i ≡ true → sender_in s.threads i ≡ Some u → finished (errored code) u (open_in s.threads u) ≡ Some y
+    → s.down ≡ false → open_in s.threads t ≡ None → is_held_in s.threads s.connections s.channels m.process i ≡ true → sender_in s.threads i ≡ Some u → finished (errored code) u (open_in s.threads u) ≡ Some y
     → (threads : List Thread) (X : List Completion) → SetsOpen u None s.threads threads → X ≡ in_order (record { call = s.made + 1; thread = t; mark = mark.Ok; buffer = [] }) y
-    → Steps s t (Error i code) X (record { made = s.made + 1; threads = threads; channels = s.channels; connections = s.connections })
-step_errored s t m i sound known code u y free held is_sender ended threads X takes is = (
+    → Steps s t (Error i code) X (record { made = s.made + 1; down = s.down; threads = threads; channels = s.channels; connections = s.connections })
+step_errored s t m i sound known code u y up free held is_sender ended threads X takes is = (
   true,
   record {
-    answer = (rw (free, is_held s t m i sound known, held) refl, two_ended s t m i sound known (errored code) u y free is_sender ended X is);
+    answer = (rw (up, free, is_held s t m i sound known, held) refl, two_ended s t m i sound known (errored code) u y up free is_sender ended X is);
     follows = record {
       roster = takes.members;
       number = refl;
+      down = refl;
       channel = λ k. rw known refl;
       open_channels = rw known (omega arith);
       connection = λ k. rw known refl;
       live_connections = rw known (omega arith);
-      open_call = answered_calls s t m i sound known (errored code) u y free is_sender ended threads takes;
-      pending = λ k. sym (append-nil _);
+      open_call = answered_calls s t m i sound known (errored code) u y up free is_sender ended threads takes;
+      pending = λ k. uncut s t (Error i code) (rw (up, free, is_held s t m i sound known, held) refl) refl refl k (sym (append-nil _));
       priority = takes.priority;
     };
   },

@@ -47,9 +47,9 @@ module _ (s : State) (t : ℕ) (m : Member) (i : ℕ) (sound : IsSound s) (known
   is_held = held_same (sent_call s.threads i)
 
   -- refused where no message is held so
-  pub step_unheld : (c : Call) (X : List Completion) → (row_of (facts_in s) t c).refusal ≡ refusal (facts_in s) t i → open_in s.threads t ≡ None → is_held_in s.threads s.connections s.channels m.process i ≡ false
+  pub step_unheld : (c : Call) (X : List Completion) → (row_of (facts_in s) t c).refusal ≡ refusal (facts_in s) t i → s.down ≡ false → open_in s.threads t ≡ None → is_held_in s.threads s.connections s.channels m.process i ≡ false
       → X ≡ failed (facts_in s) t c Srch ∷ [] → Steps s t c X (counted s)
-  step_unheld c X row free none is = step_refused_alone s t c Srch X (inl (rw (free, row, is_held, none) refl)) is
+  step_unheld c X row up free none is = step_refused_alone s t c Srch X (inl (rw (up, free, row, is_held, none) refl)) is
 
 -- ---- the sender
 
@@ -92,7 +92,7 @@ pub finished_there : (threads : List Thread) (i u : ℕ) (finish : Finish) (call
 finished_there threads i u finish call is same none =
     true≢false (sym (finished_some i finish u (open_in threads u) (sends threads i u is)) ∙ ap (λ o. is_some (finished finish u o)) (sym same) ∙ ap is_some none)
 
-module _ (s : State) (t : ℕ) (m : Member) (i : ℕ) (sound : IsSound s) (known : member_at (members_of s.threads) t ≡ Some m) (finish : Finish) (u : ℕ) (y : Completion) (free : open_in s.threads t ≡ None)
+module _ (s : State) (t : ℕ) (m : Member) (i : ℕ) (sound : IsSound s) (known : member_at (members_of s.threads) t ≡ Some m) (finish : Finish) (u : ℕ) (y : Completion) (up : s.down ≡ false) (free : open_in s.threads t ≡ None)
     (is_sender : sender_in s.threads i ≡ Some u) (ended : finished finish u (open_in s.threads u) ≡ Some y) where
   -- the ending of the call that answers
   abbrev pub mine : Completion

@@ -1,5 +1,5 @@
 -- Info as a step of the kernel.
-use Rattle.std.proofs.Common.{◌≡◌, ℕ, ◌+◌, List, [], ◌∷◌, get_or, refl, ap, sym, ◌∙◌, cond, eqb, arith, true, append-nil}
+use Rattle.std.proofs.Common.{◌≡◌, ℕ, ◌+◌, List, [], ◌∷◌, get_or, refl, ap, sym, ◌∙◌, cond, eqb, arith, true, append-nil, false}
 use Rattle.std.specs.Prelude.{Option, None, Some, is_some, position}
 use Rattle.std.specs.List.{filter_map}
 use Rattle.std.specs.Option.{option_and_then, option_map}
@@ -24,7 +24,7 @@ use Rattle.qrecords.specs.Threads.{held_over_in, members_of, open_in}
 use Rattle.qrecords.proofs.Seats.{first_member, first_open}
 use Rattle.qrecords.proofs.Senders.{first_there, held_there, sender_of_held, sender_there}
 use Rattle.qrules.proofs.Rosters.{among, only_own, rises}
-use Rattle.qkernel.proofs.Steps.Common.{counted, stays_free}
+use Rattle.qkernel.proofs.Steps.Common.{uncut, counted, stays_free}
 use Rattle.qkernel.proofs.Steps.Held.{is_held}
 
 -- what is told of the thread at a seat
@@ -51,26 +51,27 @@ told_there connections channels p i threads k d r at held none =
     let over = sender_of_held connections channels p (get_or threads k d).open_call (sym (held_there connections channels p i threads k d r at) ∙ held) in
     true≢false (sym (told_some (get_or threads k d).member (get_or threads k d).open_call over) ∙ ap is_some none)
 
-module _ (s : State) (t : ℕ) (m : Member) (i : ℕ) (sound : IsSound s) (known : member_at (members_of s.threads) t ≡ Some m) (free : open_in s.threads t ≡ None)
+module _ (s : State) (t : ℕ) (m : Member) (i : ℕ) (sound : IsSound s) (known : member_at (members_of s.threads) t ≡ Some m) (up : s.down ≡ false) (free : open_in s.threads t ≡ None)
     (held : is_held_in s.threads s.connections s.channels m.process i ≡ true) where
   pub step_info : (told_so : Told) (X : List Completion) → told (facts_in s) (sender (facts_in s) i) ≡ Some told_so → X ≡ telling (s.made + 1) t told_so ∷ [] → Steps s t (Info i) X (counted s)
   step_info told_so X says is = (
     true,
     record {
       answer = (
-        rw (free, is_held s t m i sound known, held) refl,
+        rw (up, free, is_held s t m i sound known, held) refl,
         is ∙ sym (only_own _ t (Some (telling (s.made + 1) t told_so)) (rises (members_of s.threads) sound.roster) (among (members_of s.threads) t m known))
             ∙ ap (λ o. filter_map (λ u. cond (eqb u t) (option_map (telling (s.made + 1) t) o) None) (threads_of (members_of s.threads))) (sym says),
       );
       follows = record {
         roster = refl;
         number = refl;
+        down = refl;
         channel = λ k. rw known refl;
         open_channels = rw known (omega arith);
         connection = λ k. rw known refl;
         live_connections = rw known (omega arith);
         open_call = λ u. rw says (stays_free s.threads t u free);
-        pending = λ k. sym (append-nil _);
+        pending = λ k. uncut s t (Info i) (rw (up, free, is_held s t m i sound known, held) refl) refl refl k (sym (append-nil _));
         priority = λ u. refl;
       };
     },

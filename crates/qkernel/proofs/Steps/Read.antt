@@ -1,5 +1,5 @@
 -- Read as a step of the kernel.
-use Rattle.std.proofs.Common.{◌≡◌, ℕ, ◌+◌, List, [], ◌∷◌, refl, sym, ◌∙◌, arith, true, append-nil}
+use Rattle.std.proofs.Common.{◌≡◌, ℕ, ◌+◌, List, [], ◌∷◌, refl, sym, ◌∙◌, arith, true, append-nil, false}
 use Rattle.std.specs.Prelude.{drop, None, Some}
 use Rattle.qbase.specs.Laying.{laid_count, lay_over}
 use Rattle.qtables.specs.Members.{member_at}
@@ -12,10 +12,10 @@ use Rattle.qkernel.specs.State.{State, IsSound}
 use Rattle.qkernel.specs.Stands.{Steps}
 use Rattle.qrecords.specs.Threads.{members_of, message_from, open_in}
 use Rattle.qrules.proofs.Rosters.{among, only_own, rises}
-use Rattle.qkernel.proofs.Steps.Common.{counted, stays_free}
+use Rattle.qkernel.proofs.Steps.Common.{uncut, counted, stays_free}
 use Rattle.qkernel.proofs.Steps.Held.{is_held}
 
-module _ (s : State) (t : ℕ) (m : Member) (i : ℕ) (sound : IsSound s) (known : member_at (members_of s.threads) t ≡ Some m) (free : open_in s.threads t ≡ None)
+module _ (s : State) (t : ℕ) (m : Member) (i : ℕ) (sound : IsSound s) (known : member_at (members_of s.threads) t ≡ Some m) (up : s.down ≡ false) (free : open_in s.threads t ≡ None)
     (held : is_held_in s.threads s.connections s.channels m.process i ≡ true) where
   pub step_read : (offset : ℕ) (buffer : List ℕ) (X : List Completion)
       → X ≡ record { call = s.made + 1; thread = t; mark = mark.Count (laid_count buffer 0 (drop offset (message_from s.threads i))); buffer = lay_over buffer 0 (drop offset (message_from s.threads i)) } ∷ []
@@ -23,16 +23,17 @@ module _ (s : State) (t : ℕ) (m : Member) (i : ℕ) (sound : IsSound s) (known
   step_read offset buffer X is = (
     true,
     record {
-      answer = (rw (free, is_held s t m i sound known, held) refl, is ∙ sym (only_own _ t _ (rises (members_of s.threads) sound.roster) (among (members_of s.threads) t m known)));
+      answer = (rw (up, free, is_held s t m i sound known, held) refl, is ∙ sym (only_own _ t _ (rises (members_of s.threads) sound.roster) (among (members_of s.threads) t m known)));
       follows = record {
         roster = refl;
         number = refl;
+        down = refl;
         channel = λ k. rw known refl;
         open_channels = rw known (omega arith);
         connection = λ k. rw known refl;
         live_connections = rw known (omega arith);
         open_call = λ u. stays_free s.threads t u free;
-        pending = λ k. sym (append-nil _);
+        pending = λ k. uncut s t (Read i offset buffer) (rw (up, free, is_held s t m i sound known, held) refl) refl refl k (sym (append-nil _));
         priority = λ u. refl;
       };
     },

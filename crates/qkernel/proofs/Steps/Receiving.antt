@@ -30,19 +30,19 @@ use Rattle.qkernel.specs.Stands.{Steps}
 use Rattle.qrules.specs.Step.{after_receipt, is_thread, held_call, taken_out, unless, taken_by}
 use Rattle.qrecords.specs.Threads.{members_of, open_in, level_in, message_from, sender_in, SetsOpen, HandsOver, SetsLevel}
 use Rattle.qrules.proofs.Rosters.{rises, among, nothing, filter_same, only_own, cond_same}
-use Rattle.qkernel.proofs.Steps.Common.{counted, step_refused_alone, owned_by_member, all_up_to, stays_free}
+use Rattle.qkernel.proofs.Steps.Common.{uncut, counted, step_refused_alone, owned_by_member, all_up_to, stays_free}
 use Rattle.qkernel.proofs.Steps.Delivering.{count_kept, sound_items, eqb_sym}
 
 -- ---- refused
 
-pub step_receive_refused : (s : State) (t chid : ℕ) (kind : Kind) (buffer : List ℕ) (m : Member) (X : List Completion) → (kind ≡ PulseOnly → buffer ≡ []) → member_at (members_of s.threads) t ≡ Some m → open_in s.threads t ≡ None
+pub step_receive_refused : (s : State) (t chid : ℕ) (kind : Kind) (buffer : List ℕ) (m : Member) (X : List Completion) → (kind ≡ PulseOnly → buffer ≡ []) → member_at (members_of s.threads) t ≡ Some m → s.down ≡ false → open_in s.threads t ≡ None
     → is_of m.process (channel_in s.channels chid) ≡ false → X ≡ record { call = s.made + 1; thread = t; mark = mark.Failed Srch; buffer = buffer } ∷ [] → Steps s t (receive_of kind chid buffer) X (counted s)
-step_receive_refused s t chid Any buffer m X none known free other is =
+step_receive_refused s t chid Any buffer m X none known up free other is =
     let not_own : owns (facts_in s) t chid ≡ false = owned_by_member (facts_in s) t m (channel_in s.channels chid) known ∙ other in
-    step_refused_alone s t (Receive chid buffer) Srch X (inl (rw (free, not_own) refl)) is
-step_receive_refused s t chid PulseOnly buffer m X none known free other is =
+    step_refused_alone s t (Receive chid buffer) Srch X (inl (rw (up, free, not_own) refl)) is
+step_receive_refused s t chid PulseOnly buffer m X none known up free other is =
     let not_own : owns (facts_in s) t chid ≡ false = owned_by_member (facts_in s) t m (channel_in s.channels chid) known ∙ other in
-    step_refused_alone s t (ReceivePulse chid) Srch X (inl (rw (free, not_own) refl)) (rw (none refl) at is)
+    step_refused_alone s t (ReceivePulse chid) Srch X (inl (rw (up, free, not_own) refl)) (rw (none refl) at is)
 
 -- the items of a channel that a write left as they were
 kept_items : (s : State) (h k : ℕ) → cond (eqb k h) (pending_in s.channels h) (pending_in s.channels k) ≡ pending_in s.channels k ++ []
@@ -73,46 +73,48 @@ record Receives (s : State) (t chid : ℕ) (kind : Kind) (buffer : List ℕ) (o 
   priority : (u : ℕ) → level_in threads u ≡ unwrap_or (taken_by (facts_in s) (receipt_by s t chid buffer o) u) (level_in s.threads u)
 
 step_of : (s : State) (t chid : ℕ) (kind : Kind) (buffer : List ℕ) (m : Member) (o : Option Item) (X : List Completion) (threads : List Thread) (channels : List (ℕ × Channel)) → (kind ≡ PulseOnly → buffer ≡ [])
-    → member_at (members_of s.threads) t ≡ Some m → open_in s.threads t ≡ None → owns (facts_in s) t chid ≡ true → best_of kind (pending_in s.channels chid) ≡ o → Receives s t chid kind buffer o X threads channels
-    → Steps s t (receive_of kind chid buffer) X (record { made = s.made + 1; threads = threads; channels = channels; connections = s.connections })
-step_of s t chid Any buffer m o X threads channels none known free owned best r = (
+    → member_at (members_of s.threads) t ≡ Some m → s.down ≡ false → open_in s.threads t ≡ None → owns (facts_in s) t chid ≡ true → best_of kind (pending_in s.channels chid) ≡ o → Receives s t chid kind buffer o X threads channels
+    → Steps s t (receive_of kind chid buffer) X (record { made = s.made + 1; down = s.down; threads = threads; channels = channels; connections = s.connections })
+step_of s t chid Any buffer m o X threads channels none known up free owned best r = (
   true,
   record {
     answer = (
-      rw (free, owned) refl,
+      rw (up, free, owned) refl,
       r.endings ∙ sym (filter_same (ending (facts_in s) t (Receive chid buffer)) (λ u. cond (eqb u t) (own_of s t buffer o) None) (threads_of (members_of s.threads)) (λ u. rw best refl)),
     );
     follows = record {
       roster = r.roster;
       number = refl;
+      down = refl;
       channel = λ k. r.channel k ∙ rw known refl;
       open_channels = rw known (count_kept s.channels channels r.ids);
       connection = λ k. rw known refl;
       live_connections = rw known (omega arith);
       open_call = λ u. rw best (r.open_call u);
-      pending = λ k. rw best (r.items k);
+      pending = λ k. uncut s t (Receive chid buffer) (rw (up, free, owned) refl) refl refl k (rw best (r.items k));
       priority = λ u. rw best (r.priority u);
     };
   },
 )
-step_of s t chid PulseOnly buffer m o X threads channels none known free owned best r = by (none refl) where
-  by : buffer ≡ [] → Steps s t (ReceivePulse chid) X (record { made = s.made + 1; threads = threads; channels = channels; connections = s.connections })
+step_of s t chid PulseOnly buffer m o X threads channels none known up free owned best r = by (none refl) where
+  by : buffer ≡ [] → Steps s t (ReceivePulse chid) X (record { made = s.made + 1; down = s.down; threads = threads; channels = channels; connections = s.connections })
   by empty = let q : Receives s t chid PulseOnly [] o X threads channels = subst (λ b. Receives s t chid PulseOnly b o X threads channels) empty r in (
     true,
     record {
       answer = (
-        rw (free, owned) refl,
+        rw (up, free, owned) refl,
         q.endings ∙ sym (filter_same (ending (facts_in s) t (ReceivePulse chid)) (λ u. cond (eqb u t) (own_of s t [] o) None) (threads_of (members_of s.threads)) (λ u. rw best refl)),
       );
       follows = record {
         roster = q.roster;
         number = refl;
+        down = refl;
         channel = λ k. q.channel k ∙ rw known refl;
         open_channels = rw known (count_kept s.channels channels q.ids);
         connection = λ k. rw known refl;
         live_connections = rw known (omega arith);
         open_call = λ u. rw best (q.open_call u);
-        pending = λ k. rw best (q.items k);
+        pending = λ k. uncut s t (ReceivePulse chid) (rw (up, free, owned) refl) refl refl k (rw best (q.items k));
         priority = λ u. rw best (q.priority u);
       };
     },
@@ -120,15 +122,15 @@ step_of s t chid PulseOnly buffer m o X threads channels none known free owned b
 
 -- ---- with nothing to take, and with an item
 
-module _ (s : State) (t chid : ℕ) (kind : Kind) (buffer : List ℕ) (m : Member) (sound : IsSound s) (known : member_at (members_of s.threads) t ≡ Some m) (free : open_in s.threads t ≡ None)
+module _ (s : State) (t chid : ℕ) (kind : Kind) (buffer : List ℕ) (m : Member) (sound : IsSound s) (known : member_at (members_of s.threads) t ≡ Some m) (up : s.down ≡ false) (free : open_in s.threads t ≡ None)
     (own : is_of m.process (channel_in s.channels chid) ≡ true) (empty : kind ≡ PulseOnly → buffer ≡ []) where
   owned : owns (facts_in s) t chid ≡ true
   owned = owned_by_member (facts_in s) t m (channel_in s.channels chid) known ∙ own
 
   pub step_receive_waits : (threads : List Thread) (channels : List (ℕ × Channel)) (X : List Completion) → best_of kind (pending_in s.channels chid) ≡ None
       → SetsOpen t (Some (record { number = s.made + 1; wait = ForItem chid kind buffer })) s.threads threads → SetsItems chid (pending_in s.channels chid) s.channels channels → X ≡ []
-      → Steps s t (receive_of kind chid buffer) X (record { made = s.made + 1; threads = threads; channels = channels; connections = s.connections })
-  step_receive_waits threads channels X none opens sets is = step_of s t chid kind buffer m None X threads channels empty known free owned none (record {
+      → Steps s t (receive_of kind chid buffer) X (record { made = s.made + 1; down = s.down; threads = threads; channels = channels; connections = s.connections })
+  step_receive_waits threads channels X none opens sets is = step_of s t chid kind buffer m None X threads channels empty known up free owned none (record {
     endings = is ∙ sym (nothing (threads_of (members_of s.threads)) (λ u. cond (eqb u t) None None) (λ u. cond_same (eqb u t) None));
     roster = opens.members;
     open_call = opens.open_call;
@@ -166,7 +168,7 @@ module _ (s : State) (t chid : ℕ) (kind : Kind) (buffer : List ℕ) (m : Membe
 
     pub step_receive_takes : (threads_1 threads_2 : List Thread) (channels : List (ℕ × Channel)) (X : List Completion) → HandsOver (is_pulse item.what) item.number kept s.threads threads_1
         → SetsLevel t (level channels) threads_1 threads_2 → SetsItems chid (without item.number (pending_in s.channels chid)) s.channels channels → X ≡ taking item (message_from s.threads item.number) t (s.made + 1) buffer ∷ []
-        → Steps s t (receive_of kind chid buffer) X (record { made = s.made + 1; threads = threads_2; channels = channels; connections = s.connections })
+        → Steps s t (receive_of kind chid buffer) X (record { made = s.made + 1; down = s.down; threads = threads_2; channels = channels; connections = s.connections })
     step_receive_takes threads_1 threads_2 channels X hands takes sets is = by (is_pulse item.what) refl hands where
       ends : X ≡ filter_map (λ u. cond (eqb u t) (Some (taking item (message_from s.threads item.number) t (s.made + 1) buffer)) None) (threads_of (members_of s.threads))
       ends = is ∙ sym (only_own (threads_of (members_of s.threads)) t (Some (taking item (message_from s.threads item.number) t (s.made + 1) buffer)) (rises (members_of s.threads) sound.roster) (among (members_of s.threads) t m known))
@@ -176,8 +178,8 @@ module _ (s : State) (t chid : ℕ) (kind : Kind) (buffer : List ℕ) (m : Membe
           ∙ ap (λ o. unwrap_or (cond (eqb t u) (cond (is_fixed o) None (Some item.priority)) None) (level_in s.threads u)) (sets.channel chid)
 
       by : (b : Bool) → is_pulse item.what ≡ b → HandsOver b item.number kept s.threads threads_1
-          → Steps s t (receive_of kind chid buffer) X (record { made = s.made + 1; threads = threads_2; channels = channels; connections = s.connections })
-      by true pulse same = step_of s t chid kind buffer m (Some item) X threads_2 channels empty known free owned best (record {
+          → Steps s t (receive_of kind chid buffer) X (record { made = s.made + 1; down = s.down; threads = threads_2; channels = channels; connections = s.connections })
+      by true pulse same = step_of s t chid kind buffer m (Some item) X threads_2 channels empty known up free owned best (record {
         endings = ends;
         roster = takes.members ∙ ap members_of same;
         open_call = λ u. takes.open_call u ∙ ap (λ ts. open_in ts u) same ∙ rw pulse (idle_after u);
@@ -186,7 +188,7 @@ module _ (s : State) (t chid : ℕ) (kind : Kind) (buffer : List ℕ) (m : Membe
         channel = sets.channel;
         priority = λ u. levels u (ap (λ ts. level_in ts u) same) ∙ rw pulse refl;
       })
-      by false message changes = step_of s t chid kind buffer m (Some item) X threads_2 channels empty known free owned best (record {
+      by false message changes = step_of s t chid kind buffer m (Some item) X threads_2 channels empty known up free owned best (record {
         endings = ends;
         roster = takes.members ∙ changes.members;
         open_call = λ u. takes.open_call u ∙ changes.open_call u ∙ rw message (calls_after (held_call kept) u);
@@ -207,10 +209,10 @@ all_filter P p [] h = tt
 all_filter P p (x ∷ xs) h = elim (p x) as (λ b. AllByRecursion P (cond b (x ∷ filter p xs) (filter p xs))) [ true ↦ (h.0, all_filter P p xs h.1) | false ↦ all_filter P p xs h.1 ]
 
 pub sound_taken : (s : State) (threads : List Thread) (channels : List (ℕ × Channel)) (h i : ℕ) → IsSound s → members_of threads ≡ members_of s.threads
-    → SetsItems h (without i (pending_in s.channels h)) s.channels channels → IsSound (record { made = s.made + 1; threads = threads; channels = channels; connections = s.connections })
+    → SetsItems h (without i (pending_in s.channels h)) s.channels channels → IsSound (record { made = s.made + 1; down = s.down; threads = threads; channels = channels; connections = s.connections })
 sound_taken s threads channels h i sound e sets =
     sound_items s threads channels h _ sound e sets (all_filter (λ x. x.number ≤ s.made + 1) (λ x. not (eqb x.number i)) (pending_in s.channels h) (all_up_to (λ x. x.number) s.made _ (sound.items h)))
 
 pub sound_kept : (s : State) (threads : List Thread) (channels : List (ℕ × Channel)) (h : ℕ) → IsSound s → members_of threads ≡ members_of s.threads
-    → SetsItems h (pending_in s.channels h) s.channels channels → IsSound (record { made = s.made + 1; threads = threads; channels = channels; connections = s.connections })
+    → SetsItems h (pending_in s.channels h) s.channels channels → IsSound (record { made = s.made + 1; down = s.down; threads = threads; channels = channels; connections = s.connections })
 sound_kept s threads channels h sound e sets = sound_items s threads channels h _ sound e sets (all_up_to (λ x. x.number) s.made _ (sound.items h))

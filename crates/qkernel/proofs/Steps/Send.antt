@@ -28,25 +28,25 @@ use Rattle.qrules.specs.Step.{unless, held_call}
 use Rattle.qrecords.specs.Threads.{members_of, open_in, level_in, newest_by, SetsOpen, Wakes}
 use Rattle.qrules.proofs.Rosters.{rises, is_among, nothing, filter_same, only_own, cond_same}
 use Rattle.qkernel.proofs.Steps.Delivering.{counted_room, count_kept, items_after, newest_is, some_way, with_item, ended_thread, level_of}
-use Rattle.qkernel.proofs.Steps.Common.{counted, step_refused, step_refused_alone, way-leads_to}
+use Rattle.qkernel.proofs.Steps.Common.{uncut, counted, step_refused, step_refused_alone, way-leads_to}
 
 -- ---- refusals
 
-pub step_send_nowhere : (s : State) (t coid : ℕ) (message reply_buffer : List ℕ) (m : Member) (X : List Completion) → member_at (members_of s.threads) t ≡ Some m → open_in s.threads t ≡ None
+pub step_send_nowhere : (s : State) (t coid : ℕ) (message reply_buffer : List ℕ) (m : Member) (X : List Completion) → member_at (members_of s.threads) t ≡ Some m → s.down ≡ false → open_in s.threads t ≡ None
     → way_in m.process s.channels (entry_at s.connections coid) ≡ None → X ≡ failed (facts_in s) t (Send coid message reply_buffer) Badf ∷ [] → Steps s t (Send coid message reply_buffer) X (counted s)
-step_send_nowhere s t coid message reply_buffer m X known free none is =
+step_send_nowhere s t coid message reply_buffer m X known up free none is =
     let no_way : way (facts_in s) t coid ≡ None = way-leads_to s t m (entry_at s.connections coid) known ∙ none in
-    step_refused_alone s t (Send coid message reply_buffer) Badf X (inl (rw (free, no_way) refl)) is
+    step_refused_alone s t (Send coid message reply_buffer) Badf X (inl (rw (up, free, no_way) refl)) is
 
 pub step_send_no_memory : (s : State) (t coid : ℕ) (message reply_buffer : List ℕ) (m : Member) (h : ℕ) (new : List (ℕ × Channel)) (e : Errno) (X : List Completion) → member_at (members_of s.threads) t ≡ Some m
-    → open_in s.threads t ≡ None → way_in m.process s.channels (entry_at s.connections coid) ≡ Some h → e ≡ NoMemory → SetsItems h (pending_in s.channels h) s.channels new
+    → s.down ≡ false → open_in s.threads t ≡ None → way_in m.process s.channels (entry_at s.connections coid) ≡ Some h → e ≡ NoMemory → SetsItems h (pending_in s.channels h) s.channels new
     → X ≡ failed (facts_in s) t (Send coid message reply_buffer) e ∷ []
-    → Steps s t (Send coid message reply_buffer) X (record { made = s.made + 1; threads = s.threads; channels = new; connections = s.connections })
-step_send_no_memory s t coid message reply_buffer m h new e X known free found want sets is =
+    → Steps s t (Send coid message reply_buffer) X (record { made = s.made + 1; down = s.down; threads = s.threads; channels = new; connections = s.connections })
+step_send_no_memory s t coid message reply_buffer m h new e X known up free found want sets is =
     let some_way : way (facts_in s) t coid ≡ Some h = way-leads_to s t m (entry_at s.connections coid) known ∙ found in
-    step_refused s t (Send coid message reply_buffer) e X _ (inr (rw (free, some_way) refl, refl, want)) is (counted_room s h new sets)
+    step_refused s t (Send coid message reply_buffer) e X _ (inr (rw (up, free, some_way) refl, refl, want)) is (counted_room s h new sets)
 
-module _ (s : State) (t coid : ℕ) (message reply_buffer : List ℕ) (m : Member) (h : ℕ) (sound : IsSound s) (known : member_at (members_of s.threads) t ≡ Some m) (free : open_in s.threads t ≡ None)
+module _ (s : State) (t coid : ℕ) (message reply_buffer : List ℕ) (m : Member) (h : ℕ) (sound : IsSound s) (known : member_at (members_of s.threads) t ≡ Some m) (up : s.down ≡ false) (free : open_in s.threads t ≡ None)
     (found : way_in m.process s.channels (entry_at s.connections coid) ≡ Some h) where
   -- the item that the call makes
   abbrev pub item : Item
@@ -61,24 +61,25 @@ module _ (s : State) (t coid : ℕ) (message reply_buffer : List ℕ) (m : Membe
 
   pub step_send_waits : (threads : List Thread) (channels : List (ℕ × Channel)) (X : List Completion) → newest_by h item None s.threads ≡ None → SetsOpen t (Some (waiting None)) s.threads threads
       → SetsItems h (pending_in s.channels h ++ item ∷ []) s.channels channels → X ≡ []
-      → Steps s t (Send coid message reply_buffer) X (record { made = s.made + 1; threads = threads; channels = channels; connections = s.connections })
+      → Steps s t (Send coid message reply_buffer) X (record { made = s.made + 1; down = s.down; threads = threads; channels = channels; connections = s.connections })
   step_send_waits threads channels X nobody opens sets is =
       let none : newest (facts_in s) h item ≡ None = newest_is s h item None sound nobody in (
         true,
         record {
           answer = (
-            rw (free, over_way) refl,
+            rw (up, free, over_way) refl,
             is ∙ sym (nothing (threads_of (members_of s.threads)) (ending (facts_in s) t (Send coid message reply_buffer)) (λ u. rw (over_way, none) (cond_same (eqb u t) None))),
           );
           follows = record {
             roster = opens.members;
             number = refl;
+            down = refl;
             channel = λ k. sets.channel k ∙ rw known refl;
             open_channels = rw known (count_kept s.channels channels sets.ids);
             connection = λ k. rw known refl;
             live_connections = rw known (omega arith);
             open_call = λ u. opens.open_call u ∙ rw (over_way, none) (elim (eqb u t) as (λ b. cond b (Some (waiting None)) (open_in s.threads u) ≡ cond b (Some (waiting None)) (open_in s.threads u)) [ true ↦ refl | false ↦ refl ]);
-            pending = λ k. sets.pending k ∙ rw (over_way, none) (with_item s t coid m h item sound known refl found k);
+            pending = λ k. uncut s t (Send coid message reply_buffer) (rw (up, free, over_way) refl) refl refl k (sets.pending k ∙ rw (over_way, none) (with_item s t coid m h item sound known refl found k));
             priority = λ u. opens.priority u ∙ rw (over_way, none) refl;
           };
         },
@@ -106,12 +107,12 @@ module _ (s : State) (t coid : ℕ) (message reply_buffer : List ℕ) (m : Membe
         ]
 
     pub step_send_met : (threads_1 threads_2 : List Thread) (X : List Completion) → Wakes r (level_of s h item) s.threads threads_1 → SetsOpen t (Some (waiting (Some (record { priority = level_in s.threads t; copied = copied })))) threads_1 threads_2
-        → X ≡ y ∷ [] → Steps s t (Send coid message reply_buffer) X (record { made = s.made + 1; threads = threads_2; channels = s.channels; connections = s.connections })
+        → X ≡ y ∷ [] → Steps s t (Send coid message reply_buffer) X (record { made = s.made + 1; down = s.down; threads = threads_2; channels = s.channels; connections = s.connections })
     step_send_met threads_1 threads_2 X takes_r sets_t is = (
       true,
       record {
         answer = (
-          rw (free, over_way) refl,
+          rw (up, free, over_way) refl,
           is ∙ sym (filter_same (ending (facts_in s) t (Send coid message reply_buffer)) (λ u. cond (eqb u r) (Some y) None) (threads_of (members_of s.threads)) (λ u. rw (over_way, newest_is_r) (
               elim (eqb u t) as (λ b. eqb u t ≡ b → cond b None (cond (eqb u r) (takes item message u (open_in s.threads u)) None) ≡ cond (eqb u r) (Some y) None) [
                 | true ↦ λ e. let other : eqb u r ≡ false = ne_eqb u r (λ s. apart (sym (eqb-true u t e) ∙ s)) in rw other refl
@@ -124,12 +125,13 @@ module _ (s : State) (t coid : ℕ) (message reply_buffer : List ℕ) (m : Membe
         follows = record {
           roster = sets_t.members ∙ takes_r.members;
           number = refl;
+          down = refl;
           channel = λ k. rw known refl;
           open_channels = rw known (omega arith);
           connection = λ k. rw known refl;
           live_connections = rw known (omega arith);
           open_call = λ u. sets_t.open_call u ∙ rw (over_way, newest_is_r, ended, is_receipt) (calls_after threads_1 takes_r u);
-          pending = λ k. rw (over_way, newest_is_r, ended, is_receipt) (items_after s t coid m h item sound known refl found k);
+          pending = λ k. uncut s t (Send coid message reply_buffer) (rw (up, free, over_way) refl) refl refl k (rw (over_way, newest_is_r, ended, is_receipt) (items_after s t coid m h item sound known refl found k));
           priority = λ u. sets_t.priority u ∙ takes_r.priority u ∙ rw (over_way, newest_is_r, ended, is_receipt, ended_thread item message r (open_in s.threads r) y ended) refl;
         };
       },

@@ -15,11 +15,11 @@ use Rattle.qkernel.specs.State.{State, IsSound, facts_in}
 use Rattle.qkernel.specs.Stands.{Steps}
 use Rattle.qrecords.specs.Threads.{level_in, members_of, open_in}
 use Rattle.qrules.proofs.Rosters.{among, only_own, rises}
-use Rattle.qkernel.proofs.Steps.Common.{counted, stays_free, step_refused_alone}
+use Rattle.qkernel.proofs.Steps.Common.{uncut, counted, stays_free, step_refused_alone}
 
-module _ (s : State) (t target : ℕ) (m : Member) (known : member_at (members_of s.threads) t ≡ Some m) (free : open_in s.threads t ≡ None) where
+module _ (s : State) (t target : ℕ) (m : Member) (known : member_at (members_of s.threads) t ≡ Some m) (up : s.down ≡ false) (free : open_in s.threads t ≡ None) where
   pub step_state_nobody : (X : List Completion) → is_some (member_at (members_of s.threads) target) ≡ false → X ≡ failed (facts_in s) t (Ask target) Srch ∷ [] → Steps s t (Ask target) X (counted s)
-  step_state_nobody X nobody is = step_refused_alone s t (Ask target) Srch X (inl (rw (free, nobody) refl)) is
+  step_state_nobody X nobody is = step_refused_alone s t (Ask target) Srch X (inl (rw (up, free, nobody) refl)) is
 
   -- how the call ends
   abbrev pub telling : Completion
@@ -30,18 +30,19 @@ module _ (s : State) (t target : ℕ) (m : Member) (known : member_at (members_o
     true,
     record {
       answer = (
-        rw (free, there) refl,
+        rw (up, free, there) refl,
         is ∙ sym (only_own _ t (Some telling) (rises (members_of s.threads) sound.roster) (among (members_of s.threads) t m known)),
       );
       follows = record {
         roster = refl;
         number = refl;
+        down = refl;
         channel = λ k. rw known refl;
         open_channels = rw known (omega arith);
         connection = λ k. rw known refl;
         live_connections = rw known (omega arith);
         open_call = λ u. stays_free s.threads t u free;
-        pending = λ k. sym (append-nil _);
+        pending = λ k. uncut s t (Ask target) (rw (up, free, there) refl) refl refl k (sym (append-nil _));
         priority = λ u. refl;
       };
     },

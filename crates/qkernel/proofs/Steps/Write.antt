@@ -17,9 +17,10 @@ use Rattle.qkernel.specs.State.{State, IsSound}
 use Rattle.qkernel.specs.Stands.{Steps}
 use Rattle.qrecords.specs.Threads.{members_of, open_in, sender_in, sent_call, ChangesSender}
 use Rattle.qrules.proofs.Rosters.{among, only_own, rises, cond_same}
+use Rattle.qkernel.proofs.Steps.Common.{uncut}
 use Rattle.qkernel.proofs.Steps.Held.{is_held}
 
-module _ (s : State) (t : ℕ) (m : Member) (i : ℕ) (sound : IsSound s) (known : member_at (members_of s.threads) t ≡ Some m) (free : open_in s.threads t ≡ None)
+module _ (s : State) (t : ℕ) (m : Member) (i : ℕ) (sound : IsSound s) (known : member_at (members_of s.threads) t ≡ Some m) (up : s.down ≡ false) (free : open_in s.threads t ≡ None)
     (held : is_held_in s.threads s.connections s.channels m.process i ≡ true) where
   -- the caller waits for nothing, and the sender's buffer is written over
   calls_after : (offset : ℕ) (bytes : List ℕ) (u : ℕ) → cond (is_thread (sender_in s.threads i) u) (option_map (written_call offset bytes) (open_in s.threads u)) (open_in s.threads u)
@@ -32,20 +33,21 @@ module _ (s : State) (t : ℕ) (m : Member) (i : ℕ) (sound : IsSound s) (known
 
   pub step_written : (offset : ℕ) (bytes : List ℕ) (threads : List Thread) (X : List Completion) → ChangesSender i (written_call offset bytes) s.threads threads
       → X ≡ record { call = s.made + 1; thread = t; mark = mark.Count (laid_count (reply_buffer_in (sent_call s.threads i)) offset bytes); buffer = [] } ∷ []
-      → Steps s t (Write i offset bytes) X (record { made = s.made + 1; threads = threads; channels = s.channels; connections = s.connections })
+      → Steps s t (Write i offset bytes) X (record { made = s.made + 1; down = s.down; threads = threads; channels = s.channels; connections = s.connections })
   step_written offset bytes threads X changes is = (
     true,
     record {
-      answer = (rw (free, is_held s t m i sound known, held) refl, is ∙ sym (only_own _ t _ (rises (members_of s.threads) sound.roster) (among (members_of s.threads) t m known)));
+      answer = (rw (up, free, is_held s t m i sound known, held) refl, is ∙ sym (only_own _ t _ (rises (members_of s.threads) sound.roster) (among (members_of s.threads) t m known)));
       follows = record {
         roster = changes.members;
         number = refl;
+        down = refl;
         channel = λ k. rw known refl;
         open_channels = rw known (omega arith);
         connection = λ k. rw known refl;
         live_connections = rw known (omega arith);
         open_call = λ u. changes.open_call u ∙ calls_after offset bytes u;
-        pending = λ k. sym (append-nil _);
+        pending = λ k. uncut s t (Write i offset bytes) (rw (up, free, is_held s t m i sound known, held) refl) refl refl k (sym (append-nil _));
         priority = changes.priority;
       };
     },

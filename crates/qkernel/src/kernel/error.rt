@@ -1,6 +1,6 @@
 //! Error.
 
-ghost use Rattle.std.specs.Prelude.{◌≡◌, ◌<◌, ◌^◌, [], None, Some};
+ghost use Rattle.std.specs.Prelude.{◌≡◌, ◌<◌, ◌^◌, [], None, Some, false};
 ghost use Rattle.qrules.specs.Calls.Error.{errored, mark_of};
 ghost use Rattle.qrules.specs.Held.{finished};
 ghost use Rattle.qrecords.specs.Threads.{open_in, seat_in};
@@ -60,6 +60,7 @@ impl Kernel {
     )
         requires limit { self.old.made < 2 ^ 40 }
         requires seat { seat_in self.old.threads thread ≡ Some seat }
+        requires up { self.old.down ≡ false }
         requires free { open_in self.old.threads thread ≡ None }
         requires none { endings.old.items ≡ [] }
         ensures { Steps self.old thread (Call.Error rcvid code) endings.new.items self.new }

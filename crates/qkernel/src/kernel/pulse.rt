@@ -1,6 +1,6 @@
 //! Pulse.
 
-ghost use Rattle.std.specs.Prelude.{◌≡◌, ◌<◌, ◌^◌, [], None, Some, true};
+ghost use Rattle.std.specs.Prelude.{◌≡◌, ◌<◌, ◌^◌, [], None, Some, true, false};
 ghost use Rattle.qqueue.specs.Best.{is_pulse};
 ghost use Rattle.qrules.specs.Rows.{takes};
 ghost use Rattle.qrecords.specs.Threads.{open_in, seat_in};
@@ -58,6 +58,7 @@ impl Kernel {
     )
         requires limit { self.old.made < 2 ^ 40 }
         requires seat { seat_in self.old.threads thread ≡ Some seat }
+        requires up { self.old.down ≡ false }
         requires free { open_in self.old.threads thread ≡ None }
         requires none { endings.old.items ≡ [] }
         ensures { Steps self.old thread (Call.Pulse coid priority code value) endings.new.items self.new }

@@ -1,6 +1,6 @@
 //! Receive, and what it shares with ReceivePulse.
 
-ghost use Rattle.std.specs.Prelude.{◌≡◌, ◌<◌, ◌^◌, [], None, Some};
+ghost use Rattle.std.specs.Prelude.{◌≡◌, ◌<◌, ◌^◌, [], None, Some, false};
 ghost use Rattle.qrules.specs.Receiving.{receive_of};
 ghost use Rattle.qrecords.specs.Threads.{open_in, seat_in};
 
@@ -29,6 +29,7 @@ impl Kernel {
     )
         requires limit { self.old.made < 2 ^ 40 }
         requires seat { seat_in self.old.threads thread ≡ Some seat }
+        requires up { self.old.down ≡ false }
         requires free { open_in self.old.threads thread ≡ None }
         requires none { endings.old.items ≡ [] }
         ensures { Steps self.old thread (Call.Receive chid buffer) endings.new.items self.new }
@@ -48,6 +49,7 @@ impl Kernel {
     )
         requires limit { self.old.made < 2 ^ 40 }
         requires seat { seat_in self.old.threads thread ≡ Some seat }
+        requires up { self.old.down ≡ false }
         requires free { open_in self.old.threads thread ≡ None }
         requires none { endings.old.items ≡ [] }
         requires buffer { kind ≡ Kind.PulseOnly → buffer ≡ [] }

@@ -1,6 +1,6 @@
 //! ReceivePulse.
 
-ghost use Rattle.std.specs.Prelude.{◌≡◌, ◌<◌, ◌^◌, [], None, Some};
+ghost use Rattle.std.specs.Prelude.{◌≡◌, ◌<◌, ◌^◌, [], None, Some, false};
 ghost use Rattle.qrecords.specs.Threads.{open_in, seat_in};
 
 use super::Kernel;
@@ -23,6 +23,7 @@ impl Kernel {
     )
         requires limit { self.old.made < 2 ^ 40 }
         requires seat { seat_in self.old.threads thread ≡ Some seat }
+        requires up { self.old.down ≡ false }
         requires free { open_in self.old.threads thread ≡ None }
         requires none { endings.old.items ≡ [] }
         ensures { Steps self.old thread (Call.ReceivePulse chid) endings.new.items self.new }

@@ -1,6 +1,6 @@
 //! Reply.
 
-ghost use Rattle.std.specs.Prelude.{◌≡◌, ◌<◌, ◌^◌, [], None, Some};
+ghost use Rattle.std.specs.Prelude.{◌≡◌, ◌<◌, ◌^◌, [], None, Some, false};
 ghost use Rattle.qrules.specs.Calls.Reply.{replied};
 ghost use Rattle.qrules.specs.Held.{finished};
 ghost use Rattle.qrecords.specs.Threads.{open_in, seat_in};
@@ -55,6 +55,7 @@ impl Kernel {
     )
         requires limit { self.old.made < 2 ^ 40 }
         requires seat { seat_in self.old.threads thread ≡ Some seat }
+        requires up { self.old.down ≡ false }
         requires free { open_in self.old.threads thread ≡ None }
         requires none { endings.old.items ≡ [] }
         ensures { Steps self.old thread (Call.Reply rcvid status bytes) endings.new.items self.new }

@@ -1,6 +1,6 @@
 //! State.
 
-ghost use Rattle.std.specs.Prelude.{◌≡◌, ◌<◌, ◌^◌, [], None, is_some, true};
+ghost use Rattle.std.specs.Prelude.{◌≡◌, ◌<◌, ◌^◌, [], None, is_some, true, false};
 ghost use Rattle.qtables.specs.Members.{member_at};
 ghost use Rattle.qrecords.specs.Threads.{members_of, open_in};
 
@@ -20,6 +20,7 @@ impl Kernel {
     pub(super) fn state(&mut self, thread: ThreadNo, target: ThreadNo, endings: &mut Endings)
         requires limit { self.old.made < 2 ^ 40 }
         requires known { is_some (member_at (members_of self.old.threads) thread) ≡ true }
+        requires up { self.old.down ≡ false }
         requires free { open_in self.old.threads thread ≡ None }
         requires none { endings.old.items ≡ [] }
         ensures { Steps self.old thread (Call.State target) endings.new.items self.new }

@@ -28,9 +28,11 @@ pub alone : (f : Facts) (t : ℕ) (c : Call) → ((y : Completion) → (row_of f
 alone f t c own ends receipt made written = record {
   owns = λ y e. (own y e).own;
   ends_open = λ u y e. absurd (none-some y (sym (ends u) ∙ e));
+  ends_settled = λ mild u y e. absurd (none-some y (sym (ends u) ∙ e));
   own_receives = λ y q e m. absurd (none-some q (sym (own y e).mark ∙ m));
   ends_receives = λ u y q e m. absurd (none-some y (sym (ends u) ∙ e));
   receives = λ r e. absurd (none-some r (sym receipt ∙ e));
   sends = λ m e message. absurd (none-some m (sym made ∙ e));
+  makes_open = λ m e. absurd (none-some m (sym made ∙ e));
   writes_sent = written;
 }

@@ -1,7 +1,7 @@
 -- Calls that answer a held message.
 use Rattle.std.proofs.Common.{◌≡◌, ◌∙◌, ℕ, List, ap, sym}
 use Rattle.std.specs.Prelude.{None, Some}
-use Rattle.std.proofs.lemmas.Option.{none-some}
+use Rattle.std.proofs.lemmas.Option.{none-some, same_Some}
 use Rattle.qrules.specs.Answer.{row_of}
 use Rattle.qrules.specs.Facts.{Facts, sender}
 use Rattle.qrules.specs.Held.{Finish, ends_sender, refusal}
@@ -10,16 +10,18 @@ use Rattle.qrules.specs.declared.call.Call.{Call}
 use Rattle.qrules.specs.declared.call.Completion.{Completion}
 use Rattle.qrules.proofs.Calls.Alone.{IsPlain}
 use Rattle.qrules.proofs.Calls.Held.{SenderEnds, sender_ends}
-use Rattle.qrules.proofs.Past.Laws.{IsOfOpen, RowLaws, is_settled}
+use Rattle.qrules.proofs.Past.Laws.{IsOfOpen, IsSettled, RowLaws, is_settled}
 
 of_open : (f : Facts) (t rcvid : ℕ) (finish : Finish) (u : ℕ) (y : Completion) → SenderEnds f t rcvid finish u y → IsOfOpen f u y
 of_open f t rcvid finish u y s = record {
   waiting = s.held.waiting;
   is = s.held.is_open;
-  settled = ap is_settled s.held.waits;
   call = sym (ap (λ x. x.call) s.ending) ∙ sym s.number;
   thread = sym (ap (λ x. x.thread) s.ending);
 }
+
+settled_open : (f : Facts) (t rcvid : ℕ) (finish : Finish) (u : ℕ) (y : Completion) → SenderEnds f t rcvid finish u y → IsSettled (f.open_call u)
+settled_open f t rcvid finish u y s w is = ap (λ o. is_settled o.wait) (same_Some w s.held.waiting (sym is ∙ s.held.is_open)) ∙ ap is_settled s.held.waits
 
 -- its mark is none of a receipt
 pub answer_receives : (f : Facts) (t rcvid : ℕ) (finish : Finish) (u : ℕ) (y : Completion) → ((buffer : List ℕ) → received (finish buffer).0 ≡ None) → SenderEnds f t rcvid finish u y → received y.mark ≡ None
@@ -34,9 +36,11 @@ answers f t c rcvid finish none passed own ends receipt made written =
     record {
       owns = λ y e. (own y e).own;
       ends_open = λ u y e. of_open f t rcvid finish u y (ended u y e);
+      ends_settled = λ mild u y e. settled_open f t rcvid finish u y (ended u y e);
       own_receives = λ y q e m. absurd (none-some q (sym (own y e).mark ∙ m));
       ends_receives = λ u y q e m. absurd (none-some q (sym (answer_receives f t rcvid finish u y none (ended u y e)) ∙ m));
       receives = λ r e. absurd (none-some r (sym receipt ∙ e));
       sends = λ m e message. absurd (none-some m (sym made ∙ e));
+      makes_open = λ m e. absurd (none-some m (sym made ∙ e));
       writes_sent = written;
     }

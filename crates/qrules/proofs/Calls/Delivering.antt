@@ -2,7 +2,7 @@
 use Rattle.std.proofs.Common.{◌≡◌, ◌∙◌, ℕ, List, ap, refl, sym, subst, inl, cond, eqb, true, false}
 use Rattle.std.specs.Prelude.{Option, None, Some, is_some, ◌&&◌}
 use Rattle.std.specs.Option.{option_map}
-use Rattle.std.proofs.lemmas.Bool.{eqb-true, ne_eqb}
+use Rattle.std.proofs.lemmas.Bool.{eqb-true, ne_eqb, and_parts}
 use Rattle.std.proofs.lemmas.Option.{none-some, same_Some}
 use Rattle.qqueue.specs.declared.item.Item.{Item}
 use Rattle.qtables.specs.declared.connection.Connection.{Connection}
@@ -14,7 +14,7 @@ use Rattle.qrules.specs.Rows.{Received, Made, asks, makes, received, receipt_in,
 use Rattle.qrules.specs.declared.call.Call.{Call}
 use Rattle.qrules.specs.declared.call.Completion.{Completion}
 use Rattle.qrules.proofs.Past.Lists.{eqb_same}
-use Rattle.qrules.proofs.Past.Laws.{IsOfOpen, IsReceipt, IsReceived}
+use Rattle.qrules.proofs.Past.Laws.{IsOfOpen, IsSettled, IsReceipt, IsReceived, is_settled}
 use Rattle.qrules.proofs.Calls.Taking.{Taken, taken_by, receipt_from, receipt_in_at}
 
 -- what goes over a connection is the item
@@ -51,6 +51,15 @@ way_over f t (Some c) h e =
       | true ↦ λ is. (c, refl, same_Some c.channel h is)
       | false ↦ λ is. absurd (none-some h is)
     ] e
+
+-- what goes over a way goes to an open channel
+pub goes_to_open : (f : Facts) (t : ℕ) (o : Option Connection) (h : ℕ) (item : Item) (m : Made) → leads_to f t o ≡ Some h → sent_over o item ≡ Some m → is_some (f.channel m.channel) ≡ true
+goes_to_open f t None h item m e made = absurd (none-some h e)
+goes_to_open f t (Some c) h item m e made =
+    elim (is_of_process f t c.process && is_some (f.channel c.channel)) as (λ b. (is_of_process f t c.process && is_some (f.channel c.channel)) ≡ b → cond b (Some c.channel) None ≡ Some h → is_some (f.channel m.channel) ≡ true) [
+      | true ↦ λ both s. ap (λ (n : Made). is_some (f.channel n.channel)) (sym (same_Some (record { item = item; channel = c.channel }) m made)) ∙ (and_parts (is_of_process f t c.process) (is_some (f.channel c.channel)) both).1
+      | false ↦ λ both s. absurd (none-some h s)
+    ] refl e
 
 -- the item goes over channel h to thread v, whose call ends by y
 record Sent (f : Facts) (sender : Option ℕ) (item : Item) (message : List ℕ) (o r : Option ℕ) (q : Received) : Type 0 where
@@ -105,7 +114,12 @@ module _ (f : Facts) (t coid : ℕ) (c : Call) (item : Item) (message : List ℕ
   pub delivers_open : (u : ℕ) (y : Completion) → (row_of f t c).ends u ≡ Some y → IsOfOpen f u y
   delivers_open u y e =
       let k = taken_by item message u (f.open_call u) y (met_by f item message (receiver f item (way f t coid)) u y (sym (ends_is u) ∙ e)).given in
-      record { waiting = k.waiting; is = k.is; settled = k.settled; call = k.call; thread = k.thread }
+      record { waiting = k.waiting; is = k.is; call = k.call; thread = k.thread }
+
+  pub delivers_settled : (u : ℕ) (y : Completion) → (row_of f t c).ends u ≡ Some y → IsSettled (f.open_call u)
+  delivers_settled u y e w is =
+      let k = taken_by item message u (f.open_call u) y (met_by f item message (receiver f item (way f t coid)) u y (sym (ends_is u) ∙ e)).given in
+      ap (λ o. is_settled o.wait) (same_Some w k.waiting (sym is ∙ k.is)) ∙ k.settled
 
   pub delivers_receipt : (u : ℕ) (y : Completion) (p : ℕ × ℕ) → (row_of f t c).ends u ≡ Some y → received y.mark ≡ Some p → IsReceipt (row_of f t c) u p
   delivers_receipt u y p e m =

@@ -74,11 +74,13 @@ pub receiving_row : (f : Facts) (t : ℕ) (c : Call) (chid : ℕ) (kind : Kind) 
 receiving_row f t c chid kind buffer own ends receipt made written = record {
   owns = λ y e. own_one f t buffer (best_of kind (f.pending chid)) y (sym own ∙ e);
   ends_open = λ u y e. absurd (none-some y (sym (ends u) ∙ e));
+  ends_settled = λ mild u y e. absurd (none-some y (sym (ends u) ∙ e));
   own_receives = λ y q e m.
       let r = own_received f t chid buffer (best_of kind (f.pending chid)) y q (sym own ∙ e) m in
       record { receipt = r.receipt; is = receipt ∙ r.is; by = r.by; item = r.item; copied = r.copied };
   ends_receives = λ u y q e m. absurd (none-some y (sym (ends u) ∙ e));
   receives = λ r e. best_received f t c chid kind buffer (best_of kind (f.pending chid)) r own refl (sym receipt ∙ e);
   sends = λ m e message. absurd (none-some m (sym made ∙ e));
+  makes_open = λ m e. absurd (none-some m (sym made ∙ e));
   writes_sent = λ w e. absurd (none-some w (sym written ∙ e));
 }

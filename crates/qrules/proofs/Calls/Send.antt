@@ -8,7 +8,8 @@ use Rattle.qrules.specs.Facts.{Facts, is_for_answer}
 use Rattle.qrules.specs.Rows.{message_item}
 use Rattle.qrules.specs.declared.call.Call.TheVariants.{Send}
 use Rattle.qrules.proofs.Past.Laws.{BeginsToWait, CallLaws, RowLaws, Passes}
-use Rattle.qrules.proofs.Calls.Delivering.{delivers_open, delivers_receipt, delivers_received, sent_item}
+use Rattle.qrules.proofs.Calls.Delivering.{delivers_open, delivers_settled, delivers_receipt, delivers_received, goes_to_open, sent_item}
+use Rattle.qrules.proofs.Properties.Rows.Delivering.{has_way}
 
 pub call_laws : (coid : ℕ) (message reply_buffer : List ℕ) → CallLaws (Send coid message reply_buffer)
 call_laws coid message reply_buffer = record {
@@ -25,9 +26,11 @@ pub row_laws : (f : Facts) (t coid : ℕ) (message reply_buffer : List ℕ) → 
 row_laws f t coid message reply_buffer p = record {
   owns = λ y e. absurd (none-some y e);
   ends_open = delivers_open f t coid (Send coid message reply_buffer) (item f t) message (Some t) (λ u. refl) refl;
+  ends_settled = λ mild. delivers_settled f t coid (Send coid message reply_buffer) (item f t) message (Some t) (λ u. refl) refl;
   own_receives = λ y q e m. absurd (none-some y e);
   ends_receives = delivers_receipt f t coid (Send coid message reply_buffer) (item f t) message (Some t) (λ u. refl) refl;
   receives = delivers_received f t coid (Send coid message reply_buffer) (item f t) message (Some t) (λ u. refl) refl p.idle refl refl;
   sends = λ m e sent. refl;
+  makes_open = λ m e. let h = has_way f t coid p.row in goes_to_open f t (f.connection coid) h.0 (item f t) m h.1 e;
   writes_sent = λ w e. absurd (none-some w e);
 }

@@ -4,7 +4,7 @@ use Rattle.std.specs.Prelude.{None, Some, is_some}
 use Rattle.std.specs.List.{list_any, filter_map, AllByRecursion}
 use Rattle.std.proofs.lemmas.Bool.{eqb-true, eq-eqb, ne_eqb}
 use Rattle.std.proofs.lemmas.Option.{none-some, same_Some}
-use Rattle.qbase.specs.declared.errno.Errno.TheVariants.{Busy}
+use Rattle.qbase.specs.declared.errno.Errno.TheVariants.{Down, Busy}
 use Rattle.qtables.specs.Members.{member_at}
 use Rattle.qtables.specs.declared.member.Member.{Member}
 use Rattle.qrules.specs.Answer.{row_of, refusal, ending, Outcome, Answers}
@@ -24,9 +24,13 @@ use Rattle.qrules.proofs.Past.Numbers.{block_cases, open_parts, open_below, open
 
 pub row_passes : (f : Facts) (t : ℕ) (c : Call) → refusal f t c ≡ None → Passes f t c
 row_passes f t c e =
-    elim (f.open_call t) as (λ o. f.open_call t ≡ o → cond (is_some o) (Some Busy) (row_of f t c).refusal ≡ None → Passes f t c) [
-      | None ↦ λ is h. record { idle = is; row = h }
-      | Some w ↦ λ is h. absurd (none-some Busy (sym h))
+    elim (f.down) as (λ b. f.down ≡ b → cond b (Some Down) (cond (is_some (f.open_call t)) (Some Busy) (row_of f t c).refusal) ≡ None → Passes f t c) [
+      | true ↦ λ down h. absurd (none-some Down (sym h))
+      | false ↦ λ up h.
+          elim (f.open_call t) as (λ o. f.open_call t ≡ o → cond (is_some o) (Some Busy) (row_of f t c).refusal ≡ None → Passes f t c) [
+            | None ↦ λ is passed. record { up = up; idle = is; row = passed }
+            | Some w ↦ λ is passed. absurd (none-some Busy (sym passed))
+          ] refl h
     ] refl e
 
 pub passes_of : (f : Facts) (t : ℕ) (c : Call) (X : List Completion) → Outcome true f t c X → Passes f t c

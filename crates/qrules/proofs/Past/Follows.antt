@@ -5,12 +5,12 @@ use Rattle.qtables.specs.Members.{member_at, IsRoster}
 use Rattle.qtables.specs.declared.member.Member.{Member}
 use Rattle.qrules.specs.Answer.{Outcome}
 use Rattle.qrules.specs.Lawful.{facts_of, IsLawful, with_event}
-use Rattle.qrules.specs.Past.{refuses, creates, attaches}
+use Rattle.qrules.specs.Past.{refuses, attaches}
 use Rattle.qrules.specs.Step.{Follows}
 use Rattle.qrules.specs.Trace.{Event, Trace}
 use Rattle.qrules.specs.declared.call.Call.{Call}
 use Rattle.qrules.specs.declared.call.Completion.{Completion}
-use Rattle.qrules.proofs.Past.Channels.{made_refused, made_accepted, count_refused, count_accepted}
+use Rattle.qrules.proofs.Past.Channels.{channel_accepted, channel_refused, made_refused, made_accepted, count_refused, count_accepted, open_channels_accepted, open_channels_refused}
 use Rattle.qrules.proofs.Past.Ends.{accepted, refused}
 use Rattle.qrules.proofs.Past.OpenCalls.{open_refused, open_accepted}
 use Rattle.qrules.proofs.Past.Pending.{pending_refused, pending_accepted}
@@ -25,8 +25,9 @@ past_follows true roster past t c X rising l member a =
     record {
       roster = refl;
       number = omega arith;
-      channel = λ h. made_accepted (λ e. creates (member_at roster e.thread) e.call) e past h r;
-      open_channels = count_accepted (λ e. creates (member_at roster e.thread) e.call) e past r;
+      down = rw r refl;
+      channel = λ h. channel_accepted roster past t c X h l a;
+      open_channels = open_channels_accepted roster past t c X l a;
       connection = λ k. made_accepted (λ e. attaches (member_at roster e.thread) e.call) e past k r;
       live_connections = count_accepted (λ e. attaches (member_at roster e.thread) e.call) e past r;
       open_call = λ u. open_accepted roster past t c X u l member a;
@@ -39,8 +40,9 @@ past_follows false roster past t c X rising l member a =
     record {
       roster = refl;
       number = omega arith;
-      channel = λ h. made_refused (λ e. creates (member_at roster e.thread) e.call) e past h r;
-      open_channels = omega (arith, count_refused (λ e. creates (member_at roster e.thread) e.call) e past r);
+      down = rw r refl;
+      channel = λ h. channel_refused roster e past h r;
+      open_channels = omega (arith, open_channels_refused roster e past r);
       connection = λ k. made_refused (λ e. attaches (member_at roster e.thread) e.call) e past k r;
       live_connections = omega (arith, count_refused (λ e. attaches (member_at roster e.thread) e.call) e past r);
       open_call = λ u. open_refused roster past t c X u a;

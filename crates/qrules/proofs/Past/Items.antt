@@ -10,7 +10,7 @@ use Rattle.qqueue.specs.Best.{is_pulse}
 use Rattle.qtables.specs.declared.member.Member.{Member}
 use Rattle.qrules.specs.Facts.{is_for_answer}
 use Rattle.qrules.specs.Headline.CopiedExactly.{call_at}
-use Rattle.qrules.specs.Past.{is_accepted, connection_at, priority_of_thread, item_of, items, made_among, priority_made, priority_of_item, is_gone, pending, newest_block}
+use Rattle.qrules.specs.Past.{is_accepted, connection_at, priority_of_thread, item_of, items, made_among, priority_made, priority_of_item, is_closed, is_gone, pending, newest_block}
 use Rattle.qrules.specs.Rows.{Made, asks, makes}
 use Rattle.qrules.specs.Trace.{Event, Trace}
 use Rattle.qrules.specs.declared.call.Call.{Call}
@@ -157,8 +157,15 @@ pub record IsPending (roster : List Member) (past : Trace) (h : ℕ) (item : Ite
   pub made : Stands roster past h item
   pub stays : is_gone past item ≡ false
 
-pub pending_all : (roster : List Member) (past : Trace) (h : ℕ) → AllByRecursion (IsPending roster past h) (pending roster past h)
-pending_all roster past h =
-    all_more (λ item. Stands roster past h item × (not (is_gone past item) ≡ true)) (IsPending roster past h) (pending roster past h)
+-- those of a channel's items that are not gone
+abbrev pub staying : List Member → Trace → ℕ → List Item
+staying roster past h = filter (λ item. not (is_gone past item)) (items_on roster past h)
+
+pub staying_all : (roster : List Member) (past : Trace) (h : ℕ) → AllByRecursion (IsPending roster past h) (staying roster past h)
+staying_all roster past h =
+    all_more (λ item. Stands roster past h item × (not (is_gone past item) ≡ true)) (IsPending roster past h) (staying roster past h)
     (all_passing (Stands roster past h) (λ item. not (is_gone past item)) (items_on roster past h) (stands_all roster past h))
     (λ item k. record { made = k.0; stays = not-true (is_gone past item) k.1 })
+
+pub pending_all : (roster : List Member) (past : Trace) (h : ℕ) → AllByRecursion (IsPending roster past h) (pending roster past h)
+pending_all roster past h = elim (is_closed past h) as (λ b. AllByRecursion (IsPending roster past h) (cond b [] (staying roster past h))) [ true ↦ tt | false ↦ staying_all roster past h ]

@@ -11,6 +11,7 @@ use Rattle.qrules.specs.Past.{is_failure}
 use Rattle.qrules.specs.Receiving.{sender_for}
 use Rattle.qrules.specs.Rows.{Row, Made, Received, Written, asks, makes, received, writes}
 use Rattle.qrules.specs.declared.call.Call.{Call}
+use Rattle.qrules.specs.declared.call.Call.TheVariants.{ChannelCreate, ConnectAttach, Send, Receive, Reply, Error, Read, Write, Info, ReceivePulse, Pulse, PrioritySet, State, ChannelDestroy, Shutdown}
 use Rattle.qrules.specs.declared.call.Completion.{Completion}
 use Rattle.qrules.specs.declared.open_call.OpenCall.{OpenCall}
 use Rattle.qrules.specs.declared.open_call.Wait.{Wait}
@@ -41,8 +42,27 @@ pub record CallLaws (c : Call) : Type 0 where
 
 -- ---- a call that is accepted
 
--- nothing refuses the call: its thread isn't blocked, and its row refuses nothing
+-- the call ends others by force, and so may end a Send that isn't received
+abbrev pub is_forceful : Call → Bool
+is_forceful (ChannelDestroy chid) = true
+is_forceful Shutdown = true
+is_forceful (ChannelCreate flags) = false
+is_forceful (ConnectAttach chid) = false
+is_forceful (Send coid message reply_buffer) = false
+is_forceful (Receive chid buffer) = false
+is_forceful (Reply rcvid status bytes) = false
+is_forceful (Error rcvid code) = false
+is_forceful (Read rcvid offset buffer) = false
+is_forceful (Write rcvid offset bytes) = false
+is_forceful (Info rcvid) = false
+is_forceful (ReceivePulse chid) = false
+is_forceful (Pulse coid priority code value) = false
+is_forceful (PrioritySet thread priority) = false
+is_forceful (State thread) = false
+
+-- nothing refuses the call: the kernel isn't shut down, its thread isn't blocked, and its row refuses nothing
 pub record Passes (f : Facts) (t : ℕ) (c : Call) : Type 0 where
+  pub up : f.down ≡ false
   pub idle : f.open_call t ≡ None
   pub row : (row_of f t c).refusal ≡ None
 
@@ -56,9 +76,12 @@ pub record IsOwn (n t : ℕ) (y : Completion) : Type 0 where
 pub record IsOfOpen (f : Facts) (u : ℕ) (y : Completion) : Type 0 where
   pub waiting : OpenCall
   pub is : f.open_call u ≡ Some waiting
-  pub settled : is_settled waiting.wait ≡ true
   pub call : y.call ≡ waiting.number
   pub thread : y.thread ≡ u
+
+-- the open call isn't a Send whose message isn't received
+abbrev pub IsSettled : Option OpenCall → Type 0
+IsSettled o = (w : OpenCall) → o ≡ Some w → is_settled w.wait ≡ true
 
 -- thread u receives this, by what the row says
 pub record IsReceipt (row : Row) (u : ℕ) (p : ℕ × ℕ) : Type 0 where
@@ -92,8 +115,10 @@ pub record IsReceived (f : Facts) (t : ℕ) (c : Call) (r : Received) : Type 0 w
 pub record RowLaws (f : Facts) (t : ℕ) (c : Call) : Type 0 where
   pub owns : (y : Completion) → (row_of f t c).own ≡ Some y → IsOwn f.number t y
   pub ends_open : (u : ℕ) (y : Completion) → (row_of f t c).ends u ≡ Some y → IsOfOpen f u y
+  pub ends_settled : is_forceful c ≡ false → (u : ℕ) (y : Completion) → (row_of f t c).ends u ≡ Some y → IsSettled (f.open_call u)
   pub own_receives : (y : Completion) (p : ℕ × ℕ) → (row_of f t c).own ≡ Some y → received y.mark ≡ Some p → IsReceipt (row_of f t c) t p
   pub ends_receives : (u : ℕ) (y : Completion) (p : ℕ × ℕ) → (row_of f t c).ends u ≡ Some y → received y.mark ≡ Some p → IsReceipt (row_of f t c) u p
   pub receives : (r : Received) → (row_of f t c).receipt ≡ Some r → IsReceived f t c r
   pub sends : (m : Made) → makes f.connection f.priority f.number t c ≡ Some m → is_pulse m.item.what ≡ false → (row_of f t c).own ≡ None
+  pub makes_open : (m : Made) → makes f.connection f.priority f.number t c ≡ Some m → is_some (f.channel m.channel) ≡ true
   pub writes_sent : (w : Written) → writes c ≡ Some w → (s : ℕ) × (sender f w.message ≡ Some s)

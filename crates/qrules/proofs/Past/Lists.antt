@@ -2,12 +2,19 @@
 use Rattle.std.proofs.Common.{◌≡◌, ℕ, List, [], ◌∷◌, ◌++◌, map, refl, ap, sym, ◌∙◌, cond, Bool, true, false, eqb, inl, inr}
 use Rattle.std.specs.Prelude.{Option, None, Some, is_some, ◌&&◌, ◌||◌, filter}
 use Rattle.std.specs.List.{list_any, filter_map, cons_option, AllByRecursion}
-use Rattle.std.proofs.lemmas.Bool.{cases_Bool, eqb-true, eq-eqb, true≢false}
+use Rattle.std.proofs.lemmas.Bool.{cases_Bool, eqb-true, eqb-false, eq-eqb, ne_eqb, true≢false}
 
 -- ---- tests
 
 pub eqb_same : (n : ℕ) → eqb n n ≡ true
 eqb_same n = eq-eqb n n refl
+
+pub eqb_either : (a b : ℕ) → eqb a b ≡ eqb b a
+eqb_either a b =
+    elim (eqb a b) as (λ x. eqb a b ≡ x → x ≡ eqb b a) [
+      | true ↦ λ e. sym (eq-eqb b a (sym (eqb-true a b e)))
+      | false ↦ λ e. sym (ne_eqb b a (λ s. eqb-false a b e (sym s)))
+    ] refl
 
 pub and_false : (b : Bool) → (b && false) ≡ false
 and_false true = refl
@@ -59,6 +66,26 @@ any_filter_map_at {Y} p f (x ∷ xs) u y h e q =
             | None ↦ rest
             | Some z ↦ elim (p z) as (λ b. (b || list_any p (filter_map f xs)) ≡ true) [ true ↦ refl | false ↦ rest ]
           ]
+    ]
+
+-- ---- any of a list
+
+pub any_never : {X : Type 0} (p : X → Bool) (xs : List X) → ((x : X) → p x ≡ false) → list_any p xs ≡ false
+any_never p [] h = refl
+any_never p (x ∷ xs) h = rw (h x) (any_never p xs h)
+
+-- where just one may pass, any passes exactly if it does
+pub any_only : (p : ℕ → Bool) (xs : List ℕ) (u : ℕ) → is_among xs u ≡ true → ((v : ℕ) → eqb v u ≡ false → p v ≡ false) → list_any p xs ≡ p u
+any_only p [] u m h = absurd (true≢false (sym m))
+any_only p (x ∷ xs) u m h =
+    elim (cases_Bool (eqb x u)) [
+      | inl same ↦
+          let at : p x ≡ p u = ap p (eqb-true x u same) in
+          elim (p u) as (λ b. p u ≡ b → (p x || list_any p xs) ≡ b) [
+            | true ↦ λ e. rw (at ∙ e) refl
+            | false ↦ λ e. rw (at ∙ e) (any_never p xs (λ v. elim (eqb v u) as (λ b. eqb v u ≡ b → p v ≡ false) [ true ↦ λ s. ap p (eqb-true v u s) ∙ e | false ↦ λ o. h v o ] refl))
+          ] refl
+      | inr other ↦ rw (h x other) (any_only p xs u (rw other at m) h)
     ]
 
 -- ---- what is true of each element

@@ -3,7 +3,7 @@ use Rattle.std.proofs.Common.{◌≡◌, ℕ, ◌+◌, ◌≤◌, List, [], ◌�
 use Rattle.std.specs.Prelude.{Option, None, Some, is_some, not, ◌&&◌, ◌||◌, filter}
 use Rattle.std.specs.List.{AllByRecursion}
 use Rattle.std.specs.Option.{option_to_list}
-use Rattle.std.proofs.lemmas.Bool.{eqb-true, eqb-false, eq-eqb, ne_eqb, true≢false, or_parts, or_cases, or_left, or_right, and_parts, and_from}
+use Rattle.std.proofs.lemmas.Bool.{eqb-true, eqb-false, ne_eqb, true≢false, or_parts, or_cases, or_left, or_right, and_parts, and_from}
 use Rattle.std.proofs.lemmas.List.{map-append, append-nil}
 use Rattle.std.proofs.lemmas.List.Elements.{filter-append}
 use Rattle.std.proofs.lemmas.Option.{same_Some}
@@ -11,21 +11,21 @@ use Rattle.qqueue.specs.Best.{is_pulse, without}
 use Rattle.qqueue.specs.declared.item.Item.{Item}
 use Rattle.qtables.specs.Members.{member_at}
 use Rattle.qtables.specs.declared.member.Member.{Member}
-use Rattle.qrules.specs.Answer.{row_of, ending, Outcome}
-use Rattle.qrules.specs.Facts.{threads_of}
+use Rattle.qrules.specs.Answer.{row_of, Outcome}
 use Rattle.qrules.specs.Lawful.{facts_of, IsLawful, with_event}
-use Rattle.qrules.specs.Past.{filled, ends, is_ended, is_taken, is_gone, items, item_of, pending, first_some, receipt_among, receipt_of, priority_of_item, with_receipt}
-use Rattle.qrules.specs.Rows.{Made, Received, makes}
-use Rattle.qrules.specs.Step.{made_on, taken_out, pending_after}
+use Rattle.qrules.specs.Past.{channel_at, ends, is_closed, is_ended, is_taken, is_gone, items, item_of, pending, first_some, receipt_among, receipt_of}
+use Rattle.qrules.specs.Rows.{Made, Received, closes, makes, names}
+use Rattle.qrules.specs.Step.{is_cut, left_by, made_on, taken_out, pending_after}
 use Rattle.qrules.specs.Trace.{Event, Trace}
 use Rattle.qrules.specs.declared.call.Call.{Call}
 use Rattle.qrules.specs.declared.call.Completion.{Completion}
-use Rattle.qrules.proofs.Past.Lists.{none_of, or_false, any_filter_map, all_append, all_every, all_more, filter_same, filter_twice, filter_all}
-use Rattle.qrules.proofs.Past.Laws.{is_settled, IsReceived}
+use Rattle.qrules.proofs.Past.Lists.{cond_same, eqb_either, none_of, all_append, all_every, all_filter, all_more, filter_same, filter_twice, filter_all}
+use Rattle.qrules.proofs.Past.Laws.{IsReceived}
+use Rattle.qrules.proofs.Past.Channels.{closed_accepted, closed_refused}
+use Rattle.qrules.proofs.Past.Cuts.{ended_is_cut}
 use Rattle.qrules.proofs.Past.RowLaws.{call_laws}
-use Rattle.qrules.proofs.Past.Numbers.{block_fresh, filled_settled, open_parts}
-use Rattle.qrules.proofs.Past.Ends.{laws_of, ending_names, accepted, refused, refused_ends, ended_below, ends_own}
-use Rattle.qrules.proofs.Past.Items.{IsPending, Stands, items_on, stands_all, pending_all, item_at, item_below, item_answer}
+use Rattle.qrules.proofs.Past.Ends.{laws_of, accepted, refused, refused_ends, ended_below, ends_own}
+use Rattle.qrules.proofs.Past.Items.{IsPending, Stands, items_on, stands_all, staying, staying_all, item_at, item_below}
 use Rattle.qrules.proofs.Past.Receipts.{copied_by, accepted_receipts, refused_receipts, best_pending, receipt_beyond}
 
 -- ---- the items of a channel
@@ -58,32 +58,16 @@ pending_refused roster past t c X h a =
     let none : item_of roster e past ≡ None = rw (refused roster past t c X a) refl in
     let stays = λ (item : Item). not (is_gone (e ∷ past) item) in
     let same : items_on roster (e ∷ past) h ≡ items_on roster past h = items_more roster e past h ∙ ap (λ o. items_on roster past h ++ made_on h o) none ∙ append-nil (items_on roster past h) in
+    let left : staying roster (e ∷ past) h ≡ staying roster past h =
     ap (filter stays) same
     ∙ filter_same stays (λ item. not (is_gone past item)) (items_on roster past h) (
     all_more (Stands roster past h) (λ item. stays item ≡ not (is_gone past item)) (items_on roster past h) (stands_all roster past h) (λ item at.
     let below : item.number ≤ length past = item_below roster past item.number _ at in
-    rw (refused_receipts (facts_of roster past) t c X item.number a, refused_ends roster past t c X item.number a (λ s. omega arith)) refl))
+    rw (refused_receipts (facts_of roster past) t c X item.number a, refused_ends roster past t c X item.number a (λ s. omega arith)) refl)) in
+    let closed : is_closed (e ∷ past) h ≡ is_closed past h = closed_refused e past h (refused roster past t c X a) in
+    ap (λ b. cond b [] (staying roster (e ∷ past) h)) closed ∙ ap (cond (is_closed past h) []) left
 
 -- ---- after an accepted call
-
--- no call under the number of a pending item ends
-pending_goes_on : (roster : List Member) (past : Trace) (t : ℕ) (c : Call) (X : List Completion) (h : ℕ) (item : Item) → Outcome true (facts_of roster past) t c X → IsPending roster past h item → ends X item.number ≡ false
-pending_goes_on roster past t c X h item a k =
-    let f = facts_of roster past in
-    let below : item.number ≤ length past = item_below roster past item.number _ k.made in
-    let fresh : receipt_of past item.number ≡ None = none_of (receipt_of past item.number) (or_parts _ _ k.stays).0 in
-    rw (a.1) (any_filter_map _ (ending f t c) (threads_of roster) (λ v y e.
-    elim (ending_names f t c v y (laws_of f t c X a) e) [
-      | inl own ↦ ne_eqb _ _ (λ s. omega (arith, own.names.call))
-      | inr other ↦ ne_eqb _ _ (λ s.
-          let o = other.names.waiting in
-          let b = open_parts roster past v other.names.waiting other.names.is in
-          let number : item.number ≡ b.block.number = sym s ∙ other.names.call ∙ b.number in
-          let made = subst (λ i. item_at roster past i ≡ Some (record { item = item; channel = h })) number k.made in
-          let unread : receipt_of past b.block.number ≡ None = subst (λ i. receipt_of past i ≡ None) number fresh in
-          let same : o ≡ filled past b.block = b.same ∙ ap (λ r. with_receipt (priority_of_item roster past b.block.number) r (filled past b.block)) unread in
-          true≢false (sym other.names.settled ∙ ap (λ w. is_settled w.wait) same ∙ filled_settled past b.block ∙ block_fresh past v b.block b.is ∙ ap not (item_answer roster past v _ b.block made b.is)))
-    ]))
 
 -- the row's receipt leaves the item
 abbrev leaves : Option Received → Item → Bool
@@ -93,21 +77,23 @@ taken_now : (x : Option ℕ) (y : Option ℕ) → y ≡ None → is_some (first_
 taken_now None y e = ap is_some e
 taken_now (Some k) y e = refl
 
--- an item that was neither received nor ended is gone exactly where this event receives it
-gone_now : (roster : List Member) (past : Trace) (t : ℕ) (c : Call) (X : List Completion) (item : Item) → IsLawful roster past → is_some (member_at roster t) ≡ true → Outcome true (facts_of roster past) t c X
-    → receipt_of past item.number ≡ None → (is_pulse item.what ≡ false → (ends X item.number ≡ false) × (is_ended past item.number ≡ false))
-    → not (is_gone (with_event t c X past) item) ≡ leaves (row_of (facts_of roster past) t c).receipt item
-gone_now roster past t c X item l member a fresh going =
+neither : (a b : Bool) → not (a || b) ≡ (not b && not a)
+neither true true = refl
+neither true false = refl
+neither false true = refl
+neither false false = refl
+
+-- an item that wasn't received is gone exactly where this event receives it, or ends its Send
+gone_now : (roster : List Member) (past : Trace) (t : ℕ) (c : Call) (X : List Completion) (item : Item) (cut : Bool) → IsLawful roster past → is_some (member_at roster t) ≡ true → Outcome true (facts_of roster past) t c X
+    → receipt_of past item.number ≡ None → (not (is_pulse item.what) && is_ended (with_event t c X past) item.number) ≡ cut
+    → not (is_gone (with_event t c X past) item) ≡ (not cut && leaves (row_of (facts_of roster past) t c).receipt item)
+gone_now roster past t c X item cut l member a fresh ended =
     let taken : is_taken (with_event t c X past) item.number ≡ is_some (copied_by (row_of (facts_of roster past) t c).receipt item.number) =
     ap (λ r. is_some (first_some r (receipt_of past item.number))) (accepted_receipts roster past t c X item.number l member a)
     ∙ taken_now (copied_by (row_of (facts_of roster past) t c).receipt item.number) (receipt_of past item.number) fresh in
-    let unended : (not (is_pulse item.what) && is_ended (with_event t c X past) item.number) ≡ false =
-    elim (is_pulse item.what) as (λ b. (b ≡ false → (ends X item.number ≡ false) × (is_ended past item.number ≡ false)) → (not b && is_ended (with_event t c X past) item.number) ≡ false) [
-      | true ↦ λ g. refl
-      | false ↦ λ g. rw ((g refl).0) (g refl).1
-    ] going in
-    ap (λ b. not (is_taken (with_event t c X past) item.number || b)) unended
-    ∙ ap not (or_false (is_taken (with_event t c X past) item.number) ∙ taken)
+    ap (λ b. not (is_taken (with_event t c X past) item.number || b)) ended
+    ∙ ap (λ b. not (b || cut)) taken
+    ∙ neither (is_some (copied_by (row_of (facts_of roster past) t c).receipt item.number)) cut
 
 -- what is gone stays gone
 stays_gone : (past : Trace) (t : ℕ) (c : Call) (X : List Completion) (item : Item) → is_gone past item ≡ true → is_gone (with_event t c X past) item ≡ true
@@ -122,23 +108,27 @@ stays_gone past t c X item e =
           (and_from (not (is_pulse item.what)) ended_now p.0 (or_right (ends X item.number) (is_ended past item.number) p.1))
     ]
 
--- of what stood on the channel, what was pending and isn't received
+-- of what stood on the channel, what was pending, isn't cut and isn't received
 pending_old : (roster : List Member) (past : Trace) (t : ℕ) (c : Call) (X : List Completion) (h : ℕ) → IsLawful roster past → is_some (member_at roster t) ≡ true → Outcome true (facts_of roster past) t c X
-    → filter (λ item. not (is_gone (with_event t c X past) item)) (items_on roster past h) ≡ filter (leaves (row_of (facts_of roster past) t c).receipt) (pending roster past h)
+    → filter (λ item. not (is_gone (with_event t c X past) item)) (items_on roster past h) ≡ filter (leaves (row_of (facts_of roster past) t c).receipt) (left_by (facts_of roster past) t c h (staying roster past h))
 pending_old roster past t c X h l member a =
+    let f = facts_of roster past in
     let R = row_of (facts_of roster past) t c in
     let stays = λ (item : Item). not (is_gone (with_event t c X past) item) in
-    let both = λ (item : Item). not (is_gone past item) && leaves (row_of (facts_of roster past) t c).receipt item in
+    let goes_on = λ (item : Item). not (is_cut (facts_of roster past) t c h item.number) in
+    let stays_on = λ (item : Item). not (is_cut (facts_of roster past) t c h item.number) && leaves (row_of (facts_of roster past) t c).receipt item in
+    let both = λ (item : Item). not (is_gone past item) && (not (is_cut (facts_of roster past) t c h item.number) && leaves (row_of (facts_of roster past) t c).receipt item) in
     filter_same stays both (items_on roster past h) (
     all_more (Stands roster past h) (λ item. stays item ≡ both item) (items_on roster past h) (stands_all roster past h) (λ item at.
-    elim (is_gone past item) as (λ b. is_gone past item ≡ b → stays item ≡ (not b && leaves R.receipt item)) [
+    elim (is_gone past item) as (λ b. is_gone past item ≡ b → stays item ≡ (not b && (goes_on item && leaves R.receipt item))) [
       | true ↦ λ e. ap not (stays_gone past t c X item e)
       | false ↦ λ e.
           let p = or_parts (is_taken past item.number) (not (is_pulse item.what) && is_ended past item.number) e in
-          gone_now roster past t c X item l member a (none_of (receipt_of past item.number) p.0)
-          (λ message. (pending_goes_on roster past t c X h item a (record { made = at; stays = e }), subst (λ b. (not b && is_ended past item.number) ≡ false) message p.1))
+          gone_now roster past t c X item (is_cut f t c h item.number) l member a (none_of (receipt_of past item.number) p.0)
+          (ended_is_cut roster past t c X h item l a (record { made = at; stays = e }))
     ] refl))
-    ∙ sym (filter_twice (λ item. not (is_gone past item)) (leaves R.receipt) (items_on roster past h))
+    ∙ sym (filter_twice (λ item. not (is_gone past item)) stays_on (items_on roster past h))
+    ∙ sym (filter_twice goes_on (leaves R.receipt) (staying roster past h))
 
 -- of what the event makes, what isn't received at once
 pending_new : (roster : List Member) (past : Trace) (t : ℕ) (c : Call) (X : List Completion) (h : ℕ) → IsLawful roster past → is_some (member_at roster t) ≡ true → Outcome true (facts_of roster past) t c X
@@ -151,43 +141,41 @@ pending_new roster past t c X h l member a =
     filter_same stays left (made_on h (makes f.connection f.priority f.number t c)) (
     made_all (λ item. stays item ≡ left item) h (makes f.connection f.priority f.number t c) (λ m is on.
     let number : m.item.number ≡ length past + 1 = ((call_laws c).makes_one f.connection f.priority (length past + 1) t m is).number in
-    gone_now roster past t c X m.item l member a (receipt_beyond roster past m.item.number l (omega arith))
-    (λ message.
-    let own : ends X (length past + 1) ≡ false = ends_own roster past t c X member a ∙ ap is_some ((laws_of f t c X a).sends m is message) in
-    (subst (λ i. ends X i ≡ false) (sym number) own, ended_below roster past m.item.number l (omega arith)))))
+    gone_now roster past t c X m.item false l member a (receipt_beyond roster past m.item.number l (omega arith)) (
+    elim (is_pulse m.item.what) as (λ b. is_pulse m.item.what ≡ b → (not b && (ends X m.item.number || is_ended past m.item.number)) ≡ false) [
+      | true ↦ λ pulse. refl
+      | false ↦ λ message.
+          let own : ends X (length past + 1) ≡ false = ends_own roster past t c X member a ∙ ap is_some ((laws_of f t c X a).sends m is message) in
+          let ended : ends X m.item.number ≡ false = subst (λ i. ends X i ≡ false) (sym number) own in
+          rw (ended, ended_below roster past m.item.number l (omega arith)) refl
+    ] refl)))
 
 -- ---- the receipt takes its item out of its channel
 
 -- no item of another channel has the number that is received
-elsewhere : (roster : List Member) (past : Trace) (t : ℕ) (c : Call) (X : List Completion) (h : ℕ) (r : Received) → Outcome true (facts_of roster past) t c X → IsReceived (facts_of roster past) t c r → eqb r.channel h ≡ false
-    → AllByRecursion (λ item. eqb r.item item.number ≡ false) (pending roster past h ++ made_on h (makes (facts_of roster past).connection (facts_of roster past).priority (length past + 1) t c))
-elsewhere roster past t c X h r a k other =
+elsewhere : (roster : List Member) (past : Trace) (t : ℕ) (c : Call) (X : List Completion) (h : ℕ) (r : Received) (L : List Item) → AllByRecursion (IsPending roster past h) L
+    → Outcome true (facts_of roster past) t c X → IsReceived (facts_of roster past) t c r → eqb r.channel h ≡ false
+    → AllByRecursion (λ item. eqb r.item item.number ≡ false) (L ++ made_on h (makes (facts_of roster past).connection (facts_of roster past).priority (length past + 1) t c))
+elsewhere roster past t c X h r L all a k other =
     let f = facts_of roster past in
     let P = λ (item : Item). eqb r.item item.number ≡ false in
     let made_number = λ (m : Made) (is : makes f.connection f.priority f.number t c ≡ Some m). ((call_laws c).makes_one f.connection f.priority (length past + 1) t m is).number in
     elim (k.source) [
       | inl new ↦
           let number : k.item.number ≡ length past + 1 = made_number _ new.made in
-          all_append P (pending roster past h) (made_on h (makes f.connection f.priority f.number t c))
-          (all_more (IsPending roster past h) P (pending roster past h) (pending_all roster past h) (λ item at.
+          all_append P L (made_on h (makes f.connection f.priority f.number t c))
+          (all_more (IsPending roster past h) P L all (λ item at.
           let below : item.number ≤ length past = item_below roster past item.number _ at.made in ne_eqb _ _ (λ s. omega (arith, k.number))))
           (made_all P h (makes f.connection f.priority f.number t c) (λ m is on. absurd (eqb-false _ _ other (ap (λ n. n.channel) (same_Some _ m (sym new.made ∙ is)) ∙ on))))
       | inr old ↦
           let place = best_pending roster past r.channel old.kind k.item old.best in
           let below : k.item.number ≤ length past = item_below roster past k.item.number _ place.made in
-          all_append P (pending roster past h) (made_on h (makes f.connection f.priority f.number t c))
-          (all_more (IsPending roster past h) P (pending roster past h) (pending_all roster past h) (λ item at. ne_eqb _ _ (λ s.
+          all_append P L (made_on h (makes f.connection f.priority f.number t c))
+          (all_more (IsPending roster past h) P L all (λ item at. ne_eqb _ _ (λ s.
           eqb-false _ _ other (ap (λ n. n.channel) (same_Some _ _ (sym place.made ∙ ap (item_at roster past) (k.number ∙ s) ∙ at.made))))))
           (made_all P h (makes f.connection f.priority f.number t c) (λ m is on.
           let number : m.item.number ≡ length past + 1 = made_number m is in ne_eqb _ _ (λ s. omega (arith, k.number))))
     ]
-
-eqb_either : (a b : ℕ) → eqb a b ≡ eqb b a
-eqb_either a b =
-    elim (eqb a b) as (λ x. eqb a b ≡ x → x ≡ eqb b a) [
-      | true ↦ λ e. sym (eq-eqb b a (sym (eqb-true a b e)))
-      | false ↦ λ e. sym (ne_eqb b a (λ s. eqb-false a b e (sym s)))
-    ] refl
 
 taken_from : (o : Option Received) (h : ℕ) (L : List Item) → ((r : Received) → o ≡ Some r → eqb r.channel h ≡ false → AllByRecursion (λ item. eqb r.item item.number ≡ false) L)
     → taken_out o h L ≡ filter (leaves o) L
@@ -199,6 +187,46 @@ taken_from (Some r) h L other =
       | false ↦ λ e. sym (filter_all (leaves (Some r)) L (all_more (λ item. eqb r.item item.number ≡ false) (λ item. leaves (Some r) item ≡ true) L (other r refl e) (λ item d. rw d refl)))
     ] refl
 
+-- an accepted call makes nothing for a channel that is destroyed
+closed_makes : (roster : List Member) (past : Trace) (t : ℕ) (c : Call) (X : List Completion) (h : ℕ) → Outcome true (facts_of roster past) t c X → is_closed past h ≡ true
+    → made_on h (makes (facts_of roster past).connection (facts_of roster past).priority (length past + 1) t c) ≡ []
+closed_makes roster past t c X h a closed =
+    let f = facts_of roster past in
+    elim (makes f.connection f.priority (length past + 1) t c) as (λ o. makes f.connection f.priority (length past + 1) t c ≡ o → made_on h o ≡ []) [
+      | None ↦ λ e. refl
+      | Some m ↦ λ e.
+          elim (eqb m.channel h) as (λ b. eqb m.channel h ≡ b → cond b (m.item ∷ []) [] ≡ []) [
+            | true ↦ λ on.
+                let none : channel_at roster past m.channel ≡ None = rw (eqb-true m.channel h on, closed) refl in
+                absurd (true≢false (sym ((laws_of f t c X a).makes_open m e) ∙ ap is_some none))
+            | false ↦ λ off. refl
+          ] refl
+    ] refl
+
+none_out : (o : Option Received) (h : ℕ) → taken_out o h [] ≡ []
+none_out None h = refl
+none_out (Some r) h = cond_same (eqb r.channel h) []
+
+-- what stays of a channel that isn't destroyed
+staying_accepted : (roster : List Member) (past : Trace) (t : ℕ) (c : Call) (X : List Completion) (h : ℕ) → IsLawful roster past → is_some (member_at roster t) ≡ true → Outcome true (facts_of roster past) t c X
+    → staying roster (with_event t c X past) h
+    ≡ taken_out (row_of (facts_of roster past) t c).receipt h (left_by (facts_of roster past) t c h (staying roster past h) ++ made_on h (makes (facts_of roster past).connection (facts_of roster past).priority (length past + 1) t c))
+staying_accepted roster past t c X h l member a =
+    let f = facts_of roster past in
+    let e : Event = record { thread = t; call = c; endings = X } in
+    let R = row_of (facts_of roster past) t c in
+    let M = made_on h (makes f.connection f.priority f.number t c) in
+    let L = left_by (facts_of roster past) t c h (staying roster past h) in
+    let made : item_of roster e past ≡ makes f.connection f.priority f.number t c = rw (accepted roster past t c X a) refl in
+    let stays = λ (item : Item). not (is_gone (e ∷ past) item) in
+    ap (filter stays) (items_more roster e past h ∙ ap (λ o. items_on roster past h ++ made_on h o) made)
+    ∙ filter-append stays (items_on roster past h) M
+    ∙ ap (λ xs. xs ++ filter stays M) (pending_old roster past t c X h l member a)
+    ∙ ap (λ xs. filter (leaves R.receipt) L ++ xs) (pending_new roster past t c X h l member a)
+    ∙ sym (filter-append (leaves R.receipt) L M)
+    ∙ sym (taken_from R.receipt h (L ++ M) (λ r is.
+    elsewhere roster past t c X h r L (all_filter (IsPending roster past h) (λ item. not (is_cut f t c h item.number)) (staying roster past h) (staying_all roster past h)) a ((laws_of f t c X a).receives r is)))
+
 pub pending_accepted : (roster : List Member) (past : Trace) (t : ℕ) (c : Call) (X : List Completion) (h : ℕ) → IsLawful roster past → is_some (member_at roster t) ≡ true → Outcome true (facts_of roster past) t c X
     → pending roster (with_event t c X past) h ≡ pending_after (facts_of roster past) t c h
 pending_accepted roster past t c X h l member a =
@@ -206,11 +234,13 @@ pending_accepted roster past t c X h l member a =
     let e : Event = record { thread = t; call = c; endings = X } in
     let R = row_of (facts_of roster past) t c in
     let M = made_on h (makes f.connection f.priority f.number t c) in
-    let made : item_of roster e past ≡ makes f.connection f.priority f.number t c = rw (accepted roster past t c X a) refl in
-    let stays = λ (item : Item). not (is_gone (e ∷ past) item) in
-    ap (filter stays) (items_more roster e past h ∙ ap (λ o. items_on roster past h ++ made_on h o) made)
-    ∙ filter-append stays (items_on roster past h) M
-    ∙ ap (λ xs. xs ++ filter stays M) (pending_old roster past t c X h l member a)
-    ∙ ap (λ xs. filter (leaves R.receipt) (pending roster past h) ++ xs) (pending_new roster past t c X h l member a)
-    ∙ sym (filter-append (leaves R.receipt) (pending roster past h) M)
-    ∙ sym (taken_from R.receipt h (pending roster past h ++ M) (λ r is. elsewhere roster past t c X h r a ((laws_of f t c X a).receives r is)))
+    let after = λ (items : List Item). taken_out R.receipt h (left_by f t c h items ++ M) in
+    ap (λ b. cond b [] (staying roster (e ∷ past) h)) (closed_accepted e past h (accepted roster past t c X a)) ∙ (
+    elim (names (closes c) h) as (λ d. cond (d || is_closed past h) [] (staying roster (e ∷ past) h) ≡ cond d [] (after (pending roster past h))) [
+      | true ↦ refl
+      | false ↦
+          elim (is_closed past h) as (λ b. is_closed past h ≡ b → cond b [] (staying roster (e ∷ past) h) ≡ after (cond b [] (staying roster past h))) [
+            | true ↦ λ closed. sym (ap (taken_out R.receipt h) (closed_makes roster past t c X h a closed) ∙ none_out R.receipt h)
+            | false ↦ λ standing. staying_accepted roster past t c X h l member a
+          ] refl
+    ])

@@ -6,13 +6,13 @@ use Rattle.std.proofs.lemmas.List.{append-nil}
 use Rattle.qqueue.specs.Contents.{IsRising}
 use Rattle.qqueue.specs.declared.item.Item.{Item}
 use Rattle.qtables.specs.declared.member.Member.{Member}
-use Rattle.qrules.specs.Past.{is_gone, item_of, pending}
+use Rattle.qrules.specs.Past.{is_closed, is_gone, item_of, pending}
 use Rattle.qrules.specs.Rows.{Made}
 use Rattle.qrules.specs.Step.{made_on}
 use Rattle.qrules.specs.Trace.{Event, Trace}
 use Rattle.qrules.proofs.Past.Best.{rising_push}
 use Rattle.qrules.proofs.Past.Lists.{all_filter, all_more}
-use Rattle.qrules.proofs.Past.Items.{IsPending, Stands, items_on, stands_all, pending_all, item_below, made_by}
+use Rattle.qrules.proofs.Past.Items.{IsPending, Stands, items_on, stands_all, staying, pending_all, item_below, made_by}
 use Rattle.qrules.proofs.Past.Pending.{items_more}
 
 -- what is left of rising items rises
@@ -42,7 +42,10 @@ items_rise roster (e ∷ past) h = subst IsRising (sym (items_more roster e past
 
 -- what is pending rises
 pub pending_rises : (roster : List Member) (past : Trace) (h : ℕ) → IsRising (pending roster past h)
-pending_rises roster past h = rising_left (λ item. not (is_gone past item)) (items_on roster past h) (items_rise roster past h)
+pending_rises roster past h = elim (is_closed past h) as (λ b. IsRising (cond b [] (staying roster past h))) [
+  | true ↦ tt
+  | false ↦ rising_left (λ item. not (is_gone past item)) (items_on roster past h) (items_rise roster past h)
+]
 
 -- and so it does with the item that the next event makes
 pub takeable_rises : (roster : List Member) (e : Event) (past : Trace) (h : ℕ) → IsRising (pending roster past h ++ made_on h (item_of roster e past))

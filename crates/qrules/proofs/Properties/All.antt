@@ -10,6 +10,7 @@ use Rattle.qrules.proofs.Properties.BestFirst.{best_first}
 use Rattle.qrules.proofs.Properties.CopiedExactly.{copied_exactly}
 use Rattle.qrules.proofs.Properties.ReceivedOnce.{received_once}
 use Rattle.qrules.proofs.Properties.SentOrder.{sent_order}
+use Rattle.qrules.proofs.Properties.ShutForGood.{shut_for_good}
 
 pub has_properties : (roster : List Member) (past : Trace) → IsRoster roster → IsLawful roster past → HasProperties roster past
 has_properties roster past r l = record {
@@ -18,4 +19,5 @@ has_properties roster past r l = record {
   copied_exactly = copied_exactly roster past l;
   best_first = best_first roster past r l;
   sent_order = sent_order roster past r l;
+  shut_for_good = shut_for_good roster past r l;
 }

@@ -5,6 +5,7 @@ use Rattle.std.specs.Option.{option_map}
 use Rattle.std.specs.Ordering.{int_eq}
 use Rattle.std.proofs.lemmas.Bool.{true≢false}
 use Rattle.std.proofs.lemmas.Option.{none-some, same_Some}
+use Rattle.qbase.specs.declared.errno.Errno.TheVariants.{Srch}
 use Rattle.qrules.specs.Answer.{row_of, ending}
 use Rattle.qqueue.specs.declared.item.Item.{Item}
 use Rattle.qqueue.specs.declared.item.Kind.{Kind}
@@ -17,15 +18,17 @@ use Rattle.qrules.specs.Calls.Send.{item}
 use Rattle.qrules.specs.Held.{Finish, ends_sender, refusal}
 use Rattle.qrules.specs.declared.call.Info.{Info as Told}
 use Rattle.qrules.specs.declared.call.Mark.TheVariants as mark
+use Rattle.qrules.specs.Cutting.{is_on}
 use Rattle.qrules.specs.Facts.{Facts, is_for_answer, message, sender, threads_of}
 use Rattle.qrules.specs.Headline.AnsweredToSender.{answered_by, is_answer, thread_of_send}
 use Rattle.qrules.specs.Rows.{Made, asks, given, makes, pulse_item}
 use Rattle.qrules.specs.declared.call.Call.{Call}
-use Rattle.qrules.specs.declared.call.Call.TheVariants.{ChannelCreate, ConnectAttach, Send, Receive, Reply, Error, Read, Write, Info, ReceivePulse, Pulse, PrioritySet, State}
+use Rattle.qrules.specs.declared.call.Call.TheVariants.{ChannelCreate, ConnectAttach, Send, Receive, Reply, Error, Read, Write, Info, ReceivePulse, Pulse, PrioritySet, State, ChannelDestroy, Shutdown}
 use Rattle.qrules.specs.declared.call.Completion.{Completion}
 use Rattle.qrules.specs.declared.open_call.OpenCall.{OpenCall}
 use Rattle.qrules.specs.declared.open_call.Wait.{Wait}
 use Rattle.qrules.specs.declared.open_call.Wait.TheVariants.{Answer, Item as ForItem}
+use Rattle.qrules.proofs.Calls.Cutting.{cut_parts}
 use Rattle.qrules.proofs.Calls.Held.{IsHeldFor, SenderEnds, answering, finished_held, has_sender, held_for, sender_ends}
 use Rattle.qrules.proofs.Past.Lists.{eqb_same}
 use Rattle.qrules.proofs.Past.Senders.{sender_sends}
@@ -77,6 +80,8 @@ own_answers f t (Write rcvid offset bytes) u y e is = no_answer _ y (same_Some _
 own_answers f t (Info rcvid) u y e is = absurd (true≢false (sym is ∙ tells_only f.number t (told f (sender f rcvid)) y e))
 own_answers f t (PrioritySet thread level) u y e is = no_answer _ y (same_Some _ y e) refl is
 own_answers f t (State thread) u y e is = no_answer _ y (same_Some _ y e) refl is
+own_answers f t (ChannelDestroy chid) u y e is = no_answer _ y (same_Some _ y e) refl is
+own_answers f t Shutdown u y e is = no_answer _ y (same_Some _ y e) refl is
 
 -- the Send that a call ends is the one that it names
 answers_by : (f : Facts) (t : ℕ) (c : Call) (rcvid : ℕ) (finish : Finish) (u : ℕ) (y : Completion) → answered_by c ≡ Some rcvid → SenderEnds f t rcvid finish u y → AnswersHeld f t c u y
@@ -105,6 +110,8 @@ ends_answers f t (Write rcvid offset bytes) u y p e is = absurd (none-some y e)
 ends_answers f t (Info rcvid) u y p e is = absurd (none-some y e)
 ends_answers f t (PrioritySet thread level) u y p e is = absurd (none-some y e)
 ends_answers f t (State thread) u y p e is = absurd (none-some y e)
+ends_answers f t (ChannelDestroy chid) u y p e is = no_answer _ y (cut_parts (is_on f.connection chid) Srch u (f.open_call u) y e).ending refl is
+ends_answers f t Shutdown u y p e is = no_answer _ y (cut_parts (λ wait. true) Srch u (f.open_call u) y e).ending refl is
 
 -- each ending that answers a message answers so
 pub answers_held : (f : Facts) (t : ℕ) (c : Call) (u : ℕ) (y : Completion) → Passes f t c → ending f t c u ≡ Some y → is_answer y.mark ≡ true → AnswersHeld f t c u y
@@ -157,6 +164,8 @@ answers_one f t (Write rcvid offset bytes) i p e = absurd (none-some i e)
 answers_one f t (Info rcvid) i p e = absurd (none-some i e)
 answers_one f t (PrioritySet thread level) i p e = absurd (none-some i e)
 answers_one f t (State thread) i p e = absurd (none-some i e)
+answers_one f t (ChannelDestroy chid) i p e = absurd (none-some i e)
+answers_one f t Shutdown i p e = absurd (none-some i e)
 answers_one f t (ReceivePulse chid) i p e = absurd (none-some i e)
 answers_one f t (Pulse coid level code value) i p e = absurd (none-some i e)
 answers_one f t (Reply rcvid status bytes) i p e = ends_one f t (Reply rcvid status bytes) rcvid (replied status bytes) i p.row (λ u. refl) (λ buffer. refl) (same_Some rcvid i e)
@@ -199,6 +208,8 @@ sends_over f t (Write rcvid offset bytes) b p e w = absurd (none-some b e)
 sends_over f t (Info rcvid) b p e w = absurd (none-some b e)
 sends_over f t (PrioritySet thread level) b p e w = absurd (none-some b e)
 sends_over f t (State thread) b p e w = absurd (none-some b e)
+sends_over f t (ChannelDestroy chid) b p e w = absurd (none-some b e)
+sends_over f t Shutdown b p e w = absurd (none-some b e)
 sends_over f t (Pulse coid level code value) b p e w = absurd (none-some b e)
 sends_over f t (ReceivePulse chid) b p e w = absurd (true≢false (sym w ∙ ap (λ o. is_for_answer o.wait) (sym (same_Some _ b e))))
 sends_over f t (Receive chid buffer) b p e w = absurd (true≢false (sym w ∙ ap (λ o. is_for_answer o.wait) (sym (same_Some _ b e))))
@@ -218,5 +229,7 @@ sends_by n t (Write rcvid offset bytes) b e w = absurd (none-some b e)
 sends_by n t (Info rcvid) b e w = absurd (none-some b e)
 sends_by n t (PrioritySet thread level) b e w = absurd (none-some b e)
 sends_by n t (State thread) b e w = absurd (none-some b e)
+sends_by n t (ChannelDestroy chid) b e w = absurd (none-some b e)
+sends_by n t Shutdown b e w = absurd (none-some b e)
 sends_by n t (Pulse coid level code value) b e w = absurd (none-some b e)
 sends_by n t (ReceivePulse chid) b e w = absurd (true≢false (sym w ∙ ap (λ o. is_for_answer o.wait) (sym (same_Some _ b e))))

@@ -15,7 +15,7 @@ use Rattle.qrules.specs.Rows.{message_item, pulse_item, Made, makes, sent_over}
 use Rattle.qrules.specs.Step.{made_on}
 use Rattle.qrules.specs.Trace.{Event, Trace}
 use Rattle.qrules.specs.declared.call.Call.{Call}
-use Rattle.qrules.specs.declared.call.Call.TheVariants.{ChannelCreate, ConnectAttach, Send, Receive, Reply, Error, Read, Write, Info, ReceivePulse, Pulse, PrioritySet, State}
+use Rattle.qrules.specs.declared.call.Call.TheVariants.{ChannelCreate, ConnectAttach, Send, Receive, Reply, Error, Read, Write, Info, ReceivePulse, Pulse, PrioritySet, State, ChannelDestroy, Shutdown}
 use Rattle.qrules.proofs.Past.Items.{IsPending, item_at, item_below, item_earlier, item_newest, made_by, pending_all}
 use Rattle.qrules.proofs.Past.Lists.{all_append, all_more}
 use Rattle.qrules.proofs.Past.Pending.{made_all}
@@ -59,6 +59,8 @@ makes_over connection priority n t (Write rcvid offset bytes) m k e s = absurd (
 makes_over connection priority n t (Info rcvid) m k e s = absurd (none-some k s)
 makes_over connection priority n t (PrioritySet thread level) m k e s = absurd (none-some k s)
 makes_over connection priority n t (State thread) m k e s = absurd (none-some k s)
+makes_over connection priority n t (ChannelDestroy chid) m k e s = absurd (none-some k s)
+makes_over connection priority n t Shutdown m k e s = absurd (none-some k s)
 makes_over connection priority n t (ReceivePulse chid) m k e s = absurd (none-some k s)
 makes_over connection priority n t (Pulse coid level code value) m k e s = subst (λ i. IsOver connection i m) (same_Some coid k s) (sent_is_over connection coid (pulse_item n level code value) m e)
 makes_over connection priority n t (Send coid message reply_buffer) m k e s =

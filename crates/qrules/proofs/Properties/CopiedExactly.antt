@@ -6,6 +6,8 @@ use Rattle.std.specs.Option.{option_and_then, option_map, option_map_or}
 use Rattle.std.specs.Ordering.{int_eq}
 use Rattle.std.proofs.lemmas.Bool.{true≢false}
 use Rattle.std.proofs.lemmas.Option.{none-some, same_Some}
+use Rattle.qbase.specs.declared.errno.Errno.{Errno}
+use Rattle.qbase.specs.declared.errno.Errno.TheVariants.{Srch}
 use Rattle.qqueue.specs.Best.{is_pulse}
 use Rattle.qqueue.specs.declared.item.Item.{Item}
 use Rattle.qqueue.specs.declared.item.Kind.{Kind}
@@ -18,6 +20,7 @@ use Rattle.qrules.specs.Calls.Error.{errored}
 use Rattle.qrules.specs.Calls.Info.{told, telling}
 use Rattle.qrules.specs.Calls.Reply.{replied}
 use Rattle.qrules.specs.Calls.Send as send
+use Rattle.qrules.specs.Cutting.{buffer_of_wait, cut_call, is_on}
 use Rattle.qrules.specs.Facts.{Facts, message, message_in, sender, threads_of}
 use Rattle.qrules.specs.Held.{Finish, refusal, reply_buffer, reply_buffer_in, reply_buffer_of}
 use Rattle.qrules.specs.Headline.CopiedExactly.{CopiedExactly, IsCopied, buffer_at, buffer_by, call_at, message_at, message_of, replies_with}
@@ -26,12 +29,13 @@ use Rattle.qrules.specs.Past.{open_call, refuses}
 use Rattle.qrules.specs.Rows.{pulse_item, taking, writes}
 use Rattle.qrules.specs.Trace.{Event, Trace}
 use Rattle.qrules.specs.declared.call.Call.{Call}
-use Rattle.qrules.specs.declared.call.Call.TheVariants.{ChannelCreate, ConnectAttach, Send, Receive, Reply, Error, Read, Write, Info, ReceivePulse, Pulse, PrioritySet, State}
+use Rattle.qrules.specs.declared.call.Call.TheVariants.{ChannelCreate, ConnectAttach, Send, Receive, Reply, Error, Read, Write, Info, ReceivePulse, Pulse, PrioritySet, State, ChannelDestroy, Shutdown}
 use Rattle.qrules.specs.declared.call.Completion.{Completion}
 use Rattle.qrules.specs.declared.call.Info.{Info as Told}
 use Rattle.qrules.specs.declared.call.Mark.{Mark}
 use Rattle.qrules.specs.declared.call.Mark.TheVariants as mark
 use Rattle.qrules.specs.declared.open_call.OpenCall.{OpenCall}
+use Rattle.qrules.specs.declared.open_call.Wait.{Wait}
 use Rattle.qrules.proofs.Past.Ends.{passes_of, refused}
 use Rattle.qrules.proofs.Past.Items.{item_below}
 use Rattle.qrules.proofs.Past.Laws.{Passes}
@@ -40,10 +44,11 @@ use Rattle.qrules.proofs.Past.Numbers.{call_earlier, call_newest, open_below}
 use Rattle.qrules.proofs.Past.Receipts.{best_pending}
 use Rattle.qrules.proofs.Past.Senders.{sender_sends}
 use Rattle.qrules.proofs.Past.Writes.{writes_beyond, writes_nothing, writes_refused}
-use Rattle.qrules.proofs.Properties.Messages.{awaited, open_buffer, open_message, pending_message}
+use Rattle.qrules.proofs.Properties.Messages.{open_buffer, open_message, pending_message}
 use Rattle.qrules.proofs.Properties.Receipts.{ending_of}
 use Rattle.qrules.proofs.Laying.{lay_nothing, count_nothing}
 use Rattle.qrules.proofs.Properties.Rows.Receiving.{ReceiveTakes, receive_takes}
+use Rattle.qrules.proofs.Calls.Cutting.{IsCutCall, cut_parts}
 use Rattle.qrules.proofs.Calls.Held.{IsHeldFor, SenderEnds, answering, has_sender, held_for, sender_ends}
 use Rattle.qrules.proofs.Properties.Rows.Delivering.{Meets, delivery_meets}
 
@@ -74,6 +79,8 @@ buffer_stays e past i (Write rcvid offset bytes) none = refl
 buffer_stays e past i (Info rcvid) none = refl
 buffer_stays e past i (PrioritySet thread level) none = refl
 buffer_stays e past i (State thread) none = refl
+buffer_stays e past i (ChannelDestroy chid) none = refl
+buffer_stays e past i Shutdown none = refl
 buffer_stays e past i (ReceivePulse chid) none = refl
 buffer_stays e past i (Pulse coid level code value) none = refl
 
@@ -83,7 +90,7 @@ buffer_earlier e past i l none =
     ∙ (elim (call_at past i) as (λ o. option_map_or (buffer_by (e ∷ past) i) o [] ≡ option_map_or (buffer_by past i) o []) [ None ↦ refl | Some c ↦ buffer_stays e past i c none ])
 
 -- the buffer that an open call waits with is its buffer so far
-buffer_open : (roster : List Member) (e : Event) (past : Trace) (u : ℕ) (o : OpenCall) → writes e.call ≡ None → open_call roster past u ≡ Some o → buffer_at (e ∷ past) o.number ≡ awaited o.wait
+buffer_open : (roster : List Member) (e : Event) (past : Trace) (u : ℕ) (o : OpenCall) → writes e.call ≡ None → open_call roster past u ≡ Some o → buffer_at (e ∷ past) o.number ≡ buffer_of_wait o.wait
 buffer_open roster e past u o none is = buffer_earlier e past o.number (open_below roster past u o is) none ∙ open_buffer roster past u o is
 
 -- ---- a message that is held
@@ -110,7 +117,7 @@ held_buffer roster past t rcvid passed =
     let f = facts_of roster past in
     let s = has_sender f t rcvid passed in
     let h = held_for f t rcvid s.0 passed s.1 in
-    ap reply_buffer_in (held_call_is f t rcvid s.0 s.1 h) ∙ ap reply_buffer_of h.waits ∙ sym (ap awaited h.waits) ∙ sym (open_buffer roster past s.0 h.waiting h.is_open) ∙ ap (buffer_at past) (held_number f t rcvid s.0 s.1 h)
+    ap reply_buffer_in (held_call_is f t rcvid s.0 s.1 h) ∙ ap reply_buffer_of h.waits ∙ sym (ap buffer_of_wait h.waits) ∙ sym (open_buffer roster past s.0 h.waiting h.is_open) ∙ ap (buffer_at past) (held_number f t rcvid s.0 s.1 h)
 
 -- ---- the forms of an ending
 
@@ -176,6 +183,8 @@ own_copied roster past t (Info rcvid) X y l p e =
     told_copied past (event t (Info rcvid) X) (length past + 1) t (told (facts_of roster past) (sender (facts_of roster past) rcvid)) y e (buffer_newest (event t (Info rcvid) X) past)
 own_copied roster past t (PrioritySet thread level) X y l p e = plain_copied past (event t (PrioritySet thread level) X) y _ (same_Some _ y e) (sym (buffer_newest (event t (PrioritySet thread level) X) past))
 own_copied roster past t (State thread) X y l p e = plain_copied past (event t (State thread) X) y _ (same_Some _ y e) (sym (buffer_newest (event t (State thread) X) past))
+own_copied roster past t (ChannelDestroy chid) X y l p e = plain_copied past (event t (ChannelDestroy chid) X) y _ (same_Some _ y e) (sym (buffer_newest (event t (ChannelDestroy chid) X) past))
+own_copied roster past t Shutdown X y l p e = plain_copied past (event t Shutdown X) y _ (same_Some _ y e) (sym (buffer_newest (event t Shutdown X) past))
 own_copied roster past t (Pulse coid level code value) X y l p e = plain_copied past (event t (Pulse coid level code value) X) y _ (same_Some _ y e) (sym (buffer_newest (event t (Pulse coid level code value) X) past))
 own_copied roster past t (Receive chid buffer) X y l p e = best_copied roster past t (Receive chid buffer) X y chid Any buffer l (buffer_newest (event t (Receive chid buffer) X) past) (receive_takes (facts_of roster past) t chid Any buffer y e)
 own_copied roster past t (ReceivePulse chid) X y l p e = best_copied roster past t (ReceivePulse chid) X y chid PulseOnly [] l (buffer_newest (event t (ReceivePulse chid) X) past) (receive_takes (facts_of roster past) t chid PulseOnly [] y e)
@@ -184,13 +193,19 @@ own_copied roster past t (ReceivePulse chid) X y l p e = best_copied roster past
 answered_buffer : (roster : List Member) (past : Trace) (v : Event) (t rcvid : ℕ) (finish : Finish) (u : ℕ) (y : Completion) → writes v.call ≡ None → (r : SenderEnds (facts_of roster past) t rcvid finish u y)
     → buffer_at (v ∷ past) rcvid ≡ r.held.reply_buffer
 answered_buffer roster past v t rcvid finish u y none r =
-    subst (λ i. buffer_at (v ∷ past) i ≡ r.held.reply_buffer) r.number (buffer_open roster v past u r.held.waiting none r.held.is_open ∙ ap awaited r.held.waits)
+    subst (λ i. buffer_at (v ∷ past) i ≡ r.held.reply_buffer) r.number (buffer_open roster v past u r.held.waiting none r.held.is_open ∙ ap buffer_of_wait r.held.waits)
 
 -- what a receiver takes that is met
 met_copied : (roster : List Member) (past : Trace) (t : ℕ) (c : Call) (X : List Completion) (u : ℕ) (y : Completion) (coid : ℕ) (item : Item) (sent : List ℕ) → writes c ≡ None
     → (is_pulse item.what ≡ false → message_at (event t c X ∷ past) item.number ≡ sent) → Meets (facts_of roster past) t coid item sent u y → IsCopied past (event t c X) y y.mark
 met_copied roster past t c X u y coid item sent none message s =
-    taking_copied past (event t c X) s.waiting.number u item s.buffer sent y (buffer_open roster (event t c X) past u s.waiting none s.is_open ∙ ap awaited s.waits) message s.ending
+    taking_copied past (event t c X) s.waiting.number u item s.buffer sent y (buffer_open roster (event t c X) past u s.waiting none s.is_open ∙ ap buffer_of_wait s.waits) message s.ending
+
+-- what is cut gives its buffer back as it is by now
+cut_copied : (roster : List Member) (past : Trace) (t : ℕ) (c : Call) (X : List Completion) (u : ℕ) (y : Completion) (is_cut : Wait → Bool) (errno : Errno) → writes c ≡ None → IsCutCall is_cut errno u (open_call roster past u) y
+    → IsCopied past (event t c X) y y.mark
+cut_copied roster past t c X u y is_cut errno none k =
+    plain_copied past (event t c X) y (cut_call errno u k.waiting) k.ending (sym (buffer_open roster (event t c X) past u k.waiting none k.is))
 
 ends_copied : (roster : List Member) (past : Trace) (t : ℕ) (c : Call) (X : List Completion) (u : ℕ) (y : Completion) → Passes (facts_of roster past) t c → (row_of (facts_of roster past) t c).ends u ≡ Some y
     → IsCopied past (event t c X) y y.mark
@@ -202,6 +217,8 @@ ends_copied roster past t (Write rcvid offset bytes) X u y p e = absurd (none-so
 ends_copied roster past t (Info rcvid) X u y p e = absurd (none-some y e)
 ends_copied roster past t (PrioritySet thread level) X u y p e = absurd (none-some y e)
 ends_copied roster past t (State thread) X u y p e = absurd (none-some y e)
+ends_copied roster past t (ChannelDestroy chid) X u y p e = cut_copied roster past t (ChannelDestroy chid) X u y (is_on (facts_of roster past).connection chid) Srch refl (cut_parts (is_on (facts_of roster past).connection chid) Srch u (open_call roster past u) y e)
+ends_copied roster past t Shutdown X u y p e = cut_copied roster past t Shutdown X u y (λ wait. true) Srch refl (cut_parts (λ wait. true) Srch u (open_call roster past u) y e)
 ends_copied roster past t (ReceivePulse chid) X u y p e = absurd (none-some y e)
 ends_copied roster past t (Send coid sent reply_buffer) X u y p e =
     met_copied roster past t (Send coid sent reply_buffer) X u y coid (send.item (facts_of roster past) t) sent refl (λ message. message_newest (event t (Send coid sent reply_buffer) X) past)
@@ -242,6 +259,8 @@ refused_buffer roster past t c X l r = brought c ∙ sym (buffer_newest (event t
   brought (Info rcvid) = refl
   brought (PrioritySet thread level) = refl
   brought (State thread) = refl
+  brought (ChannelDestroy chid) = refl
+  brought Shutdown = refl
   brought (ReceivePulse chid) = refl
   brought (Pulse coid level code value) = refl
 

@@ -8,6 +8,7 @@ use Rattle.qqueue.specs.Best.{is_pulse}
 use Rattle.qqueue.specs.declared.item.Item.{Item}
 use Rattle.qtables.specs.declared.connection.Connection.{Connection}
 use Rattle.qtables.specs.declared.member.Member.{Member}
+use Rattle.qrules.specs.Cutting.{buffer_of_wait}
 use Rattle.qrules.specs.Facts.{is_for_answer, message, message_in, message_of, sender, threads_of, is_send}
 use Rattle.qrules.specs.Headline.CopiedExactly.{buffer_at, buffer_by, message_at, message_of as message_in_call}
 use Rattle.qrules.specs.Lawful.{facts_of, IsLawful}
@@ -15,7 +16,7 @@ use Rattle.qrules.specs.Past.{connection_at, ends, filled, held_with, is_accepte
 use Rattle.qrules.specs.Rows.{pulse_item, Made, asks, makes, with_buffer}
 use Rattle.qrules.specs.Trace.{Event, Trace}
 use Rattle.qrules.specs.declared.call.Call.{Call}
-use Rattle.qrules.specs.declared.call.Call.TheVariants.{ChannelCreate, ConnectAttach, Send, Receive, Reply, Error, Read, Write, Info, ReceivePulse, Pulse, PrioritySet, State}
+use Rattle.qrules.specs.declared.call.Call.TheVariants.{ChannelCreate, ConnectAttach, Send, Receive, Reply, Error, Read, Write, Info, ReceivePulse, Pulse, PrioritySet, State, ChannelDestroy, Shutdown}
 use Rattle.qrules.specs.declared.open_call.OpenCall.{OpenCall}
 use Rattle.qrules.specs.declared.open_call.Receipt.{Receipt}
 use Rattle.qrules.specs.declared.open_call.Wait.{Wait}
@@ -32,14 +33,9 @@ use Rattle.qrules.proofs.Properties.Sends.{open_filled, open_keeps}
 
 -- ---- what a call brings is what it waits with
 
--- the buffer that a thread waits with
-abbrev pub awaited : Wait → List ℕ
-awaited (Answer coid sent reply_buffer receipt) = reply_buffer
-awaited (ForItem chid kind buffer) = buffer
-
 -- a call that begins to wait keeps its buffer, which is written over, and its message
 pub record Keeps (past : Trace) (n : ℕ) (c : Call) (b : OpenCall) : Type 0 where
-  pub buffer : buffer_by past n c ≡ awaited (with_buffer (with_writes past n) b.wait)
+  pub buffer : buffer_by past n c ≡ buffer_of_wait (with_buffer (with_writes past n) b.wait)
   pub sent : message_in_call c ≡ message_of b.wait
 
 pub keeps : (past : Trace) (n : ℕ) (c : Call) (b : OpenCall) → asks n c ≡ Some b → Keeps past n c b
@@ -52,14 +48,16 @@ keeps past n (Write rcvid offset bytes) b e = absurd (none-some b e)
 keeps past n (Info rcvid) b e = absurd (none-some b e)
 keeps past n (PrioritySet thread level) b e = absurd (none-some b e)
 keeps past n (State thread) b e = absurd (none-some b e)
+keeps past n (ChannelDestroy chid) b e = absurd (none-some b e)
+keeps past n Shutdown b e = absurd (none-some b e)
 keeps past n (Pulse coid level code value) b e = absurd (none-some b e)
 keeps past n (ReceivePulse chid) b e = subst (Keeps past n (ReceivePulse chid)) (same_Some _ b e) (record { buffer = refl; sent = refl })
 keeps past n (Send coid message reply_buffer) b e = subst (Keeps past n (Send coid message reply_buffer)) (same_Some _ b e) (record { buffer = refl; sent = refl })
 keeps past n (Receive chid buffer) b e = subst (Keeps past n (Receive chid buffer)) (same_Some _ b e) (record { buffer = refl; sent = refl })
 
-held_awaited : (receipt : Receipt) (w : Wait) → awaited (held_with receipt w) ≡ awaited w
-held_awaited receipt (Answer coid sent reply_buffer before) = refl
-held_awaited receipt (ForItem chid kind buffer) = refl
+held_buffer_of : (receipt : Receipt) (w : Wait) → buffer_of_wait (held_with receipt w) ≡ buffer_of_wait w
+held_buffer_of receipt (Answer coid sent reply_buffer before) = refl
+held_buffer_of receipt (ForItem chid kind buffer) = refl
 
 held_message : (receipt : Receipt) (w : Wait) → message_of (held_with receipt w) ≡ message_of w
 held_message receipt (Answer coid sent reply_buffer before) = refl
@@ -70,11 +68,11 @@ buffer_message f (Answer coid sent reply_buffer receipt) = refl
 buffer_message f (ForItem chid kind buffer) = refl
 
 -- the buffer of an open call is the one that the call of its number brought, with what was written over it
-pub open_buffer : (roster : List Member) (past : Trace) (u : ℕ) (o : OpenCall) → open_call roster past u ≡ Some o → buffer_at past o.number ≡ awaited o.wait
+pub open_buffer : (roster : List Member) (past : Trace) (u : ℕ) (o : OpenCall) → open_call roster past u ≡ Some o → buffer_at past o.number ≡ buffer_of_wait o.wait
 open_buffer roster past u o is =
     let k = open_parts roster past u o is in
     let a = block_asked past u k.block k.is in
-    ap (buffer_at past) k.number ∙ ap (λ c. option_map_or (buffer_by past k.block.number) c []) a.is ∙ (keeps past k.block.number a.call k.block a.asks_it).buffer ∙ sym (open_filled awaited roster past u o k held_awaited)
+    ap (buffer_at past) k.number ∙ ap (λ c. option_map_or (buffer_by past k.block.number) c []) a.is ∙ (keeps past k.block.number a.call k.block a.asks_it).buffer ∙ sym (open_filled buffer_of_wait roster past u o k held_buffer_of)
 
 -- and so is its message
 pub open_message : (roster : List Member) (past : Trace) (u : ℕ) (o : OpenCall) → open_call roster past u ≡ Some o → message_at past o.number ≡ message_of o.wait
@@ -102,6 +100,8 @@ makes_message connection priority n t (Write rcvid offset bytes) m e message = a
 makes_message connection priority n t (Info rcvid) m e message = absurd (none-some m e)
 makes_message connection priority n t (PrioritySet thread level) m e message = absurd (none-some m e)
 makes_message connection priority n t (State thread) m e message = absurd (none-some m e)
+makes_message connection priority n t (ChannelDestroy chid) m e message = absurd (none-some m e)
+makes_message connection priority n t Shutdown m e message = absurd (none-some m e)
 makes_message connection priority n t (ReceivePulse chid) m e message = absurd (none-some m e)
 makes_message connection priority n t (Pulse coid level code value) m e message =
     absurd (true≢false (ap (λ x. is_pulse x.what) (sym (sent_item (connection coid) (pulse_item n level code value) m e)) ∙ message))
@@ -167,7 +167,7 @@ item_waits roster (e ∷ past) i m l is message going =
     ] refl is
 
 -- a message that is pending isn't ended
-pending_going : (roster : List Member) (past : Trace) (h : ℕ) (item : Item) → IsPending roster past h item → is_pulse item.what ≡ false → is_ended past item.number ≡ false
+pub pending_going : (roster : List Member) (past : Trace) (h : ℕ) (item : Item) → IsPending roster past h item → is_pulse item.what ≡ false → is_ended past item.number ≡ false
 pending_going roster past h item p message = subst (λ b. (not b && is_ended past item.number) ≡ false) message (or_parts _ _ p.stays).1
 
 -- the message of a pending item is that of the call of its number

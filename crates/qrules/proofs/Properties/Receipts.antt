@@ -4,6 +4,7 @@ use Rattle.std.specs.Prelude.{Option, None, Some}
 use Rattle.std.specs.Option.{option_map}
 use Rattle.std.proofs.lemmas.Bool.{eqb-true}
 use Rattle.std.proofs.lemmas.Option.{none-some, same_Some}
+use Rattle.qbase.specs.declared.errno.Errno.TheVariants.{Srch}
 use Rattle.qqueue.specs.Best.{best_of, may_take}
 use Rattle.qqueue.specs.declared.item.Item.{Item}
 use Rattle.qqueue.specs.declared.item.Kind.{Kind}
@@ -13,12 +14,13 @@ use Rattle.qrules.specs.Calls.Error.{errored}
 use Rattle.qrules.specs.Calls.Info.{told}
 use Rattle.qrules.specs.Calls.Reply.{replied}
 use Rattle.qrules.specs.Calls.Send.{item}
+use Rattle.qrules.specs.Cutting.{is_on}
 use Rattle.qrules.specs.Facts.{Facts, message, sender}
 use Rattle.qrules.specs.Headline.BestFirst.{receives_on}
 use Rattle.qrules.specs.Headline.ReceivedOnce.{item_received}
 use Rattle.qrules.specs.Rows.{Made, makes, pulse_item, received, sent_over}
 use Rattle.qrules.specs.declared.call.Call.{Call}
-use Rattle.qrules.specs.declared.call.Call.TheVariants.{ChannelCreate, ConnectAttach, Send, Receive, Reply, Error, Read, Write, Info, ReceivePulse, Pulse, PrioritySet, State}
+use Rattle.qrules.specs.declared.call.Call.TheVariants.{ChannelCreate, ConnectAttach, Send, Receive, Reply, Error, Read, Write, Info, ReceivePulse, Pulse, PrioritySet, State, ChannelDestroy, Shutdown}
 use Rattle.qrules.specs.declared.call.Completion.{Completion}
 use Rattle.qrules.specs.declared.open_call.OpenCall.{OpenCall}
 use Rattle.qrules.specs.declared.open_call.Wait.{Wait}
@@ -27,6 +29,7 @@ use Rattle.qrules.proofs.Calls.Taking.{given_received}
 use Rattle.qrules.proofs.Properties.Rows.Delivering.{Meets, delivery_meets}
 use Rattle.qrules.proofs.Properties.Rows.Receiving.{ReceiveTakes, receive_takes}
 use Rattle.qrules.proofs.Calls.Answering.{answer_receives}
+use Rattle.qrules.proofs.Calls.Cutting.{cut_parts}
 use Rattle.qrules.proofs.Calls.Error.{no_receipt}
 use Rattle.qrules.proofs.Calls.Held.{sender_ends}
 use Rattle.qrules.proofs.Calls.Info.{plain}
@@ -109,6 +112,8 @@ own_takes f t (Write rcvid offset bytes) u y p same e m = absurd (none-some p (a
 own_takes f t (Info rcvid) u y p same e m = absurd (none-some p (sym (plain f.number t (told f (sender f rcvid)) y e).mark ∙ m))
 own_takes f t (PrioritySet thread level) u y p same e m = absurd (none-some p (ap (λ x. received x.mark) (same_Some _ y e) ∙ m))
 own_takes f t (State thread) u y p same e m = absurd (none-some p (ap (λ x. received x.mark) (same_Some _ y e) ∙ m))
+own_takes f t (ChannelDestroy chid) u y p same e m = absurd (none-some p (ap (λ x. received x.mark) (same_Some _ y e) ∙ m))
+own_takes f t Shutdown u y p same e m = absurd (none-some p (ap (λ x. received x.mark) (same_Some _ y e) ∙ m))
 own_takes f t (Pulse coid level code value) u y p same e m = absurd (none-some p (ap (λ x. received x.mark) (same_Some _ y e) ∙ m))
 own_takes f t (Receive chid buffer) u y p same e m = takes_best f t (Receive chid buffer) chid Any buffer u y p same refl refl (receive_takes f t chid Any buffer y e) m
 own_takes f t (ReceivePulse chid) u y p same e m = takes_best f t (ReceivePulse chid) chid PulseOnly [] u y p same refl refl (receive_takes f t chid PulseOnly [] y e) m
@@ -140,6 +145,8 @@ ends_takes f t (Write rcvid offset bytes) u y p r e m = absurd (none-some y e)
 ends_takes f t (Info rcvid) u y p r e m = absurd (none-some y e)
 ends_takes f t (PrioritySet thread level) u y p r e m = absurd (none-some y e)
 ends_takes f t (State thread) u y p r e m = absurd (none-some y e)
+ends_takes f t (ChannelDestroy chid) u y p r e m = absurd (none-some p (ap (λ x. received x.mark) (cut_parts (is_on f.connection chid) Srch u (f.open_call u) y e).ending ∙ m))
+ends_takes f t Shutdown u y p r e m = absurd (none-some p (ap (λ x. received x.mark) (cut_parts (λ wait. true) Srch u (f.open_call u) y e).ending ∙ m))
 ends_takes f t (ReceivePulse chid) u y p r e m = absurd (none-some y e)
 ends_takes f t (Send coid message reply_buffer) u y p r e m =
     takes_met f t (Send coid message reply_buffer) coid (item f t) message u y p (delivery_meets f t coid (item f t) message u y e) refl m

@@ -132,7 +132,7 @@ held_over : (receipt : Receipt) (w : Wait) → over (held_with receipt w) ≡ ov
 held_over receipt (Answer coid message reply_buffer before) = refl
 held_over receipt (ForItem chid kind buffer) = refl
 
-buffer_over : (f : List ℕ → List ℕ) (w : Wait) → over (with_buffer f w) ≡ over w
+pub buffer_over : (f : List ℕ → List ℕ) (w : Wait) → over (with_buffer f w) ≡ over w
 buffer_over f (Answer coid message reply_buffer receipt) = refl
 buffer_over f (ForItem chid kind buffer) = refl
 

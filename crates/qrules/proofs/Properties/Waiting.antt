@@ -21,11 +21,11 @@ use Rattle.qrules.specs.Headline.BestFirst.{receives_on}
 use Rattle.qrules.specs.Lawful.{facts_of, IsLawful}
 use Rattle.qrules.specs.Past.{held_with}
 use Rattle.qrules.specs.Receivers.{newest}
-use Rattle.qrules.specs.Rows.{Made, Received, Written, asks, makes, pulse_item, sent_over, takes, taking, with_buffer, writes}
-use Rattle.qrules.specs.Step.{after_receipt, after_write, held_call, is_thread, made_on, open_call_after, pending_after, taken_out, unless, written_call}
+use Rattle.qrules.specs.Rows.{Made, Received, Written, asks, closes, makes, names, pulse_item, sent_over, takes, taking, with_buffer, writes}
+use Rattle.qrules.specs.Step.{after_receipt, after_write, held_call, is_cut, is_thread, left_by, made_on, open_call_after, pending_after, taken_out, unless, written_call}
 use Rattle.qrules.specs.Trace.{Trace}
 use Rattle.qrules.specs.declared.call.Call.{Call}
-use Rattle.qrules.specs.declared.call.Call.TheVariants.{ChannelCreate, ConnectAttach, Send, Receive, Reply, Error, Read, Write, Info, ReceivePulse, Pulse, PrioritySet, State}
+use Rattle.qrules.specs.declared.call.Call.TheVariants.{ChannelCreate, ConnectAttach, Send, Receive, Reply, Error, Read, Write, Info, ReceivePulse, Pulse, PrioritySet, State, ChannelDestroy, Shutdown}
 use Rattle.qrules.specs.declared.open_call.OpenCall.{OpenCall}
 use Rattle.qrules.specs.declared.open_call.Receipt.{Receipt}
 use Rattle.qrules.specs.declared.open_call.Wait.{Wait}
@@ -35,7 +35,7 @@ use Rattle.qrules.proofs.Past.Best.{none_may}
 use Rattle.qrules.proofs.Past.Ends.{known, open_known, passes_of}
 use Rattle.qrules.proofs.Past.Follows.{past_follows}
 use Rattle.qrules.proofs.Past.Laws.{Passes}
-use Rattle.qrules.proofs.Past.Lists.{all_append, all_more, is_among, none_of}
+use Rattle.qrules.proofs.Past.Lists.{all_append, all_filter, all_more, is_among, none_of}
 use Rattle.qrules.proofs.Properties.Receipts.{waits_for}
 use Rattle.qrules.proofs.Properties.Receivers.{WaitsOn, newest_some, newest_waits}
 use Rattle.qrules.proofs.Properties.Rows.Delivering.{has_way, pulse_way, way_leads}
@@ -66,6 +66,8 @@ waits_for_asked n (Write rcvid offset bytes) b e = absurd (none-some b e)
 waits_for_asked n (Info rcvid) b e = absurd (none-some b e)
 waits_for_asked n (PrioritySet thread level) b e = absurd (none-some b e)
 waits_for_asked n (State thread) b e = absurd (none-some b e)
+waits_for_asked n (ChannelDestroy chid) b e = absurd (none-some b e)
+waits_for_asked n Shutdown b e = absurd (none-some b e)
 waits_for_asked n (Send coid message reply_buffer) b e = ap (λ o. waits_for o.wait) (same_Some _ b e)
 waits_for_asked n (Receive chid buffer) b e = ap (λ o. waits_for o.wait) (same_Some _ b e)
 waits_for_asked n (ReceivePulse chid) b e = ap (λ o. waits_for o.wait) (same_Some _ b e)
@@ -91,6 +93,8 @@ begins_with_none f t (Write rcvid offset bytes) b p e w own = absurd (none-some 
 begins_with_none f t (Info rcvid) b p e w own = absurd (none-some b e)
 begins_with_none f t (PrioritySet thread level) b p e w own = absurd (none-some b e)
 begins_with_none f t (State thread) b p e w own = absurd (none-some b e)
+begins_with_none f t (ChannelDestroy chid) b p e w own = absurd (none-some b e)
+begins_with_none f t Shutdown b p e w own = absurd (none-some b e)
 begins_with_none f t (Send coid message reply_buffer) b p e w own = absurd (none-some p (ap (λ o. waits_for o.wait) (same_Some _ b e) ∙ w))
 begins_with_none f t (Pulse coid level code value) b p e w own = absurd (none-some b e)
 begins_with_none f t (Receive chid buffer) b p e w own =
@@ -148,6 +152,8 @@ received_at_once f t (Write rcvid offset bytes) m u o kind p made among is waits
 received_at_once f t (Info rcvid) m u o kind p made among is waits may = absurd (none-some m made)
 received_at_once f t (PrioritySet thread level) m u o kind p made among is waits may = absurd (none-some m made)
 received_at_once f t (State thread) m u o kind p made among is waits may = absurd (none-some m made)
+received_at_once f t (ChannelDestroy chid) m u o kind p made among is waits may = absurd (none-some m made)
+received_at_once f t Shutdown m u o kind p made among is waits may = absurd (none-some m made)
 received_at_once f t (ReceivePulse chid) m u o kind p made among is waits may = absurd (none-some m made)
 received_at_once f t (Send coid message reply_buffer) m u o kind p made among is waits may =
     let h = has_way f t coid p.row in delivered_at_once f t coid (Send coid message reply_buffer) (item f t) message (Some t) m u o kind h.0 h.1 refl made among is waits may
@@ -184,55 +190,64 @@ all_left P (Some r) h items all =
 abbrev pub NothingFor : Facts → Type 0
 NothingFor f = (u : ℕ) (o : OpenCall) (h : ℕ) (kind : Kind) → f.open_call u ≡ Some o → waits_for o.wait ≡ Some (h, kind) → AllByRecursion (λ w. may_take kind w ≡ false) (f.pending h)
 
--- a receipt changes nothing of what is waited for
-record IsBefore (before : Option OpenCall) (o : OpenCall) : Type 0 where
-  call : OpenCall
-  is : before ≡ Some call
-  same : waits_for call.wait ≡ waits_for o.wait
+-- what is so of a wait was so of it before
+pub record IsBefore {A : Type 0} (g : Wait → A) (before : Option OpenCall) (o : OpenCall) : Type 0 where
+  pub call : OpenCall
+  pub is : before ≡ Some call
+  pub same : g call.wait ≡ g o.wait
 
-before_receipt : (r : Option Received) (u : ℕ) (before : Option OpenCall) (o : OpenCall) → after_receipt r u before ≡ Some o → IsBefore before o
-before_receipt None u before o e = record { call = o; is = e; same = refl }
-before_receipt (Some r) u before o e =
-    elim (is_thread r.sender u) as (λ b. cond b (option_map (held_call r.kept) before) before ≡ Some o → IsBefore before o) [
-      | true ↦ elim (before) as (λ x. option_map (held_call r.kept) x ≡ Some o → IsBefore x o) [
+-- before a receipt
+pub before_receipt : {A : Type 0} (g : Wait → A) → ((receipt : Receipt) (w : Wait) → g (held_with receipt w) ≡ g w) → (r : Option Received) (u : ℕ) (before : Option OpenCall) (o : OpenCall)
+    → after_receipt r u before ≡ Some o → IsBefore g before o
+before_receipt g held None u before o e = record { call = o; is = e; same = refl }
+before_receipt g held (Some r) u before o e =
+    elim (is_thread r.sender u) as (λ b. cond b (option_map (held_call r.kept) before) before ≡ Some o → IsBefore g before o) [
+      | true ↦ elim (before) as (λ x. option_map (held_call r.kept) x ≡ Some o → IsBefore g x o) [
         | None ↦ λ s. absurd (none-some o s)
-        | Some b ↦ λ s. record { call = b; is = refl; same = sym (held_waits_for r.kept b.wait) ∙ ap (λ (x : OpenCall). waits_for x.wait) (same_Some (held_call r.kept b) o s) }
+        | Some b ↦ λ s. record { call = b; is = refl; same = sym (held r.kept b.wait) ∙ ap (λ (x : OpenCall). g x.wait) (same_Some (held_call r.kept b) o s) }
       ]
       | false ↦ λ s. record { call = o; is = s; same = refl }
     ] e
 
--- and of the write
-before_write : (f : Facts) (w : Option Written) (u : ℕ) (before : Option OpenCall) (o : OpenCall) → after_write f w u before ≡ Some o → IsBefore before o
-before_write f None u before o e = record { call = o; is = e; same = refl }
-before_write f (Some w) u before o e =
-    elim (is_thread (sender f w.message) u) as (λ b. cond b (option_map (written_call w.offset w.bytes) before) before ≡ Some o → IsBefore before o) [
-      | true ↦ elim (before) as (λ x. option_map (written_call w.offset w.bytes) x ≡ Some o → IsBefore x o) [
+-- before a write
+pub before_write : {A : Type 0} (g : Wait → A) → ((b : List ℕ → List ℕ) (w : Wait) → g (with_buffer b w) ≡ g w) → (f : Facts) (w : Option Written) (u : ℕ) (before : Option OpenCall) (o : OpenCall)
+    → after_write f w u before ≡ Some o → IsBefore g before o
+before_write g buffer f None u before o e = record { call = o; is = e; same = refl }
+before_write g buffer f (Some w) u before o e =
+    elim (is_thread (sender f w.message) u) as (λ b. cond b (option_map (written_call w.offset w.bytes) before) before ≡ Some o → IsBefore g before o) [
+      | true ↦ elim (before) as (λ x. option_map (written_call w.offset w.bytes) x ≡ Some o → IsBefore g x o) [
         | None ↦ λ s. absurd (none-some o s)
         | Some b ↦ λ s. record {
           call = b;
           is = refl;
-          same = sym (buffer_waits_for (λ d. lay_over d w.offset w.bytes) b.wait) ∙ ap (λ (x : OpenCall). waits_for x.wait) (same_Some (written_call w.offset w.bytes b) o s);
+          same = sym (buffer (λ d. lay_over d w.offset w.bytes) b.wait) ∙ ap (λ (x : OpenCall). g x.wait) (same_Some (written_call w.offset w.bytes b) o s);
         }
       ]
       | false ↦ λ s. record { call = o; is = s; same = refl }
     ] e
 
-unless_is : (b : Bool) (before : Option OpenCall) (o : OpenCall) → unless b before ≡ Some o → (b ≡ false) × (before ≡ Some o)
+pub unless_is : (b : Bool) (before : Option OpenCall) (o : OpenCall) → unless b before ≡ Some o → (b ≡ false) × (before ≡ Some o)
 unless_is true before o e = absurd (none-some o e)
 unless_is false before o e = (refl, e)
+
+-- what is so of all that isn't destroyed is so of what is pending afterwards
+all_after : (P : Item → Type 0) (f : Facts) (t : ℕ) (c : Call) (h : ℕ) → AllByRecursion P (taken_out (row_of f t c).receipt h (left_by f t c h (f.pending h) ++ made_on h (makes f.connection f.priority f.number t c))) → AllByRecursion P (pending_after f t c h)
+all_after P f t c h all =
+    elim (names (closes c) h) as (λ b. AllByRecursion P (cond b [] (taken_out (row_of f t c).receipt h (left_by f t c h (f.pending h) ++ made_on h (makes f.connection f.priority f.number t c))))) [ true ↦ tt | false ↦ all ]
 
 -- the caller begins to wait: nothing was pending, and nothing is made
 caller_finds_none : (f : Facts) (t : ℕ) (c : Call) (o : OpenCall) (h : ℕ) (kind : Kind) → unless (is_some (row_of f t c).own) (after_receipt (row_of f t c).receipt t (asks f.number c)) ≡ Some o
     → waits_for o.wait ≡ Some (h, kind) → AllByRecursion (λ w. may_take kind w ≡ false) (pending_after f t c h)
 caller_finds_none f t c o h kind is waits =
     let x = unless_is (is_some (row_of f t c).own) (after_receipt (row_of f t c).receipt t (asks f.number c)) o is in
-    let b = before_receipt (row_of f t c).receipt t (asks f.number c) o x.1 in
+    let b = before_receipt waits_for held_waits_for (row_of f t c).receipt t (asks f.number c) o x.1 in
     let k = begins_with_none f t c b.call (h, kind) b.is (b.same ∙ waits) (none_of (row_of f t c).own x.0) in
     let P = λ (w : Item). may_take kind w ≡ false in
     let none : AllByRecursion (λ (w : Item). may_take kind w ≡ false) (f.pending h) = none_may kind (f.pending h) k.0 in
-    rw (k.1) (all_left P (row_of f t c).receipt h (f.pending h ++ [])
-    (all_append (λ w. ((r : Received) → (row_of f t c).receipt ≡ Some r → r.channel ≡ h → eqb w.number r.item ≡ false) → P w) (f.pending h) []
-    (all_more P (λ w. ((r : Received) → (row_of f t c).receipt ≡ Some r → r.channel ≡ h → eqb w.number r.item ≡ false) → P w) (f.pending h) none (λ w m _. m)) tt))
+    let L = left_by f t c h (f.pending h) in
+    let Q = λ (w : Item). ((r : Received) → (row_of f t c).receipt ≡ Some r → r.channel ≡ h → eqb w.number r.item ≡ false) → may_take kind w ≡ false in
+    all_after P f t c h (rw (k.1) (all_left P (row_of f t c).receipt h (L ++ [])
+    (all_append Q L [] (all_more P Q L (all_filter P (λ w. not (is_cut f t c h w.number)) (f.pending h) none) (λ w m _. m)) tt)))
 
 -- another thread that waits on: what it may take is received at once
 other_finds_none : (f : Facts) (t : ℕ) (c : Call) (u : ℕ) (o : OpenCall) (h : ℕ) (kind : Kind) → Passes f t c → NothingFor f → is_among (threads_of f.roster) u ≡ true → f.open_call u ≡ Some o
@@ -240,9 +255,10 @@ other_finds_none : (f : Facts) (t : ℕ) (c : Call) (u : ℕ) (o : OpenCall) (h 
 other_finds_none f t c u o h kind p nothing among is waits =
     let P = λ (w : Item). may_take kind w ≡ false in
     let Q = λ (w : Item). ((r : Received) → (row_of f t c).receipt ≡ Some r → r.channel ≡ h → eqb w.number r.item ≡ false) → may_take kind w ≡ false in
-    all_left P (row_of f t c).receipt h (f.pending h ++ made_on h (makes f.connection f.priority f.number t c))
-    (all_append Q (f.pending h) (made_on h (makes f.connection f.priority f.number t c))
-    (all_more P Q (f.pending h) (nothing u o h kind is waits) (λ w m _. m))
+    let L = left_by f t c h (f.pending h) in
+    all_after P f t c h (all_left P (row_of f t c).receipt h (L ++ made_on h (makes f.connection f.priority f.number t c))
+    (all_append Q L (made_on h (makes f.connection f.priority f.number t c))
+    (all_more P Q L (all_filter P (λ w. not (is_cut f t c h w.number)) (f.pending h) (nothing u o h kind is waits)) (λ w m _. m))
     (elim (makes f.connection f.priority f.number t c) as (λ x. makes f.connection f.priority f.number t c ≡ x → AllByRecursion Q (made_on h x)) [
       | None ↦ λ none. tt
       | Some m ↦ λ made.
@@ -260,7 +276,7 @@ other_finds_none f t c u o h kind p nothing among is waits =
             )
             | false ↦ λ off. tt
           ] refl
-    ] refl))
+    ] refl)))
 
 nothing_after : (f : Facts) (t : ℕ) (c : Call) → Passes f t c → NothingFor f → ((u : ℕ) (o : OpenCall) → f.open_call u ≡ Some o → is_among (threads_of f.roster) u ≡ true)
     → (u : ℕ) (o : OpenCall) (h : ℕ) (kind : Kind) → open_call_after f t c u ≡ Some o → waits_for o.wait ≡ Some (h, kind) → AllByRecursion (λ w. may_take kind w ≡ false) (pending_after f t c h)
@@ -273,8 +289,8 @@ nothing_after f t c p nothing among u o h kind is waits =
           (subst (λ v. unless (is_some (row_of f t c).own) (after_receipt (row_of f t c).receipt v (asks f.number c)) ≡ Some o) (eqb-true u t same) e) waits
       | false ↦ λ other e.
           let x = unless_is (is_some ((row_of f t c).ends u)) (after_receipt (row_of f t c).receipt u (after_write f (writes c) u (f.open_call u))) o e in
-          let b = before_receipt (row_of f t c).receipt u (after_write f (writes c) u (f.open_call u)) o x.1 in
-          let d = before_write f (writes c) u (f.open_call u) b.call b.is in
+          let b = before_receipt waits_for held_waits_for (row_of f t c).receipt u (after_write f (writes c) u (f.open_call u)) o x.1 in
+          let d = before_write waits_for buffer_waits_for f (writes c) u (f.open_call u) b.call b.is in
           other_finds_none f t c u d.call h kind p nothing (among u d.call d.is) d.is (d.same ∙ b.same ∙ waits)
     ] refl is
 

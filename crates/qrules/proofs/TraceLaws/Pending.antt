@@ -6,21 +6,19 @@ use Rattle.qqueue.specs.Best.{is_pulse}
 use Rattle.qqueue.specs.declared.item.Item.{Item}
 use Rattle.qtables.specs.declared.member.Member.{Member}
 use Rattle.qrules.specs.Facts.{is_for_answer}
-use Rattle.qrules.specs.Headline.AnsweredToSender.{sender_of}
-use Rattle.qrules.specs.Laws.{is_for_receipt, is_for_reply, IsNotHeld, IsOpenSend, NonePendingIsHeld, PendingIsOpen, PendingRises}
+use Rattle.qrules.specs.Laws.{is_for_reply, IsNotHeld, IsOpenSend, NonePendingIsHeld, PendingIsOpen, PendingRises}
 use Rattle.qrules.specs.Lawful.{IsLawful}
 use Rattle.qrules.specs.Past.{filled, is_ended, is_taken, pending, priority_of_item, receipt_of, with_receipt}
 use Rattle.qrules.specs.Trace.{Trace}
 use Rattle.qrules.specs.declared.open_call.OpenCall.{OpenCall}
 use Rattle.qrules.specs.declared.open_call.Wait.{Wait}
 use Rattle.qrules.specs.declared.open_call.Wait.TheVariants.{Answer, Item as ForItem}
+use Rattle.qrules.proofs.Past.Cuts.{sent_by}
 use Rattle.qrules.proofs.Past.Items.{IsPending, pending_all}
 use Rattle.qrules.proofs.Past.Laws.{is_settled}
 use Rattle.qrules.proofs.Past.Lists.{all_more, none_of}
-use Rattle.qrules.proofs.Past.Numbers.{IsOpen, block_fresh, filled_answer, filled_settled, open_from, open_parts}
+use Rattle.qrules.proofs.Past.Numbers.{IsOpen, block_fresh, filled_answer, filled_settled, open_parts}
 use Rattle.qrules.proofs.Past.Rising.{pending_rises}
-use Rattle.qrules.proofs.Properties.Messages.{item_waits}
-use Rattle.qrules.proofs.Properties.Sends.{block_sender}
 
 -- ---- waits
 
@@ -29,12 +27,6 @@ reply_parts : (w : Wait) → is_for_reply w ≡ true → (is_for_answer w ≡ tr
 reply_parts (Answer coid message reply_buffer None) e = absurd (true≢false (sym e))
 reply_parts (Answer coid message reply_buffer (Some receipt)) e = (refl, refl)
 reply_parts (ForItem chid kind buffer) e = absurd (true≢false (sym e))
-
--- a wait for an answer that isn't settled is for the receipt
-receipt_from : (w : Wait) → is_for_answer w ≡ true → is_settled w ≡ false → is_for_receipt w ≡ true
-receipt_from (Answer coid message reply_buffer None) e s = refl
-receipt_from (Answer coid message reply_buffer (Some receipt)) e s = absurd (true≢false s)
-receipt_from (ForItem chid kind buffer) e s = absurd (true≢false (sym e))
 
 -- ---- a pending item
 
@@ -58,17 +50,8 @@ not_held roster past h item p = record {
 
 send_open : (roster : List Member) (past : Trace) (h : ℕ) (item : Item) → IsLawful roster past → IsPending roster past h item → is_pulse item.what ≡ false → IsOpenSend roster past item.number
 send_open roster past h item l p message =
-    let going : is_ended past item.number ≡ false = subst (λ b. (not b && is_ended past item.number) ≡ false) message (or_parts _ _ p.stays).1 in
-    let w = item_waits roster past item.number (record { item = item; channel = h }) l p.made message going in
-    let none : receipt_of past w.block.number ≡ None = none_of (receipt_of past w.block.number) (subst (λ i. is_taken past i ≡ false) (sym w.number) (unread roster past h item p)) in
-    record {
-      sender = w.thread;
-      waiting = filled past w.block;
-      sent = subst (λ i. sender_of past i ≡ Some w.thread) w.number (block_sender past w.thread w.block w.is w.answer);
-      is_open = open_from roster past w.thread w.block w.is (subst (λ i. is_ended past i ≡ false) (sym w.number) going) ∙ ap (λ r. Some (with_receipt (priority_of_item roster past w.block.number) r (filled past w.block))) none;
-      number = w.number;
-      unread = receipt_from (filled past w.block).wait (filled_answer past w.block ∙ w.answer) (filled_settled past w.block ∙ block_fresh past w.thread w.block w.is ∙ ap not w.answer);
-    }
+    let s = sent_by roster past h item l p message in
+    record { sender = s.sender; waiting = s.waiting; sent = s.sent; is_open = s.is_open; number = s.number; unread = s.unread }
 
 -- ---- the laws
 

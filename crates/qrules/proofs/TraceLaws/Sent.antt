@@ -17,7 +17,7 @@ use Rattle.qrules.specs.Past.{connection_at, item_of, items, made_at, priority_o
 use Rattle.qrules.specs.Rows.{message_item, pulse_item, Made, makes, sent_over}
 use Rattle.qrules.specs.Trace.{Event, Trace}
 use Rattle.qrules.specs.declared.call.Call.{Call}
-use Rattle.qrules.specs.declared.call.Call.TheVariants.{ChannelCreate, ConnectAttach, Send, Receive, Reply, Error, Read, Write, Info, ReceivePulse, Pulse, PrioritySet, State}
+use Rattle.qrules.specs.declared.call.Call.TheVariants.{ChannelCreate, ConnectAttach, Send, Receive, Reply, Error, Read, Write, Info, ReceivePulse, Pulse, PrioritySet, State, ChannelDestroy, Shutdown}
 use Rattle.qrules.specs.declared.call.Completion.{Completion}
 use Rattle.qrules.proofs.Past.Items.{Stands, item_at}
 use Rattle.qrules.proofs.Past.Lists.{all_more}
@@ -56,6 +56,8 @@ sends_to connection priority n t (Write rcvid offset bytes) m e = absurd (none-s
 sends_to connection priority n t (Info rcvid) m e = absurd (none-some m e)
 sends_to connection priority n t (PrioritySet thread level) m e = absurd (none-some m e)
 sends_to connection priority n t (State thread) m e = absurd (none-some m e)
+sends_to connection priority n t (ChannelDestroy chid) m e = absurd (none-some m e)
+sends_to connection priority n t Shutdown m e = absurd (none-some m e)
 sends_to connection priority n t (ReceivePulse chid) m e = absurd (none-some m e)
 sends_to connection priority n t (Pulse coid level code value) m e = sends_item connection coid (Pulse coid level code value) (pulse_item n level code value) m refl e
 sends_to connection priority n t (Send coid message reply_buffer) m e = sends_item connection coid (Send coid message reply_buffer) (message_item n (priority t)) m refl e

@@ -11,7 +11,7 @@ use Rattle.qrules.specs.Past.{filled, ends, is_accepted, is_ended, made_at, newe
 use Rattle.qrules.specs.Rows.{asks}
 use Rattle.qrules.specs.Trace.{Event, Trace}
 use Rattle.qrules.specs.declared.call.Call.{Call}
-use Rattle.qrules.specs.declared.call.Call.TheVariants.{ChannelCreate, ConnectAttach, Send, Receive, Reply, Error, Read, Write, Info, ReceivePulse, Pulse, PrioritySet, State}
+use Rattle.qrules.specs.declared.call.Call.TheVariants.{ChannelCreate, ConnectAttach, Send, Receive, Reply, Error, Read, Write, Info, ReceivePulse, Pulse, PrioritySet, State, ChannelDestroy, Shutdown}
 use Rattle.qrules.specs.declared.open_call.OpenCall.{OpenCall}
 use Rattle.qrules.proofs.Past.Lists.{eqb_same}
 use Rattle.qrules.proofs.Past.Numbers.{open_from, open_parts, receipt_number}
@@ -32,6 +32,8 @@ asks_any n (Write rcvid offset bytes) = refl
 asks_any n (Info rcvid) = refl
 asks_any n (PrioritySet thread level) = refl
 asks_any n (State thread) = refl
+asks_any n (ChannelDestroy chid) = refl
+asks_any n Shutdown = refl
 asks_any n (ReceivePulse chid) = refl
 asks_any n (Pulse coid priority code value) = refl
 

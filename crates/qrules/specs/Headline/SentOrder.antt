@@ -4,7 +4,7 @@ use Rattle.std.specs.List.{AllByRecursion}
 use Rattle.std.specs.Option.{option_and_then}
 use Rattle.qtables.specs.declared.member.Member.{Member}
 use Rattle.qrules.specs.declared.call.Call.{Call}
-use Rattle.qrules.specs.declared.call.Call.TheVariants.{ChannelCreate, ConnectAttach, Send, Receive, Reply, Error, Read, Write, Info, ReceivePulse, Pulse, PrioritySet, State}
+use Rattle.qrules.specs.declared.call.Call.TheVariants.{ChannelCreate, ConnectAttach, Send, Receive, Reply, Error, Read, Write, Info, ReceivePulse, Pulse, PrioritySet, State, ChannelDestroy, Shutdown}
 use Rattle.qrules.specs.declared.call.Completion.{Completion}
 use Rattle.qrules.specs.Headline.BestFirst.{takeable}
 use Rattle.qrules.specs.Headline.CopiedExactly.{call_at}
@@ -27,6 +27,8 @@ sends_over (ReceivePulse chid) = None
 sends_over (Pulse coid priority code value) = Some coid
 sends_over (PrioritySet thread priority) = None
 sends_over (State thread) = None
+sends_over (ChannelDestroy chid) = None
+sends_over Shutdown = None
 
 -- the connection over which item i was sent
 abbrev pub connection_of : Trace → ℕ → Option ℕ

@@ -16,13 +16,14 @@ invariant_of-self-2 c = elim c.match-create.branch [
 
 pub returns : goal.returns
 returns c =
+    let up = rw (← c.self.view_is) at c.requires.up in
     let free = rw (← c.self.view_is) at c.requires.free in
     let known = rw c.deref.ensures.value at c.member_of.ensures in
     let flags = sym c.if-not-is_known.ensures in
     elim c.match-create.branch [
       | in-Ok w ↦
           let room : eqb (length c.self.inside.channels) 64 ≡ false = ne_eqb _ _ (λ e. omega (arith, w.in-Ok.ensures.room, e)) in
-          rw (w.endings-is, ← c.self.view_is, w.in-Ok.ensures.ok) (step_created _ c.args.thread c.args.flags c.member_of.result c.new-2.result c.self.invariant (ap (λ q. q.items) c.new-2.ensures) _ known free flags room w.end_own.ensures)
+          rw (w.endings-is, ← c.self.view_is, w.in-Ok.ensures.ok) (step_created _ c.args.thread c.args.flags c.member_of.result c.new-2.result c.self.invariant (ap (λ q. q.items) c.new-2.ensures) _ known up free flags room w.end_own.ensures)
       | in-Err w ↦ rw (w.endings-is, ← c.self.view_is, w.in-Err.ensures.err)
-          (step_create_refused _ c.args.thread c.args.flags w.in-Err.errno _ free flags w.in-Err.ensures.error (rw w.new-in-Err.ensures at w.refuse-in-Err.ensures))
+          (step_create_refused _ c.args.thread c.args.flags w.in-Err.errno _ up free flags w.in-Err.ensures.error (rw w.new-in-Err.ensures at w.refuse-in-Err.ensures))
     ]

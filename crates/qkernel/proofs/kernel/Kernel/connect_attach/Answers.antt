@@ -18,13 +18,14 @@ invariant_of-self-2 c = elim c.match-create.branch [
 
 pub returns : goal.returns
 returns c =
+    let up = rw (← c.self.view_is) at c.requires.up in
     let free = rw (← c.self.view_is) at c.requires.free in
     let known = rw c.deref.ensures.value at c.member_of.ensures in
     let opens : is_some (channel_in c.self.inside.channels c.args.chid) ≡ true = sym c.if-not-is_open.ensures in
     elim c.match-create.branch [
       | in-Ok w ↦
           let room : eqb (length c.self.inside.connections) 1024 ≡ false = ne_eqb _ _ (λ e. omega (arith, w.in-Ok.ensures.room, e)) in
-          rw (w.endings-is, ← c.self.view_is, w.in-Ok.ensures.ok) (step_attached _ c.args.thread c.args.chid c.member_of.result c.self.invariant _ known free opens room w.end_own.ensures)
+          rw (w.endings-is, ← c.self.view_is, w.in-Ok.ensures.ok) (step_attached _ c.args.thread c.args.chid c.member_of.result c.self.invariant _ known up free opens room w.end_own.ensures)
       | in-Err w ↦ rw (w.endings-is, ← c.self.view_is, w.in-Err.ensures.err)
-          (step_attach_refused _ c.args.thread c.args.chid w.in-Err.errno _ free opens w.in-Err.ensures.error (rw w.new-in-Err.ensures at w.refuse-in-Err.ensures))
+          (step_attach_refused _ c.args.thread c.args.chid w.in-Err.errno _ up free opens w.in-Err.ensures.error (rw w.new-in-Err.ensures at w.refuse-in-Err.ensures))
     ]

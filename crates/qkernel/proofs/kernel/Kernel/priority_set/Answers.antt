@@ -5,7 +5,8 @@ use Rattle.qkernel.proofs.kernel.Kernel.priority_set.Goals as goal
 
 pub returns : goal.returns
 returns c =
+    let up = rw (← c.self.view_is) at c.requires.up in
     let free = rw (← c.self.view_is) at c.requires.free in
     let known = rw c.deref.ensures.value at c.member_of-process.ensures in
     let own = rw c.deref-2.ensures.value at (sym c.seat_in_process.ensures.own ∙ ap is_some c.in-Some.is) in
-    rw (← c.self.view_is) (step_set _ c.args.thread c.args.target c.args.priority c.member_of-process.result known free _ _ c.self.invariant own c.set_level.ensures c.end_own.ensures)
+    rw (← c.self.view_is) (step_set _ c.args.thread c.args.target c.args.priority c.member_of-process.result known up free _ _ c.self.invariant own c.set_level.ensures c.end_own.ensures)

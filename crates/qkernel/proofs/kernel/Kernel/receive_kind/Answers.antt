@@ -18,21 +18,24 @@ set_level-requires c =
 
 pub returns-then-not-owns : goal.returns-then-not-owns
 returns-then-not-owns c =
+    let up = rw (← c.self.view_is) at c.requires.up in
     let free = rw (← c.self.view_is) at c.requires.free in
     let known = rw c.deref.ensures.value at c.member_of.ensures in
-    rw (← c.self.view_is) (step_receive_refused _ c.args.thread c.args.chid c.args.kind c.args.buffer c.member_of.result _ c.requires.buffer known free (sym c.if-not-owns.ensures) c.refuse.ensures)
+    rw (← c.self.view_is) (step_receive_refused _ c.args.thread c.args.chid c.args.kind c.args.buffer c.member_of.result _ c.requires.buffer known up free (sym c.if-not-owns.ensures) c.refuse.ensures)
 
 pub returns-in-None : goal.returns-in-None
 returns-in-None c =
+    let up = rw (← c.self.view_is) at c.requires.up in
     let free = rw (← c.self.view_is) at c.requires.free in
     let known = rw c.deref.ensures.value at c.member_of.ensures in
-    rw (← c.self.view_is) (step_receive_waits _ c.args.thread c.args.chid c.args.kind c.args.buffer c.member_of.result c.self.invariant known free (sym c.if-not-owns.ensures) c.requires.buffer _ _ _
+    rw (← c.self.view_is) (step_receive_waits _ c.args.thread c.args.chid c.args.kind c.args.buffer c.member_of.result c.self.invariant known up free (sym c.if-not-owns.ensures) c.requires.buffer _ _ _
     (sym c.in-None.ensures.best) c.block.ensures c.in-None.ensures.none c.requires.none)
 
 pub returns-in-Some : goal.returns-in-Some
 returns-in-Some c =
+    let up = rw (← c.self.view_is) at c.requires.up in
     let free = rw (← c.self.view_is) at c.requires.free in
     let known = rw c.deref.ensures.value at c.member_of.ensures in
     let ended = rw (c.hand_item-mark.ensures.mark, c.hand_item-mark.ensures.buffer) at c.end_one.ensures in
-    rw (← c.self.view_is) (step_receive_takes _ c.args.thread c.args.chid c.args.kind c.args.buffer c.member_of.result c.self.invariant known free (sym c.if-not-owns.ensures) c.requires.buffer c.in-Some.item (sym c.in-Some.ensures.best) _ _ _ _
+    rw (← c.self.view_is) (step_receive_takes _ c.args.thread c.args.chid c.args.kind c.args.buffer c.member_of.result c.self.invariant known up free (sym c.if-not-owns.ensures) c.requires.buffer c.in-Some.item (sym c.in-Some.ensures.best) _ _ _ _
     c.hand_item-mark.ensures.kept (rw c.carried-level.ensures at c.set_level.ensures) c.in-Some.ensures.taken ended)

@@ -10,10 +10,11 @@ use Rattle.qkernel.proofs.kernel.Kernel.reply.Goals as goal
 
 pub returns-in_default : goal.returns-in_default
 returns-in_default c =
+    let up = rw (← c.self.view_is) at c.requires.up in
     let free = rw (← c.self.view_is) at c.requires.free in
     let known = rw c.deref.ensures.value at c.member_of-process.ensures in
     let none = rw c.deref-2.ensures.value at (sym c.in_default.ensures.held) in
-    rw (← c.self.view_is) (step_unheld _ c.args.thread c.member_of-process.result c.args.rcvid c.self.invariant known (Reply c.args.rcvid c.args.status c.args.bytes) _ refl free none (rw c.new.ensures at c.refuse.ensures))
+    rw (← c.self.view_is) (step_unheld _ c.args.thread c.member_of-process.result c.args.rcvid c.self.invariant known (Reply c.args.rcvid c.args.status c.args.bytes) _ refl up free none (rw c.new.ensures at c.refuse.ensures))
 
 pub unreachable-requires : goal.unreachable-requires
 unreachable-requires c =
@@ -26,10 +27,11 @@ invariant_of-self-2 c = sound_threads _ _ c.self.invariant c.take_sent-client.en
 
 pub returns : goal.returns
 returns c =
+    let up = rw (← c.self.view_is) at c.requires.up in
     let free = rw (← c.self.view_is) at c.requires.free in
     let known = rw c.deref.ensures.value at c.member_of-process.ensures in
     let held = rw c.deref-2.ensures.value at (sym c.in-Some.ensures.held) in
     let is_sender = rw c.rcvid.view_is at c.take_sent-client.ensures.thread in
     let ended = ap (finished (replied c.args.status c.args.bytes) c.take_sent-client.result.0) (sym c.take_sent-client.ensures.had) ∙ rw (to_z-of_z w64 c.args.status c.ranges.status) at (sym c.replied_to.ensures ∙ c.in-Some-replied_to.is) in
-    rw (← c.self.view_is) (step_replied _ c.args.thread c.member_of-process.result c.args.rcvid c.self.invariant known c.args.status c.args.bytes c.take_sent-client.result.0 c.in-Some-replied_to.ended free held is_sender ended _ _
+    rw (← c.self.view_is) (step_replied _ c.args.thread c.member_of-process.result c.args.rcvid c.self.invariant known c.args.status c.args.bytes c.take_sent-client.result.0 c.in-Some-replied_to.ended up free held is_sender ended _ _
     c.take_sent-client.ensures.after (rw c.new-2.ensures at c.end_two.ensures))

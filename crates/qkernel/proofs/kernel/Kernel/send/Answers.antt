@@ -38,13 +38,15 @@ invariant_of-self-2 c = elim c.match-newest_receiver.branch [
 
 pub returns-in_default : goal.returns-in_default
 returns-in_default c =
+    let up = rw (← c.self.view_is) at c.requires.up in
     let free = rw (← c.self.view_is) at c.requires.free in
     let known = rw c.deref.ensures.value at c.member_of.ensures in
     let found = sym c.way.ensures ∙ c.in_default.is in
-    rw (← c.self.view_is) (step_send_nowhere _ c.args.thread c.args.coid c.args.message c.args.reply_buffer c.member_of.result _ known free found c.refuse.ensures)
+    rw (← c.self.view_is) (step_send_nowhere _ c.args.thread c.args.coid c.args.message c.args.reply_buffer c.member_of.result _ known up free found c.refuse.ensures)
 
 pub returns : goal.returns
 returns c =
+    let up = rw (← c.self.view_is) at c.requires.up in
     let free = rw (← c.self.view_is) at c.requires.free in
     let known = rw c.deref.ensures.value at c.member_of.ensures in
     let found = sym c.way.ensures ∙ c.in-Some.is in
@@ -55,17 +57,17 @@ returns c =
           let opens = rw (w.receipt-is, w.self-inside-is) at c.block.ensures in
           let sets = rw priority at w.in_default-enqueue.ensures.ok in
           rw (w.self-inside-is, w.endings-is, ← c.self.view_is)
-          (step_send_waits _ c.args.thread c.args.coid c.args.message c.args.reply_buffer c.member_of.result c.in-Some.chid c.self.invariant known free found _ _ _ nobody opens sets c.requires.none)
+          (step_send_waits _ c.args.thread c.args.coid c.args.message c.args.reply_buffer c.member_of.result c.in-Some.chid c.self.invariant known up free found _ _ _ nobody opens sets c.requires.none)
       | in-Some-newest_receiver+in-Some-taken w ↦
           let opens = rw (w.receipt-is, w.self-inside-is) at c.block.ensures in
           let newest = rw (c.deref-3.ensures.value, priority) at (sym c.newest_receiver.ensures ∙ w.in-Some-newest_receiver.is) in
           let receiver = w.in-Some-newest_receiver.newest in
           let waits = newest_receives _ c.in-Some.chid _ receiver c.self.invariant newest in
-          let ended = rw priority at w.in-Some-taken.ensures.ended ∙ ap (takes (item _ c.args.thread c.args.coid c.args.message c.args.reply_buffer c.member_of.result c.in-Some.chid c.self.invariant known free found) c.args.message receiver.1) w.wake-call.ensures.had in
+          let ended = rw priority at w.in-Some-taken.ensures.ended ∙ ap (takes (item _ c.args.thread c.args.coid c.args.message c.args.reply_buffer c.member_of.result c.in-Some.chid c.self.invariant known up free found) c.args.message receiver.1) w.wake-call.ensures.had in
           let sets = rw priority at opens in
           let wakes = rw (w.carried-level.ensures, priority) at w.wake-call.ensures.after in
           rw (w.self-inside-is, w.endings-is, ← c.self.view_is)
-          (step_send_met _ c.args.thread c.args.coid c.args.message c.args.reply_buffer c.member_of.result c.in-Some.chid c.self.invariant known free found
+          (step_send_met _ c.args.thread c.args.coid c.args.message c.args.reply_buffer c.member_of.result c.in-Some.chid c.self.invariant known up free found
           receiver.1 w.in-Some-taken.met.0 w.in-Some-taken.met.1 (newest_is _ c.in-Some.chid _ (Some receiver) c.self.invariant newest) (waits_among c.in-Some.chid _ _ _ receiver.1 waits) (sym ended) w.in-Some-taken.ensures.copied
           w.wake-call.new.threads.items _ _ wakes sets w.end_one.ensures)
     ]

@@ -1,0 +1,66 @@
+-- ChannelDestroy as a step of the kernel.
+use Rattle.std.proofs.Common.{◌≡◌, ℕ, ◌+◌, ◌≤◌, List, [], ◌∷◌, refl, ap, sym, ◌∙◌, cond, arith, length, true, false, eqb, inl}
+use Rattle.std.specs.Prelude.{None, Some}
+use Rattle.std.specs.List.{AllByRecursion}
+use Rattle.std.proofs.lemmas.List.{append-nil}
+use Rattle.qbase.specs.declared.errno.Errno.TheVariants.{Inval, Srch}
+use Rattle.qqueue.specs.declared.item.Item.{Item}
+use Rattle.qtables.specs.Entries.{entry_at}
+use Rattle.qtables.specs.Members.{member_at}
+use Rattle.qtables.specs.declared.member.Member.{Member}
+use Rattle.qrules.specs.Answer.{failed}
+use Rattle.qrules.specs.Facts.{owns}
+use Rattle.qrules.specs.declared.call.Call.TheVariants.{ChannelDestroy}
+use Rattle.qrules.specs.declared.call.Completion.{Completion}
+use Rattle.qrecords.specs.Channels.{ClosesIn, channel_in, is_of, pending_in}
+use Rattle.qrecords.specs.Cuts.{AreCut, LoseCut}
+use Rattle.qrecords.specs.Threads.{members_of, open_in}
+use Rattle.qrecords.specs.declared.channel.Channel.{Channel}
+use Rattle.qrecords.specs.declared.cutting.Cut.TheVariants.{On}
+use Rattle.qrecords.specs.declared.thread.Thread.{Thread}
+use Rattle.qkernel.specs.State.{State, IsSound, facts_in}
+use Rattle.qkernel.specs.Stands.{Steps}
+use Rattle.qkernel.proofs.Steps.Common.{counted, count_same, owned_by_member, step_refused_alone}
+use Rattle.qkernel.proofs.Steps.Cutting.{endings_cut, open_after, sound_cut}
+
+module _ (s : State) (t chid : ℕ) (m : Member) (known : member_at (members_of s.threads) t ≡ Some m) (up : s.down ≡ false) (free : open_in s.threads t ≡ None) where
+  pub step_destroy_refused : (X : List Completion) → is_of m.process (channel_in s.channels chid) ≡ false → X ≡ failed (facts_in s) t (ChannelDestroy chid) Inval ∷ [] → Steps s t (ChannelDestroy chid) X (counted s)
+  step_destroy_refused X other is =
+      let not_own : owns (facts_in s) t chid ≡ false = owned_by_member (facts_in s) t m (channel_in s.channels chid) known ∙ other in
+      step_refused_alone s t (ChannelDestroy chid) Inval X (inl (rw (up, free, not_own) refl)) is
+
+  module _ (threads : List Thread) (cut closed : List (ℕ × Channel)) (are : AreCut (entry_at s.connections) (On chid) Srch s.threads threads) (lose : LoseCut (entry_at s.connections) (On chid) Srch s.threads s.channels cut)
+      (closes : ClosesIn chid cut closed) where
+    pub step_destroyed : (X : List Completion) → is_of m.process (channel_in s.channels chid) ≡ true → X ≡ endings_cut s t (On chid) Srch
+        → Steps s t (ChannelDestroy chid) X (record { made = s.made + 1; down = s.down; threads = threads; channels = closed; connections = s.connections })
+    step_destroyed X own is =
+        let owned : owns (facts_in s) t chid ≡ true = owned_by_member (facts_in s) t m (channel_in s.channels chid) known ∙ own in
+        let as_many : length cut ≡ length s.channels = count_same s.channels cut lose.ids in (
+          true,
+          record {
+            answer = (rw (up, free, owned) refl, is);
+            follows = record {
+              roster = are.members;
+              number = refl;
+              down = refl;
+              channel = λ h. rw known (closes.channel h ∙ ap (cond (eqb chid h) None) (lose.channel h));
+              open_channels = rw known (omega (arith, closes.fewer, as_many));
+              connection = λ k. rw known refl;
+              live_connections = rw known (omega arith);
+              open_call = λ u. open_after s t (On chid) Srch threads u free are;
+              pending = λ h. closes.pending h ∙ ap (cond (eqb chid h) []) (lose.pending h ∙ sym (append-nil _));
+              priority = are.priority;
+            };
+          },
+        )
+
+    pub sound_closed : IsSound s → IsSound (record { made = s.made + 1; down = s.down; threads = threads; channels = closed; connections = s.connections })
+    sound_closed sound =
+        let k = sound_cut s s.down (On chid) Srch threads cut sound are lose in
+        record {
+          few = k.few;
+          roster = k.roster;
+          channel_ids = closes.ids (s.made + 1) k.channel_ids;
+          connection_ids = k.connection_ids;
+          items = λ h. rw (closes.pending h) (elim (eqb chid h) as (λ b. AllByRecursion (λ (item : Item). item.number ≤ s.made + 1) (cond b [] (pending_in cut h))) [ true ↦ tt | false ↦ k.items h ]);
+        }

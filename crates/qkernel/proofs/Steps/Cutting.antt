@@ -1,0 +1,51 @@
+-- What the calls share that end others by force, by the kernel's content.
+use Rattle.std.proofs.Common.{◌≡◌, ℕ, ◌+◌, ◌≤◌, List, [], refl, ap, ◌∙◌, cond, true, false, eqb}
+use Rattle.std.specs.Prelude.{Bool, None, is_some, not}
+use Rattle.std.specs.List.{filter_map}
+use Rattle.std.proofs.lemmas.Bool.{eqb-true}
+use Rattle.qbase.specs.declared.errno.Errno.{Errno}
+use Rattle.qqueue.specs.declared.item.Item.{Item}
+use Rattle.qtables.specs.Entries.{entry_at}
+use Rattle.qrules.specs.Cutting.{cut_where}
+use Rattle.qrules.specs.Facts.{threads_of}
+use Rattle.qrules.specs.declared.call.Completion.{Completion}
+use Rattle.qrules.specs.declared.call.Mark.TheVariants as mark
+use Rattle.qrecords.specs.Channels.{pending_in}
+use Rattle.qrecords.specs.Cuts.{AreCut, LoseCut, ending_for, is_cut_among, is_cut_by}
+use Rattle.qrecords.specs.Threads.{members_of, open_in}
+use Rattle.qrecords.specs.declared.channel.Channel.{Channel}
+use Rattle.qrecords.specs.declared.cutting.Cut.{Cut}
+use Rattle.qrecords.specs.declared.thread.Thread.{Thread}
+use Rattle.qkernel.specs.State.{State, IsSound}
+use Rattle.qrules.proofs.Past.Lists.{all_filter}
+use Rattle.qkernel.proofs.Steps.Delivering.{sound_threads}
+
+-- how the caller's own call ends
+abbrev pub mine : State → ℕ → Completion
+mine s t = record { call = s.made + 1; thread = t; mark = mark.Ok; buffer = [] }
+
+-- all endings of a call of thread t that cuts others
+abbrev pub endings_cut : State → ℕ → Cut → Errno → List Completion
+endings_cut s t cut e = filter_map (λ u. ending_for (entry_at s.connections) cut e (mine s t) u (open_in s.threads u)) (threads_of (members_of s.threads))
+
+-- the caller isn't blocked, so that it waits for nothing afterwards
+pub open_after : (s : State) (t : ℕ) (cut : Cut) (e : Errno) (threads : List Thread) (u : ℕ) → open_in s.threads t ≡ None → AreCut (entry_at s.connections) cut e s.threads threads
+    → open_in threads u ≡ cond (eqb u t) None (cond (is_some (cut_where (is_cut_by (entry_at s.connections) cut) e u (open_in s.threads u))) None (open_in s.threads u))
+open_after s t cut e threads u free are =
+    elim (eqb u t) as (λ b. eqb u t ≡ b → open_in threads u ≡ cond b None (cond (is_some (cut_where (is_cut_by (entry_at s.connections) cut) e u (open_in s.threads u))) None (open_in s.threads u))) [
+      | true ↦ λ same. are.open_call u ∙ (let idle : open_in s.threads u ≡ None = ap (open_in s.threads) (eqb-true u t same) ∙ free in rw idle refl)
+      | false ↦ λ other. are.open_call u
+    ] refl
+
+-- what is cut keeps a kernel sound
+pub sound_cut : (s : State) (down : Bool) (cut : Cut) (e : Errno) (threads : List Thread) (channels : List (ℕ × Channel)) → IsSound s → AreCut (entry_at s.connections) cut e s.threads threads
+    → LoseCut (entry_at s.connections) cut e s.threads s.channels channels → IsSound (record { made = s.made + 1; down = down; threads = threads; channels = channels; connections = s.connections })
+sound_cut s down cut e threads channels sound are lose =
+    let k = sound_threads s threads sound are.members in
+    record {
+      few = k.few;
+      roster = k.roster;
+      channel_ids = rw (lose.ids) k.channel_ids;
+      connection_ids = k.connection_ids;
+      items = λ h. rw (lose.pending h) (all_filter (λ (item : Item). item.number ≤ s.made + 1) (λ item. not (is_cut_among (entry_at s.connections) cut e s.threads h item.number)) (pending_in s.channels h) (k.items h));
+    }

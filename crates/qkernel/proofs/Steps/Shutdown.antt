@@ -1,0 +1,41 @@
+-- Shutdown as a step of the kernel.
+use Rattle.std.proofs.Common.{◌≡◌, ℕ, ◌+◌, List, refl, sym, ◌∙◌, arith, true, false}
+use Rattle.std.specs.Prelude.{None, Some}
+use Rattle.std.proofs.lemmas.List.{append-nil}
+use Rattle.qbase.specs.declared.errno.Errno.TheVariants.{Srch}
+use Rattle.qtables.specs.Entries.{entry_at}
+use Rattle.qtables.specs.Members.{member_at}
+use Rattle.qtables.specs.declared.member.Member.{Member}
+use Rattle.qrules.specs.declared.call.Call.TheVariants.{Shutdown}
+use Rattle.qrules.specs.declared.call.Completion.{Completion}
+use Rattle.qrecords.specs.Cuts.{AreCut, LoseCut}
+use Rattle.qrecords.specs.Threads.{members_of, open_in}
+use Rattle.qrecords.specs.declared.channel.Channel.{Channel}
+use Rattle.qrecords.specs.declared.cutting.Cut.TheVariants.{All}
+use Rattle.qrecords.specs.declared.thread.Thread.{Thread}
+use Rattle.qkernel.specs.State.{State}
+use Rattle.qkernel.specs.Stands.{Steps}
+use Rattle.qkernel.proofs.Steps.Cutting.{endings_cut, open_after}
+use Rattle.qkernel.proofs.Steps.Delivering.{count_kept}
+
+pub step_shut : (s : State) (t : ℕ) (m : Member) (threads : List Thread) (channels : List (ℕ × Channel)) (X : List Completion) → member_at (members_of s.threads) t ≡ Some m → s.down ≡ false → open_in s.threads t ≡ None
+    → AreCut (entry_at s.connections) All Srch s.threads threads → LoseCut (entry_at s.connections) All Srch s.threads s.channels channels → X ≡ endings_cut s t All Srch
+    → Steps s t Shutdown X (record { made = s.made + 1; down = true; threads = threads; channels = channels; connections = s.connections })
+step_shut s t m threads channels X known up free are lose is = (
+  true,
+  record {
+    answer = (rw (up, free) refl, is);
+    follows = record {
+      roster = are.members;
+      number = refl;
+      down = refl;
+      channel = λ h. rw known (lose.channel h);
+      open_channels = rw known (count_kept s.channels channels lose.ids);
+      connection = λ k. rw known refl;
+      live_connections = rw known (omega arith);
+      open_call = λ u. open_after s t All Srch threads u free are;
+      pending = λ h. lose.pending h ∙ sym (append-nil _);
+      priority = are.priority;
+    };
+  },
+)

@@ -1,0 +1,22 @@
+-- ChannelDestroy: the end of a channel, and of each call that is blocked on it.
+use Rattle.std.specs.Prelude.{ℕ, false, [], Option, None, Some, if◌then◌else◌}
+use Rattle.qbase.specs.declared.errno.Errno.{Errno}
+use Rattle.qbase.specs.declared.errno.Errno.TheVariants.{Inval, Srch}
+use Rattle.qrules.specs.declared.call.Mark.TheVariants as mark
+use Rattle.qrules.specs.Cutting.{cuts, is_on}
+use Rattle.qrules.specs.Facts.{Facts, owns}
+use Rattle.qrules.specs.Rows.{Row}
+
+-- a channel that isn't open, or isn't of the thread's process
+abbrev pub refusal : Facts → ℕ → ℕ → Option Errno
+refusal f t chid = if owns f t chid then None else Some Inval
+
+-- that the channel is closed is read off the past calls
+abbrev pub row : Facts → ℕ → ℕ → Row
+row f t chid = record {
+  refusal = refusal f t chid;
+  takes_memory = false;
+  own = Some (record { call = f.number; thread = t; mark = mark.Ok; buffer = [] });
+  ends = cuts f (is_on f.connection chid) Srch;
+  receipt = None;
+}

@@ -1,0 +1,17 @@
+-- Shutdown: the end of every open call, and of the kernel.
+use Rattle.std.specs.Prelude.{ℕ, true, false, [], None, Some}
+use Rattle.qbase.specs.declared.errno.Errno.TheVariants.{Srch}
+use Rattle.qrules.specs.declared.call.Mark.TheVariants as mark
+use Rattle.qrules.specs.Cutting.{cuts}
+use Rattle.qrules.specs.Facts.{Facts}
+use Rattle.qrules.specs.Rows.{Row}
+
+-- any thread may shut the kernel down
+abbrev pub row : Facts → ℕ → Row
+row f t = record {
+  refusal = None;
+  takes_memory = false;
+  own = Some (record { call = f.number; thread = t; mark = mark.Ok; buffer = [] });
+  ends = cuts f (λ wait. true) Srch;
+  receipt = None;
+}
