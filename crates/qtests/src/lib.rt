@@ -6,8 +6,6 @@
 #[cfg(test)]
 mod answers;
 #[cfg(test)]
-mod ending;
-#[cfg(test)]
 mod held;
 #[cfg(test)]
 mod making;

@@ -137,14 +137,6 @@ pub fn state(thread: u8) -> Call {
     Call::State(ThreadNo(thread))
 }
 
-pub fn destroy(chid: u64) -> Call {
-    Call::ChannelDestroy(ChannelId(chid))
-}
-
-pub fn shutdown() -> Call {
-    Call::Shutdown
-}
-
 /// The mark of a State.
 pub fn in_state(state: ThreadState, level: u8) -> Result<Mark, Fail> {
     Ok(Mark::State {
