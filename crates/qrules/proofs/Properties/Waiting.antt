@@ -10,6 +10,7 @@ use Rattle.qqueue.specs.Best.{best_of, may_take, without}
 use Rattle.qqueue.specs.declared.item.Item.{Item}
 use Rattle.qqueue.specs.declared.item.Kind.{Kind}
 use Rattle.qqueue.specs.declared.item.Kind.TheVariants.{Any, PulseOnly}
+use Rattle.qqueue.proofs.OrderLaws.{none-may}
 use Rattle.qtables.specs.Members.{IsRoster}
 use Rattle.qtables.specs.declared.member.Member.{Member}
 use Rattle.qrules.specs.Answer.{row_of}
@@ -31,7 +32,6 @@ use Rattle.qrules.specs.declared.open_call.Receipt.{Receipt}
 use Rattle.qrules.specs.declared.open_call.Wait.{Wait}
 use Rattle.qrules.specs.declared.open_call.Wait.TheVariants.{Answer, Item as ForItem}
 use Rattle.qrules.proofs.Calls.Taking.{given_received, receipt_from, receipt_in_at}
-use Rattle.qrules.proofs.Past.Best.{none_may}
 use Rattle.qrules.proofs.Past.Ends.{known, open_known, passes_of}
 use Rattle.qrules.proofs.Past.Follows.{past_follows}
 use Rattle.qrules.proofs.Past.Laws.{Passes}
@@ -243,7 +243,7 @@ caller_finds_none f t c o h kind is waits =
     let b = before_receipt waits_for held_waits_for (row_of f t c).receipt t (asks f.number c) o x.1 in
     let k = begins_with_none f t c b.call (h, kind) b.is (b.same ∙ waits) (none_of (row_of f t c).own x.0) in
     let P = λ (w : Item). may_take kind w ≡ false in
-    let none : AllByRecursion (λ (w : Item). may_take kind w ≡ false) (f.pending h) = none_may kind (f.pending h) k.0 in
+    let none : AllByRecursion (λ (w : Item). may_take kind w ≡ false) (f.pending h) = none-may kind (f.pending h) k.0 in
     let L = left_by f t c h (f.pending h) in
     let Q = λ (w : Item). ((r : Received) → (row_of f t c).receipt ≡ Some r → r.channel ≡ h → eqb w.number r.item ≡ false) → may_take kind w ≡ false in
     all_after P f t c h (rw (k.1) (all_left P (row_of f t c).receipt h (L ++ [])

@@ -7,6 +7,7 @@ use Rattle.std.proofs.lemmas.Bool.{eqb-true, eq-eqb, and_from}
 use Rattle.std.proofs.lemmas.Option.{none-some, same_Some}
 use Rattle.qqueue.specs.Best.{best_of}
 use Rattle.qqueue.specs.declared.item.Item.{Item}
+use Rattle.qqueue.proofs.OrderLaws.{best-at}
 use Rattle.qtables.specs.declared.connection.Connection.{Connection}
 use Rattle.qtables.specs.declared.member.Member.{Member}
 use Rattle.qrules.specs.Headline.BestFirst.{TakesBest, takeable}
@@ -21,7 +22,6 @@ use Rattle.qrules.specs.declared.call.Call.TheVariants.{ChannelCreate, ConnectAt
 use Rattle.qrules.specs.declared.call.Completion.{Completion}
 use Rattle.qrules.proofs.Past.Items.{Stands, item_at}
 use Rattle.qrules.proofs.Past.Lists.{all_more}
-use Rattle.qrules.proofs.Past.Receipts.{best_at}
 use Rattle.qrules.proofs.Properties.BestFirst.{best_first}
 use Rattle.qrules.proofs.Properties.Connections.{takeable_made}
 use Rattle.qrules.proofs.Properties.Messages.{made_accepted}
@@ -105,7 +105,7 @@ taken_stands roster past e x i k =
     → (m : Made) × (item_at roster (e ∷ past) i ≡ Some m) × (m.item.number ≡ i) × (m.channel ≡ k.channel)) [
       | None ↦ λ is at. absurd (none-some i at)
       | Some item ↦ λ is at.
-          let stands = best_at (Stands roster (e ∷ past) k.channel) k.kind (takeable roster past e k.channel) item (takeable_made roster past e k.channel) is in
+          let stands = best-at (Stands roster (e ∷ past) k.channel) k.kind (takeable roster past e k.channel) item (takeable_made roster past e k.channel) is in
           let number : item.number ≡ i = same_Some item.number i at in
           (record { item = item; channel = k.channel }, subst (λ j. item_at roster (e ∷ past) j ≡ Some (record { item = item; channel = k.channel })) number stands, number, refl)
     ] refl k.best
