@@ -1,6 +1,5 @@
 pub mod Seats
 pub mod Senders
 pub mod ChannelWrites
-pub mod Losses
-pub mod Sweeps
+pub mod Cuts
 pub mod Closing

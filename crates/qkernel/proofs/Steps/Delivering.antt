@@ -3,7 +3,7 @@ use Rattle.std.proofs.Common.{◌≡◌, ℕ, suc, ◌+◌, ◌≤◌, List, [],
 use Rattle.std.specs.Prelude.{Option, None, Some, is_some, ◌||◌}
 use Rattle.std.specs.List.{AllByRecursion}
 use Rattle.std.specs.Option.{option_map}
-use Rattle.std.proofs.lemmas.Bool.{eqb-true, eqb-false, eq-eqb, ne_eqb, true≢false}
+use Rattle.std.proofs.lemmas.Bool.{eqb-true, eq-eqb, ne_eqb, true≢false}
 use Rattle.std.proofs.lemmas.Option.{none-some, cond_some, same_Some}
 use Rattle.qqueue.specs.Best.{without}
 use Rattle.qqueue.specs.declared.item.Item.{Item}
@@ -24,6 +24,7 @@ use Rattle.qrules.specs.Rows.{takes, sent_over, takes_into}
 use Rattle.qkernel.specs.State.{State, IsSound, facts_in}
 use Rattle.qrules.specs.Step.{made_on}
 use Rattle.qrecords.specs.Threads.{members_of, open_in, newest_by}
+use Rattle.qrules.proofs.Past.Lists.{eqb_either}
 use Rattle.qrules.proofs.Rosters.{is_among}
 use Rattle.qrecords.proofs.Senders.{own_open}
 use Rattle.qkernel.proofs.Steps.Common.{Counted, count_same, all_up_to, all_push, way-leads_to}
@@ -120,12 +121,6 @@ counted_room s h new sets = record {
   ] refl);
 }
 
-pub eqb_sym : (a b : ℕ) → eqb a b ≡ eqb b a
-eqb_sym a b = elim (eqb a b) as (λ x. eqb a b ≡ x → x ≡ eqb b a) [
-  | true ↦ λ e. sym (eq-eqb b a (sym (eqb-true a b e)))
-  | false ↦ λ e. sym (ne_eqb b a (λ s. eqb-false a b e (sym s)))
-] refl
-
 -- ---- an item that waits, and one that is met
 
 -- no item of these has a number above n
@@ -150,7 +145,7 @@ module _ (s : State) (t coid : ℕ) (m : Member) (h : ℕ) (item : Item) (sound 
   over = way_over s t (entry_at s.connections coid) h some_way
 
   made_there : (k : ℕ) → made_on k (sent_over (entry_at s.connections coid) item) ≡ cond (eqb k h) (item ∷ []) []
-  made_there k = rw (over.1.0) (ap (λ n. cond (eqb n k) (item ∷ []) []) (over.1.1) ∙ ap (λ b. cond b (item ∷ []) []) (eqb_sym h k))
+  made_there k = rw (over.1.0) (ap (λ n. cond (eqb n k) (item ∷ []) []) (over.1.1) ∙ ap (λ b. cond b (item ∷ []) []) (eqb_either h k))
 
   -- it waits behind the others
   pub with_item : (k : ℕ) → cond (eqb k h) (pending_in s.channels h ++ item ∷ []) (pending_in s.channels k) ≡ pending_in s.channels k ++ made_on k (sent_over (entry_at s.connections coid) item)
@@ -162,7 +157,7 @@ module _ (s : State) (t coid : ℕ) (m : Member) (h : ℕ) (item : Item) (sound 
   -- the item doesn't wait
   pub items_after : (k : ℕ) → pending_in s.channels k ≡ cond (eqb h k) (without item.number (pending_in s.channels k ++ made_on k (sent_over (entry_at s.connections coid) item)))
       (pending_in s.channels k ++ made_on k (sent_over (entry_at s.connections coid) item))
-  items_after k = rw (made_there k, eqb_sym h k) (
+  items_after k = rw (made_there k, eqb_either h k) (
       elim (eqb k h) as (λ b. pending_in s.channels k ≡ cond b (without item.number (pending_in s.channels k ++ cond b (item ∷ []) [])) (pending_in s.channels k ++ cond b (item ∷ []) [])) [
         | true ↦ sym (ap (λ n. without n (pending_in s.channels k ++ item ∷ [])) number ∙ without_new s.made (pending_in s.channels k) item number (sound.items k))
         | false ↦ sym (append-nil _)

@@ -23,7 +23,7 @@ use Rattle.qrules.specs.declared.open_call.Wait.TheVariants.{Answer, Item as For
 use Rattle.qrules.proofs.Past.Ends.{ends_other, known, open_known, passes_of}
 use Rattle.qrules.proofs.Past.Items.{IsPending, item_at, item_message}
 use Rattle.qrules.proofs.Past.Laws.{IsSettled, RowLaws, is_forceful, is_settled}
-use Rattle.qrules.proofs.Past.Lists.{and_false, any_never, any_only, all_every, filter_all, none_of}
+use Rattle.qrules.proofs.Past.Lists.{and_false, any_never, any_only, filter_whole, none_of}
 use Rattle.qrules.proofs.Past.Numbers.{block_fresh, filled_answer, filled_settled, open_from, open_parts, open_thread}
 use Rattle.qrules.proofs.Properties.Answers.{over}
 use Rattle.qrules.proofs.Properties.Messages.{item_waits, pending_going}
@@ -70,7 +70,7 @@ none_is_cut f t c laws mild h i = any_never _ (threads_of f.roster) (λ s.
 
 pub none_cut : (f : Facts) (t : ℕ) (c : Call) → RowLaws f t c → is_forceful c ≡ false → (h : ℕ) (items : List Item) → left_by f t c h items ≡ items
 none_cut f t c laws mild h items =
-    filter_all (λ item. not (is_cut f t c h item.number)) items (all_every (λ item. not (is_cut f t c h item.number) ≡ true) items (λ item. ap not (none_is_cut f t c laws mild h item.number)))
+    filter_whole (λ item. not (is_cut f t c h item.number)) items (λ item. ap not (none_is_cut f t c laws mild h item.number))
 
 -- ---- the Send of a pending message
 

@@ -19,7 +19,7 @@ use Rattle.qrules.specs.Step.{is_cut, left_by, made_on, taken_out, pending_after
 use Rattle.qrules.specs.Trace.{Event, Trace}
 use Rattle.qrules.specs.declared.call.Call.{Call}
 use Rattle.qrules.specs.declared.call.Completion.{Completion}
-use Rattle.qrules.proofs.Past.Lists.{cond_same, eqb_either, none_of, all_append, all_every, all_filter, all_more, filter_same, filter_twice, filter_all}
+use Rattle.qrules.proofs.Past.Lists.{cond_same, eqb_either, none_of, all_append, all_filter, all_more, filter_alike, filter_same, filter_twice, filter_all, filter_whole}
 use Rattle.qrules.proofs.Past.Laws.{IsReceived}
 use Rattle.qrules.proofs.Past.Channels.{closed_accepted, closed_refused}
 use Rattle.qrules.proofs.Past.Cuts.{ended_is_cut}
@@ -179,11 +179,11 @@ elsewhere roster past t c X h r L all a k other =
 
 taken_from : (o : Option Received) (h : ℕ) (L : List Item) → ((r : Received) → o ≡ Some r → eqb r.channel h ≡ false → AllByRecursion (λ item. eqb r.item item.number ≡ false) L)
     → taken_out o h L ≡ filter (leaves o) L
-taken_from None h L other = sym (filter_all (leaves None) L (all_every (λ item. leaves None item ≡ true) L (λ item. refl)))
+taken_from None h L other = sym (filter_whole (leaves None) L (λ item. refl))
 taken_from (Some r) h L other =
     elim (eqb r.channel h) as (λ b. eqb r.channel h ≡ b → cond b (without r.item L) L ≡ filter (leaves (Some r)) L) [
-      | true ↦ λ e. filter_same (λ item. not (eqb item.number r.item)) (leaves (Some r)) L (all_every (λ item. not (eqb item.number r.item) ≡ leaves (Some r) item) L (λ item.
-          ap not (eqb_either item.number r.item) ∙ elim (eqb r.item item.number) as (λ b. not b ≡ not (is_some (cond b (Some r.kept.copied) None))) [ true ↦ refl | false ↦ refl ]))
+      | true ↦ λ e. filter_alike (λ item. not (eqb item.number r.item)) (leaves (Some r)) L (λ item.
+          ap not (eqb_either item.number r.item) ∙ elim (eqb r.item item.number) as (λ b. not b ≡ not (is_some (cond b (Some r.kept.copied) None))) [ true ↦ refl | false ↦ refl ])
       | false ↦ λ e. sym (filter_all (leaves (Some r)) L (all_more (λ item. eqb r.item item.number ≡ false) (λ item. leaves (Some r) item ≡ true) L (other r refl e) (λ item d. rw d refl)))
     ] refl
 

@@ -1,7 +1,7 @@
 use Rattle.std.proofs.Common.{◌≡◌, ◌≤◌, length, drop}
 use Rattle.qtables.specs.Entries.{entry_at}
 use Rattle.qrecords.specs.Cuts.{is_cut_by, left_open}
-use Rattle.qrecords.proofs.Sweeps.{swept, Sweeps}
+use Rattle.qrecords.proofs.Cuts.Threads.{swept, Sweeps}
 use Rattle.qrecords.proofs.cutting.cut_calls.Given as goal
 
 abbrev pub invariant-loop-thread : goal.invariant-loop-thread

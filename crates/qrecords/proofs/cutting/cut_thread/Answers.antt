@@ -1,7 +1,7 @@
 use Rattle.std.proofs.Common.{sym}
 use Rattle.qtables.specs.Entries.{entry_at}
 use Rattle.qrecords.specs.Cuts.{is_cut_by}
-use Rattle.qrecords.proofs.Losses.{loses_nothing, untaken}
+use Rattle.qrecords.proofs.Cuts.Queues.{loses_nothing, untaken}
 use Rattle.qrecords.proofs.cutting.cut_thread.Goals as goal
 
 pub returns-in_err-call-clause-channels : goal.returns-in_err-call-clause-channels

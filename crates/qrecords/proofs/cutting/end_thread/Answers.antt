@@ -1,7 +1,7 @@
 use Rattle.std.proofs.Common.{ap, sym}
 use Rattle.qtables.specs.Entries.{entry_at}
 use Rattle.qrecords.specs.Cuts.{is_cut_by, is_taken_from}
-use Rattle.qrecords.proofs.Losses.{loses_nothing}
+use Rattle.qrecords.proofs.Cuts.Queues.{loses_nothing}
 use Rattle.qrecords.proofs.cutting.end_thread.Goals as goal
 
 pub returns-then-eq-clause-channels : goal.returns-then-eq-clause-channels

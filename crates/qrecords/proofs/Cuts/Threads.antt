@@ -18,7 +18,8 @@ use Rattle.qrecords.specs.declared.thread.Thread.{Thread}
 use Rattle.qrecords.specs.Channels.{ids_of, channel_in, pending_in}
 use Rattle.qrecords.specs.Cuts.{is_cut_by, is_cut_open, is_taken_from, is_cut_among, ending_for, with_ending, left_open, Lose, LoseCut, AreCut}
 use Rattle.qrecords.specs.Threads.{members_of, open_in, level_in}
-use Rattle.qrecords.proofs.Losses.{filter_same, filter_all, filter_after}
+use Rattle.qrules.proofs.Past.Lists.{filter_alike, filter_whole}
+use Rattle.qrecords.proofs.Cuts.Queues.{filter_after}
 use Rattle.qrecords.proofs.Senders.{own_open}
 
 -- ---- the threads themselves
@@ -181,8 +182,8 @@ module _ (connection : ℕ → Option Connection) (cut : Cut) (e : Errno) (own :
   swept_channels all first now left endings roster so = record {
     ids = so.ids;
     channel = so.channel;
-    pending = λ k. sym (filter_all (λ item. true) (pending_in now k) (λ item. refl)) ∙ so.pending k
-        ∙ filter_same (λ item. not (goes_among connection (is_cut_by connection cut) all k item.number)) (λ item. not (is_cut_among connection cut e all k item.number)) (pending_in first k)
+    pending = λ k. sym (filter_whole (λ item. true) (pending_in now k) (λ item. refl)) ∙ so.pending k
+        ∙ filter_alike (λ item. not (goes_among connection (is_cut_by connection cut) all k item.number)) (λ item. not (is_cut_among connection cut e all k item.number)) (pending_in first k)
         (λ item. ap not (sym (any_by (λ s o. is_unread_send connection k item.number o && is_some (cut_where (is_cut_by connection cut) e s o)) (λ o. is_taken_from connection (is_cut_by connection cut) o k item.number) (open_in all) all
         (λ s o. ap (λ b. is_unread_send connection k item.number o && b) (some_cut (is_cut_by connection cut) e s o)) (own_open all roster))));
   }
