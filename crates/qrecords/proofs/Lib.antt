@@ -2,4 +2,3 @@ pub mod Seats
 pub mod Senders
 pub mod ChannelWrites
 pub mod Cuts
-pub mod Closing

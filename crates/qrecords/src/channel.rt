@@ -119,7 +119,5 @@ pub fn close(channels: &mut Channels<Channel>, chid: ChannelId)
     requires { is_some (channel_in channels.old chid) ≡ true }
     ensures { ClosesIn chid channels.old channels.new }
 {
-    // What `len` ensures says that the ids rise, so just one entry goes.
-    prove!(channels.len() > 0);
     let _ = channels.remove(chid);
 }
