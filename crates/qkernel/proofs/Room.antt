@@ -1,9 +1,9 @@
 -- An event ends no more calls than its own and the open ones.
-use Rattle.std.proofs.Common.{◌≡◌, ℕ, ◌+◌, ◌<◌, ◌≤◌, List, [], ◌∷◌, length, refl, ap, sym, subst, ◌∙◌, cond, arith, Bool, true, false, eqb}
+use Rattle.std.proofs.Common.{◌≡◌, ℕ, ◌+◌, ◌≤◌, List, [], ◌∷◌, length, refl, ap, sym, subst, ◌∙◌, cond, arith, Bool, true, false, eqb}
 use Rattle.std.specs.Prelude.{Option, None, Some, is_some, ◌||◌}
 use Rattle.std.specs.List.{filter_map, cons_option, AllByRecursion}
 use Rattle.std.specs.Option.{option_map}
-use Rattle.std.proofs.lemmas.Bool.{eqb-true, eq-eqb, ne_eqb, true≢false}
+use Rattle.std.proofs.lemmas.Bool.{eqb-true, eq-eqb, true≢false}
 use Rattle.qtables.specs.Members.{IsRoster}
 use Rattle.qrules.specs.declared.call.Call.{Call}
 use Rattle.qrules.specs.declared.call.Completion.{Completion}
@@ -19,7 +19,8 @@ use Rattle.qrecords.specs.Threads.{members_of, open_in, blocked_count}
 use Rattle.qrules.proofs.Past.Ends.{row_passes}
 use Rattle.qrules.proofs.Past.Laws.{RowLaws}
 use Rattle.qrules.proofs.Past.RowLaws.{row_laws}
-use Rattle.qrules.proofs.Rosters.{Rises, rises, is_among}
+use Rattle.qrules.proofs.Past.Lists.{is_among}
+use Rattle.qrules.proofs.Rosters.{Rises, rises, not_among}
 use Rattle.qrecords.proofs.Senders.{own_open}
 
 -- one where there is something
@@ -39,10 +40,6 @@ opens f (u ∷ ts) = one (f u) + opens f ts
 length-cons : {A : Type 0} (o : Option A) (xs : List A) → length (cons_option o xs) ≡ one o + length xs
 length-cons None xs = omega arith
 length-cons (Some x) xs = omega arith
-
-not_later : (t : ℕ) (ts : List ℕ) → AllByRecursion (λ u. t < u) ts → is_among ts t ≡ false
-not_later t [] h = refl
-not_later t (u ∷ ts) h = let other : eqb u t ≡ false = ne_eqb u t (λ s. let l : t < u = h.0 in omega arith) in rw (other, not_later t ts h.1) refl
 
 -- the caller ends or waits, and any other thread only ends what it waited for
 sum_elsewhere : (e : ℕ → Option Completion) (f g : ℕ → Option OpenCall) (t : ℕ) (ts : List ℕ) → ((u : ℕ) → eqb u t ≡ false → one (e u) + one (g u) ≤ one (f u)) → is_among ts t ≡ false
@@ -67,7 +64,7 @@ sum_all e f g t (u ∷ ts) h own r =
       | true ↦ λ s.
           let same : u ≡ t = eqb-true u t s in
           let here : one (e u) + one (g u) ≤ 1 = subst (λ v. one (e v) + one (g v) ≤ 1) (sym same) own in
-          let rest : length (filter_map e ts) + opens g ts ≤ opens f ts = sum_elsewhere e f g t ts h (subst (λ v. is_among ts v ≡ false) same (not_later u ts r.0)) in
+          let rest : length (filter_map e ts) + opens g ts ≤ opens f ts = sum_elsewhere e f g t ts h (subst (λ v. is_among ts v ≡ false) same (not_among ts u r.0)) in
           rw (length-cons (e u) (filter_map e ts)) (omega arith)
       | false ↦ λ s.
           let here : one (e u) + one (g u) ≤ one (f u) = h u s in

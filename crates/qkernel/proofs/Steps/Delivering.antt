@@ -24,8 +24,7 @@ use Rattle.qrules.specs.Rows.{takes, sent_over, takes_into}
 use Rattle.qkernel.specs.State.{State, IsSound, facts_in}
 use Rattle.qrules.specs.Step.{made_on}
 use Rattle.qrecords.specs.Threads.{members_of, open_in, newest_by}
-use Rattle.qrules.proofs.Past.Lists.{eqb_either}
-use Rattle.qrules.proofs.Rosters.{is_among}
+use Rattle.qrules.proofs.Past.Lists.{eqb_either, is_among}
 use Rattle.qrecords.proofs.Senders.{own_open}
 use Rattle.qkernel.proofs.Steps.Common.{Counted, count_same, all_up_to, all_push, way-leads_to}
 

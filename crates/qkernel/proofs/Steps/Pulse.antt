@@ -29,7 +29,8 @@ use Rattle.qkernel.specs.State.{State, IsSound, facts_in}
 use Rattle.qkernel.specs.Stands.{Steps}
 use Rattle.qrules.specs.Step.{unless}
 use Rattle.qrecords.specs.Threads.{members_of, open_in, newest_by, Wakes}
-use Rattle.qrules.proofs.Rosters.{rises, among, is_among, filter_same, only_own, two_hits, cond_same}
+use Rattle.qrules.proofs.Past.Lists.{is_among, cond_same}
+use Rattle.qrules.proofs.Rosters.{rises, among, filter_same, only_own, two_hits}
 use Rattle.qkernel.proofs.Steps.Common.{uncut, counted, step_refused, step_refused_alone, way-leads_to, stays_free}
 use Rattle.qkernel.proofs.Steps.Delivering.{counted_room, count_kept, items_after, newest_is, some_way, with_item, ended_thread, level_of}
 

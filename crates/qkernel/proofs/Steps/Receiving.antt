@@ -29,8 +29,8 @@ use Rattle.qkernel.specs.State.{State, IsSound, facts_in}
 use Rattle.qkernel.specs.Stands.{Steps}
 use Rattle.qrules.specs.Step.{after_receipt, is_thread, held_call, taken_out, unless, taken_by}
 use Rattle.qrecords.specs.Threads.{members_of, open_in, level_in, message_from, sender_in, SetsOpen, HandsOver, SetsLevel}
-use Rattle.qrules.proofs.Past.Lists.{all_filter, eqb_either}
-use Rattle.qrules.proofs.Rosters.{rises, among, nothing, filter_same, only_own, cond_same}
+use Rattle.qrules.proofs.Past.Lists.{all_filter, eqb_either, cond_same}
+use Rattle.qrules.proofs.Rosters.{rises, among, nothing, filter_same, only_own}
 use Rattle.qkernel.proofs.Steps.Common.{uncut, counted, step_refused_alone, owned_by_member, all_up_to, stays_free}
 use Rattle.qkernel.proofs.Steps.Delivering.{count_kept, sound_items}
 

@@ -26,7 +26,8 @@ use Rattle.qkernel.specs.State.{State, IsSound, facts_in}
 use Rattle.qkernel.specs.Stands.{Steps}
 use Rattle.qrules.specs.Step.{unless, held_call}
 use Rattle.qrecords.specs.Threads.{members_of, open_in, level_in, newest_by, SetsOpen, Wakes}
-use Rattle.qrules.proofs.Rosters.{rises, is_among, nothing, filter_same, only_own, cond_same}
+use Rattle.qrules.proofs.Past.Lists.{is_among, cond_same}
+use Rattle.qrules.proofs.Rosters.{rises, nothing, filter_same, only_own}
 use Rattle.qkernel.proofs.Steps.Delivering.{counted_room, count_kept, items_after, newest_is, some_way, with_item, ended_thread, level_of}
 use Rattle.qkernel.proofs.Steps.Common.{uncut, counted, step_refused, step_refused_alone, way-leads_to}
 

@@ -20,7 +20,7 @@ use Rattle.qrules.specs.declared.call.Completion.{Completion}
 use Rattle.qrules.specs.declared.open_call.OpenCall.{OpenCall}
 use Rattle.qrules.specs.declared.open_call.Wait.{Wait}
 use Rattle.qrules.specs.declared.open_call.Wait.TheVariants.{Answer, Item as ForItem}
-use Rattle.qrules.proofs.Past.Ends.{ends_other, known, open_known, passes_of}
+use Rattle.qrules.proofs.Past.Ends.{ends_other, open_known, passes_of}
 use Rattle.qrules.proofs.Past.Items.{IsPending, item_at, item_message}
 use Rattle.qrules.proofs.Past.Laws.{IsSettled, RowLaws, is_forceful, is_settled}
 use Rattle.qrules.proofs.Past.Lists.{and_false, any_never, any_only, filter_whole, none_of}
@@ -28,6 +28,7 @@ use Rattle.qrules.proofs.Past.Numbers.{block_fresh, filled_answer, filled_settle
 use Rattle.qrules.proofs.Properties.Answers.{over}
 use Rattle.qrules.proofs.Properties.Messages.{item_waits, pending_going}
 use Rattle.qrules.proofs.Properties.Sends.{block_over, block_sender, buffer_over}
+use Rattle.qrules.proofs.Rosters.{known}
 
 -- ---- a Send that isn't received
 

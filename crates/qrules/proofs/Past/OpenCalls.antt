@@ -23,11 +23,12 @@ use Rattle.qrules.proofs.Past.Lists.{eqb_same, none_of, and_false, or_true, or_f
 use Rattle.qrules.proofs.Past.Laws.{IsReceived}
 use Rattle.qrules.proofs.Past.RowLaws.{call_laws}
 use Rattle.qrules.proofs.Past.Numbers.{block_below, filled_answer, open_from, open_thread, receipt_number, receipt_for_answer}
-use Rattle.qrules.proofs.Past.Ends.{laws_of, passes_of, accepted, refused, refused_ends, ended_below, ends_other, ends_own, known, block_known}
+use Rattle.qrules.proofs.Past.Ends.{laws_of, passes_of, accepted, refused, refused_ends, ended_below, ends_other, ends_own, block_known}
 use Rattle.qrules.proofs.Past.Items.{item_at, item_answer, item_message, item_below, item_priority, priority_earlier, priority_newest}
 use Rattle.qrules.proofs.Past.Receipts.{copied_by, accepted_receipts, refused_receipts, best_pending, receipt_beyond}
 use Rattle.qrules.proofs.Past.Senders.{send_parts, send_from, sender_sends, sender_found}
 use Rattle.qrules.proofs.Past.Writes.{changed, filled_accepted, filled_fresh, filled_refused, receipt_written, written_sender}
+use Rattle.qrules.proofs.Rosters.{known}
 
 -- ---- a receipt, and the thread that waits for its answer
 

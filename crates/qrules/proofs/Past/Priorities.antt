@@ -14,11 +14,12 @@ use Rattle.qrules.specs.Step.{taken_by, priority_after}
 use Rattle.qrules.specs.Trace.{Trace}
 use Rattle.qrules.specs.declared.call.Call.{Call}
 use Rattle.qrules.specs.declared.call.Completion.{Completion}
-use Rattle.qrules.proofs.Past.Ends.{accepted, ending_names, known, laws_of, refused}
+use Rattle.qrules.proofs.Past.Ends.{accepted, ending_names, laws_of, refused}
 use Rattle.qrules.proofs.Past.Items.{item_at, item_below, item_earlier, item_found, item_newest}
 use Rattle.qrules.proofs.Past.Laws.{RowLaws, IsReceipt, IsReceived}
 use Rattle.qrules.proofs.Past.Receipts.{among_none, among_one, best_pending, ending_receives, given_known}
 use Rattle.qrules.proofs.Past.RowLaws.{call_laws}
+use Rattle.qrules.proofs.Rosters.{known}
 
 -- the item that is received is among those that were made
 received_at : (roster : List Member) (past : Trace) (t : ℕ) (c : Call) (X : List Completion) (r : Received) (k : IsReceived (facts_of roster past) t c r) → Outcome true (facts_of roster past) t c X

@@ -20,8 +20,9 @@ use Rattle.qrules.specs.declared.call.Completion.{Completion}
 use Rattle.qrules.proofs.Past.Lists.{is_among}
 use Rattle.qrules.proofs.Past.Laws.{RowLaws, IsReceipt, IsReceived}
 use Rattle.qrules.proofs.Past.RowLaws.{call_laws}
-use Rattle.qrules.proofs.Past.Ends.{laws_of, ending_names, known, open_known}
+use Rattle.qrules.proofs.Past.Ends.{laws_of, ending_names, open_known}
 use Rattle.qrules.proofs.Past.Items.{IsPending, pending_all, item_below}
+use Rattle.qrules.proofs.Rosters.{known}
 
 -- ---- what is told of one among the endings that some threads get
 

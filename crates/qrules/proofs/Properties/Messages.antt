@@ -22,7 +22,7 @@ use Rattle.qrules.specs.declared.open_call.Receipt.{Receipt}
 use Rattle.qrules.specs.declared.open_call.Wait.{Wait}
 use Rattle.qrules.specs.declared.open_call.Wait.TheVariants.{Answer, Item as ForItem}
 use Rattle.qrules.proofs.Calls.Delivering.{sent_item}
-use Rattle.qrules.proofs.Past.Ends.{known, open_known, passes_of}
+use Rattle.qrules.proofs.Past.Ends.{open_known, passes_of}
 use Rattle.qrules.proofs.Past.Items.{IsPending, item_at}
 use Rattle.qrules.proofs.Past.Lists.{eqb_same}
 use Rattle.qrules.proofs.Past.Numbers.{blocks, blocks_thread, block_asked, filled_answer, open_from, open_parts, open_thread, receipt_for_answer, receipt_number}
@@ -30,6 +30,7 @@ use Rattle.qrules.proofs.Past.RowLaws.{call_laws}
 use Rattle.qrules.proofs.Past.Senders.{send_from, send_parts, sender_found}
 use Rattle.qrules.proofs.Properties.Events.{outcome_of}
 use Rattle.qrules.proofs.Properties.Sends.{open_filled, open_keeps}
+use Rattle.qrules.proofs.Rosters.{known}
 
 -- ---- what a call brings is what it waits with
 

@@ -32,13 +32,14 @@ use Rattle.qrules.specs.declared.open_call.Receipt.{Receipt}
 use Rattle.qrules.specs.declared.open_call.Wait.{Wait}
 use Rattle.qrules.specs.declared.open_call.Wait.TheVariants.{Answer, Item as ForItem}
 use Rattle.qrules.proofs.Calls.Taking.{given_received, receipt_from, receipt_in_at}
-use Rattle.qrules.proofs.Past.Ends.{known, open_known, passes_of}
+use Rattle.qrules.proofs.Past.Ends.{open_known, passes_of}
 use Rattle.qrules.proofs.Past.Follows.{past_follows}
 use Rattle.qrules.proofs.Past.Laws.{Passes}
 use Rattle.qrules.proofs.Past.Lists.{all_append, all_filter, all_more, is_among, none_of}
 use Rattle.qrules.proofs.Properties.Receipts.{waits_for}
 use Rattle.qrules.proofs.Properties.Receivers.{WaitsOn, newest_some, newest_waits}
 use Rattle.qrules.proofs.Properties.Rows.Delivering.{has_way, pulse_way, way_leads}
+use Rattle.qrules.proofs.Rosters.{known}
 
 -- ---- what a thread waits for
 
