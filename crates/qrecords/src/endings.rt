@@ -21,20 +21,24 @@ pub fn end_one(endings: &mut Endings, completion: Completion)
     endings.push(completion);
 }
 
+/// How a call ends in its own event with no buffer.
+pub fn own_ending(alloc: Global, call: u64, thread: ThreadNo, mark: Mark) -> Completion
+    ensures { result ≡ record { call = call; thread = thread; mark = mark; buffer = [] } }
+{
+    Completion {
+        call,
+        thread,
+        mark,
+        buffer: Bytes::new(alloc),
+    }
+}
+
 /// Ends a call in its own event with no buffer, as the only one.
 pub fn end_own(endings: &mut Endings, alloc: Global, call: u64, thread: ThreadNo, mark: Mark)
     requires { endings.old.items ≡ [] }
     ensures { endings.new.items ≡ record { call = call; thread = thread; mark = mark; buffer = [] } ∷ [] }
 {
-    end_one(
-        endings,
-        Completion {
-            call,
-            thread,
-            mark,
-            buffer: Bytes::new(alloc),
-        },
-    );
+    end_one(endings, own_ending(alloc, call, thread, mark));
 }
 
 /// Refuses a call, and gives its buffer back.

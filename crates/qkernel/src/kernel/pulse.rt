@@ -12,7 +12,7 @@ use qbase::ids::{ConnectionId, ThreadNo};
 use qbase::priority::Priority;
 use qqueue::item::{Item, What};
 use qrecords::channel::{carried, enqueue, pulses_on, way};
-use qrecords::endings::{Endings, end_own, end_two, refuse};
+use qrecords::endings::{Endings, end_own, end_two, own_ending, refuse};
 use qrecords::thread::{member_of, newest_receiver, wake};
 use qrules::call::{Call, Completion, Mark};
 use qrules::open_call::{OpenCall, Wait};
@@ -92,12 +92,7 @@ impl Kernel {
                 let Some(ended) = told(call, newest.1, &item) else {
                     unreachable!();
                 };
-                let mine = Completion {
-                    call: number,
-                    thread,
-                    mark: Mark::Ok,
-                    buffer: Bytes::new(alloc),
-                };
+                let mine = own_ending(alloc, number, thread, Mark::Ok);
                 end_two(endings, mine, ended);
             }
         }

@@ -57,4 +57,4 @@ returns-in-Some-told c =
     let ended = sym c.in-Some-told.is ∙ rw (to_z-of_z w8 c.args.code c.ranges.code, to_z-of_z w32 c.args.value c.ranges.value) at c.told.ensures ∙ ap (takes (pulse_item (c.self.inside.made + 1) c.args.priority c.args.code c.args.value) [] receiver.1) c.wake-call.ensures.had in
     rw (← c.self.view_is) (step_pulse_met _ c.args.thread c.args.coid c.args.priority c.args.code c.args.value c.member_of.result c.in-Some.chid c.self.invariant known up free found positive room
     receiver.1 c.in-Some-told.ended (newest_is _ c.in-Some.chid _ (Some receiver) c.self.invariant newest) (waits_among c.in-Some.chid _ _ _ receiver.1 waits) (sym ended) _ _ (rw c.carried-level.ensures at c.wake-call.ensures.after)
-    (rw c.new-in-Some-newest_receiver.ensures at c.end_two.ensures))
+    (rw c.own_ending-mine.ensures at c.end_two.ensures))
