@@ -4,12 +4,11 @@ use Rattle.std.specs.Prelude.{Option, None, Some, is_some, ◌||◌}
 use Rattle.std.specs.List.{AllByRecursion}
 use Rattle.std.specs.Option.{option_map}
 use Rattle.std.proofs.lemmas.Bool.{eqb-true, eq-eqb, ne_eqb, true≢false}
-use Rattle.std.proofs.lemmas.Option.{none-some, cond_some, same_Some}
+use Rattle.std.proofs.lemmas.Option.{none-some, same_Some}
 use Rattle.qqueue.specs.Best.{without}
 use Rattle.qqueue.specs.declared.item.Item.{Item}
 use Rattle.qtables.specs.Entries.{entry_at}
 use Rattle.qtables.specs.Members.{member_at}
-use Rattle.qtables.specs.declared.connection.Connection.{Connection}
 use Rattle.qtables.specs.declared.member.Member.{Member}
 use Rattle.qrules.specs.declared.call.Completion.{Completion}
 use Rattle.qrecords.specs.declared.channel.Channel.{Channel}
@@ -18,13 +17,14 @@ use Rattle.qrules.specs.declared.open_call.Wait.{Wait}
 use Rattle.qrules.specs.declared.open_call.Wait.TheVariants.{Answer, Item as ForItem}
 use Rattle.qrecords.specs.declared.thread.Thread.{Thread}
 use Rattle.qrecords.specs.Channels.{pending_in, ids_of, way_in, SetsItems, channel_in}
-use Rattle.qrules.specs.Facts.{way, leads_to, threads_of, is_fixed}
+use Rattle.qrules.specs.Facts.{way, threads_of, is_fixed}
 use Rattle.qrules.specs.Receivers.{newest_among, newest, later, later_of, is_later, wait_on}
 use Rattle.qrules.specs.Rows.{takes, sent_over, takes_into}
 use Rattle.qkernel.specs.State.{State, IsSound, facts_in}
 use Rattle.qrules.specs.Step.{made_on}
 use Rattle.qrecords.specs.Threads.{members_of, open_in, newest_by}
 use Rattle.qrules.proofs.Past.Lists.{eqb_either, is_among}
+use Rattle.qrules.proofs.Ways.{Leads, leads_over}
 use Rattle.qrecords.proofs.Senders.{own_open}
 use Rattle.qkernel.proofs.Steps.Common.{Counted, count_same, all_up_to, all_push, way-leads_to}
 
@@ -130,21 +130,16 @@ without_new n (x ∷ items) item is h =
     let other : eqb x.number (n + 1) ≡ false = ne_eqb _ _ (λ e. omega arith) in
     rw other (ap (λ xs. x ∷ xs) (without_new n items item is h.1))
 
--- the connection over which a way leads
-pub way_over : (s : State) (t : ℕ) (o : Option Connection) (h : ℕ) → leads_to (facts_in s) t o ≡ Some h → (c : Connection) × ((o ≡ Some c) × (c.channel ≡ h))
-way_over s t None h e = absurd (none-some h e)
-way_over s t (Some c) h e = (c, (refl, (cond_some _ c.channel h e).1))
-
 module _ (s : State) (t coid : ℕ) (m : Member) (h : ℕ) (item : Item) (sound : IsSound s) (known : member_at (members_of s.threads) t ≡ Some m) (number : item.number ≡ s.made + 1)
     (found : way_in m.process s.channels (entry_at s.connections coid) ≡ Some h) where
   pub some_way : way (facts_in s) t coid ≡ Some h
   some_way = way-leads_to s t m (entry_at s.connections coid) known ∙ found
 
-  over : (c : Connection) × ((entry_at s.connections coid ≡ Some c) × (c.channel ≡ h))
-  over = way_over s t (entry_at s.connections coid) h some_way
+  over : Leads (facts_in s) (entry_at s.connections coid) h
+  over = leads_over (facts_in s) t (entry_at s.connections coid) h some_way
 
   made_there : (k : ℕ) → made_on k (sent_over (entry_at s.connections coid) item) ≡ cond (eqb k h) (item ∷ []) []
-  made_there k = rw (over.1.0) (ap (λ n. cond (eqb n k) (item ∷ []) []) (over.1.1) ∙ ap (λ b. cond b (item ∷ []) []) (eqb_either h k))
+  made_there k = rw over.is (ap (λ n. cond (eqb n k) (item ∷ []) []) over.channel ∙ ap (λ b. cond b (item ∷ []) []) (eqb_either h k))
 
   -- it waits behind the others
   pub with_item : (k : ℕ) → cond (eqb k h) (pending_in s.channels h ++ item ∷ []) (pending_in s.channels k) ≡ pending_in s.channels k ++ made_on k (sent_over (entry_at s.connections coid) item)

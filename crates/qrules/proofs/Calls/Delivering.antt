@@ -1,14 +1,14 @@
 -- The laws of a call that delivers an item.
 use Rattle.std.proofs.Common.{◌≡◌, ◌∙◌, ℕ, List, ap, refl, sym, subst, inl, cond, eqb, true, false}
-use Rattle.std.specs.Prelude.{Option, None, Some, is_some, ◌&&◌}
+use Rattle.std.specs.Prelude.{Option, None, Some, is_some}
 use Rattle.std.specs.Option.{option_map}
-use Rattle.std.proofs.lemmas.Bool.{eqb-true, ne_eqb, and_parts}
+use Rattle.std.proofs.lemmas.Bool.{eqb-true, ne_eqb}
 use Rattle.std.proofs.lemmas.Option.{none-some, same_Some}
 use Rattle.qqueue.specs.declared.item.Item.{Item}
 use Rattle.qtables.specs.declared.connection.Connection.{Connection}
 use Rattle.qrules.specs.Answer.{row_of, ending}
 use Rattle.qrules.specs.Delivering.{meets, receiver, receipt_by, received_of}
-use Rattle.qrules.specs.Facts.{Facts, leads_to, way, is_of_process}
+use Rattle.qrules.specs.Facts.{Facts, leads_to, way}
 use Rattle.qrules.specs.Receivers.{newest}
 use Rattle.qrules.specs.Rows.{Received, Made, asks, makes, received, receipt_in, sent_over}
 use Rattle.qrules.specs.declared.call.Call.{Call}
@@ -16,6 +16,7 @@ use Rattle.qrules.specs.declared.call.Completion.{Completion}
 use Rattle.qrules.proofs.Past.Lists.{eqb_same}
 use Rattle.qrules.proofs.Past.Laws.{IsOfOpen, IsSettled, IsReceipt, IsReceived, is_settled}
 use Rattle.qrules.proofs.Calls.Taking.{Taken, taken_by, receipt_from, receipt_in_at}
+use Rattle.qrules.proofs.Ways.{leads_over}
 
 -- what goes over a connection is the item
 pub sent_item : (o : Option Connection) (item : Item) (m : Made) → sent_over o item ≡ Some m → m.item ≡ item
@@ -43,23 +44,12 @@ met_at f item message r v y is given = rw (is, eqb_same v) given
 
 -- ---- the receipt
 
--- the channel of a way is the connection's
-way_over : (f : Facts) (t : ℕ) (o : Option Connection) (h : ℕ) → leads_to f t o ≡ Some h → (c : Connection) × (o ≡ Some c) × (c.channel ≡ h)
-way_over f t None h e = absurd (none-some h e)
-way_over f t (Some c) h e =
-    elim (is_of_process f t c.process && is_some (f.channel c.channel)) as (λ b. cond b (Some c.channel) None ≡ Some h → (d : Connection) × (Some c ≡ Some d) × (d.channel ≡ h)) [
-      | true ↦ λ is. (c, refl, same_Some c.channel h is)
-      | false ↦ λ is. absurd (none-some h is)
-    ] e
-
 -- what goes over a way goes to an open channel
 pub goes_to_open : (f : Facts) (t : ℕ) (o : Option Connection) (h : ℕ) (item : Item) (m : Made) → leads_to f t o ≡ Some h → sent_over o item ≡ Some m → is_some (f.channel m.channel) ≡ true
-goes_to_open f t None h item m e made = absurd (none-some h e)
-goes_to_open f t (Some c) h item m e made =
-    elim (is_of_process f t c.process && is_some (f.channel c.channel)) as (λ b. (is_of_process f t c.process && is_some (f.channel c.channel)) ≡ b → cond b (Some c.channel) None ≡ Some h → is_some (f.channel m.channel) ≡ true) [
-      | true ↦ λ both s. ap (λ (n : Made). is_some (f.channel n.channel)) (sym (same_Some (record { item = item; channel = c.channel }) m made)) ∙ (and_parts (is_of_process f t c.process) (is_some (f.channel c.channel)) both).1
-      | false ↦ λ both s. absurd (none-some h s)
-    ] refl e
+goes_to_open f t o h item m e made =
+    let l = leads_over f t o h e in
+    let same : record { item = item; channel = l.connection.channel } ≡ m = same_Some _ m (ap (λ x. sent_over x item) (sym l.is) ∙ made) in
+    subst (λ k. is_some (f.channel k) ≡ true) (sym l.channel ∙ ap (λ (x : Made). x.channel) same) l.is_open
 
 -- the item goes over channel h to thread v, whose call ends by y
 record Sent (f : Facts) (sender : Option ℕ) (item : Item) (message : List ℕ) (o r : Option ℕ) (q : Received) : Type 0 where
@@ -131,7 +121,7 @@ module _ (f : Facts) (t coid : ℕ) (c : Call) (item : Item) (message : List ℕ
       → (q : Received) → (row_of f t c).receipt ≡ Some q → IsReceived f t c q
   delivers_received idle makes_is sender_is q e =
       let s = sent_over_way f sender item message (way f t coid) (receiver f item (way f t coid)) q (sym receipt_is ∙ e) in
-      let over = way_over f t (f.connection coid) s.channel s.is_channel in
+      let l = leads_over f t (f.connection coid) s.channel s.is_channel in
       let other : eqb s.by t ≡ false = ne_eqb s.by t (λ same. none-some s.taken.waiting (sym idle ∙ ap f.open_call (sym same) ∙ s.taken.is)) in
       let met = met_at f item message (receiver f item (way f t coid)) s.by s.given s.is_by s.is_given in
       subst (IsReceived f t c) s.same (record {
@@ -139,7 +129,7 @@ module _ (f : Facts) (t coid : ℕ) (c : Call) (item : Item) (message : List ℕ
         number = refl;
         priority = refl;
         source = inl (record {
-          made = makes_is ∙ ap (λ o. sent_over o item) over.1 ∙ ap (λ h. Some (record { item = item; channel = h })) over.2;
+          made = makes_is ∙ ap (λ o. sent_over o item) l.is ∙ ap (λ h. Some (record { item = item; channel = h })) l.channel;
           sender_is = sender_is;
         });
         given = s.given;

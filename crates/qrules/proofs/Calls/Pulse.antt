@@ -9,7 +9,7 @@ use Rattle.qrules.specs.Rows.{pulse_item, received}
 use Rattle.qrules.specs.declared.call.Call.TheVariants.{Pulse}
 use Rattle.qrules.proofs.Past.Laws.{CallLaws, RowLaws, Passes, IsOwn}
 use Rattle.qrules.proofs.Calls.Delivering.{delivers_open, delivers_settled, delivers_receipt, delivers_received, goes_to_open, sent_item}
-use Rattle.qrules.proofs.Properties.Rows.Delivering.{pulse_way}
+use Rattle.qrules.proofs.Ways.{pulse_way}
 
 pub call_laws : (coid priority : ℕ) (code value : ℤ) → CallLaws (Pulse coid priority code value)
 call_laws coid priority code value = record {

@@ -9,7 +9,7 @@ use Rattle.qrules.specs.Rows.{message_item}
 use Rattle.qrules.specs.declared.call.Call.TheVariants.{Send}
 use Rattle.qrules.proofs.Past.Laws.{BeginsToWait, CallLaws, RowLaws, Passes}
 use Rattle.qrules.proofs.Calls.Delivering.{delivers_open, delivers_settled, delivers_receipt, delivers_received, goes_to_open, sent_item}
-use Rattle.qrules.proofs.Properties.Rows.Delivering.{has_way}
+use Rattle.qrules.proofs.Ways.{has_way}
 
 pub call_laws : (coid : ℕ) (message reply_buffer : List ℕ) → CallLaws (Send coid message reply_buffer)
 call_laws coid message reply_buffer = record {

@@ -21,7 +21,7 @@ use Rattle.qrules.specs.declared.call.Mark.TheVariants as mark
 use Rattle.qrules.specs.Cutting.{is_on}
 use Rattle.qrules.specs.Facts.{Facts, is_for_answer, message, sender, threads_of}
 use Rattle.qrules.specs.Headline.AnsweredToSender.{answered_by, is_answer, thread_of_send}
-use Rattle.qrules.specs.Rows.{Made, asks, given, makes, pulse_item}
+use Rattle.qrules.specs.Rows.{Made, asks, given, makes, pulse_item, sent_over}
 use Rattle.qrules.specs.declared.call.Call.{Call}
 use Rattle.qrules.specs.declared.call.Call.TheVariants.{ChannelCreate, ConnectAttach, Send, Receive, Reply, Error, Read, Write, Info, ReceivePulse, Pulse, PrioritySet, State, ChannelDestroy, Shutdown}
 use Rattle.qrules.specs.declared.call.Completion.{Completion}
@@ -36,7 +36,8 @@ use Rattle.qrules.proofs.Past.Laws.{Passes}
 use Rattle.qrules.proofs.Properties.Receipts.{ending_of}
 use Rattle.qrules.proofs.Calls.Taking.{given_is}
 use Rattle.qrules.proofs.Properties.Rows.Receiving.{ReceiveTakes, receive_takes}
-use Rattle.qrules.proofs.Properties.Rows.Delivering.{Meets, delivery_meets, has_way, way_leads}
+use Rattle.qrules.proofs.Properties.Rows.Delivering.{Meets, delivery_meets}
+use Rattle.qrules.proofs.Ways.{has_way, leads_over}
 
 -- ---- what answers
 
@@ -189,12 +190,12 @@ over (ForItem chid kind buffer) = 0
 send_over : (f : Facts) (t coid : ℕ) (message reply_buffer : List ℕ) → Passes f t (Send coid message reply_buffer) → SendsOver f t (Send coid message reply_buffer) coid
 send_over f t coid message reply_buffer p =
     let h = has_way f t coid p.row in
-    let l = way_leads f t coid h.0 h.1 in
+    let l = leads_over f t (f.connection coid) h.0 h.1 in
     record {
       connection = l.connection;
       is_connection = l.is;
       made = record { item = item f t; channel = l.connection.channel };
-      is_made = rw (l.is) refl;
+      is_made = ap (λ o. sent_over o (item f t)) l.is;
       channel = refl;
     }
 

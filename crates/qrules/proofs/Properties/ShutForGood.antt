@@ -1,7 +1,7 @@
 -- Nothing is received from a channel that is destroyed, and no thread is blocked on it.
 use Rattle.std.proofs.Common.{◌≡◌, ◌∙◌, ℕ, ◌+◌, ◌≤◌, List, [], ◌∷◌, length, refl, ap, sym, subst, cond, arith, eqb, Bool, true, false, inl, inr}
-use Rattle.std.specs.Prelude.{Option, None, Some, is_some, ◌&&◌, ◌||◌}
-use Rattle.std.proofs.lemmas.Bool.{eqb-true, ne_eqb, and_parts, or_cases, true≢false}
+use Rattle.std.specs.Prelude.{Option, None, Some, is_some, ◌||◌}
+use Rattle.std.proofs.lemmas.Bool.{eqb-true, ne_eqb, or_cases, true≢false}
 use Rattle.std.proofs.lemmas.Option.{none-some, same_Some}
 use Rattle.qbase.specs.declared.errno.Errno.TheVariants.{Srch}
 use Rattle.qqueue.specs.Best.{best_of}
@@ -10,7 +10,7 @@ use Rattle.qtables.specs.declared.connection.Connection.{Connection}
 use Rattle.qtables.specs.declared.member.Member.{Member}
 use Rattle.qrules.specs.Answer.{row_of, Outcome}
 use Rattle.qrules.specs.Cutting.{is_on, is_to}
-use Rattle.qrules.specs.Facts.{Facts, is_for_answer, is_of_process, leads_to, owns}
+use Rattle.qrules.specs.Facts.{Facts, is_for_answer, leads_to, owns}
 use Rattle.qrules.specs.Headline.AnsweredToSender.{channel_among}
 use Rattle.qrules.specs.Headline.BestFirst.{receives_on}
 use Rattle.qrules.specs.Headline.ShutForGood.{NoneBlockedOn, NoneReceivedFrom, ShutForGood}
@@ -36,9 +36,9 @@ use Rattle.qrules.proofs.Past.Receipts.{best_pending}
 use Rattle.qrules.proofs.Properties.Answers.{over}
 use Rattle.qrules.proofs.Properties.Events.{each_received, made_now}
 use Rattle.qrules.proofs.Properties.Receipts.{TakesOne}
-use Rattle.qrules.proofs.Properties.Rows.Delivering.{has_way}
 use Rattle.qrules.proofs.Properties.Sends.{item_channel, open_over}
 use Rattle.qrules.proofs.Properties.Waiting.{before_receipt, before_write, unless_is}
+use Rattle.qrules.proofs.Ways.{has_way, leads_over}
 
 -- ---- by each call's row
 
@@ -108,12 +108,9 @@ closing_ends f t (ChannelDestroy chid) h u o e is on =
 
 -- what leads to channel h for the thread leads to an open channel
 way_to_open : (f : Facts) (t h k : ℕ) (o : Option Connection) → leads_to f t o ≡ Some k → is_to h o ≡ true → is_some (f.channel h) ≡ true
-way_to_open f t h k None e on = absurd (none-some k e)
-way_to_open f t h k (Some c) e on =
-    elim (is_of_process f t c.process && is_some (f.channel c.channel)) as (λ b. (is_of_process f t c.process && is_some (f.channel c.channel)) ≡ b → cond b (Some c.channel) None ≡ Some k → is_some (f.channel h) ≡ true) [
-      | true ↦ λ both _. subst (λ j. is_some (f.channel j) ≡ true) (eqb-true c.channel h on) (and_parts (is_of_process f t c.process) (is_some (f.channel c.channel)) both).1
-      | false ↦ λ both s. absurd (none-some k s)
-    ] refl e
+way_to_open f t h k o e on =
+    let l = leads_over f t o k e in
+    subst (λ j. is_some (f.channel j) ≡ true) (sym l.channel ∙ eqb-true l.connection.channel h (ap (is_to h) (sym l.is) ∙ on)) l.is_open
 
 -- a receive is on a channel of the thread's process
 own_open : (f : Facts) (t chid h : ℕ) → cond (owns f t chid) None (Some Srch) ≡ None → eqb chid h ≡ true → is_some (f.channel h) ≡ true

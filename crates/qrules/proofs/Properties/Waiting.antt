@@ -38,7 +38,7 @@ use Rattle.qrules.proofs.Past.Laws.{Passes}
 use Rattle.qrules.proofs.Past.Lists.{all_append, all_filter, all_more, is_among, none_of}
 use Rattle.qrules.proofs.Properties.Receipts.{waits_for}
 use Rattle.qrules.proofs.Properties.Receivers.{WaitsOn, newest_some, newest_waits}
-use Rattle.qrules.proofs.Properties.Rows.Delivering.{has_way, pulse_way, way_leads}
+use Rattle.qrules.proofs.Ways.{has_way, leads_over, pulse_way}
 use Rattle.qrules.proofs.Rosters.{known}
 
 -- ---- what a thread waits for
@@ -126,7 +126,7 @@ delivered_at_once : (f : Facts) (t coid : ℕ) (c : Call) (item : Item) (message
     → (row_of f t c).receipt ≡ received_of f sender item message (way f t coid) (receiver f item (way f t coid)) → sent_over (f.connection coid) item ≡ Some m → is_among (threads_of f.roster) u ≡ true → f.open_call u ≡ Some o
     → waits_for o.wait ≡ Some (m.channel, kind) → may_take kind m.item ≡ true → IsReceivedAtOnce f t c m
 delivered_at_once f t coid c item message sender m u o kind h is_way receipt made among is waits may =
-    let l = way_leads f t coid h is_way in
+    let l = leads_over f t (f.connection coid) h is_way in
     let same : record { item = item; channel = l.connection.channel } ≡ m = same_Some _ m (ap (λ x. sent_over x item) (sym l.is) ∙ made) in
     let there : h ≡ m.channel = sym l.channel ∙ ap (λ (x : Made). x.channel) same in
     let it : m.item ≡ item = ap (λ (x : Made). x.item) (sym same) in

@@ -22,7 +22,7 @@ use Rattle.qrules.specs.declared.call.Call.TheVariants.{ChannelCreate, ConnectAt
 use Rattle.qrules.proofs.Past.Ends.{passes_of}
 use Rattle.qrules.proofs.Past.Follows.{past_follows}
 use Rattle.qrules.proofs.Past.Laws.{Passes}
-use Rattle.qrules.proofs.Properties.Rows.Delivering.{way_leads}
+use Rattle.qrules.proofs.Ways.{leads_over}
 
 -- ---- counts
 
@@ -108,7 +108,7 @@ limited f t Shutdown h p items less few = nothing_more items (omega (arith, less
 limited f t (Send coid message reply_buffer) h p items less few = message_more h f.number (f.priority t) (f.connection coid) items (omega (arith, less, few))
 limited f t (Pulse coid level code value) h p items less few =
     let room = finds_room f code (way f t coid) p.row in
-    let l = way_leads f t coid room.0 room.1 in
+    let l = leads_over f t (f.connection coid) room.0 room.1 in
     let x = pulse_item f.number level code value in
     subst (λ o. pulses_among (items ++ made_on h (sent_over o x)) ≤ 1024) (sym l.is) (
     elim (eqb l.connection.channel h) as (λ b. eqb l.connection.channel h ≡ b → pulses_among (items ++ cond b (x ∷ []) []) ≤ 1024) [
