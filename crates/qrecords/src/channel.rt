@@ -3,8 +3,8 @@
 ghost use Rattle.std.specs.Prelude.{◌≡◌, ◌==◌, ◌+◌, ◌≤◌, ◌<◌, ◌++◌, ◌∷◌, [], is_some, true, None, Some, if◌then◌else◌, OnOk, OnErr, IfErr, IfSome, IfNone};
 ghost use Rattle.std.specs.List.{AllByRecursion};
 ghost use Rattle.qqueue.specs.Best.{best_of, without};
-ghost use Rattle.qrules.specs.Calls.Pulse.{pulses_among};
-ghost use Rattle.qrules.specs.Facts.{is_fixed};
+ghost use Rattle.qrules.specs.Pulses.{pulses_among};
+ghost use Rattle.qrules.specs.Facts.{is_fixed, tells_unblock};
 ghost use Rattle.qrecords.specs.Channels.{channel_in, pending_in, is_of, way_in, ClosesIn, SetsItems};
 ghost use Rattle.qtables.specs.Entries.{entry_at};
 
@@ -83,6 +83,16 @@ pub fn carried(
     match channels.get(chid) {
         Some(channel) if channel.flags.fixes_priority() => None,
         _ => Some(priority),
+    }
+}
+
+/// Whether a channel has the unblock flag.
+pub fn tells_unblock(channels: &Channels<Channel>, chid: ChannelId) -> bool
+    ensures { result ≡ tells_unblock (channel_in channels.now chid) }
+{
+    match channels.get(chid) {
+        None => false,
+        Some(channel) => channel.flags.tells_unblock(),
     }
 }
 

@@ -48,9 +48,9 @@ fn reads_a_thread_of_the_roster(rt: HostRuntime) -> Result<(), Fail> {
 #[test]
 fn reads_each_form(rt: HostRuntime) -> Result<(), Fail> {
     let text =
-        b"thread 1 2 63\n\n  # all forms\n1 create 4\r\n\t1  attach 7\n1 send 8 - 3xAb\n1 receive 7 00fF\n1 reply 9 -1 05\n1 error 9 -2\n1 read 9 3 2x01\n1 write 9 4 06\n1 info 9\n1 receivepulse 7\n1 pulse 8 63 -128 -2147483648\n1 setprio 255 5\n1 state 007\n1 destroy 7\n1 shutdown".as_slice();
+        b"thread 1 2 63\n\n  # all forms\n1 create 4\r\n\t1  attach 7\n1 send 8 - 3xAb\n1 receive 7 00fF\n1 reply 9 -1 05\n1 error 9 -2\n1 read 9 3 2x01\n1 write 9 4 06\n1 info 9\n1 receivepulse 7\n1 pulse 8 63 -128 -2147483648\n1 setprio 255 5\n1 state 007\n1 destroy 7\n1 unblock 7\n1 shutdown".as_slice();
     let script = parse(rt.alloc(), text)?;
-    assert_eq!(rt; script.calls.len(), 15);
+    assert_eq!(rt; script.calls.len(), 16);
     for (thread, call) in &script.calls {
         assert_eq!(rt; thread.0, 1);
         match call {
@@ -118,6 +118,7 @@ fn reads_each_form(rt: HostRuntime) -> Result<(), Fail> {
                 assert_eq!(rt; priority.get(), 5);
             }
             Call::State(thread) => assert_eq!(rt; thread.0, 7),
+            Call::Unblock(thread) => assert_eq!(rt; thread.0, 7),
             Call::ChannelDestroy(chid) => assert_eq!(rt; chid.0, 7),
             Call::Shutdown => {}
         }
@@ -216,6 +217,9 @@ fn names_the_fault_of_a_second_line(rt: HostRuntime) -> Result<(), Fail> {
         (b"1 setprio 1 64", "line 2: bad priority"),
         (b"1 state", "line 2: word count"),
         (b"1 state 256", "line 2: bad number"),
+        (b"1 unblock", "line 2: word count"),
+        (b"1 unblock 1 1", "line 2: word count"),
+        (b"1 unblock 256", "line 2: bad number"),
         (b"1 destroy", "line 2: word count"),
         (b"1 destroy 1 1", "line 2: word count"),
         (b"1 destroy -1", "line 2: bad number"),

@@ -150,7 +150,7 @@ module _ (s : State) (t chid : ℕ) (kind : Kind) (buffer : List ℕ) (m : Membe
 
     -- what the sender of a message keeps
     abbrev pub kept : Receipt
-    kept = record { priority = item.priority; copied = laid_count buffer 0 (message_from s.threads item.number) }
+    kept = record { priority = item.priority; copied = laid_count buffer 0 (message_from s.threads item.number); unblocked = false }
 
     calls_after : (change : OpenCall → OpenCall) (u : ℕ) → cond (is_thread (sender_in s.threads item.number) u) (option_map change (open_in s.threads u)) (open_in s.threads u)
         ≡ cond (eqb u t) None (cond (is_thread (sender_in s.threads item.number) u) (option_map change (open_in s.threads u)) (open_in s.threads u))

@@ -26,7 +26,7 @@ received_at : (roster : List Member) (past : Trace) (t : ℕ) (c : Call) (X : Li
     → item_at roster (with_event t c X past) r.item ≡ Some (record { item = k.item; channel = r.channel })
 received_at roster past t c X r k a = subst (λ i. item_at roster (with_event t c X past) i ≡ Some (record { item = k.item; channel = r.channel })) k.number (elim (k.source) [
   | inl new ↦
-      let number : k.item.number ≡ length past + 1 = ((call_laws c).makes_one (facts_of roster past).connection (facts_of roster past).priority (length past + 1) t _ new.made).number in
+      let number : k.item.number ≡ length past + 1 = ((call_laws c).makes_one (facts_of roster past) t _ new.made).number in
       let made : item_of roster (record { thread = t; call = c; endings = X }) past ≡ Some (record { item = k.item; channel = r.channel }) = rw (accepted roster past t c X a) (new.made) in
       subst (λ i. item_at roster (with_event t c X past) i ≡ Some (record { item = k.item; channel = r.channel })) (sym number) (item_newest roster (record { thread = t; call = c; endings = X }) past ∙ made)
   | inr old ↦
@@ -52,7 +52,7 @@ module _ (roster : List Member) (past : Trace) (t : ℕ) (c : Call) (X : List Co
   carries_it : (r : Received) → (k : IsReceived (facts_of roster past) t c r) → cond (eqb r.by u) (carries r.item) None ≡ taken_by (facts_of roster past) (Some r) u
   carries_it r k =
       ap (λ o. cond (eqb r.by u) (carried (channel_at roster past) o) None) (item_found roster (with_event t c X past) r.item _ (received_at roster past t c X r k a))
-      ∙ ap (λ p. taken_by (facts_of roster past) (Some (record { item = r.item; channel = r.channel; by = r.by; sender = r.sender; kept = record { priority = p; copied = r.kept.copied } })) u) k.priority
+      ∙ ap (λ p. taken_by (facts_of roster past) (Some (record { item = r.item; channel = r.channel; by = r.by; sender = r.sender; kept = record { priority = p; copied = r.kept.copied; unblocked = r.kept.unblocked } })) u) k.priority
 
   -- what an ending gives is what the row's receipt does
   gives : (v : ℕ) (y : Completion) (q : ℕ × ℕ) → ending (facts_of roster past) t c v ≡ Some y → received y.mark ≡ Some q → given_by carries u y ≡ taken_by (facts_of roster past) (row_of (facts_of roster past) t c).receipt u

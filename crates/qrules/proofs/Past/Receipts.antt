@@ -117,7 +117,7 @@ best_pending roster past h kind item best = best-at (IsPending roster past h) ki
 pub received_below : (roster : List Member) (past : Trace) (t : ℕ) (c : Call) (r : Received) → IsReceived (facts_of roster past) t c r → r.item ≤ length past + 1
 received_below roster past t c r k = elim (k.source) [
   | inl new ↦
-      let number : k.item.number ≡ length past + 1 = ((call_laws c).makes_one (facts_of roster past).connection (facts_of roster past).priority (length past + 1) t _ new.made).number in
+      let number : k.item.number ≡ length past + 1 = ((call_laws c).makes_one (facts_of roster past) t _ new.made).number in
       omega (arith, k.number)
   | inr old ↦
       let below : k.item.number ≤ length past = item_below roster past k.item.number _ (best_pending roster past r.channel old.kind k.item old.best).made in

@@ -22,8 +22,9 @@ use Rattle.qrules.proofs.Past.Lists.{all_filter_map, all_more, is_among}
 use Rattle.qrules.proofs.Past.Numbers.{buffer_answer, held_for_answer, open_parts}
 use Rattle.qrules.proofs.Properties.Answers.{AnswersHeld, answers_held, answers_one, over}
 use Rattle.qrules.proofs.Properties.Events.{is_accepted_by, outcome_of}
-use Rattle.qrules.proofs.Properties.Sends.{block_sender, held_is_taken, item_channel, open_keeps, open_over}
+use Rattle.qrules.proofs.Past.Unblocked.{held_is_taken}
 use Rattle.qrules.proofs.Rosters.{known}
+use Rattle.qrules.proofs.Properties.Sends.{block_sender, item_channel, open_keeps, open_over}
 
 -- ---- each answer is one to the message that the call names
 

@@ -45,11 +45,11 @@ meets_parts f item message (Some v) u y e =
       | false ↦ λ other s. absurd (none-some y s)
     ] refl e
 
--- thread u waits on the connection's channel, is the newest that does and may take the item, and its call ends by taking it
-pub record Meets (f : Facts) (t coid : ℕ) (item : Item) (message : List ℕ) (u : ℕ) (y : Completion) : Type 0 where
+-- thread u waits on the channel, is the newest that does and may take the item, and its call ends by taking it
+pub record Meets (f : Facts) (o : Option ℕ) (item : Item) (message : List ℕ) (u : ℕ) (y : Completion) : Type 0 where
   pub channel : ℕ
-  pub leads : Leads f (f.connection coid) channel
-  pub is_newest : receiver f item (way f t coid) ≡ Some u
+  pub leads : o ≡ Some channel
+  pub is_newest : receiver f item o ≡ Some u
   pub waiting : OpenCall
   pub kind : Kind
   pub buffer : List ℕ
@@ -64,19 +64,16 @@ awaited (Answer coid sent reply_buffer receipt) = reply_buffer
 awaited (ForItem chid kind buffer) = buffer
 
 -- the channel of the receiver
-over : (f : Facts) (t coid : ℕ) (item : Item) (u : ℕ) → receiver f item (way f t coid) ≡ Some u → (h : ℕ) × Leads f (f.connection coid) h × WaitsOn h item (f.open_call u)
-over f t coid item u e =
-    elim (way f t coid) as (λ o. way f t coid ≡ o → receiver f item o ≡ Some u → (h : ℕ) × Leads f (f.connection coid) h × WaitsOn h item (f.open_call u)) [
-      | None ↦ λ w s. absurd (none-some u s)
-      | Some h ↦ λ w s. (h, leads_over f t (f.connection coid) h w, newest_waits f h item u s)
-    ] refl e
+over : (f : Facts) (o : Option ℕ) (item : Item) (u : ℕ) → receiver f item o ≡ Some u → (h : ℕ) × (o ≡ Some h) × WaitsOn h item (f.open_call u)
+over f None item u e = absurd (none-some u e)
+over f (Some h) item u e = (h, refl, newest_waits f h item u e)
 
-pub delivery_meets : (f : Facts) (t coid : ℕ) (item : Item) (message : List ℕ) (u : ℕ) (y : Completion) → meets f item message (receiver f item (way f t coid)) u ≡ Some y → Meets f t coid item message u y
-delivery_meets f t coid item message u y e =
-    let p = meets_parts f item message (receiver f item (way f t coid)) u y e in
-    let w = over f t coid item u p.0 in
+pub delivery_meets : (f : Facts) (o : Option ℕ) (item : Item) (message : List ℕ) (u : ℕ) (y : Completion) → meets f item message (receiver f item o) u ≡ Some y → Meets f o item message u y
+delivery_meets f o item message u y e =
+    let p = meets_parts f item message (receiver f item o) u y e in
+    let w = over f o item u p.0 in
     let same : p.1.waiting ≡ w.2.waiting = same_Some _ _ (sym p.1.is_open ∙ w.2.is_open) in
-    let wait : ForItem p.1.chid p.1.kind p.1.buffer ≡ ForItem w.0 w.2.kind w.2.buffer = sym p.1.waits ∙ ap (λ o. o.wait) same ∙ w.2.waits in
+    let wait : ForItem p.1.chid p.1.kind p.1.buffer ≡ ForItem w.0 w.2.kind w.2.buffer = sym p.1.waits ∙ ap (λ v. v.wait) same ∙ w.2.waits in
     record {
       channel = w.0;
       leads = w.1;
@@ -87,5 +84,5 @@ delivery_meets f t coid item message u y e =
       is_open = w.2.is_open;
       waits = w.2.waits;
       may = w.2.may;
-      ending = subst (λ b. taking item message u w.2.waiting.number b ≡ y) (ap awaited wait) (subst (λ (o : OpenCall). taking item message u o.number p.1.buffer ≡ y) same p.1.ending);
+      ending = subst (λ b. taking item message u w.2.waiting.number b ≡ y) (ap awaited wait) (subst (λ (v : OpenCall). taking item message u v.number p.1.buffer ≡ y) same p.1.ending);
     }
