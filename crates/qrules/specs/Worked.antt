@@ -1,6 +1,22 @@
 -- Runs written out by hand, with what each call of them has to answer.
 pub mod Runs
+pub mod Setting
 pub mod FirstRun
 pub mod GreatestFirst
 pub mod WaitingReceiver
 pub mod Refusals
+pub mod HeldMessage
+pub mod AnsweredWithCode
+pub mod OthersMessages
+pub mod OneOrder
+pub mod PulsesAlone
+pub mod NewestReceiver
+pub mod RefusedPulses
+pub mod PriorityTaken
+pub mod PriorityGiven
+pub mod ThreadsStates
+pub mod StaleId
+pub mod Unblocked
+pub mod UnblockPulse
+pub mod DestroyedChannel
+pub mod ShutDown

@@ -1,0 +1,21 @@
+-- An offset at the end or past it copies nothing. A message is answered with a code and no bytes, and by the code 0 as by a reply of status 0.
+use Rattle.std.specs.Prelude.{List, [], ◌∷◌, pos}
+use Rattle.qrules.specs.declared.call.Call.TheVariants.{Send, Receive, Error, Read, Write}
+use Rattle.qrules.specs.declared.call.Mark.TheVariants as mark
+use Rattle.qrules.specs.Trace.{Event}
+use Rattle.qrules.specs.Worked.Runs.{event, ended}
+use Rattle.qrules.specs.Worked.Setting.{connected}
+
+-- nine calls, of both threads of the server
+abbrev pub events : List Event
+events = connected (
+    event 2 (Send 2 (1 ∷ 2 ∷ []) (0 ∷ 0 ∷ [])) []
+    ∷ event 1 (Receive 1 []) (ended 4 1 (mark.Message 3 0) [] ∷ [])
+    ∷ event 1 (Write 3 18446744073709551615 (255 ∷ [])) (ended 5 1 (mark.Count 0) [] ∷ [])
+    ∷ event 1 (Read 3 2 (170 ∷ [])) (ended 6 1 (mark.Count 0) (170 ∷ []) ∷ [])
+    ∷ event 1 (Write 3 1 (170 ∷ 187 ∷ [])) (ended 7 1 (mark.Count 1) [] ∷ [])
+    ∷ event 4 (Error 3 (pos 5)) (ended 3 2 (mark.Errored (pos 5)) (0 ∷ 170 ∷ []) ∷ ended 8 4 mark.Ok [] ∷ [])
+    ∷ event 3 (Send 2 (1 ∷ []) (9 ∷ [])) []
+    ∷ event 4 (Receive 1 []) (ended 10 4 (mark.Message 9 0) [] ∷ [])
+    ∷ event 1 (Error 9 (pos 0)) (ended 11 1 mark.Ok [] ∷ ended 9 3 (mark.Replied (pos 0) 0) (9 ∷ []) ∷ [])
+    ∷ [])

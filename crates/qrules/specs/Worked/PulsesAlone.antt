@@ -1,0 +1,24 @@
+-- A receive that takes pulses alone takes a pulse though a message was sent before it, and waits though a message is pending.
+use Rattle.std.specs.Prelude.{List, [], ◌∷◌, pos}
+use Rattle.qbase.specs.declared.state.ThreadState.TheVariants.{ReceiveBlocked, ReplyBlocked}
+use Rattle.qqueue.specs.declared.item.What.TheVariants as what
+use Rattle.qrules.specs.declared.call.Call.TheVariants.{Send, Receive, ReceivePulse, Pulse}
+use Rattle.qrules.specs.declared.call.Mark.TheVariants as mark
+use Rattle.qrules.specs.declared.open_call.Blocked.{Blocked}
+use Rattle.qrules.specs.Trace.{Event}
+use Rattle.qrules.specs.Worked.Runs.{event, ended, blocked}
+use Rattle.qrules.specs.Worked.Setting.{connected}
+
+-- a message and a pulse, and three receives
+abbrev pub events : List Event
+events = connected (
+    event 2 (Send 2 (170 ∷ []) []) []
+    ∷ event 3 (Pulse 2 20 (pos 127) (pos 0)) (ended 4 3 mark.Ok [] ∷ [])
+    ∷ event 1 (ReceivePulse 1) (ended 5 1 (mark.Pulse 4 20 (what.User (pos 127) (pos 0))) [] ∷ [])
+    ∷ event 4 (ReceivePulse 1) []
+    ∷ event 1 (Receive 1 (0 ∷ [])) (ended 7 1 (mark.Message 3 1) (170 ∷ []) ∷ [])
+    ∷ [])
+
+-- the client waits for its answer, and the second receive for a pulse
+abbrev pub still_waiting : List Blocked
+still_waiting = blocked 3 2 (ReplyBlocked 1) ∷ blocked 6 4 (ReceiveBlocked 1) ∷ []
