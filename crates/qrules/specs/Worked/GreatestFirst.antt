@@ -1,26 +1,22 @@
--- Of two messages the server receives the one of greater priority first, though it was sent later.
+-- Of the messages that are pending the server receives the one of greatest priority first, and among equals the one that was sent first.
 use Rattle.std.specs.Prelude.{List, [], ◌∷◌}
-use Rattle.qtables.specs.declared.member.Member.{Member}
-use Rattle.qrules.specs.declared.call.Call.TheVariants.{ChannelCreate, ConnectAttach, Send, Receive}
+use Rattle.qbase.specs.declared.state.ThreadState.TheVariants.{ReplyBlocked}
+use Rattle.qrules.specs.declared.call.Call.TheVariants.{ConnectAttach, Send, Receive}
 use Rattle.qrules.specs.declared.call.Mark.TheVariants as mark
+use Rattle.qrules.specs.declared.open_call.Blocked.{Blocked}
 use Rattle.qrules.specs.Trace.{Event}
-use Rattle.qrules.specs.Worked.Runs.{member, event, ended, flags_of, with_endings}
+use Rattle.qrules.specs.Worked.Runs.{event, ended, blocked, with_endings}
+use Rattle.qrules.specs.Worked.Setting.{connected}
 
--- two processes of two threads each
-abbrev pub roster : List Member
-roster = member 1 1 10 ∷ member 2 2 20 ∷ member 3 2 20 ∷ member 4 1 10 ∷ []
-
--- seven calls
+-- of two messages the later has the greater priority
 abbrev pub events : List Event
-events =
-    event 1 (ChannelCreate (flags_of 0)) (ended 1 1 (mark.Channel 1) [] ∷ [])
-    ∷ event 2 (ConnectAttach 1) (ended 2 2 (mark.Connection 2) [] ∷ [])
-    ∷ event 4 (ConnectAttach 1) (ended 3 4 (mark.Connection 3) [] ∷ [])
+events = connected (
+    event 4 (ConnectAttach 1) (ended 3 4 (mark.Connection 3) [] ∷ [])
     ∷ event 4 (Send 3 [] []) []
     ∷ event 2 (Send 2 [] []) []
     ∷ event 1 (Receive 1 []) (ended 6 1 (mark.Message 5 0) [] ∷ [])
     ∷ event 1 (Receive 1 []) (ended 7 1 (mark.Message 4 0) [] ∷ [])
-    ∷ []
+    ∷ [])
 
 -- the second Receive doesn't end
 abbrev pub one_left_out : List Event
@@ -41,3 +37,19 @@ thread_changed = with_endings 6 (ended 6 4 (mark.Message 5 0) [] ∷ []) events
 -- the first Receive ends only with the second
 abbrev pub one_moved : List Event
 one_moved = with_endings 6 [] (with_endings 7 (ended 6 1 (mark.Message 5 0) [] ∷ ended 7 1 (mark.Message 4 0) [] ∷ []) events)
+
+-- two of three messages are of equal priority
+abbrev pub ties : List Event
+ties = connected (
+    event 4 (ConnectAttach 1) (ended 3 4 (mark.Connection 3) [] ∷ [])
+    ∷ event 4 (Send 3 (1 ∷ []) []) []
+    ∷ event 2 (Send 2 (2 ∷ []) []) []
+    ∷ event 3 (Send 2 (3 ∷ []) []) []
+    ∷ event 1 (Receive 1 (0 ∷ [])) (ended 7 1 (mark.Message 5 1) (2 ∷ []) ∷ [])
+    ∷ event 1 (Receive 1 (0 ∷ [])) (ended 8 1 (mark.Message 6 1) (3 ∷ []) ∷ [])
+    ∷ event 1 (Receive 1 (0 ∷ [])) (ended 9 1 (mark.Message 4 1) (1 ∷ []) ∷ [])
+    ∷ [])
+
+-- all three are held then
+abbrev pub all_wait : List Blocked
+all_wait = blocked 5 2 (ReplyBlocked 1) ∷ blocked 6 3 (ReplyBlocked 1) ∷ blocked 4 4 (ReplyBlocked 1) ∷ []

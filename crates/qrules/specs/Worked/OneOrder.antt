@@ -1,4 +1,4 @@
--- Messages and pulses wait in one order: of equal priority the one is received first that was sent first.
+-- Messages and pulses wait in one order: the greatest priority first, and among equals the one that was sent first.
 use Rattle.std.specs.Prelude.{List, [], ◌∷◌, pos, negsuc}
 use Rattle.qbase.specs.declared.state.ThreadState.TheVariants.{ReplyBlocked}
 use Rattle.qqueue.specs.declared.item.What.TheVariants as what
@@ -31,3 +31,14 @@ message_first = connected (
 -- only the client is blocked then, as its message is held
 abbrev pub waits_for_answer : List Blocked
 waits_for_answer = blocked 3 2 (ReplyBlocked 1) ∷ []
+
+-- a message, and then pulses of lesser and of greater priority
+abbrev pub greater_first : List Event
+greater_first = connected (
+    event 2 (Send 2 (170 ∷ []) []) []
+    ∷ event 3 (Pulse 2 19 (pos 1) (pos 0)) (ended 4 3 mark.Ok [] ∷ [])
+    ∷ event 3 (Pulse 2 21 (pos 2) (pos 0)) (ended 5 3 mark.Ok [] ∷ [])
+    ∷ event 1 (Receive 1 (0 ∷ [])) (ended 6 1 (mark.Pulse 5 21 (what.User (pos 2) (pos 0))) (0 ∷ []) ∷ [])
+    ∷ event 1 (Receive 1 (0 ∷ [])) (ended 7 1 (mark.Message 3 1) (170 ∷ []) ∷ [])
+    ∷ event 1 (Receive 1 (0 ∷ [])) (ended 8 1 (mark.Pulse 4 19 (what.User (pos 1) (pos 0))) (0 ∷ []) ∷ [])
+    ∷ [])

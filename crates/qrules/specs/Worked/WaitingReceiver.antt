@@ -1,10 +1,11 @@
 -- A server that waits takes a message as it is sent; what is copied goes over the front of its buffer, and the reply over the front of the
 -- sender's.
-use Rattle.std.specs.Prelude.{ℕ, List, [], ◌∷◌, replicate, pos}
-use Rattle.qrules.specs.declared.call.Call.TheVariants.{ChannelCreate, ConnectAttach, Send, Receive, Reply}
+use Rattle.std.specs.Prelude.{List, [], ◌∷◌, ℕ, replicate, pos}
+use Rattle.qrules.specs.declared.call.Call.TheVariants.{Send, Receive, Reply}
 use Rattle.qrules.specs.declared.call.Mark.TheVariants as mark
 use Rattle.qrules.specs.Trace.{Event}
-use Rattle.qrules.specs.Worked.Runs.{event, ended, flags_of}
+use Rattle.qrules.specs.Worked.Runs.{event, ended}
+use Rattle.qrules.specs.Worked.Setting.{connected}
 
 -- the bytes 68 65 6c 6c 6f
 abbrev pub hello : List ℕ
@@ -14,12 +15,10 @@ hello = 104 ∷ 101 ∷ 108 ∷ 108 ∷ 111 ∷ []
 abbrev pub hello_over : List ℕ
 hello_over = 104 ∷ 101 ∷ 108 ∷ 108 ∷ 111 ∷ 170 ∷ 170 ∷ 170 ∷ []
 
--- five calls
+-- three calls
 abbrev pub events : List Event
-events =
-    event 1 (ChannelCreate (flags_of 0)) (ended 1 1 (mark.Channel 1) [] ∷ [])
-    ∷ event 2 (ConnectAttach 1) (ended 2 2 (mark.Connection 2) [] ∷ [])
-    ∷ event 1 (Receive 1 (replicate 8 170)) []
+events = connected (
+    event 1 (Receive 1 (replicate 8 170)) []
     ∷ event 2 (Send 2 hello (replicate 4 0)) (ended 3 1 (mark.Message 4 5) hello_over ∷ [])
     ∷ event 1 (Reply 4 (pos 0) (255 ∷ [])) (ended 5 1 mark.Ok [] ∷ ended 4 2 (mark.Replied (pos 0) 1) (255 ∷ 0 ∷ 0 ∷ 0 ∷ []) ∷ [])
-    ∷ []
+    ∷ [])

@@ -1,0 +1,24 @@
+-- What doesn't fit a buffer is cut: a message that is received, bytes that are written, and a reply.
+use Rattle.std.specs.Prelude.{List, [], ◌∷◌, pos, negsuc}
+use Rattle.qrules.specs.declared.call.Call.TheVariants.{Send, Receive, Reply, Write}
+use Rattle.qrules.specs.declared.call.Mark.TheVariants as mark
+use Rattle.qrules.specs.Trace.{Event}
+use Rattle.qrules.specs.Worked.Runs.{event, ended}
+use Rattle.qrules.specs.Worked.Setting.{connected}
+
+-- four calls
+abbrev pub events : List Event
+events = connected (
+    event 2 (Send 2 (1 ∷ 2 ∷ 3 ∷ 4 ∷ 5 ∷ []) (204 ∷ 204 ∷ 204 ∷ [])) []
+    ∷ event 1 (Receive 1 (0 ∷ 0 ∷ [])) (ended 4 1 (mark.Message 3 2) (1 ∷ 2 ∷ []) ∷ [])
+    ∷ event 1 (Write 3 2 (6 ∷ 7 ∷ [])) (ended 5 1 (mark.Count 1) [] ∷ [])
+    ∷ event 1 (Reply 3 (negsuc 4) (170 ∷ 187 ∷ [])) (ended 6 1 mark.Ok [] ∷ ended 3 2 (mark.Replied (negsuc 4) 2) (170 ∷ 187 ∷ 6 ∷ []) ∷ [])
+    ∷ [])
+
+-- a reply that is longer than the sender's buffer
+abbrev pub reply_cut : List Event
+reply_cut = connected (
+    event 2 (Send 2 [] (204 ∷ 204 ∷ 204 ∷ [])) []
+    ∷ event 1 (Receive 1 (9 ∷ 9 ∷ [])) (ended 4 1 (mark.Message 3 0) (9 ∷ 9 ∷ []) ∷ [])
+    ∷ event 1 (Reply 3 (pos 7) (170 ∷ 187 ∷ 204 ∷ 221 ∷ [])) (ended 5 1 mark.Ok [] ∷ ended 3 2 (mark.Replied (pos 7) 3) (170 ∷ 187 ∷ 204 ∷ []) ∷ [])
+    ∷ [])

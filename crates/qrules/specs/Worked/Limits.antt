@@ -1,0 +1,52 @@
+-- What is answered at a limit: 64 open channels, 1,024 live connections, and 1,024 pulses that are pending on a channel.
+use Rattle.std.specs.Prelude.{◌≡◌, ℕ, ◌+◌, List, [], ◌∷◌, replicate, pos}
+use Rattle.qbase.specs.declared.errno.Errno.{Errno}
+use Rattle.qqueue.specs.declared.item.Item.{Item}
+use Rattle.qrules.specs.declared.call.Call.{Call}
+use Rattle.qrules.specs.declared.call.Call.TheVariants.{ChannelCreate}
+use Rattle.qrules.specs.declared.call.Completion.{Completion}
+use Rattle.qrules.specs.declared.call.Mark.TheVariants as mark
+use Rattle.qrules.specs.Answer.{Answers}
+use Rattle.qrules.specs.Buffers.{buffer_of}
+use Rattle.qrules.specs.Facts.{Facts}
+use Rattle.qrules.specs.Lawful.{facts_of, followed_by}
+use Rattle.qrules.specs.Rows.{pulse_item}
+use Rattle.qrules.specs.Trace.{Event}
+use Rattle.qrules.specs.Worked.Runs.{event, ended, flags_of}
+use Rattle.qrules.specs.Worked.Setting.{roster, connected}
+use Rattle.qrules.specs.Worked.UnblockPulse.{held}
+
+-- what may be read after these events
+abbrev pub facts_after : List Event → Facts
+facts_after events = facts_of roster (followed_by [] events)
+
+-- the call is answered by a refusal with this error, and by nothing else
+abbrev pub IsRefusedWith : Facts → ℕ → Call → Errno → Type 0
+IsRefusedWith f t c e =
+    Answers f t c (ended f.number t (mark.Failed e) (buffer_of c) ∷ [])
+    × ((endings : List Completion) → Answers f t c endings → endings ≡ ended f.number t (mark.Failed e) (buffer_of c) ∷ [])
+
+-- k channels are created, by the calls from n on
+abbrev pub creations : ℕ → ℕ → List Event
+creations n Prim.Native.Nat.zero = []
+creations n (Prim.Native.Nat.suc k) = event 1 (ChannelCreate (flags_of 0)) (ended n 1 (mark.Channel n) [] ∷ []) ∷ creations (n + 1) k
+
+-- a run after which 64 channels are open
+abbrev pub channels : List Event
+channels = connected (creations 3 63)
+
+-- the facts where so many connections are live
+abbrev pub with_connections : ℕ → Facts
+with_connections n = record (facts_after (connected [])) { live_connections = n }
+
+-- so many pulses
+abbrev pub pulses : ℕ → ℕ → List Item
+pulses n h = replicate n (pulse_item 0 1 (pos 0) (pos 0))
+
+-- the facts where so many pulses are pending on each channel
+abbrev pub with_pulses : ℕ → Facts
+with_pulses n = record (facts_after (connected [])) { pending = pulses n }
+
+-- the same where a message is held on a channel with the unblock flag
+abbrev pub held_with_pulses : ℕ → Facts
+held_with_pulses n = record (facts_after (held [])) { pending = pulses n }
