@@ -6,7 +6,7 @@ use Rattle.qrules.specs.Trace.{Event}
 use Rattle.qrules.specs.Worked.Runs.{event, ended}
 use Rattle.qrules.specs.Worked.Setting.{connected}
 
--- four calls
+-- a message of five bytes is received into two, and three are kept for its answer
 abbrev pub events : List Event
 events = connected (
     event 2 (Send 2 (1 ∷ 2 ∷ 3 ∷ 4 ∷ 5 ∷ []) (204 ∷ 204 ∷ 204 ∷ [])) []

@@ -9,7 +9,7 @@ use Rattle.qrules.specs.Trace.{Event}
 use Rattle.qrules.specs.Worked.Runs.{event, ended}
 use Rattle.qrules.specs.Worked.Setting.{connected}
 
--- a pulse is received, and a fellow thread sets the receiver's priority; what another process sets is refused, and what is told of no thread
+-- a pulse is received, and a fellow thread sets the receiver's priority; another process can't
 abbrev pub events : List Event
 events = connected (
     event 1 (Receive 1 []) []
@@ -21,4 +21,6 @@ events = connected (
     ∷ event 2 (PrioritySet 1 5) (ended 9 2 (mark.Failed Srch) [] ∷ [])
     ∷ event 2 (PrioritySet 9 5) (ended 10 2 (mark.Failed Srch) [] ∷ [])
     ∷ event 2 (State 9) (ended 11 2 (mark.Failed Srch) [] ∷ [])
+    ∷ event 1 (State 1) (ended 12 1 (mark.State Ready 12) [] ∷ [])
+    ∷ event 1 (State 4) (ended 13 1 (mark.State Ready 10) [] ∷ [])
     ∷ [])

@@ -7,8 +7,7 @@ use Rattle.qrules.specs.Trace.{Event}
 use Rattle.qrules.specs.Worked.Runs.{event, ended, flags_of}
 use Rattle.qrules.specs.Worked.Setting.{connected}
 
--- a Receive on another process's channel, a Send over another process's connection, an attachment to no channel, a flag that is none, a
--- Reply to no message, a Send, a call of the thread that is blocked in it, and a Reply to its message, which isn't received
+-- eight refused calls, a Send among them that is accepted, and the receipt of its message
 abbrev pub events : List Event
 events = connected (
     event 2 (Receive 1 (7 ∷ 8 ∷ [])) (ended 3 2 (mark.Failed Srch) (7 ∷ 8 ∷ []) ∷ [])
@@ -19,4 +18,6 @@ events = connected (
     ∷ event 2 (Send 2 (1 ∷ []) (9 ∷ [])) []
     ∷ event 2 (Receive 1 (7 ∷ 8 ∷ [])) (ended 9 2 (mark.Failed Busy) (7 ∷ 8 ∷ []) ∷ [])
     ∷ event 1 (Reply 8 (pos 0) (1 ∷ [])) (ended 10 1 (mark.Failed Srch) [] ∷ [])
+    ∷ event 1 (Receive 6 (7 ∷ [])) (ended 11 1 (mark.Failed Srch) (7 ∷ []) ∷ [])
+    ∷ event 1 (Receive 1 (7 ∷ [])) (ended 12 1 (mark.Message 8 1) (1 ∷ []) ∷ [])
     ∷ [])

@@ -1,13 +1,13 @@
 -- Pulses with a negative code or over another process's connection, and what is asked of another process's channel.
 use Rattle.std.specs.Prelude.{List, [], ◌∷◌, pos, negsuc}
 use Rattle.qbase.specs.declared.errno.Errno.TheVariants.{Srch, Badf, Inval}
-use Rattle.qrules.specs.declared.call.Call.TheVariants.{ReceivePulse, Pulse, ChannelDestroy}
+use Rattle.qrules.specs.declared.call.Call.TheVariants.{Receive, ReceivePulse, Pulse, ChannelDestroy}
 use Rattle.qrules.specs.declared.call.Mark.TheVariants as mark
 use Rattle.qrules.specs.Trace.{Event}
 use Rattle.qrules.specs.Worked.Runs.{event, ended}
 use Rattle.qrules.specs.Worked.Setting.{connected}
 
--- calls of which none is accepted
+-- calls of which none is accepted, and a Receive that finds the channel open and no pulse
 abbrev pub events : List Event
 events = connected (
     event 2 (Pulse 2 20 (negsuc 0) (pos 0)) (ended 3 2 (mark.Failed Inval) [] ∷ [])
@@ -16,4 +16,5 @@ events = connected (
     ∷ event 2 (ReceivePulse 1) (ended 6 2 (mark.Failed Srch) [] ∷ [])
     ∷ event 2 (ChannelDestroy 1) (ended 7 2 (mark.Failed Inval) [] ∷ [])
     ∷ event 1 (ChannelDestroy 9) (ended 8 1 (mark.Failed Inval) [] ∷ [])
+    ∷ event 1 (Receive 1 []) []
     ∷ [])

@@ -39,6 +39,8 @@ pub fn priority_given()
     ensures set_by_others { EndsOnlySo roster given.events 9 }
     ensures set_for_none { EndsOnlySo roster given.events 10 }
     ensures told_of_none { EndsOnlySo roster given.events 11 }
+    ensures not_set { EndsOnlySo roster given.events 12 }
+    ensures fellow { EndsOnlySo roster given.events 13 }
 {}
 
 /// What is told of a thread's state.

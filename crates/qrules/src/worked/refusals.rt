@@ -24,6 +24,8 @@ pub fn refusals()
     ensures accepted { EndsOnlySoWithMemory roster refusals.events 8 }
     ensures busy { EndsOnlySo roster refusals.events 9 }
     ensures answered_too_early { EndsOnlySo roster refusals.events 10 }
+    ensures not_created { EndsOnlySo roster refusals.events 11 }
+    ensures still_pending { EndsOnlySo roster refusals.events 12 }
 {}
 
 /// Work on a message that isn't held, or that another process holds, is refused.
@@ -49,6 +51,7 @@ pub fn refused_pulses()
     ensures others_channel { EndsOnlySo roster refused_pulses.events 6 }
     ensures destroyed_by_others { EndsOnlySo roster refused_pulses.events 7 }
     ensures none_destroyed { EndsOnlySo roster refused_pulses.events 8 }
+    ensures waits { EndsOnlySo roster refused_pulses.events 9 }
 {}
 
 /// What is answered at a limit, and just below it.
