@@ -37,7 +37,7 @@ same_sum a b x y p q = omega (arith, p, q)
 
 follows_once : (f g k : Facts) (t : ℕ) (c : Call) (accept : Bool) → Follows f t c accept g → Follows f t c accept k → g ≡ k
 follows_once f g k t c accept a b = same_facts g k (a.roster ∙ sym b.roster) (a.number ∙ sym b.number) (a.down ∙ sym b.down) (λ h. a.channel h ∙ sym (b.channel h)) (same_sum _ _ _ _ a.open_channels b.open_channels)
-    (λ x. a.connection x ∙ sym (b.connection x)) (a.live_connections ∙ sym b.live_connections) (λ u. a.open_call u ∙ sym (b.open_call u)) (λ h. a.pending h ∙ sym (b.pending h)) (λ u. a.priority u ∙ sym (b.priority u))
+    (λ x. a.connection x ∙ sym (b.connection x)) (same_sum _ _ _ _ a.live_connections b.live_connections) (λ u. a.open_call u ∙ sym (b.open_call u)) (λ h. a.pending h ∙ sym (b.pending h)) (λ u. a.priority u ∙ sym (b.priority u))
 
 pub stands_facts : (roster : List Member) (s : State) (past : Trace) → StandsAt roster s past → facts_in s ≡ facts_of roster past
 stands_facts roster s past st = same_facts _ _ st.roster_is (ap (λ n. n + 1) st.made) st.down st.channel st.open_channels st.connection st.live_connections st.open_call st.pending st.priority
@@ -98,7 +98,7 @@ ready_length [] = refl
 ready_length (m ∷ roster) = ap suc (ready_length roster)
 
 pub sound_new : (roster : List Member) → length roster ≤ 64 → IsRoster roster → IsSound (record { made = 0; down = false; threads = map ready roster; channels = []; connections = [] })
-sound_new roster few r = record { few = rw (ready_length roster) few; roster = rw (ready_members roster) r; channel_ids = tt; connection_ids = tt; items = λ h. tt }
+sound_new roster few r = record { few = rw (ready_length roster) few; roster = rw (ready_members roster) r; channel_ids = tt; connection_ids = tt; connections = (tt, tt); items = λ h. tt }
 
 pub stands_new : (roster : List Member) → StandsAt roster (record { made = 0; down = false; threads = map ready roster; channels = []; connections = [] }) []
 stands_new roster = record {

@@ -14,8 +14,10 @@ pub mod Info
 pub mod PrioritySet
 pub mod State
 pub mod Cutting
+pub mod Meeting
 pub mod Telling
 pub mod Pulse
 pub mod Unblock
+pub mod ConnectDetach
 pub mod ChannelDestroy
 pub mod Shutdown

@@ -1,7 +1,7 @@
 -- What a kernel contains.
-use Rattle.std.specs.Prelude.{ℕ, ◌+◌, ◌≤◌, Bool, List, length}
+use Rattle.std.specs.Prelude.{ℕ, ◌+◌, ◌≤◌, ◌<◌, Bool, List, length}
 use Rattle.std.specs.List.{AllByRecursion}
-use Rattle.qtables.specs.Entries.{entry_at}
+use Rattle.qtables.specs.Entries.{entry_at, IsRising}
 use Rattle.qtables.specs.Members.{IsRoster}
 use Rattle.qtables.specs.declared.connection.Connection.{Connection}
 use Rattle.qrecords.specs.declared.channel.Channel.{Channel}
@@ -33,10 +33,12 @@ facts_in s = record {
   priority = λ t. level_in s.threads t;
 }
 
--- there are at most 64 threads, in rising number, and no channel, connection or item has the number of a call to come
+-- there are at most 64 threads, in rising number, connections stand in rising id from 1 on, and no channel, connection or item has the number of a
+-- call to come
 pub record IsSound (s : State) : Type 0 where
   pub few : length s.threads ≤ 64
   pub roster : IsRoster (members_of s.threads)
   pub channel_ids : AllByRecursion (λ id. id ≤ s.made) (ids_of s.channels)
   pub connection_ids : AllByRecursion (λ e. e.0 ≤ s.made) s.connections
+  pub connections : AllByRecursion (λ e. 0 < e.0) s.connections × IsRising s.connections
   pub items : (h : ℕ) → AllByRecursion (λ item. item.number ≤ s.made) (pending_in s.channels h)

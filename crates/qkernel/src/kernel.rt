@@ -8,6 +8,7 @@ mod blocked;
 mod channel_create;
 mod channel_destroy;
 mod connect_attach;
+mod connect_detach;
 mod error;
 mod info;
 mod priority_set;
@@ -153,6 +154,7 @@ impl Kernel {
             Call::ChannelDestroy(chid) => self.channel_destroy(seat, thread, chid, endings),
             Call::Shutdown => self.shutdown(thread, endings),
             Call::Unblock(target) => self.unblock(seat, thread, target, endings),
+            Call::ConnectDetach(coid) => self.connect_detach(seat, thread, coid, endings),
         }
     }
 

@@ -1,5 +1,6 @@
 pub mod Seats
 pub mod Senders
 pub mod Receivers
+pub mod Inserting
 pub mod ChannelWrites
 pub mod Cuts

@@ -35,6 +35,11 @@ abbrev pub way_in : ℕ → List (ℕ × Channel) → Option Connection → Opti
 way_in p channels None = None
 way_in p channels (Some c) = if (p == c.process) && is_some (channel_in channels c.channel) then Some c.channel else None
 
+-- the channel of this connection, where it is one of this process
+abbrev pub own_channel_in : ℕ → Option Connection → Option ℕ
+own_channel_in p None = None
+own_channel_in p (Some c) = if p == c.process then Some c.channel else None
+
 -- the ids of the open channels
 abbrev pub ids_of : List (ℕ × Channel) → List ℕ
 ids_of channels = map (λ e. e.0) channels

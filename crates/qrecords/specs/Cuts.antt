@@ -8,11 +8,11 @@ use Rattle.qrules.specs.declared.call.Completion.{Completion}
 use Rattle.qrules.specs.declared.open_call.OpenCall.{OpenCall}
 use Rattle.qrules.specs.declared.open_call.Wait.{Wait}
 use Rattle.qrules.specs.declared.open_call.Wait.TheVariants.{Answer, Item as ForItem}
-use Rattle.qrules.specs.Cutting.{is_on, is_unread_send, cut_where}
+use Rattle.qrules.specs.Cutting.{is_on, is_over, is_unread_send, cut_where}
 use Rattle.qrules.specs.Facts.{threads_of}
 use Rattle.qrecords.specs.declared.channel.Channel.{Channel}
 use Rattle.qrecords.specs.declared.cutting.Cut.{Cut}
-use Rattle.qrecords.specs.declared.cutting.Cut.TheVariants.{On, All, Of}
+use Rattle.qrecords.specs.declared.cutting.Cut.TheVariants.{On, All, Of, Over}
 use Rattle.qrecords.specs.declared.thread.Thread.{Thread}
 use Rattle.qrecords.specs.Channels.{ids_of, channel_in, pending_in}
 use Rattle.qrecords.specs.Threads.{members_of, open_in, level_in}
@@ -22,6 +22,7 @@ abbrev pub is_cut_by : (ℕ → Option Connection) → Cut → ℕ → Wait → 
 is_cut_by connection (On chid) u wait = is_on connection chid wait
 is_cut_by connection All u wait = true
 is_cut_by connection (Of thread) u wait = u == thread
+is_cut_by connection (Over coid) u wait = is_over coid wait
 
 -- how the call of thread u ends: the caller's own so, and another's if it is cut
 abbrev pub ending_for : (ℕ → Option Connection) → Cut → Errno → Completion → ℕ → Option OpenCall → Option Completion

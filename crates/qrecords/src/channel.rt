@@ -1,11 +1,11 @@
 //! What the kernel keeps of an open channel.
 
-ghost use Rattle.std.specs.Prelude.{◌≡◌, ◌==◌, ◌+◌, ◌≤◌, ◌<◌, ◌++◌, ◌∷◌, [], is_some, true, None, Some, if◌then◌else◌, OnOk, OnErr, IfErr, IfSome, IfNone};
+ghost use Rattle.std.specs.Prelude.{◌≡◌, ◌==◌, ◌+◌, ◌≤◌, ◌<◌, ◌++◌, ◌∷◌, ◌&&◌, [], count_by, is_some, true, None, Some, if◌then◌else◌, OnOk, OnErr, IfErr, IfSome, IfNone};
 ghost use Rattle.std.specs.List.{AllByRecursion};
 ghost use Rattle.qqueue.specs.Best.{best_of, without};
 ghost use Rattle.qrules.specs.Pulses.{pulses_among};
-ghost use Rattle.qrules.specs.Facts.{is_fixed, tells_unblock};
-ghost use Rattle.qrecords.specs.Channels.{channel_in, pending_in, is_of, way_in, ClosesIn, SetsItems};
+ghost use Rattle.qrules.specs.Facts.{is_fixed, tells_disconnect, tells_unblock};
+ghost use Rattle.qrecords.specs.Channels.{channel_in, own_channel_in, pending_in, is_of, way_in, ClosesIn, SetsItems};
 ghost use Rattle.qtables.specs.Entries.{entry_at};
 
 use qbase::errno::Errno;
@@ -58,6 +58,39 @@ pub fn way(
         Some(connection.channel)
     } else {
         None
+    }
+}
+
+/// The channel of a connection that is live and of this process.
+pub fn own_connection(
+    connections: &Connections,
+    process: ProcessNo,
+    coid: ConnectionId,
+) -> Option<ChannelId>
+    ensures { result ≡ own_channel_in process (entry_at connections.now coid) }
+{
+    let connection = connections.get(coid)?;
+    if process == connection.process {
+        Some(connection.channel)
+    } else {
+        None
+    }
+}
+
+/// Whether a channel has the disconnect flag, and the process has just one live connection to it.
+pub fn tells_detached(
+    connections: &Connections,
+    channels: &Channels<Channel>,
+    process: ProcessNo,
+    chid: ChannelId,
+) -> bool
+    ensures { result ≡ (tells_disconnect (channel_in channels.now chid) && (count_by (λ e. (e.1.process == process) && (e.1.channel == chid)) connections.now == 1)) }
+{
+    match channels.get(chid) {
+        None => false,
+        Some(channel) => {
+            channel.flags.tells_disconnect() && connections.count(process, chid) == 1
+        }
     }
 }
 

@@ -3,7 +3,7 @@
 ghost use Rattle.std.specs.Prelude.{◌≡◌, ◌==◌, ◌&&◌, ◌≤◌, ◌<◌, [], true, Some, None, is_some, length, filter_map, if◌then◌else◌};
 ghost use Rattle.qtables.specs.Entries.{entry_at};
 ghost use Rattle.qtables.specs.Members.{IsRoster};
-ghost use Rattle.qrules.specs.Cutting.{buffer_of_wait, is_on, is_unread_send, cut_call, cut_where};
+ghost use Rattle.qrules.specs.Cutting.{buffer_of_wait, is_on, is_over, is_unread_send, cut_call, cut_where};
 ghost use Rattle.qrules.specs.Facts.{threads_of};
 ghost use Rattle.qrecords.specs.Cuts.{is_cut_by, ending_for, with_ending, left_open, unread_over_by, unread_on_by, taken_by, is_taken_from, Lose, AreCut, LoseCut};
 ghost use Rattle.qrecords.specs.Threads.{members_of, open_in};
@@ -28,6 +28,8 @@ pub enum Cut {
     All,
     /// That of a thread.
     Of(ThreadNo),
+    /// The Sends over a connection.
+    Over(ConnectionId),
 }
 
 /// Whether a wait is on the channel.
@@ -43,6 +45,16 @@ fn waits_on(connections: &Connections, chid: ChannelId, wait: &Wait) -> bool
     }
 }
 
+/// Whether a wait is for the answer to a message that was sent over the connection.
+fn is_sent_over(coid: ConnectionId, wait: &Wait) -> bool
+    ensures { result ≡ is_over coid wait.now }
+{
+    match wait {
+        Wait::Answer { coid: over, .. } => *over == coid,
+        Wait::Item { .. } => false,
+    }
+}
+
 /// Whether a thread's wait is cut.
 fn is_cut(connections: &Connections, cut: &Cut, thread: ThreadNo, wait: &Wait) -> bool
     ensures { result ≡ is_cut_by (entry_at connections.now) cut.now thread wait.now }
@@ -51,6 +63,7 @@ fn is_cut(connections: &Connections, cut: &Cut, thread: ThreadNo, wait: &Wait) -
         Cut::On(chid) => waits_on(connections, *chid, wait),
         Cut::All => true,
         Cut::Of(named) => thread == *named,
+        Cut::Over(coid) => is_sent_over(*coid, wait),
     }
 }
 

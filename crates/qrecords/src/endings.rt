@@ -1,7 +1,7 @@
 //! The endings of one event.
 
-ghost use Rattle.std.specs.Prelude.{◌≡◌, [], ◌∷◌};
-ghost use Rattle.qrecords.specs.Endings.{in_order, with_other};
+ghost use Rattle.std.specs.Prelude.{◌≡◌, ◌<◌, [], ◌∷◌, true, is_some, length, nat_lt, position};
+ghost use Rattle.qrecords.specs.Endings.{in_order, inserted, inserted_if, with_other};
 
 use arrayvec::ArrayVec;
 use qbase::bytes::Bytes;
@@ -39,6 +39,41 @@ pub fn end_own(endings: &mut Endings, alloc: Global, call: u64, thread: ThreadNo
     ensures { endings.new.items ≡ record { call = call; thread = thread; mark = mark; buffer = [] } ∷ [] }
 {
     end_one(endings, own_ending(alloc, call, thread, mark));
+}
+
+/// Whether a thread comes before another, by their numbers.
+fn is_before(thread: ThreadNo, other: ThreadNo) -> bool
+    ensures { result ≡ nat_lt thread other }
+{
+    thread.0 < other.0
+}
+
+/// The place of the first ending of a later thread.
+fn first_later(endings: &Endings, thread: ThreadNo) -> Option<usize>
+    ensures { result ≡ position (λ e. nat_lt thread e.thread) endings.now.items }
+{
+    endings.iter().position(|e| is_before(thread, e.thread))
+}
+
+/// Ends one more call in the same event, in its place among the endings.
+fn end_one_more(endings: &mut Endings, ending: Completion)
+    requires { length endings.old.items < 64 }
+    ensures { endings.new.items ≡ inserted ending endings.old.items }
+{
+    match first_later(endings, ending.thread) {
+        None => endings.push(ending),
+        Some(place) => endings.insert(place, ending),
+    }
+}
+
+/// Ends one more call in the same event, if there is one, in its place among the endings.
+pub fn end_also(endings: &mut Endings, ending: Option<Completion>)
+    requires { is_some ending ≡ true → length endings.old.items < 64 }
+    ensures { endings.new.items ≡ inserted_if ending endings.old.items }
+{
+    if let Some(ending) = ending {
+        end_one_more(endings, ending);
+    }
 }
 
 /// Ends a call in its own event, and with it another's, if one ends.

@@ -1,12 +1,12 @@
 //! Pulses: to a receiver that waits, or into the queue of a channel.
 
-ghost use Rattle.std.specs.Prelude.{◌≡◌, ◌<◌, [], true, is_some, IfOk, IfErr};
+ghost use Rattle.std.specs.Prelude.{◌≡◌, ◌<◌, [], true, is_some, IfOk, IfErr, IfSome};
 ghost use Rattle.std.specs.List.{AllByRecursion};
 ghost use Rattle.qqueue.specs.Best.{is_pulse};
 ghost use Rattle.qtables.specs.Members.{IsRoster};
 ghost use Rattle.qrules.specs.Rows.{takes};
 ghost use Rattle.qrecords.specs.Channels.{channel_in, pending_in};
-ghost use Rattle.qrecords.specs.Pulses.{IsSent, IsTurnedAway};
+ghost use Rattle.qrecords.specs.Pulses.{IsSent, IsSentIfDue, IsTurnedAway};
 ghost use Rattle.qrecords.specs.Threads.{members_of};
 
 use crate::channel::{Channel, carried, enqueue, pulses_on};
@@ -73,4 +73,24 @@ pub fn send_pulse(
         unreachable!();
     };
     Ok(Some(ended))
+}
+
+/// Sends a pulse, as `send_pulse` does, where one is due.
+pub fn send_due(
+    threads: &mut Vec<Thread>,
+    channels: &mut Channels<Channel>,
+    chid: ChannelId,
+    due: Option<Item>,
+) -> Result<Option<Completion>, Errno>
+    requires pulse { IfSome due (λ item. is_pulse item.what ≡ true) }
+    requires there { is_some due ≡ true → is_some (channel_in channels.old chid) ≡ true }
+    requires newest { IfSome due (λ item. AllByRecursion (λ x. x.number < item.number) (pending_in channels.old chid)) }
+    requires roster { IsRoster (members_of threads.old.items) }
+    ensures ok { IfOk result (λ met. IsSentIfDue chid due threads.old.items channels.old threads.new.items channels.new met) }
+    ensures err { IfErr result (λ e. (is_some due ≡ true) × IsTurnedAway chid threads.old.items channels.old threads.new.items channels.new e) }
+{
+    match due {
+        None => Ok(None),
+        Some(item) => send_pulse(threads, channels, chid, item),
+    }
 }

@@ -22,3 +22,4 @@ pub mod Cutting
 pub mod ChannelDestroy
 pub mod Shutdown
 pub mod Unblock
+pub mod ConnectDetach

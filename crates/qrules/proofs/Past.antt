@@ -11,8 +11,12 @@ pub mod Senders
 pub mod Writes
 pub mod Unblocked
 pub mod OpenCalls
+pub mod Before
+pub mod LiveSends
 pub mod Cuts
+pub mod Live
 pub mod Channels
+pub mod Connections
 pub mod Pending
 pub mod Priorities
 pub mod Rising

@@ -39,7 +39,7 @@ pub not_among : (ts : List ℕ) (t : ℕ) → AllByRecursion (λ u. t < u) ts �
 not_among [] t h = refl
 not_among (u ∷ ts) t h = let other : eqb u t ≡ false = ne_eqb u t (λ s. let l : t < u = h.0 in omega arith) in rw (other, not_among ts t h.1) refl
 
-all_at : (t v : ℕ) (ts : List ℕ) → AllByRecursion (λ u. t < u) ts → is_among ts v ≡ true → t < v
+pub all_at : (t v : ℕ) (ts : List ℕ) → AllByRecursion (λ u. t < u) ts → is_among ts v ≡ true → t < v
 all_at t v [] h e = absurd (true≢false (sym e))
 all_at t v (u ∷ ts) h e =
     elim (eqb u v) as (λ b. eqb u v ≡ b → (b || is_among ts v) ≡ true → t < v) [

@@ -1,7 +1,7 @@
 -- The buffer that a call brings.
 use Rattle.std.specs.Prelude.{ℕ, List, []}
 use Rattle.qrules.specs.declared.call.Call.{Call}
-use Rattle.qrules.specs.declared.call.Call.TheVariants.{ChannelCreate, ConnectAttach, Send, Receive, Reply, Error, Read, Write, Info, ReceivePulse, Pulse, PrioritySet, State, ChannelDestroy, Shutdown, Unblock}
+use Rattle.qrules.specs.declared.call.Call.TheVariants.{ChannelCreate, ConnectAttach, Send, Receive, Reply, Error, Read, Write, Info, ReceivePulse, Pulse, PrioritySet, State, ChannelDestroy, Shutdown, Unblock, ConnectDetach}
 
 -- a Send brings its reply buffer, a Receive and a Read their buffer; any other call has none
 abbrev pub buffer_of : Call → List ℕ
@@ -21,3 +21,4 @@ buffer_of (State thread) = []
 buffer_of (ChannelDestroy chid) = []
 buffer_of Shutdown = []
 buffer_of (Unblock thread) = []
+buffer_of (ConnectDetach coid) = []

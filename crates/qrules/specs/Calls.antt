@@ -15,3 +15,4 @@ pub mod State
 pub mod ChannelDestroy
 pub mod Shutdown
 pub mod Unblock
+pub mod ConnectDetach

@@ -24,6 +24,11 @@ abbrev pub is_on : (ℕ → Option Connection) → ℕ → Wait → Bool
 is_on connection h (Answer coid message reply_buffer receipt) = is_to h (connection coid)
 is_on connection h (ForItem chid kind buffer) = chid == h
 
+-- the wait is for the answer to a message that was sent over connection k
+abbrev pub is_over : ℕ → Wait → Bool
+is_over k (Answer coid message reply_buffer receipt) = coid == k
+is_over k (ForItem chid kind buffer) = false
+
 -- the open call is the Send of number i, blocked on channel h, and not received
 abbrev pub is_unread_send : (ℕ → Option Connection) → ℕ → ℕ → Option OpenCall → Bool
 is_unread_send connection h i None = false

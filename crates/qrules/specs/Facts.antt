@@ -1,5 +1,5 @@
 -- What may be read of the past as a call is answered.
-use Rattle.std.specs.Prelude.{ℕ, ◌==◌, ◌&&◌, Bool, true, false, is_some, List, [], ◌∷◌, map, Option, None, Some, if◌then◌else◌, bit_and}
+use Rattle.std.specs.Prelude.{ℕ, ◌+◌, ◌==◌, ◌&&◌, Bool, true, false, is_some, List, [], ◌∷◌, map, Option, None, Some, if◌then◌else◌, bit_and}
 use Rattle.std.specs.Option.{option_and_then}
 use Rattle.qbase.specs.declared.flags.ChannelFlags.{ChannelFlags}
 use Rattle.qqueue.specs.declared.item.Item.{Item}
@@ -82,6 +82,16 @@ is_fixed (Some c) = bit_and c.flags.0 1 == 1
 abbrev pub tells_unblock : Option OpenChannel → Bool
 tells_unblock None = false
 tells_unblock (Some c) = bit_and c.flags.0 2 == 2
+
+-- the channel's servers are told of a process that has detached its last connection to it
+abbrev pub tells_disconnect : Option OpenChannel → Bool
+tells_disconnect None = false
+tells_disconnect (Some c) = bit_and c.flags.0 4 == 4
+
+-- how many of the numbers up to n have something
+abbrev pub count_to : {A : Type 0} → (ℕ → Option A) → ℕ → ℕ
+count_to at Prim.Native.Nat.zero = 0
+count_to at (Prim.Native.Nat.suc n) = (if is_some (at (n + 1)) then 1 else 0) + count_to at n
 
 -- ---- messages
 

@@ -1,5 +1,5 @@
 -- Lawful traces: each event's endings answer the events before it.
-use Rattle.std.specs.Prelude.{ℕ, ◌+◌, is_some, IsTrue, List, [], ◌∷◌, length}
+use Rattle.std.specs.Prelude.{ℕ, is_some, IsTrue, List, [], ◌∷◌}
 use Rattle.qtables.specs.Members.{member_at}
 use Rattle.qtables.specs.declared.member.Member.{Member}
 use Rattle.qrules.specs.declared.call.Call.{Call}

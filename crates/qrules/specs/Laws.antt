@@ -25,16 +25,16 @@ use Rattle.qrules.specs.Headline.SentOrder.{connection_of}
 use Rattle.qrules.specs.Headline.ShutForGood.{NoneReceivedFrom}
 use Rattle.qrules.specs.Lawful.{IsLawful}
 use Rattle.qrules.specs.Pulses.{pulses_among}
-use Rattle.qrules.specs.Past.{made_at, connection_at, is_closed, is_down, is_ended, items, open_call, pending}
+use Rattle.qrules.specs.Past.{attached, made_at, is_closed, is_down, is_ended, items, open_call, pending}
 use Rattle.qrules.specs.Rows.{asks}
 use Rattle.qrules.specs.Trace.{Event, Trace}
 
 -- ---- receipts
 
--- connection k leads to channel h
+-- connection k was attached to channel h
 pub record LeadsTo (roster : List Member) (past : Trace) (k h : ℕ) : Type 0 where
   pub connection : Connection
-  pub is : connection_at roster past k ≡ Some connection
+  pub is : attached roster past k ≡ Some connection
   pub channel : connection.channel ≡ h
 
 -- an item of number i was made on channel h

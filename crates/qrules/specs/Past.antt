@@ -10,7 +10,7 @@ use Rattle.qtables.specs.Members.{member_at}
 use Rattle.qtables.specs.declared.connection.Connection.{Connection}
 use Rattle.qtables.specs.declared.member.Member.{Member}
 use Rattle.qrules.specs.declared.call.Call.{Call}
-use Rattle.qrules.specs.declared.call.Call.TheVariants.{ChannelCreate, ConnectAttach, Send, Receive, Reply, Error, Read, Write, Info, ReceivePulse, Pulse, PrioritySet, State, ChannelDestroy, Shutdown, Unblock}
+use Rattle.qrules.specs.declared.call.Call.TheVariants.{ChannelCreate, ConnectAttach, Send, Receive, Reply, Error, Read, Write, Info, ReceivePulse, Pulse, PrioritySet, State, ChannelDestroy, Shutdown, Unblock, ConnectDetach}
 use Rattle.qrules.specs.declared.call.Completion.{Completion}
 use Rattle.qrules.specs.declared.call.Mark.{Mark}
 use Rattle.qrules.specs.declared.call.Mark.TheVariants as mark
@@ -19,9 +19,9 @@ use Rattle.qrules.specs.declared.open_call.Receipt.{Receipt}
 use Rattle.qrules.specs.declared.open_call.Wait.{Wait}
 use Rattle.qrules.specs.declared.open_call.Wait.TheVariants.{Answer, Item as ForItem}
 use Rattle.qrules.specs.Trace.{Event, Trace}
-use Rattle.qrules.specs.Facts.{Facts, OpenChannel, is_fixed}
+use Rattle.qrules.specs.Facts.{Facts, OpenChannel, count_to, is_fixed}
 use Rattle.qrules.specs.Items.{makes}
-use Rattle.qrules.specs.Rows.{Made, asks, closes, names, shuts_down, received, writes, written_over, with_buffer, set_for, sets}
+use Rattle.qrules.specs.Rows.{Made, asks, closes, detaches, names, shuts_down, received, writes, written_over, with_buffer, set_for, sets, first_some}
 
 -- ---- accepted, ended
 
@@ -62,11 +62,6 @@ abbrev pub made_at : {A : Type 0} → (Event → Option A) → Trace → ℕ →
 made_at make [] i = None
 made_at make (e ∷ past) i = if i == length past + 1 then (if is_accepted e past then make e else None) else made_at make past i
 
--- how many of the numbers up to n have something
-abbrev pub count_to : {A : Type 0} → (ℕ → Option A) → ℕ → ℕ
-count_to at Prim.Native.Nat.zero = 0
-count_to at (Prim.Native.Nat.suc n) = (if is_some (at (n + 1)) then 1 else 0) + count_to at n
-
 -- the channel that a call creates: of its thread's process, with the flags that it names
 abbrev pub creates : Option Member → Call → Option OpenChannel
 creates None c = None
@@ -86,6 +81,7 @@ creates (Some m) (State thread) = None
 creates (Some m) (ChannelDestroy chid) = None
 creates (Some m) Shutdown = None
 creates (Some m) (Unblock thread) = None
+creates (Some m) (ConnectDetach coid) = None
 
 -- a call of which this is so was accepted
 abbrev pub was_accepted : (Call → Bool) → Trace → Bool
@@ -131,21 +127,25 @@ attaches (Some m) (State thread) = None
 attaches (Some m) (ChannelDestroy chid) = None
 attaches (Some m) Shutdown = None
 attaches (Some m) (Unblock thread) = None
+attaches (Some m) (ConnectDetach coid) = None
 
--- the live connection k: an accepted ConnectAttach has that number
+-- connection k is detached
+abbrev pub is_detached : Trace → ℕ → Bool
+is_detached past k = was_accepted (λ c. names (detaches c) k) past
+
+-- the connection of number k that was attached
+abbrev pub attached : List Member → Trace → ℕ → Option Connection
+attached roster past k = made_at (λ e. attaches (member_at roster e.thread) e.call) past k
+
+-- the live connection k: an accepted ConnectAttach has that number, and no accepted ConnectDetach names it
 abbrev pub connection_at : List Member → Trace → ℕ → Option Connection
-connection_at roster past k = made_at (λ e. attaches (member_at roster e.thread) e.call) past k
+connection_at roster past k = if is_detached past k then None else attached roster past k
 
 -- how many connections are live
 abbrev pub live_connections : List Member → Trace → ℕ
 live_connections roster past = count_to (connection_at roster past) (length past)
 
 -- ---- searching
-
--- the first of two, or else the second
-abbrev pub first_some : {A : Type 0} → Option A → Option A → Option A
-first_some None y = y
-first_some (Some x) y = Some x
 
 -- what the first of these endings has of which something is told
 abbrev pub first_among : {A : Type 0} → (Completion → Option A) → List Completion → Option A

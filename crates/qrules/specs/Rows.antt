@@ -9,7 +9,7 @@ use Rattle.qqueue.specs.declared.item.What.TheVariants.{Message, User}
 use Rattle.qqueue.specs.declared.item.What.TheVariants as what
 use Rattle.qtables.specs.declared.connection.Connection.{Connection}
 use Rattle.qrules.specs.declared.call.Call.{Call}
-use Rattle.qrules.specs.declared.call.Call.TheVariants.{ChannelCreate, ConnectAttach, Send, Receive, Reply, Error, Read, Write, Info, ReceivePulse, Pulse, PrioritySet, State, ChannelDestroy, Shutdown, Unblock}
+use Rattle.qrules.specs.declared.call.Call.TheVariants.{ChannelCreate, ConnectAttach, Send, Receive, Reply, Error, Read, Write, Info, ReceivePulse, Pulse, PrioritySet, State, ChannelDestroy, Shutdown, Unblock, ConnectDetach}
 use Rattle.qrules.specs.declared.call.Completion.{Completion}
 use Rattle.qrules.specs.declared.call.Mark.{Mark}
 use Rattle.qrules.specs.declared.call.Mark.TheVariants as mark
@@ -44,6 +44,11 @@ pub record Row : Type 0 where
 abbrev pub ends_none : ℕ → Option Completion
 ends_none u = None
 
+-- the first of two, or else the second
+abbrev pub first_some : {A : Type 0} → Option A → Option A → Option A
+first_some None y = y
+first_some (Some x) y = Some x
+
 -- ---- blocking
 
 -- what a call waits for where it doesn't end in its own event
@@ -64,6 +69,7 @@ asks n (State thread) = None
 asks n (ChannelDestroy chid) = None
 asks n Shutdown = None
 asks n (Unblock thread) = None
+asks n (ConnectDetach coid) = None
 
 -- ---- items
 
@@ -83,6 +89,10 @@ pulse_item n priority code value = record { number = n; priority = priority; wha
 -- the pulse of this number and priority that tells that the sender of message i wants to be unblocked
 abbrev pub unblock_item : ℕ → ℕ → ℕ → Item
 unblock_item n priority i = record { number = n; priority = priority; what = what.Unblock i }
+
+-- the pulse of this number and priority that tells that process p has detached its last connection
+abbrev pub disconnect_item : ℕ → ℕ → ℕ → Item
+disconnect_item n priority p = record { number = n; priority = priority; what = what.Disconnect p }
 
 -- ---- writing
 
@@ -110,6 +120,7 @@ writes (State thread) = None
 writes (ChannelDestroy chid) = None
 writes Shutdown = None
 writes (Unblock thread) = None
+writes (ConnectDetach coid) = None
 
 -- ---- setting priorities
 
@@ -136,6 +147,7 @@ sets (State thread) = None
 sets (ChannelDestroy chid) = None
 sets Shutdown = None
 sets (Unblock thread) = None
+sets (ConnectDetach coid) = None
 
 -- the priority that is set for thread u
 abbrev pub set_for : Option Setting → ℕ → Option ℕ
@@ -147,6 +159,7 @@ set_for (Some s) u = if s.thread == u then Some s.priority else None
 -- the thread that a call wants to unblock
 abbrev pub unblocks : Call → Option ℕ
 unblocks (Unblock thread) = Some thread
+unblocks (ConnectDetach coid) = None
 unblocks (ChannelCreate flags) = None
 unblocks (ConnectAttach chid) = None
 unblocks (Send coid message reply_buffer) = None
@@ -183,6 +196,27 @@ closes (PrioritySet thread priority) = None
 closes (State thread) = None
 closes Shutdown = None
 closes (Unblock thread) = None
+closes (ConnectDetach coid) = None
+
+-- the connection that a call detaches
+abbrev pub detaches : Call → Option ℕ
+detaches (ConnectDetach coid) = Some coid
+detaches (ChannelCreate flags) = None
+detaches (ConnectAttach chid) = None
+detaches (Send coid message reply_buffer) = None
+detaches (Receive chid buffer) = None
+detaches (Reply rcvid status bytes) = None
+detaches (Error rcvid code) = None
+detaches (Read rcvid offset buffer) = None
+detaches (Write rcvid offset bytes) = None
+detaches (Info rcvid) = None
+detaches (ReceivePulse chid) = None
+detaches (Pulse coid priority code value) = None
+detaches (PrioritySet thread priority) = None
+detaches (State thread) = None
+detaches (ChannelDestroy chid) = None
+detaches Shutdown = None
+detaches (Unblock thread) = None
 
 -- this is the one
 abbrev pub names : Option ℕ → ℕ → Bool
@@ -193,6 +227,7 @@ names (Some k) h = k == h
 abbrev pub shuts_down : Call → Bool
 shuts_down Shutdown = true
 shuts_down (Unblock thread) = false
+shuts_down (ConnectDetach coid) = false
 shuts_down (ChannelCreate flags) = false
 shuts_down (ConnectAttach chid) = false
 shuts_down (Send coid message reply_buffer) = false

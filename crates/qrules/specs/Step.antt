@@ -14,10 +14,10 @@ use Rattle.qrules.specs.declared.open_call.Wait.{Wait}
 use Rattle.qrules.specs.declared.open_call.Wait.TheVariants.{Answer, Item as ForItem}
 use Rattle.qrules.specs.Cutting.{is_unread_send}
 use Rattle.qrules.specs.Facts.{Facts, OpenChannel, sender, is_fixed, threads_of}
-use Rattle.qrules.specs.Rows.{Made, Received, Written, asks, closes, names, shuts_down, unblocks, writes, with_buffer, set_for, sets}
+use Rattle.qrules.specs.Rows.{Made, Received, Written, asks, closes, detaches, names, shuts_down, unblocks, writes, with_buffer, set_for, sets, first_some}
 use Rattle.qrules.specs.Answer.{row_of}
 use Rattle.qrules.specs.Items.{makes}
-use Rattle.qrules.specs.Past.{creates, attaches, held_with, first_some}
+use Rattle.qrules.specs.Past.{creates, attaches, held_with}
 
 -- a look-up with one more record at n
 abbrev pub put_at : {A : Type 0} → Option A → ℕ → (ℕ → Option A) → ℕ → Option A
@@ -33,8 +33,9 @@ one_for (Some x) = 1
 abbrev pub channel_after : Facts → ℕ → Call → ℕ → Option OpenChannel
 channel_after f t c h = if names (closes c) h then None else put_at (creates (member_at f.roster t) c) f.number f.channel h
 
+-- a call may attach a connection, and may detach one
 abbrev pub connection_after : Facts → ℕ → Call → ℕ → Option Connection
-connection_after f t c = put_at (attaches (member_at f.roster t) c) f.number f.connection
+connection_after f t c k = if names (detaches c) k then None else put_at (attaches (member_at f.roster t) c) f.number f.connection k
 
 -- an open call whose message is received
 abbrev pub held_call : Receipt → OpenCall → OpenCall
@@ -101,11 +102,11 @@ is_cut f t c h i = list_any (λ s. is_unread_send f.connection h i (f.open_call 
 abbrev pub left_by : Facts → ℕ → Call → ℕ → List Item → List Item
 left_by f t c h items = filter (λ item. not (is_cut f t c h item.number)) items
 
--- nothing is left of a channel that is destroyed; from any other a message goes whose Send ends, the item that the call makes joins, and the
+-- nothing is left of a channel that is destroyed; to any other the item joins that the call makes, a message goes whose Send ends, and the
 -- one that is received goes
 abbrev pub pending_after : Facts → ℕ → Call → ℕ → List Item
 pending_after f t c h =
-    if names (closes c) h then [] else taken_out (row_of f t c).receipt h (left_by f t c h (f.pending h) ++ made_on h (makes f t c))
+    if names (closes c) h then [] else taken_out (row_of f t c).receipt h (left_by f t c h (f.pending h ++ made_on h (makes f t c)))
 
 -- the priority that thread u takes by a receipt: the item's, unless its channel leaves priorities as they are
 abbrev pub taken_by : Facts → Option Received → ℕ → Option ℕ
@@ -123,7 +124,7 @@ pub record Follows (f : Facts) (t : ℕ) (c : Call) (accepted : Bool) (g : Facts
   pub channel : (h : ℕ) → g.channel h ≡ (if accepted then channel_after f t c h else f.channel h)
   pub open_channels : g.open_channels + (if accepted then one_for (closes c) else 0) ≡ f.open_channels + (if accepted then one_for (creates (member_at f.roster t) c) else 0)
   pub connection : (k : ℕ) → g.connection k ≡ (if accepted then connection_after f t c k else f.connection k)
-  pub live_connections : g.live_connections ≡ f.live_connections + (if accepted then one_for (attaches (member_at f.roster t) c) else 0)
+  pub live_connections : g.live_connections + (if accepted then one_for (detaches c) else 0) ≡ f.live_connections + (if accepted then one_for (attaches (member_at f.roster t) c) else 0)
   pub open_call : (u : ℕ) → g.open_call u ≡ (if accepted then open_call_after f t c u else f.open_call u)
   pub pending : (h : ℕ) → g.pending h ≡ (if accepted then pending_after f t c h else f.pending h)
   pub priority : (u : ℕ) → g.priority u ≡ (if accepted then priority_after f t c u else f.priority u)

@@ -17,6 +17,7 @@ pub mod ThreadsStates
 pub mod StaleId
 pub mod Unblocked
 pub mod DestroyedChannel
+pub mod Detached
 pub mod ShutDown
 pub mod Refusals
 pub mod OthersMessages

@@ -1,7 +1,6 @@
 -- The call that a word and its operands name.
 use Rattle.std.specs.Prelude.{ℕ, List, Option, Some, None, Result, Err, if◌then◌else◌, codes}
 use Rattle.std.specs.Str.{bytes_eq}
-use Rattle.qrules.specs.Past.{first_some}
 use Rattle.qrules.specs.declared.call.Call.{Call}
 use Rattle.qdemo.specs.declared.reading.verb.Verb.{Verb}
 use Rattle.qdemo.specs.declared.reading.verb.Verb.TheVariants as verbs
@@ -23,6 +22,8 @@ use Rattle.qdemo.specs.Reading.Forms.State.{state_of}
 use Rattle.qdemo.specs.Reading.Forms.Destroy.{destroy_of}
 use Rattle.qdemo.specs.Reading.Forms.Shutdown.{shutdown_of}
 use Rattle.qdemo.specs.Reading.Forms.Unblock.{unblock_of}
+use Rattle.qdemo.specs.Reading.Forms.Detach.{detach_of}
+use Rattle.qrules.specs.Rows.{first_some}
 
 -- the verb that a word is, of a call on channels and connections
 unfoldable pub channel_verb : List ℕ → Option Verb
@@ -30,6 +31,7 @@ channel_verb word =
     if bytes_eq word (codes "create") then Some verbs.Create
     else if bytes_eq word (codes "destroy") then Some verbs.Destroy
     else if bytes_eq word (codes "attach") then Some verbs.Attach
+    else if bytes_eq word (codes "detach") then Some verbs.Detach
     else None
 
 -- the verb that a word is, of a call that sends, receives, or works on what was received
@@ -77,6 +79,7 @@ call_by (Some verbs.State) operands = state_of operands
 call_by (Some verbs.Destroy) operands = destroy_of operands
 call_by (Some verbs.Shutdown) operands = shutdown_of operands
 call_by (Some verbs.Unblock) operands = unblock_of operands
+call_by (Some verbs.Detach) operands = detach_of operands
 call_by None operands = Err UnknownWord
 
 -- the call of a word and its operands

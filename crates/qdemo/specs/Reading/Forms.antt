@@ -1,6 +1,7 @@
 -- A form for each kind of line: its operands, from the left.
 pub mod Attach
 pub mod Create
+pub mod Detach
 pub mod Error
 pub mod Info
 pub mod Pulse

@@ -32,6 +32,7 @@ fn shows(call: &Call) -> bool
         Call::ChannelDestroy(_) => false,
         Call::Shutdown => false,
         Call::Unblock(_) => false,
+        Call::ConnectDetach(_) => false,
     }
 }
 

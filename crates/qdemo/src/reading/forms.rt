@@ -3,6 +3,7 @@
 pub mod attach;
 pub mod create;
 pub mod destroy;
+pub mod detach;
 pub mod error;
 pub mod info;
 pub mod pulse;

@@ -48,9 +48,9 @@ fn reads_a_thread_of_the_roster(rt: HostRuntime) -> Result<(), Fail> {
 #[test]
 fn reads_each_form(rt: HostRuntime) -> Result<(), Fail> {
     let text =
-        b"thread 1 2 63\n\n  # all forms\n1 create 4\r\n\t1  attach 7\n1 send 8 - 3xAb\n1 receive 7 00fF\n1 reply 9 -1 05\n1 error 9 -2\n1 read 9 3 2x01\n1 write 9 4 06\n1 info 9\n1 receivepulse 7\n1 pulse 8 63 -128 -2147483648\n1 setprio 255 5\n1 state 007\n1 destroy 7\n1 unblock 7\n1 shutdown".as_slice();
+        b"thread 1 2 63\n\n  # all forms\n1 create 4\r\n\t1  attach 7\n1 send 8 - 3xAb\n1 receive 7 00fF\n1 reply 9 -1 05\n1 error 9 -2\n1 read 9 3 2x01\n1 write 9 4 06\n1 info 9\n1 receivepulse 7\n1 pulse 8 63 -128 -2147483648\n1 setprio 255 5\n1 state 007\n1 destroy 7\n1 detach 8\n1 unblock 7\n1 shutdown".as_slice();
     let script = parse(rt.alloc(), text)?;
-    assert_eq!(rt; script.calls.len(), 16);
+    assert_eq!(rt; script.calls.len(), 17);
     for (thread, call) in &script.calls {
         assert_eq!(rt; thread.0, 1);
         match call {
@@ -119,6 +119,7 @@ fn reads_each_form(rt: HostRuntime) -> Result<(), Fail> {
             }
             Call::State(thread) => assert_eq!(rt; thread.0, 7),
             Call::Unblock(thread) => assert_eq!(rt; thread.0, 7),
+            Call::ConnectDetach(coid) => assert_eq!(rt; coid.0, 8),
             Call::ChannelDestroy(chid) => assert_eq!(rt; chid.0, 7),
             Call::Shutdown => {}
         }
@@ -217,6 +218,9 @@ fn names_the_fault_of_a_second_line(rt: HostRuntime) -> Result<(), Fail> {
         (b"1 setprio 1 64", "line 2: bad priority"),
         (b"1 state", "line 2: word count"),
         (b"1 state 256", "line 2: bad number"),
+        (b"1 detach", "line 2: word count"),
+        (b"1 detach 1 1", "line 2: word count"),
+        (b"1 detach x", "line 2: bad number"),
         (b"1 unblock", "line 2: word count"),
         (b"1 unblock 1 1", "line 2: word count"),
         (b"1 unblock 256", "line 2: bad number"),

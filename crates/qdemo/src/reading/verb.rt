@@ -23,6 +23,7 @@ pub enum Verb {
     Destroy,
     Shutdown,
     Unblock,
+    Detach,
 }
 
 /// Whether the word is this one.
@@ -43,6 +44,8 @@ fn channel_verb(word: &[u8]) -> Option<Verb>
         Some(Verb::Destroy)
     } else if is(word, "attach") {
         Some(Verb::Attach)
+    } else if is(word, "detach") {
+        Some(Verb::Detach)
     } else {
         None
     }

@@ -108,5 +108,6 @@ module _ (s : State) (t : ℕ) (flags : ChannelFlags) (m : Member) (q : Contents
     channel_ids = rw (ids_push s.channels (s.made + 1, record { owner = m.process; flags = flags; queue = q }))
         (all_push (λ id. id ≤ s.made + 1) (ids_of s.channels) (s.made + 1) (all_up_to (λ id. id) s.made (ids_of s.channels) sound.channel_ids) (omega arith));
     connection_ids = all_up_to (λ e. e.0) s.made s.connections sound.connection_ids;
+    connections = sound.connections;
     items = λ h. rw (pending_there h) (all_up_to (λ item. item.number) s.made (pending_in s.channels h) (sound.items h));
   }

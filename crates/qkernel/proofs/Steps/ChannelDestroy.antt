@@ -10,6 +10,7 @@ use Rattle.qtables.specs.Members.{member_at}
 use Rattle.qtables.specs.declared.member.Member.{Member}
 use Rattle.qrules.specs.Answer.{failed}
 use Rattle.qrules.specs.Facts.{owns}
+use Rattle.qrules.specs.Step.{left_by}
 use Rattle.qrules.specs.declared.call.Call.TheVariants.{ChannelDestroy}
 use Rattle.qrules.specs.declared.call.Completion.{Completion}
 use Rattle.qrecords.specs.Channels.{ClosesIn, channel_in, is_of, pending_in}
@@ -48,7 +49,7 @@ module _ (s : State) (t chid : ℕ) (m : Member) (known : member_at (members_of 
               connection = λ k. rw known refl;
               live_connections = rw known (omega arith);
               open_call = λ u. open_after s t (On chid) Srch threads u free are;
-              pending = λ h. closes.pending h ∙ ap (cond (eqb chid h) []) (lose.pending h ∙ sym (append-nil _));
+              pending = λ h. closes.pending h ∙ ap (cond (eqb chid h) []) (lose.pending h ∙ ap (left_by (facts_in s) t (ChannelDestroy chid) h) (sym (append-nil (pending_in s.channels h))));
               priority = are.priority;
             };
           },
@@ -62,5 +63,6 @@ module _ (s : State) (t chid : ℕ) (m : Member) (known : member_at (members_of 
           roster = k.roster;
           channel_ids = closes.ids (s.made + 1) k.channel_ids;
           connection_ids = k.connection_ids;
+          connections = k.connections;
           items = λ h. rw (closes.pending h) (elim (eqb chid h) as (λ b. AllByRecursion (λ (item : Item). item.number ≤ s.made + 1) (cond b [] (pending_in cut h))) [ true ↦ tt | false ↦ k.items h ]);
         }

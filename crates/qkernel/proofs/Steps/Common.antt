@@ -1,5 +1,5 @@
 -- What the steps of all calls share.
-use Rattle.std.proofs.Common.{◌≡◌, ℕ, suc, ◌+◌, ◌<◌, ◌≤◌, List, [], ◌∷◌, ◌++◌, length, refl, ap, sym, ◌∙◌, cond, arith, true, false, eqb, add-zero}
+use Rattle.std.proofs.Common.{◌≡◌, ℕ, suc, ◌+◌, ◌<◌, ◌≤◌, List, [], ◌∷◌, ◌++◌, length, refl, ap, sym, ◌∙◌, cond, arith, true, false, eqb}
 use Rattle.std.specs.Prelude.{Option, None, Some, is_some, ◌&&◌}
 use Rattle.std.specs.List.{AllByRecursion}
 use Rattle.std.proofs.lemmas.Bool.{eqb-true}
@@ -65,7 +65,7 @@ step_refused s t c e X new may is counted = (
       channel = counted.channel;
       open_channels = ap (λ n. n + 0) (count_same s.channels new.channels counted.ids);
       connection = λ k. ap (λ cs. entry_at cs k) counted.connections;
-      live_connections = ap length counted.connections ∙ sym (add-zero (length s.connections));
+      live_connections = ap (λ cs. length cs + 0) counted.connections;
       open_call = λ u. ap (λ ts. open_in ts u) counted.threads;
       pending = counted.pending;
       priority = λ u. ap (λ ts. level_in ts u) counted.threads;
@@ -85,10 +85,10 @@ pub uncut_by : (s : State) (t : ℕ) (c : Call) → EndsSettled (facts_in s) t c
     → x ≡ taken_out (row_of (facts_in s) t c).receipt h (pending_in s.channels h ++ made_on h (makes (facts_in s) t c)) → x ≡ pending_after (facts_in s) t c h
 uncut_by s t c settled closes_none h {x} is =
     let f = facts_in s in
-    let M = made_on h (makes f t c) in
+    let items = pending_in s.channels h ++ made_on h (makes f t c) in
     is
-    ∙ ap (λ l. taken_out (row_of f t c).receipt h (l ++ M)) (sym (none_cut f t c settled h (pending_in s.channels h)))
-    ∙ ap (λ o. cond (names o h) [] (taken_out (row_of f t c).receipt h (left_by f t c h (pending_in s.channels h) ++ M))) (sym closes_none)
+    ∙ ap (taken_out (row_of f t c).receipt h) (sym (none_cut f t c settled h items))
+    ∙ ap (λ o. cond (names o h) [] (taken_out (row_of f t c).receipt h (left_by f t c h items))) (sym closes_none)
 
 -- the same of a call that is accepted and ends no other by force
 pub uncut : (s : State) (t : ℕ) (c : Call) → refusal (facts_in s) t c ≡ None → is_forceful c ≡ false → closes c ≡ None → (h : ℕ) {x : List Item}
@@ -119,6 +119,7 @@ sound_counted old new counted sound = record {
   roster = rw (counted.threads) sound.roster;
   channel_ids = rw (counted.ids, counted.made) (all_up_to (λ id. id) old.made (ids_of old.channels) sound.channel_ids);
   connection_ids = rw (counted.connections, counted.made) (all_up_to (λ e. e.0) old.made old.connections sound.connection_ids);
+  connections = rw (counted.connections) sound.connections;
   items = λ h. rw (counted.pending h, counted.made) (all_up_to (λ item. item.number) old.made (pending_in old.channels h) (sound.items h));
 }
 

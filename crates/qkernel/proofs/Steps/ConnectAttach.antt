@@ -1,5 +1,5 @@
 -- ConnectAttach as a step of the kernel.
-use Rattle.std.proofs.Common.{◌≡◌, ℕ, ◌+◌, ◌≤◌, List, [], ◌∷◌, ◌++◌, length, refl, ap, sym, ◌∙◌, cond, arith, true, false, eqb, append-nil, inl, inr}
+use Rattle.std.proofs.Common.{◌≡◌, ℕ, ◌+◌, ◌≤◌, ◌<◌, List, [], ◌∷◌, ◌++◌, length, add-zero, refl, ap, sym, ◌∙◌, cond, arith, true, false, eqb, append-nil, inl, inr}
 use Rattle.std.specs.Prelude.{None, Some, is_some}
 use Rattle.qbase.specs.declared.errno.Errno.{Errno}
 use Rattle.qbase.specs.declared.errno.Errno.TheVariants.{Srch, Again, NoMemory}
@@ -17,8 +17,8 @@ use Rattle.qkernel.specs.Stands.{Steps}
 use Rattle.qrules.specs.Step.{put_at, one_for}
 use Rattle.qrecords.specs.Threads.{members_of, open_in}
 use Rattle.qrules.proofs.Rosters.{rises, among, only_own}
-use Rattle.qkernel.proofs.Steps.Common.{uncut, counted, step_refused_alone, all_up_to, all_push, stays_free}
-use Rattle.qkernel.proofs.Tables.{entry_at-push, length-push}
+use Rattle.qkernel.proofs.Steps.Common.{uncut, counted, step_refused_alone, all_up_to, all_push, stays_free, up_to_below}
+use Rattle.qkernel.proofs.Tables.{entry_at-push, length-push, rising_push}
 
 pub step_attach_nowhere : (s : State) (t chid : ℕ) (X : List Completion) → s.down ≡ false → open_in s.threads t ≡ None → is_some (channel_in s.channels chid) ≡ false
     → X ≡ failed (facts_in s) t (ConnectAttach chid) Srch ∷ [] → Steps s t (ConnectAttach chid) X (counted s)
@@ -65,7 +65,7 @@ module _ (s : State) (t chid : ℕ) (m : Member) (sound : IsSound s) where
         open_channels = rw known (omega arith);
         connection = λ k. entry_at-push s.connections s.made (record { process = m.process; channel = chid }) k sound.connection_ids
             ∙ ap (λ o. put_at (attaches o (ConnectAttach chid)) (s.made + 1) (entry_at s.connections) k) (sym known);
-        live_connections = length-push s.connections _ ∙ ap (λ o. length s.connections + one_for (attaches o (ConnectAttach chid))) (sym known);
+        live_connections = add-zero _ ∙ length-push s.connections _ ∙ ap (λ o. length s.connections + one_for (attaches o (ConnectAttach chid))) (sym known);
         open_call = λ u. stays_free s.threads t u free;
         pending = λ h. uncut s t (ConnectAttach chid) (rw (up, free, opens, room) refl) refl refl h (sym (append-nil _));
         priority = λ u. refl;
@@ -79,5 +79,6 @@ module _ (s : State) (t chid : ℕ) (m : Member) (sound : IsSound s) where
     roster = sound.roster;
     channel_ids = all_up_to (λ id. id) s.made _ sound.channel_ids;
     connection_ids = all_push (λ e. e.0 ≤ s.made + 1) s.connections _ (all_up_to (λ e. e.0) s.made s.connections sound.connection_ids) (omega arith);
+    connections = (all_push (λ e. 0 < e.0) s.connections _ sound.connections.0 (omega arith), rising_push s.connections _ sound.connections.1 (up_to_below (λ e. e.0) s.made s.connections sound.connection_ids));
     items = λ h. all_up_to (λ item. item.number) s.made _ (sound.items h);
   }

@@ -18,7 +18,8 @@ use Rattle.qrecords.specs.declared.cutting.Cut.{Cut}
 use Rattle.qrecords.specs.declared.thread.Thread.{Thread}
 use Rattle.qkernel.specs.State.{State, IsSound}
 use Rattle.qrules.proofs.Past.Lists.{all_filter}
-use Rattle.qkernel.proofs.Steps.Delivering.{sound_threads}
+use Rattle.qkernel.proofs.Steps.Common.{counted, sound_counted_alone}
+use Rattle.qkernel.proofs.Steps.Delivering.{sound_kept}
 
 -- how the caller's own call ends
 abbrev pub mine : State → ℕ → Completion
@@ -38,14 +39,20 @@ open_after s t cut e threads u free are =
     ] refl
 
 -- what is cut keeps a kernel sound
-pub sound_cut : (s : State) (down : Bool) (cut : Cut) (e : Errno) (threads : List Thread) (channels : List (ℕ × Channel)) → IsSound s → AreCut (entry_at s.connections) cut e s.threads threads
-    → LoseCut (entry_at s.connections) cut e s.threads s.channels channels → IsSound (record { made = s.made + 1; down = down; threads = threads; channels = channels; connections = s.connections })
-sound_cut s down cut e threads channels sound are lose =
-    let k = sound_threads s threads sound are.members in
+pub sound_less : (s : State) (down : Bool) (cut : Cut) (e : Errno) (threads : List Thread) (channels : List (ℕ × Channel)) → IsSound s → AreCut (entry_at s.connections) cut e s.threads threads
+    → LoseCut (entry_at s.connections) cut e s.threads s.channels channels → IsSound (record { made = s.made; down = down; threads = threads; channels = channels; connections = s.connections })
+sound_less s down cut e threads channels sound are lose =
+    let k = sound_kept s threads are.members sound in
     record {
       few = k.few;
       roster = k.roster;
       channel_ids = rw (lose.ids) k.channel_ids;
       connection_ids = k.connection_ids;
-      items = λ h. rw (lose.pending h) (all_filter (λ (item : Item). item.number ≤ s.made + 1) (λ item. not (is_cut_among (entry_at s.connections) cut e s.threads h item.number)) (pending_in s.channels h) (k.items h));
+      connections = k.connections;
+      items = λ h. rw (lose.pending h) (all_filter (λ (item : Item). item.number ≤ s.made) (λ item. not (is_cut_among (entry_at s.connections) cut e s.threads h item.number)) (pending_in s.channels h) (k.items h));
     }
+
+-- and so does a call that cuts
+pub sound_cut : (s : State) (down : Bool) (cut : Cut) (e : Errno) (threads : List Thread) (channels : List (ℕ × Channel)) → IsSound s → AreCut (entry_at s.connections) cut e s.threads threads
+    → LoseCut (entry_at s.connections) cut e s.threads s.channels channels → IsSound (record { made = s.made + 1; down = down; threads = threads; channels = channels; connections = s.connections })
+sound_cut s down cut e threads channels sound are lose = sound_less (counted s) down cut e threads channels (sound_counted_alone s sound) are lose

@@ -1,29 +1,24 @@
 -- What the steps share that deliver an item.
-use Rattle.std.proofs.Common.{◌≡◌, ℕ, suc, ◌+◌, ◌≤◌, List, [], ◌∷◌, ◌++◌, refl, ap, sym, subst, ◌∙◌, cond, arith, true, false, eqb, append-nil, length}
-use Rattle.std.specs.Prelude.{Option, None, Some, is_some, ◌||◌}
+use Rattle.std.proofs.Common.{◌≡◌, ℕ, suc, ◌+◌, ◌≤◌, List, [], ◌∷◌, ◌++◌, refl, ap, sym, ◌∙◌, cond, arith, true, false, eqb, append-nil, length}
+use Rattle.std.specs.Prelude.{Option, None, Some}
 use Rattle.std.specs.List.{AllByRecursion}
 use Rattle.std.specs.Option.{option_map}
-use Rattle.std.proofs.lemmas.Bool.{eqb-true, eq-eqb, ne_eqb, true≢false}
-use Rattle.std.proofs.lemmas.Option.{none-some, same_Some}
+use Rattle.std.proofs.lemmas.Bool.{eqb-true, eq-eqb, ne_eqb}
 use Rattle.qqueue.specs.Best.{without}
 use Rattle.qqueue.specs.declared.item.Item.{Item}
 use Rattle.qtables.specs.Entries.{entry_at}
 use Rattle.qtables.specs.Members.{member_at}
 use Rattle.qtables.specs.declared.member.Member.{Member}
-use Rattle.qrules.specs.declared.call.Completion.{Completion}
 use Rattle.qrecords.specs.declared.channel.Channel.{Channel}
-use Rattle.qrules.specs.declared.open_call.OpenCall.{OpenCall}
-use Rattle.qrules.specs.declared.open_call.Wait.{Wait}
-use Rattle.qrules.specs.declared.open_call.Wait.TheVariants.{Answer, Item as ForItem}
 use Rattle.qrecords.specs.declared.thread.Thread.{Thread}
 use Rattle.qrecords.specs.Channels.{pending_in, ids_of, way_in, SetsItems, channel_in}
-use Rattle.qrules.specs.Facts.{way, threads_of, is_fixed}
-use Rattle.qrules.specs.Receivers.{newest_among, newest, later, later_of, is_later, wait_on}
-use Rattle.qrules.specs.Rows.{takes, sent_over, takes_into}
+use Rattle.qrules.specs.Facts.{way, is_fixed}
+use Rattle.qrules.specs.Receivers.{newest}
+use Rattle.qrules.specs.Rows.{sent_over}
 use Rattle.qkernel.specs.State.{State, IsSound, facts_in}
 use Rattle.qrules.specs.Step.{made_on}
-use Rattle.qrecords.specs.Threads.{members_of, open_in, newest_by}
-use Rattle.qrules.proofs.Past.Lists.{eqb_either, is_among}
+use Rattle.qrecords.specs.Threads.{members_of, newest_by}
+use Rattle.qrules.proofs.Past.Lists.{eqb_either}
 use Rattle.qrules.proofs.Calls.Delivering.{sent_way}
 use Rattle.qrecords.proofs.Receivers.{newest_found}
 use Rattle.qkernel.proofs.Steps.Common.{Counted, count_same, all_up_to, all_push, way-leads_to}
@@ -111,6 +106,7 @@ sound_threads s threads sound e = record {
   roster = rw e sound.roster;
   channel_ids = all_up_to (λ id. id) s.made _ sound.channel_ids;
   connection_ids = all_up_to (λ e. e.0) s.made _ sound.connection_ids;
+  connections = sound.connections;
   items = λ h. all_up_to (λ item. item.number) s.made _ (sound.items h);
 }
 
@@ -121,6 +117,7 @@ sound_kept s threads e sound = record {
   roster = rw e sound.roster;
   channel_ids = sound.channel_ids;
   connection_ids = sound.connection_ids;
+  connections = sound.connections;
   items = sound.items;
 }
 
@@ -131,6 +128,7 @@ sound_items s threads channels h items sound e sets all = record {
   roster = rw e sound.roster;
   channel_ids = rw (sets.ids) (all_up_to (λ id. id) s.made _ sound.channel_ids);
   connection_ids = all_up_to (λ e. e.0) s.made _ sound.connection_ids;
+  connections = sound.connections;
   items = λ k. rw (sets.pending k) (elim (eqb k h) as (λ b. AllByRecursion (λ item. item.number ≤ s.made + 1) (cond b items (pending_in s.channels k))) [
     | true ↦ all
     | false ↦ all_up_to (λ item. item.number) s.made _ (sound.items k)

@@ -7,7 +7,6 @@ use Rattle.qtables.specs.Members.{member_at}
 use Rattle.qtables.specs.declared.member.Member.{Member}
 use Rattle.qrules.specs.Answer.{failed}
 use Rattle.qrules.specs.Facts.{is_in_process}
-use Rattle.qrules.specs.Past.{first_some}
 use Rattle.qrules.specs.declared.call.Call.TheVariants.{PrioritySet}
 use Rattle.qrules.specs.declared.call.Completion.{Completion}
 use Rattle.qrules.specs.declared.call.Mark.TheVariants as mark
@@ -17,6 +16,7 @@ use Rattle.qkernel.specs.Stands.{Steps}
 use Rattle.qrecords.specs.Threads.{level_in, members_of, open_in, SetsLevel}
 use Rattle.qrules.proofs.Rosters.{among, only_own, rises}
 use Rattle.qkernel.proofs.Steps.Common.{uncut, counted, stays_free, step_refused_alone}
+use Rattle.qrules.specs.Rows.{first_some}
 
 module _ (s : State) (t thread priority : ℕ) (m : Member) (known : member_at (members_of s.threads) t ≡ Some m) (up : s.down ≡ false) (free : open_in s.threads t ≡ None) where
   pub step_set_refused : (X : List Completion) → is_in_process m.process (member_at (members_of s.threads) thread) ≡ false → X ≡ failed (facts_in s) t (PrioritySet thread priority) Srch ∷ []

@@ -60,7 +60,7 @@ pub tells_pulse : (s : State) (t coid priority : ℕ) (code value : ℤ) (m : Me
 tells_pulse s t coid priority code value m h known up free found positive room =
     let there : way (facts_in s) t coid ≡ Some h = some_way s t coid m h known found in
     record {
-      quiet = record { closes_none = refl; stays_up = refl; creates_none = rw known refl; attaches_none = rw known refl; sets_none = refl; writes_none = refl };
+      quiet = record { closes_none = refl; detaches_none = refl; stays_up = refl; creates_none = rw known refl; attaches_none = rw known refl; sets_none = refl; writes_none = refl };
       passed = rw (up, free, there, positive, room) refl;
       number = refl;
       pulse = refl;

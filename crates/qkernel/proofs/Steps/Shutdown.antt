@@ -1,19 +1,21 @@
 -- Shutdown as a step of the kernel.
-use Rattle.std.proofs.Common.{◌≡◌, ℕ, ◌+◌, List, refl, sym, ◌∙◌, arith, true, false}
+use Rattle.std.proofs.Common.{◌≡◌, ℕ, ◌+◌, List, refl, ap, sym, ◌∙◌, arith, true, false}
 use Rattle.std.specs.Prelude.{None, Some}
 use Rattle.std.proofs.lemmas.List.{append-nil}
 use Rattle.qbase.specs.declared.errno.Errno.TheVariants.{Srch}
 use Rattle.qtables.specs.Entries.{entry_at}
 use Rattle.qtables.specs.Members.{member_at}
 use Rattle.qtables.specs.declared.member.Member.{Member}
+use Rattle.qrules.specs.Step.{left_by}
 use Rattle.qrules.specs.declared.call.Call.TheVariants.{Shutdown}
 use Rattle.qrules.specs.declared.call.Completion.{Completion}
+use Rattle.qrecords.specs.Channels.{pending_in}
 use Rattle.qrecords.specs.Cuts.{AreCut, LoseCut}
 use Rattle.qrecords.specs.Threads.{members_of, open_in}
 use Rattle.qrecords.specs.declared.channel.Channel.{Channel}
 use Rattle.qrecords.specs.declared.cutting.Cut.TheVariants.{All}
 use Rattle.qrecords.specs.declared.thread.Thread.{Thread}
-use Rattle.qkernel.specs.State.{State}
+use Rattle.qkernel.specs.State.{State, facts_in}
 use Rattle.qkernel.specs.Stands.{Steps}
 use Rattle.qkernel.proofs.Steps.Cutting.{endings_cut, open_after}
 use Rattle.qkernel.proofs.Steps.Delivering.{count_kept}
@@ -34,7 +36,7 @@ step_shut s t m threads channels X known up free are lose is = (
       connection = λ k. rw known refl;
       live_connections = rw known (omega arith);
       open_call = λ u. open_after s t All Srch threads u free are;
-      pending = λ h. lose.pending h ∙ sym (append-nil _);
+      pending = λ h. lose.pending h ∙ ap (left_by (facts_in s) t Shutdown h) (sym (append-nil (pending_in s.channels h)));
       priority = are.priority;
     };
   },

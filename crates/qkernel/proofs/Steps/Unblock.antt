@@ -1,5 +1,5 @@
 -- Unblock as a step of the kernel.
-use Rattle.std.proofs.Common.{◌≡◌, ℕ, ◌+◌, List, [], ◌∷◌, refl, ap, sym, ◌∙◌, cond, arith, true, false, eqb, inl, inr}
+use Rattle.std.proofs.Common.{◌≡◌, ℕ, ◌+◌, List, [], ◌∷◌, ◌++◌, refl, ap, sym, ◌∙◌, cond, arith, true, false, eqb, inl, inr}
 use Rattle.std.specs.Prelude.{Option, None, Some, filter, is_some, not, ◌&&◌}
 use Rattle.std.specs.List.{list_any}
 use Rattle.std.specs.Option.{option_map}
@@ -11,12 +11,13 @@ use Rattle.qtables.specs.Entries.{entry_at}
 use Rattle.qtables.specs.Members.{member_at}
 use Rattle.qtables.specs.declared.connection.Connection.{Connection}
 use Rattle.qtables.specs.declared.member.Member.{Member}
-use Rattle.qrules.specs.Answer.{MayRefuse, ending, failed, row_of}
-use Rattle.qrules.specs.Calls.Unblock.{due, due_of, due_on, ends, guard, guard_over, receipt}
+use Rattle.qrules.specs.Answer.{MayRefuse, ending, failed}
+use Rattle.qrules.specs.Calls.Unblock.{due, due_of, due_on, ends, guard, guard_over}
 use Rattle.qrules.specs.Cutting.{cut_call, cut_where, is_unread_send}
 use Rattle.qrules.specs.Facts.{is_in_process, threads_of}
+use Rattle.qrules.specs.Pulses.{told_receipt}
 use Rattle.qrules.specs.Rows.{unblock_item}
-use Rattle.qrules.specs.Step.{unblocked_call}
+use Rattle.qrules.specs.Step.{left_by, made_on, taken_out, unblocked_call}
 use Rattle.qrules.specs.declared.call.Call.TheVariants.{Unblock}
 use Rattle.qrules.specs.declared.call.Completion.{Completion}
 use Rattle.qrules.specs.declared.open_call.OpenCall.{OpenCall}
@@ -136,7 +137,8 @@ module _ (s : State) (t thread : ℕ) (m : Member) (sound : IsSound s) (known : 
             open_call = λ u. open_after s t (Of thread) Intr threads u free are ∙ rw (ends_one u, k.none_due, and_false (eqb u thread)) refl;
             pending = λ h. lose.pending h
                 ∙ ap (λ (g : ℕ → Option Completion). filter (λ item. not (list_any (λ v. is_unread_send (entry_at s.connections) h item.number (open_in s.threads v) && is_some (g v)) (threads_of (members_of s.threads)))) (pending_in s.channels h)) (sym ends_same)
-                ∙ rw (k.none_due) (sym (append-nil _));
+                ∙ ap (left_by (facts_in s) t (Unblock thread) h) (sym (append-nil (pending_in s.channels h)))
+                ∙ ap (λ o. taken_out (told_receipt (facts_in s) o) h (left_by (facts_in s) t (Unblock thread) h (pending_in s.channels h ++ made_on h o))) (sym k.none_due);
             priority = λ u. are.priority u ∙ rw (k.none_due) refl;
           };
         },
@@ -199,14 +201,14 @@ module _ (s : State) (t thread : ℕ) (m : Member) (sound : IsSound s) (known : 
 
         pub tells_unblock : has_room s.channels g.1 ≡ true → Tells s t (Unblock thread) g.1 (unblock_item (s.made + 1) g.0.receipt.priority g.0.rcvid)
         tells_unblock room = record {
-          quiet = record { closes_none = refl; stays_up = refl; creates_none = rw known refl; attaches_none = rw known refl; sets_none = refl; writes_none = refl };
+          quiet = record { closes_none = refl; detaches_none = refl; stays_up = refl; creates_none = rw known refl; attaches_none = rw known refl; sets_none = refl; writes_none = refl };
           passed = rw (up, free, known, fellow, due_is, room) refl;
           number = refl;
           pulse = refl;
           made = due_is;
           own = refl;
           ends = λ u. ap (λ d. ends (facts_in s) thread d u) due_is;
-          receipt = ap (receipt (facts_in s)) due_is;
+          receipt = ap (told_receipt (facts_in s)) due_is;
         }
 
 -- what the thread is blocked in is marked

@@ -16,7 +16,7 @@ use Rattle.qrecords.specs.declared.channel.Channel.{Channel}
 use Rattle.qrecords.specs.declared.cutting.Cut.{Cut}
 use Rattle.qrecords.specs.declared.thread.Thread.{Thread}
 use Rattle.qrecords.specs.Channels.{ids_of, channel_in, pending_in}
-use Rattle.qrecords.specs.Cuts.{is_cut_by, is_cut_open, is_taken_from, is_cut_among, ending_for, with_ending, left_by, left_open, Lose, LoseCut, AreCut}
+use Rattle.qrecords.specs.Cuts.{is_cut_by, is_cut_open, is_taken_from, is_cut_among, ending_for, with_ending, left_by, Lose, LoseCut, AreCut}
 use Rattle.qrecords.specs.Threads.{members_of, open_in, level_in}
 use Rattle.qrules.proofs.Past.Lists.{filter_alike, filter_whole}
 use Rattle.qrecords.proofs.Cuts.Queues.{filter_after}

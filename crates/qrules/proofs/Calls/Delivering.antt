@@ -5,15 +5,19 @@ use Rattle.std.specs.Option.{option_map}
 use Rattle.std.proofs.lemmas.Bool.{eqb-true, ne_eqb}
 use Rattle.std.proofs.lemmas.Option.{none-some, same_Some}
 use Rattle.qqueue.specs.declared.item.Item.{Item}
+use Rattle.qqueue.specs.declared.item.Kind.{Kind}
 use Rattle.qtables.specs.declared.connection.Connection.{Connection}
 use Rattle.qrules.specs.Answer.{row_of, ending}
 use Rattle.qrules.specs.Delivering.{meets, receiver, receipt_by, received_of}
 use Rattle.qrules.specs.Facts.{Facts, leads_to, way}
 use Rattle.qrules.specs.Receivers.{newest}
 use Rattle.qrules.specs.Items.{makes}
-use Rattle.qrules.specs.Rows.{Received, Made, asks, received, receipt_in, sent_over}
+use Rattle.qrules.specs.Rows.{Received, Made, asks, received, receipt_in, sent_over, takes, takes_into}
 use Rattle.qrules.specs.declared.call.Call.{Call}
 use Rattle.qrules.specs.declared.call.Completion.{Completion}
+use Rattle.qrules.specs.declared.open_call.OpenCall.{OpenCall}
+use Rattle.qrules.specs.declared.open_call.Wait.{Wait}
+use Rattle.qrules.specs.declared.open_call.Wait.TheVariants.{Answer, Item as ForItem}
 use Rattle.qrules.proofs.Past.Lists.{eqb_same}
 use Rattle.qrules.proofs.Past.Laws.{IsOfOpen, IsSettled, IsReceipt, IsReceived, is_settled}
 use Rattle.qrules.proofs.Calls.Taking.{Taken, taken_by, receipt_from, receipt_in_at}
@@ -106,27 +110,48 @@ met_receives f sender item message (Some h) u y p e m =
       refl,
     )
 
-module _ (f : Facts) (t : ℕ) (o : Option ℕ) (c : Call) (item : Item) (message : List ℕ) (sender : Option ℕ) (ends_is : (u : ℕ) → (row_of f t c).ends u ≡ meets f item message (receiver f item o) u)
-    (receipt_is : (row_of f t c).receipt ≡ received_of f sender item message o (receiver f item o)) where
-  pub delivers_open : (u : ℕ) (y : Completion) → (row_of f t c).ends u ≡ Some y → IsOfOpen f u y
-  delivers_open u y e =
-      let k = taken_by item message u (f.open_call u) y (met_by f item message (receiver f item o) u y (sym (ends_is u) ∙ e)).given in
+-- an open call that waits for an item
+pub record ForAnItem (call : Option OpenCall) : Type 0 where
+  pub waiting : OpenCall
+  pub is : call ≡ Some waiting
+  pub chid : ℕ
+  pub kind : Kind
+  pub buffer : List ℕ
+  pub waits : waiting.wait ≡ ForItem chid kind buffer
+
+takes_item : (item : Item) (message : List ℕ) (u : ℕ) (call : Option OpenCall) (y : Completion) → takes item message u call ≡ Some y → ForAnItem call
+takes_item item message u None y e = absurd (none-some y e)
+takes_item item message u (Some o) y e = by_wait o.wait e where
+  by_wait : (w : Wait) → takes_into item message u o.number w ≡ Some y → ForAnItem (Some (record { number = o.number; wait = w }))
+  by_wait (Answer coid sent reply_buffer receipt) e = absurd (none-some y e)
+  by_wait (ForItem chid kind buffer) e = record { waiting = record { number = o.number; wait = ForItem chid kind buffer }; is = refl; chid = chid; kind = kind; buffer = buffer; waits = refl }
+
+module _ (f : Facts) (item : Item) (message : List ℕ) (o : Option ℕ) where
+  -- what is met waits for an item
+  pub met_item : (u : ℕ) (y : Completion) → meets f item message (receiver f item o) u ≡ Some y → ForAnItem (f.open_call u)
+  met_item u y e = takes_item item message u (f.open_call u) y (met_by f item message (receiver f item o) u y e).given
+
+  pub met_open : (u : ℕ) (y : Completion) → meets f item message (receiver f item o) u ≡ Some y → IsOfOpen f u y
+  met_open u y e =
+      let k = taken_by item message u (f.open_call u) y (met_by f item message (receiver f item o) u y e).given in
       record { waiting = k.waiting; is = k.is; call = k.call; thread = k.thread }
 
-  pub delivers_settled : (u : ℕ) (y : Completion) → (row_of f t c).ends u ≡ Some y → IsSettled (f.open_call u)
-  delivers_settled u y e w is =
-      let k = taken_by item message u (f.open_call u) y (met_by f item message (receiver f item o) u y (sym (ends_is u) ∙ e)).given in
+  pub met_settled : (u : ℕ) (y : Completion) → meets f item message (receiver f item o) u ≡ Some y → IsSettled (f.open_call u)
+  met_settled u y e w is =
+      let k = taken_by item message u (f.open_call u) y (met_by f item message (receiver f item o) u y e).given in
       ap (λ v. is_settled v.wait) (same_Some w k.waiting (sym is ∙ k.is)) ∙ k.settled
 
-  pub delivers_receipt : (u : ℕ) (y : Completion) (p : ℕ × ℕ) → (row_of f t c).ends u ≡ Some y → received y.mark ≡ Some p → IsReceipt (row_of f t c) u p
-  delivers_receipt u y p e m =
-      let r = met_receives f sender item message o u y p (sym (ends_is u) ∙ e) m in
+module _ (f : Facts) (t : ℕ) (o : Option ℕ) (c : Call) (item : Item) (message : List ℕ) (sender : Option ℕ)
+    (receipt_is : (row_of f t c).receipt ≡ received_of f sender item message o (receiver f item o)) where
+  pub met_receipt : (u : ℕ) (y : Completion) (p : ℕ × ℕ) → meets f item message (receiver f item o) u ≡ Some y → received y.mark ≡ Some p → IsReceipt (row_of f t c) u p
+  met_receipt u y p e m =
+      let r = met_receives f sender item message o u y p e m in
       record { receipt = r.0; is = receipt_is ∙ r.1; by = r.2; item = r.3; copied = r.4 }
 
   -- the receipt of the row is of the item that is sent
-  pub delivers_received : f.open_call t ≡ None → ((h : ℕ) → o ≡ Some h → makes f t c ≡ Some (record { item = item; channel = h })) → sender ≡ option_map (λ o. t) (asks f.number c)
-      → (q : Received) → (row_of f t c).receipt ≡ Some q → IsReceived f t c q
-  delivers_received idle makes_is sender_is q e =
+  pub met_received : ((u : ℕ) (y : Completion) → meets f item message (receiver f item o) u ≡ Some y → (row_of f t c).ends u ≡ Some y) → f.open_call t ≡ None
+      → ((h : ℕ) → o ≡ Some h → makes f t c ≡ Some (record { item = item; channel = h })) → sender ≡ option_map (λ o. t) (asks f.number c) → (q : Received) → (row_of f t c).receipt ≡ Some q → IsReceived f t c q
+  met_received ends_met idle makes_is sender_is q e =
       let s = sent_over_way f sender item message o (receiver f item o) q (sym receipt_is ∙ e) in
       let other : eqb s.by t ≡ false = ne_eqb s.by t (λ same. none-some s.taken.waiting (sym idle ∙ ap f.open_call (sym same) ∙ s.taken.is)) in
       let met = met_at f item message (receiver f item o) s.by s.given s.is_by s.is_given in
@@ -140,6 +165,21 @@ module _ (f : Facts) (t : ℕ) (o : Option ℕ) (c : Call) (item : Item) (messag
           sender_is = sender_is;
         });
         given = s.given;
-        is_given = subst (λ v. ending f t c v ≡ Some s.given) (sym s.taken.thread) (rw other (ends_is s.by ∙ met));
+        is_given = subst (λ v. ending f t c v ≡ Some s.given) (sym s.taken.thread) (rw other (ends_met s.by s.given met));
         mark = s.taken.mark;
       })
+
+module _ (f : Facts) (t : ℕ) (o : Option ℕ) (c : Call) (item : Item) (message : List ℕ) (sender : Option ℕ) (ends_is : (u : ℕ) → (row_of f t c).ends u ≡ meets f item message (receiver f item o) u)
+    (receipt_is : (row_of f t c).receipt ≡ received_of f sender item message o (receiver f item o)) where
+  pub delivers_open : (u : ℕ) (y : Completion) → (row_of f t c).ends u ≡ Some y → IsOfOpen f u y
+  delivers_open u y e = met_open f item message o u y (sym (ends_is u) ∙ e)
+
+  pub delivers_settled : (u : ℕ) (y : Completion) → (row_of f t c).ends u ≡ Some y → IsSettled (f.open_call u)
+  delivers_settled u y e = met_settled f item message o u y (sym (ends_is u) ∙ e)
+
+  pub delivers_receipt : (u : ℕ) (y : Completion) (p : ℕ × ℕ) → (row_of f t c).ends u ≡ Some y → received y.mark ≡ Some p → IsReceipt (row_of f t c) u p
+  delivers_receipt u y p e m = met_receipt f t o c item message sender receipt_is u y p (sym (ends_is u) ∙ e) m
+
+  pub delivers_received : f.open_call t ≡ None → ((h : ℕ) → o ≡ Some h → makes f t c ≡ Some (record { item = item; channel = h })) → sender ≡ option_map (λ o. t) (asks f.number c)
+      → (q : Received) → (row_of f t c).receipt ≡ Some q → IsReceived f t c q
+  delivers_received idle makes_is sender_is q e = met_received f t o c item message sender receipt_is (λ u y m. ends_is u ∙ m) idle makes_is sender_is q e

@@ -5,7 +5,6 @@ use Rattle.std.proofs.lemmas.Option.{none-some, same_Some}
 use Rattle.qqueue.specs.Best.{best_of}
 use Rattle.qqueue.specs.declared.item.Item.{Item}
 use Rattle.qqueue.specs.declared.item.Kind.{Kind}
-use Rattle.qtables.specs.declared.connection.Connection.{Connection}
 use Rattle.qrules.specs.Answer.{row_of}
 use Rattle.qrules.specs.Facts.{Facts, message}
 use Rattle.qrules.specs.Receiving.{receipt_of, received_of, sender_for}

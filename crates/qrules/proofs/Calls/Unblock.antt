@@ -2,14 +2,14 @@
 use Rattle.std.proofs.Common.{◌≡◌, ◌∙◌, ℕ, List, [], ap, refl, sym, subst, cond, eqb, Bool, true, false}
 use Rattle.std.specs.Prelude.{Option, None, Some, is_some, not, ◌&&◌}
 use Rattle.std.proofs.lemmas.Bool.{true≢false}
-use Rattle.std.proofs.lemmas.Option.{none-some, same_Some, cond_some}
-use Rattle.qbase.specs.declared.errno.Errno.{Errno}
+use Rattle.std.proofs.lemmas.Option.{none-some, same_Some}
 use Rattle.qbase.specs.declared.errno.Errno.TheVariants.{Intr, Srch}
 use Rattle.qqueue.specs.Best.{is_pulse}
 use Rattle.qtables.specs.declared.connection.Connection.{Connection}
 use Rattle.qrules.specs.Answer.{row_of}
-use Rattle.qrules.specs.Calls.Unblock.{due, due_for, due_of, due_on, ends, guard, guard_over, receipt, refusal, refusal_of}
+use Rattle.qrules.specs.Calls.Unblock.{due, due_for, due_of, due_on, ends, guard, guard_over, refusal}
 use Rattle.qrules.specs.Facts.{Facts, OpenChannel, is_fellow, tells_unblock}
+use Rattle.qrules.specs.Pulses.{full_for, told_receipt}
 use Rattle.qrules.specs.Rows.{Made, Received, received, unblock_item}
 use Rattle.qrules.specs.declared.call.Call.TheVariants.{Unblock}
 use Rattle.qrules.specs.declared.call.Completion.{Completion}
@@ -17,7 +17,7 @@ use Rattle.qrules.specs.declared.open_call.OpenCall.{OpenCall}
 use Rattle.qrules.specs.declared.open_call.Receipt.{Receipt}
 use Rattle.qrules.specs.declared.open_call.Wait.{Wait}
 use Rattle.qrules.specs.declared.open_call.Wait.TheVariants.{Answer, Item as ForItem}
-use Rattle.qrules.proofs.Past.Laws.{CallLaws, IsOfOpen, IsOwn, IsReceipt, IsReceived, Passes, RowLaws, is_forceful}
+use Rattle.qrules.proofs.Past.Laws.{CallLaws, IsOfOpen, IsOwn, IsReceipt, IsReceived, Passes, RowLaws}
 use Rattle.qrules.proofs.Calls.Cutting.{cut_parts}
 use Rattle.qrules.proofs.Calls.Delivering.{delivers_open, delivers_receipt, delivers_received}
 
@@ -99,8 +99,8 @@ pub due_pulse : (f : Facts) (thread : ℕ) (m : Made) → due f thread ≡ Some 
 due_pulse f thread m e = ap (λ x. is_pulse x.item.what) (sym (due_parts f (f.open_call thread) m e).made)
 
 -- an accepted Unblock is of a thread of the caller's process, and finds room for its pulse
-pub fellow_passes : (f : Facts) (t thread : ℕ) → refusal f t thread ≡ None → refusal_of f (due f thread) ≡ None
-fellow_passes f t thread r = elim (is_fellow f t thread) as (λ b. cond b (refusal_of f (due f thread)) (Some Srch) ≡ None → refusal_of f (due f thread) ≡ None) [
+pub fellow_passes : (f : Facts) (t thread : ℕ) → refusal f t thread ≡ None → full_for f (due f thread) ≡ None
+fellow_passes f t thread r = elim (is_fellow f t thread) as (λ b. cond b (full_for f (due f thread)) (Some Srch) ≡ None → full_for f (due f thread) ≡ None) [
   | true ↦ λ s. s
   | false ↦ λ s. absurd (none-some Srch (sym s))
 ] r
@@ -141,13 +141,13 @@ module _ (f : Facts) (t thread : ℕ) (p : Passes f t (Unblock thread)) where
   -- with this one due
   module _ (m : Made) (is : due f thread ≡ Some m) where
     told_open : (u : ℕ) (y : Completion) → ends f thread (due f thread) u ≡ Some y → IsOfOpen f u y
-    told_open = delivers_open f t (Some m.channel) (Unblock thread) m.item [] None (λ u. ap (λ d. ends f thread d u) is) (ap (receipt f) is)
+    told_open = delivers_open f t (Some m.channel) (Unblock thread) m.item [] None (λ u. ap (λ d. ends f thread d u) is) (ap (told_receipt f) is)
 
-    told_receipt : (u : ℕ) (y : Completion) (q : ℕ × ℕ) → ends f thread (due f thread) u ≡ Some y → received y.mark ≡ Some q → IsReceipt (row_of f t (Unblock thread)) u q
-    told_receipt = delivers_receipt f t (Some m.channel) (Unblock thread) m.item [] None (λ u. ap (λ d. ends f thread d u) is) (ap (receipt f) is)
+    told_taken : (u : ℕ) (y : Completion) (q : ℕ × ℕ) → ends f thread (due f thread) u ≡ Some y → received y.mark ≡ Some q → IsReceipt (row_of f t (Unblock thread)) u q
+    told_taken = delivers_receipt f t (Some m.channel) (Unblock thread) m.item [] None (λ u. ap (λ d. ends f thread d u) is) (ap (told_receipt f) is)
 
-    told_received : (q : Received) → receipt f (due f thread) ≡ Some q → IsReceived f t (Unblock thread) q
-    told_received = delivers_received f t (Some m.channel) (Unblock thread) m.item [] None (λ u. ap (λ d. ends f thread d u) is) (ap (receipt f) is) p.idle
+    told_received : (q : Received) → told_receipt f (due f thread) ≡ Some q → IsReceived f t (Unblock thread) q
+    told_received = delivers_received f t (Some m.channel) (Unblock thread) m.item [] None (λ u. ap (λ d. ends f thread d u) is) (ap (told_receipt f) is) p.idle
         (λ h s. subst (λ k. due f thread ≡ Some (record { item = m.item; channel = k })) (same_Some m.channel h s) is) refl
 
   pub row_laws : RowLaws f t (Unblock thread)
@@ -162,10 +162,10 @@ module _ (f : Facts) (t thread : ℕ) (p : Passes f t (Unblock thread)) where
         own_receives = λ y q e m. absurd (none-some q (ap (λ x. received x.mark) (same_Some _ y e) ∙ m));
         ends_receives = elim (due f thread) as (λ o. due f thread ≡ o → (u : ℕ) (y : Completion) (q : ℕ × ℕ) → ends f thread (due f thread) u ≡ Some y → received y.mark ≡ Some q → IsReceipt (row_of f t (Unblock thread)) u q) [
           | None ↦ λ none u y q e m. absurd (none-some q (sym (ends_cut none u y e).1 ∙ m))
-          | Some m ↦ λ is. told_receipt m is
+          | Some m ↦ λ is. told_taken m is
         ] refl;
-        receives = elim (due f thread) as (λ o. due f thread ≡ o → (q : Received) → receipt f (due f thread) ≡ Some q → IsReceived f t (Unblock thread) q) [
-          | None ↦ λ none q e. absurd (none-some q (ap (receipt f) (sym none) ∙ e))
+        receives = elim (due f thread) as (λ o. due f thread ≡ o → (q : Received) → told_receipt f (due f thread) ≡ Some q → IsReceived f t (Unblock thread) q) [
+          | None ↦ λ none q e. absurd (none-some q (ap (told_receipt f) (sym none) ∙ e))
           | Some m ↦ λ is. told_received m is
         ] refl;
         sends = λ m e sent. absurd (true≢false (sym (due_pulse f thread m e) ∙ sent));

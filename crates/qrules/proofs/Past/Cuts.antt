@@ -12,7 +12,7 @@ use Rattle.qrules.specs.Cutting.{is_on, is_unread_send}
 use Rattle.qrules.specs.Facts.{Facts, is_for_answer, is_for_receipt, threads_of}
 use Rattle.qrules.specs.Headline.AnsweredToSender.{sender_of}
 use Rattle.qrules.specs.Lawful.{facts_of, IsLawful, with_event}
-use Rattle.qrules.specs.Past.{is_unblocked, connection_at, ends, filled, is_ended, is_taken, open_call, priority_of_item, receipt_of, with_receipt}
+use Rattle.qrules.specs.Past.{is_unblocked, connection_at, ends, filled, is_ended, is_taken, open_call, priority_of_item, receipt_of, with_receipt, attached}
 use Rattle.qrules.specs.Step.{is_cut, left_by}
 use Rattle.qrules.specs.Trace.{Trace}
 use Rattle.qrules.specs.declared.call.Call.{Call}
@@ -22,13 +22,14 @@ use Rattle.qrules.specs.declared.open_call.Wait.{Wait}
 use Rattle.qrules.specs.declared.open_call.Wait.TheVariants.{Answer, Item as ForItem}
 use Rattle.qrules.proofs.Past.Ends.{ends_other, open_known, passes_of}
 use Rattle.qrules.proofs.Past.Items.{IsPending, item_at, item_message}
-use Rattle.qrules.proofs.Past.Laws.{IsSettled, RowLaws, is_forceful, is_settled}
+use Rattle.qrules.proofs.Past.Laws.{IsSettled, is_settled}
 use Rattle.qrules.proofs.Past.Lists.{and_false, any_never, any_only, filter_whole, none_of}
 use Rattle.qrules.proofs.Past.Numbers.{block_fresh, filled_answer, filled_settled, open_from, open_parts, open_thread}
 use Rattle.qrules.proofs.Properties.Answers.{over}
 use Rattle.qrules.proofs.Properties.Messages.{item_waits, pending_going}
 use Rattle.qrules.proofs.Properties.Sends.{block_over, block_sender, buffer_over}
 use Rattle.qrules.proofs.Rosters.{known}
+use Rattle.qrules.proofs.Past.LiveSends.{over_attached}
 
 -- ---- a Send that isn't received
 
@@ -103,14 +104,16 @@ sent_by roster past h item l p message =
     let k = block_over roster past w.thread w.block l w.is w.answer in
     let same = same_Some k.made (record { item = item; channel = h }) (sym k.is_made ∙ ap (item_at roster past) w.number ∙ p.made) in
     let answer : is_for_answer (filled past w.block).wait ≡ true = filled_answer past w.block ∙ w.answer in
+    let is_open : open_call roster past w.thread ≡ Some (filled past w.block) =
+    open_from roster past w.thread w.block w.is (subst (λ i. is_ended past i ≡ false) (sym w.number) going) ∙ ap (λ r. Some (with_receipt (priority_of_item roster past w.block.number) (is_unblocked roster past w.block.number) r (filled past w.block))) none in
     record {
       sender = w.thread;
       waiting = filled past w.block;
       sent = subst (λ i. sender_of past i ≡ Some w.thread) w.number (block_sender past w.thread w.block w.is w.answer);
-      is_open = open_from roster past w.thread w.block w.is (subst (λ i. is_ended past i ≡ false) (sym w.number) going) ∙ ap (λ r. Some (with_receipt (priority_of_item roster past w.block.number) (is_unblocked roster past w.block.number) r (filled past w.block))) none;
+      is_open = is_open;
       number = w.number;
       unread = receipt_from (filled past w.block).wait answer (filled_settled past w.block ∙ block_fresh past w.thread w.block w.is ∙ ap not w.answer);
-      on = on_over (λ j. connection_at roster past j) h (filled past w.block).wait k.connection answer (ap (λ j. connection_at roster past j) (buffer_over _ w.block.wait) ∙ k.is_connection) (sym k.channel ∙ ap (λ m. m.channel) same);
+      on = on_over (λ j. connection_at roster past j) h (filled past w.block).wait k.connection answer (over_attached roster past w.thread (filled past w.block) l is_open answer ∙ ap (λ j. attached roster past j) (buffer_over _ w.block.wait) ∙ k.is_connection) (sym k.channel ∙ ap (λ m. m.channel) same);
     }
 
 -- ---- what an accepted call ends

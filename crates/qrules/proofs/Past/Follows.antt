@@ -5,12 +5,13 @@ use Rattle.qtables.specs.Members.{member_at, IsRoster}
 use Rattle.qtables.specs.declared.member.Member.{Member}
 use Rattle.qrules.specs.Answer.{Outcome}
 use Rattle.qrules.specs.Lawful.{facts_of, IsLawful, with_event}
-use Rattle.qrules.specs.Past.{refuses, attaches}
+use Rattle.qrules.specs.Past.{refuses}
 use Rattle.qrules.specs.Step.{Follows}
 use Rattle.qrules.specs.Trace.{Event, Trace}
 use Rattle.qrules.specs.declared.call.Call.{Call}
 use Rattle.qrules.specs.declared.call.Completion.{Completion}
-use Rattle.qrules.proofs.Past.Channels.{channel_accepted, channel_refused, made_refused, made_accepted, count_refused, count_accepted, open_channels_accepted, open_channels_refused}
+use Rattle.qrules.proofs.Past.Channels.{channel_accepted, channel_refused, open_channels_accepted, open_channels_refused}
+use Rattle.qrules.proofs.Past.Connections.{connection_accepted, connection_refused, live_connections_accepted, live_connections_refused}
 use Rattle.qrules.proofs.Past.Ends.{accepted, refused}
 use Rattle.qrules.proofs.Past.OpenCalls.{open_refused, open_accepted}
 use Rattle.qrules.proofs.Past.Pending.{pending_refused, pending_accepted}
@@ -28,8 +29,8 @@ past_follows true roster past t c X rising l member a =
       down = rw r refl;
       channel = λ h. channel_accepted roster past t c X h l a;
       open_channels = open_channels_accepted roster past t c X l a;
-      connection = λ k. made_accepted (λ e. attaches (member_at roster e.thread) e.call) e past k r;
-      live_connections = count_accepted (λ e. attaches (member_at roster e.thread) e.call) e past r;
+      connection = λ k. connection_accepted roster past t c X k l a;
+      live_connections = live_connections_accepted roster past t c X l a;
       open_call = λ u. open_accepted roster past t c X u l member a;
       pending = λ h. pending_accepted roster past t c X h l member a;
       priority = λ u. priority_accepted roster past t c X u l member a;
@@ -43,8 +44,8 @@ past_follows false roster past t c X rising l member a =
       down = rw r refl;
       channel = λ h. channel_refused roster e past h r;
       open_channels = omega (arith, open_channels_refused roster e past r);
-      connection = λ k. made_refused (λ e. attaches (member_at roster e.thread) e.call) e past k r;
-      live_connections = omega (arith, count_refused (λ e. attaches (member_at roster e.thread) e.call) e past r);
+      connection = λ k. connection_refused roster e past k r;
+      live_connections = omega (arith, live_connections_refused roster e past r);
       open_call = λ u. open_refused roster past t c X u a;
       pending = λ h. pending_refused roster past t c X h a;
       priority = λ u. priority_refused roster past t c X u a;

@@ -11,7 +11,7 @@ use Rattle.qtables.specs.declared.member.Member.{Member}
 use Rattle.qrules.specs.Facts.{is_for_answer}
 use Rattle.qrules.specs.Headline.CopiedExactly.{call_at}
 use Rattle.qrules.specs.Lawful.{facts_of}
-use Rattle.qrules.specs.Past.{is_accepted, connection_at, priority_of_thread, item_of, items, made_among, priority_made, priority_of_item, is_closed, is_gone, pending, newest_block}
+use Rattle.qrules.specs.Past.{is_accepted, item_of, items, made_among, priority_made, priority_of_item, is_closed, is_gone, pending, newest_block}
 use Rattle.qrules.specs.Items.{makes}
 use Rattle.qrules.specs.Rows.{Made, asks}
 use Rattle.qrules.specs.Trace.{Event, Trace}

@@ -5,7 +5,6 @@ use Rattle.qqueue.specs.Best.{best_of, is_pulse}
 use Rattle.qqueue.specs.declared.item.Item.{Item}
 use Rattle.qqueue.specs.declared.item.Kind.{Kind}
 use Rattle.qqueue.specs.declared.item.What.TheVariants as what
-use Rattle.qtables.specs.declared.connection.Connection.{Connection}
 use Rattle.qrules.specs.Answer.{row_of, ending}
 use Rattle.qrules.specs.Facts.{Facts, sender, is_for_answer}
 use Rattle.qrules.specs.Laws.{is_for_reply}
@@ -14,7 +13,7 @@ use Rattle.qrules.specs.Receiving.{sender_for}
 use Rattle.qrules.specs.Items.{makes}
 use Rattle.qrules.specs.Rows.{Row, Made, Received, Written, asks, received, unblocks, writes}
 use Rattle.qrules.specs.declared.call.Call.{Call}
-use Rattle.qrules.specs.declared.call.Call.TheVariants.{ChannelCreate, ConnectAttach, Send, Receive, Reply, Error, Read, Write, Info, ReceivePulse, Pulse, PrioritySet, State, ChannelDestroy, Shutdown, Unblock}
+use Rattle.qrules.specs.declared.call.Call.TheVariants.{ChannelCreate, ConnectAttach, Send, Receive, Reply, Error, Read, Write, Info, ReceivePulse, Pulse, PrioritySet, State, ChannelDestroy, Shutdown, Unblock, ConnectDetach}
 use Rattle.qrules.specs.declared.call.Completion.{Completion}
 use Rattle.qrules.specs.declared.open_call.OpenCall.{OpenCall}
 use Rattle.qrules.specs.declared.open_call.Wait.{Wait}
@@ -59,6 +58,7 @@ abbrev pub is_forceful : Call → Bool
 is_forceful (ChannelDestroy chid) = true
 is_forceful Shutdown = true
 is_forceful (Unblock thread) = true
+is_forceful (ConnectDetach coid) = true
 is_forceful (ChannelCreate flags) = false
 is_forceful (ConnectAttach chid) = false
 is_forceful (Send coid message reply_buffer) = false

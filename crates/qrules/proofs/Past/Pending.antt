@@ -13,14 +13,14 @@ use Rattle.qtables.specs.Members.{member_at}
 use Rattle.qtables.specs.declared.member.Member.{Member}
 use Rattle.qrules.specs.Answer.{row_of, Outcome}
 use Rattle.qrules.specs.Lawful.{facts_of, IsLawful, with_event}
-use Rattle.qrules.specs.Past.{channel_at, ends, is_closed, is_ended, is_taken, is_gone, items, item_of, pending, first_some, receipt_among, receipt_of}
+use Rattle.qrules.specs.Past.{channel_at, ends, is_closed, is_ended, is_taken, is_gone, items, item_of, pending, receipt_among, receipt_of, open_call}
 use Rattle.qrules.specs.Items.{makes}
-use Rattle.qrules.specs.Rows.{Made, Received, closes, names}
+use Rattle.qrules.specs.Rows.{Made, Received, closes, names, first_some}
 use Rattle.qrules.specs.Step.{is_cut, left_by, made_on, taken_out, pending_after}
 use Rattle.qrules.specs.Trace.{Event, Trace}
 use Rattle.qrules.specs.declared.call.Call.{Call}
 use Rattle.qrules.specs.declared.call.Completion.{Completion}
-use Rattle.qrules.proofs.Past.Lists.{cond_same, eqb_either, none_of, all_append, all_filter, all_more, filter_alike, filter_same, filter_twice, filter_all, filter_whole}
+use Rattle.qrules.proofs.Past.Lists.{cond_same, eqb_either, none_of, all_append, all_filter, all_more, filter_alike, filter_same, filter_twice, filter_all, filter_whole, any_never}
 use Rattle.qrules.proofs.Past.Laws.{IsReceived}
 use Rattle.qrules.proofs.Past.Channels.{closed_accepted, closed_refused}
 use Rattle.qrules.proofs.Past.Cuts.{ended_is_cut}
@@ -28,6 +28,9 @@ use Rattle.qrules.proofs.Past.RowLaws.{call_laws}
 use Rattle.qrules.proofs.Past.Ends.{laws_of, accepted, refused, refused_ends, ended_below, ends_own}
 use Rattle.qrules.proofs.Past.Items.{IsPending, Stands, items_on, stands_all, staying, staying_all, item_at, item_below}
 use Rattle.qrules.proofs.Past.Receipts.{copied_by, accepted_receipts, refused_receipts, best_pending, receipt_beyond}
+use Rattle.qrules.proofs.Past.Numbers.{open_below}
+use Rattle.qrules.specs.Cutting.{is_unread_send}
+use Rattle.qrules.specs.Facts.{threads_of}
 
 -- ---- the items of a channel
 
@@ -65,7 +68,7 @@ pending_refused roster past t c X h a =
     all_more (Stands roster past h) (λ item. stays item ≡ not (is_gone past item)) (items_on roster past h) (stands_all roster past h) (λ item at.
     let below : item.number ≤ length past = item_below roster past item.number _ at in
     rw (refused_receipts (facts_of roster past) t c X item.number a, refused_ends roster past t c X item.number a (λ s. omega arith)) refl)) in
-    let closed : is_closed (e ∷ past) h ≡ is_closed past h = closed_refused e past h (refused roster past t c X a) in
+    let closed : is_closed (e ∷ past) h ≡ is_closed past h = closed_refused roster e past h (refused roster past t c X a) in
     ap (λ b. cond b [] (staying roster (e ∷ past) h)) closed ∙ ap (cond (is_closed past h) []) left
 
 -- ---- after an accepted call
@@ -208,10 +211,31 @@ none_out : (o : Option Received) (h : ℕ) → taken_out o h [] ≡ []
 none_out None h = refl
 none_out (Some r) h = cond_same (eqb r.channel h) []
 
+-- the item that a call makes isn't a message whose Send it ends: that has an earlier number
+made_uncut : (roster : List Member) (past : Trace) (t : ℕ) (c : Call) (h : ℕ) → left_by (facts_of roster past) t c h (made_on h (makes (facts_of roster past) t c)) ≡ made_on h (makes (facts_of roster past) t c)
+made_uncut roster past t c h =
+    let f = facts_of roster past in
+    filter_all (λ item. not (is_cut f t c h item.number)) (made_on h (makes f t c)) (made_all (λ item. not (is_cut f t c h item.number) ≡ true) h (makes f t c) (λ m is on.
+    let number : m.item.number ≡ length past + 1 = ((call_laws c).makes_one f t m is).number in
+    ap not (any_never _ (threads_of roster) (λ s.
+    elim (open_call roster past s) as (λ o. open_call roster past s ≡ o → (is_unread_send f.connection h m.item.number o && is_some ((row_of f t c).ends s)) ≡ false) [
+      | None ↦ λ none. refl
+      | Some o ↦ λ some.
+          let below : o.number ≤ length past = open_below roster past s o some in
+          let other : eqb o.number m.item.number ≡ false = ne_eqb _ _ (λ same. omega (arith, number)) in
+          rw other refl
+    ] refl))))
+
+left_made : (roster : List Member) (past : Trace) (t : ℕ) (c : Call) (h : ℕ) (items : List Item)
+    → left_by (facts_of roster past) t c h (items ++ made_on h (makes (facts_of roster past) t c)) ≡ left_by (facts_of roster past) t c h items ++ made_on h (makes (facts_of roster past) t c)
+left_made roster past t c h items =
+    let f = facts_of roster past in
+    filter-append (λ item. not (is_cut f t c h item.number)) items (made_on h (makes f t c)) ∙ ap (λ l. left_by f t c h items ++ l) (made_uncut roster past t c h)
+
 -- what stays of a channel that isn't destroyed
 staying_accepted : (roster : List Member) (past : Trace) (t : ℕ) (c : Call) (X : List Completion) (h : ℕ) → IsLawful roster past → is_some (member_at roster t) ≡ true → Outcome true (facts_of roster past) t c X
     → staying roster (with_event t c X past) h
-    ≡ taken_out (row_of (facts_of roster past) t c).receipt h (left_by (facts_of roster past) t c h (staying roster past h) ++ made_on h (makes (facts_of roster past) t c))
+    ≡ taken_out (row_of (facts_of roster past) t c).receipt h (left_by (facts_of roster past) t c h (staying roster past h ++ made_on h (makes (facts_of roster past) t c)))
 staying_accepted roster past t c X h l member a =
     let f = facts_of roster past in
     let e : Event = record { thread = t; call = c; endings = X } in
@@ -227,6 +251,7 @@ staying_accepted roster past t c X h l member a =
     ∙ sym (filter-append (leaves R.receipt) L M)
     ∙ sym (taken_from R.receipt h (L ++ M) (λ r is.
     elsewhere roster past t c X h r L (all_filter (IsPending roster past h) (λ item. not (is_cut f t c h item.number)) (staying roster past h) (staying_all roster past h)) a ((laws_of f t c X a).receives r is)))
+    ∙ ap (taken_out R.receipt h) (sym (left_made roster past t c h (staying roster past h)))
 
 pub pending_accepted : (roster : List Member) (past : Trace) (t : ℕ) (c : Call) (X : List Completion) (h : ℕ) → IsLawful roster past → is_some (member_at roster t) ≡ true → Outcome true (facts_of roster past) t c X
     → pending roster (with_event t c X past) h ≡ pending_after (facts_of roster past) t c h
@@ -235,13 +260,13 @@ pending_accepted roster past t c X h l member a =
     let e : Event = record { thread = t; call = c; endings = X } in
     let R = row_of (facts_of roster past) t c in
     let M = made_on h (makes f t c) in
-    let after = λ (items : List Item). taken_out R.receipt h (left_by f t c h items ++ M) in
-    ap (λ b. cond b [] (staying roster (e ∷ past) h)) (closed_accepted e past h (accepted roster past t c X a)) ∙ (
+    let after = λ (items : List Item). taken_out R.receipt h (left_by f t c h (items ++ M)) in
+    ap (λ b. cond b [] (staying roster (e ∷ past) h)) (closed_accepted roster e past h (accepted roster past t c X a)) ∙ (
     elim (names (closes c) h) as (λ d. cond (d || is_closed past h) [] (staying roster (e ∷ past) h) ≡ cond d [] (after (pending roster past h))) [
       | true ↦ refl
       | false ↦
           elim (is_closed past h) as (λ b. is_closed past h ≡ b → cond b [] (staying roster (e ∷ past) h) ≡ after (cond b [] (staying roster past h))) [
-            | true ↦ λ closed. sym (ap (taken_out R.receipt h) (closed_makes roster past t c X h a closed) ∙ none_out R.receipt h)
+            | true ↦ λ closed. sym (ap (λ l. taken_out R.receipt h (left_by f t c h l)) (closed_makes roster past t c X h a closed) ∙ none_out R.receipt h)
             | false ↦ λ standing. staying_accepted roster past t c X h l member a
           ] refl
     ])

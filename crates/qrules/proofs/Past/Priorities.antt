@@ -8,8 +8,8 @@ use Rattle.qtables.specs.declared.member.Member.{Member}
 use Rattle.qrules.specs.Answer.{row_of, ending, Outcome}
 use Rattle.qrules.specs.Facts.{threads_of}
 use Rattle.qrules.specs.Lawful.{facts_of, IsLawful, with_event}
-use Rattle.qrules.specs.Past.{carried, channel_at, first_among, first_some, given_by, item_of, items, made_among, priority_of_thread, refuses}
-use Rattle.qrules.specs.Rows.{Received, received, set_for, sets}
+use Rattle.qrules.specs.Past.{carried, channel_at, first_among, given_by, item_of, items, made_among, priority_of_thread, refuses}
+use Rattle.qrules.specs.Rows.{Received, received, set_for, sets, first_some}
 use Rattle.qrules.specs.Step.{taken_by, priority_after}
 use Rattle.qrules.specs.Trace.{Trace}
 use Rattle.qrules.specs.declared.call.Call.{Call}

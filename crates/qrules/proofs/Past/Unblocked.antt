@@ -4,14 +4,14 @@ use Rattle.std.specs.Prelude.{Option, None, Some, is_some, not, ◌&&◌, ◌||�
 use Rattle.std.specs.Option.{option_map, option_to_list}
 use Rattle.std.proofs.lemmas.Bool.{cases_Bool, eqb-true, ne_eqb, true≢false, or_cases}
 use Rattle.std.proofs.lemmas.List.Folds.{list_any-append}
-use Rattle.std.proofs.lemmas.Option.{none-some, same_Some}
+use Rattle.std.proofs.lemmas.Option.{same_Some}
 use Rattle.qtables.specs.declared.member.Member.{Member}
-use Rattle.qrules.specs.Facts.{Facts, is_for_answer}
+use Rattle.qrules.specs.Facts.{is_for_answer}
 use Rattle.qrules.specs.Items.{makes}
 use Rattle.qrules.specs.Laws.{is_for_reply}
 use Rattle.qrules.specs.Lawful.{facts_of}
-use Rattle.qrules.specs.Past.{filled, first_some, held_with, is_taken, is_unblock_for, is_unblocked, item_of, items, open_call, priority_of_item, receipt_among, receipt_of, unblocked_among, with_receipt}
-use Rattle.qrules.specs.Rows.{Made, unblocks}
+use Rattle.qrules.specs.Past.{filled, held_with, is_taken, is_unblock_for, is_unblocked, item_of, items, open_call, priority_of_item, receipt_among, receipt_of, unblocked_among, with_receipt}
+use Rattle.qrules.specs.Rows.{Made, unblocks, first_some}
 use Rattle.qrules.specs.Step.{after_unblock, unblocked_call, unblocked_wait}
 use Rattle.qrules.specs.Trace.{Event, Trace}
 use Rattle.qrules.specs.declared.call.Call.{Call}

@@ -25,6 +25,7 @@ use Rattle.qrules.proofs.Properties.Events.{is_accepted_by, outcome_of}
 use Rattle.qrules.proofs.Past.Unblocked.{held_is_taken}
 use Rattle.qrules.proofs.Rosters.{known}
 use Rattle.qrules.proofs.Properties.Sends.{block_sender, item_channel, open_keeps, open_over}
+use Rattle.qrules.proofs.Past.LiveSends.{over_attached}
 
 -- ---- each answer is one to the message that the call names
 
@@ -43,7 +44,7 @@ answers_its roster past e u y l a h =
     let began : is_for_answer k.block.wait ≡ true = sym (open_keeps is_for_answer roster past u o k held_for_answer buffer_answer) ∙ answer in
     let taken : is_taken past k.block.number ≡ true = held_is_taken roster past u o k answer (ap is_settled h.held.waits) in
     let s = open_over roster past u o k l answer in
-    let connection : connection_at roster past h.held.coid ≡ Some s.connection = ap (connection_at roster past) (sym (ap over h.held.waits)) ∙ s.is_connection in
+    let connection : connection_at roster past h.held.coid ≡ Some s.connection = ap (connection_at roster past) (sym (ap over h.held.waits)) ∙ over_attached roster past u o l h.held.is_open answer ∙ s.is_connection in
     record {
       named = h.named;
       accepted = is_accepted_by roster e past a;

@@ -24,7 +24,7 @@ use Rattle.qrules.specs.Headline.AnsweredToSender.{answered_by, is_answer, threa
 use Rattle.qrules.specs.Items.{makes}
 use Rattle.qrules.specs.Rows.{Made, asks, given, pulse_item, sent_over}
 use Rattle.qrules.specs.declared.call.Call.{Call}
-use Rattle.qrules.specs.declared.call.Call.TheVariants.{ChannelCreate, ConnectAttach, Send, Receive, Reply, Error, Read, Write, Info, ReceivePulse, Pulse, PrioritySet, State, ChannelDestroy, Shutdown, Unblock}
+use Rattle.qrules.specs.declared.call.Call.TheVariants.{ChannelCreate, ConnectAttach, Send, Receive, Reply, Error, Read, Write, Info, ReceivePulse, Pulse, PrioritySet, State, ChannelDestroy, Shutdown, Unblock, ConnectDetach}
 use Rattle.qrules.specs.declared.call.Completion.{Completion}
 use Rattle.qrules.specs.declared.open_call.OpenCall.{OpenCall}
 use Rattle.qrules.specs.declared.open_call.Wait.{Wait}
@@ -39,8 +39,10 @@ use Rattle.qrules.proofs.Calls.Taking.{given_is}
 use Rattle.qrules.proofs.Properties.Rows.Receiving.{ReceiveTakes, receive_takes}
 use Rattle.qrules.proofs.Properties.Rows.Delivering.{Meets, delivery_meets}
 use Rattle.qrules.proofs.Ways.{has_way, leads_over}
-use Rattle.qrules.specs.Calls.Unblock.{due}
-use Rattle.qrules.proofs.Properties.Rows.Unblock.{unblock_ends}
+use Rattle.qrules.specs.Calls.ConnectDetach as connect_detach
+use Rattle.qrules.specs.Calls.Unblock as unblock
+use Rattle.qrules.proofs.Calls.ConnectDetach.{detach_ends}
+use Rattle.qrules.proofs.Properties.Rows.Telling.{told_meets, unblock_ends}
 
 -- ---- what answers
 
@@ -87,6 +89,7 @@ own_answers f t (State thread) u y e is = no_answer _ y (same_Some _ y e) refl i
 own_answers f t (ChannelDestroy chid) u y e is = no_answer _ y (same_Some _ y e) refl is
 own_answers f t Shutdown u y e is = no_answer _ y (same_Some _ y e) refl is
 own_answers f t (Unblock thread) u y e is = no_answer _ y (same_Some _ y e) refl is
+own_answers f t (ConnectDetach coid) u y e is = no_answer _ y (same_Some _ y e) refl is
 
 -- the Send that a call ends is the one that it names
 answers_by : (f : Facts) (t : ℕ) (c : Call) (rcvid : ℕ) (finish : Finish) (u : ℕ) (y : Completion) → answered_by c ≡ Some rcvid → SenderEnds f t rcvid finish u y → AnswersHeld f t c u y
@@ -117,9 +120,13 @@ ends_answers f t (PrioritySet thread level) u y p e is = absurd (none-some y e)
 ends_answers f t (State thread) u y p e is = absurd (none-some y e)
 ends_answers f t (ChannelDestroy chid) u y p e is = no_answer _ y (cut_parts (is_on f.connection chid) Srch u (f.open_call u) y e).ending refl is
 ends_answers f t Shutdown u y p e is = no_answer _ y (cut_parts (λ wait. true) Srch u (f.open_call u) y e).ending refl is
-ends_answers f t (Unblock thread) u y p e is = elim (unblock_ends f thread u y (due f thread) refl e) [
+ends_answers f t (Unblock thread) u y p e is = elim (unblock_ends f thread u y (unblock.due f thread) e) [
   | inl cut ↦ no_answer _ y cut.ending refl is
   | inr k ↦ met_no_answer f (Some k.made.channel) k.made.item [] u y k.meets is
+]
+ends_answers f t (ConnectDetach coid) u y p e is = elim (detach_ends f coid (connect_detach.due f t coid) u y e) [
+  | inl cut ↦ no_answer _ y cut.ending refl is
+  | inr s ↦ let k = told_meets f (connect_detach.due f t coid) u y s in met_no_answer f (Some k.made.channel) k.made.item [] u y k.meets is
 ]
 
 -- each ending that answers a message answers so
@@ -176,6 +183,7 @@ answers_one f t (State thread) i p e = absurd (none-some i e)
 answers_one f t (ChannelDestroy chid) i p e = absurd (none-some i e)
 answers_one f t Shutdown i p e = absurd (none-some i e)
 answers_one f t (Unblock thread) i p e = absurd (none-some i e)
+answers_one f t (ConnectDetach coid) i p e = absurd (none-some i e)
 answers_one f t (ReceivePulse chid) i p e = absurd (none-some i e)
 answers_one f t (Pulse coid level code value) i p e = absurd (none-some i e)
 answers_one f t (Reply rcvid status bytes) i p e = ends_one f t (Reply rcvid status bytes) rcvid (replied status bytes) i p.row (λ u. refl) (λ buffer. refl) (same_Some rcvid i e)
@@ -221,6 +229,7 @@ sends_over f t (State thread) b p e w = absurd (none-some b e)
 sends_over f t (ChannelDestroy chid) b p e w = absurd (none-some b e)
 sends_over f t Shutdown b p e w = absurd (none-some b e)
 sends_over f t (Unblock thread) b p e w = absurd (none-some b e)
+sends_over f t (ConnectDetach coid) b p e w = absurd (none-some b e)
 sends_over f t (Pulse coid level code value) b p e w = absurd (none-some b e)
 sends_over f t (ReceivePulse chid) b p e w = absurd (true≢false (sym w ∙ ap (λ o. is_for_answer o.wait) (sym (same_Some _ b e))))
 sends_over f t (Receive chid buffer) b p e w = absurd (true≢false (sym w ∙ ap (λ o. is_for_answer o.wait) (sym (same_Some _ b e))))
@@ -243,5 +252,6 @@ sends_by n t (State thread) b e w = absurd (none-some b e)
 sends_by n t (ChannelDestroy chid) b e w = absurd (none-some b e)
 sends_by n t Shutdown b e w = absurd (none-some b e)
 sends_by n t (Unblock thread) b e w = absurd (none-some b e)
+sends_by n t (ConnectDetach coid) b e w = absurd (none-some b e)
 sends_by n t (Pulse coid level code value) b e w = absurd (none-some b e)
 sends_by n t (ReceivePulse chid) b e w = absurd (true≢false (sym w ∙ ap (λ o. is_for_answer o.wait) (sym (same_Some _ b e))))

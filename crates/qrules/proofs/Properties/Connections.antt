@@ -1,6 +1,6 @@
 -- What could be taken from a channel: items of that channel, and so of the connections over which they were sent.
 use Rattle.std.proofs.Common.{◌≡◌, ◌∙◌, ℕ, ◌+◌, List, [], ◌∷◌, length, refl, ap, sym, subst, cond, eqb, true, false}
-use Rattle.std.specs.Prelude.{Option, None, Some}
+use Rattle.std.specs.Prelude.{Option, None, Some, is_some}
 use Rattle.std.specs.List.{AllByRecursion}
 use Rattle.std.specs.Option.{option_and_then}
 use Rattle.std.proofs.lemmas.Option.{none-some, same_Some}
@@ -10,19 +10,20 @@ use Rattle.qtables.specs.declared.member.Member.{Member}
 use Rattle.qrules.specs.Headline.BestFirst.{takeable}
 use Rattle.qrules.specs.Headline.CopiedExactly.{call_at}
 use Rattle.qrules.specs.Headline.SentOrder.{connection_of, sends_over}
-use Rattle.qrules.specs.Past.{connection_at, item_of, pending, priority_of_thread}
+use Rattle.qrules.specs.Past.{item_of, pending, attached}
 use Rattle.qrules.specs.Items.{makes}
 use Rattle.qrules.specs.Rows.{message_item, pulse_item, Made, sent_over}
 use Rattle.qrules.specs.Step.{made_on}
 use Rattle.qrules.specs.Trace.{Event, Trace}
 use Rattle.qrules.specs.declared.call.Call.{Call}
-use Rattle.qrules.specs.declared.call.Call.TheVariants.{ChannelCreate, ConnectAttach, Send, Receive, Reply, Error, Read, Write, Info, ReceivePulse, Pulse, PrioritySet, State, ChannelDestroy, Shutdown, Unblock}
+use Rattle.qrules.specs.declared.call.Call.TheVariants.{ChannelCreate, ConnectAttach, Send, Receive, Reply, Error, Read, Write, Info, ReceivePulse, Pulse, PrioritySet, State, ChannelDestroy, Shutdown, Unblock, ConnectDetach}
 use Rattle.qrules.proofs.Past.Items.{item_accepted, IsPending, item_at, item_below, item_earlier, item_newest, made_by, pending_all}
 use Rattle.qrules.proofs.Past.Lists.{all_append, all_more}
 use Rattle.qrules.proofs.Past.Pending.{made_all}
 use Rattle.qrules.proofs.Properties.Sends.{made_stays}
 use Rattle.qrules.specs.Facts.{Facts}
 use Rattle.qrules.specs.Lawful.{facts_of}
+use Rattle.qrules.proofs.Past.Connections.{live_attached}
 
 -- ---- each is an item of the channel
 
@@ -64,19 +65,20 @@ makes_over f t (State thread) m k e s = absurd (none-some k s)
 makes_over f t (ChannelDestroy chid) m k e s = absurd (none-some k s)
 makes_over f t Shutdown m k e s = absurd (none-some k s)
 makes_over f t (Unblock thread) m k e s = absurd (none-some k s)
+makes_over f t (ConnectDetach coid) m k e s = absurd (none-some k s)
 makes_over f t (ReceivePulse chid) m k e s = absurd (none-some k s)
 makes_over f t (Pulse coid level code value) m k e s = subst (λ i. IsOver f.connection i m) (same_Some coid k s) (sent_is_over f.connection coid (pulse_item f.number level code value) m e)
 makes_over f t (Send coid message reply_buffer) m k e s =
     subst (λ i. IsOver f.connection i m) (same_Some coid k s) (sent_is_over f.connection coid (message_item f.number (f.priority t)) m e)
 
-pub item_over : (roster : List Member) (past : Trace) (i k : ℕ) (m : Made) → item_at roster past i ≡ Some m → connection_of past i ≡ Some k → IsOver (connection_at roster past) k m
+pub item_over : (roster : List Member) (past : Trace) (i k : ℕ) (m : Made) → item_at roster past i ≡ Some m → connection_of past i ≡ Some k → IsOver (attached roster past) k m
 item_over roster [] i k m is over = absurd (none-some m is)
 item_over roster (e ∷ past) i k m is over =
     elim (eqb i (length past + 1)) as (λ b. cond b (item_of roster e past) (item_at roster past i) ≡ Some m
-    → option_and_then sends_over (cond b (Some e.call) (call_at past i)) ≡ Some k → IsOver (connection_at roster (e ∷ past)) k m) [
+    → option_and_then sends_over (cond b (Some e.call) (call_at past i)) ≡ Some k → IsOver (attached roster (e ∷ past)) k m) [
       | true ↦ λ at by.
           let w = makes_over (facts_of roster past) e.thread e.call m k (item_accepted roster e past m at).1 by in
-          record { over = w.over; is = made_stays _ e past k w.over w.is; channel = w.channel }
+          record { over = w.over; is = made_stays _ e past k w.over (sym (live_attached roster past k (ap is_some w.is)) ∙ w.is); channel = w.channel }
       | false ↦ λ at by.
           let w = item_over roster past i k m at by in
           record { over = w.over; is = made_stays _ e past k w.over w.is; channel = w.channel }

@@ -7,7 +7,7 @@ use Rattle.std.specs.Ordering.{int_eq}
 use Rattle.std.proofs.lemmas.Bool.{true≢false}
 use Rattle.std.proofs.lemmas.Option.{none-some, same_Some}
 use Rattle.qbase.specs.declared.errno.Errno.{Errno}
-use Rattle.qbase.specs.declared.errno.Errno.TheVariants.{Srch, Intr}
+use Rattle.qbase.specs.declared.errno.Errno.TheVariants.{Srch, Intr, Badf}
 use Rattle.qqueue.specs.Best.{is_pulse}
 use Rattle.qqueue.specs.declared.item.Item.{Item}
 use Rattle.qqueue.specs.declared.item.Kind.{Kind}
@@ -20,16 +20,16 @@ use Rattle.qrules.specs.Calls.Error.{errored}
 use Rattle.qrules.specs.Calls.Info.{told, telling}
 use Rattle.qrules.specs.Calls.Reply.{replied}
 use Rattle.qrules.specs.Calls.Send as send
-use Rattle.qrules.specs.Cutting.{buffer_of_wait, cut_call, is_on}
+use Rattle.qrules.specs.Cutting.{buffer_of_wait, cut_call, is_on, is_over}
 use Rattle.qrules.specs.Facts.{Facts, message, message_in, sender, threads_of, way}
 use Rattle.qrules.specs.Held.{Finish, refusal, reply_buffer, reply_buffer_in, reply_buffer_of}
 use Rattle.qrules.specs.Headline.CopiedExactly.{CopiedExactly, IsCopied, buffer_at, buffer_by, call_at, message_at, message_of, replies_with}
 use Rattle.qrules.specs.Lawful.{facts_of, IsLawful}
 use Rattle.qrules.specs.Past.{open_call, refuses}
-use Rattle.qrules.specs.Rows.{pulse_item, taking, writes}
+use Rattle.qrules.specs.Rows.{pulse_item, taking, writes, Made}
 use Rattle.qrules.specs.Trace.{Event, Trace}
 use Rattle.qrules.specs.declared.call.Call.{Call}
-use Rattle.qrules.specs.declared.call.Call.TheVariants.{ChannelCreate, ConnectAttach, Send, Receive, Reply, Error, Read, Write, Info, ReceivePulse, Pulse, PrioritySet, State, ChannelDestroy, Shutdown, Unblock}
+use Rattle.qrules.specs.declared.call.Call.TheVariants.{ChannelCreate, ConnectAttach, Send, Receive, Reply, Error, Read, Write, Info, ReceivePulse, Pulse, PrioritySet, State, ChannelDestroy, Shutdown, Unblock, ConnectDetach}
 use Rattle.qrules.specs.declared.call.Completion.{Completion}
 use Rattle.qrules.specs.declared.call.Info.{Info as Told}
 use Rattle.qrules.specs.declared.call.Mark.{Mark}
@@ -51,9 +51,13 @@ use Rattle.qrules.proofs.Properties.Rows.Receiving.{ReceiveTakes, receive_takes}
 use Rattle.qrules.proofs.Calls.Cutting.{IsCutCall, cut_parts}
 use Rattle.qrules.proofs.Calls.Held.{IsHeldFor, SenderEnds, answering, has_sender, held_for, sender_ends}
 use Rattle.qrules.proofs.Properties.Rows.Delivering.{Meets, delivery_meets}
-use Rattle.qrules.proofs.Properties.Rows.Unblock.{unblock_ends}
-use Rattle.qrules.specs.Calls.Unblock.{due}
-use Rattle.qrules.proofs.Calls.Unblock.{due_pulse, is_cut}
+use Rattle.qrules.proofs.Properties.Rows.Telling.{Tells, told_meets, unblock_ends}
+use Rattle.qrules.specs.Calls.ConnectDetach as connect_detach
+use Rattle.qrules.specs.Calls.Unblock as unblock
+use Rattle.qrules.proofs.Calls.ConnectDetach as detaching
+use Rattle.qrules.proofs.Calls.ConnectDetach.{detach_ends}
+use Rattle.qrules.proofs.Calls.Unblock as unblocking
+use Rattle.qrules.proofs.Calls.Unblock.{is_cut}
 
 abbrev event : ℕ → Call → List Completion → Event
 event t c X = record { thread = t; call = c; endings = X }
@@ -85,6 +89,7 @@ buffer_stays e past i (State thread) none = refl
 buffer_stays e past i (ChannelDestroy chid) none = refl
 buffer_stays e past i Shutdown none = refl
 buffer_stays e past i (Unblock thread) none = refl
+buffer_stays e past i (ConnectDetach coid) none = refl
 buffer_stays e past i (ReceivePulse chid) none = refl
 buffer_stays e past i (Pulse coid level code value) none = refl
 
@@ -190,6 +195,7 @@ own_copied roster past t (State thread) X y l p e = plain_copied past (event t (
 own_copied roster past t (ChannelDestroy chid) X y l p e = plain_copied past (event t (ChannelDestroy chid) X) y _ (same_Some _ y e) (sym (buffer_newest (event t (ChannelDestroy chid) X) past))
 own_copied roster past t Shutdown X y l p e = plain_copied past (event t Shutdown X) y _ (same_Some _ y e) (sym (buffer_newest (event t Shutdown X) past))
 own_copied roster past t (Unblock thread) X y l p e = plain_copied past (event t (Unblock thread) X) y _ (same_Some _ y e) (sym (buffer_newest (event t (Unblock thread) X) past))
+own_copied roster past t (ConnectDetach coid) X y l p e = plain_copied past (event t (ConnectDetach coid) X) y _ (same_Some _ y e) (sym (buffer_newest (event t (ConnectDetach coid) X) past))
 own_copied roster past t (Pulse coid level code value) X y l p e = plain_copied past (event t (Pulse coid level code value) X) y _ (same_Some _ y e) (sym (buffer_newest (event t (Pulse coid level code value) X) past))
 own_copied roster past t (Receive chid buffer) X y l p e = best_copied roster past t (Receive chid buffer) X y chid Any buffer l (buffer_newest (event t (Receive chid buffer) X) past) (receive_takes (facts_of roster past) t chid Any buffer y e)
 own_copied roster past t (ReceivePulse chid) X y l p e = best_copied roster past t (ReceivePulse chid) X y chid PulseOnly [] l (buffer_newest (event t (ReceivePulse chid) X) past) (receive_takes (facts_of roster past) t chid PulseOnly [] y e)
@@ -212,6 +218,12 @@ cut_copied : (roster : List Member) (past : Trace) (t : ℕ) (c : Call) (X : Lis
 cut_copied roster past t c X u y is_cut errno none k =
     plain_copied past (event t c X) y (cut_call errno u k.waiting) k.ending (sym (buffer_open roster (event t c X) past u k.waiting none k.is))
 
+-- what a receiver takes that a pulse meets which is due
+told_now : (roster : List Member) (past : Trace) (t : ℕ) (c : Call) (X : List Completion) (u : ℕ) (y : Completion) (o : Option Made) → writes c ≡ None → ((m : Made) → o ≡ Some m → is_pulse m.item.what ≡ true)
+    → Tells (facts_of roster past) o u y → IsCopied past (event t c X) y y.mark
+told_now roster past t c X u y o none pulse k =
+    met_copied roster past t c X u y (Some k.made.channel) k.made.item [] none (λ message. absurd (true≢false (sym (pulse k.made k.is_due) ∙ message))) k.meets
+
 ends_copied : (roster : List Member) (past : Trace) (t : ℕ) (c : Call) (X : List Completion) (u : ℕ) (y : Completion) → Passes (facts_of roster past) t c → (row_of (facts_of roster past) t c).ends u ≡ Some y
     → IsCopied past (event t c X) y y.mark
 ends_copied roster past t (ChannelCreate flags) X u y p e = absurd (none-some y e)
@@ -224,9 +236,14 @@ ends_copied roster past t (PrioritySet thread level) X u y p e = absurd (none-so
 ends_copied roster past t (State thread) X u y p e = absurd (none-some y e)
 ends_copied roster past t (ChannelDestroy chid) X u y p e = cut_copied roster past t (ChannelDestroy chid) X u y (is_on (facts_of roster past).connection chid) Srch refl (cut_parts (is_on (facts_of roster past).connection chid) Srch u (open_call roster past u) y e)
 ends_copied roster past t Shutdown X u y p e = cut_copied roster past t Shutdown X u y (λ wait. true) Srch refl (cut_parts (λ wait. true) Srch u (open_call roster past u) y e)
-ends_copied roster past t (Unblock thread) X u y p e = elim (unblock_ends (facts_of roster past) thread u y (due (facts_of roster past) thread) refl e) [
+ends_copied roster past t (Unblock thread) X u y p e = elim (unblock_ends (facts_of roster past) thread u y (unblock.due (facts_of roster past) thread) e) [
   | inl cut ↦ cut_copied roster past t (Unblock thread) X u y (is_cut (facts_of roster past) thread u) Intr refl cut
-  | inr k ↦ met_copied roster past t (Unblock thread) X u y (Some k.made.channel) k.made.item [] refl (λ message. absurd (true≢false (sym (due_pulse (facts_of roster past) thread k.made k.is_due) ∙ message))) k.meets
+  | inr k ↦ told_now roster past t (Unblock thread) X u y (unblock.due (facts_of roster past) thread) refl (λ m is. unblocking.due_pulse (facts_of roster past) thread m is) k
+]
+ends_copied roster past t (ConnectDetach coid) X u y p e = elim (detach_ends (facts_of roster past) coid (connect_detach.due (facts_of roster past) t coid) u y e) [
+  | inl cut ↦ cut_copied roster past t (ConnectDetach coid) X u y (is_over coid) Badf refl cut
+  | inr s ↦ told_now roster past t (ConnectDetach coid) X u y (connect_detach.due (facts_of roster past) t coid) refl (λ m is. detaching.due_pulse (facts_of roster past) t coid m is)
+      (told_meets (facts_of roster past) (connect_detach.due (facts_of roster past) t coid) u y s)
 ]
 ends_copied roster past t (ReceivePulse chid) X u y p e = absurd (none-some y e)
 ends_copied roster past t (Send coid sent reply_buffer) X u y p e =
@@ -271,6 +288,7 @@ refused_buffer roster past t c X l r = brought c ∙ sym (buffer_newest (event t
   brought (ChannelDestroy chid) = refl
   brought Shutdown = refl
   brought (Unblock thread) = refl
+  brought (ConnectDetach coid) = refl
   brought (ReceivePulse chid) = refl
   brought (Pulse coid level code value) = refl
 

@@ -1,5 +1,5 @@
 -- The newest event of a lawful trace: what it made, where it was accepted, and what its endings receive.
-use Rattle.std.proofs.Common.{◌≡◌, ◌∙◌, ℕ, ◌+◌, List, length, refl, ap, sym, subst, cond, true, false, inl, inr}
+use Rattle.std.proofs.Common.{◌≡◌, ◌∙◌, ℕ, List, refl, ap, sym, subst, cond, true, false, inl, inr}
 use Rattle.std.specs.Prelude.{None, Some, not}
 use Rattle.std.specs.List.{AllByRecursion}
 use Rattle.std.proofs.lemmas.Bool.{true≢false}
@@ -9,7 +9,7 @@ use Rattle.qrules.specs.Answer.{ending, Outcome, Answers}
 use Rattle.qrules.specs.Facts.{Facts, threads_of}
 use Rattle.qrules.specs.Headline.ReceivedOnce.{item_received}
 use Rattle.qrules.specs.Lawful.{facts_of}
-use Rattle.qrules.specs.Past.{connection_at, is_accepted, item_of, priority_of_thread}
+use Rattle.qrules.specs.Past.{is_accepted, item_of}
 use Rattle.qrules.specs.Items.{makes}
 use Rattle.qrules.specs.Rows.{Made}
 use Rattle.qrules.specs.Trace.{Event, Trace}

@@ -1,24 +1,23 @@
 -- The messages and buffers of open calls are those that their calls brought, and a message that is pending has its Send open.
 use Rattle.std.proofs.Common.{◌≡◌, ◌∙◌, ℕ, ◌+◌, List, [], ◌∷◌, length, refl, ap, sym, subst, cond, eqb, true, false}
-use Rattle.std.specs.Prelude.{Option, None, Some, not, ◌&&◌}
+use Rattle.std.specs.Prelude.{None, Some, not, ◌&&◌}
 use Rattle.std.specs.Option.{option_and_then, option_map_or}
 use Rattle.std.proofs.lemmas.Bool.{eqb-true, or_parts, and_parts, true≢false}
 use Rattle.std.proofs.lemmas.Option.{none-some, same_Some}
 use Rattle.qqueue.specs.Best.{is_pulse}
 use Rattle.qqueue.specs.declared.item.Item.{Item}
-use Rattle.qtables.specs.declared.connection.Connection.{Connection}
 use Rattle.qtables.specs.declared.member.Member.{Member}
 use Rattle.qrules.specs.Cutting.{buffer_of_wait}
 use Rattle.qrules.specs.Facts.{is_for_answer, message, message_in, message_of, sender, threads_of, is_send}
 use Rattle.qrules.specs.Headline.CopiedExactly.{buffer_at, buffer_by, message_at, message_of as message_in_call}
 use Rattle.qrules.specs.Lawful.{facts_of, IsLawful}
-use Rattle.qrules.specs.Past.{is_unblocked, connection_at, ends, filled, held_with, is_accepted, is_ended, item_of, newest_block, open_call, priority_of_item, priority_of_thread, receipt_of, with_receipt, with_writes}
+use Rattle.qrules.specs.Past.{is_unblocked, ends, filled, held_with, is_ended, item_of, newest_block, open_call, priority_of_item, receipt_of, with_receipt, with_writes}
 use Rattle.qrules.specs.Facts.{Facts}
 use Rattle.qrules.specs.Items.{makes}
 use Rattle.qrules.specs.Rows.{pulse_item, Made, asks, with_buffer}
 use Rattle.qrules.specs.Trace.{Event, Trace}
 use Rattle.qrules.specs.declared.call.Call.{Call}
-use Rattle.qrules.specs.declared.call.Call.TheVariants.{ChannelCreate, ConnectAttach, Send, Receive, Reply, Error, Read, Write, Info, ReceivePulse, Pulse, PrioritySet, State, ChannelDestroy, Shutdown, Unblock}
+use Rattle.qrules.specs.declared.call.Call.TheVariants.{ChannelCreate, ConnectAttach, Send, Receive, Reply, Error, Read, Write, Info, ReceivePulse, Pulse, PrioritySet, State, ChannelDestroy, Shutdown, Unblock, ConnectDetach}
 use Rattle.qrules.specs.declared.open_call.OpenCall.{OpenCall}
 use Rattle.qrules.specs.declared.open_call.Receipt.{Receipt}
 use Rattle.qrules.specs.declared.open_call.Wait.{Wait}
@@ -32,6 +31,7 @@ use Rattle.qrules.proofs.Past.RowLaws.{call_laws}
 use Rattle.qrules.proofs.Past.Senders.{send_from, send_parts, sender_found}
 use Rattle.qrules.proofs.Properties.Events.{outcome_of}
 use Rattle.qrules.proofs.Properties.Sends.{open_filled, open_keeps}
+use Rattle.qrules.proofs.Calls.ConnectDetach as detaching
 use Rattle.qrules.proofs.Calls.Unblock.{due_pulse}
 use Rattle.qrules.proofs.Rosters.{known}
 
@@ -55,6 +55,7 @@ keeps past n (State thread) b e = absurd (none-some b e)
 keeps past n (ChannelDestroy chid) b e = absurd (none-some b e)
 keeps past n Shutdown b e = absurd (none-some b e)
 keeps past n (Unblock thread) b e = absurd (none-some b e)
+keeps past n (ConnectDetach coid) b e = absurd (none-some b e)
 keeps past n (Pulse coid level code value) b e = absurd (none-some b e)
 keeps past n (ReceivePulse chid) b e = subst (Keeps past n (ReceivePulse chid)) (same_Some _ b e) (record { buffer = refl; sent = refl })
 keeps past n (Send coid message reply_buffer) b e = subst (Keeps past n (Send coid message reply_buffer)) (same_Some _ b e) (record { buffer = refl; sent = refl })
@@ -108,6 +109,7 @@ makes_message f t (State thread) m e message = absurd (none-some m e)
 makes_message f t (ChannelDestroy chid) m e message = absurd (none-some m e)
 makes_message f t Shutdown m e message = absurd (none-some m e)
 makes_message f t (Unblock thread) m e message = absurd (true≢false (sym (due_pulse f thread m e) ∙ message))
+makes_message f t (ConnectDetach coid) m e message = absurd (true≢false (sym (detaching.due_pulse f t coid m e) ∙ message))
 makes_message f t (ReceivePulse chid) m e message = absurd (none-some m e)
 makes_message f t (Pulse coid level code value) m e message =
     absurd (true≢false (ap (λ x. is_pulse x.what) (sym (sent_item (f.connection coid) (pulse_item f.number level code value) m e)) ∙ message))

@@ -19,9 +19,9 @@ use Rattle.qrules.specs.Facts.{Facts, message, sender, way}
 use Rattle.qrules.specs.Headline.BestFirst.{receives_on}
 use Rattle.qrules.specs.Headline.ReceivedOnce.{item_received}
 use Rattle.qrules.specs.Items.{makes}
-use Rattle.qrules.specs.Rows.{Made, pulse_item, received, sent_over}
+use Rattle.qrules.specs.Rows.{Made, pulse_item, received}
 use Rattle.qrules.specs.declared.call.Call.{Call}
-use Rattle.qrules.specs.declared.call.Call.TheVariants.{ChannelCreate, ConnectAttach, Send, Receive, Reply, Error, Read, Write, Info, ReceivePulse, Pulse, PrioritySet, State, ChannelDestroy, Shutdown, Unblock}
+use Rattle.qrules.specs.declared.call.Call.TheVariants.{ChannelCreate, ConnectAttach, Send, Receive, Reply, Error, Read, Write, Info, ReceivePulse, Pulse, PrioritySet, State, ChannelDestroy, Shutdown, Unblock, ConnectDetach}
 use Rattle.qrules.specs.declared.call.Completion.{Completion}
 use Rattle.qrules.specs.declared.open_call.OpenCall.{OpenCall}
 use Rattle.qrules.specs.declared.open_call.Wait.{Wait}
@@ -34,8 +34,10 @@ use Rattle.qrules.proofs.Calls.Cutting.{cut_parts}
 use Rattle.qrules.proofs.Calls.Error.{no_receipt}
 use Rattle.qrules.proofs.Calls.Held.{sender_ends}
 use Rattle.qrules.proofs.Calls.Info.{plain}
-use Rattle.qrules.specs.Calls.Unblock.{due, ends}
-use Rattle.qrules.proofs.Properties.Rows.Unblock.{unblock_ends}
+use Rattle.qrules.specs.Calls.ConnectDetach as connect_detach
+use Rattle.qrules.specs.Calls.Unblock as unblock
+use Rattle.qrules.proofs.Calls.ConnectDetach.{detach_ends}
+use Rattle.qrules.proofs.Properties.Rows.Telling.{Tells, told_meets, unblock_ends}
 use Rattle.qrules.proofs.Calls.Delivering.{sent_way}
 
 -- ---- whose ending it is
@@ -119,6 +121,7 @@ own_takes f t (State thread) u y p same e m = absurd (none-some p (ap (λ x. rec
 own_takes f t (ChannelDestroy chid) u y p same e m = absurd (none-some p (ap (λ x. received x.mark) (same_Some _ y e) ∙ m))
 own_takes f t Shutdown u y p same e m = absurd (none-some p (ap (λ x. received x.mark) (same_Some _ y e) ∙ m))
 own_takes f t (Unblock thread) u y p same e m = absurd (none-some p (ap (λ x. received x.mark) (same_Some _ y e) ∙ m))
+own_takes f t (ConnectDetach coid) u y p same e m = absurd (none-some p (ap (λ x. received x.mark) (same_Some _ y e) ∙ m))
 own_takes f t (Pulse coid level code value) u y p same e m = absurd (none-some p (ap (λ x. received x.mark) (same_Some _ y e) ∙ m))
 own_takes f t (Receive chid buffer) u y p same e m = takes_best f t (Receive chid buffer) chid Any buffer u y p same refl refl (receive_takes f t chid Any buffer y e) m
 own_takes f t (ReceivePulse chid) u y p same e m = takes_best f t (ReceivePulse chid) chid PulseOnly [] u y p same refl refl (receive_takes f t chid PulseOnly [] y e) m
@@ -138,12 +141,10 @@ takes_met f t c o item message u y p s made m = inr (record {
   may = s.may;
 })
 
--- what an Unblock ends takes its pulse, or nothing
-unblock_takes : (f : Facts) (t thread u : ℕ) (y : Completion) (p : ℕ × ℕ) → ends f thread (due f thread) u ≡ Some y → received y.mark ≡ Some p → TakesOne f t (Unblock thread) u y p.0
-unblock_takes f t thread u y p e m = elim (unblock_ends f thread u y (due f thread) refl e) [
-  | inl cut ↦ absurd (none-some p (ap (λ x. received x.mark) cut.ending ∙ m))
-  | inr k ↦ takes_met f t (Unblock thread) (Some k.made.channel) k.made.item [] u y p k.meets (λ h s. k.is_due ∙ ap (λ c. Some (record { item = k.made.item; channel = c })) (same_Some k.made.channel h s)) m
-]
+-- a receiver that takes a pulse which is due
+takes_told : (f : Facts) (t : ℕ) (c : Call) (o : Option Made) (u : ℕ) (y : Completion) (p : ℕ × ℕ) → makes f t c ≡ o → Tells f o u y → received y.mark ≡ Some p → TakesOne f t c u y p.0
+takes_told f t c o u y p made k m =
+    takes_met f t c (Some k.made.channel) k.made.item [] u y p k.meets (λ h s. made ∙ k.is_due ∙ ap (λ n. Some (record { item = k.made.item; channel = n })) (same_Some k.made.channel h s)) m
 
 ends_takes : (f : Facts) (t : ℕ) (c : Call) (u : ℕ) (y : Completion) (p : ℕ × ℕ) → (row_of f t c).refusal ≡ None → (row_of f t c).ends u ≡ Some y → received y.mark ≡ Some p → TakesOne f t c u y p.0
 ends_takes f t (ChannelCreate flags) u y p r e m = absurd (none-some y e)
@@ -159,7 +160,14 @@ ends_takes f t (PrioritySet thread level) u y p r e m = absurd (none-some y e)
 ends_takes f t (State thread) u y p r e m = absurd (none-some y e)
 ends_takes f t (ChannelDestroy chid) u y p r e m = absurd (none-some p (ap (λ x. received x.mark) (cut_parts (is_on f.connection chid) Srch u (f.open_call u) y e).ending ∙ m))
 ends_takes f t Shutdown u y p r e m = absurd (none-some p (ap (λ x. received x.mark) (cut_parts (λ wait. true) Srch u (f.open_call u) y e).ending ∙ m))
-ends_takes f t (Unblock thread) u y p r e m = unblock_takes f t thread u y p e m
+ends_takes f t (Unblock thread) u y p r e m = elim (unblock_ends f thread u y (unblock.due f thread) e) [
+  | inl cut ↦ absurd (none-some p (ap (λ x. received x.mark) cut.ending ∙ m))
+  | inr k ↦ takes_told f t (Unblock thread) (unblock.due f thread) u y p refl k m
+]
+ends_takes f t (ConnectDetach coid) u y p r e m = elim (detach_ends f coid (connect_detach.due f t coid) u y e) [
+  | inl cut ↦ absurd (none-some p (ap (λ x. received x.mark) cut.ending ∙ m))
+  | inr s ↦ takes_told f t (ConnectDetach coid) (connect_detach.due f t coid) u y p refl (told_meets f (connect_detach.due f t coid) u y s) m
+]
 ends_takes f t (ReceivePulse chid) u y p r e m = absurd (none-some y e)
 ends_takes f t (Send coid message reply_buffer) u y p r e m =
     takes_met f t (Send coid message reply_buffer) (way f t coid) (item f t) message u y p (delivery_meets f (way f t coid) (item f t) message u y e) (sent_way f t coid (item f t)) m

@@ -13,8 +13,8 @@ use Rattle.qrules.specs.Answer.{ending, Answers}
 use Rattle.qrules.specs.Facts.{Facts, threads_of}
 use Rattle.qrules.specs.Headline.ReceivedOnce.{AllDifferent, NoneEarly, ReceivedOnce, endings_of, calls_ended, item_received, items_received, is_made}
 use Rattle.qrules.specs.Lawful.{facts_of, IsLawful}
-use Rattle.qrules.specs.Past.{copied_of, ends, first_some, is_ended, is_taken, item_of, items, receipt_among, receipt_of}
-use Rattle.qrules.specs.Rows.{Made, received}
+use Rattle.qrules.specs.Past.{copied_of, ends, is_ended, is_taken, item_of, items, receipt_among, receipt_of}
+use Rattle.qrules.specs.Rows.{Made, received, first_some}
 use Rattle.qrules.specs.Trace.{Trace}
 use Rattle.qrules.specs.declared.call.Call.{Call}
 use Rattle.qrules.specs.declared.call.Completion.{Completion}

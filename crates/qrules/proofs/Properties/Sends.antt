@@ -1,16 +1,16 @@
 -- A Send that waits: its thread, and the connection and channel of its item.
 use Rattle.std.proofs.Common.{◌≡◌, ◌≢◌, ◌∙◌, ℕ, ◌+◌, ◌≤◌, List, [], ◌∷◌, ◌++◌, length, refl, ap, sym, subst, arith, cond, eqb, true, false, inl, inr, ◌⊎◌}
-use Rattle.std.specs.Prelude.{Option, None, Some, is_some, not}
+use Rattle.std.specs.Prelude.{Option, None, Some, is_some}
 use Rattle.std.specs.List.{AllByRecursion}
 use Rattle.std.specs.Option.{option_to_list}
-use Rattle.std.proofs.lemmas.Bool.{ne_eqb, eq-eqb, eqb-true, and_parts, true≢false}
+use Rattle.std.proofs.lemmas.Bool.{ne_eqb, eq-eqb, eqb-true, and_parts}
 use Rattle.std.proofs.lemmas.Option.{none-some}
 use Rattle.qtables.specs.declared.connection.Connection.{Connection}
 use Rattle.qtables.specs.declared.member.Member.{Member}
 use Rattle.qrules.specs.Facts.{is_for_answer}
 use Rattle.qrules.specs.Headline.AnsweredToSender.{channel_among, sender_of, thread_of_send}
 use Rattle.qrules.specs.Lawful.{facts_of, IsLawful}
-use Rattle.qrules.specs.Past.{is_unblocked, connection_at, filled, is_accepted, item_of, items, made_at, newest_block, priority_of_item, receipt_of, is_taken, with_receipt, with_writes, held_with}
+use Rattle.qrules.specs.Past.{is_unblocked, filled, is_accepted, item_of, items, made_at, newest_block, priority_of_item, receipt_of, with_receipt, with_writes, held_with, attached}
 use Rattle.qrules.specs.Rows.{Made, asks, with_buffer}
 use Rattle.qrules.specs.Trace.{Event, Trace}
 use Rattle.qrules.specs.declared.open_call.OpenCall.{OpenCall}
@@ -19,12 +19,12 @@ use Rattle.qrules.specs.declared.open_call.Wait.{Wait}
 use Rattle.qrules.specs.declared.open_call.Wait.TheVariants.{Answer, Item as ForItem}
 use Rattle.qrules.proofs.Past.Ends.{passes_of}
 use Rattle.qrules.proofs.Past.Items.{item_at, item_below, item_earlier, item_newest, items_below, made_by}
-use Rattle.qrules.proofs.Past.Laws.{is_settled}
 use Rattle.qrules.proofs.Past.Lists.{eqb_same, all_more}
-use Rattle.qrules.proofs.Past.Numbers.{IsOpen, blocks, block_fresh, blocks_thread, buffer_answer, filled_answer, filled_settled, held_for_answer, made_below}
+use Rattle.qrules.proofs.Past.Numbers.{IsOpen, blocks, blocks_thread, buffer_answer, held_for_answer, made_below}
 use Rattle.qrules.proofs.Past.RowLaws.{call_laws}
 use Rattle.qrules.proofs.Properties.Answers.{over, sends_by, sends_over}
 use Rattle.qrules.proofs.Properties.Events.{made_now, outcome_of}
+use Rattle.qrules.proofs.Past.Connections.{live_attached}
 
 -- ---- what events made
 
@@ -73,7 +73,7 @@ block_sender (e ∷ past) u b is w = elim (begins_now e past u b is) [
 -- the connection over which a Send waits, and the item that it made, on the connection's channel
 pub record IsSentOver (roster : List Member) (past : Trace) (coid i : ℕ) : Type 0 where
   pub connection : Connection
-  pub is_connection : connection_at roster past coid ≡ Some connection
+  pub is_connection : attached roster past coid ≡ Some connection
   pub made : Made
   pub is_made : item_at roster past i ≡ Some made
   pub channel : made.channel ≡ connection.channel
@@ -87,7 +87,7 @@ block_over roster (e ∷ past) u b l is w = elim (begins_now e past u b is) [
       let s = sends_over (facts_of roster past) e.thread e.call b (passes_of (facts_of roster past) e.thread e.call e.endings a) h.asked w in
       record {
         connection = s.connection;
-        is_connection = made_stays _ e past (over b.wait) s.connection s.is_connection;
+        is_connection = made_stays _ e past (over b.wait) s.connection (sym (live_attached roster past (over b.wait) (ap is_some s.is_connection)) ∙ s.is_connection);
         made = s.made;
         is_made = subst (λ i. item_at roster (e ∷ past) i ≡ Some s.made) (sym h.number) (item_newest roster e past ∙ made_now roster e past s.made a s.is_made);
         channel = s.channel;
@@ -119,7 +119,7 @@ pub open_keeps : {A : Type 0} (g : Wait → A) (roster : List Member) (past : Tr
     → ((f : List ℕ → List ℕ) (w : Wait) → g (with_buffer f w) ≡ g w) → g o.wait ≡ g k.block.wait
 open_keeps g roster past u o k h wrote = open_filled g roster past u o k h ∙ wrote (with_writes past k.block.number) k.block.wait
 
-held_over : (receipt : Receipt) (w : Wait) → over (held_with receipt w) ≡ over w
+pub held_over : (receipt : Receipt) (w : Wait) → over (held_with receipt w) ≡ over w
 held_over receipt (Answer coid message reply_buffer before) = refl
 held_over receipt (ForItem chid kind buffer) = refl
 

@@ -1,5 +1,5 @@
 -- Nothing is received from a channel that is destroyed, and no thread is blocked on it.
-use Rattle.std.proofs.Common.{◌≡◌, ◌∙◌, ℕ, ◌+◌, ◌≤◌, List, [], ◌∷◌, length, refl, ap, sym, subst, cond, arith, eqb, Bool, true, false, inl, inr}
+use Rattle.std.proofs.Common.{◌≡◌, ◌∙◌, ℕ, ◌+◌, ◌≤◌, List, [], ◌∷◌, length, refl, ap, sym, subst, cond, arith, eqb, true, false, inl, inr}
 use Rattle.std.specs.Prelude.{Option, None, Some, is_some, ◌||◌}
 use Rattle.std.proofs.lemmas.Bool.{eqb-true, ne_eqb, or_cases, true≢false}
 use Rattle.std.proofs.lemmas.Option.{none-some, same_Some}
@@ -17,11 +17,11 @@ use Rattle.qrules.specs.Headline.ShutForGood.{NoneBlockedOn, NoneReceivedFrom, S
 use Rattle.qrules.specs.Lawful.{facts_of, IsLawful}
 use Rattle.qrules.specs.Past.{attaches, connection_at, held_with, is_closed, items, open_call}
 use Rattle.qrules.specs.Items.{makes}
-use Rattle.qrules.specs.Rows.{asks, closes, names, with_buffer, writes, unblocks}
+use Rattle.qrules.specs.Rows.{asks, closes, names, with_buffer, writes, unblocks, detaches}
 use Rattle.qrules.specs.Step.{after_receipt, after_write, channel_after, connection_after, open_call_after, put_at, unless, after_unblock, unblocked_wait}
 use Rattle.qrules.specs.Trace.{Event, Trace}
 use Rattle.qrules.specs.declared.call.Call.{Call}
-use Rattle.qrules.specs.declared.call.Call.TheVariants.{ChannelCreate, ConnectAttach, Send, Receive, Reply, Error, Read, Write, Info, ReceivePulse, Pulse, PrioritySet, State, ChannelDestroy, Shutdown, Unblock}
+use Rattle.qrules.specs.declared.call.Call.TheVariants.{ChannelCreate, ConnectAttach, Send, Receive, Reply, Error, Read, Write, Info, ReceivePulse, Pulse, PrioritySet, State, ChannelDestroy, Shutdown, Unblock, ConnectDetach}
 use Rattle.qrules.specs.declared.call.Completion.{Completion}
 use Rattle.qrules.specs.declared.open_call.OpenCall.{OpenCall}
 use Rattle.qrules.specs.declared.open_call.Receipt.{Receipt}
@@ -38,8 +38,9 @@ use Rattle.qrules.proofs.Properties.Answers.{over}
 use Rattle.qrules.proofs.Properties.Events.{each_received, made_now}
 use Rattle.qrules.proofs.Properties.Receipts.{TakesOne}
 use Rattle.qrules.proofs.Properties.Sends.{item_channel, open_over}
-use Rattle.qrules.proofs.Properties.Waiting.{Lasts, before_other, before_receipt, unless_is}
+use Rattle.qrules.proofs.Past.Before.{Lasts, before_other, before_receipt, unless_is}
 use Rattle.qrules.proofs.Ways.{has_way, leads_over}
+use Rattle.qrules.proofs.Past.LiveSends.{stays_open}
 
 -- ---- by each call's row
 
@@ -65,6 +66,7 @@ destroys_alone (PrioritySet thread level) h e = absurd (true≢false (sym e))
 destroys_alone (State thread) h e = absurd (true≢false (sym e))
 destroys_alone Shutdown h e = absurd (true≢false (sym e))
 destroys_alone (Unblock thread) h e = absurd (true≢false (sym e))
+destroys_alone (ConnectDetach coid) h e = absurd (true≢false (sym e))
 destroys_alone (ChannelDestroy chid) h e = record { asks_none = λ n. refl; receives_none = refl; makes_none = λ f t. refl }
 
 -- a call that may wait attaches nothing
@@ -82,6 +84,7 @@ waits_only n m (State thread) b e = absurd (none-some b e)
 waits_only n m (ChannelDestroy chid) b e = absurd (none-some b e)
 waits_only n m Shutdown b e = absurd (none-some b e)
 waits_only n m (Unblock thread) b e = absurd (none-some b e)
+waits_only n m (ConnectDetach coid) b e = absurd (none-some b e)
 waits_only n None (Send coid message reply_buffer) b e = refl
 waits_only n (Some m) (Send coid message reply_buffer) b e = refl
 waits_only n None (Receive chid buffer) b e = refl
@@ -106,6 +109,7 @@ closing_ends f t (PrioritySet thread level) h u o e is on = absurd (true≢false
 closing_ends f t (State thread) h u o e is on = absurd (true≢false (sym e))
 closing_ends f t Shutdown h u o e is on = absurd (true≢false (sym e))
 closing_ends f t (Unblock thread) h u o e is on = absurd (true≢false (sym e))
+closing_ends f t (ConnectDetach coid) h u o e is on = absurd (true≢false (sym e))
 closing_ends f t (ChannelDestroy chid) h u o e is on =
     let on_it : is_on f.connection chid o.wait ≡ true = ap (λ k. is_on f.connection k o.wait) (eqb-true chid h e) ∙ on in
     rw (is, on_it) refl
@@ -139,6 +143,7 @@ begins_on_open f t (State thread) b h r e on = absurd (none-some b e)
 begins_on_open f t (ChannelDestroy chid) b h r e on = absurd (none-some b e)
 begins_on_open f t Shutdown b h r e on = absurd (none-some b e)
 begins_on_open f t (Unblock thread) b h r e on = absurd (none-some b e)
+begins_on_open f t (ConnectDetach coid) b h r e on = absurd (none-some b e)
 begins_on_open f t (Send coid message reply_buffer) b h r e on = let w = has_way f t coid r in way_to_open f t h w.0 (f.connection coid) w.1 (ap (λ o. is_on f.connection h o.wait) (same_Some _ b e) ∙ on)
 begins_on_open f t (Receive chid buffer) b h r e on = own_open f t chid h r (ap (λ o. is_on f.connection h o.wait) (same_Some _ b e) ∙ on)
 begins_on_open f t (ReceivePulse chid) b h r e on = own_open f t chid h r (ap (λ o. is_on f.connection h o.wait) (same_Some _ b e) ∙ on)
@@ -157,17 +162,20 @@ buffer_on : (connection : ℕ → Option Connection) (h : ℕ) (b : List ℕ →
 buffer_on connection h b (Answer coid message reply_buffer receipt) = refl
 buffer_on connection h b (ForItem chid kind buffer) = refl
 
--- one more connection changes nothing of a wait over another
-put_on : (attached : Option Connection) (n : ℕ) (connection : ℕ → Option Connection) (h : ℕ) (w : Wait) → (is_for_answer w ≡ true → eqb (over w) n ≡ false) → is_on (put_at attached n connection) h w ≡ is_on connection h w
-put_on None n connection h (Answer coid message reply_buffer receipt) other = refl
-put_on (Some c) n connection h (Answer coid message reply_buffer receipt) other = rw (other refl) refl
-put_on attached n connection h (ForItem chid kind buffer) other = refl
+-- a wait on a channel by the connections after a call is on it by those before, if none that is attached is that of the wait
+put_on : (f : Facts) (t : ℕ) (c : Call) (h : ℕ) (w : Wait) → (is_for_answer w ≡ true → put_at (attaches (member_at f.roster t) c) f.number f.connection (over w) ≡ f.connection (over w))
+    → is_on (connection_after f t c) h w ≡ true → is_on f.connection h w ≡ true
+put_on f t c h (ForItem chid kind buffer) other on = on
+put_on f t c h (Answer coid message reply_buffer receipt) other on =
+    elim (names (detaches c) coid) as (λ d. is_to h (cond d None (put_at (attaches (member_at f.roster t) c) f.number f.connection coid)) ≡ true → is_to h (f.connection coid) ≡ true) [
+      | true ↦ λ s. absurd (true≢false (sym s))
+      | false ↦ λ s. ap (is_to h) (sym (other refl)) ∙ s
+    ] on
 
--- a channel that is open stays so, unless the call destroys it
-stays_open : {A : Type 0} (d : Bool) (o : Option A) (n : ℕ) (at : ℕ → Option A) (h : ℕ) → is_some (at h) ≡ true → (d ≡ true → ⊥) → is_some (cond d None (put_at o n at h)) ≡ true
-stays_open true o n at h e never = absurd (never refl)
-stays_open false None n at h e never = e
-stays_open {A} false (Some x) n at h e never = elim (eqb h n) as (λ b. is_some (cond {A = Option A} b (Some x) (at h)) ≡ true) [ true ↦ refl | false ↦ e ]
+-- nothing is put at another number
+put_other : (o : Option Connection) (n : ℕ) (connection : ℕ → Option Connection) (k : ℕ) → eqb k n ≡ false → put_at o n connection k ≡ connection k
+put_other None n connection k other = refl
+put_other (Some x) n connection k other = rw other refl
 
 unblocked_on : (connection : ℕ → Option Connection) (h : ℕ) (w : Wait) → is_on connection h (unblocked_wait w) ≡ is_on connection h w
 unblocked_on connection h (Answer coid message reply_buffer None) = refl
@@ -182,19 +190,18 @@ waits_after : (f : Facts) (t : ℕ) (c : Call) → Passes f t c → WaitsOnOpen 
     → (u : ℕ) (o : OpenCall) (h : ℕ) → open_call_after f t c u ≡ Some o → is_on (connection_after f t c) h o.wait ≡ true → is_some (channel_after f t c h) ≡ true
 waits_after f t c p waits known u o h is on =
     let R = row_of f t c in
-    let attached = attaches (member_at f.roster t) c in
     elim (eqb u t) as (λ b. cond b (unless (is_some (row_of f t c).own) (after_receipt (row_of f t c).receipt u (asks f.number c))) (unless (is_some ((row_of f t c).ends u)) (after_unblock (makes f t c) (unblocks c) u (after_receipt (row_of f t c).receipt u (after_write f (writes c) u (f.open_call u))))) ≡ Some o
     → is_some (channel_after f t c h) ≡ true) [
       | true ↦ λ e.
           let x = unless_is (is_some R.own) (after_receipt R.receipt u (asks f.number c)) o e in
           let b = before_receipt (is_on (connection_after f t c) h) (held_on (connection_after f t c) h) R.receipt u (asks f.number c) o x.1 in
-          let same : is_on f.connection h b.call.wait ≡ true = ap (λ a. is_on (put_at a f.number f.connection) h b.call.wait) (sym (waits_only f.number (member_at f.roster t) c b.call b.is)) ∙ b.same ∙ on in
+          let same : is_on f.connection h b.call.wait ≡ true = put_on f t c h b.call.wait (λ _. ap (λ a. put_at a f.number f.connection (over b.call.wait)) (waits_only f.number (member_at f.roster t) c b.call b.is)) (b.same ∙ on) in
           stays_open (names (closes c) h) _ f.number f.channel h (begins_on_open f t c b.call h p.row b.is same)
           (λ d. none-some b.call (sym ((destroys_alone c h d).asks_none f.number) ∙ b.is))
       | false ↦ λ e.
           let x = unless_is (is_some (R.ends u)) (after_unblock (makes f t c) (unblocks c) u (after_receipt R.receipt u (after_write f (writes c) u (f.open_call u)))) o e in
           let d = before_other (is_on (connection_after f t c) h) (lasts_on (connection_after f t c) h) f t c u o x.1 in
-          let same : is_on f.connection h d.call.wait ≡ true = sym (put_on attached f.number f.connection h d.call.wait (known u d.call d.is)) ∙ d.same ∙ on in
+          let same : is_on f.connection h d.call.wait ≡ true = put_on f t c h d.call.wait (λ w. put_other (attaches (member_at f.roster t) c) f.number f.connection (over d.call.wait) (known u d.call d.is w)) (d.same ∙ on) in
           stays_open (names (closes c) h) _ f.number f.channel h (waits u d.call h d.is same)
           (λ destroyed. true≢false (sym (closing_ends f t c h u d.call destroyed d.is same) ∙ x.0))
     ] is
@@ -258,7 +265,7 @@ taken_is_open roster e past u i h y a k is closed =
 none_received : (roster : List Member) (e : Event) (past : Trace) (h : ℕ) → IsLawful roster (e ∷ past) → is_closed (e ∷ past) h ≡ true → NoneReceivedFrom roster (e ∷ past) h e.endings
 none_received roster e past h l closed =
     each_received (λ x i. channel_among (items roster (e ∷ past)) i ≡ Some h → ⊥) roster past e.thread e.call e.endings l.2
-    (λ u y i a k is. taken_is_open roster e past u i h y a k is (sym (closed_accepted e past h (accepted roster past e.thread e.call e.endings a)) ∙ closed))
+    (λ u y i a k is. taken_is_open roster e past u i h y a k is (sym (closed_accepted roster e past h (accepted roster past e.thread e.call e.endings a)) ∙ closed))
 
 none_blocked : (roster : List Member) (past : Trace) (h : ℕ) → IsRoster roster → IsLawful roster past → is_closed past h ≡ true → NoneBlockedOn roster past h
 none_blocked roster past h r l closed u o is =

@@ -1,11 +1,9 @@
 -- While a thread waits for an item of a channel, nothing that it may take is pending there.
 use Rattle.std.proofs.Common.{◌≡◌, ◌∙◌, ℕ, List, [], ◌∷◌, ◌++◌, refl, ap, sym, subst, cond, eqb, Bool, true, false, inl, inr}
-use Rattle.std.specs.Prelude.{Option, None, Some, is_some, not, filter, ◌&&◌}
+use Rattle.std.specs.Prelude.{Option, None, Some, is_some, not, filter}
 use Rattle.std.specs.List.{AllByRecursion}
-use Rattle.std.specs.Option.{option_map}
 use Rattle.std.proofs.lemmas.Bool.{eqb-true, eqb-false, not-true, true≢false}
 use Rattle.std.proofs.lemmas.Option.{none-some, same_Some, some_pair_parts}
-use Rattle.qbase.specs.Laying.{lay_over}
 use Rattle.qqueue.specs.Best.{best_of, may_take, without}
 use Rattle.qqueue.specs.declared.item.Item.{Item}
 use Rattle.qqueue.specs.declared.item.Kind.{Kind}
@@ -15,7 +13,6 @@ use Rattle.qtables.specs.Members.{IsRoster}
 use Rattle.qtables.specs.declared.member.Member.{Member}
 use Rattle.qrules.specs.Answer.{row_of}
 use Rattle.qrules.specs.Calls.Send.{item}
-use Rattle.qrules.specs.Calls.Unblock as unblock
 use Rattle.qrules.specs.Delivering.{receiver, received_of}
 use Rattle.qrules.specs.Receiving.{receipt_of}
 use Rattle.qrules.specs.Facts.{Facts, sender, threads_of, way}
@@ -24,11 +21,11 @@ use Rattle.qrules.specs.Lawful.{facts_of, IsLawful}
 use Rattle.qrules.specs.Past.{held_with}
 use Rattle.qrules.specs.Receivers.{newest}
 use Rattle.qrules.specs.Items.{makes}
-use Rattle.qrules.specs.Rows.{Made, Received, Written, asks, closes, names, pulse_item, sent_over, takes, taking, with_buffer, writes, unblocks}
-use Rattle.qrules.specs.Step.{after_receipt, after_write, held_call, is_cut, is_thread, left_by, made_on, open_call_after, pending_after, taken_out, unless, written_call, after_unblock, unblocked_call, unblocked_wait}
+use Rattle.qrules.specs.Rows.{Made, Received, asks, closes, names, pulse_item, sent_over, takes, taking, with_buffer, writes, unblocks}
+use Rattle.qrules.specs.Step.{after_receipt, after_write, is_cut, left_by, made_on, open_call_after, pending_after, taken_out, unless, after_unblock, unblocked_wait}
 use Rattle.qrules.specs.Trace.{Trace}
 use Rattle.qrules.specs.declared.call.Call.{Call}
-use Rattle.qrules.specs.declared.call.Call.TheVariants.{ChannelCreate, ConnectAttach, Send, Receive, Reply, Error, Read, Write, Info, ReceivePulse, Pulse, PrioritySet, State, ChannelDestroy, Shutdown, Unblock}
+use Rattle.qrules.specs.declared.call.Call.TheVariants.{ChannelCreate, ConnectAttach, Send, Receive, Reply, Error, Read, Write, Info, ReceivePulse, Pulse, PrioritySet, State, ChannelDestroy, Shutdown, Unblock, ConnectDetach}
 use Rattle.qrules.specs.declared.open_call.OpenCall.{OpenCall}
 use Rattle.qrules.specs.declared.open_call.Receipt.{Receipt}
 use Rattle.qrules.specs.declared.open_call.Wait.{Wait}
@@ -39,10 +36,12 @@ use Rattle.qrules.proofs.Past.Follows.{past_follows}
 use Rattle.qrules.proofs.Past.Laws.{Passes}
 use Rattle.qrules.proofs.Past.Lists.{all_append, all_filter, all_more, is_among, none_of}
 use Rattle.qrules.proofs.Properties.Receipts.{waits_for}
+use Rattle.qrules.proofs.Past.Before.{Lasts, before_other, before_receipt, unless_is}
 use Rattle.qrules.proofs.Properties.Receivers.{WaitsOn, newest_some, newest_waits}
 use Rattle.qrules.proofs.Ways.{has_way, pulse_way}
 use Rattle.qrules.proofs.Rosters.{known}
 use Rattle.qrules.proofs.Calls.Delivering.{sent_way}
+use Rattle.qrules.specs.Pulses.{told_receipt}
 
 -- ---- what a thread waits for
 
@@ -73,6 +72,7 @@ waits_for_asked n (State thread) b e = absurd (none-some b e)
 waits_for_asked n (ChannelDestroy chid) b e = absurd (none-some b e)
 waits_for_asked n Shutdown b e = absurd (none-some b e)
 waits_for_asked n (Unblock thread) b e = absurd (none-some b e)
+waits_for_asked n (ConnectDetach coid) b e = absurd (none-some b e)
 waits_for_asked n (Send coid message reply_buffer) b e = ap (λ o. waits_for o.wait) (same_Some _ b e)
 waits_for_asked n (Receive chid buffer) b e = ap (λ o. waits_for o.wait) (same_Some _ b e)
 waits_for_asked n (ReceivePulse chid) b e = ap (λ o. waits_for o.wait) (same_Some _ b e)
@@ -101,6 +101,7 @@ begins_with_none f t (State thread) b p e w own = absurd (none-some b e)
 begins_with_none f t (ChannelDestroy chid) b p e w own = absurd (none-some b e)
 begins_with_none f t Shutdown b p e w own = absurd (none-some b e)
 begins_with_none f t (Unblock thread) b p e w own = absurd (none-some b e)
+begins_with_none f t (ConnectDetach coid) b p e w own = absurd (none-some b e)
 begins_with_none f t (Send coid message reply_buffer) b p e w own = absurd (none-some p (ap (λ o. waits_for o.wait) (same_Some _ b e) ∙ w))
 begins_with_none f t (Pulse coid level code value) b p e w own = absurd (none-some b e)
 begins_with_none f t (Receive chid buffer) b p e w own =
@@ -162,8 +163,10 @@ received_at_once f t (PrioritySet thread level) m u o kind p made among is waits
 received_at_once f t (State thread) m u o kind p made among is waits may = absurd (none-some m made)
 received_at_once f t (ChannelDestroy chid) m u o kind p made among is waits may = absurd (none-some m made)
 received_at_once f t Shutdown m u o kind p made among is waits may = absurd (none-some m made)
+received_at_once f t (ConnectDetach coid) m u o kind p made among is waits may =
+    delivered_at_once f t (ConnectDetach coid) (Some m.channel) m.item [] None m u o kind refl refl (ap (told_receipt f) made) among is waits may
 received_at_once f t (Unblock thread) m u o kind p made among is waits may =
-    delivered_at_once f t (Unblock thread) (Some m.channel) m.item [] None m u o kind refl refl (ap (unblock.receipt f) made) among is waits may
+    delivered_at_once f t (Unblock thread) (Some m.channel) m.item [] None m u o kind refl refl (ap (told_receipt f) made) among is waits may
 received_at_once f t (ReceivePulse chid) m u o kind p made among is waits may = absurd (none-some m made)
 received_at_once f t (Send coid message reply_buffer) m u o kind p made among is waits may =
     let h = has_way f t coid p.row in
@@ -203,77 +206,10 @@ all_left P (Some r) h items all =
 abbrev pub NothingFor : Facts → Type 0
 NothingFor f = (u : ℕ) (o : OpenCall) (h : ℕ) (kind : Kind) → f.open_call u ≡ Some o → waits_for o.wait ≡ Some (h, kind) → AllByRecursion (λ w. may_take kind w ≡ false) (f.pending h)
 
--- what is so of a wait was so of it before
-pub record IsBefore {A : Type 0} (g : Wait → A) (before : Option OpenCall) (o : OpenCall) : Type 0 where
-  pub call : OpenCall
-  pub is : before ≡ Some call
-  pub same : g call.wait ≡ g o.wait
-
--- before a receipt
-pub before_receipt : {A : Type 0} (g : Wait → A) → ((receipt : Receipt) (w : Wait) → g (held_with receipt w) ≡ g w) → (r : Option Received) (u : ℕ) (before : Option OpenCall) (o : OpenCall)
-    → after_receipt r u before ≡ Some o → IsBefore g before o
-before_receipt g held None u before o e = record { call = o; is = e; same = refl }
-before_receipt g held (Some r) u before o e =
-    elim (is_thread r.sender u) as (λ b. cond b (option_map (held_call r.kept) before) before ≡ Some o → IsBefore g before o) [
-      | true ↦ elim (before) as (λ x. option_map (held_call r.kept) x ≡ Some o → IsBefore g x o) [
-        | None ↦ λ s. absurd (none-some o s)
-        | Some b ↦ λ s. record { call = b; is = refl; same = sym (held r.kept b.wait) ∙ ap (λ (x : OpenCall). g x.wait) (same_Some (held_call r.kept b) o s) }
-      ]
-      | false ↦ λ s. record { call = o; is = s; same = refl }
-    ] e
-
--- before a write
-pub before_write : {A : Type 0} (g : Wait → A) → ((b : List ℕ → List ℕ) (w : Wait) → g (with_buffer b w) ≡ g w) → (f : Facts) (w : Option Written) (u : ℕ) (before : Option OpenCall) (o : OpenCall)
-    → after_write f w u before ≡ Some o → IsBefore g before o
-before_write g buffer f None u before o e = record { call = o; is = e; same = refl }
-before_write g buffer f (Some w) u before o e =
-    elim (is_thread (sender f w.message) u) as (λ b. cond b (option_map (written_call w.offset w.bytes) before) before ≡ Some o → IsBefore g before o) [
-      | true ↦ elim (before) as (λ x. option_map (written_call w.offset w.bytes) x ≡ Some o → IsBefore g x o) [
-        | None ↦ λ s. absurd (none-some o s)
-        | Some b ↦ λ s. record {
-          call = b;
-          is = refl;
-          same = sym (buffer (λ d. lay_over d w.offset w.bytes) b.wait) ∙ ap (λ (x : OpenCall). g x.wait) (same_Some (written_call w.offset w.bytes b) o s);
-        }
-      ]
-      | false ↦ λ s. record { call = o; is = s; same = refl }
-    ] e
-
--- before an unblock pulse
-pub before_unblock : {A : Type 0} (g : Wait → A) → ((w : Wait) → g (unblocked_wait w) ≡ g w) → (m : Option Made) (w : Option ℕ) (u : ℕ) (before : Option OpenCall) (o : OpenCall) → after_unblock m w u before ≡ Some o → IsBefore g before o
-before_unblock g unblocked m None u before o e = record { call = o; is = e; same = refl }
-before_unblock g unblocked m (Some v) u before o e =
-    elim (eqb u v && is_some m) as (λ b. cond b (option_map unblocked_call before) before ≡ Some o → IsBefore g before o) [
-      | true ↦ elim (before) as (λ x. option_map unblocked_call x ≡ Some o → IsBefore g x o) [
-        | None ↦ λ s. absurd (none-some o s)
-        | Some b ↦ λ s. record { call = b; is = refl; same = sym (unblocked b.wait) ∙ ap (λ (x : OpenCall). g x.wait) (same_Some (unblocked_call b) o s) }
-      ]
-      | false ↦ λ s. record { call = o; is = s; same = refl }
-    ] e
-
--- this of a wait no call changes but the one that ends it
-pub record Lasts {A : Type 0} (g : Wait → A) : Type 0 where
-  pub held : (receipt : Receipt) (w : Wait) → g (held_with receipt w) ≡ g w
-  pub buffer : (b : List ℕ → List ℕ) (w : Wait) → g (with_buffer b w) ≡ g w
-  pub unblocked : (w : Wait) → g (unblocked_wait w) ≡ g w
-
--- before the call of another thread
-pub before_other : {A : Type 0} (g : Wait → A) → Lasts g → (f : Facts) (t : ℕ) (c : Call) (u : ℕ) (o : OpenCall)
-    → after_unblock (makes f t c) (unblocks c) u (after_receipt (row_of f t c).receipt u (after_write f (writes c) u (f.open_call u))) ≡ Some o → IsBefore g (f.open_call u) o
-before_other g lasts f t c u o e =
-    let a = before_unblock g lasts.unblocked (makes f t c) (unblocks c) u (after_receipt (row_of f t c).receipt u (after_write f (writes c) u (f.open_call u))) o e in
-    let b = before_receipt g lasts.held (row_of f t c).receipt u (after_write f (writes c) u (f.open_call u)) a.call a.is in
-    let d = before_write g lasts.buffer f (writes c) u (f.open_call u) b.call b.is in
-    record { call = d.call; is = d.is; same = d.same ∙ b.same ∙ a.same }
-
-pub unless_is : (b : Bool) (before : Option OpenCall) (o : OpenCall) → unless b before ≡ Some o → (b ≡ false) × (before ≡ Some o)
-unless_is true before o e = absurd (none-some o e)
-unless_is false before o e = (refl, e)
-
 -- what is so of all that isn't destroyed is so of what is pending afterwards
-all_after : (P : Item → Type 0) (f : Facts) (t : ℕ) (c : Call) (h : ℕ) → AllByRecursion P (taken_out (row_of f t c).receipt h (left_by f t c h (f.pending h) ++ made_on h (makes f t c))) → AllByRecursion P (pending_after f t c h)
+all_after : (P : Item → Type 0) (f : Facts) (t : ℕ) (c : Call) (h : ℕ) → AllByRecursion P (taken_out (row_of f t c).receipt h (left_by f t c h (f.pending h ++ made_on h (makes f t c)))) → AllByRecursion P (pending_after f t c h)
 all_after P f t c h all =
-    elim (names (closes c) h) as (λ b. AllByRecursion P (cond b [] (taken_out (row_of f t c).receipt h (left_by f t c h (f.pending h) ++ made_on h (makes f t c))))) [ true ↦ tt | false ↦ all ]
+    elim (names (closes c) h) as (λ b. AllByRecursion P (cond b [] (taken_out (row_of f t c).receipt h (left_by f t c h (f.pending h ++ made_on h (makes f t c)))))) [ true ↦ tt | false ↦ all ]
 
 -- the caller begins to wait: nothing was pending, and nothing is made
 caller_finds_none : (f : Facts) (t : ℕ) (c : Call) (o : OpenCall) (h : ℕ) (kind : Kind) → unless (is_some (row_of f t c).own) (after_receipt (row_of f t c).receipt t (asks f.number c)) ≡ Some o
@@ -284,10 +220,10 @@ caller_finds_none f t c o h kind is waits =
     let k = begins_with_none f t c b.call (h, kind) b.is (b.same ∙ waits) (none_of (row_of f t c).own x.0) in
     let P = λ (w : Item). may_take kind w ≡ false in
     let none : AllByRecursion (λ (w : Item). may_take kind w ≡ false) (f.pending h) = none-may kind (f.pending h) k.0 in
-    let L = left_by f t c h (f.pending h) in
     let Q = λ (w : Item). ((r : Received) → (row_of f t c).receipt ≡ Some r → r.channel ≡ h → eqb w.number r.item ≡ false) → may_take kind w ≡ false in
-    all_after P f t c h (rw (k.1) (all_left P (row_of f t c).receipt h (L ++ [])
-    (all_append Q L [] (all_more P Q L (all_filter P (λ w. not (is_cut f t c h w.number)) (f.pending h) none) (λ w m _. m)) tt)))
+    let left = λ (w : Item). not (is_cut f t c h w.number) in
+    all_after P f t c h (rw (k.1) (all_left P (row_of f t c).receipt h (left_by f t c h (f.pending h ++ []))
+    (all_filter Q left (f.pending h ++ []) (all_append Q (f.pending h) [] (all_more P Q (f.pending h) none (λ w m _. m)) tt))))
 
 -- another thread that waits on: what it may take is received at once
 other_finds_none : (f : Facts) (t : ℕ) (c : Call) (u : ℕ) (o : OpenCall) (h : ℕ) (kind : Kind) → Passes f t c → NothingFor f → is_among (threads_of f.roster) u ≡ true → f.open_call u ≡ Some o
@@ -295,10 +231,10 @@ other_finds_none : (f : Facts) (t : ℕ) (c : Call) (u : ℕ) (o : OpenCall) (h 
 other_finds_none f t c u o h kind p nothing among is waits =
     let P = λ (w : Item). may_take kind w ≡ false in
     let Q = λ (w : Item). ((r : Received) → (row_of f t c).receipt ≡ Some r → r.channel ≡ h → eqb w.number r.item ≡ false) → may_take kind w ≡ false in
-    let L = left_by f t c h (f.pending h) in
-    all_after P f t c h (all_left P (row_of f t c).receipt h (L ++ made_on h (makes f t c))
-    (all_append Q L (made_on h (makes f t c))
-    (all_more P Q L (all_filter P (λ w. not (is_cut f t c h w.number)) (f.pending h) (nothing u o h kind is waits)) (λ w m _. m))
+    let left = λ (w : Item). not (is_cut f t c h w.number) in
+    all_after P f t c h (all_left P (row_of f t c).receipt h (left_by f t c h (f.pending h ++ made_on h (makes f t c)))
+    (all_filter Q left (f.pending h ++ made_on h (makes f t c)) (all_append Q (f.pending h) (made_on h (makes f t c))
+    (all_more P Q (f.pending h) (nothing u o h kind is waits) (λ w m _. m))
     (elim (makes f t c) as (λ x. makes f t c ≡ x → AllByRecursion Q (made_on h x)) [
       | None ↦ λ none. tt
       | Some m ↦ λ made.
@@ -316,7 +252,7 @@ other_finds_none f t c u o h kind p nothing among is waits =
             )
             | false ↦ λ off. tt
           ] refl
-    ] refl)))
+    ] refl))))
 
 unblocked_waits_for : (w : Wait) → waits_for (unblocked_wait w) ≡ waits_for w
 unblocked_waits_for (Answer coid message reply_buffer None) = refl

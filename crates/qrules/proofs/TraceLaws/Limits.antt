@@ -10,8 +10,9 @@ use Rattle.qqueue.specs.Best.{is_pulse, without}
 use Rattle.qqueue.specs.declared.item.Item.{Item}
 use Rattle.qtables.specs.declared.connection.Connection.{Connection}
 use Rattle.qrules.specs.Calls.Pulse.{is_negative, refusal_on}
+use Rattle.qrules.specs.Calls.ConnectDetach as connect_detach
 use Rattle.qrules.specs.Calls.Unblock as unblock
-use Rattle.qrules.specs.Pulses.{full, pulses_among}
+use Rattle.qrules.specs.Pulses.{full, full_for, pulses_among}
 use Rattle.qrules.specs.Facts.{Facts, way}
 use Rattle.qrules.specs.Laws.{PulsesAreLimited}
 use Rattle.qrules.specs.Lawful.{facts_of}
@@ -21,12 +22,13 @@ use Rattle.qrules.specs.Rows.{Received, closes, message_item, names, pulse_item,
 use Rattle.qrules.specs.Step.{is_cut, left_by, made_on, pending_after, taken_out}
 use Rattle.qrules.specs.Answer.{row_of}
 use Rattle.qrules.specs.declared.call.Call.{Call}
-use Rattle.qrules.specs.declared.call.Call.TheVariants.{ChannelCreate, ConnectAttach, Send, Receive, Reply, Error, Read, Write, Info, ReceivePulse, Pulse, PrioritySet, State, ChannelDestroy, Shutdown, Unblock}
+use Rattle.qrules.specs.declared.call.Call.TheVariants.{ChannelCreate, ConnectAttach, Send, Receive, Reply, Error, Read, Write, Info, ReceivePulse, Pulse, PrioritySet, State, ChannelDestroy, Shutdown, Unblock, ConnectDetach}
 use Rattle.qrules.proofs.Past.Ends.{passes_of}
 use Rattle.qrules.proofs.Past.Follows.{past_follows}
 use Rattle.qrules.proofs.Past.Laws.{Passes}
 use Rattle.qrules.proofs.Calls.Delivering.{sent_way}
-use Rattle.qrules.proofs.Calls.Unblock.{due_pulse, fellow_passes}
+use Rattle.qrules.proofs.Calls.ConnectDetach as detaching
+use Rattle.qrules.proofs.Calls.Unblock as unblocking
 
 -- ---- counts
 
@@ -109,14 +111,11 @@ pulse_more f h items m pulse room less few =
       | false ↦ λ off. nothing_more items (omega (arith, less, few))
     ] refl
 
--- the pulse of an accepted Unblock
-unblock_more : (f : Facts) (t thread h : ℕ) (items : List Item) → unblock.refusal f t thread ≡ None → pulses_among items ≤ pulses_among (f.pending h) → pulses_among (f.pending h) ≤ 1024
-    → pulses_among (items ++ made_on h (unblock.due f thread)) ≤ 1024
-unblock_more f t thread h items r less few =
-    elim (unblock.due f thread) as (λ o. unblock.due f thread ≡ o → unblock.refusal_of f o ≡ None → pulses_among (items ++ made_on h o) ≤ 1024) [
-      | None ↦ λ none s. nothing_more items (omega (arith, less, few))
-      | Some m ↦ λ is s. pulse_more f h items m (due_pulse f thread m is) s less few
-    ] refl (fellow_passes f t thread r)
+-- the pulse that is due, if one is
+due_more : (f : Facts) (h : ℕ) (items : List Item) (o : Option Made) → ((m : Made) → o ≡ Some m → is_pulse m.item.what ≡ true) → full_for f o ≡ None → pulses_among items ≤ pulses_among (f.pending h)
+    → pulses_among (f.pending h) ≤ 1024 → pulses_among (items ++ made_on h o) ≤ 1024
+due_more f h items None pulse r less few = nothing_more items (omega (arith, less, few))
+due_more f h items (Some m) pulse r less few = pulse_more f h items m (pulse m refl) r less few
 
 limited : (f : Facts) (t : ℕ) (c : Call) (h : ℕ) → Passes f t c → (items : List Item) → pulses_among items ≤ pulses_among (f.pending h) → pulses_among (f.pending h) ≤ 1024
     → pulses_among (items ++ made_on h (makes f t c)) ≤ 1024
@@ -133,7 +132,9 @@ limited f t (PrioritySet thread level) h p items less few = nothing_more items (
 limited f t (State thread) h p items less few = nothing_more items (omega (arith, less, few))
 limited f t (ChannelDestroy chid) h p items less few = nothing_more items (omega (arith, less, few))
 limited f t Shutdown h p items less few = nothing_more items (omega (arith, less, few))
-limited f t (Unblock thread) h p items less few = unblock_more f t thread h items p.row less few
+limited f t (Unblock thread) h p items less few = due_more f h items (unblock.due f thread) (unblocking.due_pulse f thread) (unblocking.fellow_passes f t thread p.row) less few
+limited f t (ConnectDetach coid) h p items less few =
+    due_more f h items (connect_detach.due f t coid) (detaching.due_pulse f t coid) (detaching.own_passes f t coid p.row) less few
 limited f t (Send coid message reply_buffer) h p items less few = message_more h f.number (f.priority t) (f.connection coid) items (omega (arith, less, few))
 limited f t (Pulse coid level code value) h p items less few =
     let room = finds_room f code (way f t coid) p.row in
@@ -143,11 +144,11 @@ limited f t (Pulse coid level code value) h p items less few =
 limited_after : (f : Facts) (t : ℕ) (c : Call) (h : ℕ) → Passes f t c → pulses_among (f.pending h) ≤ 1024 → pulses_among (pending_after f t c h) ≤ 1024
 limited_after f t c h p few =
     let M = made_on h (makes f t c) in
-    let L = left_by f t c h (f.pending h) in
-    let less : pulses_among L ≤ pulses_among (f.pending h) = fewer_left (λ item. not (is_cut f t c h item.number)) (f.pending h) in
-    let made : pulses_among (L ++ M) ≤ 1024 = limited f t c h p L less few in
-    let out : pulses_among (taken_out (row_of f t c).receipt h (L ++ M)) ≤ pulses_among (L ++ M) = fewer_out (row_of f t c).receipt h (L ++ M) in
-    elim (names (closes c) h) as (λ b. pulses_among (cond b [] (taken_out (row_of f t c).receipt h (L ++ M))) ≤ 1024) [ true ↦ omega arith | false ↦ omega (arith, made, out) ]
+    let L = left_by f t c h (f.pending h ++ M) in
+    let made : pulses_among (f.pending h ++ M) ≤ 1024 = limited f t c h p (f.pending h) (omega arith) few in
+    let less : pulses_among L ≤ pulses_among (f.pending h ++ M) = fewer_left (λ item. not (is_cut f t c h item.number)) (f.pending h ++ M) in
+    let out : pulses_among (taken_out (row_of f t c).receipt h L) ≤ pulses_among L = fewer_out (row_of f t c).receipt h L in
+    elim (names (closes c) h) as (λ b. pulses_among (cond b [] (taken_out (row_of f t c).receipt h L)) ≤ 1024) [ true ↦ omega arith | false ↦ omega (arith, made, less, out) ]
 
 pub pulses_are_limited : PulsesAreLimited
 pulses_are_limited roster [] r l h = omega arith

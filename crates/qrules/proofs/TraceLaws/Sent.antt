@@ -1,32 +1,26 @@
 -- What is received was sent, to the channel on which it is received.
-use Rattle.std.proofs.Common.{◌≡◌, ℕ, ◌+◌, List, [], ◌∷◌, length, refl, ap, sym, subst, ◌∙◌, cond, Bool, true, false, eqb}
-use Rattle.std.specs.Prelude.{Option, None, Some, ◌&&◌}
+use Rattle.std.proofs.Common.{◌≡◌, ℕ, ◌+◌, List, [], ◌∷◌, length, refl, sym, subst, cond, Bool, true, false, eqb}
+use Rattle.std.specs.Prelude.{None, Some, ◌&&◌}
 use Rattle.std.specs.List.{list_any}
 use Rattle.std.specs.Option.{option_map, option_to_list}
-use Rattle.std.proofs.lemmas.Bool.{eqb-true, eq-eqb, and_from}
+use Rattle.std.proofs.lemmas.Bool.{eq-eqb, and_from}
 use Rattle.std.proofs.lemmas.Option.{none-some, same_Some}
 use Rattle.qqueue.specs.Best.{best_of}
-use Rattle.qqueue.specs.declared.item.Item.{Item}
 use Rattle.qqueue.proofs.OrderLaws.{best-at}
-use Rattle.qtables.specs.declared.connection.Connection.{Connection}
 use Rattle.qtables.specs.declared.member.Member.{Member}
 use Rattle.qrules.specs.Headline.BestFirst.{TakesBest, takeable}
 use Rattle.qrules.specs.Headline.ReceivedOnce.{item_received}
 use Rattle.qrules.specs.Headline.SentOrder.{connection_of}
 use Rattle.qrules.specs.Laws.{LeadsTo, ReceivedWasSent, WasSent}
-use Rattle.qrules.specs.Past.{connection_at, item_of, items, made_at, priority_of_thread}
-use Rattle.qrules.specs.Items.{makes}
-use Rattle.qrules.specs.Rows.{message_item, pulse_item, Made, sent_over}
+use Rattle.qrules.specs.Past.{item_of, items}
+use Rattle.qrules.specs.Rows.{Made}
 use Rattle.qrules.specs.Trace.{Event, Trace}
-use Rattle.qrules.specs.declared.call.Call.{Call}
-use Rattle.qrules.specs.declared.call.Call.TheVariants.{ChannelCreate, ConnectAttach, Send, Receive, Reply, Error, Read, Write, Info, ReceivePulse, Pulse, PrioritySet, State, ChannelDestroy, Shutdown, Unblock}
 use Rattle.qrules.specs.declared.call.Completion.{Completion}
 use Rattle.qrules.proofs.Past.Items.{Stands, item_at}
 use Rattle.qrules.proofs.Past.Lists.{all_more}
 use Rattle.qrules.proofs.Properties.BestFirst.{best_first}
 use Rattle.qrules.proofs.Properties.Connections.{item_over, takeable_made}
 use Rattle.qrules.proofs.Properties.ReceivedOnce.{any_first, any_last}
-use Rattle.qrules.proofs.Properties.Sends.{made_newest, made_stays}
 
 -- ---- an item that was sent over a connection
 

@@ -11,7 +11,7 @@ use Rattle.qrules.specs.Past.{is_unblocked, filled, ends, is_accepted, is_ended,
 use Rattle.qrules.specs.Rows.{asks}
 use Rattle.qrules.specs.Trace.{Event, Trace}
 use Rattle.qrules.specs.declared.call.Call.{Call}
-use Rattle.qrules.specs.declared.call.Call.TheVariants.{ChannelCreate, ConnectAttach, Send, Receive, Reply, Error, Read, Write, Info, ReceivePulse, Pulse, PrioritySet, State, ChannelDestroy, Shutdown, Unblock}
+use Rattle.qrules.specs.declared.call.Call.TheVariants.{ChannelCreate, ConnectAttach, Send, Receive, Reply, Error, Read, Write, Info, ReceivePulse, Pulse, PrioritySet, State, ChannelDestroy, Shutdown, Unblock, ConnectDetach}
 use Rattle.qrules.specs.declared.open_call.OpenCall.{OpenCall}
 use Rattle.qrules.proofs.Past.Lists.{eqb_same}
 use Rattle.qrules.proofs.Past.Numbers.{open_from, open_parts, receipt_number}
@@ -35,6 +35,7 @@ asks_any n (State thread) = refl
 asks_any n (ChannelDestroy chid) = refl
 asks_any n Shutdown = refl
 asks_any n (Unblock thread) = refl
+asks_any n (ConnectDetach coid) = refl
 asks_any n (ReceivePulse chid) = refl
 asks_any n (Pulse coid priority code value) = refl
 

@@ -1,9 +1,8 @@
 -- Unblock: what stands for a signal or a timeout. A thread's open call is cut; but for a message that is held on a channel with the unblock flag the
 -- server gets a pulse, once, and the thread stays blocked.
-use Rattle.std.specs.Prelude.{ℕ, ◌==◌, ◌&&◌, not, Bool, is_some, [], Option, None, Some, if◌then◌else◌}
+use Rattle.std.specs.Prelude.{ℕ, ◌==◌, ◌&&◌, not, is_some, [], Option, None, Some, if◌then◌else◌}
 use Rattle.qbase.specs.declared.errno.Errno.{Errno}
 use Rattle.qbase.specs.declared.errno.Errno.TheVariants.{Intr, Srch}
-use Rattle.qtables.specs.Members.{member_at}
 use Rattle.qtables.specs.declared.connection.Connection.{Connection}
 use Rattle.qrules.specs.declared.call.Completion.{Completion}
 use Rattle.qrules.specs.declared.call.Mark.TheVariants as mark
@@ -12,10 +11,9 @@ use Rattle.qrules.specs.declared.open_call.Receipt.{Receipt}
 use Rattle.qrules.specs.declared.open_call.Wait.{Wait}
 use Rattle.qrules.specs.declared.open_call.Wait.TheVariants.{Answer, Item as ForItem}
 use Rattle.qrules.specs.Cutting.{cuts}
-use Rattle.qrules.specs.Delivering.{meets, receiver, received_of}
 use Rattle.qrules.specs.Facts.{Facts, is_fellow, tells_unblock}
-use Rattle.qrules.specs.Pulses.{full}
-use Rattle.qrules.specs.Rows.{Made, Received, Row, unblock_item}
+use Rattle.qrules.specs.Pulses.{full_for, told, told_receipt}
+use Rattle.qrules.specs.Rows.{Made, Row, unblock_item}
 
 -- the channel that the connection leads to, where that has the unblock flag
 abbrev pub guard_over : Facts → Option Connection → Option ℕ
@@ -48,24 +46,14 @@ due_of f (Some o) = due_for f o.number o.wait
 abbrev pub due : Facts → ℕ → Option Made
 due f thread = due_of f (f.open_call thread)
 
--- where a pulse is due, 1,024 pulses pending on its channel
-abbrev pub refusal_of : Facts → Option Made → Option Errno
-refusal_of f None = None
-refusal_of f (Some m) = full f m.channel
-
--- a thread that the roster hasn't, or of another process, and then those
+-- a thread that the roster hasn't, or of another process, and then 1,024 pulses pending where one is due
 abbrev pub refusal : Facts → ℕ → ℕ → Option Errno
-refusal f t thread = if is_fellow f t thread then refusal_of f (due f thread) else Some Srch
+refusal f t thread = if is_fellow f t thread then full_for f (due f thread) else Some Srch
 
 -- with no pulse due the thread's open call is cut that no channel guards; else the call of the pulse's receiver ends
 abbrev pub ends : Facts → ℕ → Option Made → ℕ → Option Completion
 ends f thread None u = cuts f (λ v wait. (v == thread) && not (is_some (guard f wait))) Intr u
-ends f thread (Some m) u = meets f m.item [] (receiver f m.item (Some m.channel)) u
-
--- the receipt of the pulse, by a receiver that waits
-abbrev pub receipt : Facts → Option Made → Option Received
-receipt f None = None
-receipt f (Some m) = received_of f None m.item [] (Some m.channel) (receiver f m.item (Some m.channel))
+ends f thread (Some m) u = told f (Some m) u
 
 -- it never blocks, and takes memory only for the pulse
 abbrev pub row : Facts → ℕ → ℕ → Row
@@ -74,5 +62,5 @@ row f t thread = record {
   takes_memory = is_some (due f thread);
   own = Some (record { call = f.number; thread = t; mark = mark.Ok; buffer = [] });
   ends = ends f thread (due f thread);
-  receipt = receipt f (due f thread);
+  receipt = told_receipt f (due f thread);
 }

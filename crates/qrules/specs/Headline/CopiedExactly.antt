@@ -5,7 +5,7 @@ use Rattle.std.specs.Option.{option_map_or}
 use Rattle.std.specs.Ordering.{int_eq}
 use Rattle.qbase.specs.Laying.{laid_count, lay_over}
 use Rattle.qrules.specs.declared.call.Call.{Call}
-use Rattle.qrules.specs.declared.call.Call.TheVariants.{ChannelCreate, ConnectAttach, Send, Receive, Reply, Error, Read, Write, Info, ReceivePulse, Pulse, PrioritySet, State, ChannelDestroy, Shutdown, Unblock}
+use Rattle.qrules.specs.declared.call.Call.TheVariants.{ChannelCreate, ConnectAttach, Send, Receive, Reply, Error, Read, Write, Info, ReceivePulse, Pulse, PrioritySet, State, ChannelDestroy, Shutdown, Unblock, ConnectDetach}
 use Rattle.qrules.specs.declared.call.Completion.{Completion}
 use Rattle.qrules.specs.declared.call.Mark.{Mark}
 use Rattle.qrules.specs.declared.call.Mark.TheVariants as mark
@@ -35,6 +35,7 @@ buffer_by past i (State thread) = []
 buffer_by past i (ChannelDestroy chid) = []
 buffer_by past i Shutdown = []
 buffer_by past i (Unblock thread) = []
+buffer_by past i (ConnectDetach coid) = []
 
 -- the same of the call of that number, nothing where there is none
 abbrev pub buffer_at : Trace → ℕ → List ℕ
@@ -58,6 +59,7 @@ message_of (State thread) = []
 message_of (ChannelDestroy chid) = []
 message_of Shutdown = []
 message_of (Unblock thread) = []
+message_of (ConnectDetach coid) = []
 
 -- the bytes of message i
 abbrev pub message_at : Trace → ℕ → List ℕ
@@ -81,6 +83,7 @@ replies_with (State thread) = None
 replies_with (ChannelDestroy chid) = None
 replies_with Shutdown = None
 replies_with (Unblock thread) = None
+replies_with (ConnectDetach coid) = None
 
 -- what a call counts: a Read the bytes of the message from the offset on that it lays over its buffer, a Write those that it lays over the
 -- reply buffer from the offset on; no other call counts
@@ -102,6 +105,7 @@ IsCounted past (State thread) x copied = ⊥
 IsCounted past (ChannelDestroy chid) x copied = ⊥
 IsCounted past Shutdown x copied = ⊥
 IsCounted past (Unblock thread) x copied = ⊥
+IsCounted past (ConnectDetach coid) x copied = ⊥
 
 -- a receipt lays the message over the front of the receiver's buffer, a reply its bytes over the front of the sender's reply buffer, each to
 -- the shorter length and with that count; a Read and a Write copy what they count; any other ending gives the buffer as it is by then

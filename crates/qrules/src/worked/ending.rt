@@ -2,6 +2,7 @@
 
 ghost use Rattle.std.specs.Prelude.{◌≡◌};
 ghost use Rattle.qrules.specs.Worked.DestroyedChannel as destroyed;
+ghost use Rattle.qrules.specs.Worked.Detached as detached;
 ghost use Rattle.qrules.specs.Worked.ShutDown as down;
 ghost use Rattle.qrules.specs.Worked.StaleId as stale;
 ghost use Rattle.qrules.specs.Worked.Unblocked as unblocked;
@@ -28,6 +29,44 @@ pub fn unblocked()
     ensures receiver_cut { EndsOnlySo roster unblocked.events 9 }
     ensures pulsed { EndsOnlySoWithMemory roster unblocked.events 10 }
     ensures message_gone { EndsOnlySo roster unblocked.events 11 }
+{}
+
+/// A detached connection ends what was sent over it and isn't received.
+pub fn detached_connection()
+    ensures lawful { IsLawfulRun roster detached.waiting }
+    ensures cut { EndsOnlySo roster detached.waiting 4 }
+    ensures detached_again { EndsOnlySo roster detached.waiting 5 }
+    ensures sent { EndsOnlySo roster detached.waiting 6 }
+    ensures message_gone { EndsOnlySo roster detached.waiting 7 }
+    ensures blocked { blocked_after roster detached.waiting ≡ detached.nothing_there }
+{}
+
+/// A detached connection ends also what was received, and no other connection's.
+pub fn detached_while_held()
+    ensures lawful { IsLawfulRun roster detached.held }
+    ensures of_others { EndsOnlySo roster detached.held 5 }
+    ensures cut { EndsOnlySo roster detached.held 7 }
+    ensures answered { EndsOnlySo roster detached.held 8 }
+    ensures over_another { EndsOnlySo roster detached.held 10 }
+    ensures of_none { EndsOnlySo roster detached.held 11 }
+{}
+
+/// The server of a channel with the disconnect flag is told once, of the last connection of a process.
+pub fn told_of_the_last_detach()
+    ensures lawful { IsLawfulRun roster detached.told_once }
+    ensures first { EndsOnlySo roster detached.told_once 6 }
+    ensures last { EndsOnlySoWithMemory roster detached.told_once 7 }
+    ensures pulse { EndsOnlySo roster detached.told_once 8 }
+    ensures no_more { EndsOnlySo roster detached.told_once 9 }
+    ensures blocked { blocked_after roster detached.told_once ≡ detached.no_more }
+{}
+
+/// A server that waits takes the disconnect pulse in the event of the detach.
+pub fn disconnect_pulse_taken_at_once()
+    ensures lawful { IsLawfulRun roster detached.taken_at_once }
+    ensures first { EndsOnlySo roster detached.taken_at_once 6 }
+    ensures last { EndsOnlySoWithMemory roster detached.taken_at_once 9 }
+    ensures message_gone { EndsOnlySo roster detached.taken_at_once 10 }
 {}
 
 /// A destroyed channel ends what is blocked on it.

@@ -1,9 +1,7 @@
-use Rattle.std.proofs.Common.{◌≡◌, None, Some, ap, refl, sym, ◌∙◌}
+use Rattle.std.proofs.Common.{ap, refl, sym, ◌∙◌}
 use Rattle.std.specs.Prelude.{option_copied}
 use Rattle.std.specs.Option.{option_map}
-use Rattle.qtables.specs.Entries.{entry_at}
 use Rattle.qrecords.specs.HeldIn.{guard_in, guarded_in, held_in}
-use Rattle.qrecords.specs.Threads.{open_in}
 use Rattle.qrecords.proofs.Seats.{first_at, first_open}
 use Rattle.qrecords.proofs.held.guarded.Goals as goal
 

@@ -7,14 +7,13 @@ use Rattle.qqueue.specs.Best.{may_take}
 use Rattle.qqueue.specs.declared.item.Item.{Item}
 use Rattle.qqueue.specs.declared.item.Kind.{Kind}
 use Rattle.qrules.specs.Delivering.{meets, receiver, receipt_by}
-use Rattle.qrules.specs.Facts.{Facts, way}
+use Rattle.qrules.specs.Facts.{Facts}
 use Rattle.qrules.specs.Rows.{takes, takes_into, taking}
 use Rattle.qrules.specs.declared.call.Completion.{Completion}
 use Rattle.qrules.specs.declared.open_call.OpenCall.{OpenCall}
 use Rattle.qrules.specs.declared.open_call.Wait.{Wait}
 use Rattle.qrules.specs.declared.open_call.Wait.TheVariants.{Answer, Item as ForItem}
 use Rattle.qrules.proofs.Properties.Receivers.{WaitsOn, newest_waits}
-use Rattle.qrules.proofs.Ways.{Leads, leads_over}
 
 -- the open call of thread u ends by taking the item
 pub record TakesInto (item : Item) (message : List ℕ) (u : ℕ) (call : Option OpenCall) (y : Completion) : Type 0 where

@@ -1,0 +1,387 @@
+-- ConnectDetach as a step of the kernel.
+use Rattle.std.proofs.Common.{◌≡◌, ℕ, suc, ◌+◌, ◌<◌, ◌≤◌, List, [], ◌∷◌, ◌++◌, length, refl, ap, sym, subst, ◌∙◌, cond, arith, true, false, eqb, inl, inr, add-zero}
+use Rattle.std.specs.Prelude.{Bool, Option, None, Some, IfSome, filter, count_by, is_some, not, ◌&&◌, unwrap_or}
+use Rattle.std.specs.List.{filter_map, list_any}
+use Rattle.std.proofs.Math.Bool.{and_comm}
+use Rattle.std.proofs.lemmas.Bool.{and_parts, eqb-true, ne_eqb, true≢false}
+use Rattle.std.proofs.lemmas.List.{append-nil}
+use Rattle.std.proofs.lemmas.List.Sums.{length-filter}
+use Rattle.std.proofs.lemmas.Option.{none-some, same_Some}
+use Rattle.qbase.specs.declared.errno.Errno.TheVariants.{Again, Badf, Inval, NoMemory}
+use Rattle.qqueue.specs.Best.{is_pulse, without}
+use Rattle.qqueue.specs.declared.item.Item.{Item}
+use Rattle.qtables.specs.Entries.{entry_at, without_entry}
+use Rattle.qtables.specs.Members.{member_at}
+use Rattle.qtables.specs.declared.connection.Connection.{Connection}
+use Rattle.qtables.specs.declared.member.Member.{Member}
+use Rattle.qrules.specs.Answer.{MayRefuse, ending, failed}
+use Rattle.qrules.specs.Calls.ConnectDetach.{between, connections_between, due, due_of, is_own}
+use Rattle.qrules.specs.Cutting.{cut_where, is_on, is_over, is_unread_send}
+use Rattle.qrules.specs.Facts.{tells_disconnect, threads_of}
+use Rattle.qrules.specs.Pulses.{full_for, told, told_receipt}
+use Rattle.qrules.specs.Receivers.{newest}
+use Rattle.qrules.specs.Rows.{Made, Received, disconnect_item, first_some, received}
+use Rattle.qrules.specs.Step.{after_receipt, is_cut, left_by, made_on, taken_by, taken_out, unless}
+use Rattle.qrules.specs.declared.call.Call.TheVariants.{ConnectDetach}
+use Rattle.qrules.specs.declared.call.Completion.{Completion}
+use Rattle.qrules.specs.declared.open_call.OpenCall.{OpenCall}
+use Rattle.qrules.specs.declared.open_call.Wait.TheVariants.{Item as ForItem}
+use Rattle.qrecords.specs.declared.channel.Channel.{Channel}
+use Rattle.qrecords.specs.declared.cutting.Cut.TheVariants.{Over}
+use Rattle.qrecords.specs.declared.thread.Thread.{Thread}
+use Rattle.qrecords.specs.Channels.{channel_in, ids_of, own_channel_in, pending_in}
+use Rattle.qrecords.specs.Cuts.{AreCut, LoseCut, ending_for, is_cut_among}
+use Rattle.qrecords.specs.Endings.{inserted_if}
+use Rattle.qrecords.specs.Pulses.{IsLeft, IsMet, IsSentIfDue, has_room}
+use Rattle.qrecords.specs.Threads.{level_in, members_of, open_in}
+use Rattle.qkernel.specs.State.{State, IsSound, facts_in}
+use Rattle.qkernel.specs.Stands.{Steps}
+use Rattle.qtables.proofs.LookUps.{entry_at-without_entry}
+use Rattle.qrules.proofs.Calls.ConnectDetach.{tells_open}
+use Rattle.qrules.proofs.Calls.Cutting.{cut_parts}
+use Rattle.qrules.proofs.Calls.Delivering.{ForAnItem, met_item}
+use Rattle.qrules.proofs.Past.Lists.{all_filter, cond_same, eqb_same, filter_alike, filter_twice}
+use Rattle.qrules.proofs.Rosters.{filter_same, rises}
+use Rattle.qrecords.proofs.Inserting.{endings_fewer, inserted_among}
+use Rattle.qrecords.proofs.Receivers.{ended_thread}
+use Rattle.qkernel.proofs.Tables.{count_picked, rising_without}
+use Rattle.qkernel.proofs.Steps.Common.{all_up_to, counted, sound_counted_alone, step_refused_alone}
+use Rattle.qkernel.proofs.Steps.Cutting.{mine, sound_less}
+use Rattle.qkernel.proofs.Steps.Delivering.{count_kept, items_after, newest_is, with_item}
+use Rattle.qkernel.proofs.Steps.Meeting.{apart, ended_is, newest_met, receiver, there, told_mark, waits_after}
+use Rattle.qkernel.proofs.Steps.Telling.{sound_sent}
+
+-- ---- the connection, and how many there are
+
+-- the connection is of process p and leads to channel h
+pub record IsOf (p h : ℕ) (o : Option Connection) : Type 0 where
+  pub connection : Connection
+  pub is : o ≡ Some connection
+  pub process : eqb p connection.process ≡ true
+  pub channel : connection.channel ≡ h
+
+pub own_parts : (p h : ℕ) (o : Option Connection) → own_channel_in p o ≡ Some h → IsOf p h o
+own_parts p h None e = absurd (none-some h e)
+own_parts p h (Some c) e = elim (eqb p c.process) as (λ b. eqb p c.process ≡ b → cond b (Some c.channel) None ≡ Some h → IsOf p h (Some c)) [
+  | true ↦ λ own s. record { connection = c; is = refl; process = own; channel = same_Some c.channel h s }
+  | false ↦ λ other s. absurd (none-some h s)
+] refl e
+
+not_own : (s : State) (t : ℕ) (m : Member) (o : Option Connection) → member_at (members_of s.threads) t ≡ Some m → own_channel_in m.process o ≡ None → is_own (facts_in s) t o ≡ false
+not_own s t m None known e = refl
+not_own s t m (Some c) known e = rw known (elim (eqb m.process c.process) as (λ b. cond b (Some c.channel) None ≡ None → b ≡ false) [ true ↦ λ k. absurd (none-some c.channel (sym k)) | false ↦ λ k. refl ] e)
+
+between_is : (p h : ℕ) (c : Connection) → is_some (between p h (Some c)) ≡ (eqb c.process p && eqb c.channel h)
+between_is p h c = elim (eqb c.process p && eqb c.channel h) as (λ b. is_some (cond b (Some c) None) ≡ b) [ true ↦ refl | false ↦ refl ]
+
+-- how many live connections a process has to a channel is counted over the table
+pub counted_between : (s : State) (p h : ℕ) → IsSound s → connections_between (facts_in s) p h ≡ count_by (λ e. (eqb e.1.process p) && (eqb e.1.channel h)) s.connections
+counted_between s p h sound =
+    count_picked (between p h) s.connections (s.made + 1) refl sound.connections.0 (all_up_to (λ e. e.0) s.made s.connections sound.connection_ids) sound.connections.1
+    ∙ length-filter (λ e. is_some (between p h (Some e.1))) s.connections
+    ∙ ap (λ (q : ℕ × Connection → Bool). count_by q s.connections) (λ i e. between_is p h e.1 i)
+
+-- ---- lists
+
+length_threads : (threads : List Thread) → length (threads_of (members_of threads)) ≡ length threads
+length_threads [] = refl
+length_threads (x ∷ threads) = ap suc (length_threads threads)
+
+filter_swapped : (p q : Item → Bool) (items : List Item) → filter p (filter q items) ≡ filter q (filter p items)
+filter_swapped p q items = filter_twice q p items ∙ filter_alike (λ x. q x && p x) (λ x. p x && q x) items (λ x. and_comm (q x) (p x)) ∙ sym (filter_twice p q items)
+
+-- what is taken out and what leaves may go in either order
+taken_filtered : (p : Item → Bool) (receipt : Option Received) (k : ℕ) (items : List Item) → filter p (taken_out receipt k items) ≡ taken_out receipt k (filter p items)
+taken_filtered p None k items = refl
+taken_filtered p (Some r) k items = elim (eqb r.channel k) as (λ b. filter p (cond b (without r.item items) items) ≡ cond b (without r.item (filter p items)) (filter p items)) [
+  | true ↦ filter_swapped p (λ item. not (eqb item.number r.item)) items
+  | false ↦ refl
+]
+
+-- ---- the pulse that is due, sent or not
+
+-- the same with its channel
+abbrev pub made_for : ℕ → Option Item → Option Made
+made_for h None = None
+made_for h (Some item) = Some (record { item = item; channel = h })
+
+-- what has become of the threads and the channels, and how the call of its receiver ends
+pub record IsTold (s : State) (t : ℕ) (o : Option Made) (mid : List Thread) (channels : List (ℕ × Channel)) (met : Option Completion) : Type 0 where
+  pub room : full_for (facts_in s) o ≡ None
+  pub members : members_of mid ≡ members_of s.threads
+  pub open_call : (u : ℕ) → open_in mid u ≡ unless (is_some (told (facts_in s) o u)) (open_in s.threads u)
+  pub idle : told (facts_in s) o t ≡ None
+  pub priority : (u : ℕ) → level_in mid u ≡ unwrap_or (taken_by (facts_in s) (told_receipt (facts_in s) o) u) (level_in s.threads u)
+  pub senderless : (u : ℕ) (call : Option OpenCall) → after_receipt (told_receipt (facts_in s) o) u call ≡ call
+  pub ids : ids_of channels ≡ ids_of s.channels
+  pub channel : (k : ℕ) → channel_in channels k ≡ channel_in s.channels k
+  pub pending : (k : ℕ) → pending_in channels k ≡ taken_out (told_receipt (facts_in s) o) k (pending_in s.channels k ++ made_on k o)
+  pub endings : (g : ℕ → Option Completion) → ((u : ℕ) (x : Completion) → g u ≡ Some x → x.thread ≡ u) → ((u : ℕ) → is_some (told (facts_in s) o u) ≡ true → g u ≡ None)
+      → inserted_if met (filter_map g (threads_of (members_of s.threads))) ≡ filter_map (λ u. first_some (g u) (told (facts_in s) o u)) (threads_of (members_of s.threads))
+  pub few : (g : ℕ → Option Completion) → ((u : ℕ) → is_some (told (facts_in s) o u) ≡ true → g u ≡ None) → is_some met ≡ true
+      → length (filter_map g (threads_of (members_of s.threads))) + 1 ≤ length (threads_of (members_of s.threads))
+
+first_alone : (o : Option Completion) → first_some o None ≡ o
+first_alone None = refl
+first_alone (Some x) = refl
+
+-- none is due
+untold : (s : State) (t : ℕ) → IsTold s t None s.threads s.channels None
+untold s t = record {
+  room = refl;
+  members = refl;
+  open_call = λ u. refl;
+  idle = refl;
+  priority = λ u. refl;
+  senderless = λ u call. refl;
+  ids = refl;
+  channel = λ k. refl;
+  pending = λ k. sym (append-nil _);
+  endings = λ g own none. filter_same g (λ u. first_some (g u) None) (threads_of (members_of s.threads)) (λ u. sym (first_alone (g u)));
+  few = λ g none e. absurd (true≢false (sym e));
+}
+
+module _ (s : State) (t h : ℕ) (item : Item) (sound : IsSound s) (free : open_in s.threads t ≡ None) (number : item.number ≡ s.made + 1) (mid : List Thread) (channels : List (ℕ × Channel)) where
+  abbrev sent : Option Made
+  sent = Some (record { item = item; channel = h })
+
+  -- it waits
+  told_left : IsLeft h item s.threads s.channels mid channels → IsTold s t sent mid channels None
+  told_left left =
+      let none : newest (facts_in s) h item ≡ None = newest_is s h item None sound left.nobody in
+      record {
+        room = rw (left.room) refl;
+        members = ap members_of left.threads_are;
+        open_call = λ u. ap (λ ts. open_in ts u) left.threads_are ∙ rw none refl;
+        idle = rw none refl;
+        priority = λ u. ap (λ ts. level_in ts u) left.threads_are ∙ rw none refl;
+        senderless = λ u call. rw none refl;
+        ids = left.sets.ids;
+        channel = left.sets.channel;
+        pending = λ k. left.sets.pending k ∙ rw none (with_item s h item sound number k);
+        endings = λ g own nothing. filter_same g (λ u. first_some (g u) (told (facts_in s) sent u)) (threads_of (members_of s.threads)) (λ u. rw none (sym (first_alone (g u))));
+        few = λ g nothing e. absurd (true≢false (sym e));
+      }
+
+  -- it meets a receiver
+  module _ (y : Completion) (pulse : is_pulse item.what ≡ true) (met : IsMet h item s.threads s.channels mid channels y) where
+    abbrev r : ℕ
+    r = receiver s t h item y mid channels sound free met
+
+    newest_is_r : newest (facts_in s) h item ≡ Some r
+    newest_is_r = newest_met s t h item y mid channels sound free met
+
+    told_is : (u : ℕ) → told (facts_in s) sent u ≡ cond (eqb u r) (Some y) None
+    told_is u = rw newest_is_r (ended_is s t h item y mid channels sound free met u)
+
+    told_r : is_some (told (facts_in s) sent r) ≡ true
+    told_r = rw (told_is r, eqb_same r) refl
+
+    told_met : IsTold s t sent mid channels (Some y)
+    told_met =
+        let mark : received y.mark ≡ Some (item.number, 0) = told_mark item r (open_in s.threads r) y pulse met.ended in
+        let thread : y.thread ≡ r = ended_thread item [] r (open_in s.threads r) y met.ended in
+        record {
+          room = rw (met.room) refl;
+          members = met.wakes.members;
+          open_call = λ u. waits_after s t h item y mid channels sound free met u ∙ rw newest_is_r refl;
+          idle = told_is t ∙ rw (ne_eqb t r (apart s t h item y mid channels sound free met)) refl;
+          priority = λ u. met.wakes.priority u ∙ rw (newest_is_r, met.ended, mark, thread) refl;
+          senderless = λ u call. rw (newest_is_r, met.ended, mark) refl;
+          ids = ap ids_of met.channels_are;
+          channel = λ k. ap (λ cs. channel_in cs k) met.channels_are;
+          pending = λ k. ap (λ cs. pending_in cs k) met.channels_are ∙ rw (newest_is_r, met.ended, mark) (items_after s h item sound number k);
+          endings = λ g own none. inserted_among y r thread g own (none r told_r) (threads_of (members_of s.threads)) (rises (members_of s.threads) sound.roster) (there s t h item y mid channels sound free met)
+              ∙ filter_same (λ u. first_some (g u) (cond (eqb u r) (Some y) None)) (λ u. first_some (g u) (told (facts_in s) sent u)) (threads_of (members_of s.threads)) (λ u. ap (first_some (g u)) (sym (told_is u)));
+          few = λ g none e. endings_fewer g r (threads_of (members_of s.threads)) (none r told_r) (there s t h item y mid channels sound free met);
+        }
+
+-- a pulse of the call's number
+abbrev pub IsNew : ℕ → Option Item → Type 0
+IsNew n d = IfSome d (λ item. (item.number ≡ n) × (is_pulse item.what ≡ true))
+
+pub new_pulse : (n priority p : ℕ) (last : Bool) (d : Option Item) → d ≡ cond last (Some (disconnect_item n priority p)) None → IsNew n d
+new_pulse n priority p last d is = subst (IsNew n) (sym is) (elim last as (λ b. IsNew n (cond b (Some (disconnect_item n priority p)) None)) [ true ↦ (refl, refl) | false ↦ tt ])
+
+-- one or the other
+pub is_told : (s : State) (t h : ℕ) (d : Option Item) (mid : List Thread) (channels : List (ℕ × Channel)) (met : Option Completion) → IsSound s → open_in s.threads t ≡ None
+    → IsNew (s.made + 1) d → IsSentIfDue h d s.threads s.channels mid channels met → IsTold s t (made_for h d) mid channels met
+is_told s t h None mid channels met sound free pulse sent = rw (sent.0, sent.1, sent.2) (untold s t)
+is_told s t h (Some item) mid channels None sound free pulse sent = told_left s t h item sound free pulse.0 mid channels sent
+is_told s t h (Some item) mid channels (Some y) sound free pulse sent = told_met s t h item sound free pulse.0 mid channels y pulse.1 sent
+
+-- the kernel stays sound as it is sent
+pub sound_due : (s : State) (h : ℕ) (d : Option Item) (mid : List Thread) (channels : List (ℕ × Channel)) (met : Option Completion) → IsSound s → IsNew (s.made + 1) d → IsSentIfDue h d s.threads s.channels mid channels met
+    → IsSound (record { made = s.made + 1; down = s.down; threads = mid; channels = channels; connections = s.connections })
+sound_due s h None mid channels met sound new sent = rw (sent.0, sent.1) (sound_counted_alone s sound)
+sound_due s h (Some item) mid channels met sound new sent = sound_sent s h item mid channels met new.0 sent sound
+
+-- ---- the step
+
+module _ (s : State) (t coid : ℕ) (m : Member) (known : member_at (members_of s.threads) t ≡ Some m) (up : s.down ≡ false) (free : open_in s.threads t ≡ None) where
+  pub step_detach_refused : (X : List Completion) → own_channel_in m.process (entry_at s.connections coid) ≡ None → X ≡ failed (facts_in s) t (ConnectDetach coid) Inval ∷ [] → Steps s t (ConnectDetach coid) X (counted s)
+  step_detach_refused X other is =
+      let not_mine : is_own (facts_in s) t (entry_at s.connections coid) ≡ false = not_own s t m (entry_at s.connections coid) known other in
+      step_refused_alone s t (ConnectDetach coid) Inval X (inl (rw (up, free, not_mine) refl)) is
+
+  module _ (h : ℕ) (of : IsOf m.process h (entry_at s.connections coid)) where
+    own : is_own (facts_in s) t (entry_at s.connections coid) ≡ true
+    own = rw (of.is, known) of.process
+
+    -- the pulse of the last connection
+    abbrev pub pulse : Item
+    pulse = disconnect_item (s.made + 1) (level_in s.threads t) m.process
+
+    pub due_is : (last : Bool) → IsSound s → last ≡ (tells_disconnect (channel_in s.channels h) && eqb (count_by (λ e. (eqb e.1.process m.process) && (eqb e.1.channel h)) s.connections) 1)
+        → due (facts_in s) t coid ≡ made_for h (cond last (Some pulse) None)
+    due_is last sound is =
+        let same : m.process ≡ of.connection.process = eqb-true m.process of.connection.process of.process in
+        ap (due_of (facts_in s) t) of.is
+        ∙ rw (← same, of.channel, counted_between s m.process h sound, ← is) (elim last as (λ b. cond {A = Option Made} b (Some (record { item = pulse; channel = h })) None ≡ made_for h (cond b (Some pulse) None)) [ true ↦ refl | false ↦ refl ])
+
+    -- a pulse is due on an open channel alone
+    pub due_open : (last : Bool) (d : Option Item) → d ≡ cond last (Some pulse) None → last ≡ (tells_disconnect (channel_in s.channels h) && eqb (count_by (λ e. (eqb e.1.process m.process) && (eqb e.1.channel h)) s.connections) 1)
+        → is_some d ≡ true → is_some (channel_in s.channels h) ≡ true
+    due_open last d is tells some = tells_open (channel_in s.channels h) (and_parts _ _ (sym tells ∙ (elim last as (λ b. is_some (cond b (Some pulse) None) ≡ true → b ≡ true) [ true ↦ λ e. refl | false ↦ λ e. absurd (true≢false (sym e)) ] (ap is_some (sym is) ∙ some)))).0
+
+    module _ (d : Option Item) (due_is : due (facts_in s) t coid ≡ made_for h d) where
+      pub detach_full : is_some d ≡ true → has_room s.channels h ≡ false → MayRefuse (facts_in s) t (ConnectDetach coid) Again
+      detach_full some full = inl (rw (up, free, own, due_is) (elim d as (λ d. is_some d ≡ true → full_for (facts_in s) (made_for h d) ≡ Some Again) [
+        | None ↦ λ e. absurd (true≢false (sym e))
+        | Some item ↦ λ e. rw full refl
+      ] some))
+
+      pub detach_memory : is_some d ≡ true → has_room s.channels h ≡ true → MayRefuse (facts_in s) t (ConnectDetach coid) NoMemory
+      detach_memory some room =
+          inr (
+            rw (up, free, own, due_is) (elim d as (λ d. is_some d ≡ true → full_for (facts_in s) (made_for h d) ≡ None) [
+              | None ↦ λ e. absurd (true≢false (sym e))
+              | Some item ↦ λ e. rw room refl
+            ] some),
+            ap is_some due_is ∙ (elim d as (λ d. is_some d ≡ true → is_some (made_for h d) ≡ true) [ None ↦ λ e. e | Some item ↦ λ e. refl ] some),
+            refl,
+          )
+
+      -- what is cut once the pulse is sent
+      module _ (sound : IsSound s) (mid : List Thread) (between : List (ℕ × Channel)) (met : Option Completion) (is : IsTold s t (made_for h d) mid between met) where
+        abbrev o : Option Made
+        o = made_for h d
+
+        abbrev ts : List ℕ
+        ts = threads_of (members_of s.threads)
+
+        -- how the call of u ends, as it is cut
+        abbrev cut : ℕ → Option Completion
+        cut u = cut_where (is_over coid) Badf u (open_in s.threads u)
+
+        for_item : (o : Option Made) (u : ℕ) (y : Completion) → told (facts_in s) o u ≡ Some y → ForAnItem (open_in s.threads u)
+        for_item None u y e = absurd (none-some y e)
+        for_item (Some x) u y e = met_item (facts_in s) x.item [] (Some x.channel) u y e
+
+        -- what meets the pulse isn't cut
+        met_uncut : (u : ℕ) (y : Completion) → told (facts_in s) o u ≡ Some y → cut u ≡ None
+        met_uncut u y e = let k = for_item o u y e in rw (k.is, k.waits) refl
+
+        met_unread : (u k i : ℕ) (y : Completion) → told (facts_in s) o u ≡ Some y → is_unread_send (entry_at s.connections) k i (open_in s.threads u) ≡ false
+        met_unread u k i y e = let w = for_item o u y e in rw (w.is, w.waits) (elim (eqb w.waiting.number i) as (λ b. (b && false && is_on (entry_at s.connections) k (ForItem w.chid w.kind w.buffer)) ≡ false) [ true ↦ refl | false ↦ refl ])
+
+        cut_mid : (u : ℕ) → cut_where (is_over coid) Badf u (open_in mid u) ≡ cut u
+        cut_mid u = rw (is.open_call u) (elim (told (facts_in s) o u) as (λ x. told (facts_in s) o u ≡ x → cut_where (is_over coid) Badf u (unless (is_some x) (open_in s.threads u)) ≡ cut u) [
+          | None ↦ λ e. refl
+          | Some y ↦ λ e. sym (met_uncut u y e)
+        ] refl)
+
+        -- how the calls end in the threads that are left
+        abbrev g : ℕ → Option Completion
+        g u = ending_for (entry_at s.connections) (Over coid) Badf (mine s t) u (open_in mid u)
+
+        g_is : (u : ℕ) → g u ≡ cond (eqb u t) (Some (mine s t)) (cut u)
+        g_is u = ap (cond (eqb u t) (Some (mine s t))) (cut_mid u)
+
+        g_own : (u : ℕ) (x : Completion) → g u ≡ Some x → x.thread ≡ u
+        g_own u x e = elim (eqb u t) as (λ b. eqb u t ≡ b → cond b (Some (mine s t)) (cut u) ≡ Some x → x.thread ≡ u) [
+          | true ↦ λ same hit. sym (ap (λ y. y.thread) (same_Some (mine s t) x hit)) ∙ sym (eqb-true u t same)
+          | false ↦ λ other hit. sym (ap (λ y. y.thread) (cut_parts (is_over coid) Badf u (open_in s.threads u) x hit).ending)
+        ] refl (sym (g_is u) ∙ e)
+
+        g_none : (u : ℕ) → is_some (told (facts_in s) o u) ≡ true → g u ≡ None
+        g_none u there = g_is u ∙ (elim (told (facts_in s) o u) as (λ x. told (facts_in s) o u ≡ x → is_some x ≡ true → cond (eqb u t) (Some (mine s t)) (cut u) ≡ None) [
+          | None ↦ λ e some. absurd (true≢false (sym some))
+          | Some y ↦ λ e some. rw (ne_eqb u t (λ same. none-some y (sym is.idle ∙ ap (told (facts_in s) o) (sym same) ∙ e)), met_uncut u y e) refl
+        ] refl there)
+
+        ending_is : (u : ℕ) → first_some (g u) (told (facts_in s) o u) ≡ ending (facts_in s) t (ConnectDetach coid) u
+        ending_is u = rw (due_is, g_is u) (elim (eqb u t) as (λ b. first_some (cond b (Some (mine s t)) (cut u)) (told (facts_in s) o u) ≡ cond b (Some (mine s t)) (first_some (cut u) (told (facts_in s) o u))) [ true ↦ refl | false ↦ refl ])
+
+        pub room_for_one : length s.threads ≤ 64 → is_some met ≡ true → length (filter_map g (threads_of (members_of mid))) < 64
+        room_for_one few some = rw (is.members) (let fewer : length (filter_map g ts) + 1 ≤ length ts = is.few g g_none some in let as_many : length ts ≡ length s.threads = length_threads s.threads in omega arith)
+
+        module _ (threads : List Thread) (now : List (ℕ × Channel)) (are : AreCut (entry_at s.connections) (Over coid) Badf mid threads) (lose : LoseCut (entry_at s.connections) (Over coid) Badf mid between now) where
+          abbrev pub detached : State
+          detached = record { made = s.made + 1; down = s.down; threads = threads; channels = now; connections = without_entry s.connections coid }
+
+          open_is : (u : ℕ) → open_in threads u ≡ unless (is_some (first_some (cut u) (told (facts_in s) o u))) (open_in s.threads u)
+          open_is u = are.open_call u ∙ rw (cut_mid u, is.open_call u) (elim (told (facts_in s) o u) as (λ x. told (facts_in s) o u ≡ x → cond (is_some (cut u)) None (unless (is_some x) (open_in s.threads u)) ≡ unless (is_some (first_some (cut u) x)) (open_in s.threads u)) [
+            | None ↦ λ e. rw (first_alone (cut u)) refl
+            | Some y ↦ λ e. rw (met_uncut u y e) refl
+          ] refl)
+
+          open_after : (u : ℕ) → open_in threads u ≡ cond (eqb u t) None (unless (is_some (first_some (cut u) (told (facts_in s) o u))) (open_in s.threads u))
+          open_after u = elim (eqb u t) as (λ b. eqb u t ≡ b → open_in threads u ≡ cond b None (unless (is_some (first_some (cut u) (told (facts_in s) o u))) (open_in s.threads u))) [
+            | true ↦ λ same. open_is u ∙ (let idle : open_in s.threads u ≡ None = ap (open_in s.threads) (eqb-true u t same) ∙ free in rw idle (cond_same _ None))
+            | false ↦ λ other. open_is u
+          ] refl
+
+          gone_is : (k i v : ℕ) → (is_unread_send (entry_at s.connections) k i (open_in mid v) && is_some (cut_where (is_over coid) Badf v (open_in mid v)))
+              ≡ (is_unread_send (entry_at s.connections) k i (open_in s.threads v) && is_some (first_some (cut v) (told (facts_in s) o v)))
+          gone_is k i v = rw (cut_mid v, is.open_call v) (elim (told (facts_in s) o v) as (λ x. told (facts_in s) o v ≡ x → (is_unread_send (entry_at s.connections) k i (unless (is_some x) (open_in s.threads v)) && is_some (cut v))
+              ≡ (is_unread_send (entry_at s.connections) k i (open_in s.threads v) && is_some (first_some (cut v) x))) [
+                | None ↦ λ e. rw (first_alone (cut v)) refl
+                | Some y ↦ λ e. rw (met_unread v k i y e) refl
+              ] refl)
+
+          cut_is : (k i : ℕ) → is_cut_among (entry_at s.connections) (Over coid) Badf mid k i ≡ is_cut (facts_in s) t (ConnectDetach coid) k i
+          cut_is k i = rw (is.members, due_is) (ap (λ (p : ℕ → Bool). list_any p ts) (λ j v. gone_is k i v j))
+
+          pending_is : (k : ℕ) → pending_in now k ≡ taken_out (told_receipt (facts_in s) o) k (left_by (facts_in s) t (ConnectDetach coid) k (pending_in s.channels k ++ made_on k o))
+          pending_is k = lose.pending k
+              ∙ filter_alike (λ (item : Item). not (is_cut_among (entry_at s.connections) (Over coid) Badf mid k item.number)) (λ item. not (is_cut (facts_in s) t (ConnectDetach coid) k item.number)) (pending_in between k) (λ item. ap not (cut_is k item.number))
+              ∙ ap (left_by (facts_in s) t (ConnectDetach coid) k) (is.pending k)
+              ∙ taken_filtered (λ item. not (is_cut (facts_in s) t (ConnectDetach coid) k item.number)) (told_receipt (facts_in s) o) k (pending_in s.channels k ++ made_on k o)
+
+          pub step_detached : (X : List Completion) → length (without_entry s.connections coid) + 1 ≡ length s.connections
+              → X ≡ inserted_if met (filter_map g (threads_of (members_of mid))) → Steps s t (ConnectDetach coid) X detached
+          step_detached X fewer is_X = (
+            true,
+            record {
+              answer = (
+                rw (up, free, own, due_is) is.room,
+                is_X ∙ ap (λ ms. inserted_if met (filter_map g (threads_of ms))) is.members ∙ is.endings g g_own g_none
+                    ∙ filter_same (λ u. first_some (g u) (told (facts_in s) o u)) (ending (facts_in s) t (ConnectDetach coid)) ts ending_is,
+              );
+              follows = record {
+                roster = are.members ∙ is.members;
+                number = refl;
+                down = refl;
+                channel = λ k. rw known (lose.channel k ∙ is.channel k);
+                open_channels = rw known (count_kept s.channels now (lose.ids ∙ is.ids));
+                connection = λ k. rw known (entry_at-without_entry s.connections coid k);
+                live_connections = rw known (fewer ∙ sym (add-zero (length s.connections)));
+                open_call = λ u. open_after u ∙ rw (due_is, is.senderless u (open_in s.threads u)) refl;
+                pending = λ k. pending_is k ∙ rw due_is refl;
+                priority = λ u. are.priority u ∙ is.priority u ∙ rw due_is refl;
+              };
+            },
+          )
+
+          pub sound_detached : IsSound (record { made = s.made + 1; down = s.down; threads = mid; channels = between; connections = s.connections }) → IsSound detached
+          sound_detached told =
+              let k = sound_less _ s.down (Over coid) Badf threads now told are lose in
+              record {
+                few = k.few;
+                roster = k.roster;
+                channel_ids = k.channel_ids;
+                connection_ids = all_filter (λ e. e.0 ≤ s.made + 1) (λ e. not (eqb e.0 coid)) s.connections k.connection_ids;
+                connections = (all_filter (λ e. 0 < e.0) (λ e. not (eqb e.0 coid)) s.connections k.connections.0, rising_without s.connections coid k.connections.1);
+                items = k.items;
+              }

@@ -1,0 +1,74 @@
+use Rattle.std.proofs.Common.{◌+◌, ap, sym, ◌∙◌, cond}
+use Rattle.std.specs.Prelude.{None, Some}
+use Rattle.qrules.specs.Rows.{disconnect_item}
+use Rattle.qrecords.specs.Endings.{inserted_if}
+use Rattle.qrules.specs.declared.call.Call.TheVariants.{ConnectDetach}
+use Rattle.qkernel.proofs.Steps.ConnectDetach.{detach_full, detach_memory, due_is, is_told, made_for, new_pulse, own_parts, room_for_one, sound_detached, sound_due, step_detached}
+use Rattle.qkernel.proofs.Steps.Telling.{step_turned_away}
+use Rattle.qkernel.proofs.kernel.Kernel.connect_detach.Goals as goal
+
+pub cut_calls-requires-clause-few : goal.cut_calls-requires-clause-few
+cut_calls-requires-clause-few c =
+    let new = new_pulse (c.self.inside.made + 1) c.level_of-priority.result c.member_of-process.result.process c.tells_detached-last.result c.pulse_for-due.result c.pulse_for-due.ensures in
+    (sound_due _ c.in-Some.chid c.pulse_for-due.result _ _ c.in-Ok.met c.self.invariant new c.in-Ok.ensures.ok).few
+
+pub end_also-requires : goal.end_also-requires
+end_also-requires c =
+    let up = rw (← c.self.view_is) at c.requires.up in
+    let free = rw (← c.self.view_is) at c.requires.free in
+    let known = rw c.deref.ensures.value at c.member_of-process.ensures in
+    let of = own_parts c.member_of-process.result.process c.in-Some.chid _ (sym c.own_connection.ensures ∙ c.in-Some.is) in
+    let priority = rw c.deref-2.ensures.value at c.level_of-priority.ensures in
+    let d = c.pulse_for-due.result in
+    let pulsed = c.pulse_for-due.ensures ∙ ap (λ p. cond c.tells_detached-last.result (Some (disconnect_item (c.self.inside.made + 1) p c.member_of-process.result.process)) None) priority in
+    let due = due_is _ c.args.thread c.args.coid c.member_of-process.result known up free c.in-Some.chid of c.tells_detached-last.result c.self.invariant c.tells_detached-last.ensures ∙ ap (made_for c.in-Some.chid) (sym pulsed) in
+    let new = new_pulse (c.self.inside.made + 1) c.level_of-priority.result c.member_of-process.result.process c.tells_detached-last.result d c.pulse_for-due.ensures in
+    let told = is_told _ c.args.thread c.in-Some.chid d _ _ c.in-Ok.met c.self.invariant free new c.in-Ok.ensures.ok in
+    rw (rw c.own_ending.ensures at c.cut_calls.ensures.endings) (room_for_one _ c.args.thread c.args.coid c.member_of-process.result known up free c.in-Some.chid of d due c.self.invariant _ _ c.in-Ok.met told c.self.invariant.few)
+
+pub invariant_of-self-2 : goal.invariant_of-self-2
+invariant_of-self-2 c =
+    let up = rw (← c.self.view_is) at c.requires.up in
+    let free = rw (← c.self.view_is) at c.requires.free in
+    let known = rw c.deref.ensures.value at c.member_of-process.ensures in
+    let of = own_parts c.member_of-process.result.process c.in-Some.chid _ (sym c.own_connection.ensures ∙ c.in-Some.is) in
+    let priority = rw c.deref-2.ensures.value at c.level_of-priority.ensures in
+    let d = c.pulse_for-due.result in
+    let pulsed = c.pulse_for-due.ensures ∙ ap (λ p. cond c.tells_detached-last.result (Some (disconnect_item (c.self.inside.made + 1) p c.member_of-process.result.process)) None) priority in
+    let due = due_is _ c.args.thread c.args.coid c.member_of-process.result known up free c.in-Some.chid of c.tells_detached-last.result c.self.invariant c.tells_detached-last.ensures ∙ ap (made_for c.in-Some.chid) (sym pulsed) in
+    let new = new_pulse (c.self.inside.made + 1) c.level_of-priority.result c.member_of-process.result.process c.tells_detached-last.result d c.pulse_for-due.ensures in
+    let told = is_told _ c.args.thread c.in-Some.chid d _ _ c.in-Ok.met c.self.invariant free new c.in-Ok.ensures.ok in
+    rw (c.remove.ensures.after) (sound_detached _ c.args.thread c.args.coid c.member_of-process.result known up free c.in-Some.chid of d due c.self.invariant _ _ c.in-Ok.met told _ _ c.cut_calls.ensures.threads c.cut_calls.ensures.channels
+    (sound_due _ c.in-Some.chid d _ _ c.in-Ok.met c.self.invariant new c.in-Ok.ensures.ok))
+
+pub returns : goal.returns
+returns c =
+    let up = rw (← c.self.view_is) at c.requires.up in
+    let free = rw (← c.self.view_is) at c.requires.free in
+    let known = rw c.deref.ensures.value at c.member_of-process.ensures in
+    let of = own_parts c.member_of-process.result.process c.in-Some.chid _ (sym c.own_connection.ensures ∙ c.in-Some.is) in
+    let priority = rw c.deref-2.ensures.value at c.level_of-priority.ensures in
+    let d = c.pulse_for-due.result in
+    let pulsed = c.pulse_for-due.ensures ∙ ap (λ p. cond c.tells_detached-last.result (Some (disconnect_item (c.self.inside.made + 1) p c.member_of-process.result.process)) None) priority in
+    let due = due_is _ c.args.thread c.args.coid c.member_of-process.result known up free c.in-Some.chid of c.tells_detached-last.result c.self.invariant c.tells_detached-last.ensures ∙ ap (made_for c.in-Some.chid) (sym pulsed) in
+    let new = new_pulse (c.self.inside.made + 1) c.level_of-priority.result c.member_of-process.result.process c.tells_detached-last.result d c.pulse_for-due.ensures in
+    let told = is_told _ c.args.thread c.in-Some.chid d _ _ c.in-Ok.met c.self.invariant free new c.in-Ok.ensures.ok in
+    let there = c.remove.ensures.value ∙ of.is in
+    let fewer = rw there at c.remove.ensures.fewer in
+    rw (← c.self.view_is, c.remove.ensures.after) (step_detached _ c.args.thread c.args.coid c.member_of-process.result known up free c.in-Some.chid of d due c.self.invariant _ _ c.in-Ok.met told _ _ c.cut_calls.ensures.threads c.cut_calls.ensures.channels
+    _ (rw c.remove.ensures.after at fewer) (c.end_also.ensures ∙ ap (inserted_if c.in-Ok.met) (rw c.own_ending.ensures at c.cut_calls.ensures.endings)))
+
+pub returns-in-Err : goal.returns-in-Err
+returns-in-Err c =
+    let up = rw (← c.self.view_is) at c.requires.up in
+    let free = rw (← c.self.view_is) at c.requires.free in
+    let known = rw c.deref.ensures.value at c.member_of-process.ensures in
+    let of = own_parts c.member_of-process.result.process c.in-Some.chid _ (sym c.own_connection.ensures ∙ c.in-Some.is) in
+    let priority = rw c.deref-2.ensures.value at c.level_of-priority.ensures in
+    let d = c.pulse_for-due.result in
+    let pulsed = c.pulse_for-due.ensures ∙ ap (λ p. cond c.tells_detached-last.result (Some (disconnect_item (c.self.inside.made + 1) p c.member_of-process.result.process)) None) priority in
+    let due = due_is _ c.args.thread c.args.coid c.member_of-process.result known up free c.in-Some.chid of c.tells_detached-last.result c.self.invariant c.tells_detached-last.ensures ∙ ap (made_for c.in-Some.chid) (sym pulsed) in
+    let away = c.in-Err.ensures.err in
+    rw (← c.self.view_is) (step_turned_away _ c.args.thread (ConnectDetach c.args.coid) c.in-Some.chid c.in-Err.errno _ _ away.1 _
+    (detach_full _ c.args.thread c.args.coid c.member_of-process.result known up free c.in-Some.chid of d due away.0)
+    (detach_memory _ c.args.thread c.args.coid c.member_of-process.result known up free c.in-Some.chid of d due away.0) (rw c.new-in-Err.ensures at c.refuse-in-Err.ensures))

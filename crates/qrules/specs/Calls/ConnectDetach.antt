@@ -1,0 +1,55 @@
+-- ConnectDetach: the end of a connection, and of each Send over it; where it is the last one of its process to a channel with the disconnect flag, the
+-- server gets a pulse.
+use Rattle.std.specs.Prelude.{ℕ, ◌==◌, ◌&&◌, Bool, false, is_some, [], Option, None, Some, if◌then◌else◌}
+use Rattle.qbase.specs.declared.errno.Errno.{Errno}
+use Rattle.qbase.specs.declared.errno.Errno.TheVariants.{Badf, Inval}
+use Rattle.qtables.specs.declared.connection.Connection.{Connection}
+use Rattle.qrules.specs.declared.call.Completion.{Completion}
+use Rattle.qrules.specs.declared.call.Mark.TheVariants as mark
+use Rattle.qrules.specs.Cutting.{cuts, is_over}
+use Rattle.qrules.specs.Facts.{Facts, count_to, is_of_process, tells_disconnect}
+use Rattle.qrules.specs.Pulses.{full_for, told, told_receipt}
+use Rattle.qrules.specs.Rows.{Made, Row, disconnect_item, first_some}
+
+-- a connection, if it is one of process p to channel h
+abbrev pub between : ℕ → ℕ → Option Connection → Option Connection
+between p h None = None
+between p h (Some c) = if (c.process == p) && (c.channel == h) then Some c else None
+
+-- how many live connections process p has to channel h
+abbrev pub connections_between : Facts → ℕ → ℕ → ℕ
+connections_between f p h = count_to (λ k. between p h (f.connection k)) f.number
+
+-- the pulse that tells of the last connection of its process to a channel with the disconnect flag, of the priority of thread t
+abbrev pub due_of : Facts → ℕ → Option Connection → Option Made
+due_of f t None = None
+due_of f t (Some c) =
+    if tells_disconnect (f.channel c.channel) && (connections_between f c.process c.channel == 1) then Some (record { item = disconnect_item f.number (f.priority t) c.process; channel = c.channel })
+    else None
+
+-- the pulse that is due for connection k
+abbrev pub due : Facts → ℕ → ℕ → Option Made
+due f t k = due_of f t (f.connection k)
+
+-- the connection is live, and of the thread's process
+abbrev pub is_own : Facts → ℕ → Option Connection → Bool
+is_own f t None = false
+is_own f t (Some c) = is_of_process f t c.process
+
+-- a connection that isn't live, or is another process's, and then 1,024 pulses pending where one is due
+abbrev pub refusal : Facts → ℕ → ℕ → Option Errno
+refusal f t k = if is_own f t (f.connection k) then full_for f (due f t k) else Some Inval
+
+-- each Send over the connection is cut, and the call of the pulse's receiver ends
+abbrev pub ends : Facts → ℕ → Option Made → ℕ → Option Completion
+ends f k m u = first_some (cuts f (λ v. is_over k) Badf u) (told f m u)
+
+-- it never blocks, and takes memory only for the pulse; that the connection is detached is read off the past calls
+abbrev pub row : Facts → ℕ → ℕ → Row
+row f t k = record {
+  refusal = refusal f t k;
+  takes_memory = is_some (due f t k);
+  own = Some (record { call = f.number; thread = t; mark = mark.Ok; buffer = [] });
+  ends = ends f k (due f t k);
+  receipt = told_receipt f (due f t k);
+}
