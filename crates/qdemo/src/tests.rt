@@ -10,7 +10,10 @@ use std::alloc::Global;
 use std::process::Abort;
 use std::test::Fail;
 
-/// Four threads, a channel of process 1 and a connection of process 2 to it: the calls 1 and 2.
+/// The threads 1 and 4 of process 1 at priority 10, and 2 and 3 of process 2 at priority 20.
+const ROSTER: &[u8] = b"thread 1 1 10\nthread 2 2 20\nthread 3 2 20\nthread 4 1 10\n";
+
+/// The same threads, a channel of process 1 and a connection of process 2 to it: the calls 1 and 2.
 const PRELUDE: &[u8] =
     b"thread 1 1 10\nthread 2 2 20\nthread 3 2 20\nthread 4 1 10\n1 create 0\n2 attach 1\n";
 
@@ -31,6 +34,18 @@ fn expect_text(rt: &impl Abort, alloc: Global, input: &[u8], text: &[u8]) {
         Ok(found) => assert_eq!(rt; found.as_slice(), text),
         Err(_) => panic!(rt; "a fault"),
     }
+}
+
+/// Asserts what the lines after the roster write.
+fn expect_after_roster(
+    rt: &impl Abort,
+    alloc: Global,
+    lines: &[u8],
+    text: &[u8],
+) -> Result<(), Fail> {
+    let input = [ROSTER, lines].concat(alloc)?;
+    expect_text(rt, alloc, input.as_slice(), text);
+    Ok(())
 }
 
 /// Asserts what the lines after the prelude write.
