@@ -20,6 +20,7 @@ fn expect_copy(rt: &impl Abort, alloc: Global, call: Call, buffer: &[u8]) {
 // Calls that bring no bytes.
 #[test]
 fn plain_calls_are_copied(rt: HostRuntime) {
+    let nine = Priority::new(9).expect(&rt, "a priority");
     for call in [
         Call::ChannelCreate(ChannelFlags::of(3)),
         Call::ConnectAttach(ChannelId(1)),
@@ -31,13 +32,13 @@ fn plain_calls_are_copied(rt: HostRuntime) {
         Call::ReceivePulse(ChannelId(1)),
         Call::Pulse {
             coid: ConnectionId(2),
-            priority: Priority::lowest(),
+            priority: nine,
             code: 1,
             value: -1,
         },
         Call::PrioritySet {
             thread: ThreadNo(1),
-            priority: Priority::lowest(),
+            priority: nine,
         },
         Call::State(ThreadNo(2)),
         Call::ChannelDestroy(ChannelId(1)),
