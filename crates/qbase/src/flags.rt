@@ -59,4 +59,19 @@ impl ChannelFlags {
     {
         self.contains(ChannelFlags::FIXED_PRIORITY)
     }
+
+    /// Whether a server is told, by a pulse, of a client that wants to be unblocked while its message is
+    /// held.
+    pub fn tells_unblock(self) -> bool
+        ensures { result ≡ (bit_and self.0 2 == 2) }
+    {
+        self.contains(ChannelFlags::UNBLOCK)
+    }
+
+    /// Whether a server is told, by a pulse, of a process that has detached its last connection.
+    pub fn tells_disconnect(self) -> bool
+        ensures { result ≡ (bit_and self.0 4 == 4) }
+    {
+        self.contains(ChannelFlags::DISCONNECT)
+    }
 }

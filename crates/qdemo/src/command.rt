@@ -34,6 +34,7 @@ call that made them.
   THREAD receivepulse CHANNEL
   THREAD pulse CONNECTION PRIORITY CODE VALUE
   THREAD setprio THREAD PRIORITY
+  THREAD unblock THREAD
   THREAD state THREAD
   THREAD destroy CHANNEL
   THREAD shutdown

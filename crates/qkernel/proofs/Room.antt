@@ -1,9 +1,9 @@
 -- An event ends no more calls than its own and the open ones.
-use Rattle.std.proofs.Common.{◌≡◌, ℕ, ◌+◌, ◌<◌, ◌≤◌, List, [], ◌∷◌, length, refl, ap, sym, subst, ◌∙◌, cond, arith, Bool, true, false, eqb}
-use Rattle.std.specs.Prelude.{Option, None, Some, is_some, ◌||◌}
+use Rattle.std.proofs.Common.{◌≡◌, ℕ, ◌+◌, ◌≤◌, List, [], ◌∷◌, length, refl, ap, sym, subst, ◌∙◌, cond, arith, Bool, true, false, eqb}
+use Rattle.std.specs.Prelude.{Option, None, Some, is_some, ◌||◌, ◌&&◌}
 use Rattle.std.specs.List.{filter_map, cons_option, AllByRecursion}
 use Rattle.std.specs.Option.{option_map}
-use Rattle.std.proofs.lemmas.Bool.{eqb-true, eq-eqb, ne_eqb, true≢false}
+use Rattle.std.proofs.lemmas.Bool.{eqb-true, eq-eqb, true≢false}
 use Rattle.qtables.specs.Members.{IsRoster}
 use Rattle.qrules.specs.declared.call.Call.{Call}
 use Rattle.qrules.specs.declared.call.Completion.{Completion}
@@ -11,16 +11,18 @@ use Rattle.qrules.specs.declared.open_call.OpenCall.{OpenCall}
 use Rattle.qrecords.specs.declared.thread.Thread.{Thread}
 use Rattle.qrules.specs.Answer.{row_of, ending, Outcome}
 use Rattle.qrules.specs.Facts.{Facts, sender, threads_of}
-use Rattle.qrules.specs.Rows.{Received, Written, writes}
+use Rattle.qrules.specs.Rows.{Received, Written, writes, unblocks, Made}
 use Rattle.qkernel.specs.State.{State, facts_in}
 use Rattle.qkernel.specs.Stands.{Step, Steps}
-use Rattle.qrules.specs.Step.{Follows, unless, after_receipt, after_write, is_thread, held_call, written_call}
+use Rattle.qrules.specs.Step.{Follows, unless, after_receipt, after_write, is_thread, held_call, written_call, after_unblock, unblocked_call}
 use Rattle.qrecords.specs.Threads.{members_of, open_in, blocked_count}
 use Rattle.qrules.proofs.Past.Ends.{row_passes}
 use Rattle.qrules.proofs.Past.Laws.{RowLaws}
 use Rattle.qrules.proofs.Past.RowLaws.{row_laws}
-use Rattle.qrules.proofs.Rosters.{Rises, rises, is_among}
+use Rattle.qrules.proofs.Past.Lists.{is_among}
+use Rattle.qrules.proofs.Rosters.{Rises, rises, not_among}
 use Rattle.qrecords.proofs.Senders.{own_open}
+use Rattle.qrules.specs.Items.{makes}
 
 -- one where there is something
 abbrev one : {A : Type 0} → Option A → ℕ
@@ -39,10 +41,6 @@ opens f (u ∷ ts) = one (f u) + opens f ts
 length-cons : {A : Type 0} (o : Option A) (xs : List A) → length (cons_option o xs) ≡ one o + length xs
 length-cons None xs = omega arith
 length-cons (Some x) xs = omega arith
-
-not_later : (t : ℕ) (ts : List ℕ) → AllByRecursion (λ u. t < u) ts → is_among ts t ≡ false
-not_later t [] h = refl
-not_later t (u ∷ ts) h = let other : eqb u t ≡ false = ne_eqb u t (λ s. let l : t < u = h.0 in omega arith) in rw (other, not_later t ts h.1) refl
 
 -- the caller ends or waits, and any other thread only ends what it waited for
 sum_elsewhere : (e : ℕ → Option Completion) (f g : ℕ → Option OpenCall) (t : ℕ) (ts : List ℕ) → ((u : ℕ) → eqb u t ≡ false → one (e u) + one (g u) ≤ one (f u)) → is_among ts t ≡ false
@@ -67,7 +65,7 @@ sum_all e f g t (u ∷ ts) h own r =
       | true ↦ λ s.
           let same : u ≡ t = eqb-true u t s in
           let here : one (e u) + one (g u) ≤ 1 = subst (λ v. one (e v) + one (g v) ≤ 1) (sym same) own in
-          let rest : length (filter_map e ts) + opens g ts ≤ opens f ts = sum_elsewhere e f g t ts h (subst (λ v. is_among ts v ≡ false) same (not_later u ts r.0)) in
+          let rest : length (filter_map e ts) + opens g ts ≤ opens f ts = sum_elsewhere e f g t ts h (subst (λ v. is_among ts v ≡ false) same (not_among ts u r.0)) in
           rw (length-cons (e u) (filter_map e ts)) (omega arith)
       | false ↦ λ s.
           let here : one (e u) + one (g u) ≤ one (f u) = h u s in
@@ -86,6 +84,10 @@ one-receipt (Some r) u o = elim (is_thread r.sender u) as (λ b. one (cond b (op
 one-write : (f : Facts) (w : Option Written) (u : ℕ) (o : Option OpenCall) → one (after_write f w u o) ≡ one o
 one-write f None u o = refl
 one-write f (Some w) u o = elim (is_thread (sender f w.message) u) as (λ b. one (cond b (option_map (written_call w.offset w.bytes) o) o) ≡ one o) [ true ↦ one-map (written_call w.offset w.bytes) o | false ↦ refl ]
+
+one-unblock : (m : Option Made) (w : Option ℕ) (u : ℕ) (o : Option OpenCall) → one (after_unblock m w u o) ≡ one o
+one-unblock m None u o = refl
+one-unblock m (Some v) u o = elim (eqb u v && is_some m) as (λ b. one (cond b (option_map unblocked_call o) o) ≡ one o) [ true ↦ one-map unblocked_call o | false ↦ refl ]
 
 one-unless : (y : Option Completion) (o : Option OpenCall) → one y + one (unless (is_some y) o) ≤ 1
 one-unless None o = let most : one o ≤ 1 = one_most o in omega arith
@@ -122,8 +124,8 @@ module _ (old : State) (t : ℕ) (c : Call) (X : List Completion) (new : State) 
     where
       one_apart : (u : ℕ) → eqb u t ≡ false → RowLaws (facts_in old) t c → Follows (facts_in old) t c true (facts_in new) → one (ending (facts_in old) t c u) + one (open_in new.threads u) ≤ one (open_in old.threads u)
       one_apart u other laws follows = rw (follows.open_call u, other) (
-          elim ((row_of (facts_in old) t c).ends u) as (λ y. (row_of (facts_in old) t c).ends u ≡ y → one y + one (unless (is_some y) (after_receipt (row_of (facts_in old) t c).receipt u (after_write (facts_in old) (writes c) u (open_in old.threads u)))) ≤ one (open_in old.threads u)) [
-            | None ↦ λ e. rw (one-receipt (row_of (facts_in old) t c).receipt u (after_write (facts_in old) (writes c) u (open_in old.threads u)), one-write (facts_in old) (writes c) u (open_in old.threads u)) (omega arith)
+          elim ((row_of (facts_in old) t c).ends u) as (λ y. (row_of (facts_in old) t c).ends u ≡ y → one y + one (unless (is_some y) (after_unblock (makes (facts_in old) t c) (unblocks c) u (after_receipt (row_of (facts_in old) t c).receipt u (after_write (facts_in old) (writes c) u (open_in old.threads u))))) ≤ one (open_in old.threads u)) [
+            | None ↦ λ e. rw (one-unblock (makes (facts_in old) t c) (unblocks c) u (after_receipt (row_of (facts_in old) t c).receipt u (after_write (facts_in old) (writes c) u (open_in old.threads u))), one-receipt (row_of (facts_in old) t c).receipt u (after_write (facts_in old) (writes c) u (open_in old.threads u)), one-write (facts_in old) (writes c) u (open_in old.threads u)) (omega arith)
             | Some y ↦ λ e. let waits = laws.ends_open u y e in rw (waits.is) (omega arith)
           ] refl)
 

@@ -4,7 +4,6 @@ pub mod ChannelCreate
 pub mod ConnectAttach
 pub mod Delivering
 pub mod Send
-pub mod Pulse
 pub mod Receiving
 pub mod Held
 pub mod Reply
@@ -15,5 +14,8 @@ pub mod Info
 pub mod PrioritySet
 pub mod State
 pub mod Cutting
+pub mod Telling
+pub mod Pulse
+pub mod Unblock
 pub mod ChannelDestroy
 pub mod Shutdown

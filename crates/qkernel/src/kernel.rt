@@ -19,6 +19,7 @@ mod reply;
 mod send;
 mod shutdown;
 mod state;
+mod unblock;
 mod write;
 
 use arrayvec::ArrayVec;
@@ -151,6 +152,7 @@ impl Kernel {
             Call::State(target) => self.state(thread, target, endings),
             Call::ChannelDestroy(chid) => self.channel_destroy(seat, thread, chid, endings),
             Call::Shutdown => self.shutdown(thread, endings),
+            Call::Unblock(target) => self.unblock(seat, thread, target, endings),
         }
     }
 

@@ -46,7 +46,7 @@ chosen kind y items x best =
     ] refl best
 
 -- what is true of each item is true of the best
-best-at : (P : Item → Type 0) (kind : Kind) (items : List Item) (x : Item) → AllByRecursion P items → best_of kind items ≡ Some x → P x
+pub best-at : (P : Item → Type 0) (kind : Kind) (items : List Item) (x : Item) → AllByRecursion P items → best_of kind items ≡ Some x → P x
 best-at P kind [] x all best = absurd (none-some x best)
 best-at P kind (y ∷ items) x all best =
     elim (chosen kind y items x best) [
@@ -76,7 +76,7 @@ best-may kind (y ∷ items) x best =
     ]
 
 -- where there is no best, no item may be taken
-none-may : (kind : Kind) (items : List Item) → best_of kind items ≡ None → AllByRecursion (λ w. may_take kind w ≡ false) items
+pub none-may : (kind : Kind) (items : List Item) → best_of kind items ≡ None → AllByRecursion (λ w. may_take kind w ≡ false) items
 none-may kind [] none = tt
 none-may kind (y ∷ items) none =
     elim (may_take kind y) as (λ m. may_take kind y ≡ m → cond m (Some (first_of_two y (best_of kind items))) (best_of kind items) ≡ None → AllByRecursion (λ w. may_take kind w ≡ false) (y ∷ items)) [

@@ -30,12 +30,14 @@ All-behind : (P : Item → Type 0) (items : List Item) (x : Item) → AllByRecur
 All-behind P [] x all new = (new, tt)
 All-behind P (y ∷ items) x all new = (all.0, All-behind P items x all.1 new)
 
+-- one more item behind them
 pub IsRising-push : (items : List Item) (x : Item) → IsRising items → AllByRecursion (λ y. y.number < x.number) items → IsRising (items ++ x ∷ [])
 IsRising-push [] x rising newest = (tt, tt)
 IsRising-push (y ∷ items) x rising newest =
     (All-behind (λ z. y.number < z.number) items x rising.0 newest.0, IsRising-push items x rising.1 newest.1)
 
-IsRising-filter : (p : Item → Bool) (items : List Item) → IsRising items → IsRising (filter p items)
+-- what is left of them
+pub IsRising-filter : (p : Item → Bool) (items : List Item) → IsRising items → IsRising (filter p items)
 IsRising-filter p [] rising = tt
 IsRising-filter p (y ∷ items) rising =
     elim (p y) as (λ b. IsRising (cond b (y ∷ filter p items) (filter p items))) [

@@ -1,6 +1,5 @@
 pub mod Seats
 pub mod Senders
+pub mod Receivers
 pub mod ChannelWrites
-pub mod Losses
-pub mod Sweeps
-pub mod Closing
+pub mod Cuts

@@ -9,7 +9,9 @@ use Rattle.qtables.specs.Members.{member_at}
 use Rattle.qtables.specs.declared.member.Member.{Member}
 use Rattle.qrules.specs.Facts.{is_in_process}
 use Rattle.qrecords.specs.declared.thread.Thread.{Thread}
-use Rattle.qrecords.specs.Threads.{members_of, open_in, level_in, seat_in, SetsOpen, SetsLevel, Wakes}
+use Rattle.qrecords.specs.Threads.{members_of, open_in, level_in, seat_in, SetsOpen, SetsLevel, Wakes, MarksUnblocked}
+use Rattle.qrules.specs.Step.{unblocked_call}
+use Rattle.std.specs.Option.{option_map}
 
 -- the thread stands at k, and nowhere before
 abbrev pub IsFirstAt : List Thread → ℕ → ℕ → Type 0
@@ -146,6 +148,20 @@ nowhere_from u (t ∷ threads) i e =
       | true ↦ λ e. absurd (none-some i (sym e))
       | false ↦ λ e. nowhere_from u threads (i + 1) e
     ] e
+
+-- what the thread at a seat is blocked in is marked
+pub marks_unblocked : (u : ℕ) (threads : List Thread) (k : ℕ) (d x : Thread) → IsFirstAt threads u k → x.member ≡ (get_or threads k d).member → x.priority ≡ (get_or threads k d).priority
+    → x.open_call ≡ option_map unblocked_call (get_or threads k d).open_call → MarksUnblocked u threads (set threads k x)
+marks_unblocked u threads k d x first m p o =
+    let s = sets_open u threads k d x first m p in
+    record {
+      members = s.members;
+      open_call = λ v. s.open_call v ∙ (elim (eqb v u) as (λ b. eqb v u ≡ b → cond b x.open_call (open_in threads v) ≡ cond b (option_map unblocked_call (open_in threads v)) (open_in threads v)) [
+        | true ↦ λ same. o ∙ ap (option_map unblocked_call) (sym (first_open u threads k d first)) ∙ ap (λ w. option_map unblocked_call (open_in threads w)) (sym (eqb-true v u same))
+        | false ↦ λ other. refl
+      ] refl);
+      priority = s.priority;
+    }
 
 pub nowhere_open : (u : ℕ) (threads : List Thread) → seat_in threads u ≡ None → open_in threads u ≡ None
 nowhere_open u threads e = nowhere_from u threads 0 (sym (position_from-zero (λ t. eqb t.member.thread u) threads) ∙ e)

@@ -12,30 +12,31 @@ use Rattle.qrules.specs.Cutting.{is_on, is_unread_send, cut_where}
 use Rattle.qrules.specs.Facts.{threads_of}
 use Rattle.qrecords.specs.declared.channel.Channel.{Channel}
 use Rattle.qrecords.specs.declared.cutting.Cut.{Cut}
-use Rattle.qrecords.specs.declared.cutting.Cut.TheVariants.{On, All}
+use Rattle.qrecords.specs.declared.cutting.Cut.TheVariants.{On, All, Of}
 use Rattle.qrecords.specs.declared.thread.Thread.{Thread}
 use Rattle.qrecords.specs.Channels.{ids_of, channel_in, pending_in}
 use Rattle.qrecords.specs.Threads.{members_of, open_in, level_in}
 
--- this is so of a wait that is cut
-abbrev pub is_cut_by : (ℕ → Option Connection) → Cut → Wait → Bool
-is_cut_by connection (On chid) wait = is_on connection chid wait
-is_cut_by connection All wait = true
+-- this is so of a thread and what it waits for, where that is cut
+abbrev pub is_cut_by : (ℕ → Option Connection) → Cut → ℕ → Wait → Bool
+is_cut_by connection (On chid) u wait = is_on connection chid wait
+is_cut_by connection All u wait = true
+is_cut_by connection (Of thread) u wait = u == thread
 
 -- how the call of thread u ends: the caller's own so, and another's if it is cut
 abbrev pub ending_for : (ℕ → Option Connection) → Cut → Errno → Completion → ℕ → Option OpenCall → Option Completion
-ending_for connection cut e own u o = if u == own.thread then Some own else cut_where (is_cut_by connection cut) e u o
+ending_for connection cut e own u o = if u == own.thread then Some own else cut_where (is_cut_by connection cut u) e u o
 
 -- each thread whose call is cut has none any more, and all else is as it was
 pub record AreCut (connection : ℕ → Option Connection) (cut : Cut) (e : Errno) (old new : List Thread) : Type 0 where
   pub members : members_of new ≡ members_of old
-  pub open_call : (v : ℕ) → open_in new v ≡ (if is_some (cut_where (is_cut_by connection cut) e v (open_in old v)) then None else open_in old v)
+  pub open_call : (v : ℕ) → open_in new v ≡ (if is_some (cut_where (is_cut_by connection cut v) e v (open_in old v)) then None else open_in old v)
   pub priority : (v : ℕ) → level_in new v ≡ level_in old v
 
 -- a Send of number i that is blocked on channel h and not received is cut, of one of these threads
 abbrev pub is_cut_among : (ℕ → Option Connection) → Cut → Errno → List Thread → ℕ → ℕ → Bool
 is_cut_among connection cut e threads h i =
-    list_any (λ s. is_unread_send connection h i (open_in threads s) && is_some (cut_where (is_cut_by connection cut) e s (open_in threads s))) (threads_of (members_of threads))
+    list_any (λ s. is_unread_send connection h i (open_in threads s) && is_some (cut_where (is_cut_by connection cut s) e s (open_in threads s))) (threads_of (members_of threads))
 
 -- each message whose Send is cut leaves its channel, and all else is as it was
 pub record LoseCut (connection : ℕ → Option Connection) (cut : Cut) (e : Errno) (threads : List Thread) (old new : List (ℕ × Channel)) : Type 0 where
@@ -72,6 +73,10 @@ taken_by is_cut o = if is_cut_open is_cut o then o else None
 -- the thread with no open call, if that is cut
 abbrev pub left_open : (Wait → Bool) → Thread → Thread
 left_open is_cut t = record { member = t.member; priority = t.priority; open_call = if is_cut_open is_cut t.open_call then None else t.open_call }
+
+-- the thread with no open call, if this cuts that
+abbrev pub left_by : (ℕ → Option Connection) → Cut → Thread → Thread
+left_by connection cut t = left_open (is_cut_by connection cut t.member.thread) t
 
 -- the open call is cut and is the Send of number i, blocked on channel h and not received
 abbrev pub is_taken_from : (ℕ → Option Connection) → (Wait → Bool) → Option OpenCall → ℕ → ℕ → Bool

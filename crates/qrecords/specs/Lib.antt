@@ -1,5 +1,6 @@
 pub mod Threads
 pub mod Channels
 pub mod HeldIn
+pub mod Pulses
 pub mod Endings
 pub mod Cuts

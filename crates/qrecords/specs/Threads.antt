@@ -10,7 +10,7 @@ use Rattle.qrules.specs.declared.open_call.Wait.TheVariants.{Answer, Item as For
 use Rattle.qrecords.specs.declared.thread.Thread.{Thread}
 use Rattle.qrules.specs.Facts.{threads_of, sender_among, message_in}
 use Rattle.qrules.specs.Receivers.{later_of}
-use Rattle.qrules.specs.Step.{held_call, is_thread}
+use Rattle.qrules.specs.Step.{held_call, is_thread, unblocked_call}
 
 -- the roster
 abbrev pub members_of : List Thread → List Member
@@ -65,6 +65,12 @@ pub record Wakes (u : ℕ) (p : Option ℕ) (old new : List Thread) : Type 0 whe
   pub members : members_of new ≡ members_of old
   pub open_call : (v : ℕ) → open_in new v ≡ (if v == u then None else open_in old v)
   pub priority : (v : ℕ) → level_in new v ≡ unwrap_or (if u == v then p else None) (level_in old v)
+
+-- an unblock pulse was made for what thread u is blocked in, and all else is as it was
+pub record MarksUnblocked (u : ℕ) (old new : List Thread) : Type 0 where
+  pub members : members_of new ≡ members_of old
+  pub open_call : (v : ℕ) → open_in new v ≡ (if v == u then option_map unblocked_call (open_in old v) else open_in old v)
+  pub priority : (v : ℕ) → level_in new v ≡ level_in old v
 
 -- the connection over which a message was sent that is held
 abbrev pub held_over_by : Wait → Option ℕ

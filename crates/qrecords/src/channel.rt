@@ -3,8 +3,8 @@
 ghost use Rattle.std.specs.Prelude.{◌≡◌, ◌==◌, ◌+◌, ◌≤◌, ◌<◌, ◌++◌, ◌∷◌, [], is_some, true, None, Some, if◌then◌else◌, OnOk, OnErr, IfErr, IfSome, IfNone};
 ghost use Rattle.std.specs.List.{AllByRecursion};
 ghost use Rattle.qqueue.specs.Best.{best_of, without};
-ghost use Rattle.qrules.specs.Calls.Pulse.{pulses_among};
-ghost use Rattle.qrules.specs.Facts.{is_fixed};
+ghost use Rattle.qrules.specs.Pulses.{pulses_among};
+ghost use Rattle.qrules.specs.Facts.{is_fixed, tells_unblock};
 ghost use Rattle.qrecords.specs.Channels.{channel_in, pending_in, is_of, way_in, ClosesIn, SetsItems};
 ghost use Rattle.qtables.specs.Entries.{entry_at};
 
@@ -86,6 +86,16 @@ pub fn carried(
     }
 }
 
+/// Whether a channel has the unblock flag.
+pub fn tells_unblock(channels: &Channels<Channel>, chid: ChannelId) -> bool
+    ensures { result ≡ tells_unblock (channel_in channels.now chid) }
+{
+    match channels.get(chid) {
+        None => false,
+        Some(channel) => channel.flags.tells_unblock(),
+    }
+}
+
 /// Takes the best item that waits on a channel.
 pub fn take_best(channels: &mut Channels<Channel>, chid: ChannelId, kind: Kind) -> Option<Item>
     ensures best { result ≡ best_of kind (pending_in channels.old chid) }
@@ -119,7 +129,5 @@ pub fn close(channels: &mut Channels<Channel>, chid: ChannelId)
     requires { is_some (channel_in channels.old chid) ≡ true }
     ensures { ClosesIn chid channels.old channels.new }
 {
-    // What `len` ensures says that the ids rise, so just one entry goes.
-    prove!(channels.len() > 0);
     let _ = channels.remove(chid);
 }

@@ -26,6 +26,8 @@ pub enum Cut {
     On(ChannelId),
     /// Those of all threads.
     All,
+    /// That of a thread.
+    Of(ThreadNo),
 }
 
 /// Whether a wait is on the channel.
@@ -41,13 +43,14 @@ fn waits_on(connections: &Connections, chid: ChannelId, wait: &Wait) -> bool
     }
 }
 
-/// Whether a wait is cut.
-fn is_cut(connections: &Connections, cut: &Cut, wait: &Wait) -> bool
-    ensures { result ≡ is_cut_by (entry_at connections.now) cut.now wait.now }
+/// Whether a thread's wait is cut.
+fn is_cut(connections: &Connections, cut: &Cut, thread: ThreadNo, wait: &Wait) -> bool
+    ensures { result ≡ is_cut_by (entry_at connections.now) cut.now thread wait.now }
 {
     match cut {
         Cut::On(chid) => waits_on(connections, *chid, wait),
         Cut::All => true,
+        Cut::Of(named) => thread == *named,
     }
 }
 
@@ -111,11 +114,13 @@ fn failed(call: OpenCall, thread: ThreadNo, errno: Errno) -> Completion
 
 /// Takes the open call of a thread, if it is cut.
 fn take_cut(thread: &mut Thread, connections: &Connections, cut: &Cut) -> Option<OpenCall>
-    ensures had { result ≡ taken_by (is_cut_by (entry_at connections.now) cut.now) thread.old.open_call }
-    ensures after { thread.new ≡ left_open (is_cut_by (entry_at connections.now) cut.now) thread.old }
+    ensures had { result ≡ taken_by (is_cut_by (entry_at connections.now) cut.now thread.old.member.thread) thread.old.open_call }
+    ensures after { thread.new ≡ left_open (is_cut_by (entry_at connections.now) cut.now thread.old.member.thread) thread.old }
 {
     match &thread.open_call {
-        Some(call) if is_cut(connections, cut, &call.wait) => thread.open_call.take(),
+        Some(call) if is_cut(connections, cut, thread.member.thread, &call.wait) => {
+            thread.open_call.take()
+        }
         _ => None,
     }
 }
@@ -128,9 +133,9 @@ fn cut_thread(
     cut: &Cut,
     errno: Errno,
 ) -> Option<Completion>
-    ensures ending { result ≡ cut_where (is_cut_by (entry_at connections.now) cut.now) errno thread.old.member.thread thread.old.open_call }
-    ensures thread { thread.new ≡ left_open (is_cut_by (entry_at connections.now) cut.now) thread.old }
-    ensures channels { Lose (is_taken_from (entry_at connections.now) (is_cut_by (entry_at connections.now) cut.now) thread.old.open_call) channels.old channels.new }
+    ensures ending { result ≡ cut_where (is_cut_by (entry_at connections.now) cut.now thread.old.member.thread) errno thread.old.member.thread thread.old.open_call }
+    ensures thread { thread.new ≡ left_open (is_cut_by (entry_at connections.now) cut.now thread.old.member.thread) thread.old }
+    ensures channels { Lose (is_taken_from (entry_at connections.now) (is_cut_by (entry_at connections.now) cut.now thread.old.member.thread) thread.old.open_call) channels.old channels.new }
 {
     let call = take_cut(thread, connections, cut)?;
     take_message(channels, connections, &call);
@@ -148,10 +153,10 @@ fn end_thread(
     own: &mut Option<Completion>,
 ) -> Option<Completion>
     requires idle { (thread.old.member.thread == caller) ≡ true → thread.old.open_call ≡ None }
-    ensures ending { result ≡ (if thread.old.member.thread == caller then own.old else cut_where (is_cut_by (entry_at connections.now) cut.now) errno thread.old.member.thread thread.old.open_call) }
+    ensures ending { result ≡ (if thread.old.member.thread == caller then own.old else cut_where (is_cut_by (entry_at connections.now) cut.now thread.old.member.thread) errno thread.old.member.thread thread.old.open_call) }
     ensures own { own.new ≡ (if thread.old.member.thread == caller then None else own.old) }
-    ensures thread { thread.new ≡ left_open (is_cut_by (entry_at connections.now) cut.now) thread.old }
-    ensures channels { Lose (is_taken_from (entry_at connections.now) (is_cut_by (entry_at connections.now) cut.now) thread.old.open_call) channels.old channels.new }
+    ensures thread { thread.new ≡ left_open (is_cut_by (entry_at connections.now) cut.now thread.old.member.thread) thread.old }
+    ensures channels { Lose (is_taken_from (entry_at connections.now) (is_cut_by (entry_at connections.now) cut.now thread.old.member.thread) thread.old.open_call) channels.old channels.new }
 {
     if thread.member.thread == caller {
         own.take()

@@ -6,20 +6,60 @@ ghost use Rattle.qtables.specs.Members.{IsRoster};
 ghost use Rattle.qrules.specs.Calls.Info.{told_of};
 ghost use Rattle.qrules.specs.Facts.{is_send, message_in};
 ghost use Rattle.qrules.specs.Held.{reply_buffer_in, reply_buffer_of};
-ghost use Rattle.qrecords.specs.HeldIn.{is_held_in};
+ghost use Rattle.qrecords.specs.HeldIn.{guarded_in, held_in, is_held_in};
 ghost use Rattle.qrules.specs.Rows.{with_buffer};
-ghost use Rattle.qrules.specs.Step.{written_call};
-ghost use Rattle.qrecords.specs.Threads.{members_of, open_in, sender_in, sent_call, SetsOpen, ChangesSender};
+ghost use Rattle.qrules.specs.Step.{unblocked_call, unblocked_wait, written_call};
+ghost use Rattle.qrecords.specs.Threads.{members_of, open_in, seat_in, sender_in, sent_call, SetsOpen, ChangesSender, MarksUnblocked};
 
-use crate::channel::{Channel, owns};
+use crate::channel::{Channel, owns, tells_unblock};
 use crate::thread::{Thread, sender_seat};
 use qbase::bytes::Bytes;
-use qbase::ids::{ProcessNo, ReceiveId, ThreadNo};
+use qbase::ids::{ChannelId, ConnectionId, ProcessNo, ReceiveId, ThreadNo};
 use qrules::call::Info;
-use qrules::open_call::{OpenCall, Wait};
+use qrules::open_call::{OpenCall, Receipt, Wait};
 use qtables::channels::Channels;
 use qtables::connections::Connections;
 use std::mem;
+
+/// A message that is held.
+#[derive(Clone, Copy, Debug, PartialEq, Eq)]
+pub struct Held {
+    pub rcvid: ReceiveId,
+    /// The connection over which it was sent.
+    pub coid: ConnectionId,
+    /// What is kept of its receipt.
+    pub receipt: Receipt,
+}
+
+/// The message that the thread at a seat waits for the answer to and that is held on a channel with the
+/// unblock flag, and that channel.
+pub fn guarded(
+    threads: &[Thread],
+    connections: &Connections,
+    channels: &Channels<Channel>,
+    seat: usize,
+    thread: ThreadNo,
+) -> Option<(Held, ChannelId)>
+    requires { seat_in threads.now thread ≡ Some seat }
+    ensures { result ≡ guarded_in connections.now channels.now (held_in (open_in threads.now thread)) }
+{
+    let held = threads[seat].held()?;
+    let connection = connections.get(held.coid)?;
+    if tells_unblock(channels, connection.channel) {
+        Some((held, connection.channel))
+    } else {
+        None
+    }
+}
+
+/// Keeps that an unblock pulse was made for the message of the thread at a seat.
+pub fn mark_unblocked(threads: &mut Vec<Thread>, seat: usize, thread: ThreadNo)
+    requires { seat_in threads.old.items thread ≡ Some seat }
+    ensures { MarksUnblocked thread threads.old.items threads.new.items }
+{
+    let there = &mut threads[seat];
+    there.mark_unblocked();
+}
 
 /// Where the thread stands whose message is held under this id, on a channel of this process.
 pub fn held_seat(
@@ -90,7 +130,50 @@ fn write_over(wait: &mut Wait, offset: usize, bytes: &Bytes) -> usize
     }
 }
 
+/// Keeps that an unblock pulse was made for the message whose answer is waited for, if that is received.
+fn mark_wait(wait: &mut Wait)
+    ensures { wait.new ≡ unblocked_wait wait.old }
+{
+    if let Wait::Answer {
+        receipt: Some(receipt),
+        ..
+    } = wait
+    {
+        receipt.unblocked = true;
+    }
+}
+
 impl Thread {
+    /// The message that it waits for the answer to, where that is held.
+    pub fn held(&self) -> Option<Held>
+        ensures { result ≡ held_in self.now.open_call }
+    {
+        let call = self.open_call.as_ref()?;
+        match &call.wait {
+            Wait::Answer {
+                coid,
+                receipt: Some(receipt),
+                ..
+            } => Some(Held {
+                rcvid: ReceiveId(call.number),
+                coid: *coid,
+                receipt: *receipt,
+            }),
+            _ => None,
+        }
+    }
+
+    /// Keeps that an unblock pulse was made for its message, if that is held.
+    fn mark_unblocked(&mut self)
+        ensures member { self.new.member ≡ self.old.member }
+        ensures priority { self.new.priority ≡ self.old.priority }
+        ensures after { self.new.open_call ≡ option_map unblocked_call self.old.open_call }
+    {
+        if let Some(call) = &mut self.open_call {
+            mark_wait(&mut call.wait);
+        }
+    }
+
     /// The message of the Send that it is blocked in.
     pub fn message(&self) -> &[u8]
         ensures { result.now ≡ message_in self.now.open_call }

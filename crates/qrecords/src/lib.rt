@@ -6,5 +6,6 @@ pub mod channel;
 pub mod cutting;
 pub mod endings;
 pub mod held;
+pub mod pulses;
 pub mod thread;
 pub mod thread_state;

@@ -1,6 +1,6 @@
 //! The threads of a kernel: what is kept of each, and the searches through them.
 
-ghost use Rattle.std.specs.Prelude.{◌≡◌, ◌==◌, ◌<◌, ◌≤◌, Some, None, true, is_some, position, length, option_map, IfOk, IfSome, map};
+ghost use Rattle.std.specs.Prelude.{◌≡◌, ◌==◌, ◌<◌, ◌≤◌, Some, None, true, false, is_some, position, length, option_map, IfOk, IfSome, map};
 ghost use Rattle.qbase.specs.Laying.{laid_count, lay_over};
 ghost use Rattle.qtables.specs.Members.{member_at, IsRoster};
 ghost use Rattle.qqueue.specs.Best.{is_pulse};
@@ -154,7 +154,7 @@ pub fn hand_over(
     buffer: &mut Bytes,
 ) -> usize
     requires { IsRoster (members_of threads.old.items) }
-    ensures kept { ChangesSender number (held_call (record { priority = priority; copied = result })) threads.old.items threads.new.items }
+    ensures kept { ChangesSender number (held_call (record { priority = priority; copied = result; unblocked = false })) threads.old.items threads.new.items }
     ensures buffer { buffer.new ≡ lay_over buffer.old 0 (message_from threads.old.items number) }
     ensures count { result ≡ laid_count buffer.old 0 (message_from threads.old.items number) }
 {
@@ -171,7 +171,7 @@ pub fn hand_over(
 /// the sender; a pulse changes neither. Answers the mark of the receive's ending.
 pub fn hand_item(threads: &mut Vec<Thread>, item: Item, buffer: &mut Bytes) -> Mark
     requires { IsRoster (members_of threads.old.items) }
-    ensures kept { HandsOver (is_pulse item.what) item.number (record { priority = item.priority; copied = laid_count buffer.old 0 (message_from threads.old.items item.number) }) threads.old.items threads.new.items }
+    ensures kept { HandsOver (is_pulse item.what) item.number (record { priority = item.priority; copied = laid_count buffer.old 0 (message_from threads.old.items item.number); unblocked = false }) threads.old.items threads.new.items }
     ensures mark { result ≡ (given item (message_from threads.old.items item.number) buffer.old).0 }
     ensures buffer { buffer.new ≡ (given item (message_from threads.old.items item.number) buffer.old).1 }
 {
@@ -223,7 +223,7 @@ impl Thread {
     fn hand_over(&mut self, priority: Priority, buffer: &mut Bytes) -> usize
         ensures member { self.new.member ≡ self.old.member }
         ensures priority { self.new.priority ≡ self.old.priority }
-        ensures kept { self.new.open_call ≡ option_map (held_call (record { priority = priority; copied = result })) self.old.open_call }
+        ensures kept { self.new.open_call ≡ option_map (held_call (record { priority = priority; copied = result; unblocked = false })) self.old.open_call }
         ensures buffer { buffer.new ≡ lay_over buffer.old 0 (message_in self.old.open_call) }
         ensures count { result ≡ laid_count buffer.old 0 (message_in self.old.open_call) }
     {
@@ -237,7 +237,11 @@ impl Thread {
                 ..
             } => {
                 let copied = buffer.lay(0, message.as_slice());
-                *receipt = Some(Receipt { priority, copied });
+                *receipt = Some(Receipt {
+                    priority,
+                    copied,
+                    unblocked: false,
+                });
                 copied
             }
             Wait::Item { .. } => 0,

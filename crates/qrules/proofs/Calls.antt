@@ -21,3 +21,4 @@ pub mod State
 pub mod Cutting
 pub mod ChannelDestroy
 pub mod Shutdown
+pub mod Unblock

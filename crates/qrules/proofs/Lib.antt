@@ -1,4 +1,5 @@
 pub mod Laying
+pub mod Ways
 pub mod Past
 pub mod Calls
 pub mod Properties

@@ -9,6 +9,7 @@ pub mod Items
 pub mod Receipts
 pub mod Senders
 pub mod Writes
+pub mod Unblocked
 pub mod OpenCalls
 pub mod Cuts
 pub mod Channels

@@ -1,16 +1,13 @@
--- What a list of threads in rising number gives, where one or two of them get something.
-use Rattle.std.proofs.Common.{◌≡◌, ◌≢◌, ℕ, ◌<◌, List, [], ◌∷◌, refl, ap, sym, subst, ◌∙◌, cond, arith, Bool, true, false, eqb, ltb}
+-- The threads of a roster, in rising number, and what they give where one or two of them get something.
+use Rattle.std.proofs.Common.{◌≡◌, ◌≢◌, ℕ, ◌<◌, List, [], ◌∷◌, refl, ap, sym, subst, ◌∙◌, cond, arith, true, false, eqb, ltb}
 use Rattle.std.specs.Prelude.{Option, None, Some, is_some, ◌||◌}
-use Rattle.std.specs.List.{filter_map, cons_option, AllByRecursion, list_any}
+use Rattle.std.specs.List.{filter_map, cons_option, AllByRecursion}
 use Rattle.std.specs.Option.{option_to_list}
 use Rattle.std.proofs.lemmas.Bool.{lt-ltb, le-ltb, eqb-true, ne_eqb, true≢false}
 use Rattle.qtables.specs.Members.{member_at, IsRoster}
 use Rattle.qtables.specs.declared.member.Member.{Member}
 use Rattle.qrules.specs.Facts.{threads_of}
-
--- a thread is one of these
-abbrev pub is_among : List ℕ → ℕ → Bool
-is_among ts t = list_any (λ u. eqb u t) ts
+use Rattle.qrules.proofs.Past.Lists.{is_among}
 
 -- the numbers rise
 abbrev pub Rises : List ℕ → Type 0
@@ -25,19 +22,20 @@ pub rises : (roster : List Member) → IsRoster roster → Rises (threads_of ros
 rises [] h = tt
 rises (m ∷ roster) h = (all_below m.thread roster h.0, rises roster h.1)
 
-pub is_among-member : (roster : List Member) (t : ℕ) → is_some (member_at roster t) ≡ is_among (threads_of roster) t
+-- a thread is one of the roster's just where a member has its number
+is_among-member : (roster : List Member) (t : ℕ) → is_some (member_at roster t) ≡ is_among (threads_of roster) t
 is_among-member [] t = refl
 is_among-member (m ∷ roster) t =
     elim (eqb m.thread t) as (λ b. is_some (cond b (Some m) (member_at roster t)) ≡ (b || is_among (threads_of roster) t)) [ true ↦ refl | false ↦ is_among-member roster t ]
 
+pub known : (roster : List Member) (t : ℕ) → is_some (member_at roster t) ≡ true → is_among (threads_of roster) t ≡ true
+known roster t h = sym (is_among-member roster t) ∙ h
+
 pub among : (roster : List Member) (t : ℕ) (m : Member) → member_at roster t ≡ Some m → is_among (threads_of roster) t ≡ true
-among roster t m e = sym (is_among-member roster t) ∙ ap is_some e
+among roster t m e = known roster t (ap is_some e)
 
-pub cond_same : {A : Type 0} (b : Bool) (x : A) → cond b x x ≡ x
-cond_same true x = refl
-cond_same false x = refl
-
-not_among : (ts : List ℕ) (t : ℕ) → AllByRecursion (λ u. t < u) ts → is_among ts t ≡ false
+-- a thread below all of these is none of them
+pub not_among : (ts : List ℕ) (t : ℕ) → AllByRecursion (λ u. t < u) ts → is_among ts t ≡ false
 not_among [] t h = refl
 not_among (u ∷ ts) t h = let other : eqb u t ≡ false = ne_eqb u t (λ s. let l : t < u = h.0 in omega arith) in rw (other, not_among ts t h.1) refl
 

@@ -4,7 +4,7 @@ use Rattle.std.specs.List.{filter_map}
 use Rattle.qbase.specs.declared.errno.Errno.{Errno}
 use Rattle.qbase.specs.declared.errno.Errno.TheVariants.{Down, Busy, NoMemory}
 use Rattle.qrules.specs.declared.call.Call.{Call}
-use Rattle.qrules.specs.declared.call.Call.TheVariants.{ChannelCreate, ConnectAttach, Send, Receive, Reply, Error, Read, Write, Info, ReceivePulse, Pulse, PrioritySet, State, ChannelDestroy, Shutdown}
+use Rattle.qrules.specs.declared.call.Call.TheVariants.{ChannelCreate, ConnectAttach, Send, Receive, Reply, Error, Read, Write, Info, ReceivePulse, Pulse, PrioritySet, State, ChannelDestroy, Shutdown, Unblock}
 use Rattle.qrules.specs.declared.call.Completion.{Completion}
 use Rattle.qrules.specs.declared.call.Mark.TheVariants as mark
 use Rattle.qrules.specs.Buffers.{buffer_of}
@@ -25,6 +25,7 @@ use Rattle.qrules.specs.Calls.PrioritySet as priority_set
 use Rattle.qrules.specs.Calls.State as state
 use Rattle.qrules.specs.Calls.ChannelDestroy as channel_destroy
 use Rattle.qrules.specs.Calls.Shutdown as shutdown
+use Rattle.qrules.specs.Calls.Unblock as unblock
 
 -- the row of a call
 abbrev pub row_of : Facts → ℕ → Call → Row
@@ -43,6 +44,7 @@ row_of f t (PrioritySet thread priority) = priority_set.row f t thread
 row_of f t (State thread) = state.row f t thread
 row_of f t (ChannelDestroy chid) = channel_destroy.row f t chid
 row_of f t Shutdown = shutdown.row f t
+row_of f t (Unblock thread) = unblock.row f t thread
 
 -- the first refusal that applies: a kernel that is shut down makes no call, nor a thread that is blocked, and then those of the row
 abbrev pub refusal : Facts → ℕ → Call → Option Errno

@@ -1,7 +1,7 @@
 -- The buffer that a call brings.
 use Rattle.std.specs.Prelude.{ℕ, List, []}
 use Rattle.qrules.specs.declared.call.Call.{Call}
-use Rattle.qrules.specs.declared.call.Call.TheVariants.{ChannelCreate, ConnectAttach, Send, Receive, Reply, Error, Read, Write, Info, ReceivePulse, Pulse, PrioritySet, State, ChannelDestroy, Shutdown}
+use Rattle.qrules.specs.declared.call.Call.TheVariants.{ChannelCreate, ConnectAttach, Send, Receive, Reply, Error, Read, Write, Info, ReceivePulse, Pulse, PrioritySet, State, ChannelDestroy, Shutdown, Unblock}
 
 -- a Send brings its reply buffer, a Receive and a Read their buffer; any other call has none
 abbrev pub buffer_of : Call → List ℕ
@@ -20,3 +20,4 @@ buffer_of (PrioritySet thread priority) = []
 buffer_of (State thread) = []
 buffer_of (ChannelDestroy chid) = []
 buffer_of Shutdown = []
+buffer_of (Unblock thread) = []

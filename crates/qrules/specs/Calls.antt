@@ -14,3 +14,4 @@ pub mod PrioritySet
 pub mod State
 pub mod ChannelDestroy
 pub mod Shutdown
+pub mod Unblock

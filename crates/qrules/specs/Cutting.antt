@@ -38,6 +38,6 @@ abbrev pub cut_where : (Wait → Bool) → Errno → ℕ → Option OpenCall →
 cut_where is_cut e u None = None
 cut_where is_cut e u (Some o) = if is_cut o.wait then Some (cut_call e u o) else None
 
--- each open call is cut of which this is so
-abbrev pub cuts : Facts → (Wait → Bool) → Errno → ℕ → Option Completion
-cuts f is_cut e u = cut_where is_cut e u (f.open_call u)
+-- each open call is cut of which this is so, by its thread and what it waits for
+abbrev pub cuts : Facts → (ℕ → Wait → Bool) → Errno → ℕ → Option Completion
+cuts f is_cut e u = cut_where (is_cut u) e u (f.open_call u)

@@ -44,6 +44,15 @@ is_in_process p (Some m) = m.process == p
 abbrev pub is_of_process : Facts → ℕ → ℕ → Bool
 is_of_process f t p = is_in_process p (member_at f.roster t)
 
+-- the other is one of the member's process
+abbrev pub is_of_same : Option Member → Option Member → Bool
+is_of_same None other = false
+is_of_same (Some m) other = is_in_process m.process other
+
+-- both threads are of one process
+abbrev pub is_fellow : Facts → ℕ → ℕ → Bool
+is_fellow f t u = is_of_same (member_at f.roster t) (member_at f.roster u)
+
 -- ---- channels and connections
 
 -- this channel is of the thread's process
@@ -68,6 +77,11 @@ way f t k = leads_to f t (f.connection k)
 abbrev pub is_fixed : Option OpenChannel → Bool
 is_fixed None = false
 is_fixed (Some c) = bit_and c.flags.0 1 == 1
+
+-- the channel's servers are told of a client that wants to be unblocked
+abbrev pub tells_unblock : Option OpenChannel → Bool
+tells_unblock None = false
+tells_unblock (Some c) = bit_and c.flags.0 2 == 2
 
 -- ---- messages
 

@@ -6,23 +6,12 @@ use Rattle.qrules.specs.declared.call.Call.{Call}
 use Rattle.qrules.specs.declared.call.Completion.{Completion}
 use Rattle.qrules.specs.Answer.{Answers}
 use Rattle.qrules.specs.Facts.{Facts}
-use Rattle.qrules.specs.Past.{is_down, channel_at, open_channels, connection_at, live_connections, open_call, pending, priority_of_thread}
+use Rattle.qrules.specs.Past.{facts_by, items, priority_of_thread}
 use Rattle.qrules.specs.Trace.{Event, Trace}
 
 -- all that a row may read, searched for in the past
 abbrev pub facts_of : List Member → Trace → Facts
-facts_of roster past = record {
-  roster = roster;
-  number = length past + 1;
-  down = is_down past;
-  channel = λ h. channel_at roster past h;
-  open_channels = open_channels roster past;
-  connection = λ k. connection_at roster past k;
-  live_connections = live_connections roster past;
-  open_call = λ t. open_call roster past t;
-  pending = λ h. pending roster past h;
-  priority = λ t. priority_of_thread roster past t;
-}
+facts_of roster past = facts_by roster past (items roster past) (λ t. priority_of_thread roster past t)
 
 -- each event is a call of a thread of the roster, and its endings answer the events before it
 abbrev pub IsLawful : List Member → Trace → Type 0

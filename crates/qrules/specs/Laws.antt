@@ -16,34 +16,33 @@ use Rattle.qrules.specs.declared.open_call.OpenCall.{OpenCall}
 use Rattle.qrules.specs.declared.open_call.Wait.{Wait}
 use Rattle.qrules.specs.declared.open_call.Wait.TheVariants.{Answer, Item as ForItem}
 use Rattle.qrules.specs.Buffers.{buffer_of}
-use Rattle.qrules.specs.Calls.Pulse.{pulses_among}
 use Rattle.qrules.specs.Facts.{is_for_receipt}
 use Rattle.qrules.specs.Headline.AnsweredToSender.{is_held, sender_of}
 use Rattle.qrules.specs.Headline.BestFirst.{receives_on}
 use Rattle.qrules.specs.Headline.CopiedExactly.{call_at}
 use Rattle.qrules.specs.Headline.ReceivedOnce.{item_received}
-use Rattle.qrules.specs.Headline.SentOrder.{sends_over}
+use Rattle.qrules.specs.Headline.SentOrder.{connection_of}
 use Rattle.qrules.specs.Headline.ShutForGood.{NoneReceivedFrom}
 use Rattle.qrules.specs.Lawful.{IsLawful}
+use Rattle.qrules.specs.Pulses.{pulses_among}
 use Rattle.qrules.specs.Past.{made_at, connection_at, is_closed, is_down, is_ended, items, open_call, pending}
 use Rattle.qrules.specs.Rows.{asks}
 use Rattle.qrules.specs.Trace.{Event, Trace}
 
 -- ---- receipts
 
--- call i is an accepted Send over a connection that leads to channel h
-pub record IsSentTo (roster : List Member) (past : Trace) (i h : ℕ) : Type 0 where
-  pub coid : ℕ
+-- connection k leads to channel h
+pub record LeadsTo (roster : List Member) (past : Trace) (k h : ℕ) : Type 0 where
   pub connection : Connection
-  pub sent : made_at (λ e. sends_over e.call) past i ≡ Some coid
-  pub is_connection : connection_at roster past coid ≡ Some connection
+  pub is : connection_at roster past k ≡ Some connection
   pub channel : connection.channel ≡ h
 
 -- an item of number i was made on channel h
 abbrev pub is_made_on : List Member → Trace → ℕ → ℕ → Bool
 is_made_on roster past i h = list_any (λ m. (m.item.number == i) && (m.channel == h)) (items roster past)
 
--- message i, which the ending receives, was sent by then, to the channel on which the ended call receives
+-- item i, which the ending receives, was made by then on the channel on which the ended call receives, to which the connection leads over which
+-- it was sent, if it was sent over one
 pub record WasSent (roster : List Member) (past : Trace) (x : Completion) (i : ℕ) : Type 0 where
   pub call : Call
   pub channel : ℕ
@@ -51,9 +50,9 @@ pub record WasSent (roster : List Member) (past : Trace) (x : Completion) (i : �
   pub is_call : call_at past x.call ≡ Some call
   pub receives : receives_on call ≡ Some (channel, kind)
   pub made : is_made_on roster past i channel ≡ true
-  pub sent : IsSentTo roster past i channel
+  pub sent : (k : ℕ) → connection_of past i ≡ Some k → LeadsTo roster past k channel
 
--- what the newest event of a lawful trace receives was sent, by an earlier event or by this one
+-- what the newest event of a lawful trace receives was made so, by an earlier event or by this one
 abbrev pub ReceivedWasSent : Type 0
 ReceivedWasSent = (roster : List Member) (past : Trace) (e : Event) → IsRoster roster → IsLawful roster (e ∷ past)
     → AllByRecursion (λ x. (i : ℕ) → item_received x ≡ Some i → WasSent roster (e ∷ past) x i) e.endings

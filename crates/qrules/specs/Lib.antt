@@ -8,7 +8,9 @@ pub mod Receiving
 pub mod Delivering
 pub mod Receivers
 pub mod Cutting
+pub mod Pulses
 pub mod Calls
+pub mod Items
 pub mod Answer
 pub mod Past
 pub mod Lawful

@@ -4,11 +4,13 @@ use Rattle.std.specs.List.{list_any}
 use Rattle.std.specs.Option.{option_map, option_to_list}
 use Rattle.qqueue.specs.Best.{is_pulse}
 use Rattle.qqueue.specs.declared.item.Item.{Item}
+use Rattle.qqueue.specs.declared.item.What.{What}
+use Rattle.qqueue.specs.declared.item.What.TheVariants as what
 use Rattle.qtables.specs.Members.{member_at}
 use Rattle.qtables.specs.declared.connection.Connection.{Connection}
 use Rattle.qtables.specs.declared.member.Member.{Member}
 use Rattle.qrules.specs.declared.call.Call.{Call}
-use Rattle.qrules.specs.declared.call.Call.TheVariants.{ChannelCreate, ConnectAttach, Send, Receive, Reply, Error, Read, Write, Info, ReceivePulse, Pulse, PrioritySet, State, ChannelDestroy, Shutdown}
+use Rattle.qrules.specs.declared.call.Call.TheVariants.{ChannelCreate, ConnectAttach, Send, Receive, Reply, Error, Read, Write, Info, ReceivePulse, Pulse, PrioritySet, State, ChannelDestroy, Shutdown, Unblock}
 use Rattle.qrules.specs.declared.call.Completion.{Completion}
 use Rattle.qrules.specs.declared.call.Mark.{Mark}
 use Rattle.qrules.specs.declared.call.Mark.TheVariants as mark
@@ -17,8 +19,9 @@ use Rattle.qrules.specs.declared.open_call.Receipt.{Receipt}
 use Rattle.qrules.specs.declared.open_call.Wait.{Wait}
 use Rattle.qrules.specs.declared.open_call.Wait.TheVariants.{Answer, Item as ForItem}
 use Rattle.qrules.specs.Trace.{Event, Trace}
-use Rattle.qrules.specs.Facts.{OpenChannel, is_fixed}
-use Rattle.qrules.specs.Rows.{Made, asks, closes, makes, names, shuts_down, received, writes, written_over, with_buffer, set_for, sets}
+use Rattle.qrules.specs.Facts.{Facts, OpenChannel, is_fixed}
+use Rattle.qrules.specs.Items.{makes}
+use Rattle.qrules.specs.Rows.{Made, asks, closes, names, shuts_down, received, writes, written_over, with_buffer, set_for, sets}
 
 -- ---- accepted, ended
 
@@ -82,6 +85,7 @@ creates (Some m) (PrioritySet thread priority) = None
 creates (Some m) (State thread) = None
 creates (Some m) (ChannelDestroy chid) = None
 creates (Some m) Shutdown = None
+creates (Some m) (Unblock thread) = None
 
 -- a call of which this is so was accepted
 abbrev pub was_accepted : (Call → Bool) → Trace → Bool
@@ -126,6 +130,7 @@ attaches (Some m) (PrioritySet thread priority) = None
 attaches (Some m) (State thread) = None
 attaches (Some m) (ChannelDestroy chid) = None
 attaches (Some m) Shutdown = None
+attaches (Some m) (Unblock thread) = None
 
 -- the live connection k: an accepted ConnectAttach has that number
 abbrev pub connection_at : List Member → Trace → ℕ → Option Connection
@@ -135,7 +140,7 @@ connection_at roster past k = made_at (λ e. attaches (member_at roster e.thread
 abbrev pub live_connections : List Member → Trace → ℕ
 live_connections roster past = count_to (connection_at roster past) (length past)
 
--- ---- items and priorities
+-- ---- searching
 
 -- the first of two, or else the second
 abbrev pub first_some : {A : Type 0} → Option A → Option A → Option A
@@ -157,48 +162,12 @@ abbrev pub made_among : List Made → ℕ → Option Made
 made_among [] i = None
 made_among (m ∷ made) i = if m.item.number == i then Some m else made_among made i
 
--- the priority that a receiver of the item takes: the item's, unless its channel leaves priorities as they are
-abbrev pub carried : (ℕ → Option OpenChannel) → Option Made → Option ℕ
-carried channel None = None
-carried channel (Some m) = if is_fixed (channel m.channel) then None else Some m.item.priority
-
--- the priority that an ending gives thread t, where each item that is received carries one or none
-abbrev pub given_by : (ℕ → Option ℕ) → ℕ → Completion → Option ℕ
-given_by priority t x = if x.thread == t then option_and_then (λ r. priority r.0) (received x.mark) else None
-
--- the priority that event e gives thread t, of all that was made by then: an accepted PrioritySet sets it, or the thread receives an item
-abbrev pub given : List Member → Event → Trace → List Made → ℕ → Option ℕ
-given roster e past made t =
-    first_some (if is_accepted e past then set_for (sets e.call) t else None) (first_among (given_by (λ i. carried (channel_at roster past) (made_among made i)) t) e.endings)
-
--- the item that an event makes, by the connections before it and by the priorities that the threads had
-abbrev pub item_by : List Member → (ℕ → ℕ) → Event → Trace → Option Made
-item_by roster priority e past = if is_accepted e past then makes (connection_at roster past) priority (length past + 1) e.thread e.call else None
-
-abbrev mutual
-  -- all items made so far, in rising number
-  pub items : List Member → Trace → List Made
-  items roster [] = []
-  items roster (e ∷ past) = items roster past ++ option_to_list (item_by roster (λ t. priority_of_thread roster past t) e past)
-
-  -- a thread's priority: what the newest event gave it that gave it one, or else what the roster gives it
-  pub priority_of_thread : List Member → Trace → ℕ → ℕ
-  priority_of_thread roster [] t = priority_in (member_at roster t)
-  priority_of_thread roster (e ∷ past) t =
-      unwrap_or (given roster e past (items roster past ++ option_to_list (item_by roster (λ u. priority_of_thread roster past u) e past)) t) (priority_of_thread roster past t)
-
--- the item that an event makes
-abbrev pub item_of : List Member → Event → Trace → Option Made
-item_of roster e past = item_by roster (priority_of_thread roster past) e past
-
 -- the priority of an item, 0 where there is none
 abbrev pub priority_made : Option Made → ℕ
 priority_made None = 0
 priority_made (Some m) = m.item.priority
 
--- the priority that item i was made with
-abbrev pub priority_of_item : List Member → Trace → ℕ → ℕ
-priority_of_item roster past i = priority_made (made_among (items roster past) i)
+-- ---- receipts
 
 -- the receipt that an ending is of item i: how many bytes it copied
 abbrev pub copied_of : ℕ → Option (ℕ × ℕ) → Option ℕ
@@ -222,10 +191,10 @@ is_taken past i = is_some (receipt_of past i)
 abbrev pub is_gone : Trace → Item → Bool
 is_gone past item = is_taken past item.number || (not (is_pulse item.what) && is_ended past item.number)
 
--- the items of channel h that are not gone, in rising number; none where it is destroyed
-abbrev pub pending : List Member → Trace → ℕ → List Item
-pending roster past h =
-    if is_closed past h then [] else filter (λ item. not (is_gone past item)) (map (λ m. m.item) (filter (λ m. m.channel == h) (items roster past)))
+-- the items of channel h that are not gone, of all items made so far, in rising number; none where it is destroyed
+abbrev pub pending_by : Trace → List Made → ℕ → List Item
+pending_by past made h =
+    if is_closed past h then [] else filter (λ item. not (is_gone past item)) (map (λ m. m.item) (filter (λ m. m.channel == h) made))
 
 -- ---- open calls
 
@@ -255,10 +224,93 @@ unless_ended past None = None
 unless_ended past (Some o) = if is_ended past o.number then None else Some o
 
 -- a call with what is kept of its message's receipt, where there was one
-abbrev pub with_receipt : ℕ → Option ℕ → OpenCall → OpenCall
-with_receipt priority None o = o
-with_receipt priority (Some copied) o = record { number = o.number; wait = held_with (record { priority = priority; copied = copied }) o.wait }
+abbrev pub with_receipt : ℕ → Bool → Option ℕ → OpenCall → OpenCall
+with_receipt priority unblocked None o = o
+with_receipt priority unblocked (Some copied) o = record { number = o.number; wait = held_with (record { priority = priority; copied = copied; unblocked = unblocked }) o.wait }
+
+-- the item is an unblock pulse for message i
+abbrev pub is_unblock_for : ℕ → What → Bool
+is_unblock_for i what.Message = false
+is_unblock_for i (what.User code value) = false
+is_unblock_for i (what.Unblock rcvid) = rcvid == i
+is_unblock_for i (what.Disconnect process) = false
+
+-- one of these items is an unblock pulse for message i
+abbrev pub unblocked_among : List Made → ℕ → Bool
+unblocked_among made i = list_any (λ m. is_unblock_for i m.item.what) made
+
+-- the open call of thread t, of all items made so far
+abbrev pub open_call_by : Trace → List Made → ℕ → Option OpenCall
+open_call_by past made t =
+    option_map (λ o. with_receipt (priority_made (made_among made o.number)) (unblocked_among made o.number) (receipt_of past o.number) (filled past o)) (unless_ended past (newest_block past t))
+
+-- ---- all that a row may read
+
+-- searched for in the past, of all items made so far and of each thread's priority
+abbrev pub facts_by : List Member → Trace → List Made → (ℕ → ℕ) → Facts
+facts_by roster past made priority = record {
+  roster = roster;
+  number = length past + 1;
+  down = is_down past;
+  channel = λ h. channel_at roster past h;
+  open_channels = open_channels roster past;
+  connection = λ k. connection_at roster past k;
+  live_connections = live_connections roster past;
+  open_call = λ t. open_call_by past made t;
+  pending = λ h. pending_by past made h;
+  priority = priority;
+}
+
+-- the item that an event makes, by what was so before it
+abbrev pub item_by : Facts → Event → Trace → Option Made
+item_by f e past = if is_accepted e past then makes f e.thread e.call else None
+
+-- ---- items and priorities
+
+-- the priority that a receiver of the item takes: the item's, unless its channel leaves priorities as they are
+abbrev pub carried : (ℕ → Option OpenChannel) → Option Made → Option ℕ
+carried channel None = None
+carried channel (Some m) = if is_fixed (channel m.channel) then None else Some m.item.priority
+
+-- the priority that an ending gives thread t, where each item that is received carries one or none
+abbrev pub given_by : (ℕ → Option ℕ) → ℕ → Completion → Option ℕ
+given_by priority t x = if x.thread == t then option_and_then (λ r. priority r.0) (received x.mark) else None
+
+-- the priority that event e gives thread t, of all that was made by then: an accepted PrioritySet sets it, or the thread receives an item
+abbrev pub given : List Member → Event → Trace → List Made → ℕ → Option ℕ
+given roster e past made t =
+    first_some (if is_accepted e past then set_for (sets e.call) t else None) (first_among (given_by (λ i. carried (channel_at roster past) (made_among made i)) t) e.endings)
+
+abbrev mutual
+  -- all items made so far, in rising number
+  pub items : List Member → Trace → List Made
+  items roster [] = []
+  items roster (e ∷ past) = items roster past ++ option_to_list (item_by (facts_by roster past (items roster past) (λ t. priority_of_thread roster past t)) e past)
+
+  -- a thread's priority: what the newest event gave it that gave it one, or else what the roster gives it
+  pub priority_of_thread : List Member → Trace → ℕ → ℕ
+  priority_of_thread roster [] t = priority_in (member_at roster t)
+  priority_of_thread roster (e ∷ past) t =
+      unwrap_or (given roster e past (items roster past ++ option_to_list (item_by (facts_by roster past (items roster past) (λ u. priority_of_thread roster past u)) e past)) t) (priority_of_thread roster past t)
+
+-- ---- what was so after all past calls
+
+-- the item that an event makes
+abbrev pub item_of : List Member → Event → Trace → Option Made
+item_of roster e past = item_by (facts_by roster past (items roster past) (λ t. priority_of_thread roster past t)) e past
+
+-- the priority that item i was made with
+abbrev pub priority_of_item : List Member → Trace → ℕ → ℕ
+priority_of_item roster past i = priority_made (made_among (items roster past) i)
+
+-- an unblock pulse was made for message i
+abbrev pub is_unblocked : List Member → Trace → ℕ → Bool
+is_unblocked roster past i = unblocked_among (items roster past) i
+
+-- what is pending on channel h, in rising number
+abbrev pub pending : List Member → Trace → ℕ → List Item
+pending roster past h = pending_by past (items roster past) h
 
 -- the open call of thread t
 abbrev pub open_call : List Member → Trace → ℕ → Option OpenCall
-open_call roster past t = option_map (λ o. with_receipt (priority_of_item roster past o.number) (receipt_of past o.number) (filled past o)) (unless_ended past (newest_block past t))
+open_call roster past t = open_call_by past (items roster past) t

@@ -6,9 +6,10 @@ use Rattle.qqueue.specs.declared.item.Item.{Item}
 use Rattle.qqueue.specs.Best.{is_pulse}
 use Rattle.qqueue.specs.declared.item.Kind.TheVariants.{Any, PulseOnly}
 use Rattle.qqueue.specs.declared.item.What.TheVariants.{Message, User}
+use Rattle.qqueue.specs.declared.item.What.TheVariants as what
 use Rattle.qtables.specs.declared.connection.Connection.{Connection}
 use Rattle.qrules.specs.declared.call.Call.{Call}
-use Rattle.qrules.specs.declared.call.Call.TheVariants.{ChannelCreate, ConnectAttach, Send, Receive, Reply, Error, Read, Write, Info, ReceivePulse, Pulse, PrioritySet, State, ChannelDestroy, Shutdown}
+use Rattle.qrules.specs.declared.call.Call.TheVariants.{ChannelCreate, ConnectAttach, Send, Receive, Reply, Error, Read, Write, Info, ReceivePulse, Pulse, PrioritySet, State, ChannelDestroy, Shutdown, Unblock}
 use Rattle.qrules.specs.declared.call.Completion.{Completion}
 use Rattle.qrules.specs.declared.call.Mark.{Mark}
 use Rattle.qrules.specs.declared.call.Mark.TheVariants as mark
@@ -62,6 +63,7 @@ asks n (PrioritySet thread priority) = None
 asks n (State thread) = None
 asks n (ChannelDestroy chid) = None
 asks n Shutdown = None
+asks n (Unblock thread) = None
 
 -- ---- items
 
@@ -78,24 +80,9 @@ message_item n priority = record { number = n; priority = priority; what = Messa
 abbrev pub pulse_item : ℕ → ℕ → ℤ → ℤ → Item
 pulse_item n priority code value = record { number = n; priority = priority; what = User code value }
 
--- the item that a call makes, by the connections and the priorities before it: a Send a message of its thread's priority, a Pulse a pulse of
--- the priority that is given
-abbrev pub makes : (ℕ → Option Connection) → (ℕ → ℕ) → ℕ → ℕ → Call → Option Made
-makes connection priority n t (Send coid message reply_buffer) = sent_over (connection coid) (message_item n (priority t))
-makes connection priority n t (Receive chid buffer) = None
-makes connection priority n t (ChannelCreate flags) = None
-makes connection priority n t (ConnectAttach chid) = None
-makes connection priority n t (Reply rcvid status bytes) = None
-makes connection priority n t (Error rcvid code) = None
-makes connection priority n t (Read rcvid offset buffer) = None
-makes connection priority n t (Write rcvid offset bytes) = None
-makes connection priority n t (Info rcvid) = None
-makes connection priority n t (ReceivePulse chid) = None
-makes connection priority n t (Pulse coid level code value) = sent_over (connection coid) (pulse_item n level code value)
-makes connection priority n t (PrioritySet thread level) = None
-makes connection priority n t (State thread) = None
-makes connection priority n t (ChannelDestroy chid) = None
-makes connection priority n t Shutdown = None
+-- the pulse of this number and priority that tells that the sender of message i wants to be unblocked
+abbrev pub unblock_item : ℕ → ℕ → ℕ → Item
+unblock_item n priority i = record { number = n; priority = priority; what = what.Unblock i }
 
 -- ---- writing
 
@@ -122,6 +109,7 @@ writes (PrioritySet thread priority) = None
 writes (State thread) = None
 writes (ChannelDestroy chid) = None
 writes Shutdown = None
+writes (Unblock thread) = None
 
 -- ---- setting priorities
 
@@ -147,11 +135,33 @@ sets (Pulse coid priority code value) = None
 sets (State thread) = None
 sets (ChannelDestroy chid) = None
 sets Shutdown = None
+sets (Unblock thread) = None
 
 -- the priority that is set for thread u
 abbrev pub set_for : Option Setting → ℕ → Option ℕ
 set_for None u = None
 set_for (Some s) u = if s.thread == u then Some s.priority else None
+
+-- ---- unblocking
+
+-- the thread that a call wants to unblock
+abbrev pub unblocks : Call → Option ℕ
+unblocks (Unblock thread) = Some thread
+unblocks (ChannelCreate flags) = None
+unblocks (ConnectAttach chid) = None
+unblocks (Send coid message reply_buffer) = None
+unblocks (Receive chid buffer) = None
+unblocks (Reply rcvid status bytes) = None
+unblocks (Error rcvid code) = None
+unblocks (Read rcvid offset buffer) = None
+unblocks (Write rcvid offset bytes) = None
+unblocks (Info rcvid) = None
+unblocks (ReceivePulse chid) = None
+unblocks (Pulse coid priority code value) = None
+unblocks (PrioritySet thread priority) = None
+unblocks (State thread) = None
+unblocks (ChannelDestroy chid) = None
+unblocks Shutdown = None
 
 -- ---- closing
 
@@ -172,6 +182,7 @@ closes (Pulse coid priority code value) = None
 closes (PrioritySet thread priority) = None
 closes (State thread) = None
 closes Shutdown = None
+closes (Unblock thread) = None
 
 -- this is the one
 abbrev pub names : Option ℕ → ℕ → Bool
@@ -181,6 +192,7 @@ names (Some k) h = k == h
 -- the call shuts the kernel down
 abbrev pub shuts_down : Call → Bool
 shuts_down Shutdown = true
+shuts_down (Unblock thread) = false
 shuts_down (ChannelCreate flags) = false
 shuts_down (ConnectAttach chid) = false
 shuts_down (Send coid message reply_buffer) = false
@@ -247,7 +259,7 @@ received (mark.State state priority) = None
 -- the receipt that thread u makes of an item of this channel, sender and priority
 abbrev pub receipt_at : ℕ → Option ℕ → ℕ → ℕ → Option (ℕ × ℕ) → Option Received
 receipt_at h sender priority u None = None
-receipt_at h sender priority u (Some r) = Some (record { item = r.0; channel = h; by = u; sender = sender; kept = record { priority = priority; copied = r.1 } })
+receipt_at h sender priority u (Some r) = Some (record { item = r.0; channel = h; by = u; sender = sender; kept = record { priority = priority; copied = r.1; unblocked = false } })
 
 -- the receipt that an ending is, of an item of this channel, sender and priority
 abbrev pub receipt_in : ℕ → Option ℕ → ℕ → Option Completion → Option Received

@@ -1,5 +1,5 @@
 -- One call by its facts: what they are after it.
-use Rattle.std.specs.Prelude.{◌≡◌, ℕ, ◌+◌, ◌==◌, ◌&&◌, ◌||◌, not, filter, Bool, false, is_some, List, [], ◌∷◌, ◌++◌, Option, None, Some, if◌then◌else◌, unwrap_or}
+use Rattle.std.specs.Prelude.{◌≡◌, ℕ, ◌+◌, ◌==◌, ◌&&◌, ◌||◌, not, filter, Bool, true, false, is_some, List, [], ◌∷◌, ◌++◌, Option, None, Some, if◌then◌else◌, unwrap_or}
 use Rattle.std.specs.List.{list_any}
 use Rattle.std.specs.Option.{option_map}
 use Rattle.qbase.specs.Laying.{lay_over}
@@ -10,10 +10,13 @@ use Rattle.qtables.specs.declared.connection.Connection.{Connection}
 use Rattle.qrules.specs.declared.call.Call.{Call}
 use Rattle.qrules.specs.declared.open_call.OpenCall.{OpenCall}
 use Rattle.qrules.specs.declared.open_call.Receipt.{Receipt}
+use Rattle.qrules.specs.declared.open_call.Wait.{Wait}
+use Rattle.qrules.specs.declared.open_call.Wait.TheVariants.{Answer, Item as ForItem}
 use Rattle.qrules.specs.Cutting.{is_unread_send}
 use Rattle.qrules.specs.Facts.{Facts, OpenChannel, sender, is_fixed, threads_of}
-use Rattle.qrules.specs.Rows.{Made, Received, Written, asks, closes, makes, names, shuts_down, writes, with_buffer, set_for, sets}
+use Rattle.qrules.specs.Rows.{Made, Received, Written, asks, closes, names, shuts_down, unblocks, writes, with_buffer, set_for, sets}
 use Rattle.qrules.specs.Answer.{row_of}
+use Rattle.qrules.specs.Items.{makes}
 use Rattle.qrules.specs.Past.{creates, attaches, held_with, first_some}
 
 -- a look-up with one more record at n
@@ -56,13 +59,29 @@ abbrev pub after_write : Facts → Option Written → ℕ → Option OpenCall �
 after_write f None u o = o
 after_write f (Some w) u o = if is_thread (sender f w.message) u then option_map (written_call w.offset w.bytes) o else o
 
+-- a wait for whose message an unblock pulse is made
+abbrev pub unblocked_wait : Wait → Wait
+unblocked_wait (Answer coid message reply_buffer None) = Answer coid message reply_buffer None
+unblocked_wait (Answer coid message reply_buffer (Some receipt)) =
+    Answer coid message reply_buffer (Some (record { priority = receipt.priority; copied = receipt.copied; unblocked = true }))
+unblocked_wait (ForItem chid kind buffer) = ForItem chid kind buffer
+
+-- an open call for whose message an unblock pulse is made
+abbrev pub unblocked_call : OpenCall → OpenCall
+unblocked_call o = record { number = o.number; wait = unblocked_wait o.wait }
+
+-- what thread u waits for after the call that is to unblock a thread made this item
+abbrev pub after_unblock : Option Made → Option ℕ → ℕ → Option OpenCall → Option OpenCall
+after_unblock m None u o = o
+after_unblock m (Some thread) u o = if (u == thread) && is_some m then option_map unblocked_call o else o
+
 abbrev pub unless : Bool → Option OpenCall → Option OpenCall
 unless b o = if b then None else o
 
 abbrev pub open_call_after : Facts → ℕ → Call → ℕ → Option OpenCall
 open_call_after f t c u =
     if u == t then unless (is_some (row_of f t c).own) (after_receipt (row_of f t c).receipt u (asks f.number c))
-    else unless (is_some ((row_of f t c).ends u)) (after_receipt (row_of f t c).receipt u (after_write f (writes c) u (f.open_call u)))
+    else unless (is_some ((row_of f t c).ends u)) (after_unblock (makes f t c) (unblocks c) u (after_receipt (row_of f t c).receipt u (after_write f (writes c) u (f.open_call u))))
 
 -- the item that is made, where it is of channel h
 abbrev pub made_on : ℕ → Option Made → List Item
@@ -86,7 +105,7 @@ left_by f t c h items = filter (λ item. not (is_cut f t c h item.number)) items
 -- one that is received goes
 abbrev pub pending_after : Facts → ℕ → Call → ℕ → List Item
 pending_after f t c h =
-    if names (closes c) h then [] else taken_out (row_of f t c).receipt h (left_by f t c h (f.pending h) ++ made_on h (makes f.connection f.priority f.number t c))
+    if names (closes c) h then [] else taken_out (row_of f t c).receipt h (left_by f t c h (f.pending h) ++ made_on h (makes f t c))
 
 -- the priority that thread u takes by a receipt: the item's, unless its channel leaves priorities as they are
 abbrev pub taken_by : Facts → Option Received → ℕ → Option ℕ

@@ -13,6 +13,8 @@ pub struct Receipt {
     pub priority: Priority,
     /// How many of its bytes were copied.
     pub copied: usize,
+    /// Whether an unblock pulse was made for it.
+    pub unblocked: bool,
 }
 
 /// What a blocked thread waits for.

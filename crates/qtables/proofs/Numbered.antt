@@ -7,6 +7,7 @@ use Rattle.std.proofs.Math.Numerals.{one-add}
 use Rattle.std.proofs.lemmas.Bool.{ne_eqb, eq-eqb, eqb-true}
 use Rattle.std.proofs.lemmas.Option.{slice_get_read, slice_get_past}
 use borrow.Author.Tests.{ltb-true, ltb-false}
+use Rattle.std.proofs.lemmas.List.Edits.{length-remove}
 use Rattle.std.proofs.lemmas.List.Sums.{position_or_len_is}
 use Rattle.std.proofs.lemmas.Slice.Zip.{length-zip}
 use Rattle.qtables.specs.Entries.{entry_at, with_record, without_entry, IsRising}
@@ -102,6 +103,11 @@ module _ {R : Type 0} where
         | true ↦ λ e. let same : k ≡ id = eqb-true k id e in sym (without_entry_above ks rs id (rw same at (rise_head k ks up)))
         | false ↦ λ e. rw (one-add, later)
       ] refl
+
+  -- a removal by place leaves one entry fewer
+  pub length-remove_zip : (ks : List ℕ) (rs : List R) (i : ℕ) → length rs ≡ length ks → i < length ks → length (zip (remove ks i) (remove rs i)) + 1 ≡ length (zip ks rs)
+  length-remove_zip ks rs i h within =
+      omega (arith, h, length-remove ks i within, length-remove rs i (omega (arith, h)), length-zip (remove ks i) (remove rs i), length-zip ks rs)
 
   -- where the number isn't there nothing is removed
   pub without_entry_absent : (ks : List ℕ) (rs : List R) (id : ℕ) → length ks ≤ place id ks → without_entry (zip ks rs) id ≡ zip ks rs

@@ -1,6 +1,6 @@
 //! The open channels.
 
-ghost use Rattle.std.specs.Prelude.{◌≡◌, ◌<◌, ◌≤◌, ◌==◌, [], ◌∷◌, ◌++◌, length, option_copied, if◌then◌else◌, IfErr, OnOk, OnErr};
+ghost use Rattle.std.specs.Prelude.{◌≡◌, ◌<◌, ◌≤◌, ◌==◌, ◌+◌, [], ◌∷◌, ◌++◌, length, option_copied, if◌then◌else◌, IfErr, OnOk, OnErr, OnSome};
 ghost use Rattle.std.specs.List.{AllByRecursion};
 ghost use Rattle.std.specs.Option.{option_copied_mut};
 ghost use Rattle.std.specs.Borrow.{sem};
@@ -79,6 +79,7 @@ impl<Record: Drop> Channels<Record> {
     pub fn remove(&mut self, id: ChannelId) -> Option<Record>
         ensures value { result ≡ entry_at self.old id }
         ensures after { self.new ≡ without_entry self.old id }
+        ensures fewer { OnSome result (length self.new + 1 ≡ length self.old) }
     {
         self.entries.remove(id.0)
     }

@@ -1,6 +1,6 @@
 //! Records by number, kept in rising number: what channels and connections have in common.
 
-ghost use Rattle.std.specs.Prelude.{◌≡◌, ◌<◌, ◌≤◌, ◌==◌, [], ◌∷◌, ◌++◌, map, length, option_copied, if◌then◌else◌, IfErr, OnOk, OnErr};
+ghost use Rattle.std.specs.Prelude.{◌≡◌, ◌<◌, ◌≤◌, ◌==◌, ◌+◌, [], ◌∷◌, ◌++◌, map, length, option_copied, if◌then◌else◌, IfErr, OnOk, OnErr, OnSome};
 ghost use Rattle.std.specs.List.{AllByRecursion, AllPairs, position_or_len};
 ghost use Rattle.std.specs.Option.{option_copied_mut};
 ghost use Rattle.std.specs.Borrow.{sem};
@@ -103,6 +103,7 @@ impl<Record: Drop> Entries<Record> {
     pub fn remove(&mut self, number: u64) -> Option<Record>
         ensures value { result ≡ entry_at self.old number }
         ensures after { self.new ≡ without_entry self.old number }
+        ensures fewer { OnSome result (length self.new + 1 ≡ length self.old) }
         ensures shorter { length self.new ≤ length self.old }
     {
         let place = place_of(&self.numbers, number);

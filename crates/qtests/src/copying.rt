@@ -41,6 +41,7 @@ fn plain_calls_are_copied(rt: HostRuntime) {
             priority: nine,
         },
         Call::State(ThreadNo(2)),
+        Call::Unblock(ThreadNo(2)),
         Call::ChannelDestroy(ChannelId(1)),
         Call::Shutdown,
     ] {

@@ -3,7 +3,7 @@ use Rattle.std.specs.Prelude.{ℕ, ◌+◌, ◌-◌, ◌&&◌, nat_le, Bool, tru
 use Rattle.std.specs.List.{flat_map}
 use Rattle.std.specs.Option.{option_map}
 use Rattle.qrules.specs.declared.call.Call.{Call}
-use Rattle.qrules.specs.declared.call.Call.TheVariants.{ChannelCreate, ConnectAttach, Send, Receive, Reply, Error, Read, Write, Info, ReceivePulse, Pulse, PrioritySet, State, ChannelDestroy, Shutdown}
+use Rattle.qrules.specs.declared.call.Call.TheVariants.{ChannelCreate, ConnectAttach, Send, Receive, Reply, Error, Read, Write, Info, ReceivePulse, Pulse, PrioritySet, State, ChannelDestroy, Shutdown, Unblock}
 use Rattle.qrules.specs.declared.call.Completion.{Completion}
 use Rattle.qrules.specs.declared.open_call.Blocked.{Blocked}
 use Rattle.qrules.specs.Trace.{Event, Run}
@@ -29,6 +29,7 @@ shows_buffer (PrioritySet thread priority) = false
 shows_buffer (State thread) = false
 shows_buffer (ChannelDestroy chid) = false
 shows_buffer Shutdown = false
+shows_buffer (Unblock thread) = false
 
 -- the call of this number, which is that of the event of this number, among a run's events up to another
 abbrev pub call_by : Run → ℕ → ℕ → Option Call

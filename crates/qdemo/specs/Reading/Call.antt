@@ -1,6 +1,7 @@
 -- The call that a word and its operands name.
 use Rattle.std.specs.Prelude.{ℕ, List, Option, Some, None, Result, Err, if◌then◌else◌, codes}
 use Rattle.std.specs.Str.{bytes_eq}
+use Rattle.qrules.specs.Past.{first_some}
 use Rattle.qrules.specs.declared.call.Call.{Call}
 use Rattle.qdemo.specs.declared.reading.verb.Verb.{Verb}
 use Rattle.qdemo.specs.declared.reading.verb.Verb.TheVariants as verbs
@@ -21,26 +22,42 @@ use Rattle.qdemo.specs.Reading.Forms.SetPrio.{setprio_of}
 use Rattle.qdemo.specs.Reading.Forms.State.{state_of}
 use Rattle.qdemo.specs.Reading.Forms.Destroy.{destroy_of}
 use Rattle.qdemo.specs.Reading.Forms.Shutdown.{shutdown_of}
+use Rattle.qdemo.specs.Reading.Forms.Unblock.{unblock_of}
 
--- the verb that a word is
-unfoldable pub verb_of : List ℕ → Option Verb
-verb_of word =
+-- the verb that a word is, of a call on channels and connections
+unfoldable pub channel_verb : List ℕ → Option Verb
+channel_verb word =
     if bytes_eq word (codes "create") then Some verbs.Create
+    else if bytes_eq word (codes "destroy") then Some verbs.Destroy
     else if bytes_eq word (codes "attach") then Some verbs.Attach
-    else if bytes_eq word (codes "send") then Some verbs.Send
+    else None
+
+-- the verb that a word is, of a call that sends, receives, or works on what was received
+unfoldable pub message_verb : List ℕ → Option Verb
+message_verb word =
+    if bytes_eq word (codes "send") then Some verbs.Send
     else if bytes_eq word (codes "receive") then Some verbs.Receive
+    else if bytes_eq word (codes "receivepulse") then Some verbs.ReceivePulse
     else if bytes_eq word (codes "reply") then Some verbs.Reply
     else if bytes_eq word (codes "error") then Some verbs.Error
     else if bytes_eq word (codes "read") then Some verbs.Read
     else if bytes_eq word (codes "write") then Some verbs.Write
     else if bytes_eq word (codes "info") then Some verbs.Info
-    else if bytes_eq word (codes "receivepulse") then Some verbs.ReceivePulse
     else if bytes_eq word (codes "pulse") then Some verbs.Pulse
-    else if bytes_eq word (codes "setprio") then Some verbs.SetPrio
+    else None
+
+-- the verb that a word is, of a call on threads and on the kernel
+unfoldable pub thread_verb : List ℕ → Option Verb
+thread_verb word =
+    if bytes_eq word (codes "setprio") then Some verbs.SetPrio
+    else if bytes_eq word (codes "unblock") then Some verbs.Unblock
     else if bytes_eq word (codes "state") then Some verbs.State
-    else if bytes_eq word (codes "destroy") then Some verbs.Destroy
     else if bytes_eq word (codes "shutdown") then Some verbs.Shutdown
     else None
+
+-- the verb that a word is
+unfoldable pub verb_of : List ℕ → Option Verb
+verb_of word = first_some (channel_verb word) (first_some (message_verb word) (thread_verb word))
 
 -- the call of a verb and its operands
 abbrev pub call_by : Option Verb → List (List ℕ) → Result Call LineFault
@@ -59,6 +76,7 @@ call_by (Some verbs.SetPrio) operands = setprio_of operands
 call_by (Some verbs.State) operands = state_of operands
 call_by (Some verbs.Destroy) operands = destroy_of operands
 call_by (Some verbs.Shutdown) operands = shutdown_of operands
+call_by (Some verbs.Unblock) operands = unblock_of operands
 call_by None operands = Err UnknownWord
 
 -- the call of a word and its operands

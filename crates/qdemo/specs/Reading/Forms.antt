@@ -13,5 +13,6 @@ pub mod SetPrio
 pub mod State
 pub mod Destroy
 pub mod Shutdown
+pub mod Unblock
 pub mod Thread
 pub mod Write

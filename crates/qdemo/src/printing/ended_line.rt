@@ -31,6 +31,7 @@ fn shows(call: &Call) -> bool
         Call::State(_) => false,
         Call::ChannelDestroy(_) => false,
         Call::Shutdown => false,
+        Call::Unblock(_) => false,
     }
 }
 

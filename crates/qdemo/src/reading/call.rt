@@ -7,7 +7,7 @@ ghost use Rattle.qdemo.specs.Reading.Words.{words_of};
 use crate::fault::{LineFault, ParseError};
 use crate::reading::forms::{
     attach, create, destroy, error, info, pulse, read, receive, receivepulse, reply, send, setprio,
-    shutdown, state, write,
+    shutdown, state, unblock, write,
 };
 use crate::reading::verb::{Verb, verb_named};
 use qkernel::call::Call;
@@ -34,6 +34,7 @@ pub fn call_named(alloc: Global, word: &[u8], operands: &[u8]) -> Result<Call, P
         Some(Verb::State) => state::call(operands),
         Some(Verb::Destroy) => destroy::call(operands),
         Some(Verb::Shutdown) => shutdown::call(operands),
+        Some(Verb::Unblock) => unblock::call(operands),
         None => Err(ParseError::Fault(LineFault::UnknownWord)),
     }
 }

@@ -15,4 +15,5 @@ pub mod setprio;
 pub mod shutdown;
 pub mod state;
 pub mod thread;
+pub mod unblock;
 pub mod write;

@@ -91,6 +91,7 @@ fn is_written(call: &Call) -> bool {
         } => coid.0 == 8 && priority.get() == 63 && *code == i8::MIN && *value == i32::MIN,
         Call::PrioritySet { thread, priority } => thread.0 == 255 && priority.get() == 5,
         Call::State(thread) => thread.0 == 7,
+        Call::Unblock(thread) => thread.0 == 7,
         Call::ChannelDestroy(chid) => chid.0 == 7,
         Call::Shutdown => true,
         _ => has_written_bytes(call),
@@ -101,9 +102,9 @@ fn is_written(call: &Call) -> bool {
 #[test]
 fn reads_each_form(rt: HostRuntime) -> Result<(), Fail> {
     let text =
-        b"thread 1 2 63\n\n  # all forms\n1 create 4\r\n\t1  attach 7\n1 send 8 - 3xAb\n1 receive 7 00fF\n1 reply 9 -1 05\n1 error 9 -2\n1 read 9 3 2x01\n1 write 9 4 06\n1 info 9\n1 receivepulse 7\n1 pulse 8 63 -128 -2147483648\n1 setprio 255 5\n1 state 007\n1 destroy 7\n1 shutdown".as_slice();
+        b"thread 1 2 63\n\n  # all forms\n1 create 4\r\n\t1  attach 7\n1 send 8 - 3xAb\n1 receive 7 00fF\n1 reply 9 -1 05\n1 error 9 -2\n1 read 9 3 2x01\n1 write 9 4 06\n1 info 9\n1 receivepulse 7\n1 pulse 8 63 -128 -2147483648\n1 setprio 255 5\n1 state 007\n1 destroy 7\n1 unblock 7\n1 shutdown".as_slice();
     let script = parse(rt.alloc(), text)?;
-    assert_eq!(rt; script.calls.len(), 15);
+    assert_eq!(rt; script.calls.len(), 16);
     for (thread, call) in &script.calls {
         assert_eq!(rt; thread.0, 1);
         assert!(rt; is_written(call), "{call:?}");
@@ -202,6 +203,9 @@ fn names_the_fault_of_a_second_line(rt: HostRuntime) -> Result<(), Fail> {
         (b"1 setprio 1 64", "line 2: bad priority"),
         (b"1 state", "line 2: word count"),
         (b"1 state 256", "line 2: bad number"),
+        (b"1 unblock", "line 2: word count"),
+        (b"1 unblock 1 1", "line 2: word count"),
+        (b"1 unblock 256", "line 2: bad number"),
         (b"1 destroy", "line 2: word count"),
         (b"1 destroy 1 1", "line 2: word count"),
         (b"1 destroy -1", "line 2: bad number"),

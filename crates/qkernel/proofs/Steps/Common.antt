@@ -14,9 +14,10 @@ use Rattle.qrecords.specs.declared.thread.Thread.{Thread}
 use Rattle.qbase.specs.declared.errno.Errno.{Errno}
 use Rattle.qqueue.specs.declared.item.Item.{Item}
 use Rattle.qrules.specs.Answer.{MayRefuse, failed, refusal, row_of}
-use Rattle.qrules.specs.Rows.{closes, makes, names}
+use Rattle.qrules.specs.Items.{makes}
+use Rattle.qrules.specs.Rows.{closes, names}
 use Rattle.qrules.specs.Step.{left_by, made_on, pending_after, taken_out}
-use Rattle.qrules.proofs.Past.Cuts.{none_cut}
+use Rattle.qrules.proofs.Past.Cuts.{EndsSettled, none_cut}
 use Rattle.qrules.proofs.Past.Ends.{row_passes}
 use Rattle.qrules.proofs.Past.Laws.{is_forceful}
 use Rattle.qrules.proofs.Past.RowLaws.{row_laws}
@@ -79,15 +80,20 @@ step_refused_alone s t c e X may is = step_refused s t c e X _ may is (counted_a
 
 -- ---- accepted calls
 
--- what is pending after a call that neither destroys a channel nor ends others by force
-pub uncut : (s : State) (t : ℕ) (c : Call) → refusal (facts_in s) t c ≡ None → is_forceful c ≡ false → closes c ≡ None → (h : ℕ) {x : List Item}
-    → x ≡ taken_out (row_of (facts_in s) t c).receipt h (pending_in s.channels h ++ made_on h (makes (facts_in s).connection (facts_in s).priority (s.made + 1) t c)) → x ≡ pending_after (facts_in s) t c h
-uncut s t c passed mild closes_none h {x} is =
+-- what is pending after a call that neither destroys a channel nor ends a Send which isn't received
+pub uncut_by : (s : State) (t : ℕ) (c : Call) → EndsSettled (facts_in s) t c → closes c ≡ None → (h : ℕ) {x : List Item}
+    → x ≡ taken_out (row_of (facts_in s) t c).receipt h (pending_in s.channels h ++ made_on h (makes (facts_in s) t c)) → x ≡ pending_after (facts_in s) t c h
+uncut_by s t c settled closes_none h {x} is =
     let f = facts_in s in
-    let M = made_on h (makes (facts_in s).connection (facts_in s).priority (s.made + 1) t c) in
+    let M = made_on h (makes f t c) in
     is
-    ∙ ap (λ l. taken_out (row_of f t c).receipt h (l ++ M)) (sym (none_cut f t c (row_laws f t c (row_passes f t c passed)) mild h (pending_in s.channels h)))
+    ∙ ap (λ l. taken_out (row_of f t c).receipt h (l ++ M)) (sym (none_cut f t c settled h (pending_in s.channels h)))
     ∙ ap (λ o. cond (names o h) [] (taken_out (row_of f t c).receipt h (left_by f t c h (pending_in s.channels h) ++ M))) (sym closes_none)
+
+-- the same of a call that is accepted and ends no other by force
+pub uncut : (s : State) (t : ℕ) (c : Call) → refusal (facts_in s) t c ≡ None → is_forceful c ≡ false → closes c ≡ None → (h : ℕ) {x : List Item}
+    → x ≡ taken_out (row_of (facts_in s) t c).receipt h (pending_in s.channels h ++ made_on h (makes (facts_in s) t c)) → x ≡ pending_after (facts_in s) t c h
+uncut s t c passed mild closes_none h is = uncut_by s t c ((row_laws (facts_in s) t c (row_passes (facts_in s) t c passed)).ends_settled mild) closes_none h is
 
 -- ---- soundness
 

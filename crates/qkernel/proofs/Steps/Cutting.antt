@@ -30,9 +30,9 @@ endings_cut s t cut e = filter_map (λ u. ending_for (entry_at s.connections) cu
 
 -- the caller isn't blocked, so that it waits for nothing afterwards
 pub open_after : (s : State) (t : ℕ) (cut : Cut) (e : Errno) (threads : List Thread) (u : ℕ) → open_in s.threads t ≡ None → AreCut (entry_at s.connections) cut e s.threads threads
-    → open_in threads u ≡ cond (eqb u t) None (cond (is_some (cut_where (is_cut_by (entry_at s.connections) cut) e u (open_in s.threads u))) None (open_in s.threads u))
+    → open_in threads u ≡ cond (eqb u t) None (cond (is_some (cut_where (is_cut_by (entry_at s.connections) cut u) e u (open_in s.threads u))) None (open_in s.threads u))
 open_after s t cut e threads u free are =
-    elim (eqb u t) as (λ b. eqb u t ≡ b → open_in threads u ≡ cond b None (cond (is_some (cut_where (is_cut_by (entry_at s.connections) cut) e u (open_in s.threads u))) None (open_in s.threads u))) [
+    elim (eqb u t) as (λ b. eqb u t ≡ b → open_in threads u ≡ cond b None (cond (is_some (cut_where (is_cut_by (entry_at s.connections) cut u) e u (open_in s.threads u))) None (open_in s.threads u))) [
       | true ↦ λ same. are.open_call u ∙ (let idle : open_in s.threads u ≡ None = ap (open_in s.threads) (eqb-true u t same) ∙ free in rw idle refl)
       | false ↦ λ other. are.open_call u
     ] refl

@@ -3,13 +3,12 @@ use Rattle.std.proofs.Common.{◌≡◌, ℕ, suc, ◌+◌, ◌≤◌, List, [],
 use Rattle.std.specs.Prelude.{Option, None, Some, is_some, ◌||◌}
 use Rattle.std.specs.List.{AllByRecursion}
 use Rattle.std.specs.Option.{option_map}
-use Rattle.std.proofs.lemmas.Bool.{eqb-true, eqb-false, eq-eqb, ne_eqb, true≢false}
-use Rattle.std.proofs.lemmas.Option.{none-some, cond_some, same_Some}
+use Rattle.std.proofs.lemmas.Bool.{eqb-true, eq-eqb, ne_eqb, true≢false}
+use Rattle.std.proofs.lemmas.Option.{none-some, same_Some}
 use Rattle.qqueue.specs.Best.{without}
 use Rattle.qqueue.specs.declared.item.Item.{Item}
 use Rattle.qtables.specs.Entries.{entry_at}
 use Rattle.qtables.specs.Members.{member_at}
-use Rattle.qtables.specs.declared.connection.Connection.{Connection}
 use Rattle.qtables.specs.declared.member.Member.{Member}
 use Rattle.qrules.specs.declared.call.Completion.{Completion}
 use Rattle.qrecords.specs.declared.channel.Channel.{Channel}
@@ -18,69 +17,21 @@ use Rattle.qrules.specs.declared.open_call.Wait.{Wait}
 use Rattle.qrules.specs.declared.open_call.Wait.TheVariants.{Answer, Item as ForItem}
 use Rattle.qrecords.specs.declared.thread.Thread.{Thread}
 use Rattle.qrecords.specs.Channels.{pending_in, ids_of, way_in, SetsItems, channel_in}
-use Rattle.qrules.specs.Facts.{way, leads_to, threads_of, is_fixed}
+use Rattle.qrules.specs.Facts.{way, threads_of, is_fixed}
 use Rattle.qrules.specs.Receivers.{newest_among, newest, later, later_of, is_later, wait_on}
 use Rattle.qrules.specs.Rows.{takes, sent_over, takes_into}
 use Rattle.qkernel.specs.State.{State, IsSound, facts_in}
 use Rattle.qrules.specs.Step.{made_on}
 use Rattle.qrecords.specs.Threads.{members_of, open_in, newest_by}
-use Rattle.qrules.proofs.Rosters.{is_among}
-use Rattle.qrecords.proofs.Senders.{own_open}
+use Rattle.qrules.proofs.Past.Lists.{eqb_either, is_among}
+use Rattle.qrules.proofs.Calls.Delivering.{sent_way}
+use Rattle.qrecords.proofs.Receivers.{newest_found}
 use Rattle.qkernel.proofs.Steps.Common.{Counted, count_same, all_up_to, all_push, way-leads_to}
 
--- ---- the newest receiver, by records and by threads
-
-newest_same : (open_call : ℕ → Option OpenCall) (h : ℕ) (item : Item) (best : Option (ℕ × ℕ)) (threads : List Thread) → AllByRecursion (λ x. open_call x.member.thread ≡ x.open_call) threads
-    → newest_by h item best threads ≡ newest_among open_call h item best (threads_of (members_of threads))
-newest_same open_call h item best [] w = refl
-newest_same open_call h item best (t ∷ threads) w = rw (← w.0) (newest_same open_call h item (later_of h item best t.member.thread (open_call t.member.thread)) threads w.1)
+-- ---- the newest receiver
 
 pub newest_is : (s : State) (h : ℕ) (item : Item) (best : Option (ℕ × ℕ)) → IsSound s → newest_by h item None s.threads ≡ best → newest (facts_in s) h item ≡ option_map (λ b. b.1) best
-newest_is s h item best sound e = ap (option_map (λ b. b.1)) (sym (newest_same (open_in s.threads) h item None s.threads (own_open s.threads sound.roster)) ∙ e)
-
--- the best so far waits on h for such an item
-abbrev WaitsSoFar : (ℕ → Option OpenCall) → ℕ → Item → Option (ℕ × ℕ) → Type 0
-WaitsSoFar open_call h item None = Unit {0}
-WaitsSoFar open_call h item (Some b) = wait_on h item (open_call b.1) ≡ Some b.0
-
-later_waits : (open_call : ℕ → Option OpenCall) (h : ℕ) (item : Item) (u : ℕ) (best : Option (ℕ × ℕ)) (o : Option ℕ) → wait_on h item (open_call u) ≡ o → WaitsSoFar open_call h item best → WaitsSoFar open_call h item (later best u o)
-later_waits open_call h item u best None e w = w
-later_waits open_call h item u best (Some m) e w = elim (is_later m best) as (λ b. WaitsSoFar open_call h item (cond b (Some (m, u)) best)) [ true ↦ e | false ↦ w ]
-
-newest_waits : (open_call : ℕ → Option OpenCall) (h : ℕ) (item : Item) (ts : List ℕ) (best : Option (ℕ × ℕ)) → WaitsSoFar open_call h item best → WaitsSoFar open_call h item (newest_among open_call h item best ts)
-newest_waits open_call h item [] best w = w
-newest_waits open_call h item (u ∷ ts) best w = newest_waits open_call h item ts (later_of h item best u (open_call u)) (later_waits open_call h item u best (wait_on h item (open_call u)) refl w)
-
--- the newest receiver waits for such an item of the channel
-pub newest_receives : (s : State) (h : ℕ) (item : Item) (b : ℕ × ℕ) → IsSound s → newest_by h item None s.threads ≡ Some b → wait_on h item (open_in s.threads b.1) ≡ Some b.0
-newest_receives s h item b sound e =
-    subst (WaitsSoFar (open_in s.threads) h item) (sym (newest_same (open_in s.threads) h item None s.threads (own_open s.threads sound.roster)) ∙ e)
-    (newest_waits (open_in s.threads) h item (threads_of (members_of s.threads)) None tt)
-
--- what waits is among the threads
-pub waits_among : (h : ℕ) (item : Item) (m : ℕ) (threads : List Thread) (u : ℕ) → wait_on h item (open_in threads u) ≡ Some m → is_among (threads_of (members_of threads)) u ≡ true
-waits_among h item m [] u e = absurd (none-some m e)
-waits_among h item m (t ∷ threads) u e =
-    elim (eqb t.member.thread u) as (λ b. wait_on h item (cond b t.open_call (open_in threads u)) ≡ Some m → (b || is_among (threads_of (members_of threads)) u) ≡ true) [
-      | true ↦ λ e. refl
-      | false ↦ λ e. waits_among h item m threads u e
-    ] e
-
--- what waits for an item takes one
-pub waits_takes : (h m : ℕ) (item : Item) (message : List ℕ) (u : ℕ) (o : Option OpenCall) → wait_on h item o ≡ Some m → is_some (takes item message u o) ≡ true
-waits_takes h m item message u None e = absurd (none-some m e)
-waits_takes h m item message u (Some o) e = waits o.wait e where
-  waits : (w : Wait) → wait_on h item (Some (record { number = o.number; wait = w })) ≡ Some m → is_some (takes item message u (Some (record { number = o.number; wait = w }))) ≡ true
-  waits (Answer coid sent reply_buffer receipt) e = absurd (none-some m e)
-  waits (ForItem chid kind buffer) e = refl
-
--- how it ends is of its thread
-pub ended_thread : (item : Item) (message : List ℕ) (r : ℕ) (o : Option OpenCall) (y : Completion) → takes item message r o ≡ Some y → y.thread ≡ r
-ended_thread item message r None y e = absurd (none-some y e)
-ended_thread item message r (Some o) y e = by_wait o.wait e where
-  by_wait : (w : Wait) → takes_into item message r o.number w ≡ Some y → y.thread ≡ r
-  by_wait (Answer coid sent reply_buffer receipt) e = absurd (none-some y e)
-  by_wait (ForItem chid kind buffer) e = sym (ap (λ x. x.thread) (same_Some _ y e))
+newest_is s h item best sound e = ap (option_map (λ b. b.1)) (newest_found h item s.threads sound.roster ∙ e)
 
 -- the priority that a receiver on channel h takes of the item
 abbrev pub level_of : State → ℕ → Item → Option ℕ
@@ -89,20 +40,6 @@ level_of s h item = cond (is_fixed (channel_in s.channels h)) None (Some item.pr
 -- as many channels as there were
 pub count_kept : (old new : List (ℕ × Channel)) → ids_of new ≡ ids_of old → length new + 0 ≡ length old + 0
 count_kept old new e = ap (λ n. n + 0) (count_same old new e)
-
--- what waits has an open call
-pub waits_open : (h m : ℕ) (item : Item) (o : Option OpenCall) → wait_on h item o ≡ Some m → is_some o ≡ true
-waits_open h m item None e = absurd (none-some m e)
-waits_open h m item (Some o) e = refl
-
--- so an ending is given, and with it what was copied
-pub met_there : (h m : ℕ) (item : Item) (message : List ℕ) (u : ℕ) (o call : Option OpenCall) (r : Option Completion) → wait_on h item o ≡ Some m → call ≡ o → r ≡ takes item message u call → r ≡ None → ⊥
-met_there h m item message u o call r waits same ended none =
-    true≢false (sym (waits_takes h m item message u o waits) ∙ ap (λ x. is_some (takes item message u x)) (sym same) ∙ ap is_some (sym ended) ∙ ap is_some none)
-
-pub taken_there : {R : Type 0} (h m : ℕ) (item : Item) (message : List ℕ) (u : ℕ) (o call : Option OpenCall) (r : Option (Completion × R)) → wait_on h item o ≡ Some m → call ≡ o → option_map (λ x. x.0) r ≡ takes item message u call → r ≡ None → ⊥
-taken_there h m item message u o call r waits same ended none =
-    true≢false (sym (waits_takes h m item message u o waits) ∙ ap (λ x. is_some (takes item message u x)) (sym same) ∙ ap is_some (sym ended) ∙ ap (λ x. is_some (option_map (λ y. y.0) x)) none)
 
 -- a write that leaves all items leaves all but the room
 pub counted_room : (s : State) (h : ℕ) (new : List (ℕ × Channel)) → SetsItems h (pending_in s.channels h) s.channels new
@@ -120,12 +57,6 @@ counted_room s h new sets = record {
   ] refl);
 }
 
-pub eqb_sym : (a b : ℕ) → eqb a b ≡ eqb b a
-eqb_sym a b = elim (eqb a b) as (λ x. eqb a b ≡ x → x ≡ eqb b a) [
-  | true ↦ λ e. sym (eq-eqb b a (sym (eqb-true a b e)))
-  | false ↦ λ e. sym (ne_eqb b a (λ s. eqb-false a b e (sym s)))
-] refl
-
 -- ---- an item that waits, and one that is met
 
 -- no item of these has a number above n
@@ -136,37 +67,33 @@ without_new n (x ∷ items) item is h =
     let other : eqb x.number (n + 1) ≡ false = ne_eqb _ _ (λ e. omega arith) in
     rw other (ap (λ xs. x ∷ xs) (without_new n items item is h.1))
 
--- the connection over which a way leads
-pub way_over : (s : State) (t : ℕ) (o : Option Connection) (h : ℕ) → leads_to (facts_in s) t o ≡ Some h → (c : Connection) × ((o ≡ Some c) × (c.channel ≡ h))
-way_over s t None h e = absurd (none-some h e)
-way_over s t (Some c) h e = (c, (refl, (cond_some _ c.channel h e).1))
-
-module _ (s : State) (t coid : ℕ) (m : Member) (h : ℕ) (item : Item) (sound : IsSound s) (known : member_at (members_of s.threads) t ≡ Some m) (number : item.number ≡ s.made + 1)
-    (found : way_in m.process s.channels (entry_at s.connections coid) ≡ Some h) where
-  pub some_way : way (facts_in s) t coid ≡ Some h
-  some_way = way-leads_to s t m (entry_at s.connections coid) known ∙ found
-
-  over : (c : Connection) × ((entry_at s.connections coid ≡ Some c) × (c.channel ≡ h))
-  over = way_over s t (entry_at s.connections coid) h some_way
-
-  made_there : (k : ℕ) → made_on k (sent_over (entry_at s.connections coid) item) ≡ cond (eqb k h) (item ∷ []) []
-  made_there k = rw (over.1.0) (ap (λ n. cond (eqb n k) (item ∷ []) []) (over.1.1) ∙ ap (λ b. cond b (item ∷ []) []) (eqb_sym h k))
+module _ (s : State) (h : ℕ) (item : Item) (sound : IsSound s) (number : item.number ≡ s.made + 1) where
+  made_there : (k : ℕ) → made_on k (Some (record { item = item; channel = h })) ≡ cond (eqb k h) (item ∷ []) []
+  made_there k = ap (λ b. cond b (item ∷ []) []) (eqb_either h k)
 
   -- it waits behind the others
-  pub with_item : (k : ℕ) → cond (eqb k h) (pending_in s.channels h ++ item ∷ []) (pending_in s.channels k) ≡ pending_in s.channels k ++ made_on k (sent_over (entry_at s.connections coid) item)
-  with_item k = rw (made_there k) (elim (eqb k h) as (λ b. eqb k h ≡ b → cond b (pending_in s.channels h ++ item ∷ []) (pending_in s.channels k) ≡ pending_in s.channels k ++ cond b (item ∷ []) []) [
+  pub with_item : (k : ℕ) → cond (eqb k h) (pending_in s.channels h ++ item ∷ []) (pending_in s.channels k) ≡ pending_in s.channels k ++ made_on k (Some (record { item = item; channel = h }))
+  with_item k = (elim (eqb k h) as (λ b. eqb k h ≡ b → cond b (pending_in s.channels h ++ item ∷ []) (pending_in s.channels k) ≡ pending_in s.channels k ++ cond b (item ∷ []) []) [
     | true ↦ λ e. ap (λ n. pending_in s.channels n ++ item ∷ []) (sym (eqb-true k h e))
     | false ↦ λ e. sym (append-nil _)
-  ] refl)
+  ] refl) ∙ ap (λ l. pending_in s.channels k ++ l) (sym (made_there k))
 
   -- the item doesn't wait
-  pub items_after : (k : ℕ) → pending_in s.channels k ≡ cond (eqb h k) (without item.number (pending_in s.channels k ++ made_on k (sent_over (entry_at s.connections coid) item)))
-      (pending_in s.channels k ++ made_on k (sent_over (entry_at s.connections coid) item))
-  items_after k = rw (made_there k, eqb_sym h k) (
+  pub items_after : (k : ℕ) → pending_in s.channels k ≡ cond (eqb h k) (without item.number (pending_in s.channels k ++ made_on k (Some (record { item = item; channel = h }))))
+      (pending_in s.channels k ++ made_on k (Some (record { item = item; channel = h })))
+  items_after k = rw (eqb_either h k) (
       elim (eqb k h) as (λ b. pending_in s.channels k ≡ cond b (without item.number (pending_in s.channels k ++ cond b (item ∷ []) [])) (pending_in s.channels k ++ cond b (item ∷ []) [])) [
         | true ↦ sym (ap (λ n. without n (pending_in s.channels k ++ item ∷ [])) number ∙ without_new s.made (pending_in s.channels k) item number (sound.items k))
         | false ↦ sym (append-nil _)
       ])
+
+-- the way of a connection, and what goes over it
+module _ (s : State) (t coid : ℕ) (m : Member) (h : ℕ) (known : member_at (members_of s.threads) t ≡ Some m) (found : way_in m.process s.channels (entry_at s.connections coid) ≡ Some h) where
+  pub some_way : way (facts_in s) t coid ≡ Some h
+  some_way = way-leads_to s t m (entry_at s.connections coid) known ∙ found
+
+  pub some_sent : (item : Item) → sent_over (entry_at s.connections coid) item ≡ Some (record { item = item; channel = h })
+  some_sent item = sent_way (facts_in s) t coid item h some_way
 
 -- ---- soundness
 
@@ -185,6 +112,16 @@ sound_threads s threads sound e = record {
   channel_ids = all_up_to (λ id. id) s.made _ sound.channel_ids;
   connection_ids = all_up_to (λ e. e.0) s.made _ sound.connection_ids;
   items = λ h. all_up_to (λ item. item.number) s.made _ (sound.items h);
+}
+
+-- a write that leaves all members leaves the kernel sound
+pub sound_kept : (s : State) (threads : List Thread) → members_of threads ≡ members_of s.threads → IsSound s → IsSound (record { made = s.made; down = s.down; threads = threads; channels = s.channels; connections = s.connections })
+sound_kept s threads e sound = record {
+  few = few_kept s.threads threads e sound.few;
+  roster = rw e sound.roster;
+  channel_ids = sound.channel_ids;
+  connection_ids = sound.connection_ids;
+  items = sound.items;
 }
 
 pub sound_items : (s : State) (threads : List Thread) (channels : List (ℕ × Channel)) (h : ℕ) (items : List Item) → IsSound s → members_of threads ≡ members_of s.threads → SetsItems h items s.channels channels

@@ -26,7 +26,8 @@ use Rattle.qkernel.specs.State.{State, IsSound, facts_in}
 use Rattle.qkernel.specs.Stands.{Steps}
 use Rattle.qrules.specs.Step.{unless}
 use Rattle.qrecords.specs.Threads.{members_of, open_in, held_over_in, sender_in, sent_call, SetsOpen}
-use Rattle.qrules.proofs.Rosters.{rises, among, is_among, filter_same, two_hits, cond_same}
+use Rattle.qrules.proofs.Past.Lists.{is_among, cond_same}
+use Rattle.qrules.proofs.Rosters.{rises, among, filter_same, two_hits}
 use Rattle.qkernel.proofs.Steps.Common.{counted, step_refused_alone, owned_by_member}
 
 module _ (s : State) (t : ℕ) (m : Member) (i : ℕ) (sound : IsSound s) (known : member_at (members_of s.threads) t ≡ Some m) where

@@ -1,7 +1,7 @@
 -- Receive and ReceivePulse as steps of the kernel.
 use Rattle.std.proofs.Common.{◌≡◌, ℕ, ◌+◌, ◌≤◌, List, [], ◌∷◌, ◌++◌, refl, ap, sym, subst, ◌∙◌, cond, arith, Bool, true, false, eqb, append-nil, inl}
-use Rattle.std.specs.Prelude.{Option, None, Some, filter, is_some, not, unwrap_or}
-use Rattle.std.specs.List.{AllByRecursion, filter_map}
+use Rattle.std.specs.Prelude.{Option, None, Some, is_some, not, unwrap_or}
+use Rattle.std.specs.List.{filter_map}
 use Rattle.std.specs.Option.{option_map}
 use Rattle.std.proofs.lemmas.Bool.{eqb-true}
 use Rattle.qbase.specs.Laying.{laid_count}
@@ -29,9 +29,10 @@ use Rattle.qkernel.specs.State.{State, IsSound, facts_in}
 use Rattle.qkernel.specs.Stands.{Steps}
 use Rattle.qrules.specs.Step.{after_receipt, is_thread, held_call, taken_out, unless, taken_by}
 use Rattle.qrecords.specs.Threads.{members_of, open_in, level_in, message_from, sender_in, SetsOpen, HandsOver, SetsLevel}
-use Rattle.qrules.proofs.Rosters.{rises, among, nothing, filter_same, only_own, cond_same}
+use Rattle.qrules.proofs.Past.Lists.{all_filter, eqb_either, cond_same}
+use Rattle.qrules.proofs.Rosters.{rises, among, nothing, filter_same, only_own}
 use Rattle.qkernel.proofs.Steps.Common.{uncut, counted, step_refused_alone, owned_by_member, all_up_to, stays_free}
-use Rattle.qkernel.proofs.Steps.Delivering.{count_kept, sound_items, eqb_sym}
+use Rattle.qkernel.proofs.Steps.Delivering.{count_kept, sound_items}
 
 -- ---- refused
 
@@ -142,14 +143,14 @@ module _ (s : State) (t chid : ℕ) (kind : Kind) (buffer : List ℕ) (m : Membe
 
   module _ (item : Item) (best : best_of kind (pending_in s.channels chid) ≡ Some item) where
     items_after : (k : ℕ) → cond (eqb k chid) (without item.number (pending_in s.channels chid)) (pending_in s.channels k) ≡ cond (eqb chid k) (without item.number (pending_in s.channels k ++ [])) (pending_in s.channels k ++ [])
-    items_after k = rw (append-nil, eqb_sym chid k) (elim (eqb k chid) as (λ b. eqb k chid ≡ b → cond b (without item.number (pending_in s.channels chid)) (pending_in s.channels k) ≡ cond b (without item.number (pending_in s.channels k)) (pending_in s.channels k)) [
+    items_after k = rw (append-nil, eqb_either chid k) (elim (eqb k chid) as (λ b. eqb k chid ≡ b → cond b (without item.number (pending_in s.channels chid)) (pending_in s.channels k) ≡ cond b (without item.number (pending_in s.channels k)) (pending_in s.channels k)) [
       | true ↦ λ e. ap (λ n. without item.number (pending_in s.channels n)) (sym (eqb-true k chid e))
       | false ↦ λ e. refl
     ] refl)
 
     -- what the sender of a message keeps
     abbrev pub kept : Receipt
-    kept = record { priority = item.priority; copied = laid_count buffer 0 (message_from s.threads item.number) }
+    kept = record { priority = item.priority; copied = laid_count buffer 0 (message_from s.threads item.number); unblocked = false }
 
     calls_after : (change : OpenCall → OpenCall) (u : ℕ) → cond (is_thread (sender_in s.threads item.number) u) (option_map change (open_in s.threads u)) (open_in s.threads u)
         ≡ cond (eqb u t) None (cond (is_thread (sender_in s.threads item.number) u) (option_map change (open_in s.threads u)) (open_in s.threads u))
@@ -203,10 +204,6 @@ module _ (s : State) (t chid : ℕ) (kind : Kind) (buffer : List ℕ) (m : Membe
 pub hands_members : (b : Bool) (i : ℕ) (receipt : Receipt) (old new : List Thread) → HandsOver b i receipt old new → members_of new ≡ members_of old
 hands_members true i receipt old new same = ap members_of same
 hands_members false i receipt old new changes = changes.members
-
-pub all_filter : {X : Type 0} (P : X → Type 0) (p : X → Bool) (xs : List X) → AllByRecursion P xs → AllByRecursion P (filter p xs)
-all_filter P p [] h = tt
-all_filter P p (x ∷ xs) h = elim (p x) as (λ b. AllByRecursion P (cond b (x ∷ filter p xs) (filter p xs))) [ true ↦ (h.0, all_filter P p xs h.1) | false ↦ all_filter P p xs h.1 ]
 
 pub sound_taken : (s : State) (threads : List Thread) (channels : List (ℕ × Channel)) (h i : ℕ) → IsSound s → members_of threads ≡ members_of s.threads
     → SetsItems h (without i (pending_in s.channels h)) s.channels channels → IsSound (record { made = s.made + 1; down = s.down; threads = threads; channels = channels; connections = s.connections })

@@ -21,14 +21,17 @@ use Rattle.qrules.specs.Answer.{failed, ending}
 use Rattle.qrecords.specs.Channels.{pending_in, way_in, SetsItems}
 use Rattle.qrules.specs.Facts.{way, threads_of}
 use Rattle.qrules.specs.Receivers.{newest}
-use Rattle.qrules.specs.Rows.{message_item, takes, received}
+use Rattle.qrules.specs.Rows.{message_item, takes, received, sent_over}
 use Rattle.qkernel.specs.State.{State, IsSound, facts_in}
 use Rattle.qkernel.specs.Stands.{Steps}
-use Rattle.qrules.specs.Step.{unless, held_call}
+use Rattle.qrules.specs.Step.{unless, held_call, made_on}
 use Rattle.qrecords.specs.Threads.{members_of, open_in, level_in, newest_by, SetsOpen, Wakes}
-use Rattle.qrules.proofs.Rosters.{rises, is_among, nothing, filter_same, only_own, cond_same}
-use Rattle.qkernel.proofs.Steps.Delivering.{counted_room, count_kept, items_after, newest_is, some_way, with_item, ended_thread, level_of}
+use Rattle.qrules.proofs.Past.Lists.{is_among, cond_same}
+use Rattle.qrules.proofs.Rosters.{rises, nothing, filter_same, only_own}
+use Rattle.qkernel.proofs.Steps.Delivering.{counted_room, count_kept, items_after, newest_is, some_sent, some_way, with_item, level_of}
+use Rattle.qrecords.proofs.Receivers.{ended_thread}
 use Rattle.qkernel.proofs.Steps.Common.{uncut, counted, step_refused, step_refused_alone, way-leads_to}
+use Rattle.qqueue.specs.Best.{without}
 
 -- ---- refusals
 
@@ -53,7 +56,10 @@ module _ (s : State) (t coid : ℕ) (message reply_buffer : List ℕ) (m : Membe
   item = message_item (s.made + 1) (level_in s.threads t)
 
   over_way : way (facts_in s) t coid ≡ Some h
-  over_way = some_way s t coid m h item sound known refl found
+  over_way = some_way s t coid m h known found
+
+  over_sent : sent_over (entry_at s.connections coid) item ≡ Some (record { item = item; channel = h })
+  over_sent = some_sent s t coid m h known found item
 
   -- the sender's open call
   abbrev pub waiting : Option Receipt → OpenCall
@@ -79,7 +85,7 @@ module _ (s : State) (t coid : ℕ) (message reply_buffer : List ℕ) (m : Membe
             connection = λ k. rw known refl;
             live_connections = rw known (omega arith);
             open_call = λ u. opens.open_call u ∙ rw (over_way, none) (elim (eqb u t) as (λ b. cond b (Some (waiting None)) (open_in s.threads u) ≡ cond b (Some (waiting None)) (open_in s.threads u)) [ true ↦ refl | false ↦ refl ]);
-            pending = λ k. uncut s t (Send coid message reply_buffer) (rw (up, free, over_way) refl) refl refl k (sets.pending k ∙ rw (over_way, none) (with_item s t coid m h item sound known refl found k));
+            pending = λ k. uncut s t (Send coid message reply_buffer) (rw (up, free, over_way) refl) refl refl k (sets.pending k ∙ rw (over_way, none) (with_item s h item sound refl k ∙ ap (λ o. pending_in s.channels k ++ made_on k o) (sym over_sent)));
             priority = λ u. opens.priority u ∙ rw (over_way, none) refl;
           };
         },
@@ -92,13 +98,13 @@ module _ (s : State) (t coid : ℕ) (message reply_buffer : List ℕ) (m : Membe
 
     -- the sender waits with the receipt, the receiver no longer
     calls_after : (threads_1 : List Thread) → Wakes r (level_of s h item) s.threads threads_1 → (u : ℕ)
-        → cond (eqb u t) (Some (waiting (Some (record { priority = level_in s.threads t; copied = copied })))) (open_in threads_1 u)
-        ≡ cond (eqb u t) (unless false (cond (eqb u t) (Some (waiting (Some (record { priority = level_in s.threads t; copied = copied })))) (Some (waiting None))))
-        (unless (is_some (cond (eqb u r) (takes item message u (open_in s.threads u)) None)) (cond (eqb u t) (option_map (held_call (record { priority = level_in s.threads t; copied = copied })) (open_in s.threads u)) (open_in s.threads u)))
+        → cond (eqb u t) (Some (waiting (Some (record { priority = level_in s.threads t; copied = copied; unblocked = false })))) (open_in threads_1 u)
+        ≡ cond (eqb u t) (unless false (cond (eqb u t) (Some (waiting (Some (record { priority = level_in s.threads t; copied = copied; unblocked = false })))) (Some (waiting None))))
+        (unless (is_some (cond (eqb u r) (takes item message u (open_in s.threads u)) None)) (cond (eqb u t) (option_map (held_call (record { priority = level_in s.threads t; copied = copied; unblocked = false })) (open_in s.threads u)) (open_in s.threads u)))
     calls_after threads_1 takes_r u =
-        elim (eqb u t) as (λ b. cond b (Some (waiting (Some (record { priority = level_in s.threads t; copied = copied })))) (open_in threads_1 u)
-        ≡ cond b (unless false (cond b (Some (waiting (Some (record { priority = level_in s.threads t; copied = copied })))) (Some (waiting None))))
-        (unless (is_some (cond (eqb u r) (takes item message u (open_in s.threads u)) None)) (cond b (option_map (held_call (record { priority = level_in s.threads t; copied = copied })) (open_in s.threads u)) (open_in s.threads u)))) [
+        elim (eqb u t) as (λ b. cond b (Some (waiting (Some (record { priority = level_in s.threads t; copied = copied; unblocked = false })))) (open_in threads_1 u)
+        ≡ cond b (unless false (cond b (Some (waiting (Some (record { priority = level_in s.threads t; copied = copied; unblocked = false })))) (Some (waiting None))))
+        (unless (is_some (cond (eqb u r) (takes item message u (open_in s.threads u)) None)) (cond b (option_map (held_call (record { priority = level_in s.threads t; copied = copied; unblocked = false })) (open_in s.threads u)) (open_in s.threads u)))) [
           | true ↦ refl
           | false ↦ takes_r.open_call u ∙ (elim (eqb u r) as (λ b. eqb u r ≡ b → cond b None (open_in s.threads u) ≡ unless (is_some (cond b (takes item message u (open_in s.threads u)) None)) (open_in s.threads u)) [
             | true ↦ λ e. rw (eqb-true u r e, ended) refl
@@ -106,7 +112,7 @@ module _ (s : State) (t coid : ℕ) (message reply_buffer : List ℕ) (m : Membe
           ] refl)
         ]
 
-    pub step_send_met : (threads_1 threads_2 : List Thread) (X : List Completion) → Wakes r (level_of s h item) s.threads threads_1 → SetsOpen t (Some (waiting (Some (record { priority = level_in s.threads t; copied = copied })))) threads_1 threads_2
+    pub step_send_met : (threads_1 threads_2 : List Thread) (X : List Completion) → Wakes r (level_of s h item) s.threads threads_1 → SetsOpen t (Some (waiting (Some (record { priority = level_in s.threads t; copied = copied; unblocked = false })))) threads_1 threads_2
         → X ≡ y ∷ [] → Steps s t (Send coid message reply_buffer) X (record { made = s.made + 1; down = s.down; threads = threads_2; channels = s.channels; connections = s.connections })
     step_send_met threads_1 threads_2 X takes_r sets_t is = (
       true,
@@ -131,7 +137,7 @@ module _ (s : State) (t coid : ℕ) (message reply_buffer : List ℕ) (m : Membe
           connection = λ k. rw known refl;
           live_connections = rw known (omega arith);
           open_call = λ u. sets_t.open_call u ∙ rw (over_way, newest_is_r, ended, is_receipt) (calls_after threads_1 takes_r u);
-          pending = λ k. uncut s t (Send coid message reply_buffer) (rw (up, free, over_way) refl) refl refl k (rw (over_way, newest_is_r, ended, is_receipt) (items_after s t coid m h item sound known refl found k));
+          pending = λ k. uncut s t (Send coid message reply_buffer) (rw (up, free, over_way) refl) refl refl k (rw (over_way, newest_is_r, ended, is_receipt) (items_after s h item sound refl k ∙ ap (λ o. cond (eqb h k) (without (s.made + 1) (pending_in s.channels k ++ made_on k o)) (pending_in s.channels k ++ made_on k o)) (sym over_sent)));
           priority = λ u. sets_t.priority u ∙ takes_r.priority u ∙ rw (over_way, newest_is_r, ended, is_receipt, ended_thread item message r (open_in s.threads r) y ended) refl;
         };
       },

@@ -9,9 +9,9 @@ use qbase::errno::Errno;
 use qbase::ids::{ChannelId, ThreadNo};
 use qrecords::channel::{close, owns};
 use qrecords::cutting::{Cut, cut_calls};
-use qrecords::endings::{Endings, refuse};
+use qrecords::endings::{Endings, own_ending, refuse};
 use qrecords::thread::member_of;
-use qrules::call::{Call, Completion, Mark};
+use qrules::call::{Call, Mark};
 
 impl Kernel {
     ghost use Rattle.qkernel.specs.Stands.{Steps};
@@ -40,12 +40,7 @@ impl Kernel {
         if !owns(&self.channels, process, chid) {
             return refuse(endings, number, thread, Errno::Inval, Bytes::new(alloc));
         }
-        let own = Completion {
-            call: number,
-            thread,
-            mark: Mark::Ok,
-            buffer: Bytes::new(alloc),
-        };
+        let own = own_ending(alloc, number, thread, Mark::Ok);
         cut_calls(
             &mut self.threads,
             &mut self.channels,

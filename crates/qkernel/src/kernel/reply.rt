@@ -9,7 +9,7 @@ use super::Kernel;
 use qbase::bytes::Bytes;
 use qbase::errno::Errno;
 use qbase::ids::{ReceiveId, ThreadNo};
-use qrecords::endings::{Endings, end_two, refuse};
+use qrecords::endings::{Endings, end_two, own_ending, refuse};
 use qrecords::held::{held_seat, take_sent};
 use qrecords::thread::member_of;
 use qrules::call::{Call, Completion, Mark};
@@ -77,12 +77,7 @@ impl Kernel {
         let Some(ended) = replied_to(call, client, status, &bytes) else {
             unreachable!();
         };
-        let mine = Completion {
-            call: number,
-            thread,
-            mark: Mark::Ok,
-            buffer: Bytes::new(alloc),
-        };
+        let mine = own_ending(alloc, number, thread, Mark::Ok);
         end_two(endings, mine, ended);
     }
 }

@@ -99,7 +99,11 @@ impl Kernel {
                 };
                 let (completion, copied) = met;
                 end_one(endings, completion);
-                Some(Receipt { priority, copied })
+                Some(Receipt {
+                    priority,
+                    copied,
+                    unblocked: false,
+                })
             }
         };
         let wait = Wait::Answer {

@@ -5,12 +5,11 @@ ghost use Rattle.qtables.specs.Members.{member_at};
 ghost use Rattle.qrecords.specs.Threads.{members_of, open_in};
 
 use super::Kernel;
-use qbase::bytes::Bytes;
 use qbase::errno::Errno;
 use qbase::ids::ThreadNo;
 use qrecords::cutting::{Cut, cut_calls};
-use qrecords::endings::Endings;
-use qrules::call::{Call, Completion, Mark};
+use qrecords::endings::{Endings, own_ending};
+use qrules::call::{Call, Mark};
 
 impl Kernel {
     ghost use Rattle.qkernel.specs.Stands.{Steps};
@@ -26,12 +25,7 @@ impl Kernel {
         ensures { Steps self.old thread Call.Shutdown endings.new.items self.new }
     {
         self.made += 1;
-        let own = Completion {
-            call: self.made,
-            thread,
-            mark: Mark::Ok,
-            buffer: Bytes::new(self.alloc),
-        };
+        let own = own_ending(self.alloc, self.made, thread, Mark::Ok);
         cut_calls(
             &mut self.threads,
             &mut self.channels,

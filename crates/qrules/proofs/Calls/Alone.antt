@@ -5,17 +5,20 @@ use Rattle.std.proofs.lemmas.Option.{none-some}
 use Rattle.qtables.specs.declared.connection.Connection.{Connection}
 use Rattle.qrules.specs.Answer.{row_of}
 use Rattle.qrules.specs.Facts.{Facts, sender}
-use Rattle.qrules.specs.Rows.{Written, asks, makes, received, writes}
+use Rattle.qrules.specs.Items.{makes}
+use Rattle.qrules.specs.Rows.{Written, asks, received, writes}
 use Rattle.qrules.specs.declared.call.Call.{Call}
 use Rattle.qrules.specs.declared.call.Completion.{Completion}
 use Rattle.qrules.proofs.Past.Laws.{CallLaws, RowLaws, IsOwn}
 
 -- a call that never waits and makes nothing
-pub waits_not : (c : Call) → ((n : ℕ) → asks n c ≡ None) → ((connection : ℕ → Option Connection) (priority : ℕ → ℕ) (n t : ℕ) → makes connection priority n t c ≡ None) → CallLaws c
+pub waits_not : (c : Call) → ((n : ℕ) → asks n c ≡ None) → ((f : Facts) (t : ℕ) → makes f t c ≡ None) → CallLaws c
 waits_not c a m = record {
   asks_one = λ n o e. absurd (none-some o (sym (a n) ∙ e));
-  makes_one = λ connection priority n t i e. absurd (none-some i (sym (m connection priority n t) ∙ e));
+  makes_one = λ f t i e. absurd (none-some i (sym (m f t) ∙ e));
   waits_write = λ n o e. absurd (none-some o (sym (a n) ∙ e));
+  unblocks_none = λ none f t i e. absurd (none-some i (sym (m f t) ∙ e));
+  unblocks_one = λ v is f t i e. absurd (none-some i (sym (m f t) ∙ e));
 }
 
 -- its ending is its own, and no receipt
@@ -24,7 +27,7 @@ pub record IsPlain (n t : ℕ) (y : Completion) : Type 0 where
   pub mark : received y.mark ≡ None
 
 pub alone : (f : Facts) (t : ℕ) (c : Call) → ((y : Completion) → (row_of f t c).own ≡ Some y → IsPlain f.number t y) → ((u : ℕ) → (row_of f t c).ends u ≡ None) → (row_of f t c).receipt ≡ None
-    → makes f.connection f.priority f.number t c ≡ None → ((w : Written) → writes c ≡ Some w → (s : ℕ) × (sender f w.message ≡ Some s)) → RowLaws f t c
+    → makes f t c ≡ None → ((w : Written) → writes c ≡ Some w → (s : ℕ) × (sender f w.message ≡ Some s)) → RowLaws f t c
 alone f t c own ends receipt made written = record {
   owns = λ y e. (own y e).own;
   ends_open = λ u y e. absurd (none-some y (sym (ends u) ∙ e));

@@ -5,7 +5,8 @@ use Rattle.std.proofs.lemmas.Option.{none-some, same_Some}
 use Rattle.qrules.specs.Answer.{row_of}
 use Rattle.qrules.specs.Facts.{Facts, sender}
 use Rattle.qrules.specs.Held.{Finish, ends_sender, refusal}
-use Rattle.qrules.specs.Rows.{Written, makes, received, writes}
+use Rattle.qrules.specs.Items.{makes}
+use Rattle.qrules.specs.Rows.{Written, received, writes}
 use Rattle.qrules.specs.declared.call.Call.{Call}
 use Rattle.qrules.specs.declared.call.Completion.{Completion}
 use Rattle.qrules.proofs.Calls.Alone.{IsPlain}
@@ -30,7 +31,7 @@ answer_receives f t rcvid finish u y none s = ap (λ x. received x.mark) (sym s.
 -- a call that ends in its own event, and ends the Send that it answers
 pub answers : (f : Facts) (t : ℕ) (c : Call) (rcvid : ℕ) (finish : Finish) → ((buffer : List ℕ) → received (finish buffer).0 ≡ None) → refusal f t rcvid ≡ None
     → ((y : Completion) → (row_of f t c).own ≡ Some y → IsPlain f.number t y) → ((u : ℕ) → (row_of f t c).ends u ≡ ends_sender f finish (sender f rcvid) u) → (row_of f t c).receipt ≡ None
-    → makes f.connection f.priority f.number t c ≡ None → ((w : Written) → writes c ≡ Some w → (s : ℕ) × (sender f w.message ≡ Some s)) → RowLaws f t c
+    → makes f t c ≡ None → ((w : Written) → writes c ≡ Some w → (s : ℕ) × (sender f w.message ≡ Some s)) → RowLaws f t c
 answers f t c rcvid finish none passed own ends receipt made written =
     let ended = λ (u : ℕ) (y : Completion) (e : (row_of f t c).ends u ≡ Some y). sender_ends f t rcvid finish u y passed (sym (ends u) ∙ e) in
     record {

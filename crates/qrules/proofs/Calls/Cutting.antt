@@ -7,7 +7,8 @@ use Rattle.qbase.specs.declared.errno.Errno.{Errno}
 use Rattle.qrules.specs.Answer.{row_of}
 use Rattle.qrules.specs.Cutting.{cut_call, cut_where, cuts}
 use Rattle.qrules.specs.Facts.{Facts, sender}
-use Rattle.qrules.specs.Rows.{Written, makes, received, writes}
+use Rattle.qrules.specs.Items.{makes}
+use Rattle.qrules.specs.Rows.{Written, received, writes}
 use Rattle.qrules.specs.declared.call.Call.{Call}
 use Rattle.qrules.specs.declared.call.Completion.{Completion}
 use Rattle.qrules.specs.declared.open_call.OpenCall.{OpenCall}
@@ -31,10 +32,10 @@ cut_parts is_cut e u (Some o) y h =
     ] refl h
 
 -- a call that ends in its own event, and cuts others
-pub cutting : (f : Facts) (t : ℕ) (c : Call) (is_cut : Wait → Bool) (e : Errno) → is_forceful c ≡ true → ((y : Completion) → (row_of f t c).own ≡ Some y → IsPlain f.number t y)
-    → ((u : ℕ) → (row_of f t c).ends u ≡ cuts f is_cut e u) → (row_of f t c).receipt ≡ None → makes f.connection f.priority f.number t c ≡ None → ((w : Written) → writes c ≡ Some w → (s : ℕ) × (sender f w.message ≡ Some s)) → RowLaws f t c
+pub cutting : (f : Facts) (t : ℕ) (c : Call) (is_cut : ℕ → Wait → Bool) (e : Errno) → is_forceful c ≡ true → ((y : Completion) → (row_of f t c).own ≡ Some y → IsPlain f.number t y)
+    → ((u : ℕ) → (row_of f t c).ends u ≡ cuts f is_cut e u) → (row_of f t c).receipt ≡ None → makes f t c ≡ None → ((w : Written) → writes c ≡ Some w → (s : ℕ) × (sender f w.message ≡ Some s)) → RowLaws f t c
 cutting f t c is_cut e force own ends receipt made written =
-    let ended = λ (u : ℕ) (y : Completion) (s : (row_of f t c).ends u ≡ Some y). cut_parts is_cut e u (f.open_call u) y (sym (ends u) ∙ s) in
+    let ended = λ (u : ℕ) (y : Completion) (s : (row_of f t c).ends u ≡ Some y). cut_parts (is_cut u) e u (f.open_call u) y (sym (ends u) ∙ s) in
     record {
       owns = λ y s. (own y s).own;
       ends_open = λ u y s. let k = ended u y s in record { waiting = k.waiting; is = k.is; call = sym (ap (λ x. x.call) k.ending); thread = sym (ap (λ x. x.thread) k.ending) };

@@ -1,21 +1,23 @@
 -- The laws of a call that delivers an item.
 use Rattle.std.proofs.Common.{◌≡◌, ◌∙◌, ℕ, List, ap, refl, sym, subst, inl, cond, eqb, true, false}
-use Rattle.std.specs.Prelude.{Option, None, Some, is_some, ◌&&◌}
+use Rattle.std.specs.Prelude.{Option, None, Some, is_some}
 use Rattle.std.specs.Option.{option_map}
-use Rattle.std.proofs.lemmas.Bool.{eqb-true, ne_eqb, and_parts}
+use Rattle.std.proofs.lemmas.Bool.{eqb-true, ne_eqb}
 use Rattle.std.proofs.lemmas.Option.{none-some, same_Some}
 use Rattle.qqueue.specs.declared.item.Item.{Item}
 use Rattle.qtables.specs.declared.connection.Connection.{Connection}
 use Rattle.qrules.specs.Answer.{row_of, ending}
 use Rattle.qrules.specs.Delivering.{meets, receiver, receipt_by, received_of}
-use Rattle.qrules.specs.Facts.{Facts, leads_to, way, is_of_process}
+use Rattle.qrules.specs.Facts.{Facts, leads_to, way}
 use Rattle.qrules.specs.Receivers.{newest}
-use Rattle.qrules.specs.Rows.{Received, Made, asks, makes, received, receipt_in, sent_over}
+use Rattle.qrules.specs.Items.{makes}
+use Rattle.qrules.specs.Rows.{Received, Made, asks, received, receipt_in, sent_over}
 use Rattle.qrules.specs.declared.call.Call.{Call}
 use Rattle.qrules.specs.declared.call.Completion.{Completion}
 use Rattle.qrules.proofs.Past.Lists.{eqb_same}
 use Rattle.qrules.proofs.Past.Laws.{IsOfOpen, IsSettled, IsReceipt, IsReceived, is_settled}
 use Rattle.qrules.proofs.Calls.Taking.{Taken, taken_by, receipt_from, receipt_in_at}
+use Rattle.qrules.proofs.Ways.{leads_over}
 
 -- what goes over a connection is the item
 pub sent_item : (o : Option Connection) (item : Item) (m : Made) → sent_over o item ≡ Some m → m.item ≡ item
@@ -43,23 +45,18 @@ met_at f item message r v y is given = rw (is, eqb_same v) given
 
 -- ---- the receipt
 
--- the channel of a way is the connection's
-way_over : (f : Facts) (t : ℕ) (o : Option Connection) (h : ℕ) → leads_to f t o ≡ Some h → (c : Connection) × (o ≡ Some c) × (c.channel ≡ h)
-way_over f t None h e = absurd (none-some h e)
-way_over f t (Some c) h e =
-    elim (is_of_process f t c.process && is_some (f.channel c.channel)) as (λ b. cond b (Some c.channel) None ≡ Some h → (d : Connection) × (Some c ≡ Some d) × (d.channel ≡ h)) [
-      | true ↦ λ is. (c, refl, same_Some c.channel h is)
-      | false ↦ λ is. absurd (none-some h is)
-    ] e
+-- what is sent over a way goes to its channel
+pub sent_way : (f : Facts) (t coid : ℕ) (item : Item) (h : ℕ) → way f t coid ≡ Some h → sent_over (f.connection coid) item ≡ Some (record { item = item; channel = h })
+sent_way f t coid item h e =
+    let l = leads_over f t (f.connection coid) h e in
+    ap (λ o. sent_over o item) l.is ∙ ap (λ k. Some (record { item = item; channel = k })) l.channel
 
 -- what goes over a way goes to an open channel
 pub goes_to_open : (f : Facts) (t : ℕ) (o : Option Connection) (h : ℕ) (item : Item) (m : Made) → leads_to f t o ≡ Some h → sent_over o item ≡ Some m → is_some (f.channel m.channel) ≡ true
-goes_to_open f t None h item m e made = absurd (none-some h e)
-goes_to_open f t (Some c) h item m e made =
-    elim (is_of_process f t c.process && is_some (f.channel c.channel)) as (λ b. (is_of_process f t c.process && is_some (f.channel c.channel)) ≡ b → cond b (Some c.channel) None ≡ Some h → is_some (f.channel m.channel) ≡ true) [
-      | true ↦ λ both s. ap (λ (n : Made). is_some (f.channel n.channel)) (sym (same_Some (record { item = item; channel = c.channel }) m made)) ∙ (and_parts (is_of_process f t c.process) (is_some (f.channel c.channel)) both).1
-      | false ↦ λ both s. absurd (none-some h s)
-    ] refl e
+goes_to_open f t o h item m e made =
+    let l = leads_over f t o h e in
+    let same : record { item = item; channel = l.connection.channel } ≡ m = same_Some _ m (ap (λ x. sent_over x item) (sym l.is) ∙ made) in
+    subst (λ k. is_some (f.channel k) ≡ true) (sym l.channel ∙ ap (λ (x : Made). x.channel) same) l.is_open
 
 -- the item goes over channel h to thread v, whose call ends by y
 record Sent (f : Facts) (sender : Option ℕ) (item : Item) (message : List ℕ) (o r : Option ℕ) (q : Received) : Type 0 where
@@ -109,37 +106,37 @@ met_receives f sender item message (Some h) u y p e m =
       refl,
     )
 
-module _ (f : Facts) (t coid : ℕ) (c : Call) (item : Item) (message : List ℕ) (sender : Option ℕ) (ends_is : (u : ℕ) → (row_of f t c).ends u ≡ meets f item message (receiver f item (way f t coid)) u)
-    (receipt_is : (row_of f t c).receipt ≡ received_of f sender item message (way f t coid) (receiver f item (way f t coid))) where
+module _ (f : Facts) (t : ℕ) (o : Option ℕ) (c : Call) (item : Item) (message : List ℕ) (sender : Option ℕ) (ends_is : (u : ℕ) → (row_of f t c).ends u ≡ meets f item message (receiver f item o) u)
+    (receipt_is : (row_of f t c).receipt ≡ received_of f sender item message o (receiver f item o)) where
   pub delivers_open : (u : ℕ) (y : Completion) → (row_of f t c).ends u ≡ Some y → IsOfOpen f u y
   delivers_open u y e =
-      let k = taken_by item message u (f.open_call u) y (met_by f item message (receiver f item (way f t coid)) u y (sym (ends_is u) ∙ e)).given in
+      let k = taken_by item message u (f.open_call u) y (met_by f item message (receiver f item o) u y (sym (ends_is u) ∙ e)).given in
       record { waiting = k.waiting; is = k.is; call = k.call; thread = k.thread }
 
   pub delivers_settled : (u : ℕ) (y : Completion) → (row_of f t c).ends u ≡ Some y → IsSettled (f.open_call u)
   delivers_settled u y e w is =
-      let k = taken_by item message u (f.open_call u) y (met_by f item message (receiver f item (way f t coid)) u y (sym (ends_is u) ∙ e)).given in
-      ap (λ o. is_settled o.wait) (same_Some w k.waiting (sym is ∙ k.is)) ∙ k.settled
+      let k = taken_by item message u (f.open_call u) y (met_by f item message (receiver f item o) u y (sym (ends_is u) ∙ e)).given in
+      ap (λ v. is_settled v.wait) (same_Some w k.waiting (sym is ∙ k.is)) ∙ k.settled
 
   pub delivers_receipt : (u : ℕ) (y : Completion) (p : ℕ × ℕ) → (row_of f t c).ends u ≡ Some y → received y.mark ≡ Some p → IsReceipt (row_of f t c) u p
   delivers_receipt u y p e m =
-      let r = met_receives f sender item message (way f t coid) u y p (sym (ends_is u) ∙ e) m in
+      let r = met_receives f sender item message o u y p (sym (ends_is u) ∙ e) m in
       record { receipt = r.0; is = receipt_is ∙ r.1; by = r.2; item = r.3; copied = r.4 }
 
   -- the receipt of the row is of the item that is sent
-  pub delivers_received : f.open_call t ≡ None → makes f.connection f.priority f.number t c ≡ sent_over (f.connection coid) item → sender ≡ option_map (λ o. t) (asks f.number c)
+  pub delivers_received : f.open_call t ≡ None → ((h : ℕ) → o ≡ Some h → makes f t c ≡ Some (record { item = item; channel = h })) → sender ≡ option_map (λ o. t) (asks f.number c)
       → (q : Received) → (row_of f t c).receipt ≡ Some q → IsReceived f t c q
   delivers_received idle makes_is sender_is q e =
-      let s = sent_over_way f sender item message (way f t coid) (receiver f item (way f t coid)) q (sym receipt_is ∙ e) in
-      let over = way_over f t (f.connection coid) s.channel s.is_channel in
+      let s = sent_over_way f sender item message o (receiver f item o) q (sym receipt_is ∙ e) in
       let other : eqb s.by t ≡ false = ne_eqb s.by t (λ same. none-some s.taken.waiting (sym idle ∙ ap f.open_call (sym same) ∙ s.taken.is)) in
-      let met = met_at f item message (receiver f item (way f t coid)) s.by s.given s.is_by s.is_given in
+      let met = met_at f item message (receiver f item o) s.by s.given s.is_by s.is_given in
       subst (IsReceived f t c) s.same (record {
         item = item;
         number = refl;
         priority = refl;
+        fresh = refl;
         source = inl (record {
-          made = makes_is ∙ ap (λ o. sent_over o item) over.1 ∙ ap (λ h. Some (record { item = item; channel = h })) over.2;
+          made = makes_is s.channel s.is_channel;
           sender_is = sender_is;
         });
         given = s.given;

@@ -13,7 +13,7 @@ use Rattle.qrules.proofs.Calls.Answering.{answers}
 use Rattle.qrules.proofs.Past.Laws.{CallLaws, RowLaws, Passes}
 
 pub call_laws : (rcvid : ℕ) (code : ℤ) → CallLaws (Error rcvid code)
-call_laws rcvid code = waits_not (Error rcvid code) (λ n. refl) (λ connection priority n t. refl)
+call_laws rcvid code = waits_not (Error rcvid code) (λ n. refl) (λ f t. refl)
 
 -- its mark is no receipt
 pub no_receipt : (code : ℤ) → received (mark_of code) ≡ None

@@ -12,7 +12,7 @@ use Rattle.qrules.proofs.Calls.Alone.{IsPlain, alone, waits_not}
 use Rattle.qrules.proofs.Past.Laws.{CallLaws, RowLaws, Passes}
 
 pub call_laws : (rcvid : ℕ) → CallLaws (Info rcvid)
-call_laws rcvid = waits_not (Info rcvid) (λ n. refl) (λ connection priority n t. refl)
+call_laws rcvid = waits_not (Info rcvid) (λ n. refl) (λ f t. refl)
 
 pub plain : (n t : ℕ) (o : Option Told) (y : Completion) → option_map (telling n t) o ≡ Some y → IsPlain n t y
 plain n t None y e = absurd (none-some y e)

@@ -7,7 +7,7 @@ use Rattle.qrules.proofs.Calls.Alone.{IsPlain, alone, waits_not}
 use Rattle.qrules.proofs.Past.Laws.{CallLaws, RowLaws, Passes}
 
 pub call_laws : (thread priority : ℕ) → CallLaws (PrioritySet thread priority)
-call_laws thread priority = waits_not (PrioritySet thread priority) (λ n. refl) (λ connection level n t. refl)
+call_laws thread priority = waits_not (PrioritySet thread priority) (λ n. refl) (λ f t. refl)
 
 pub row_laws : (f : Facts) (t thread priority : ℕ) → Passes f t (PrioritySet thread priority) → RowLaws f t (PrioritySet thread priority)
 row_laws f t thread priority p =

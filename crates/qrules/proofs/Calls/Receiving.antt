@@ -9,7 +9,8 @@ use Rattle.qtables.specs.declared.connection.Connection.{Connection}
 use Rattle.qrules.specs.Answer.{row_of}
 use Rattle.qrules.specs.Facts.{Facts, message}
 use Rattle.qrules.specs.Receiving.{receipt_of, received_of, sender_for}
-use Rattle.qrules.specs.Rows.{Received, asks, makes, received, taking, writes}
+use Rattle.qrules.specs.Items.{makes}
+use Rattle.qrules.specs.Rows.{Received, asks, received, taking, writes}
 use Rattle.qrules.specs.declared.call.Call.{Call}
 use Rattle.qrules.specs.declared.call.Completion.{Completion}
 use Rattle.qrules.specs.declared.open_call.OpenCall.{OpenCall}
@@ -23,11 +24,13 @@ abbrev pub receiver : ℕ → Kind → List ℕ → ℕ → OpenCall
 receiver chid kind buffer n = record { number = n; wait = ForItem chid kind buffer }
 
 pub receiving_call : (c : Call) (chid : ℕ) (kind : Kind) (buffer : List ℕ) → ((n : ℕ) → asks n c ≡ Some (receiver chid kind buffer n))
-    → ((connection : ℕ → Option Connection) (priority : ℕ → ℕ) (n t : ℕ) → makes connection priority n t c ≡ None) → writes c ≡ None → CallLaws c
+    → ((f : Facts) (t : ℕ) → makes f t c ≡ None) → writes c ≡ None → CallLaws c
 receiving_call c chid kind buffer a m w = record {
   asks_one = λ n o e. subst (BeginsToWait n) (same_Some (receiver chid kind buffer n) o (sym (a n) ∙ e)) (record { number = refl; fresh = refl });
-  makes_one = λ connection priority n t i e. absurd (none-some i (sym (m connection priority n t) ∙ e));
+  makes_one = λ f t i e. absurd (none-some i (sym (m f t) ∙ e));
   waits_write = λ n o e. w;
+  unblocks_none = λ none f t i e. absurd (none-some i (sym (m f t) ∙ e));
+  unblocks_one = λ v is f t i e. absurd (none-some i (sym (m f t) ∙ e));
 }
 
 own_one : (f : Facts) (t : ℕ) (buffer : List ℕ) (o : Option Item) (y : Completion) → receipt_of f t buffer o ≡ Some y → IsOwn f.number t y
@@ -63,6 +66,7 @@ best_received f t c chid kind buffer (Some item) r own is e =
       item = item;
       number = refl;
       priority = refl;
+      fresh = refl;
       source = inr (record { kind = kind; best = is; sender_is = refl });
       given = taking item (message f item.number) t f.number buffer;
       is_given = rw (eqb_same t) own;
@@ -70,7 +74,7 @@ best_received f t c chid kind buffer (Some item) r own is e =
     })
 
 pub receiving_row : (f : Facts) (t : ℕ) (c : Call) (chid : ℕ) (kind : Kind) (buffer : List ℕ) → (row_of f t c).own ≡ receipt_of f t buffer (best_of kind (f.pending chid)) → ((u : ℕ) → (row_of f t c).ends u ≡ None)
-    → (row_of f t c).receipt ≡ received_of f chid (receipt_of f t buffer (best_of kind (f.pending chid))) (best_of kind (f.pending chid)) → makes f.connection f.priority f.number t c ≡ None → writes c ≡ None → RowLaws f t c
+    → (row_of f t c).receipt ≡ received_of f chid (receipt_of f t buffer (best_of kind (f.pending chid))) (best_of kind (f.pending chid)) → makes f t c ≡ None → writes c ≡ None → RowLaws f t c
 receiving_row f t c chid kind buffer own ends receipt made written = record {
   owns = λ y e. own_one f t buffer (best_of kind (f.pending chid)) y (sym own ∙ e);
   ends_open = λ u y e. absurd (none-some y (sym (ends u) ∙ e));

@@ -9,9 +9,9 @@ use Rattle.qrules.proofs.Calls.Cutting.{cutting}
 use Rattle.qrules.proofs.Past.Laws.{CallLaws, RowLaws, Passes}
 
 pub call_laws : CallLaws Shutdown
-call_laws = waits_not Shutdown (λ n. refl) (λ connection priority n t. refl)
+call_laws = waits_not Shutdown (λ n. refl) (λ f t. refl)
 
 pub row_laws : (f : Facts) (t : ℕ) → Passes f t Shutdown → RowLaws f t Shutdown
 row_laws f t p =
-    cutting f t Shutdown (λ wait. true) Srch refl (λ y e. subst (IsPlain f.number t) (same_Some _ y e) (record { own = record { call = refl; thread = refl; mark = refl }; mark = refl })) (λ u. refl) refl refl
+    cutting f t Shutdown (λ u wait. true) Srch refl (λ y e. subst (IsPlain f.number t) (same_Some _ y e) (record { own = record { call = refl; thread = refl; mark = refl }; mark = refl })) (λ u. refl) refl refl
     (λ w e. absurd (none-some w e))

@@ -61,7 +61,7 @@ taken_by item message u (Some o) y e = taken_into item message u o.number o.wait
 
 -- the receipt that an ending with such a mark is
 abbrev pub receipt_from : ℕ → Option ℕ → ℕ → ℕ → ℕ × ℕ → Received
-receipt_from h sender priority u p = record { item = p.0; channel = h; by = u; sender = sender; kept = record { priority = priority; copied = p.1 } }
+receipt_from h sender priority u p = record { item = p.0; channel = h; by = u; sender = sender; kept = record { priority = priority; copied = p.1; unblocked = false } }
 
 pub receipt_in_at : (h : ℕ) (sender : Option ℕ) (priority : ℕ) (o : Option Completion) (y : Completion) (p : ℕ × ℕ) → o ≡ Some y → received y.mark ≡ Some p
     → receipt_in h sender priority o ≡ Some (receipt_from h sender priority y.thread p)

@@ -1,23 +1,14 @@
 -- The item that is received first among those that wait.
-use Rattle.std.proofs.Common.{◌≡◌, ◌<◌, ◌≤◌, List, [], ◌∷◌, ◌++◌, refl, sym, subst, ◌∙◌, cond, arith, true, false}
+use Rattle.std.proofs.Common.{◌≡◌, ◌<◌, ◌≤◌, List, [], ◌∷◌, refl, sym, subst, ◌∙◌, cond, arith, true, false}
 use Rattle.std.specs.Prelude.{None, Some, nat_lt}
 use Rattle.std.specs.List.{AllByRecursion}
 use Rattle.std.proofs.lemmas.Bool.{ltb-true, true≢false}
-use Rattle.std.proofs.lemmas.Option.{none-some, same_Some}
+use Rattle.std.proofs.lemmas.Option.{same_Some}
 use Rattle.qqueue.specs.Best.{best_of, first_of_two, may_take}
 use Rattle.qqueue.specs.Contents.{IsRising}
 use Rattle.qqueue.specs.declared.item.Item.{Item}
 use Rattle.qqueue.specs.declared.item.Kind.{Kind}
-use Rattle.qrules.proofs.Past.Lists.{all_append, all_more}
-
--- where nothing is first, nothing may be taken
-pub none_may : (kind : Kind) (items : List Item) → best_of kind items ≡ None → AllByRecursion (λ w. may_take kind w ≡ false) items
-none_may kind [] none = tt
-none_may kind (y ∷ items) none =
-    elim (may_take kind y) as (λ m. may_take kind y ≡ m → cond m (Some (first_of_two y (best_of kind items))) (best_of kind items) ≡ None → AllByRecursion (λ w. may_take kind w ≡ false) (y ∷ items)) [
-      | true ↦ λ _ some. absurd (none-some (first_of_two y (best_of kind items)) (sym some))
-      | false ↦ λ may rest. (may, none_may kind items rest)
-    ] refl none
+use Rattle.qrules.proofs.Past.Lists.{all_more}
 
 -- of what may be taken with the priority of x, nothing was made before x
 abbrev pub IsEarliest : Kind → List Item → Item → Type 0
@@ -45,8 +36,3 @@ best_earliest kind (y ∷ items) x rising best =
                 ] refl same
           ] refl is
     ] refl best
-
--- one more item behind rising items
-pub rising_push : (items : List Item) (x : Item) → IsRising items → AllByRecursion (λ y. y.number < x.number) items → IsRising (items ++ x ∷ [])
-rising_push [] x rising newest = (tt, tt)
-rising_push (y ∷ items) x rising newest = (all_append (λ z. y.number < z.number) items (x ∷ []) rising.0 (newest.0, tt), rising_push items x rising.1 newest.1)

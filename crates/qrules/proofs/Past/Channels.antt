@@ -14,7 +14,7 @@ use Rattle.qrules.specs.Rows.{closes, names}
 use Rattle.qrules.specs.Step.{channel_after, put_at, one_for}
 use Rattle.qrules.specs.Trace.{Event, Trace}
 use Rattle.qrules.specs.declared.call.Call.{Call}
-use Rattle.qrules.specs.declared.call.Call.TheVariants.{ChannelCreate, ConnectAttach, Send, Receive, Reply, Error, Read, Write, Info, ReceivePulse, Pulse, PrioritySet, State, ChannelDestroy, Shutdown}
+use Rattle.qrules.specs.declared.call.Call.TheVariants.{ChannelCreate, ConnectAttach, Send, Receive, Reply, Error, Read, Write, Info, ReceivePulse, Pulse, PrioritySet, State, ChannelDestroy, Shutdown, Unblock}
 use Rattle.qrules.specs.declared.call.Completion.{Completion}
 use Rattle.qrules.proofs.Past.Ends.{accepted, passes_of, refused}
 use Rattle.qrules.proofs.Past.Lists.{cond_same, eqb_same}
@@ -141,6 +141,7 @@ closes_open f t (Pulse coid priority code value) h r e = absurd (true≢false (s
 closes_open f t (PrioritySet thread priority) h r e = absurd (true≢false (sym e))
 closes_open f t (State thread) h r e = absurd (true≢false (sym e))
 closes_open f t Shutdown h r e = absurd (true≢false (sym e))
+closes_open f t (Unblock thread) h r e = absurd (true≢false (sym e))
 closes_open f t (ChannelDestroy chid) h r e =
     elim (owns f t chid) as (λ b. owns f t chid ≡ b → cond b None (Some Inval) ≡ None → is_some (f.channel h) ≡ true) [
       | true ↦ λ own _. subst (λ k. is_some (f.channel k) ≡ true) (eqb-true chid h e) (owned_open f t (f.channel chid) own)
@@ -165,6 +166,7 @@ closes_alone (Some m) (PrioritySet thread priority) h e = refl
 closes_alone (Some m) (State thread) h e = refl
 closes_alone (Some m) (ChannelDestroy chid) h e = refl
 closes_alone (Some m) Shutdown h e = refl
+closes_alone (Some m) (Unblock thread) h e = refl
 
 -- an open channel was created, and isn't destroyed
 pub record IsOpenAt (roster : List Member) (past : Trace) (h : ℕ) : Type 0 where

@@ -12,7 +12,7 @@ use Rattle.qrules.specs.Cutting.{is_on, is_unread_send}
 use Rattle.qrules.specs.Facts.{Facts, is_for_answer, is_for_receipt, threads_of}
 use Rattle.qrules.specs.Headline.AnsweredToSender.{sender_of}
 use Rattle.qrules.specs.Lawful.{facts_of, IsLawful, with_event}
-use Rattle.qrules.specs.Past.{connection_at, ends, filled, is_ended, is_taken, open_call, priority_of_item, receipt_of, with_receipt}
+use Rattle.qrules.specs.Past.{is_unblocked, connection_at, ends, filled, is_ended, is_taken, open_call, priority_of_item, receipt_of, with_receipt}
 use Rattle.qrules.specs.Step.{is_cut, left_by}
 use Rattle.qrules.specs.Trace.{Trace}
 use Rattle.qrules.specs.declared.call.Call.{Call}
@@ -20,14 +20,15 @@ use Rattle.qrules.specs.declared.call.Completion.{Completion}
 use Rattle.qrules.specs.declared.open_call.OpenCall.{OpenCall}
 use Rattle.qrules.specs.declared.open_call.Wait.{Wait}
 use Rattle.qrules.specs.declared.open_call.Wait.TheVariants.{Answer, Item as ForItem}
-use Rattle.qrules.proofs.Past.Ends.{ends_other, known, open_known, passes_of}
+use Rattle.qrules.proofs.Past.Ends.{ends_other, open_known, passes_of}
 use Rattle.qrules.proofs.Past.Items.{IsPending, item_at, item_message}
 use Rattle.qrules.proofs.Past.Laws.{IsSettled, RowLaws, is_forceful, is_settled}
-use Rattle.qrules.proofs.Past.Lists.{and_false, any_never, any_only, all_every, filter_all, none_of}
+use Rattle.qrules.proofs.Past.Lists.{and_false, any_never, any_only, filter_whole, none_of}
 use Rattle.qrules.proofs.Past.Numbers.{block_fresh, filled_answer, filled_settled, open_from, open_parts, open_thread}
 use Rattle.qrules.proofs.Properties.Answers.{over}
 use Rattle.qrules.proofs.Properties.Messages.{item_waits, pending_going}
 use Rattle.qrules.proofs.Properties.Sends.{block_over, block_sender, buffer_over}
+use Rattle.qrules.proofs.Rosters.{known}
 
 -- ---- a Send that isn't received
 
@@ -59,18 +60,22 @@ unread_number : (connection : ℕ → Option Connection) (h i : ℕ) (o : Option
 unread_number connection h i None e = absurd (true≢false (sym e))
 unread_number connection h i (Some w) e = record { waiting = w; is = refl; number = eqb-true w.number i (and_parts _ _ (and_parts _ _ e).0).0 }
 
--- ---- a call that isn't forceful cuts none
+-- ---- a call that ends no Send which isn't received cuts none
 
-none_is_cut : (f : Facts) (t : ℕ) (c : Call) → RowLaws f t c → is_forceful c ≡ false → (h i : ℕ) → is_cut f t c h i ≡ false
-none_is_cut f t c laws mild h i = any_never _ (threads_of f.roster) (λ s.
+-- what the call ends of others isn't such a Send
+abbrev pub EndsSettled : Facts → ℕ → Call → Type 0
+EndsSettled f t c = (u : ℕ) (y : Completion) → (row_of f t c).ends u ≡ Some y → IsSettled (f.open_call u)
+
+none_is_cut : (f : Facts) (t : ℕ) (c : Call) → EndsSettled f t c → (h i : ℕ) → is_cut f t c h i ≡ false
+none_is_cut f t c settled h i = any_never _ (threads_of f.roster) (λ s.
     elim ((row_of f t c).ends s) as (λ y. (row_of f t c).ends s ≡ y → (is_unread_send f.connection h i (f.open_call s) && is_some y) ≡ false) [
       | None ↦ λ e. and_false _
-      | Some y ↦ λ e. rw (not_unread f.connection h i (f.open_call s) (laws.ends_settled mild s y e)) refl
+      | Some y ↦ λ e. rw (not_unread f.connection h i (f.open_call s) (settled s y e)) refl
     ] refl)
 
-pub none_cut : (f : Facts) (t : ℕ) (c : Call) → RowLaws f t c → is_forceful c ≡ false → (h : ℕ) (items : List Item) → left_by f t c h items ≡ items
-none_cut f t c laws mild h items =
-    filter_all (λ item. not (is_cut f t c h item.number)) items (all_every (λ item. not (is_cut f t c h item.number) ≡ true) items (λ item. ap not (none_is_cut f t c laws mild h item.number)))
+pub none_cut : (f : Facts) (t : ℕ) (c : Call) → EndsSettled f t c → (h : ℕ) (items : List Item) → left_by f t c h items ≡ items
+none_cut f t c settled h items =
+    filter_whole (λ item. not (is_cut f t c h item.number)) items (λ item. ap not (none_is_cut f t c settled h item.number))
 
 -- ---- the Send of a pending message
 
@@ -102,7 +107,7 @@ sent_by roster past h item l p message =
       sender = w.thread;
       waiting = filled past w.block;
       sent = subst (λ i. sender_of past i ≡ Some w.thread) w.number (block_sender past w.thread w.block w.is w.answer);
-      is_open = open_from roster past w.thread w.block w.is (subst (λ i. is_ended past i ≡ false) (sym w.number) going) ∙ ap (λ r. Some (with_receipt (priority_of_item roster past w.block.number) r (filled past w.block))) none;
+      is_open = open_from roster past w.thread w.block w.is (subst (λ i. is_ended past i ≡ false) (sym w.number) going) ∙ ap (λ r. Some (with_receipt (priority_of_item roster past w.block.number) (is_unblocked roster past w.block.number) r (filled past w.block))) none;
       number = w.number;
       unread = receipt_from (filled past w.block).wait answer (filled_settled past w.block ∙ block_fresh past w.thread w.block w.is ∙ ap not w.answer);
       on = on_over (λ j. connection_at roster past j) h (filled past w.block).wait k.connection answer (ap (λ j. connection_at roster past j) (buffer_over _ w.block.wait) ∙ k.is_connection) (sym k.channel ∙ ap (λ m. m.channel) same);

@@ -15,10 +15,11 @@ use Rattle.qrules.specs.Trace.{Trace}
 use Rattle.qrules.specs.declared.call.Call.{Call}
 use Rattle.qrules.specs.declared.call.Completion.{Completion}
 use Rattle.qrules.specs.declared.open_call.OpenCall.{OpenCall}
-use Rattle.qrules.proofs.Past.Lists.{eqb_same, and_false, is_among, any_filter_map, any_filter_map_at, all_filter_map}
+use Rattle.qrules.proofs.Past.Lists.{eqb_same, and_false, any_filter_map, any_filter_map_at, all_filter_map}
 use Rattle.qrules.proofs.Past.Laws.{Passes, RowLaws, IsOwn, IsOfOpen}
 use Rattle.qrules.proofs.Past.RowLaws.{row_laws}
 use Rattle.qrules.proofs.Past.Numbers.{block_cases, open_parts, open_below, open_thread}
+use Rattle.qrules.proofs.Rosters.{known}
 
 -- ---- what an accepted call passed
 
@@ -96,14 +97,6 @@ ended_below roster [] i l h = refl
 ended_below roster (e ∷ past) i l h = rw (names_below roster past e.thread e.call e.endings i l.2 (omega arith), ended_below roster past i l.0 (omega arith)) refl
 
 -- ---- threads of the roster
-
-pub known : (roster : List Member) (t : ℕ) → is_some (member_at roster t) ≡ true → is_among (threads_of roster) t ≡ true
-known [] t h = h
-known (m ∷ roster) t h =
-    elim (eqb m.thread t) as (λ b. eqb m.thread t ≡ b → is_some (cond b (Some m) (member_at roster t)) ≡ true → is_among (threads_of (m ∷ roster)) t ≡ true) [
-      | true ↦ λ e s. rw e refl
-      | false ↦ λ e s. rw e (known roster t s)
-    ] refl h
 
 -- a thread that waits is one of the roster
 pub block_known : (roster : List Member) (past : Trace) (u : ℕ) (b : OpenCall) → IsLawful roster past → newest_block past u ≡ Some b → is_some (member_at roster u) ≡ true

@@ -10,8 +10,10 @@ use Rattle.qqueue.specs.Best.{is_pulse}
 use Rattle.qtables.specs.declared.member.Member.{Member}
 use Rattle.qrules.specs.Facts.{is_for_answer}
 use Rattle.qrules.specs.Headline.CopiedExactly.{call_at}
+use Rattle.qrules.specs.Lawful.{facts_of}
 use Rattle.qrules.specs.Past.{is_accepted, connection_at, priority_of_thread, item_of, items, made_among, priority_made, priority_of_item, is_closed, is_gone, pending, newest_block}
-use Rattle.qrules.specs.Rows.{Made, asks, makes}
+use Rattle.qrules.specs.Items.{makes}
+use Rattle.qrules.specs.Rows.{Made, asks}
 use Rattle.qrules.specs.Trace.{Event, Trace}
 use Rattle.qrules.specs.declared.call.Call.{Call}
 use Rattle.qrules.specs.declared.open_call.OpenCall.{OpenCall}
@@ -27,13 +29,17 @@ abbrev pub item_at : List Member → Trace → ℕ → Option Made
 item_at roster [] i = None
 item_at roster (e ∷ past) i = cond (eqb i (length past + 1)) (item_of roster e past) (item_at roster past i)
 
--- it was made by the call of its number
-pub made_by : (roster : List Member) (e : Event) (past : Trace) (m : Made) → item_of roster e past ≡ Some m → MakesItem (length past + 1) e.call m
-made_by roster e past m is =
-    elim (is_accepted e past) as (λ b. cond b (makes (connection_at roster past) (priority_of_thread roster past) (length past + 1) e.thread e.call) None ≡ Some m → MakesItem (length past + 1) e.call m) [
-      | true ↦ λ at. (call_laws e.call).makes_one (connection_at roster past) (priority_of_thread roster past) (length past + 1) e.thread m at
+-- an event that made an item was accepted, and its call makes it
+pub item_accepted : (roster : List Member) (e : Event) (past : Trace) (m : Made) → item_of roster e past ≡ Some m → (is_accepted e past ≡ true) × (makes (facts_of roster past) e.thread e.call ≡ Some m)
+item_accepted roster e past m is =
+    elim (is_accepted e past) as (λ b. cond b (makes (facts_of roster past) e.thread e.call) None ≡ Some m → (b ≡ true) × (makes (facts_of roster past) e.thread e.call ≡ Some m)) [
+      | true ↦ λ at. (refl, at)
       | false ↦ λ at. absurd (none-some m at)
     ] is
+
+-- it was made by the call of its number
+pub made_by : (roster : List Member) (e : Event) (past : Trace) (m : Made) → item_of roster e past ≡ Some m → MakesItem (length past + 1) e.call m
+made_by roster e past m is = (call_laws e.call).makes_one (facts_of roster past) e.thread m (item_accepted roster e past m is).1
 
 pub item_earlier : (roster : List Member) (e : Event) (past : Trace) (i : ℕ) → i ≤ length past → item_at roster (e ∷ past) i ≡ item_at roster past i
 item_earlier roster e past i l = let other : eqb i (length past + 1) ≡ false = ne_eqb _ _ (λ same. omega arith) in rw other refl

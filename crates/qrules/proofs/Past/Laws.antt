@@ -4,14 +4,17 @@ use Rattle.std.specs.Option.{option_map}
 use Rattle.qqueue.specs.Best.{best_of, is_pulse}
 use Rattle.qqueue.specs.declared.item.Item.{Item}
 use Rattle.qqueue.specs.declared.item.Kind.{Kind}
+use Rattle.qqueue.specs.declared.item.What.TheVariants as what
 use Rattle.qtables.specs.declared.connection.Connection.{Connection}
 use Rattle.qrules.specs.Answer.{row_of, ending}
 use Rattle.qrules.specs.Facts.{Facts, sender, is_for_answer}
-use Rattle.qrules.specs.Past.{is_failure}
+use Rattle.qrules.specs.Laws.{is_for_reply}
+use Rattle.qrules.specs.Past.{is_failure, is_unblock_for}
 use Rattle.qrules.specs.Receiving.{sender_for}
-use Rattle.qrules.specs.Rows.{Row, Made, Received, Written, asks, makes, received, writes}
+use Rattle.qrules.specs.Items.{makes}
+use Rattle.qrules.specs.Rows.{Row, Made, Received, Written, asks, received, unblocks, writes}
 use Rattle.qrules.specs.declared.call.Call.{Call}
-use Rattle.qrules.specs.declared.call.Call.TheVariants.{ChannelCreate, ConnectAttach, Send, Receive, Reply, Error, Read, Write, Info, ReceivePulse, Pulse, PrioritySet, State, ChannelDestroy, Shutdown}
+use Rattle.qrules.specs.declared.call.Call.TheVariants.{ChannelCreate, ConnectAttach, Send, Receive, Reply, Error, Read, Write, Info, ReceivePulse, Pulse, PrioritySet, State, ChannelDestroy, Shutdown, Unblock}
 use Rattle.qrules.specs.declared.call.Completion.{Completion}
 use Rattle.qrules.specs.declared.open_call.OpenCall.{OpenCall}
 use Rattle.qrules.specs.declared.open_call.Wait.{Wait}
@@ -35,10 +38,19 @@ pub record MakesItem (n : ℕ) (c : Call) (m : Made) : Type 0 where
   pub waits : (o : OpenCall) → asks n c ≡ Some o → is_for_answer o.wait ≡ true
   pub message : (o : OpenCall) → asks n c ≡ Some o → is_pulse m.item.what ≡ false
 
+-- the item is the unblock pulse for what thread v is blocked in, a message that is received
+pub record IsUnblock (f : Facts) (v : ℕ) (m : Made) : Type 0 where
+  pub waiting : OpenCall
+  pub is : f.open_call v ≡ Some waiting
+  pub held : is_for_reply waiting.wait ≡ true
+  pub what : m.item.what ≡ what.Unblock waiting.number
+
 pub record CallLaws (c : Call) : Type 0 where
   pub asks_one : (n : ℕ) (o : OpenCall) → asks n c ≡ Some o → BeginsToWait n o
-  pub makes_one : (connection : ℕ → Option Connection) (priority : ℕ → ℕ) (n t : ℕ) (m : Made) → makes connection priority n t c ≡ Some m → MakesItem n c m
+  pub makes_one : (f : Facts) (t : ℕ) (m : Made) → makes f t c ≡ Some m → MakesItem f.number c m
   pub waits_write : (n : ℕ) (o : OpenCall) → asks n c ≡ Some o → writes c ≡ None
+  pub unblocks_none : unblocks c ≡ None → (f : Facts) (t : ℕ) (m : Made) → makes f t c ≡ Some m → (i : ℕ) → is_unblock_for i m.item.what ≡ false
+  pub unblocks_one : (v : ℕ) → unblocks c ≡ Some v → (f : Facts) (t : ℕ) (m : Made) → makes f t c ≡ Some m → IsUnblock f v m
 
 -- ---- a call that is accepted
 
@@ -46,6 +58,7 @@ pub record CallLaws (c : Call) : Type 0 where
 abbrev pub is_forceful : Call → Bool
 is_forceful (ChannelDestroy chid) = true
 is_forceful Shutdown = true
+is_forceful (Unblock thread) = true
 is_forceful (ChannelCreate flags) = false
 is_forceful (ConnectAttach chid) = false
 is_forceful (Send coid message reply_buffer) = false
@@ -93,7 +106,7 @@ pub record IsReceipt (row : Row) (u : ℕ) (p : ℕ × ℕ) : Type 0 where
 
 -- the item that is received is the one that this call makes; only a message has a sender, which waits for its answer
 pub record IsNew (f : Facts) (t : ℕ) (c : Call) (r : Received) (item : Item) : Type 0 where
-  pub made : makes f.connection f.priority f.number t c ≡ Some (record { item = item; channel = r.channel })
+  pub made : makes f t c ≡ Some (record { item = item; channel = r.channel })
   pub sender_is : r.sender ≡ option_map (λ o. t) (asks f.number c)
 
 -- the item that is received is the best that was pending
@@ -107,6 +120,7 @@ pub record IsReceived (f : Facts) (t : ℕ) (c : Call) (r : Received) : Type 0 w
   pub item : Item
   pub number : item.number ≡ r.item
   pub priority : item.priority ≡ r.kept.priority
+  pub fresh : r.kept.unblocked ≡ false
   pub source : IsNew f t c r item ⊎ IsBest f r item
   pub given : Completion
   pub is_given : ending f t c r.by ≡ Some given
@@ -119,6 +133,6 @@ pub record RowLaws (f : Facts) (t : ℕ) (c : Call) : Type 0 where
   pub own_receives : (y : Completion) (p : ℕ × ℕ) → (row_of f t c).own ≡ Some y → received y.mark ≡ Some p → IsReceipt (row_of f t c) t p
   pub ends_receives : (u : ℕ) (y : Completion) (p : ℕ × ℕ) → (row_of f t c).ends u ≡ Some y → received y.mark ≡ Some p → IsReceipt (row_of f t c) u p
   pub receives : (r : Received) → (row_of f t c).receipt ≡ Some r → IsReceived f t c r
-  pub sends : (m : Made) → makes f.connection f.priority f.number t c ≡ Some m → is_pulse m.item.what ≡ false → (row_of f t c).own ≡ None
-  pub makes_open : (m : Made) → makes f.connection f.priority f.number t c ≡ Some m → is_some (f.channel m.channel) ≡ true
+  pub sends : (m : Made) → makes f t c ≡ Some m → is_pulse m.item.what ≡ false → (row_of f t c).own ≡ None
+  pub makes_open : (m : Made) → makes f t c ≡ Some m → is_some (f.channel m.channel) ≡ true
   pub writes_sent : (w : Written) → writes c ≡ Some w → (s : ℕ) × (sender f w.message ≡ Some s)

@@ -151,3 +151,11 @@ filter_twice {X} p q (x ∷ xs) =
 pub filter_all : {X : Type 0} (p : X → Bool) (xs : List X) → AllByRecursion (λ x. p x ≡ true) xs → filter p xs ≡ xs
 filter_all p [] h = refl
 filter_all p (x ∷ xs) h = rw (h.0, filter_all p xs h.1) refl
+
+-- tests that agree on whatever there is leave the same
+pub filter_alike : {X : Type 0} (p q : X → Bool) (xs : List X) → ((x : X) → p x ≡ q x) → filter p xs ≡ filter q xs
+filter_alike p q xs h = filter_same p q xs (all_every (λ x. p x ≡ q x) xs h)
+
+-- a test that everything passes leaves all
+pub filter_whole : {X : Type 0} (p : X → Bool) (xs : List X) → ((x : X) → p x ≡ true) → filter p xs ≡ xs
+filter_whole p xs h = filter_all p xs (all_every (λ x. p x ≡ true) xs h)

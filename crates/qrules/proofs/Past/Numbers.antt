@@ -7,7 +7,7 @@ use Rattle.std.proofs.lemmas.Option.{same_Some, none-some}
 use Rattle.qtables.specs.declared.member.Member.{Member}
 use Rattle.qrules.specs.Facts.{is_for_answer}
 use Rattle.qrules.specs.Headline.CopiedExactly.{call_at}
-use Rattle.qrules.specs.Past.{filled, is_accepted, is_ended, made_at, newest_block, unless_ended, with_receipt, held_with, open_call, receipt_of, priority_of_item}
+use Rattle.qrules.specs.Past.{is_unblocked, filled, is_accepted, is_ended, made_at, newest_block, unless_ended, with_receipt, held_with, open_call, receipt_of, priority_of_item}
 use Rattle.qrules.specs.Rows.{asks, with_buffer}
 use Rattle.qrules.specs.Trace.{Event, Trace}
 use Rattle.qrules.specs.declared.call.Call.{Call}
@@ -121,18 +121,18 @@ block_thread (e ∷ past) u v b d x y same =
 -- ---- open calls
 
 -- a receipt changes no number
-pub receipt_number : (priority : ℕ) (r : Option ℕ) (b : OpenCall) → (with_receipt priority r b).number ≡ b.number
-receipt_number priority None b = refl
-receipt_number priority (Some copied) b = refl
+pub receipt_number : (priority : ℕ) (unblocked : Bool) (r : Option ℕ) (b : OpenCall) → (with_receipt priority unblocked r b).number ≡ b.number
+receipt_number priority unblocked None b = refl
+receipt_number priority unblocked (Some copied) b = refl
 
 pub held_for_answer : (receipt : Receipt) (w : Wait) → is_for_answer (held_with receipt w) ≡ is_for_answer w
 held_for_answer receipt (Answer coid message reply_buffer before) = refl
 held_for_answer receipt (ForItem chid kind buffer) = refl
 
 -- a receipt doesn't change what is waited for
-pub receipt_for_answer : (priority : ℕ) (r : Option ℕ) (b : OpenCall) → is_for_answer (with_receipt priority r b).wait ≡ is_for_answer b.wait
-receipt_for_answer priority None b = refl
-receipt_for_answer priority (Some copied) b = held_for_answer _ b.wait
+pub receipt_for_answer : (priority : ℕ) (unblocked : Bool) (r : Option ℕ) (b : OpenCall) → is_for_answer (with_receipt priority unblocked r b).wait ≡ is_for_answer b.wait
+receipt_for_answer priority unblocked None b = refl
+receipt_for_answer priority unblocked (Some copied) b = held_for_answer _ b.wait
 
 -- what is written changes no more than the reply buffer
 pub buffer_answer : (f : List ℕ → List ℕ) (w : Wait) → is_for_answer (with_buffer f w) ≡ is_for_answer w
@@ -154,12 +154,12 @@ pub record IsOpen (roster : List Member) (past : Trace) (u : ℕ) (o : OpenCall)
   pub block : OpenCall
   pub is : newest_block past u ≡ Some block
   pub going : is_ended past block.number ≡ false
-  pub same : o ≡ with_receipt (priority_of_item roster past block.number) (receipt_of past block.number) (filled past block)
+  pub same : o ≡ with_receipt (priority_of_item roster past block.number) (is_unblocked roster past block.number) (receipt_of past block.number) (filled past block)
   pub number : o.number ≡ block.number
 
 pub open_parts : (roster : List Member) (past : Trace) (u : ℕ) (o : OpenCall) → open_call roster past u ≡ Some o → IsOpen roster past u o
 open_parts roster past u o is =
-    let kept = λ (b : OpenCall). with_receipt (priority_of_item roster past b.number) (receipt_of past b.number) (filled past b) in
+    let kept = λ (b : OpenCall). with_receipt (priority_of_item roster past b.number) (is_unblocked roster past b.number) (receipt_of past b.number) (filled past b) in
     elim (newest_block past u) as (λ n. newest_block past u ≡ n → option_map kept (unless_ended past n) ≡ Some o → IsOpen roster past u o) [
       | None ↦ λ e at. absurd (none-some o at)
       | Some b ↦ λ e.
@@ -167,7 +167,7 @@ open_parts roster past u o is =
             | true ↦ λ h at. absurd (none-some o at)
             | false ↦ λ h at.
                 let same : o ≡ kept b = sym (same_Some (kept b) o at) in
-                record { block = b; is = e; going = h; same = same; number = ap (λ x. x.number) same ∙ receipt_number _ _ (filled past b) }
+                record { block = b; is = e; going = h; same = same; number = ap (λ x. x.number) same ∙ receipt_number _ _ _ (filled past b) }
           ] refl
     ] refl is
 
@@ -176,7 +176,7 @@ open_below roster past u o is = let k = open_parts roster past u o is in let bel
 
 -- a newest blocking call that isn't ended is open
 pub open_from : (roster : List Member) (past : Trace) (u : ℕ) (b : OpenCall) → newest_block past u ≡ Some b → is_ended past b.number ≡ false
-    → open_call roster past u ≡ Some (with_receipt (priority_of_item roster past b.number) (receipt_of past b.number) (filled past b))
+    → open_call roster past u ≡ Some (with_receipt (priority_of_item roster past b.number) (is_unblocked roster past b.number) (receipt_of past b.number) (filled past b))
 open_from roster past u b is going = rw (is, going) refl
 
 -- the open calls of two threads have two numbers

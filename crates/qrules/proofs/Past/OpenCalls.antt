@@ -1,7 +1,7 @@
 -- The open calls after one more event.
 use Rattle.std.proofs.Common.{◌≡◌, ◌≢◌, ℕ, ◌+◌, ◌≤◌, List, ◌∷◌, length, refl, ap, sym, subst, ◌∙◌, cond, arith, Bool, true, false, eqb, ◌⊎◌, inl, inr}
-use Rattle.std.specs.Prelude.{Option, None, Some, is_some, ◌||◌}
-use Rattle.std.specs.Option.{option_map}
+use Rattle.std.specs.Prelude.{Option, None, Some, is_some, ◌||◌, ◌&&◌}
+use Rattle.std.specs.Option.{option_map, option_to_list}
 use Rattle.std.proofs.lemmas.Bool.{cases_Bool, eqb-true, eqb-false, eq-eqb, ne_eqb, or_parts}
 use Rattle.std.proofs.lemmas.Option.{none-some, same_Some}
 use Rattle.qqueue.specs.Best.{is_pulse}
@@ -11,10 +11,11 @@ use Rattle.qtables.specs.declared.member.Member.{Member}
 use Rattle.qrules.specs.Answer.{row_of, Outcome}
 use Rattle.qrules.specs.Facts.{Facts, sender, threads_of}
 use Rattle.qrules.specs.Lawful.{facts_of, IsLawful, with_event}
-use Rattle.qrules.specs.Past.{filled, refuses, ends, is_ended, is_taken, item_of, first_some, receipt_of, priority_of_item, newest_block, held_with, unless_ended, with_receipt, open_call}
+use Rattle.qrules.specs.Past.{is_unblocked, filled, refuses, ends, is_ended, is_taken, item_of, first_some, receipt_of, priority_of_item, newest_block, held_with, unless_ended, with_receipt, open_call, unblocked_among}
 use Rattle.qrules.specs.Receiving.{sender_for}
-use Rattle.qrules.specs.Rows.{Received, Written, asks, writes, written_over}
-use Rattle.qrules.specs.Step.{held_call, is_thread, after_receipt, after_write, unless, written_call, open_call_after}
+use Rattle.qrules.specs.Items.{makes}
+use Rattle.qrules.specs.Rows.{Made, Received, Written, asks, unblocks, writes, written_over}
+use Rattle.qrules.specs.Step.{held_call, is_thread, after_receipt, after_unblock, after_write, unblocked_call, unless, written_call, open_call_after}
 use Rattle.qrules.specs.Trace.{Event, Trace}
 use Rattle.qrules.specs.declared.call.Call.{Call}
 use Rattle.qrules.specs.declared.call.Completion.{Completion}
@@ -23,20 +24,23 @@ use Rattle.qrules.proofs.Past.Lists.{eqb_same, none_of, and_false, or_true, or_f
 use Rattle.qrules.proofs.Past.Laws.{IsReceived}
 use Rattle.qrules.proofs.Past.RowLaws.{call_laws}
 use Rattle.qrules.proofs.Past.Numbers.{block_below, filled_answer, open_from, open_thread, receipt_number, receipt_for_answer}
-use Rattle.qrules.proofs.Past.Ends.{laws_of, passes_of, accepted, refused, refused_ends, ended_below, ends_other, ends_own, known, block_known}
+use Rattle.qrules.proofs.Past.Ends.{laws_of, passes_of, accepted, refused, refused_ends, ended_below, ends_other, ends_own, block_known}
 use Rattle.qrules.proofs.Past.Items.{item_at, item_answer, item_message, item_below, item_priority, priority_earlier, priority_newest}
 use Rattle.qrules.proofs.Past.Receipts.{copied_by, accepted_receipts, refused_receipts, best_pending, receipt_beyond}
 use Rattle.qrules.proofs.Past.Senders.{send_parts, send_from, sender_sends, sender_found}
+use Rattle.qrules.proofs.Past.Unblocked.{fresh_unblocked, marks, marks_it, none_unblocked, unblocked_after, unblocked_beyond, unblocked_by, unblocked_now}
 use Rattle.qrules.proofs.Past.Writes.{changed, filled_accepted, filled_fresh, filled_refused, receipt_written, written_sender}
+use Rattle.qrules.proofs.Rosters.{known}
 
 -- ---- a receipt, and the thread that waits for its answer
 
 -- the receipt is of item i, and thread u is its sender
-pub record IsIts (r : Received) (u i priority : ℕ) (before : Option ℕ) : Type 0 where
+pub record IsIts (r : Received) (u i priority : ℕ) (unblocked : Bool) (before : Option ℕ) : Type 0 where
   pub item : eqb r.item i ≡ true
   pub sender : is_thread r.sender u ≡ true
   pub first : before ≡ None
   pub priority_is : r.kept.priority ≡ priority
+  pub unblocked_is : r.kept.unblocked ≡ unblocked
 
 -- the receipt is of another item, and of another sender
 pub record IsOthers (r : Received) (u i : ℕ) : Type 0 where
@@ -44,11 +48,12 @@ pub record IsOthers (r : Received) (u i : ℕ) : Type 0 where
   pub sender : is_thread r.sender u ≡ false
 
 -- what thread u keeps of the receipt of item i in this event or before is what the row's receipt leaves it
-kept_after : (o : Option Received) (u i priority : ℕ) (before : Option ℕ) (b : OpenCall) → ((r : Received) → o ≡ Some r → IsIts r u i priority before ⊎ IsOthers r u i)
-    → Some (with_receipt priority (first_some (copied_by o i) before) b) ≡ after_receipt o u (Some (with_receipt priority before b))
-kept_after None u i priority before b h = refl
-kept_after (Some r) u i priority before b h = elim (h r refl) [
-  | inl k ↦ rw (k.item, k.sender, k.first) (ap (λ p. Some (record { number = b.number; wait = held_with (record { priority = p; copied = r.kept.copied }) b.wait })) (sym k.priority_is))
+kept_after : (o : Option Received) (u i priority : ℕ) (unblocked : Bool) (before : Option ℕ) (b : OpenCall) → ((r : Received) → o ≡ Some r → IsIts r u i priority unblocked before ⊎ IsOthers r u i)
+    → Some (with_receipt priority unblocked (first_some (copied_by o i) before) b) ≡ after_receipt o u (Some (with_receipt priority unblocked before b))
+kept_after None u i priority unblocked before b h = refl
+kept_after (Some r) u i priority unblocked before b h = elim (h r refl) [
+  | inl k ↦ rw (k.item, k.sender, k.first) (ap (λ p. Some (record { number = b.number; wait = held_with (record { priority = p; copied = r.kept.copied; unblocked = unblocked }) b.wait })) (sym k.priority_is)
+      ∙ ap (λ x. Some (record { number = b.number; wait = held_with (record { priority = r.kept.priority; copied = r.kept.copied; unblocked = x }) b.wait })) (sym k.unblocked_is))
   | inr k ↦ rw (k.item, k.sender) refl
 ]
 
@@ -71,14 +76,14 @@ not_sender_for f item u h = elim (is_pulse item.what) as (λ b. is_thread (cond 
 
 -- an open call of another thread than the caller, and the receipt of the row
 other_holds : (roster : List Member) (past : Trace) (t : ℕ) (c : Call) (u : ℕ) (b : OpenCall) (r : Received) → IsLawful roster past → eqb u t ≡ false → newest_block past u ≡ Some b → is_ended past b.number ≡ false
-    → IsReceived (facts_of roster past) t c r → IsIts r u b.number (priority_of_item roster past b.number) (receipt_of past b.number) ⊎ IsOthers r u b.number
+    → IsReceived (facts_of roster past) t c r → IsIts r u b.number (priority_of_item roster past b.number) (is_unblocked roster past b.number) (receipt_of past b.number) ⊎ IsOthers r u b.number
 other_holds roster past t c u b r l other is going k =
     let f = facts_of roster past in
     let below : b.number ≤ length past = block_below past u b is in
     let waits = open_from roster past u b is going in
     elim (k.source) [
       | inl new ↦
-          let number : k.item.number ≡ length past + 1 = ((call_laws c).makes_one f.connection f.priority (length past + 1) t _ new.made).number in
+          let number : k.item.number ≡ length past + 1 = ((call_laws c).makes_one f t _ new.made).number in
           inr (record {
             item = ne_eqb _ _ (λ same. omega (arith, k.number));
             sender = elim (asks (length past + 1) c) as (λ o. r.sender ≡ option_map (λ w. t) o → is_thread r.sender u ≡ false) [
@@ -92,37 +97,40 @@ other_holds roster past t c u b r l other is going k =
             | inl same ↦
                 let number : k.item.number ≡ b.number = k.number ∙ eqb-true _ _ same in
                 let made = subst (λ i. item_at roster past i ≡ Some (record { item = k.item; channel = r.channel })) number place.made in
-                let sends = send_from r.item (with_receipt (priority_of_item roster past b.number) (receipt_of past b.number) (filled past b)) (receipt_number _ _ (filled past b) ∙ sym (eqb-true _ _ same)) (receipt_for_answer _ _ (filled past b) ∙ filled_answer past b ∙ item_answer roster past u _ b made is) in
+                let sends = send_from r.item (with_receipt (priority_of_item roster past b.number) (is_unblocked roster past b.number) (receipt_of past b.number) (filled past b)) (receipt_number _ _ _ (filled past b) ∙ sym (eqb-true _ _ same)) (receipt_for_answer _ _ _ (filled past b) ∙ filled_answer past b ∙ item_answer roster past u _ b made is) in
                 let found : sender f r.item ≡ Some u = sender_found f.open_call r.item (threads_of roster) u (known roster u (block_known roster past u b l is)) (rw waits sends)
-                (λ v e. let w = send_parts r.item (f.open_call v) e in open_thread roster past v u w.waiting _ w.is waits (w.number ∙ eqb-true _ _ same ∙ sym (receipt_number _ _ (filled past b)))) in
+                (λ v e. let w = send_parts r.item (f.open_call v) e in open_thread roster past v u w.waiting _ w.is waits (w.number ∙ eqb-true _ _ same ∙ sym (receipt_number _ _ _ (filled past b)))) in
                 let message = item_message roster past u _ b made is in
+                let untaken = none_of (receipt_of past b.number) (subst (λ i. is_taken past i ≡ false) number (or_parts _ _ place.stays).0) in
                 inl (record {
                   item = same;
                   sender = rw (old.sender_is ∙ message_sender f k.item message ∙ ap (sender f) k.number ∙ found) (eqb_same u);
-                  first = none_of (receipt_of past b.number) (subst (λ i. is_taken past i ≡ false) number (or_parts _ _ place.stays).0);
+                  first = untaken;
                   priority_is = sym k.priority ∙ sym (item_priority roster past b.number _ made);
+                  unblocked_is = k.fresh ∙ sym (none_unblocked roster past b.number untaken);
                 })
             | inr differs ↦ inr (record {
               item = differs;
-              sender = rw (old.sender_is) (not_sender_for f k.item u (not_sender f k.item.number u (λ o e n. eqb-false _ _ differs (sym (n ∙ k.number) ∙ ap (λ w. w.number) (same_Some o _ (sym e ∙ waits)) ∙ receipt_number _ _ (filled past b)))));
+              sender = rw (old.sender_is) (not_sender_for f k.item u (not_sender f k.item.number u (λ o e n. eqb-false _ _ differs (sym (n ∙ k.number) ∙ ap (λ w. w.number) (same_Some o _ (sym e ∙ waits)) ∙ receipt_number _ _ _ (filled past b)))));
             })
           ]
     ]
 
 -- the call itself, where it begins to wait, and the receipt of the row
 own_holds : (roster : List Member) (past : Trace) (t : ℕ) (c : Call) (X : List Completion) (o : OpenCall) (r : Received) → IsLawful roster past → Outcome true (facts_of roster past) t c X
-    → asks (length past + 1) c ≡ Some o → IsReceived (facts_of roster past) t c r → IsIts r t (length past + 1) (priority_of_item roster (with_event t c X past) (length past + 1)) None ⊎ IsOthers r t (length past + 1)
+    → asks (length past + 1) c ≡ Some o → IsReceived (facts_of roster past) t c r → IsIts r t (length past + 1) (priority_of_item roster (with_event t c X past) (length past + 1)) false None ⊎ IsOthers r t (length past + 1)
 own_holds roster past t c X o r l a asked k =
     let f = facts_of roster past in
     elim (k.source) [
       | inl new ↦
-          let number : k.item.number ≡ length past + 1 = ((call_laws c).makes_one f.connection f.priority (length past + 1) t _ new.made).number in
+          let number : k.item.number ≡ length past + 1 = ((call_laws c).makes_one f t _ new.made).number in
           let made : item_of roster (record { thread = t; call = c; endings = X }) past ≡ Some (record { item = k.item; channel = r.channel }) = rw (accepted roster past t c X a) (new.made) in
           inl (record {
             item = eq-eqb _ _ (sym k.number ∙ number);
             sender = rw (new.sender_is, asked) (eqb_same t);
             first = refl;
             priority_is = sym k.priority ∙ sym (priority_newest roster (record { thread = t; call = c; endings = X }) past _ made);
+            unblocked_is = k.fresh;
           })
       | inr old ↦
           let below : k.item.number ≤ length past = item_below roster past k.item.number _ (best_pending roster past r.channel old.kind k.item old.best).made in
@@ -136,7 +144,7 @@ own_holds roster past t c X o r l a asked k =
 
 -- what is kept of an open call's receipt, if it had one
 abbrev kept : List Member → Trace → OpenCall → OpenCall
-kept roster past o = with_receipt (priority_of_item roster past o.number) (receipt_of past o.number) (filled past o)
+kept roster past o = with_receipt (priority_of_item roster past o.number) (is_unblocked roster past o.number) (receipt_of past o.number) (filled past o)
 
 -- the newest blocking calls after an event
 newest_refused : (past : Trace) (t : ℕ) (c : Call) (X : List Completion) (u : ℕ) → refuses X (length past + 1) ≡ true → newest_block (with_event t c X past) u ≡ newest_block past u
@@ -161,9 +169,13 @@ open_refused roster past t c X u a =
           let receipt : receipt_of (with_event t c X past) b.number ≡ receipt_of past b.number = rw (refused_receipts (facts_of roster past) t c X b.number a) refl in
           let ended : is_ended (with_event t c X past) b.number ≡ is_ended past b.number = rw (refused_ends roster past t c X b.number a (λ s. omega arith)) refl in
           let written : filled (with_event t c X past) b ≡ filled past b = filled_refused (record { thread = t; call = c; endings = X }) past b (refused roster past t c X a) in
+          let unblocked : is_unblocked roster (with_event t c X past) b.number ≡ is_unblocked roster past b.number =
+          unblocked_by roster (record { thread = t; call = c; endings = X }) past b.number ∙ rw (refused roster past t c X a) (or_false (is_unblocked roster past b.number)) in
           let same : now b ≡ kept roster past b =
-          ap (λ p. with_receipt p (receipt_of (with_event t c X past) b.number) (filled (with_event t c X past) b)) priority ∙ ap (λ r. with_receipt (priority_of_item roster past b.number) r (filled (with_event t c X past) b)) receipt
-          ∙ ap (with_receipt (priority_of_item roster past b.number) (receipt_of past b.number)) written in
+          ap (λ p. with_receipt p (is_unblocked roster (with_event t c X past) b.number) (receipt_of (with_event t c X past) b.number) (filled (with_event t c X past) b)) priority
+          ∙ ap (λ x. with_receipt (priority_of_item roster past b.number) x (receipt_of (with_event t c X past) b.number) (filled (with_event t c X past) b)) unblocked
+          ∙ ap (λ r. with_receipt (priority_of_item roster past b.number) (is_unblocked roster past b.number) r (filled (with_event t c X past) b)) receipt
+          ∙ ap (with_receipt (priority_of_item roster past b.number) (is_unblocked roster past b.number) (receipt_of past b.number)) written in
           ap (λ d. option_map now (cond d None (Some b))) ended ∙ (
           elim (is_ended past b.number) as (λ d. option_map now (cond d None (Some b)) ≡ option_map (kept roster past) (cond d None (Some b))) [ true ↦ refl | false ↦ ap Some same ])
     ] refl)
@@ -182,38 +194,62 @@ write_none : (f : Facts) (w : Option Written) (u : ℕ) → after_write f w u No
 write_none f None u = refl
 write_none f (Some w) u = elim (is_thread (sender f w.message) u) as (λ b. cond b (option_map (written_call w.offset w.bytes) None) None ≡ None) [ true ↦ refl | false ↦ refl ]
 
+pub unblock_none : (m : Option Made) (w : Option ℕ) (u : ℕ) → after_unblock m w u None ≡ None
+unblock_none m None u = refl
+unblock_none m (Some v) u = elim (eqb u v && is_some m) as (λ b. cond b (option_map unblocked_call None) None ≡ None) [ true ↦ refl | false ↦ refl ]
+
+-- what another thread waits for, unless its call ends
+abbrev other_after : Facts → ℕ → Call → ℕ → Option OpenCall → Option OpenCall
+other_after f t c u o = after_unblock (makes f t c) (unblocks c) u (after_receipt (row_of f t c).receipt u (after_write f (writes c) u o))
+
+other_none : (f : Facts) (t : ℕ) (c : Call) (u : ℕ) → other_after f t c u None ≡ None
+other_none f t c u =
+    ap (λ o. after_unblock (makes f t c) (unblocks c) u (after_receipt (row_of f t c).receipt u o)) (write_none f (writes c) u) ∙ ap (after_unblock (makes f t c) (unblocks c) u) (after_none (row_of f t c).receipt u)
+    ∙ unblock_none (makes f t c) (unblocks c) u
+
+some_later : (x y : Option ℕ) → is_some y ≡ true → is_some (first_some x y) ≡ true
+some_later None y e = e
+some_later (Some x) y e = refl
+
 -- of another thread
 open_other : (roster : List Member) (past : Trace) (t : ℕ) (c : Call) (X : List Completion) (u : ℕ) → IsLawful roster past → is_some (member_at roster t) ≡ true → Outcome true (facts_of roster past) t c X → eqb u t ≡ false
     → option_map (kept roster (with_event t c X past)) (unless_ended (with_event t c X past) (newest_block past u))
-    ≡ unless (is_some ((row_of (facts_of roster past) t c).ends u)) (after_receipt (row_of (facts_of roster past) t c).receipt u (after_write (facts_of roster past) (writes c) u (open_call roster past u)))
+    ≡ unless (is_some ((row_of (facts_of roster past) t c).ends u)) (other_after (facts_of roster past) t c u (open_call roster past u))
 open_other roster past t c X u l member a other =
     let R = row_of (facts_of roster past) t c in
-    let nothing : unless (is_some (R.ends u)) (after_receipt R.receipt u (after_write (facts_of roster past) (writes c) u None)) ≡ None =
-    ap (λ o. unless (is_some (R.ends u)) (after_receipt R.receipt u o)) (write_none (facts_of roster past) (writes c) u) ∙ ap (unless (is_some (R.ends u))) (after_none R.receipt u) ∙ unless_none (is_some (R.ends u)) in
+    let M = makes (facts_of roster past) t c in
+    let nothing : unless (is_some (R.ends u)) (other_after (facts_of roster past) t c u None) ≡ None = ap (unless (is_some (R.ends u))) (other_none (facts_of roster past) t c u) ∙ unless_none (is_some (R.ends u)) in
     elim (newest_block past u) as (λ o. newest_block past u ≡ o → option_map (kept roster (with_event t c X past)) (unless_ended (with_event t c X past) o)
-    ≡ unless (is_some (R.ends u)) (after_receipt R.receipt u (after_write (facts_of roster past) (writes c) u (option_map (kept roster past) (unless_ended past o))))) [
+    ≡ unless (is_some (R.ends u)) (other_after (facts_of roster past) t c u (option_map (kept roster past) (unless_ended past o)))) [
       | None ↦ λ e. sym nothing
       | Some b ↦ λ e.
           elim (is_ended past b.number) as (λ d. is_ended past b.number ≡ d → option_map (kept roster (with_event t c X past)) (cond (ends X b.number || d) None (Some b))
-          ≡ unless (is_some (R.ends u)) (after_receipt R.receipt u (after_write (facts_of roster past) (writes c) u (option_map (kept roster past) (cond d None (Some b)))))) [
+          ≡ unless (is_some (R.ends u)) (other_after (facts_of roster past) t c u (option_map (kept roster past) (cond d None (Some b))))) [
             | true ↦ λ gone. rw (or_true (ends X b.number)) (sym nothing)
             | false ↦ λ going.
                 let below : b.number ≤ length past = block_below past u b e in
                 let ended : ends X b.number ≡ is_some (R.ends u) =
-                ap (ends X) (sym (receipt_number _ _ (filled past b))) ∙ ends_other roster past t c X u (kept roster past b) l a other (open_from roster past u b e going) in
+                ap (ends X) (sym (receipt_number _ _ _ (filled past b))) ∙ ends_other roster past t c X u (kept roster past b) l a other (open_from roster past u b e going) in
                 let priority : priority_of_item roster (with_event t c X past) b.number ≡ priority_of_item roster past b.number = priority_earlier roster (record { thread = t; call = c; endings = X }) past b.number below in
                 let receipt : receipt_of (with_event t c X past) b.number ≡ first_some (copied_by R.receipt b.number) (receipt_of past b.number) = rw (accepted_receipts roster past t c X b.number l member a) refl in
                 let waits = open_from roster past u b e going in
-                let now : Some (kept roster (with_event t c X past) b) ≡ after_receipt R.receipt u (after_write (facts_of roster past) (writes c) u (Some (kept roster past b))) =
-                ap (λ p. Some (with_receipt p (receipt_of (with_event t c X past) b.number) (filled (with_event t c X past) b))) priority
-                ∙ ap (λ r. Some (with_receipt (priority_of_item roster past b.number) r (filled (with_event t c X past) b))) receipt
-                ∙ ap (λ w. Some (with_receipt (priority_of_item roster past b.number) (first_some (copied_by R.receipt b.number) (receipt_of past b.number)) w)) (filled_accepted (record { thread = t; call = c; endings = X }) past b (accepted roster past t c X a))
-                ∙ kept_after R.receipt u b.number (priority_of_item roster past b.number) (receipt_of past b.number) (changed (written_over (writes c) b.number) (filled past b))
+                let old : Bool = is_unblocked roster past b.number in
+                let new : Bool = unblocked_among (option_to_list M) b.number in
+                let unblocked : is_unblocked roster (with_event t c X past) b.number ≡ (old || new) = unblocked_by roster (record { thread = t; call = c; endings = X }) past b.number ∙ rw (accepted roster past t c X a) refl in
+                let marked : new ≡ marks M (unblocks c) u = ap (unblocked_among (option_to_list M)) (sym (receipt_number _ _ _ (filled past b))) ∙ marks_it roster past t c u (kept roster past b) waits in
+                let now : Some (kept roster (with_event t c X past) b) ≡ other_after (facts_of roster past) t c u (Some (kept roster past b)) =
+                ap (λ p. Some (with_receipt p (is_unblocked roster (with_event t c X past) b.number) (receipt_of (with_event t c X past) b.number) (filled (with_event t c X past) b))) priority
+                ∙ ap (λ x. Some (with_receipt (priority_of_item roster past b.number) x (receipt_of (with_event t c X past) b.number) (filled (with_event t c X past) b))) unblocked
+                ∙ ap (λ r. Some (with_receipt (priority_of_item roster past b.number) (old || new) r (filled (with_event t c X past) b))) receipt
+                ∙ ap (λ w. Some (with_receipt (priority_of_item roster past b.number) (old || new) (first_some (copied_by R.receipt b.number) (receipt_of past b.number)) w)) (filled_accepted (record { thread = t; call = c; endings = X }) past b (accepted roster past t c X a))
+                ∙ unblocked_after M (unblocks c) u old new (priority_of_item roster past b.number) (first_some (copied_by R.receipt b.number) (receipt_of past b.number)) (changed (written_over (writes c) b.number) (filled past b)) marked
+                (λ is. some_later (copied_by R.receipt b.number) (receipt_of past b.number) (unblocked_now roster past t c b.number is).taken)
+                ∙ ap (after_unblock M (unblocks c) u) (kept_after R.receipt u b.number (priority_of_item roster past b.number) old (receipt_of past b.number) (changed (written_over (writes c) b.number) (filled past b))
                 (λ r is. other_holds roster past t c u b r l other e going ((laws_of (facts_of roster past) t c X a).receives r is))
-                ∙ ap (after_receipt R.receipt u) (receipt_written (facts_of roster past) (writes c) u (priority_of_item roster past b.number) (receipt_of past b.number) (filled past b) (receipt_number _ _ (filled past b))
-                (λ x is. written_sender roster past t c X u (kept roster past b) x a waits is ∙ ap (eqb x.message) (receipt_number _ _ (filled past b)))) in
+                ∙ ap (after_receipt R.receipt u) (receipt_written (facts_of roster past) (writes c) u (priority_of_item roster past b.number) old (receipt_of past b.number) (filled past b) (receipt_number _ _ _ (filled past b))
+                (λ x is. written_sender roster past t c X u (kept roster past b) x a waits is ∙ ap (eqb x.message) (receipt_number _ _ _ (filled past b))))) in
                 rw (or_false (ends X b.number), ended) (
-                elim (is_some (R.ends u)) as (λ d. option_map (kept roster (with_event t c X past)) (cond d None (Some b)) ≡ unless d (after_receipt R.receipt u (after_write (facts_of roster past) (writes c) u (Some (kept roster past b))))) [ true ↦ refl | false ↦ now ])
+                elim (is_some (R.ends u)) as (λ d. option_map (kept roster (with_event t c X past)) (cond d None (Some b)) ≡ unless d (other_after (facts_of roster past) t c u (Some (kept roster past b)))) [ true ↦ refl | false ↦ now ])
           ] refl
     ] refl
 
@@ -243,11 +279,14 @@ open_own roster past t c X l member a =
           ap (is_ended (with_event t c X past)) number ∙ rw (ends_own roster past t c X member a, ended_below roster past (length past + 1) l (omega arith)) (or_false (is_some R.own)) in
           let receipt : receipt_of (with_event t c X past) (length past + 1) ≡ first_some (copied_by R.receipt (length past + 1)) None =
           rw (accepted_receipts roster past t c X (length past + 1) l member a, receipt_beyond roster past (length past + 1) l (omega arith)) refl in
+          let unblocked : is_unblocked roster (with_event t c X past) (length past + 1) ≡ false =
+          unblocked_by roster (record { thread = t; call = c; endings = X }) past (length past + 1) ∙ rw (unblocked_beyond roster past (length past + 1) (omega arith), accepted roster past t c X a) (fresh_unblocked roster past t c) in
           let now : Some (kept roster (with_event t c X past) o) ≡ after_receipt R.receipt t (Some o) =
-          ap (λ w. Some (with_receipt (priority_of_item roster (with_event t c X past) o.number) (receipt_of (with_event t c X past) o.number) w)) (filled_fresh roster past t c X o l (accepted roster past t c X a) e number)
-          ∙ ap (λ i. Some (with_receipt (priority_of_item roster (with_event t c X past) i) (receipt_of (with_event t c X past) i) o)) number
-          ∙ ap (λ r. Some (with_receipt (priority_of_item roster (with_event t c X past) (length past + 1)) r o)) receipt
-          ∙ kept_after R.receipt t (length past + 1) (priority_of_item roster (with_event t c X past) (length past + 1)) None o
+          ap (λ w. Some (with_receipt (priority_of_item roster (with_event t c X past) o.number) (is_unblocked roster (with_event t c X past) o.number) (receipt_of (with_event t c X past) o.number) w)) (filled_fresh roster past t c X o l (accepted roster past t c X a) e number)
+          ∙ ap (λ i. Some (with_receipt (priority_of_item roster (with_event t c X past) i) (is_unblocked roster (with_event t c X past) i) (receipt_of (with_event t c X past) i) o)) number
+          ∙ ap (λ x. Some (with_receipt (priority_of_item roster (with_event t c X past) (length past + 1)) x (receipt_of (with_event t c X past) (length past + 1)) o)) unblocked
+          ∙ ap (λ r. Some (with_receipt (priority_of_item roster (with_event t c X past) (length past + 1)) false r o)) receipt
+          ∙ kept_after R.receipt t (length past + 1) (priority_of_item roster (with_event t c X past) (length past + 1)) false None o
           (λ r is. own_holds roster past t c X o r l a e ((laws_of (facts_of roster past) t c X a).receives r is)) in
           rw ended (
           elim (is_some R.own) as (λ d. option_map (kept roster (with_event t c X past)) (cond d None (Some o)) ≡ unless d (after_receipt R.receipt t (Some o))) [ true ↦ refl | false ↦ now ])

@@ -14,12 +14,13 @@ use Rattle.qtables.specs.declared.member.Member.{Member}
 use Rattle.qrules.specs.Answer.{row_of, Outcome}
 use Rattle.qrules.specs.Lawful.{facts_of, IsLawful, with_event}
 use Rattle.qrules.specs.Past.{channel_at, ends, is_closed, is_ended, is_taken, is_gone, items, item_of, pending, first_some, receipt_among, receipt_of}
-use Rattle.qrules.specs.Rows.{Made, Received, closes, makes, names}
+use Rattle.qrules.specs.Items.{makes}
+use Rattle.qrules.specs.Rows.{Made, Received, closes, names}
 use Rattle.qrules.specs.Step.{is_cut, left_by, made_on, taken_out, pending_after}
 use Rattle.qrules.specs.Trace.{Event, Trace}
 use Rattle.qrules.specs.declared.call.Call.{Call}
 use Rattle.qrules.specs.declared.call.Completion.{Completion}
-use Rattle.qrules.proofs.Past.Lists.{cond_same, eqb_either, none_of, all_append, all_every, all_filter, all_more, filter_same, filter_twice, filter_all}
+use Rattle.qrules.proofs.Past.Lists.{cond_same, eqb_either, none_of, all_append, all_filter, all_more, filter_alike, filter_same, filter_twice, filter_all, filter_whole}
 use Rattle.qrules.proofs.Past.Laws.{IsReceived}
 use Rattle.qrules.proofs.Past.Channels.{closed_accepted, closed_refused}
 use Rattle.qrules.proofs.Past.Cuts.{ended_is_cut}
@@ -132,15 +133,15 @@ pending_old roster past t c X h l member a =
 
 -- of what the event makes, what isn't received at once
 pending_new : (roster : List Member) (past : Trace) (t : ℕ) (c : Call) (X : List Completion) (h : ℕ) → IsLawful roster past → is_some (member_at roster t) ≡ true → Outcome true (facts_of roster past) t c X
-    → let M = made_on h (makes (facts_of roster past).connection (facts_of roster past).priority (length past + 1) t c) in
+    → let M = made_on h (makes (facts_of roster past) t c) in
     filter (λ item. not (is_gone (with_event t c X past) item)) M ≡ filter (leaves (row_of (facts_of roster past) t c).receipt) M
 pending_new roster past t c X h l member a =
     let f = facts_of roster past in
     let stays = λ (item : Item). not (is_gone (with_event t c X past) item) in
     let left = λ (item : Item). leaves (row_of (facts_of roster past) t c).receipt item in
-    filter_same stays left (made_on h (makes f.connection f.priority f.number t c)) (
-    made_all (λ item. stays item ≡ left item) h (makes f.connection f.priority f.number t c) (λ m is on.
-    let number : m.item.number ≡ length past + 1 = ((call_laws c).makes_one f.connection f.priority (length past + 1) t m is).number in
+    filter_same stays left (made_on h (makes f t c)) (
+    made_all (λ item. stays item ≡ left item) h (makes f t c) (λ m is on.
+    let number : m.item.number ≡ length past + 1 = ((call_laws c).makes_one f t m is).number in
     gone_now roster past t c X m.item false l member a (receipt_beyond roster past m.item.number l (omega arith)) (
     elim (is_pulse m.item.what) as (λ b. is_pulse m.item.what ≡ b → (not b && (ends X m.item.number || is_ended past m.item.number)) ≡ false) [
       | true ↦ λ pulse. refl
@@ -155,44 +156,44 @@ pending_new roster past t c X h l member a =
 -- no item of another channel has the number that is received
 elsewhere : (roster : List Member) (past : Trace) (t : ℕ) (c : Call) (X : List Completion) (h : ℕ) (r : Received) (L : List Item) → AllByRecursion (IsPending roster past h) L
     → Outcome true (facts_of roster past) t c X → IsReceived (facts_of roster past) t c r → eqb r.channel h ≡ false
-    → AllByRecursion (λ item. eqb r.item item.number ≡ false) (L ++ made_on h (makes (facts_of roster past).connection (facts_of roster past).priority (length past + 1) t c))
+    → AllByRecursion (λ item. eqb r.item item.number ≡ false) (L ++ made_on h (makes (facts_of roster past) t c))
 elsewhere roster past t c X h r L all a k other =
     let f = facts_of roster past in
     let P = λ (item : Item). eqb r.item item.number ≡ false in
-    let made_number = λ (m : Made) (is : makes f.connection f.priority f.number t c ≡ Some m). ((call_laws c).makes_one f.connection f.priority (length past + 1) t m is).number in
+    let made_number = λ (m : Made) (is : makes f t c ≡ Some m). ((call_laws c).makes_one f t m is).number in
     elim (k.source) [
       | inl new ↦
           let number : k.item.number ≡ length past + 1 = made_number _ new.made in
-          all_append P L (made_on h (makes f.connection f.priority f.number t c))
+          all_append P L (made_on h (makes f t c))
           (all_more (IsPending roster past h) P L all (λ item at.
           let below : item.number ≤ length past = item_below roster past item.number _ at.made in ne_eqb _ _ (λ s. omega (arith, k.number))))
-          (made_all P h (makes f.connection f.priority f.number t c) (λ m is on. absurd (eqb-false _ _ other (ap (λ n. n.channel) (same_Some _ m (sym new.made ∙ is)) ∙ on))))
+          (made_all P h (makes f t c) (λ m is on. absurd (eqb-false _ _ other (ap (λ n. n.channel) (same_Some _ m (sym new.made ∙ is)) ∙ on))))
       | inr old ↦
           let place = best_pending roster past r.channel old.kind k.item old.best in
           let below : k.item.number ≤ length past = item_below roster past k.item.number _ place.made in
-          all_append P L (made_on h (makes f.connection f.priority f.number t c))
+          all_append P L (made_on h (makes f t c))
           (all_more (IsPending roster past h) P L all (λ item at. ne_eqb _ _ (λ s.
           eqb-false _ _ other (ap (λ n. n.channel) (same_Some _ _ (sym place.made ∙ ap (item_at roster past) (k.number ∙ s) ∙ at.made))))))
-          (made_all P h (makes f.connection f.priority f.number t c) (λ m is on.
+          (made_all P h (makes f t c) (λ m is on.
           let number : m.item.number ≡ length past + 1 = made_number m is in ne_eqb _ _ (λ s. omega (arith, k.number))))
     ]
 
 taken_from : (o : Option Received) (h : ℕ) (L : List Item) → ((r : Received) → o ≡ Some r → eqb r.channel h ≡ false → AllByRecursion (λ item. eqb r.item item.number ≡ false) L)
     → taken_out o h L ≡ filter (leaves o) L
-taken_from None h L other = sym (filter_all (leaves None) L (all_every (λ item. leaves None item ≡ true) L (λ item. refl)))
+taken_from None h L other = sym (filter_whole (leaves None) L (λ item. refl))
 taken_from (Some r) h L other =
     elim (eqb r.channel h) as (λ b. eqb r.channel h ≡ b → cond b (without r.item L) L ≡ filter (leaves (Some r)) L) [
-      | true ↦ λ e. filter_same (λ item. not (eqb item.number r.item)) (leaves (Some r)) L (all_every (λ item. not (eqb item.number r.item) ≡ leaves (Some r) item) L (λ item.
-          ap not (eqb_either item.number r.item) ∙ elim (eqb r.item item.number) as (λ b. not b ≡ not (is_some (cond b (Some r.kept.copied) None))) [ true ↦ refl | false ↦ refl ]))
+      | true ↦ λ e. filter_alike (λ item. not (eqb item.number r.item)) (leaves (Some r)) L (λ item.
+          ap not (eqb_either item.number r.item) ∙ elim (eqb r.item item.number) as (λ b. not b ≡ not (is_some (cond b (Some r.kept.copied) None))) [ true ↦ refl | false ↦ refl ])
       | false ↦ λ e. sym (filter_all (leaves (Some r)) L (all_more (λ item. eqb r.item item.number ≡ false) (λ item. leaves (Some r) item ≡ true) L (other r refl e) (λ item d. rw d refl)))
     ] refl
 
 -- an accepted call makes nothing for a channel that is destroyed
 closed_makes : (roster : List Member) (past : Trace) (t : ℕ) (c : Call) (X : List Completion) (h : ℕ) → Outcome true (facts_of roster past) t c X → is_closed past h ≡ true
-    → made_on h (makes (facts_of roster past).connection (facts_of roster past).priority (length past + 1) t c) ≡ []
+    → made_on h (makes (facts_of roster past) t c) ≡ []
 closed_makes roster past t c X h a closed =
     let f = facts_of roster past in
-    elim (makes f.connection f.priority (length past + 1) t c) as (λ o. makes f.connection f.priority (length past + 1) t c ≡ o → made_on h o ≡ []) [
+    elim (makes f t c) as (λ o. makes f t c ≡ o → made_on h o ≡ []) [
       | None ↦ λ e. refl
       | Some m ↦ λ e.
           elim (eqb m.channel h) as (λ b. eqb m.channel h ≡ b → cond b (m.item ∷ []) [] ≡ []) [
@@ -210,14 +211,14 @@ none_out (Some r) h = cond_same (eqb r.channel h) []
 -- what stays of a channel that isn't destroyed
 staying_accepted : (roster : List Member) (past : Trace) (t : ℕ) (c : Call) (X : List Completion) (h : ℕ) → IsLawful roster past → is_some (member_at roster t) ≡ true → Outcome true (facts_of roster past) t c X
     → staying roster (with_event t c X past) h
-    ≡ taken_out (row_of (facts_of roster past) t c).receipt h (left_by (facts_of roster past) t c h (staying roster past h) ++ made_on h (makes (facts_of roster past).connection (facts_of roster past).priority (length past + 1) t c))
+    ≡ taken_out (row_of (facts_of roster past) t c).receipt h (left_by (facts_of roster past) t c h (staying roster past h) ++ made_on h (makes (facts_of roster past) t c))
 staying_accepted roster past t c X h l member a =
     let f = facts_of roster past in
     let e : Event = record { thread = t; call = c; endings = X } in
     let R = row_of (facts_of roster past) t c in
-    let M = made_on h (makes f.connection f.priority f.number t c) in
+    let M = made_on h (makes f t c) in
     let L = left_by (facts_of roster past) t c h (staying roster past h) in
-    let made : item_of roster e past ≡ makes f.connection f.priority f.number t c = rw (accepted roster past t c X a) refl in
+    let made : item_of roster e past ≡ makes f t c = rw (accepted roster past t c X a) refl in
     let stays = λ (item : Item). not (is_gone (e ∷ past) item) in
     ap (filter stays) (items_more roster e past h ∙ ap (λ o. items_on roster past h ++ made_on h o) made)
     ∙ filter-append stays (items_on roster past h) M
@@ -233,7 +234,7 @@ pending_accepted roster past t c X h l member a =
     let f = facts_of roster past in
     let e : Event = record { thread = t; call = c; endings = X } in
     let R = row_of (facts_of roster past) t c in
-    let M = made_on h (makes f.connection f.priority f.number t c) in
+    let M = made_on h (makes f t c) in
     let after = λ (items : List Item). taken_out R.receipt h (left_by f t c h items ++ M) in
     ap (λ b. cond b [] (staying roster (e ∷ past) h)) (closed_accepted e past h (accepted roster past t c X a)) ∙ (
     elim (names (closes c) h) as (λ d. cond (d || is_closed past h) [] (staying roster (e ∷ past) h) ≡ cond d [] (after (pending roster past h))) [

@@ -14,18 +14,19 @@ use Rattle.qrules.specs.Step.{taken_by, priority_after}
 use Rattle.qrules.specs.Trace.{Trace}
 use Rattle.qrules.specs.declared.call.Call.{Call}
 use Rattle.qrules.specs.declared.call.Completion.{Completion}
-use Rattle.qrules.proofs.Past.Ends.{accepted, ending_names, known, laws_of, refused}
+use Rattle.qrules.proofs.Past.Ends.{accepted, ending_names, laws_of, refused}
 use Rattle.qrules.proofs.Past.Items.{item_at, item_below, item_earlier, item_found, item_newest}
 use Rattle.qrules.proofs.Past.Laws.{RowLaws, IsReceipt, IsReceived}
 use Rattle.qrules.proofs.Past.Receipts.{among_none, among_one, best_pending, ending_receives, given_known}
 use Rattle.qrules.proofs.Past.RowLaws.{call_laws}
+use Rattle.qrules.proofs.Rosters.{known}
 
 -- the item that is received is among those that were made
 received_at : (roster : List Member) (past : Trace) (t : ℕ) (c : Call) (X : List Completion) (r : Received) (k : IsReceived (facts_of roster past) t c r) → Outcome true (facts_of roster past) t c X
     → item_at roster (with_event t c X past) r.item ≡ Some (record { item = k.item; channel = r.channel })
 received_at roster past t c X r k a = subst (λ i. item_at roster (with_event t c X past) i ≡ Some (record { item = k.item; channel = r.channel })) k.number (elim (k.source) [
   | inl new ↦
-      let number : k.item.number ≡ length past + 1 = ((call_laws c).makes_one (facts_of roster past).connection (facts_of roster past).priority (length past + 1) t _ new.made).number in
+      let number : k.item.number ≡ length past + 1 = ((call_laws c).makes_one (facts_of roster past) t _ new.made).number in
       let made : item_of roster (record { thread = t; call = c; endings = X }) past ≡ Some (record { item = k.item; channel = r.channel }) = rw (accepted roster past t c X a) (new.made) in
       subst (λ i. item_at roster (with_event t c X past) i ≡ Some (record { item = k.item; channel = r.channel })) (sym number) (item_newest roster (record { thread = t; call = c; endings = X }) past ∙ made)
   | inr old ↦
@@ -51,7 +52,7 @@ module _ (roster : List Member) (past : Trace) (t : ℕ) (c : Call) (X : List Co
   carries_it : (r : Received) → (k : IsReceived (facts_of roster past) t c r) → cond (eqb r.by u) (carries r.item) None ≡ taken_by (facts_of roster past) (Some r) u
   carries_it r k =
       ap (λ o. cond (eqb r.by u) (carried (channel_at roster past) o) None) (item_found roster (with_event t c X past) r.item _ (received_at roster past t c X r k a))
-      ∙ ap (λ p. taken_by (facts_of roster past) (Some (record { item = r.item; channel = r.channel; by = r.by; sender = r.sender; kept = record { priority = p; copied = r.kept.copied } })) u) k.priority
+      ∙ ap (λ p. taken_by (facts_of roster past) (Some (record { item = r.item; channel = r.channel; by = r.by; sender = r.sender; kept = record { priority = p; copied = r.kept.copied; unblocked = r.kept.unblocked } })) u) k.priority
 
   -- what an ending gives is what the row's receipt does
   gives : (v : ℕ) (y : Completion) (q : ℕ × ℕ) → ending (facts_of roster past) t c v ≡ Some y → received y.mark ≡ Some q → given_by carries u y ≡ taken_by (facts_of roster past) (row_of (facts_of roster past) t c).receipt u

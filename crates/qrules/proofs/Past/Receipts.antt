@@ -1,12 +1,12 @@
 -- What the endings of an event receive: just the receipt that its row says.
 use Rattle.std.proofs.Common.{◌≡◌, ℕ, ◌+◌, ◌<◌, ◌≤◌, List, [], ◌∷◌, length, refl, ap, sym, subst, ◌∙◌, cond, arith, true, false, eqb, ◌⊎◌, inl, inr}
-use Rattle.std.specs.Prelude.{Option, None, Some, is_some, nat_lt}
-use Rattle.std.specs.List.{filter_map, cons_option, AllByRecursion}
+use Rattle.std.specs.Prelude.{Option, None, Some, is_some}
+use Rattle.std.specs.List.{filter_map, cons_option}
 use Rattle.std.proofs.lemmas.Bool.{cases_Bool, eqb-true, ne_eqb, true≢false}
-use Rattle.std.proofs.lemmas.Option.{none-some, same_Some}
-use Rattle.qqueue.specs.Best.{best_of, may_take, first_of_two}
+use Rattle.qqueue.specs.Best.{best_of}
 use Rattle.qqueue.specs.declared.item.Item.{Item}
 use Rattle.qqueue.specs.declared.item.Kind.{Kind}
+use Rattle.qqueue.proofs.OrderLaws.{best-at}
 use Rattle.qtables.specs.Members.{member_at}
 use Rattle.qtables.specs.declared.member.Member.{Member}
 use Rattle.qrules.specs.Answer.{row_of, ending, Outcome, Answers}
@@ -20,8 +20,9 @@ use Rattle.qrules.specs.declared.call.Completion.{Completion}
 use Rattle.qrules.proofs.Past.Lists.{is_among}
 use Rattle.qrules.proofs.Past.Laws.{RowLaws, IsReceipt, IsReceived}
 use Rattle.qrules.proofs.Past.RowLaws.{call_laws}
-use Rattle.qrules.proofs.Past.Ends.{laws_of, ending_names, known, open_known}
+use Rattle.qrules.proofs.Past.Ends.{laws_of, ending_names, open_known}
 use Rattle.qrules.proofs.Past.Items.{IsPending, pending_all, item_below}
+use Rattle.qrules.proofs.Rosters.{known}
 
 -- ---- what is told of one among the endings that some threads get
 
@@ -110,29 +111,13 @@ refused_receipts f t c X i a = rw (a.2) refl
 
 -- ---- which item a receipt is of
 
--- what is true of each item is true of the best
-pub best_at : (P : Item → Type 0) (kind : Kind) (items : List Item) (x : Item) → AllByRecursion P items → best_of kind items ≡ Some x → P x
-best_at P kind [] x all best = absurd (none-some x best)
-best_at P kind (y ∷ items) x all best =
-    elim (may_take kind y) as (λ b. cond b (Some (first_of_two y (best_of kind items))) (best_of kind items) ≡ Some x → P x) [
-      | true ↦ elim (best_of kind items) as (λ o. best_of kind items ≡ o → Some (first_of_two y o) ≡ Some x → P x) [
-        | None ↦ λ e at. subst P (same_Some y x at) all.0
-        | Some z ↦ λ e.
-            elim (nat_lt y.priority z.priority) as (λ b. Some (cond b z y) ≡ Some x → P x) [
-              | true ↦ λ at. subst P (same_Some z x at) (best_at P kind items z all.1 e)
-              | false ↦ λ at. subst P (same_Some y x at) all.0
-            ]
-      ] refl
-      | false ↦ λ at. best_at P kind items x all.1 at
-    ] best
-
 pub best_pending : (roster : List Member) (past : Trace) (h : ℕ) (kind : Kind) (item : Item) → best_of kind ((facts_of roster past).pending h) ≡ Some item → IsPending roster past h item
-best_pending roster past h kind item best = best_at (IsPending roster past h) kind ((facts_of roster past).pending h) item (pending_all roster past h) best
+best_pending roster past h kind item best = best-at (IsPending roster past h) kind ((facts_of roster past).pending h) item (pending_all roster past h) best
 
 pub received_below : (roster : List Member) (past : Trace) (t : ℕ) (c : Call) (r : Received) → IsReceived (facts_of roster past) t c r → r.item ≤ length past + 1
 received_below roster past t c r k = elim (k.source) [
   | inl new ↦
-      let number : k.item.number ≡ length past + 1 = ((call_laws c).makes_one (facts_of roster past).connection (facts_of roster past).priority (length past + 1) t _ new.made).number in
+      let number : k.item.number ≡ length past + 1 = ((call_laws c).makes_one (facts_of roster past) t _ new.made).number in
       omega (arith, k.number)
   | inr old ↦
       let below : k.item.number ≤ length past = item_below roster past k.item.number _ (best_pending roster past r.channel old.kind k.item old.best).made in

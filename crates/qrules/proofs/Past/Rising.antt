@@ -1,35 +1,26 @@
 -- The items of a channel stand in rising number.
-use Rattle.std.proofs.Common.{◌≡◌, ℕ, ◌+◌, ◌<◌, ◌≤◌, List, [], ◌∷◌, ◌++◌, length, refl, sym, subst, cond, arith, Bool, true, false, eqb}
-use Rattle.std.specs.Prelude.{Option, None, Some, not, filter}
+use Rattle.std.proofs.Common.{◌≡◌, ℕ, ◌+◌, ◌<◌, ◌≤◌, List, [], ◌∷◌, ◌++◌, length, refl, sym, subst, cond, arith, true, false, eqb}
+use Rattle.std.specs.Prelude.{Option, None, Some, not}
 use Rattle.std.specs.List.{AllByRecursion}
 use Rattle.std.proofs.lemmas.List.{append-nil}
 use Rattle.qqueue.specs.Contents.{IsRising}
 use Rattle.qqueue.specs.declared.item.Item.{Item}
+use Rattle.qqueue.proofs.RisingLaws.{IsRising-push, IsRising-filter}
 use Rattle.qtables.specs.declared.member.Member.{Member}
 use Rattle.qrules.specs.Past.{is_closed, is_gone, item_of, pending}
 use Rattle.qrules.specs.Rows.{Made}
 use Rattle.qrules.specs.Step.{made_on}
 use Rattle.qrules.specs.Trace.{Event, Trace}
-use Rattle.qrules.proofs.Past.Best.{rising_push}
-use Rattle.qrules.proofs.Past.Lists.{all_filter, all_more}
+use Rattle.qrules.proofs.Past.Lists.{all_more}
 use Rattle.qrules.proofs.Past.Items.{IsPending, Stands, items_on, stands_all, staying, pending_all, item_below, made_by}
 use Rattle.qrules.proofs.Past.Pending.{items_more}
-
--- what is left of rising items rises
-rising_left : (p : Item → Bool) (items : List Item) → IsRising items → IsRising (filter p items)
-rising_left p [] rising = tt
-rising_left p (x ∷ items) rising =
-    elim (p x) as (λ b. IsRising (cond b (x ∷ filter p items) (filter p items))) [
-      | true ↦ (all_filter (λ y. x.number < y.number) p items rising.0, rising_left p items rising.1)
-      | false ↦ rising_left p items rising.1
-    ]
 
 -- rising items, and one that is made after them
 rising_made : (items : List Item) (h : ℕ) (o : Option Made) → IsRising items → ((m : Made) → o ≡ Some m → AllByRecursion (λ y. y.number < m.item.number) items) → IsRising (items ++ made_on h o)
 rising_made items h None rising above = subst IsRising (sym (append-nil items)) rising
 rising_made items h (Some m) rising above =
     elim (eqb m.channel h) as (λ b. IsRising (items ++ cond b (m.item ∷ []) [])) [
-      | true ↦ rising_push items m.item rising (above m refl)
+      | true ↦ IsRising-push items m.item rising (above m refl)
       | false ↦ subst IsRising (sym (append-nil items)) rising
     ]
 
@@ -44,7 +35,7 @@ items_rise roster (e ∷ past) h = subst IsRising (sym (items_more roster e past
 pub pending_rises : (roster : List Member) (past : Trace) (h : ℕ) → IsRising (pending roster past h)
 pending_rises roster past h = elim (is_closed past h) as (λ b. IsRising (cond b [] (staying roster past h))) [
   | true ↦ tt
-  | false ↦ rising_left (λ item. not (is_gone past item)) (items_on roster past h) (items_rise roster past h)
+  | false ↦ IsRising-filter (λ item. not (is_gone past item)) (items_on roster past h) (items_rise roster past h)
 ]
 
 -- and so it does with the item that the next event makes

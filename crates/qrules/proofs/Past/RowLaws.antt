@@ -2,7 +2,7 @@
 use Rattle.std.proofs.Common.{ℕ}
 use Rattle.qrules.specs.Facts.{Facts}
 use Rattle.qrules.specs.declared.call.Call.{Call}
-use Rattle.qrules.specs.declared.call.Call.TheVariants.{ChannelCreate, ConnectAttach, Send, Receive, Reply, Error, Read, Write, Info, ReceivePulse, Pulse, PrioritySet, State, ChannelDestroy, Shutdown}
+use Rattle.qrules.specs.declared.call.Call.TheVariants.{ChannelCreate, ConnectAttach, Send, Receive, Reply, Error, Read, Write, Info, ReceivePulse, Pulse, PrioritySet, State, ChannelDestroy, Shutdown, Unblock}
 use Rattle.qrules.proofs.Past.Laws.{CallLaws, RowLaws, Passes}
 use Rattle.qrules.proofs.Calls.ChannelCreate as channel_create
 use Rattle.qrules.proofs.Calls.ConnectAttach as connect_attach
@@ -19,6 +19,7 @@ use Rattle.qrules.proofs.Calls.PrioritySet as priority_set
 use Rattle.qrules.proofs.Calls.State as state
 use Rattle.qrules.proofs.Calls.ChannelDestroy as channel_destroy
 use Rattle.qrules.proofs.Calls.Shutdown as shutdown
+use Rattle.qrules.proofs.Calls.Unblock as unblock
 
 pub call_laws : (c : Call) → CallLaws c
 call_laws (ChannelCreate flags) = channel_create.call_laws flags
@@ -36,6 +37,7 @@ call_laws (PrioritySet thread priority) = priority_set.call_laws thread priority
 call_laws (State thread) = state.call_laws thread
 call_laws (ChannelDestroy chid) = channel_destroy.call_laws chid
 call_laws Shutdown = shutdown.call_laws
+call_laws (Unblock thread) = unblock.call_laws thread
 
 pub row_laws : (f : Facts) (t : ℕ) (c : Call) → Passes f t c → RowLaws f t c
 row_laws f t (ChannelCreate flags) p = channel_create.row_laws f t flags p
@@ -53,3 +55,4 @@ row_laws f t (PrioritySet thread priority) p = priority_set.row_laws f t thread 
 row_laws f t (State thread) p = state.row_laws f t thread p
 row_laws f t (ChannelDestroy chid) p = channel_destroy.row_laws f t chid p
 row_laws f t Shutdown p = shutdown.row_laws f t p
+row_laws f t (Unblock thread) p = unblock.row_laws f t thread p

@@ -1,5 +1,5 @@
 -- What is written over the reply buffers of messages after one more event.
-use Rattle.std.proofs.Common.{◌≡◌, ℕ, ◌+◌, ◌<◌, ◌≤◌, List, [], ◌∷◌, length, refl, ap, sym, ◌∙◌, cond, arith, true, false, eqb, inl, inr}
+use Rattle.std.proofs.Common.{◌≡◌, ℕ, ◌+◌, ◌<◌, ◌≤◌, List, [], ◌∷◌, length, refl, ap, sym, ◌∙◌, cond, arith, Bool, true, false, eqb, inl, inr}
 use Rattle.std.specs.Prelude.{Option, None, Some}
 use Rattle.std.proofs.lemmas.Bool.{cases_Bool, eqb-true, eqb-false, ne_eqb}
 use Rattle.std.proofs.lemmas.Option.{same_Some}
@@ -73,10 +73,10 @@ filled_accepted e past o r =
 -- ---- with a receipt
 
 -- a write and a receipt go past each other
-changed_receipt : (f : List ℕ → List ℕ) (priority : ℕ) (r : Option ℕ) (o : OpenCall) → with_receipt priority r (changed f o) ≡ changed f (with_receipt priority r o)
-changed_receipt f priority None o = refl
-changed_receipt f priority (Some copied) o = by_wait o.wait where
-  by_wait : (w : Wait) → with_receipt priority (Some copied) (changed f (record { number = o.number; wait = w })) ≡ changed f (with_receipt priority (Some copied) (record { number = o.number; wait = w }))
+changed_receipt : (f : List ℕ → List ℕ) (priority : ℕ) (unblocked : Bool) (r : Option ℕ) (o : OpenCall) → with_receipt priority unblocked r (changed f o) ≡ changed f (with_receipt priority unblocked r o)
+changed_receipt f priority unblocked None o = refl
+changed_receipt f priority unblocked (Some copied) o = by_wait o.wait where
+  by_wait : (w : Wait) → with_receipt priority unblocked (Some copied) (changed f (record { number = o.number; wait = w })) ≡ changed f (with_receipt priority unblocked (Some copied) (record { number = o.number; wait = w }))
   by_wait (Answer coid message reply_buffer receipt) = refl
   by_wait (ForItem chid kind buffer) = refl
 
@@ -88,11 +88,11 @@ written_after f (Some x) u o h = rw (h x refl) (elim (eqb x.message o.number) as
   | false ↦ ap (λ y. Some y) (change_none (λ b. b) o (λ b. refl))
 ])
 
-pub receipt_written : (f : Facts) (w : Option Written) (u priority : ℕ) (r : Option ℕ) (o : OpenCall) → (with_receipt priority r o).number ≡ o.number → ((x : Written) → w ≡ Some x → is_thread (sender f x.message) u ≡ eqb x.message o.number)
-    → Some (with_receipt priority r (changed (written_over w o.number) o)) ≡ after_write f w u (Some (with_receipt priority r o))
-receipt_written f w u priority r o number h =
-    ap (λ x. Some x) (changed_receipt (written_over w o.number) priority r o ∙ ap (λ i. changed (written_over w i) (with_receipt priority r o)) (sym number))
-    ∙ written_after f w u (with_receipt priority r o) (λ x is. h x is ∙ ap (eqb x.message) (sym number))
+pub receipt_written : (f : Facts) (w : Option Written) (u priority : ℕ) (unblocked : Bool) (r : Option ℕ) (o : OpenCall) → (with_receipt priority unblocked r o).number ≡ o.number → ((x : Written) → w ≡ Some x → is_thread (sender f x.message) u ≡ eqb x.message o.number)
+    → Some (with_receipt priority unblocked r (changed (written_over w o.number) o)) ≡ after_write f w u (Some (with_receipt priority unblocked r o))
+receipt_written f w u priority unblocked r o number h =
+    ap (λ x. Some x) (changed_receipt (written_over w o.number) priority unblocked r o ∙ ap (λ i. changed (written_over w i) (with_receipt priority unblocked r o)) (sym number))
+    ∙ written_after f w u (with_receipt priority unblocked r o) (λ x is. h x is ∙ ap (eqb x.message) (sym number))
 
 -- ---- whose buffer is written
 

@@ -16,13 +16,15 @@ use Rattle.qrules.specs.Lawful.{facts_of, IsLawful}
 use Rattle.qrules.specs.Past.{connection_at, is_taken}
 use Rattle.qrules.specs.Trace.{Event, Trace}
 use Rattle.qrules.specs.declared.call.Completion.{Completion}
-use Rattle.qrules.proofs.Past.Ends.{known, open_known, passes_of}
+use Rattle.qrules.proofs.Past.Ends.{open_known, passes_of}
 use Rattle.qrules.proofs.Past.Laws.{is_settled}
 use Rattle.qrules.proofs.Past.Lists.{all_filter_map, all_more, is_among}
 use Rattle.qrules.proofs.Past.Numbers.{buffer_answer, held_for_answer, open_parts}
 use Rattle.qrules.proofs.Properties.Answers.{AnswersHeld, answers_held, answers_one, over}
 use Rattle.qrules.proofs.Properties.Events.{is_accepted_by, outcome_of}
-use Rattle.qrules.proofs.Properties.Sends.{block_sender, held_is_taken, item_channel, open_keeps, open_over}
+use Rattle.qrules.proofs.Past.Unblocked.{held_is_taken}
+use Rattle.qrules.proofs.Rosters.{known}
+use Rattle.qrules.proofs.Properties.Sends.{block_sender, item_channel, open_keeps, open_over}
 
 -- ---- each answer is one to the message that the call names
 

@@ -19,11 +19,12 @@ use Rattle.qrules.specs.Held.{Finish, ends_sender, refusal}
 use Rattle.qrules.specs.declared.call.Info.{Info as Told}
 use Rattle.qrules.specs.declared.call.Mark.TheVariants as mark
 use Rattle.qrules.specs.Cutting.{is_on}
-use Rattle.qrules.specs.Facts.{Facts, is_for_answer, message, sender, threads_of}
+use Rattle.qrules.specs.Facts.{Facts, is_for_answer, message, sender, threads_of, way}
 use Rattle.qrules.specs.Headline.AnsweredToSender.{answered_by, is_answer, thread_of_send}
-use Rattle.qrules.specs.Rows.{Made, asks, given, makes, pulse_item}
+use Rattle.qrules.specs.Items.{makes}
+use Rattle.qrules.specs.Rows.{Made, asks, given, pulse_item, sent_over}
 use Rattle.qrules.specs.declared.call.Call.{Call}
-use Rattle.qrules.specs.declared.call.Call.TheVariants.{ChannelCreate, ConnectAttach, Send, Receive, Reply, Error, Read, Write, Info, ReceivePulse, Pulse, PrioritySet, State, ChannelDestroy, Shutdown}
+use Rattle.qrules.specs.declared.call.Call.TheVariants.{ChannelCreate, ConnectAttach, Send, Receive, Reply, Error, Read, Write, Info, ReceivePulse, Pulse, PrioritySet, State, ChannelDestroy, Shutdown, Unblock}
 use Rattle.qrules.specs.declared.call.Completion.{Completion}
 use Rattle.qrules.specs.declared.open_call.OpenCall.{OpenCall}
 use Rattle.qrules.specs.declared.open_call.Wait.{Wait}
@@ -36,7 +37,10 @@ use Rattle.qrules.proofs.Past.Laws.{Passes}
 use Rattle.qrules.proofs.Properties.Receipts.{ending_of}
 use Rattle.qrules.proofs.Calls.Taking.{given_is}
 use Rattle.qrules.proofs.Properties.Rows.Receiving.{ReceiveTakes, receive_takes}
-use Rattle.qrules.proofs.Properties.Rows.Delivering.{Meets, delivery_meets, has_way, way_leads}
+use Rattle.qrules.proofs.Properties.Rows.Delivering.{Meets, delivery_meets}
+use Rattle.qrules.proofs.Ways.{has_way, leads_over}
+use Rattle.qrules.specs.Calls.Unblock.{due}
+use Rattle.qrules.proofs.Properties.Rows.Unblock.{unblock_ends}
 
 -- ---- what answers
 
@@ -58,8 +62,8 @@ given_no_answer item message buffer = given_is is_answer false (λ i n. refl) it
 takes_no_answer : {P : Type 0} (f : Facts) (t chid : ℕ) (kind : Kind) (buffer : List ℕ) (y : Completion) → ReceiveTakes f t chid kind buffer y → is_answer y.mark ≡ true → P
 takes_no_answer f t chid kind buffer y r is = no_answer _ y r.ending (given_no_answer r.item (message f r.item.number) buffer) is
 
-met_no_answer : {P : Type 0} (f : Facts) (t coid : ℕ) (item : Item) (sent : List ℕ) (u : ℕ) (y : Completion) → Meets f t coid item sent u y → is_answer y.mark ≡ true → P
-met_no_answer f t coid item sent u y s is = no_answer _ y s.ending (given_no_answer item sent s.buffer) is
+met_no_answer : {P : Type 0} (f : Facts) (o : Option ℕ) (item : Item) (sent : List ℕ) (u : ℕ) (y : Completion) → Meets f o item sent u y → is_answer y.mark ≡ true → P
+met_no_answer f o item sent u y s is = no_answer _ y s.ending (given_no_answer item sent s.buffer) is
 
 -- what is told is no answer
 tells_only : (n t : ℕ) (o : Option Told) (y : Completion) → option_map (telling n t) o ≡ Some y → is_answer y.mark ≡ false
@@ -82,6 +86,7 @@ own_answers f t (PrioritySet thread level) u y e is = no_answer _ y (same_Some _
 own_answers f t (State thread) u y e is = no_answer _ y (same_Some _ y e) refl is
 own_answers f t (ChannelDestroy chid) u y e is = no_answer _ y (same_Some _ y e) refl is
 own_answers f t Shutdown u y e is = no_answer _ y (same_Some _ y e) refl is
+own_answers f t (Unblock thread) u y e is = no_answer _ y (same_Some _ y e) refl is
 
 -- the Send that a call ends is the one that it names
 answers_by : (f : Facts) (t : ℕ) (c : Call) (rcvid : ℕ) (finish : Finish) (u : ℕ) (y : Completion) → answered_by c ≡ Some rcvid → SenderEnds f t rcvid finish u y → AnswersHeld f t c u y
@@ -98,9 +103,9 @@ answers_by f t c rcvid finish u y named r =
 ends_answers : (f : Facts) (t : ℕ) (c : Call) (u : ℕ) (y : Completion) → Passes f t c → (row_of f t c).ends u ≡ Some y → is_answer y.mark ≡ true → AnswersHeld f t c u y
 ends_answers f t (ChannelCreate flags) u y p e is = absurd (none-some y e)
 ends_answers f t (ConnectAttach chid) u y p e is = absurd (none-some y e)
-ends_answers f t (Send coid message reply_buffer) u y p e is = met_no_answer f t coid (item f t) message u y (delivery_meets f t coid (item f t) message u y e) is
+ends_answers f t (Send coid message reply_buffer) u y p e is = met_no_answer f (way f t coid) (item f t) message u y (delivery_meets f (way f t coid) (item f t) message u y e) is
 ends_answers f t (Pulse coid level code value) u y p e is =
-    met_no_answer f t coid (pulse_item f.number level code value) [] u y (delivery_meets f t coid (pulse_item f.number level code value) [] u y e) is
+    met_no_answer f (way f t coid) (pulse_item f.number level code value) [] u y (delivery_meets f (way f t coid) (pulse_item f.number level code value) [] u y e) is
 ends_answers f t (ReceivePulse chid) u y p e is = absurd (none-some y e)
 ends_answers f t (Receive chid buffer) u y p e is = absurd (none-some y e)
 ends_answers f t (Reply rcvid status bytes) u y p e is = answers_by f t (Reply rcvid status bytes) rcvid (replied status bytes) u y refl (sender_ends f t rcvid (replied status bytes) u y p.row e)
@@ -112,6 +117,10 @@ ends_answers f t (PrioritySet thread level) u y p e is = absurd (none-some y e)
 ends_answers f t (State thread) u y p e is = absurd (none-some y e)
 ends_answers f t (ChannelDestroy chid) u y p e is = no_answer _ y (cut_parts (is_on f.connection chid) Srch u (f.open_call u) y e).ending refl is
 ends_answers f t Shutdown u y p e is = no_answer _ y (cut_parts (λ wait. true) Srch u (f.open_call u) y e).ending refl is
+ends_answers f t (Unblock thread) u y p e is = elim (unblock_ends f thread u y (due f thread) refl e) [
+  | inl cut ↦ no_answer _ y cut.ending refl is
+  | inr k ↦ met_no_answer f (Some k.made.channel) k.made.item [] u y k.meets is
+]
 
 -- each ending that answers a message answers so
 pub answers_held : (f : Facts) (t : ℕ) (c : Call) (u : ℕ) (y : Completion) → Passes f t c → ending f t c u ≡ Some y → is_answer y.mark ≡ true → AnswersHeld f t c u y
@@ -166,6 +175,7 @@ answers_one f t (PrioritySet thread level) i p e = absurd (none-some i e)
 answers_one f t (State thread) i p e = absurd (none-some i e)
 answers_one f t (ChannelDestroy chid) i p e = absurd (none-some i e)
 answers_one f t Shutdown i p e = absurd (none-some i e)
+answers_one f t (Unblock thread) i p e = absurd (none-some i e)
 answers_one f t (ReceivePulse chid) i p e = absurd (none-some i e)
 answers_one f t (Pulse coid level code value) i p e = absurd (none-some i e)
 answers_one f t (Reply rcvid status bytes) i p e = ends_one f t (Reply rcvid status bytes) rcvid (replied status bytes) i p.row (λ u. refl) (λ buffer. refl) (same_Some rcvid i e)
@@ -178,7 +188,7 @@ pub record SendsOver (f : Facts) (t : ℕ) (c : Call) (coid : ℕ) : Type 0 wher
   pub connection : Connection
   pub is_connection : f.connection coid ≡ Some connection
   pub made : Made
-  pub is_made : makes f.connection f.priority f.number t c ≡ Some made
+  pub is_made : makes f t c ≡ Some made
   pub channel : made.channel ≡ connection.channel
 
 -- the connection of a wait for an answer
@@ -189,12 +199,12 @@ over (ForItem chid kind buffer) = 0
 send_over : (f : Facts) (t coid : ℕ) (message reply_buffer : List ℕ) → Passes f t (Send coid message reply_buffer) → SendsOver f t (Send coid message reply_buffer) coid
 send_over f t coid message reply_buffer p =
     let h = has_way f t coid p.row in
-    let l = way_leads f t coid h.0 h.1 in
+    let l = leads_over f t (f.connection coid) h.0 h.1 in
     record {
       connection = l.connection;
       is_connection = l.is;
       made = record { item = item f t; channel = l.connection.channel };
-      is_made = rw (l.is) refl;
+      is_made = ap (λ o. sent_over o (item f t)) l.is;
       channel = refl;
     }
 
@@ -210,6 +220,7 @@ sends_over f t (PrioritySet thread level) b p e w = absurd (none-some b e)
 sends_over f t (State thread) b p e w = absurd (none-some b e)
 sends_over f t (ChannelDestroy chid) b p e w = absurd (none-some b e)
 sends_over f t Shutdown b p e w = absurd (none-some b e)
+sends_over f t (Unblock thread) b p e w = absurd (none-some b e)
 sends_over f t (Pulse coid level code value) b p e w = absurd (none-some b e)
 sends_over f t (ReceivePulse chid) b p e w = absurd (true≢false (sym w ∙ ap (λ o. is_for_answer o.wait) (sym (same_Some _ b e))))
 sends_over f t (Receive chid buffer) b p e w = absurd (true≢false (sym w ∙ ap (λ o. is_for_answer o.wait) (sym (same_Some _ b e))))
@@ -231,5 +242,6 @@ sends_by n t (PrioritySet thread level) b e w = absurd (none-some b e)
 sends_by n t (State thread) b e w = absurd (none-some b e)
 sends_by n t (ChannelDestroy chid) b e w = absurd (none-some b e)
 sends_by n t Shutdown b e w = absurd (none-some b e)
+sends_by n t (Unblock thread) b e w = absurd (none-some b e)
 sends_by n t (Pulse coid level code value) b e w = absurd (none-some b e)
 sends_by n t (ReceivePulse chid) b e w = absurd (true≢false (sym w ∙ ap (λ o. is_for_answer o.wait) (sym (same_Some _ b e))))

@@ -11,16 +11,18 @@ use Rattle.qrules.specs.Headline.BestFirst.{takeable}
 use Rattle.qrules.specs.Headline.CopiedExactly.{call_at}
 use Rattle.qrules.specs.Headline.SentOrder.{connection_of, sends_over}
 use Rattle.qrules.specs.Past.{connection_at, item_of, pending, priority_of_thread}
-use Rattle.qrules.specs.Rows.{message_item, pulse_item, Made, makes, sent_over}
+use Rattle.qrules.specs.Items.{makes}
+use Rattle.qrules.specs.Rows.{message_item, pulse_item, Made, sent_over}
 use Rattle.qrules.specs.Step.{made_on}
 use Rattle.qrules.specs.Trace.{Event, Trace}
 use Rattle.qrules.specs.declared.call.Call.{Call}
-use Rattle.qrules.specs.declared.call.Call.TheVariants.{ChannelCreate, ConnectAttach, Send, Receive, Reply, Error, Read, Write, Info, ReceivePulse, Pulse, PrioritySet, State, ChannelDestroy, Shutdown}
-use Rattle.qrules.proofs.Past.Items.{IsPending, item_at, item_below, item_earlier, item_newest, made_by, pending_all}
+use Rattle.qrules.specs.declared.call.Call.TheVariants.{ChannelCreate, ConnectAttach, Send, Receive, Reply, Error, Read, Write, Info, ReceivePulse, Pulse, PrioritySet, State, ChannelDestroy, Shutdown, Unblock}
+use Rattle.qrules.proofs.Past.Items.{item_accepted, IsPending, item_at, item_below, item_earlier, item_newest, made_by, pending_all}
 use Rattle.qrules.proofs.Past.Lists.{all_append, all_more}
 use Rattle.qrules.proofs.Past.Pending.{made_all}
-use Rattle.qrules.proofs.Properties.Messages.{made_accepted}
 use Rattle.qrules.proofs.Properties.Sends.{made_stays}
+use Rattle.qrules.specs.Facts.{Facts}
+use Rattle.qrules.specs.Lawful.{facts_of}
 
 -- ---- each is an item of the channel
 
@@ -48,23 +50,24 @@ sent_is_over connection k item m e =
       | Some c ↦ λ is s. record { over = c; is = is; channel = ap (λ (x : Made). x.channel) (sym (same_Some _ m s)) }
     ] refl e
 
-makes_over : (connection : ℕ → Option Connection) (priority : ℕ → ℕ) (n t : ℕ) (c : Call) (m : Made) (k : ℕ) → makes connection priority n t c ≡ Some m → sends_over c ≡ Some k → IsOver connection k m
-makes_over connection priority n t (ChannelCreate flags) m k e s = absurd (none-some k s)
-makes_over connection priority n t (ConnectAttach chid) m k e s = absurd (none-some k s)
-makes_over connection priority n t (Receive chid buffer) m k e s = absurd (none-some k s)
-makes_over connection priority n t (Reply rcvid status bytes) m k e s = absurd (none-some k s)
-makes_over connection priority n t (Error rcvid code) m k e s = absurd (none-some k s)
-makes_over connection priority n t (Read rcvid offset buffer) m k e s = absurd (none-some k s)
-makes_over connection priority n t (Write rcvid offset bytes) m k e s = absurd (none-some k s)
-makes_over connection priority n t (Info rcvid) m k e s = absurd (none-some k s)
-makes_over connection priority n t (PrioritySet thread level) m k e s = absurd (none-some k s)
-makes_over connection priority n t (State thread) m k e s = absurd (none-some k s)
-makes_over connection priority n t (ChannelDestroy chid) m k e s = absurd (none-some k s)
-makes_over connection priority n t Shutdown m k e s = absurd (none-some k s)
-makes_over connection priority n t (ReceivePulse chid) m k e s = absurd (none-some k s)
-makes_over connection priority n t (Pulse coid level code value) m k e s = subst (λ i. IsOver connection i m) (same_Some coid k s) (sent_is_over connection coid (pulse_item n level code value) m e)
-makes_over connection priority n t (Send coid message reply_buffer) m k e s =
-    subst (λ i. IsOver connection i m) (same_Some coid k s) (sent_is_over connection coid (message_item n (priority t)) m e)
+makes_over : (f : Facts) (t : ℕ) (c : Call) (m : Made) (k : ℕ) → makes f t c ≡ Some m → sends_over c ≡ Some k → IsOver f.connection k m
+makes_over f t (ChannelCreate flags) m k e s = absurd (none-some k s)
+makes_over f t (ConnectAttach chid) m k e s = absurd (none-some k s)
+makes_over f t (Receive chid buffer) m k e s = absurd (none-some k s)
+makes_over f t (Reply rcvid status bytes) m k e s = absurd (none-some k s)
+makes_over f t (Error rcvid code) m k e s = absurd (none-some k s)
+makes_over f t (Read rcvid offset buffer) m k e s = absurd (none-some k s)
+makes_over f t (Write rcvid offset bytes) m k e s = absurd (none-some k s)
+makes_over f t (Info rcvid) m k e s = absurd (none-some k s)
+makes_over f t (PrioritySet thread level) m k e s = absurd (none-some k s)
+makes_over f t (State thread) m k e s = absurd (none-some k s)
+makes_over f t (ChannelDestroy chid) m k e s = absurd (none-some k s)
+makes_over f t Shutdown m k e s = absurd (none-some k s)
+makes_over f t (Unblock thread) m k e s = absurd (none-some k s)
+makes_over f t (ReceivePulse chid) m k e s = absurd (none-some k s)
+makes_over f t (Pulse coid level code value) m k e s = subst (λ i. IsOver f.connection i m) (same_Some coid k s) (sent_is_over f.connection coid (pulse_item f.number level code value) m e)
+makes_over f t (Send coid message reply_buffer) m k e s =
+    subst (λ i. IsOver f.connection i m) (same_Some coid k s) (sent_is_over f.connection coid (message_item f.number (f.priority t)) m e)
 
 pub item_over : (roster : List Member) (past : Trace) (i k : ℕ) (m : Made) → item_at roster past i ≡ Some m → connection_of past i ≡ Some k → IsOver (connection_at roster past) k m
 item_over roster [] i k m is over = absurd (none-some m is)
@@ -72,7 +75,7 @@ item_over roster (e ∷ past) i k m is over =
     elim (eqb i (length past + 1)) as (λ b. cond b (item_of roster e past) (item_at roster past i) ≡ Some m
     → option_and_then sends_over (cond b (Some e.call) (call_at past i)) ≡ Some k → IsOver (connection_at roster (e ∷ past)) k m) [
       | true ↦ λ at by.
-          let w = makes_over (connection_at roster past) (priority_of_thread roster past) (length past + 1) e.thread e.call m k (made_accepted roster e past m at).1 by in
+          let w = makes_over (facts_of roster past) e.thread e.call m k (item_accepted roster e past m at).1 by in
           record { over = w.over; is = made_stays _ e past k w.over w.is; channel = w.channel }
       | false ↦ λ at by.
           let w = item_over roster past i k m at by in

@@ -7,7 +7,7 @@ use Rattle.std.specs.Ordering.{int_eq}
 use Rattle.std.proofs.lemmas.Bool.{true≢false}
 use Rattle.std.proofs.lemmas.Option.{none-some, same_Some}
 use Rattle.qbase.specs.declared.errno.Errno.{Errno}
-use Rattle.qbase.specs.declared.errno.Errno.TheVariants.{Srch}
+use Rattle.qbase.specs.declared.errno.Errno.TheVariants.{Srch, Intr}
 use Rattle.qqueue.specs.Best.{is_pulse}
 use Rattle.qqueue.specs.declared.item.Item.{Item}
 use Rattle.qqueue.specs.declared.item.Kind.{Kind}
@@ -21,7 +21,7 @@ use Rattle.qrules.specs.Calls.Info.{told, telling}
 use Rattle.qrules.specs.Calls.Reply.{replied}
 use Rattle.qrules.specs.Calls.Send as send
 use Rattle.qrules.specs.Cutting.{buffer_of_wait, cut_call, is_on}
-use Rattle.qrules.specs.Facts.{Facts, message, message_in, sender, threads_of}
+use Rattle.qrules.specs.Facts.{Facts, message, message_in, sender, threads_of, way}
 use Rattle.qrules.specs.Held.{Finish, refusal, reply_buffer, reply_buffer_in, reply_buffer_of}
 use Rattle.qrules.specs.Headline.CopiedExactly.{CopiedExactly, IsCopied, buffer_at, buffer_by, call_at, message_at, message_of, replies_with}
 use Rattle.qrules.specs.Lawful.{facts_of, IsLawful}
@@ -29,7 +29,7 @@ use Rattle.qrules.specs.Past.{open_call, refuses}
 use Rattle.qrules.specs.Rows.{pulse_item, taking, writes}
 use Rattle.qrules.specs.Trace.{Event, Trace}
 use Rattle.qrules.specs.declared.call.Call.{Call}
-use Rattle.qrules.specs.declared.call.Call.TheVariants.{ChannelCreate, ConnectAttach, Send, Receive, Reply, Error, Read, Write, Info, ReceivePulse, Pulse, PrioritySet, State, ChannelDestroy, Shutdown}
+use Rattle.qrules.specs.declared.call.Call.TheVariants.{ChannelCreate, ConnectAttach, Send, Receive, Reply, Error, Read, Write, Info, ReceivePulse, Pulse, PrioritySet, State, ChannelDestroy, Shutdown, Unblock}
 use Rattle.qrules.specs.declared.call.Completion.{Completion}
 use Rattle.qrules.specs.declared.call.Info.{Info as Told}
 use Rattle.qrules.specs.declared.call.Mark.{Mark}
@@ -51,6 +51,9 @@ use Rattle.qrules.proofs.Properties.Rows.Receiving.{ReceiveTakes, receive_takes}
 use Rattle.qrules.proofs.Calls.Cutting.{IsCutCall, cut_parts}
 use Rattle.qrules.proofs.Calls.Held.{IsHeldFor, SenderEnds, answering, has_sender, held_for, sender_ends}
 use Rattle.qrules.proofs.Properties.Rows.Delivering.{Meets, delivery_meets}
+use Rattle.qrules.proofs.Properties.Rows.Unblock.{unblock_ends}
+use Rattle.qrules.specs.Calls.Unblock.{due}
+use Rattle.qrules.proofs.Calls.Unblock.{due_pulse, is_cut}
 
 abbrev event : ℕ → Call → List Completion → Event
 event t c X = record { thread = t; call = c; endings = X }
@@ -81,6 +84,7 @@ buffer_stays e past i (PrioritySet thread level) none = refl
 buffer_stays e past i (State thread) none = refl
 buffer_stays e past i (ChannelDestroy chid) none = refl
 buffer_stays e past i Shutdown none = refl
+buffer_stays e past i (Unblock thread) none = refl
 buffer_stays e past i (ReceivePulse chid) none = refl
 buffer_stays e past i (Pulse coid level code value) none = refl
 
@@ -185,6 +189,7 @@ own_copied roster past t (PrioritySet thread level) X y l p e = plain_copied pas
 own_copied roster past t (State thread) X y l p e = plain_copied past (event t (State thread) X) y _ (same_Some _ y e) (sym (buffer_newest (event t (State thread) X) past))
 own_copied roster past t (ChannelDestroy chid) X y l p e = plain_copied past (event t (ChannelDestroy chid) X) y _ (same_Some _ y e) (sym (buffer_newest (event t (ChannelDestroy chid) X) past))
 own_copied roster past t Shutdown X y l p e = plain_copied past (event t Shutdown X) y _ (same_Some _ y e) (sym (buffer_newest (event t Shutdown X) past))
+own_copied roster past t (Unblock thread) X y l p e = plain_copied past (event t (Unblock thread) X) y _ (same_Some _ y e) (sym (buffer_newest (event t (Unblock thread) X) past))
 own_copied roster past t (Pulse coid level code value) X y l p e = plain_copied past (event t (Pulse coid level code value) X) y _ (same_Some _ y e) (sym (buffer_newest (event t (Pulse coid level code value) X) past))
 own_copied roster past t (Receive chid buffer) X y l p e = best_copied roster past t (Receive chid buffer) X y chid Any buffer l (buffer_newest (event t (Receive chid buffer) X) past) (receive_takes (facts_of roster past) t chid Any buffer y e)
 own_copied roster past t (ReceivePulse chid) X y l p e = best_copied roster past t (ReceivePulse chid) X y chid PulseOnly [] l (buffer_newest (event t (ReceivePulse chid) X) past) (receive_takes (facts_of roster past) t chid PulseOnly [] y e)
@@ -196,9 +201,9 @@ answered_buffer roster past v t rcvid finish u y none r =
     subst (λ i. buffer_at (v ∷ past) i ≡ r.held.reply_buffer) r.number (buffer_open roster v past u r.held.waiting none r.held.is_open ∙ ap buffer_of_wait r.held.waits)
 
 -- what a receiver takes that is met
-met_copied : (roster : List Member) (past : Trace) (t : ℕ) (c : Call) (X : List Completion) (u : ℕ) (y : Completion) (coid : ℕ) (item : Item) (sent : List ℕ) → writes c ≡ None
-    → (is_pulse item.what ≡ false → message_at (event t c X ∷ past) item.number ≡ sent) → Meets (facts_of roster past) t coid item sent u y → IsCopied past (event t c X) y y.mark
-met_copied roster past t c X u y coid item sent none message s =
+met_copied : (roster : List Member) (past : Trace) (t : ℕ) (c : Call) (X : List Completion) (u : ℕ) (y : Completion) (o : Option ℕ) (item : Item) (sent : List ℕ) → writes c ≡ None
+    → (is_pulse item.what ≡ false → message_at (event t c X ∷ past) item.number ≡ sent) → Meets (facts_of roster past) o item sent u y → IsCopied past (event t c X) y y.mark
+met_copied roster past t c X u y o item sent none message s =
     taking_copied past (event t c X) s.waiting.number u item s.buffer sent y (buffer_open roster (event t c X) past u s.waiting none s.is_open ∙ ap buffer_of_wait s.waits) message s.ending
 
 -- what is cut gives its buffer back as it is by now
@@ -219,13 +224,17 @@ ends_copied roster past t (PrioritySet thread level) X u y p e = absurd (none-so
 ends_copied roster past t (State thread) X u y p e = absurd (none-some y e)
 ends_copied roster past t (ChannelDestroy chid) X u y p e = cut_copied roster past t (ChannelDestroy chid) X u y (is_on (facts_of roster past).connection chid) Srch refl (cut_parts (is_on (facts_of roster past).connection chid) Srch u (open_call roster past u) y e)
 ends_copied roster past t Shutdown X u y p e = cut_copied roster past t Shutdown X u y (λ wait. true) Srch refl (cut_parts (λ wait. true) Srch u (open_call roster past u) y e)
+ends_copied roster past t (Unblock thread) X u y p e = elim (unblock_ends (facts_of roster past) thread u y (due (facts_of roster past) thread) refl e) [
+  | inl cut ↦ cut_copied roster past t (Unblock thread) X u y (is_cut (facts_of roster past) thread u) Intr refl cut
+  | inr k ↦ met_copied roster past t (Unblock thread) X u y (Some k.made.channel) k.made.item [] refl (λ message. absurd (true≢false (sym (due_pulse (facts_of roster past) thread k.made k.is_due) ∙ message))) k.meets
+]
 ends_copied roster past t (ReceivePulse chid) X u y p e = absurd (none-some y e)
 ends_copied roster past t (Send coid sent reply_buffer) X u y p e =
-    met_copied roster past t (Send coid sent reply_buffer) X u y coid (send.item (facts_of roster past) t) sent refl (λ message. message_newest (event t (Send coid sent reply_buffer) X) past)
-    (delivery_meets (facts_of roster past) t coid (send.item (facts_of roster past) t) sent u y e)
+    met_copied roster past t (Send coid sent reply_buffer) X u y (way (facts_of roster past) t coid) (send.item (facts_of roster past) t) sent refl (λ message. message_newest (event t (Send coid sent reply_buffer) X) past)
+    (delivery_meets (facts_of roster past) (way (facts_of roster past) t coid) (send.item (facts_of roster past) t) sent u y e)
 ends_copied roster past t (Pulse coid level code value) X u y p e =
-    met_copied roster past t (Pulse coid level code value) X u y coid (pulse_item (length past + 1) level code value) [] refl (λ message. absurd (true≢false message))
-    (delivery_meets (facts_of roster past) t coid (pulse_item (length past + 1) level code value) [] u y e)
+    met_copied roster past t (Pulse coid level code value) X u y (way (facts_of roster past) t coid) (pulse_item (length past + 1) level code value) [] refl (λ message. absurd (true≢false message))
+    (delivery_meets (facts_of roster past) (way (facts_of roster past) t coid) (pulse_item (length past + 1) level code value) [] u y e)
 ends_copied roster past t (Reply rcvid status bytes) X u y p e =
     let r = sender_ends (facts_of roster past) t rcvid (replied status bytes) u y p.row e in
     let v = event t (Reply rcvid status bytes) X in
@@ -261,6 +270,7 @@ refused_buffer roster past t c X l r = brought c ∙ sym (buffer_newest (event t
   brought (State thread) = refl
   brought (ChannelDestroy chid) = refl
   brought Shutdown = refl
+  brought (Unblock thread) = refl
   brought (ReceivePulse chid) = refl
   brought (Pulse coid level code value) = refl
 

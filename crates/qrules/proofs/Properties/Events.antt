@@ -10,7 +10,8 @@ use Rattle.qrules.specs.Facts.{Facts, threads_of}
 use Rattle.qrules.specs.Headline.ReceivedOnce.{item_received}
 use Rattle.qrules.specs.Lawful.{facts_of}
 use Rattle.qrules.specs.Past.{connection_at, is_accepted, item_of, priority_of_thread}
-use Rattle.qrules.specs.Rows.{Made, makes}
+use Rattle.qrules.specs.Items.{makes}
+use Rattle.qrules.specs.Rows.{Made}
 use Rattle.qrules.specs.Trace.{Event, Trace}
 use Rattle.qrules.specs.declared.call.Call.{Call}
 use Rattle.qrules.specs.declared.call.Completion.{Completion}
@@ -34,13 +35,13 @@ outcome_of roster e past a is = elim a [
 
 -- an accepted event made what its call makes
 pub made_now : (roster : List Member) (e : Event) (past : Trace) (m : Made) → Outcome true (facts_of roster past) e.thread e.call e.endings
-    → makes (connection_at roster past) (priority_of_thread roster past) (length past + 1) e.thread e.call ≡ Some m → item_of roster e past ≡ Some m
+    → makes (facts_of roster past) e.thread e.call ≡ Some m → item_of roster e past ≡ Some m
 made_now roster e past m a is = rw (is_accepted_by roster e past a) is
 
 pub none_made : (roster : List Member) (e : Event) (past : Trace)
-    → makes (connection_at roster past) (priority_of_thread roster past) (length past + 1) e.thread e.call ≡ None → item_of roster e past ≡ None
+    → makes (facts_of roster past) e.thread e.call ≡ None → item_of roster e past ≡ None
 none_made roster e past is =
-    elim (is_accepted e past) as (λ b. cond b (makes (connection_at roster past) (priority_of_thread roster past) (length past + 1) e.thread e.call) None ≡ None) [ true ↦ is | false ↦ refl ]
+    elim (is_accepted e past) as (λ b. cond b (makes (facts_of roster past) e.thread e.call) None ≡ None) [ true ↦ is | false ↦ refl ]
 
 -- ---- what the endings of an event receive
 

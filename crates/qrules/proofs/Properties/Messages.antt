@@ -12,24 +12,28 @@ use Rattle.qrules.specs.Cutting.{buffer_of_wait}
 use Rattle.qrules.specs.Facts.{is_for_answer, message, message_in, message_of, sender, threads_of, is_send}
 use Rattle.qrules.specs.Headline.CopiedExactly.{buffer_at, buffer_by, message_at, message_of as message_in_call}
 use Rattle.qrules.specs.Lawful.{facts_of, IsLawful}
-use Rattle.qrules.specs.Past.{connection_at, ends, filled, held_with, is_accepted, is_ended, item_of, newest_block, open_call, priority_of_item, priority_of_thread, receipt_of, with_receipt, with_writes}
-use Rattle.qrules.specs.Rows.{pulse_item, Made, asks, makes, with_buffer}
+use Rattle.qrules.specs.Past.{is_unblocked, connection_at, ends, filled, held_with, is_accepted, is_ended, item_of, newest_block, open_call, priority_of_item, priority_of_thread, receipt_of, with_receipt, with_writes}
+use Rattle.qrules.specs.Facts.{Facts}
+use Rattle.qrules.specs.Items.{makes}
+use Rattle.qrules.specs.Rows.{pulse_item, Made, asks, with_buffer}
 use Rattle.qrules.specs.Trace.{Event, Trace}
 use Rattle.qrules.specs.declared.call.Call.{Call}
-use Rattle.qrules.specs.declared.call.Call.TheVariants.{ChannelCreate, ConnectAttach, Send, Receive, Reply, Error, Read, Write, Info, ReceivePulse, Pulse, PrioritySet, State, ChannelDestroy, Shutdown}
+use Rattle.qrules.specs.declared.call.Call.TheVariants.{ChannelCreate, ConnectAttach, Send, Receive, Reply, Error, Read, Write, Info, ReceivePulse, Pulse, PrioritySet, State, ChannelDestroy, Shutdown, Unblock}
 use Rattle.qrules.specs.declared.open_call.OpenCall.{OpenCall}
 use Rattle.qrules.specs.declared.open_call.Receipt.{Receipt}
 use Rattle.qrules.specs.declared.open_call.Wait.{Wait}
 use Rattle.qrules.specs.declared.open_call.Wait.TheVariants.{Answer, Item as ForItem}
 use Rattle.qrules.proofs.Calls.Delivering.{sent_item}
-use Rattle.qrules.proofs.Past.Ends.{known, open_known, passes_of}
-use Rattle.qrules.proofs.Past.Items.{IsPending, item_at}
+use Rattle.qrules.proofs.Past.Ends.{open_known, passes_of}
+use Rattle.qrules.proofs.Past.Items.{item_accepted, IsPending, item_at}
 use Rattle.qrules.proofs.Past.Lists.{eqb_same}
 use Rattle.qrules.proofs.Past.Numbers.{blocks, blocks_thread, block_asked, filled_answer, open_from, open_parts, open_thread, receipt_for_answer, receipt_number}
 use Rattle.qrules.proofs.Past.RowLaws.{call_laws}
 use Rattle.qrules.proofs.Past.Senders.{send_from, send_parts, sender_found}
 use Rattle.qrules.proofs.Properties.Events.{outcome_of}
 use Rattle.qrules.proofs.Properties.Sends.{open_filled, open_keeps}
+use Rattle.qrules.proofs.Calls.Unblock.{due_pulse}
+use Rattle.qrules.proofs.Rosters.{known}
 
 -- ---- what a call brings is what it waits with
 
@@ -50,6 +54,7 @@ keeps past n (PrioritySet thread level) b e = absurd (none-some b e)
 keeps past n (State thread) b e = absurd (none-some b e)
 keeps past n (ChannelDestroy chid) b e = absurd (none-some b e)
 keeps past n Shutdown b e = absurd (none-some b e)
+keeps past n (Unblock thread) b e = absurd (none-some b e)
 keeps past n (Pulse coid level code value) b e = absurd (none-some b e)
 keeps past n (ReceivePulse chid) b e = subst (Keeps past n (ReceivePulse chid)) (same_Some _ b e) (record { buffer = refl; sent = refl })
 keeps past n (Send coid message reply_buffer) b e = subst (Keeps past n (Send coid message reply_buffer)) (same_Some _ b e) (record { buffer = refl; sent = refl })
@@ -89,24 +94,25 @@ pub record IsMessage (n : ℕ) (c : Call) (m : Made) : Type 0 where
   pub asked : asks n c ≡ Some begins
   pub answer : is_for_answer begins.wait ≡ true
 
-pub makes_message : (connection : ℕ → Option Connection) (priority : ℕ → ℕ) (n t : ℕ) (c : Call) (m : Made) → makes connection priority n t c ≡ Some m → is_pulse m.item.what ≡ false → IsMessage n c m
-makes_message connection priority n t (ChannelCreate flags) m e message = absurd (none-some m e)
-makes_message connection priority n t (ConnectAttach chid) m e message = absurd (none-some m e)
-makes_message connection priority n t (Receive chid buffer) m e message = absurd (none-some m e)
-makes_message connection priority n t (Reply rcvid status bytes) m e message = absurd (none-some m e)
-makes_message connection priority n t (Error rcvid code) m e message = absurd (none-some m e)
-makes_message connection priority n t (Read rcvid offset buffer) m e message = absurd (none-some m e)
-makes_message connection priority n t (Write rcvid offset bytes) m e message = absurd (none-some m e)
-makes_message connection priority n t (Info rcvid) m e message = absurd (none-some m e)
-makes_message connection priority n t (PrioritySet thread level) m e message = absurd (none-some m e)
-makes_message connection priority n t (State thread) m e message = absurd (none-some m e)
-makes_message connection priority n t (ChannelDestroy chid) m e message = absurd (none-some m e)
-makes_message connection priority n t Shutdown m e message = absurd (none-some m e)
-makes_message connection priority n t (ReceivePulse chid) m e message = absurd (none-some m e)
-makes_message connection priority n t (Pulse coid level code value) m e message =
-    absurd (true≢false (ap (λ x. is_pulse x.what) (sym (sent_item (connection coid) (pulse_item n level code value) m e)) ∙ message))
-makes_message connection priority n t (Send coid sent reply_buffer) m e message = record {
-  begins = record { number = n; wait = Answer coid sent reply_buffer None };
+pub makes_message : (f : Facts) (t : ℕ) (c : Call) (m : Made) → makes f t c ≡ Some m → is_pulse m.item.what ≡ false → IsMessage f.number c m
+makes_message f t (ChannelCreate flags) m e message = absurd (none-some m e)
+makes_message f t (ConnectAttach chid) m e message = absurd (none-some m e)
+makes_message f t (Receive chid buffer) m e message = absurd (none-some m e)
+makes_message f t (Reply rcvid status bytes) m e message = absurd (none-some m e)
+makes_message f t (Error rcvid code) m e message = absurd (none-some m e)
+makes_message f t (Read rcvid offset buffer) m e message = absurd (none-some m e)
+makes_message f t (Write rcvid offset bytes) m e message = absurd (none-some m e)
+makes_message f t (Info rcvid) m e message = absurd (none-some m e)
+makes_message f t (PrioritySet thread level) m e message = absurd (none-some m e)
+makes_message f t (State thread) m e message = absurd (none-some m e)
+makes_message f t (ChannelDestroy chid) m e message = absurd (none-some m e)
+makes_message f t Shutdown m e message = absurd (none-some m e)
+makes_message f t (Unblock thread) m e message = absurd (true≢false (sym (due_pulse f thread m e) ∙ message))
+makes_message f t (ReceivePulse chid) m e message = absurd (none-some m e)
+makes_message f t (Pulse coid level code value) m e message =
+    absurd (true≢false (ap (λ x. is_pulse x.what) (sym (sent_item (f.connection coid) (pulse_item f.number level code value) m e)) ∙ message))
+makes_message f t (Send coid sent reply_buffer) m e message = record {
+  begins = record { number = f.number; wait = Answer coid sent reply_buffer None };
   asked = refl;
   answer = refl;
 }
@@ -118,16 +124,6 @@ pub record IsWaiting (past : Trace) (i : ℕ) : Type 0 where
   pub is : newest_block past thread ≡ Some block
   pub number : block.number ≡ i
   pub answer : is_for_answer block.wait ≡ true
-
--- an event that made an item was accepted, and its call makes it
-pub made_accepted : (roster : List Member) (e : Event) (past : Trace) (m : Made) → item_of roster e past ≡ Some m
-    → (is_accepted e past ≡ true) × (makes (connection_at roster past) (priority_of_thread roster past) (length past + 1) e.thread e.call ≡ Some m)
-made_accepted roster e past m is =
-    elim (is_accepted e past) as (λ b. cond b (makes (connection_at roster past) (priority_of_thread roster past) (length past + 1) e.thread e.call) None ≡ Some m
-    → (b ≡ true) × (makes (connection_at roster past) (priority_of_thread roster past) (length past + 1) e.thread e.call ≡ Some m)) [
-      | true ↦ λ at. (refl, at)
-      | false ↦ λ at. absurd (none-some m at)
-    ] is
 
 -- a newest block that waits stays the newest, until it is ended
 pub block_stays : (roster : List Member) (e : Event) (past : Trace) (u : ℕ) (b : OpenCall) → IsLawful roster (e ∷ past) → newest_block past u ≡ Some b → is_ended past b.number ≡ false → newest_block (e ∷ past) u ≡ Some b
@@ -145,8 +141,8 @@ item_waits roster [] i m l is message going = absurd (none-some m is)
 item_waits roster (e ∷ past) i m l is message going =
     elim (eqb i (length past + 1)) as (λ b. eqb i (length past + 1) ≡ b → cond b (item_of roster e past) (item_at roster past i) ≡ Some m → IsWaiting (e ∷ past) i) [
       | true ↦ λ same at.
-          let k = made_accepted roster e past m at in
-          let w = makes_message (connection_at roster past) (priority_of_thread roster past) (length past + 1) e.thread e.call m k.1 message in
+          let k = item_accepted roster e past m at in
+          let w = makes_message (facts_of roster past) e.thread e.call m k.1 message in
           record {
             thread = e.thread;
             block = w.begins;
@@ -175,10 +171,10 @@ pub pending_message : (roster : List Member) (past : Trace) (h : ℕ) (item : It
 pending_message roster past h item l p sent =
     let going : is_ended past item.number ≡ false = pending_going roster past h item p sent in
     let w = item_waits roster past item.number (record { item = item; channel = h }) l p.made sent going in
-    let o = with_receipt (priority_of_item roster past w.block.number) (receipt_of past w.block.number) (filled past w.block) in
+    let o = with_receipt (priority_of_item roster past w.block.number) (is_unblocked roster past w.block.number) (receipt_of past w.block.number) (filled past w.block) in
     let is : open_call roster past w.thread ≡ Some o = open_from roster past w.thread w.block w.is (subst (λ j. is_ended past j ≡ false) (sym w.number) going) in
-    let number : o.number ≡ item.number = receipt_number (priority_of_item roster past w.block.number) (receipt_of past w.block.number) (filled past w.block) ∙ w.number in
-    let answer : is_for_answer o.wait ≡ true = receipt_for_answer (priority_of_item roster past w.block.number) (receipt_of past w.block.number) (filled past w.block) ∙ filled_answer past w.block ∙ w.answer in
+    let number : o.number ≡ item.number = receipt_number (priority_of_item roster past w.block.number) (is_unblocked roster past w.block.number) (receipt_of past w.block.number) (filled past w.block) ∙ w.number in
+    let answer : is_for_answer o.wait ≡ true = receipt_for_answer (priority_of_item roster past w.block.number) (is_unblocked roster past w.block.number) (receipt_of past w.block.number) (filled past w.block) ∙ filled_answer past w.block ∙ w.answer in
     let sends : is_send item.number (open_call roster past w.thread) ≡ true = ap (is_send item.number) is ∙ send_from item.number o number answer in
     let found : sender (facts_of roster past) item.number ≡ Some w.thread =
     sender_found (open_call roster past) item.number (threads_of roster) w.thread (known roster w.thread (open_known roster past w.thread o l is)) sends (λ v e.

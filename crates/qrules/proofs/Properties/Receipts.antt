@@ -15,12 +15,13 @@ use Rattle.qrules.specs.Calls.Info.{told}
 use Rattle.qrules.specs.Calls.Reply.{replied}
 use Rattle.qrules.specs.Calls.Send.{item}
 use Rattle.qrules.specs.Cutting.{is_on}
-use Rattle.qrules.specs.Facts.{Facts, message, sender}
+use Rattle.qrules.specs.Facts.{Facts, message, sender, way}
 use Rattle.qrules.specs.Headline.BestFirst.{receives_on}
 use Rattle.qrules.specs.Headline.ReceivedOnce.{item_received}
-use Rattle.qrules.specs.Rows.{Made, makes, pulse_item, received, sent_over}
+use Rattle.qrules.specs.Items.{makes}
+use Rattle.qrules.specs.Rows.{Made, pulse_item, received, sent_over}
 use Rattle.qrules.specs.declared.call.Call.{Call}
-use Rattle.qrules.specs.declared.call.Call.TheVariants.{ChannelCreate, ConnectAttach, Send, Receive, Reply, Error, Read, Write, Info, ReceivePulse, Pulse, PrioritySet, State, ChannelDestroy, Shutdown}
+use Rattle.qrules.specs.declared.call.Call.TheVariants.{ChannelCreate, ConnectAttach, Send, Receive, Reply, Error, Read, Write, Info, ReceivePulse, Pulse, PrioritySet, State, ChannelDestroy, Shutdown, Unblock}
 use Rattle.qrules.specs.declared.call.Completion.{Completion}
 use Rattle.qrules.specs.declared.open_call.OpenCall.{OpenCall}
 use Rattle.qrules.specs.declared.open_call.Wait.{Wait}
@@ -33,6 +34,9 @@ use Rattle.qrules.proofs.Calls.Cutting.{cut_parts}
 use Rattle.qrules.proofs.Calls.Error.{no_receipt}
 use Rattle.qrules.proofs.Calls.Held.{sender_ends}
 use Rattle.qrules.proofs.Calls.Info.{plain}
+use Rattle.qrules.specs.Calls.Unblock.{due, ends}
+use Rattle.qrules.proofs.Properties.Rows.Unblock.{unblock_ends}
+use Rattle.qrules.proofs.Calls.Delivering.{sent_way}
 
 -- ---- whose ending it is
 
@@ -67,14 +71,14 @@ pub record TakesPending (f : Facts) (t : ℕ) (c : Call) (u : ℕ) (y : Completi
   pub kind : Kind
   pub item : Item
   pub receives : receives_on c ≡ Some (channel, kind)
-  pub makes_none : makes f.connection f.priority f.number t c ≡ None
+  pub makes_none : makes f t c ≡ None
   pub best : best_of kind (f.pending channel) ≡ Some item
   pub number : item.number ≡ i
 
 -- a thread that waited takes the item that the call makes
 pub record TakesMade (f : Facts) (t : ℕ) (c : Call) (u : ℕ) (y : Completion) (i : ℕ) : Type 0 where
   pub made : Made
-  pub is_made : makes f.connection f.priority f.number t c ≡ Some made
+  pub is_made : makes f t c ≡ Some made
   pub number : made.item.number ≡ i
   pub waiting : OpenCall
   pub is_open : f.open_call u ≡ Some waiting
@@ -87,7 +91,7 @@ abbrev pub TakesOne : Facts → ℕ → Call → ℕ → Completion → ℕ → 
 TakesOne f t c u y i = TakesPending f t c u y i ⊎ TakesMade f t c u y i
 
 -- a receive that takes the best
-takes_best : (f : Facts) (t : ℕ) (c : Call) (chid : ℕ) (kind : Kind) (buffer : List ℕ) (u : ℕ) (y : Completion) (p : ℕ × ℕ) → u ≡ t → receives_on c ≡ Some (chid, kind) → makes f.connection f.priority f.number t c ≡ None
+takes_best : (f : Facts) (t : ℕ) (c : Call) (chid : ℕ) (kind : Kind) (buffer : List ℕ) (u : ℕ) (y : Completion) (p : ℕ × ℕ) → u ≡ t → receives_on c ≡ Some (chid, kind) → makes f t c ≡ None
     → ReceiveTakes f t chid kind buffer y → received y.mark ≡ Some p → TakesOne f t c u y p.0
 takes_best f t c chid kind buffer u y p same receives none r m = inl (record {
   caller = same;
@@ -114,16 +118,17 @@ own_takes f t (PrioritySet thread level) u y p same e m = absurd (none-some p (a
 own_takes f t (State thread) u y p same e m = absurd (none-some p (ap (λ x. received x.mark) (same_Some _ y e) ∙ m))
 own_takes f t (ChannelDestroy chid) u y p same e m = absurd (none-some p (ap (λ x. received x.mark) (same_Some _ y e) ∙ m))
 own_takes f t Shutdown u y p same e m = absurd (none-some p (ap (λ x. received x.mark) (same_Some _ y e) ∙ m))
+own_takes f t (Unblock thread) u y p same e m = absurd (none-some p (ap (λ x. received x.mark) (same_Some _ y e) ∙ m))
 own_takes f t (Pulse coid level code value) u y p same e m = absurd (none-some p (ap (λ x. received x.mark) (same_Some _ y e) ∙ m))
 own_takes f t (Receive chid buffer) u y p same e m = takes_best f t (Receive chid buffer) chid Any buffer u y p same refl refl (receive_takes f t chid Any buffer y e) m
 own_takes f t (ReceivePulse chid) u y p same e m = takes_best f t (ReceivePulse chid) chid PulseOnly [] u y p same refl refl (receive_takes f t chid PulseOnly [] y e) m
 
 -- a receiver that takes what is delivered
-takes_met : (f : Facts) (t : ℕ) (c : Call) (coid : ℕ) (item : Item) (message : List ℕ) (u : ℕ) (y : Completion) (p : ℕ × ℕ) → Meets f t coid item message u y → makes f.connection f.priority f.number t c ≡ sent_over (f.connection coid) item
+takes_met : (f : Facts) (t : ℕ) (c : Call) (o : Option ℕ) (item : Item) (message : List ℕ) (u : ℕ) (y : Completion) (p : ℕ × ℕ) → Meets f o item message u y → ((h : ℕ) → o ≡ Some h → makes f t c ≡ Some (record { item = item; channel = h }))
     → received y.mark ≡ Some p → TakesOne f t c u y p.0
-takes_met f t c coid item message u y p s made m = inr (record {
+takes_met f t c o item message u y p s made m = inr (record {
   made = record { item = item; channel = s.channel };
-  is_made = made ∙ ap (λ o. sent_over o item) s.leads.is ∙ ap (λ h. Some (record { item = item; channel = h })) s.leads.channel;
+  is_made = made s.channel s.leads;
   number = ap (λ q. q.0) (same_Some (item.number, (given_received item message s.buffer).0) p (sym (given_received item message s.buffer).1 ∙ ap (λ x. received x.mark) s.ending ∙ m));
   waiting = s.waiting;
   is_open = s.is_open;
@@ -132,6 +137,13 @@ takes_met f t c coid item message u y p s made m = inr (record {
   waits = ap waits_for s.waits;
   may = s.may;
 })
+
+-- what an Unblock ends takes its pulse, or nothing
+unblock_takes : (f : Facts) (t thread u : ℕ) (y : Completion) (p : ℕ × ℕ) → ends f thread (due f thread) u ≡ Some y → received y.mark ≡ Some p → TakesOne f t (Unblock thread) u y p.0
+unblock_takes f t thread u y p e m = elim (unblock_ends f thread u y (due f thread) refl e) [
+  | inl cut ↦ absurd (none-some p (ap (λ x. received x.mark) cut.ending ∙ m))
+  | inr k ↦ takes_met f t (Unblock thread) (Some k.made.channel) k.made.item [] u y p k.meets (λ h s. k.is_due ∙ ap (λ c. Some (record { item = k.made.item; channel = c })) (same_Some k.made.channel h s)) m
+]
 
 ends_takes : (f : Facts) (t : ℕ) (c : Call) (u : ℕ) (y : Completion) (p : ℕ × ℕ) → (row_of f t c).refusal ≡ None → (row_of f t c).ends u ≡ Some y → received y.mark ≡ Some p → TakesOne f t c u y p.0
 ends_takes f t (ChannelCreate flags) u y p r e m = absurd (none-some y e)
@@ -147,11 +159,13 @@ ends_takes f t (PrioritySet thread level) u y p r e m = absurd (none-some y e)
 ends_takes f t (State thread) u y p r e m = absurd (none-some y e)
 ends_takes f t (ChannelDestroy chid) u y p r e m = absurd (none-some p (ap (λ x. received x.mark) (cut_parts (is_on f.connection chid) Srch u (f.open_call u) y e).ending ∙ m))
 ends_takes f t Shutdown u y p r e m = absurd (none-some p (ap (λ x. received x.mark) (cut_parts (λ wait. true) Srch u (f.open_call u) y e).ending ∙ m))
+ends_takes f t (Unblock thread) u y p r e m = unblock_takes f t thread u y p e m
 ends_takes f t (ReceivePulse chid) u y p r e m = absurd (none-some y e)
 ends_takes f t (Send coid message reply_buffer) u y p r e m =
-    takes_met f t (Send coid message reply_buffer) coid (item f t) message u y p (delivery_meets f t coid (item f t) message u y e) refl m
+    takes_met f t (Send coid message reply_buffer) (way f t coid) (item f t) message u y p (delivery_meets f (way f t coid) (item f t) message u y e) (sent_way f t coid (item f t)) m
 ends_takes f t (Pulse coid level code value) u y p r e m =
-    takes_met f t (Pulse coid level code value) coid (pulse_item f.number level code value) [] u y p (delivery_meets f t coid (pulse_item f.number level code value) [] u y e) refl m
+    takes_met f t (Pulse coid level code value) (way f t coid) (pulse_item f.number level code value) [] u y p (delivery_meets f (way f t coid) (pulse_item f.number level code value) [] u y e)
+    (sent_way f t coid (pulse_item f.number level code value)) m
 
 -- each ending that receives an item takes it so
 pub takes_one : (f : Facts) (t : ℕ) (c : Call) (u : ℕ) (y : Completion) (p : ℕ × ℕ) → (row_of f t c).refusal ≡ None → ending f t c u ≡ Some y → received y.mark ≡ Some p → TakesOne f t c u y p.0

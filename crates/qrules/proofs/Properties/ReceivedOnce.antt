@@ -89,7 +89,7 @@ pending_taken roster past t c u y i k = best_pending roster past k.channel k.kin
 
 -- the item that a call makes has its number
 made_number : (f : Facts) (t : ℕ) (c : Call) (u : ℕ) (y : Completion) (i : ℕ) → TakesMade f t c u y i → i ≡ f.number
-made_number f t c u y i k = sym k.number ∙ ((call_laws c).makes_one f.connection f.priority f.number t k.made k.is_made).number
+made_number f t c u y i k = sym k.number ∙ ((call_laws c).makes_one f t k.made k.is_made).number
 
 all_kept : {Y Z : Type 0} (P : Z → Type 0) (k : Y → Option Z) (xs : List Y) → AllByRecursion (λ x. (z : Z) → k x ≡ Some z → P z) xs → AllByRecursion P (filter_map k xs)
 all_kept P k [] a = tt

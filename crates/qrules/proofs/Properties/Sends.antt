@@ -10,7 +10,7 @@ use Rattle.qtables.specs.declared.member.Member.{Member}
 use Rattle.qrules.specs.Facts.{is_for_answer}
 use Rattle.qrules.specs.Headline.AnsweredToSender.{channel_among, sender_of, thread_of_send}
 use Rattle.qrules.specs.Lawful.{facts_of, IsLawful}
-use Rattle.qrules.specs.Past.{connection_at, filled, is_accepted, item_of, items, made_at, newest_block, priority_of_item, receipt_of, is_taken, with_receipt, with_writes, held_with}
+use Rattle.qrules.specs.Past.{is_unblocked, connection_at, filled, is_accepted, item_of, items, made_at, newest_block, priority_of_item, receipt_of, is_taken, with_receipt, with_writes, held_with}
 use Rattle.qrules.specs.Rows.{Made, asks, with_buffer}
 use Rattle.qrules.specs.Trace.{Event, Trace}
 use Rattle.qrules.specs.declared.open_call.OpenCall.{OpenCall}
@@ -109,24 +109,15 @@ block_over roster (e ∷ past) u b l is w = elim (begins_now e past u b is) [
 pub open_filled : {A : Type 0} (g : Wait → A) (roster : List Member) (past : Trace) (u : ℕ) (o : OpenCall) (k : IsOpen roster past u o) → ((receipt : Receipt) (w : Wait) → g (held_with receipt w) ≡ g w)
     → g o.wait ≡ g (filled past k.block).wait
 open_filled {A} g roster past u o k h =
-    elim (receipt_of past k.block.number) as (λ r. o ≡ with_receipt (priority_of_item roster past k.block.number) r (filled past k.block) → g o.wait ≡ g (filled past k.block).wait) [
+    elim (receipt_of past k.block.number) as (λ r. o ≡ with_receipt (priority_of_item roster past k.block.number) (is_unblocked roster past k.block.number) r (filled past k.block) → g o.wait ≡ g (filled past k.block).wait) [
       | None ↦ λ same. ap (λ x. g x.wait) same
-      | Some copied ↦ λ same. ap (λ x. g x.wait) same ∙ h (record { priority = priority_of_item roster past k.block.number; copied = copied }) (filled past k.block).wait
+      | Some copied ↦ λ same. ap (λ x. g x.wait) same ∙ h (record { priority = priority_of_item roster past k.block.number; copied = copied; unblocked = is_unblocked roster past k.block.number }) (filled past k.block).wait
     ] k.same
 
 -- what neither a receipt nor a write changes is that of the call as it began
 pub open_keeps : {A : Type 0} (g : Wait → A) (roster : List Member) (past : Trace) (u : ℕ) (o : OpenCall) (k : IsOpen roster past u o) → ((receipt : Receipt) (w : Wait) → g (held_with receipt w) ≡ g w)
     → ((f : List ℕ → List ℕ) (w : Wait) → g (with_buffer f w) ≡ g w) → g o.wait ≡ g k.block.wait
 open_keeps g roster past u o k h wrote = open_filled g roster past u o k h ∙ wrote (with_writes past k.block.number) k.block.wait
-
--- an open call whose message is received: the receipt is in the past
-pub held_is_taken : (roster : List Member) (past : Trace) (u : ℕ) (o : OpenCall) (k : IsOpen roster past u o) → is_for_answer o.wait ≡ true → is_settled o.wait ≡ true → is_taken past k.block.number ≡ true
-held_is_taken roster past u o k w s =
-    elim (receipt_of past k.block.number) as (λ r. o ≡ with_receipt (priority_of_item roster past k.block.number) r (filled past k.block) → is_some r ≡ true) [
-      | None ↦ λ same.
-          absurd (true≢false (sym (ap (λ x. is_settled x.wait) (sym same) ∙ s) ∙ filled_settled past k.block ∙ block_fresh past u k.block k.is ∙ ap not (sym (filled_answer past k.block) ∙ ap (λ x. is_for_answer x.wait) (sym same) ∙ w)))
-      | Some copied ↦ λ same. refl
-    ] k.same
 
 held_over : (receipt : Receipt) (w : Wait) → over (held_with receipt w) ≡ over w
 held_over receipt (Answer coid message reply_buffer before) = refl

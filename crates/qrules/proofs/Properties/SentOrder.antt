@@ -10,6 +10,7 @@ use Rattle.qqueue.specs.Contents.{IsRising}
 use Rattle.qqueue.specs.declared.item.Item.{Item}
 use Rattle.qqueue.specs.declared.item.Kind.{Kind}
 use Rattle.qqueue.specs.declared.item.Kind.TheVariants.{Any}
+use Rattle.qqueue.proofs.OrderLaws.{best-at}
 use Rattle.qtables.specs.Members.{IsRoster}
 use Rattle.qtables.specs.declared.member.Member.{Member}
 use Rattle.qrules.specs.Headline.BestFirst.{BestFirst, TakesBest, receives_on, takeable}
@@ -24,7 +25,6 @@ use Rattle.qrules.specs.declared.call.Completion.{Completion}
 use Rattle.qrules.proofs.Past.Best.{best_earliest}
 use Rattle.qrules.proofs.Past.Items.{item_at, item_priority}
 use Rattle.qrules.proofs.Past.Lists.{all_more}
-use Rattle.qrules.proofs.Past.Receipts.{best_at}
 use Rattle.qrules.proofs.Past.Rising.{takeable_rises}
 use Rattle.qrules.proofs.Properties.BestFirst.{best_first}
 use Rattle.qrules.proofs.Properties.Connections.{item_over, takeable_made}
@@ -50,7 +50,7 @@ none_sent_earlier roster past e y j k h plain b over =
     let x = some_number (best_of b.kind (takeable roster past e b.channel)) j b.best in
     let At = λ (c : ℕ) (w : Item). item_at roster (e ∷ past) w.number ≡ Some (record { item = w; channel = c }) in
     let at : item_at roster (e ∷ past) x.0.number ≡ Some (record { item = x.0; channel = b.channel }) =
-    best_at (λ (w : Item). item_at roster (e ∷ past) w.number ≡ Some (record { item = w; channel = b.channel })) b.kind (takeable roster past e b.channel) x.0 (takeable_made roster past e b.channel) x.1 in
+    best-at (λ (w : Item). item_at roster (e ∷ past) w.number ≡ Some (record { item = w; channel = b.channel })) b.kind (takeable roster past e b.channel) x.0 (takeable_made roster past e b.channel) x.1 in
     let from = item_over roster (e ∷ past) x.0.number k (record { item = x.0; channel = b.channel }) at (ap (connection_of (e ∷ past)) x.2 ∙ over) in
     let priority : priority_of_item roster (e ∷ past) j ≡ x.0.priority = ap (priority_of_item roster (e ∷ past)) (sym x.2) ∙ item_priority roster (e ∷ past) x.0.number _ at in
     elim (cases_eq h b.channel) as (λ _. NoneSentEarlier roster past e k j h) [

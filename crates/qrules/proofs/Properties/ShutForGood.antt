@@ -1,7 +1,7 @@
 -- Nothing is received from a channel that is destroyed, and no thread is blocked on it.
 use Rattle.std.proofs.Common.{◌≡◌, ◌∙◌, ℕ, ◌+◌, ◌≤◌, List, [], ◌∷◌, length, refl, ap, sym, subst, cond, arith, eqb, Bool, true, false, inl, inr}
-use Rattle.std.specs.Prelude.{Option, None, Some, is_some, ◌&&◌, ◌||◌}
-use Rattle.std.proofs.lemmas.Bool.{eqb-true, ne_eqb, and_parts, or_cases, true≢false}
+use Rattle.std.specs.Prelude.{Option, None, Some, is_some, ◌||◌}
+use Rattle.std.proofs.lemmas.Bool.{eqb-true, ne_eqb, or_cases, true≢false}
 use Rattle.std.proofs.lemmas.Option.{none-some, same_Some}
 use Rattle.qbase.specs.declared.errno.Errno.TheVariants.{Srch}
 use Rattle.qqueue.specs.Best.{best_of}
@@ -10,17 +10,18 @@ use Rattle.qtables.specs.declared.connection.Connection.{Connection}
 use Rattle.qtables.specs.declared.member.Member.{Member}
 use Rattle.qrules.specs.Answer.{row_of, Outcome}
 use Rattle.qrules.specs.Cutting.{is_on, is_to}
-use Rattle.qrules.specs.Facts.{Facts, is_for_answer, is_of_process, leads_to, owns}
+use Rattle.qrules.specs.Facts.{Facts, is_for_answer, leads_to, owns}
 use Rattle.qrules.specs.Headline.AnsweredToSender.{channel_among}
 use Rattle.qrules.specs.Headline.BestFirst.{receives_on}
 use Rattle.qrules.specs.Headline.ShutForGood.{NoneBlockedOn, NoneReceivedFrom, ShutForGood}
 use Rattle.qrules.specs.Lawful.{facts_of, IsLawful}
 use Rattle.qrules.specs.Past.{attaches, connection_at, held_with, is_closed, items, open_call}
-use Rattle.qrules.specs.Rows.{asks, closes, makes, names, with_buffer, writes}
-use Rattle.qrules.specs.Step.{after_receipt, after_write, channel_after, connection_after, open_call_after, put_at, unless}
+use Rattle.qrules.specs.Items.{makes}
+use Rattle.qrules.specs.Rows.{asks, closes, names, with_buffer, writes, unblocks}
+use Rattle.qrules.specs.Step.{after_receipt, after_write, channel_after, connection_after, open_call_after, put_at, unless, after_unblock, unblocked_wait}
 use Rattle.qrules.specs.Trace.{Event, Trace}
 use Rattle.qrules.specs.declared.call.Call.{Call}
-use Rattle.qrules.specs.declared.call.Call.TheVariants.{ChannelCreate, ConnectAttach, Send, Receive, Reply, Error, Read, Write, Info, ReceivePulse, Pulse, PrioritySet, State, ChannelDestroy, Shutdown}
+use Rattle.qrules.specs.declared.call.Call.TheVariants.{ChannelCreate, ConnectAttach, Send, Receive, Reply, Error, Read, Write, Info, ReceivePulse, Pulse, PrioritySet, State, ChannelDestroy, Shutdown, Unblock}
 use Rattle.qrules.specs.declared.call.Completion.{Completion}
 use Rattle.qrules.specs.declared.open_call.OpenCall.{OpenCall}
 use Rattle.qrules.specs.declared.open_call.Receipt.{Receipt}
@@ -36,9 +37,9 @@ use Rattle.qrules.proofs.Past.Receipts.{best_pending}
 use Rattle.qrules.proofs.Properties.Answers.{over}
 use Rattle.qrules.proofs.Properties.Events.{each_received, made_now}
 use Rattle.qrules.proofs.Properties.Receipts.{TakesOne}
-use Rattle.qrules.proofs.Properties.Rows.Delivering.{has_way}
 use Rattle.qrules.proofs.Properties.Sends.{item_channel, open_over}
-use Rattle.qrules.proofs.Properties.Waiting.{before_receipt, before_write, unless_is}
+use Rattle.qrules.proofs.Properties.Waiting.{Lasts, before_other, before_receipt, unless_is}
+use Rattle.qrules.proofs.Ways.{has_way, leads_over}
 
 -- ---- by each call's row
 
@@ -46,7 +47,7 @@ use Rattle.qrules.proofs.Properties.Waiting.{before_receipt, before_write, unles
 record DestroysAlone (c : Call) : Type 0 where
   asks_none : (n : ℕ) → asks n c ≡ None
   receives_none : receives_on c ≡ None
-  makes_none : (connection : ℕ → Option Connection) (priority : ℕ → ℕ) (n t : ℕ) → makes connection priority n t c ≡ None
+  makes_none : (f : Facts) (t : ℕ) → makes f t c ≡ None
 
 destroys_alone : (c : Call) (h : ℕ) → names (closes c) h ≡ true → DestroysAlone c
 destroys_alone (ChannelCreate flags) h e = absurd (true≢false (sym e))
@@ -63,7 +64,8 @@ destroys_alone (Pulse coid level code value) h e = absurd (true≢false (sym e))
 destroys_alone (PrioritySet thread level) h e = absurd (true≢false (sym e))
 destroys_alone (State thread) h e = absurd (true≢false (sym e))
 destroys_alone Shutdown h e = absurd (true≢false (sym e))
-destroys_alone (ChannelDestroy chid) h e = record { asks_none = λ n. refl; receives_none = refl; makes_none = λ connection priority n t. refl }
+destroys_alone (Unblock thread) h e = absurd (true≢false (sym e))
+destroys_alone (ChannelDestroy chid) h e = record { asks_none = λ n. refl; receives_none = refl; makes_none = λ f t. refl }
 
 -- a call that may wait attaches nothing
 waits_only : (n : ℕ) (m : Option Member) (c : Call) (b : OpenCall) → asks n c ≡ Some b → attaches m c ≡ None
@@ -79,6 +81,7 @@ waits_only n m (PrioritySet thread level) b e = absurd (none-some b e)
 waits_only n m (State thread) b e = absurd (none-some b e)
 waits_only n m (ChannelDestroy chid) b e = absurd (none-some b e)
 waits_only n m Shutdown b e = absurd (none-some b e)
+waits_only n m (Unblock thread) b e = absurd (none-some b e)
 waits_only n None (Send coid message reply_buffer) b e = refl
 waits_only n (Some m) (Send coid message reply_buffer) b e = refl
 waits_only n None (Receive chid buffer) b e = refl
@@ -102,18 +105,16 @@ closing_ends f t (Pulse coid level code value) h u o e is on = absurd (true≢fa
 closing_ends f t (PrioritySet thread level) h u o e is on = absurd (true≢false (sym e))
 closing_ends f t (State thread) h u o e is on = absurd (true≢false (sym e))
 closing_ends f t Shutdown h u o e is on = absurd (true≢false (sym e))
+closing_ends f t (Unblock thread) h u o e is on = absurd (true≢false (sym e))
 closing_ends f t (ChannelDestroy chid) h u o e is on =
     let on_it : is_on f.connection chid o.wait ≡ true = ap (λ k. is_on f.connection k o.wait) (eqb-true chid h e) ∙ on in
     rw (is, on_it) refl
 
 -- what leads to channel h for the thread leads to an open channel
 way_to_open : (f : Facts) (t h k : ℕ) (o : Option Connection) → leads_to f t o ≡ Some k → is_to h o ≡ true → is_some (f.channel h) ≡ true
-way_to_open f t h k None e on = absurd (none-some k e)
-way_to_open f t h k (Some c) e on =
-    elim (is_of_process f t c.process && is_some (f.channel c.channel)) as (λ b. (is_of_process f t c.process && is_some (f.channel c.channel)) ≡ b → cond b (Some c.channel) None ≡ Some k → is_some (f.channel h) ≡ true) [
-      | true ↦ λ both _. subst (λ j. is_some (f.channel j) ≡ true) (eqb-true c.channel h on) (and_parts (is_of_process f t c.process) (is_some (f.channel c.channel)) both).1
-      | false ↦ λ both s. absurd (none-some k s)
-    ] refl e
+way_to_open f t h k o e on =
+    let l = leads_over f t o k e in
+    subst (λ j. is_some (f.channel j) ≡ true) (sym l.channel ∙ eqb-true l.connection.channel h (ap (is_to h) (sym l.is) ∙ on)) l.is_open
 
 -- a receive is on a channel of the thread's process
 own_open : (f : Facts) (t chid h : ℕ) → cond (owns f t chid) None (Some Srch) ≡ None → eqb chid h ≡ true → is_some (f.channel h) ≡ true
@@ -137,6 +138,7 @@ begins_on_open f t (PrioritySet thread level) b h r e on = absurd (none-some b e
 begins_on_open f t (State thread) b h r e on = absurd (none-some b e)
 begins_on_open f t (ChannelDestroy chid) b h r e on = absurd (none-some b e)
 begins_on_open f t Shutdown b h r e on = absurd (none-some b e)
+begins_on_open f t (Unblock thread) b h r e on = absurd (none-some b e)
 begins_on_open f t (Send coid message reply_buffer) b h r e on = let w = has_way f t coid r in way_to_open f t h w.0 (f.connection coid) w.1 (ap (λ o. is_on f.connection h o.wait) (same_Some _ b e) ∙ on)
 begins_on_open f t (Receive chid buffer) b h r e on = own_open f t chid h r (ap (λ o. is_on f.connection h o.wait) (same_Some _ b e) ∙ on)
 begins_on_open f t (ReceivePulse chid) b h r e on = own_open f t chid h r (ap (λ o. is_on f.connection h o.wait) (same_Some _ b e) ∙ on)
@@ -167,12 +169,21 @@ stays_open true o n at h e never = absurd (never refl)
 stays_open false None n at h e never = e
 stays_open {A} false (Some x) n at h e never = elim (eqb h n) as (λ b. is_some (cond {A = Option A} b (Some x) (at h)) ≡ true) [ true ↦ refl | false ↦ e ]
 
+unblocked_on : (connection : ℕ → Option Connection) (h : ℕ) (w : Wait) → is_on connection h (unblocked_wait w) ≡ is_on connection h w
+unblocked_on connection h (Answer coid message reply_buffer None) = refl
+unblocked_on connection h (Answer coid message reply_buffer (Some receipt)) = refl
+unblocked_on connection h (ForItem chid kind buffer) = refl
+
+-- the channel of a wait lasts
+lasts_on : (connection : ℕ → Option Connection) (h : ℕ) → Lasts (is_on connection h)
+lasts_on connection h = record { held = held_on connection h; buffer = buffer_on connection h; unblocked = unblocked_on connection h }
+
 waits_after : (f : Facts) (t : ℕ) (c : Call) → Passes f t c → WaitsOnOpen f → ((u : ℕ) (o : OpenCall) → f.open_call u ≡ Some o → is_for_answer o.wait ≡ true → eqb (over o.wait) f.number ≡ false)
     → (u : ℕ) (o : OpenCall) (h : ℕ) → open_call_after f t c u ≡ Some o → is_on (connection_after f t c) h o.wait ≡ true → is_some (channel_after f t c h) ≡ true
 waits_after f t c p waits known u o h is on =
     let R = row_of f t c in
     let attached = attaches (member_at f.roster t) c in
-    elim (eqb u t) as (λ b. cond b (unless (is_some (row_of f t c).own) (after_receipt (row_of f t c).receipt u (asks f.number c))) (unless (is_some ((row_of f t c).ends u)) (after_receipt (row_of f t c).receipt u (after_write f (writes c) u (f.open_call u)))) ≡ Some o
+    elim (eqb u t) as (λ b. cond b (unless (is_some (row_of f t c).own) (after_receipt (row_of f t c).receipt u (asks f.number c))) (unless (is_some ((row_of f t c).ends u)) (after_unblock (makes f t c) (unblocks c) u (after_receipt (row_of f t c).receipt u (after_write f (writes c) u (f.open_call u))))) ≡ Some o
     → is_some (channel_after f t c h) ≡ true) [
       | true ↦ λ e.
           let x = unless_is (is_some R.own) (after_receipt R.receipt u (asks f.number c)) o e in
@@ -181,10 +192,9 @@ waits_after f t c p waits known u o h is on =
           stays_open (names (closes c) h) _ f.number f.channel h (begins_on_open f t c b.call h p.row b.is same)
           (λ d. none-some b.call (sym ((destroys_alone c h d).asks_none f.number) ∙ b.is))
       | false ↦ λ e.
-          let x = unless_is (is_some (R.ends u)) (after_receipt R.receipt u (after_write f (writes c) u (f.open_call u))) o e in
-          let b = before_receipt (is_on (connection_after f t c) h) (held_on (connection_after f t c) h) R.receipt u (after_write f (writes c) u (f.open_call u)) o x.1 in
-          let d = before_write (is_on (connection_after f t c) h) (buffer_on (connection_after f t c) h) f (writes c) u (f.open_call u) b.call b.is in
-          let same : is_on f.connection h d.call.wait ≡ true = sym (put_on attached f.number f.connection h d.call.wait (known u d.call d.is)) ∙ d.same ∙ b.same ∙ on in
+          let x = unless_is (is_some (R.ends u)) (after_unblock (makes f t c) (unblocks c) u (after_receipt R.receipt u (after_write f (writes c) u (f.open_call u)))) o e in
+          let d = before_other (is_on (connection_after f t c) h) (lasts_on (connection_after f t c) h) f t c u o x.1 in
+          let same : is_on f.connection h d.call.wait ≡ true = sym (put_on attached f.number f.connection h d.call.wait (known u d.call d.is)) ∙ d.same ∙ on in
           stays_open (names (closes c) h) _ f.number f.channel h (waits u d.call h d.is same)
           (λ destroyed. true≢false (sym (closing_ends f t c h u d.call destroyed d.is same) ∙ x.0))
     ] is
@@ -240,7 +250,7 @@ taken_is_open roster e past u i h y a k is closed =
           let made = subst (λ j. item_at roster (e ∷ past) j ≡ Some m.made) (sym ((made_by roster e past m.made now).number) ∙ m.number) newest in
           let at : m.made.channel ≡ h = same_Some m.made.channel h (sym (item_channel roster (e ∷ past) i m.made made) ∙ is) in
           elim (or_cases (names (closes e.call) h) (is_closed past h) closed) [
-            | inl now ↦ none-some m.made (sym ((destroys_alone e.call h now).makes_none f.connection f.priority f.number e.thread) ∙ m.is_made)
+            | inl now ↦ none-some m.made (sym ((destroys_alone e.call h now).makes_none f e.thread) ∙ m.is_made)
             | inr before ↦ true≢false (sym before ∙ ap (is_closed past) (sym at) ∙ open_there.standing)
           ]
     ]

@@ -1,6 +1,6 @@
 -- While a thread waits for an item of a channel, nothing that it may take is pending there.
 use Rattle.std.proofs.Common.{◌≡◌, ◌∙◌, ℕ, List, [], ◌∷◌, ◌++◌, refl, ap, sym, subst, cond, eqb, Bool, true, false, inl, inr}
-use Rattle.std.specs.Prelude.{Option, None, Some, is_some, not, filter}
+use Rattle.std.specs.Prelude.{Option, None, Some, is_some, not, filter, ◌&&◌}
 use Rattle.std.specs.List.{AllByRecursion}
 use Rattle.std.specs.Option.{option_map}
 use Rattle.std.proofs.lemmas.Bool.{eqb-true, eqb-false, not-true, true≢false}
@@ -10,10 +10,12 @@ use Rattle.qqueue.specs.Best.{best_of, may_take, without}
 use Rattle.qqueue.specs.declared.item.Item.{Item}
 use Rattle.qqueue.specs.declared.item.Kind.{Kind}
 use Rattle.qqueue.specs.declared.item.Kind.TheVariants.{Any, PulseOnly}
+use Rattle.qqueue.proofs.OrderLaws.{none-may}
 use Rattle.qtables.specs.Members.{IsRoster}
 use Rattle.qtables.specs.declared.member.Member.{Member}
 use Rattle.qrules.specs.Answer.{row_of}
 use Rattle.qrules.specs.Calls.Send.{item}
+use Rattle.qrules.specs.Calls.Unblock as unblock
 use Rattle.qrules.specs.Delivering.{receiver, received_of}
 use Rattle.qrules.specs.Receiving.{receipt_of}
 use Rattle.qrules.specs.Facts.{Facts, sender, threads_of, way}
@@ -21,24 +23,26 @@ use Rattle.qrules.specs.Headline.BestFirst.{receives_on}
 use Rattle.qrules.specs.Lawful.{facts_of, IsLawful}
 use Rattle.qrules.specs.Past.{held_with}
 use Rattle.qrules.specs.Receivers.{newest}
-use Rattle.qrules.specs.Rows.{Made, Received, Written, asks, closes, makes, names, pulse_item, sent_over, takes, taking, with_buffer, writes}
-use Rattle.qrules.specs.Step.{after_receipt, after_write, held_call, is_cut, is_thread, left_by, made_on, open_call_after, pending_after, taken_out, unless, written_call}
+use Rattle.qrules.specs.Items.{makes}
+use Rattle.qrules.specs.Rows.{Made, Received, Written, asks, closes, names, pulse_item, sent_over, takes, taking, with_buffer, writes, unblocks}
+use Rattle.qrules.specs.Step.{after_receipt, after_write, held_call, is_cut, is_thread, left_by, made_on, open_call_after, pending_after, taken_out, unless, written_call, after_unblock, unblocked_call, unblocked_wait}
 use Rattle.qrules.specs.Trace.{Trace}
 use Rattle.qrules.specs.declared.call.Call.{Call}
-use Rattle.qrules.specs.declared.call.Call.TheVariants.{ChannelCreate, ConnectAttach, Send, Receive, Reply, Error, Read, Write, Info, ReceivePulse, Pulse, PrioritySet, State, ChannelDestroy, Shutdown}
+use Rattle.qrules.specs.declared.call.Call.TheVariants.{ChannelCreate, ConnectAttach, Send, Receive, Reply, Error, Read, Write, Info, ReceivePulse, Pulse, PrioritySet, State, ChannelDestroy, Shutdown, Unblock}
 use Rattle.qrules.specs.declared.open_call.OpenCall.{OpenCall}
 use Rattle.qrules.specs.declared.open_call.Receipt.{Receipt}
 use Rattle.qrules.specs.declared.open_call.Wait.{Wait}
 use Rattle.qrules.specs.declared.open_call.Wait.TheVariants.{Answer, Item as ForItem}
 use Rattle.qrules.proofs.Calls.Taking.{given_received, receipt_from, receipt_in_at}
-use Rattle.qrules.proofs.Past.Best.{none_may}
-use Rattle.qrules.proofs.Past.Ends.{known, open_known, passes_of}
+use Rattle.qrules.proofs.Past.Ends.{open_known, passes_of}
 use Rattle.qrules.proofs.Past.Follows.{past_follows}
 use Rattle.qrules.proofs.Past.Laws.{Passes}
 use Rattle.qrules.proofs.Past.Lists.{all_append, all_filter, all_more, is_among, none_of}
 use Rattle.qrules.proofs.Properties.Receipts.{waits_for}
 use Rattle.qrules.proofs.Properties.Receivers.{WaitsOn, newest_some, newest_waits}
-use Rattle.qrules.proofs.Properties.Rows.Delivering.{has_way, pulse_way, way_leads}
+use Rattle.qrules.proofs.Ways.{has_way, pulse_way}
+use Rattle.qrules.proofs.Rosters.{known}
+use Rattle.qrules.proofs.Calls.Delivering.{sent_way}
 
 -- ---- what a thread waits for
 
@@ -68,6 +72,7 @@ waits_for_asked n (PrioritySet thread level) b e = absurd (none-some b e)
 waits_for_asked n (State thread) b e = absurd (none-some b e)
 waits_for_asked n (ChannelDestroy chid) b e = absurd (none-some b e)
 waits_for_asked n Shutdown b e = absurd (none-some b e)
+waits_for_asked n (Unblock thread) b e = absurd (none-some b e)
 waits_for_asked n (Send coid message reply_buffer) b e = ap (λ o. waits_for o.wait) (same_Some _ b e)
 waits_for_asked n (Receive chid buffer) b e = ap (λ o. waits_for o.wait) (same_Some _ b e)
 waits_for_asked n (ReceivePulse chid) b e = ap (λ o. waits_for o.wait) (same_Some _ b e)
@@ -77,7 +82,7 @@ waits_for_asked n (Pulse coid level code value) b e = absurd (none-some b e)
 
 -- a call that begins to wait for an item finds none, and makes none
 abbrev BeginsWithNone : Facts → ℕ → Call → ℕ × Kind → Type 0
-BeginsWithNone f t c p = (best_of p.1 (f.pending p.0) ≡ None) × (makes f.connection f.priority f.number t c ≡ None)
+BeginsWithNone f t c p = (best_of p.1 (f.pending p.0) ≡ None) × (makes f t c ≡ None)
 
 none_to_take : (f : Facts) (t : ℕ) (buffer : List ℕ) (o : Option Item) → receipt_of f t buffer o ≡ None → o ≡ None
 none_to_take f t buffer None e = refl
@@ -95,6 +100,7 @@ begins_with_none f t (PrioritySet thread level) b p e w own = absurd (none-some 
 begins_with_none f t (State thread) b p e w own = absurd (none-some b e)
 begins_with_none f t (ChannelDestroy chid) b p e w own = absurd (none-some b e)
 begins_with_none f t Shutdown b p e w own = absurd (none-some b e)
+begins_with_none f t (Unblock thread) b p e w own = absurd (none-some b e)
 begins_with_none f t (Send coid message reply_buffer) b p e w own = absurd (none-some p (ap (λ o. waits_for o.wait) (same_Some _ b e) ∙ w))
 begins_with_none f t (Pulse coid level code value) b p e w own = absurd (none-some b e)
 begins_with_none f t (Receive chid buffer) b p e w own =
@@ -121,26 +127,28 @@ delivered_receipt f sender item message w h r v is_way is_newest =
     ap (λ o. received_of f sender item message o (receiver f item o)) is_way ∙ ap (received_of f sender item message (Some h)) is_newest
     ∙ receipt_in_at h sender item.priority (takes item message r (f.open_call r)) (taking item message r v.waiting.number v.buffer) (item.number, (given_received item message v.buffer).0) takes_it (given_received item message v.buffer).1
 
-delivered_at_once : (f : Facts) (t coid : ℕ) (c : Call) (item : Item) (message : List ℕ) (sender : Option ℕ) (m : Made) (u : ℕ) (o : OpenCall) (kind : Kind) → (h : ℕ) → way f t coid ≡ Some h
-    → (row_of f t c).receipt ≡ received_of f sender item message (way f t coid) (receiver f item (way f t coid)) → sent_over (f.connection coid) item ≡ Some m → is_among (threads_of f.roster) u ≡ true → f.open_call u ≡ Some o
+delivered_at_once : (f : Facts) (t : ℕ) (c : Call) (w : Option ℕ) (item : Item) (message : List ℕ) (sender : Option ℕ) (m : Made) (u : ℕ) (o : OpenCall) (kind : Kind) → w ≡ Some m.channel → m.item ≡ item
+    → (row_of f t c).receipt ≡ received_of f sender item message w (receiver f item w) → is_among (threads_of f.roster) u ≡ true → f.open_call u ≡ Some o
     → waits_for o.wait ≡ Some (m.channel, kind) → may_take kind m.item ≡ true → IsReceivedAtOnce f t c m
-delivered_at_once f t coid c item message sender m u o kind h is_way receipt made among is waits may =
-    let l = way_leads f t coid h is_way in
-    let same : record { item = item; channel = l.connection.channel } ≡ m = same_Some _ m (ap (λ x. sent_over x item) (sym l.is) ∙ made) in
-    let there : h ≡ m.channel = sym l.channel ∙ ap (λ (x : Made). x.channel) same in
-    let it : m.item ≡ item = ap (λ (x : Made). x.item) (sym same) in
-    let w = waits_for_is o.wait m.channel kind waits in
-    let on : WaitsOn h item (f.open_call u) = record { waiting = o; kind = kind; buffer = w.0; is_open = is; waits = w.1 ∙ ap (λ k. ForItem k kind w.0) (sym there); may = ap (may_take kind) (sym it) ∙ may } in
-    let r = some_of (newest f h item) (newest_some f h item u among on) in
-    let v = newest_waits f h item r.0 r.1 in
+delivered_at_once f t c w item message sender m u o kind is_way it receipt among is waits may =
+    let b = waits_for_is o.wait m.channel kind waits in
+    let on : WaitsOn m.channel item (f.open_call u) = record { waiting = o; kind = kind; buffer = b.0; is_open = is; waits = b.1; may = ap (may_take kind) (sym it) ∙ may } in
+    let r = some_of (newest f m.channel item) (newest_some f m.channel item u among on) in
+    let v = newest_waits f m.channel item r.0 r.1 in
     record {
-      receipt = receipt_from h sender item.priority r.0 (item.number, (given_received item message v.buffer).0);
-      is = receipt ∙ delivered_receipt f sender item message (way f t coid) h r.0 v is_way r.1;
-      channel = there;
+      receipt = receipt_from m.channel sender item.priority r.0 (item.number, (given_received item message v.buffer).0);
+      is = receipt ∙ delivered_receipt f sender item message w m.channel r.0 v is_way r.1;
+      channel = refl;
       item = ap (λ x. x.number) (sym it);
     }
 
-received_at_once : (f : Facts) (t : ℕ) (c : Call) (m : Made) (u : ℕ) (o : OpenCall) (kind : Kind) → Passes f t c → makes f.connection f.priority f.number t c ≡ Some m
+-- what is sent over a way is the item, to its channel
+sent_is : (f : Facts) (t coid : ℕ) (item : Item) (m : Made) (h : ℕ) → way f t coid ≡ Some h → sent_over (f.connection coid) item ≡ Some m → (way f t coid ≡ Some m.channel) × (m.item ≡ item)
+sent_is f t coid item m h is_way made =
+    let same : record { item = item; channel = h } ≡ m = same_Some _ m (sym (sent_way f t coid item h is_way) ∙ made) in
+    (is_way ∙ ap (λ (x : Made). Some x.channel) same, ap (λ (x : Made). x.item) (sym same))
+
+received_at_once : (f : Facts) (t : ℕ) (c : Call) (m : Made) (u : ℕ) (o : OpenCall) (kind : Kind) → Passes f t c → makes f t c ≡ Some m
     → is_among (threads_of f.roster) u ≡ true → f.open_call u ≡ Some o → waits_for o.wait ≡ Some (m.channel, kind) → may_take kind m.item ≡ true → IsReceivedAtOnce f t c m
 received_at_once f t (ChannelCreate flags) m u o kind p made among is waits may = absurd (none-some m made)
 received_at_once f t (ConnectAttach chid) m u o kind p made among is waits may = absurd (none-some m made)
@@ -154,12 +162,17 @@ received_at_once f t (PrioritySet thread level) m u o kind p made among is waits
 received_at_once f t (State thread) m u o kind p made among is waits may = absurd (none-some m made)
 received_at_once f t (ChannelDestroy chid) m u o kind p made among is waits may = absurd (none-some m made)
 received_at_once f t Shutdown m u o kind p made among is waits may = absurd (none-some m made)
+received_at_once f t (Unblock thread) m u o kind p made among is waits may =
+    delivered_at_once f t (Unblock thread) (Some m.channel) m.item [] None m u o kind refl refl (ap (unblock.receipt f) made) among is waits may
 received_at_once f t (ReceivePulse chid) m u o kind p made among is waits may = absurd (none-some m made)
 received_at_once f t (Send coid message reply_buffer) m u o kind p made among is waits may =
-    let h = has_way f t coid p.row in delivered_at_once f t coid (Send coid message reply_buffer) (item f t) message (Some t) m u o kind h.0 h.1 refl made among is waits may
+    let h = has_way f t coid p.row in
+    let s = sent_is f t coid (item f t) m h.0 h.1 made in
+    delivered_at_once f t (Send coid message reply_buffer) (way f t coid) (item f t) message (Some t) m u o kind s.0 s.1 refl among is waits may
 received_at_once f t (Pulse coid level code value) m u o kind p made among is waits may =
     let h = pulse_way f t coid code p.row in
-    delivered_at_once f t coid (Pulse coid level code value) (pulse_item f.number level code value) [] None m u o kind h.0 h.1 refl made among is waits may
+    let s = sent_is f t coid (pulse_item f.number level code value) m h.0 h.1 made in
+    delivered_at_once f t (Pulse coid level code value) (way f t coid) (pulse_item f.number level code value) [] None m u o kind s.0 s.1 refl among is waits may
 
 -- ---- lists of items
 
@@ -226,14 +239,41 @@ before_write g buffer f (Some w) u before o e =
       | false ↦ λ s. record { call = o; is = s; same = refl }
     ] e
 
+-- before an unblock pulse
+pub before_unblock : {A : Type 0} (g : Wait → A) → ((w : Wait) → g (unblocked_wait w) ≡ g w) → (m : Option Made) (w : Option ℕ) (u : ℕ) (before : Option OpenCall) (o : OpenCall) → after_unblock m w u before ≡ Some o → IsBefore g before o
+before_unblock g unblocked m None u before o e = record { call = o; is = e; same = refl }
+before_unblock g unblocked m (Some v) u before o e =
+    elim (eqb u v && is_some m) as (λ b. cond b (option_map unblocked_call before) before ≡ Some o → IsBefore g before o) [
+      | true ↦ elim (before) as (λ x. option_map unblocked_call x ≡ Some o → IsBefore g x o) [
+        | None ↦ λ s. absurd (none-some o s)
+        | Some b ↦ λ s. record { call = b; is = refl; same = sym (unblocked b.wait) ∙ ap (λ (x : OpenCall). g x.wait) (same_Some (unblocked_call b) o s) }
+      ]
+      | false ↦ λ s. record { call = o; is = s; same = refl }
+    ] e
+
+-- this of a wait no call changes but the one that ends it
+pub record Lasts {A : Type 0} (g : Wait → A) : Type 0 where
+  pub held : (receipt : Receipt) (w : Wait) → g (held_with receipt w) ≡ g w
+  pub buffer : (b : List ℕ → List ℕ) (w : Wait) → g (with_buffer b w) ≡ g w
+  pub unblocked : (w : Wait) → g (unblocked_wait w) ≡ g w
+
+-- before the call of another thread
+pub before_other : {A : Type 0} (g : Wait → A) → Lasts g → (f : Facts) (t : ℕ) (c : Call) (u : ℕ) (o : OpenCall)
+    → after_unblock (makes f t c) (unblocks c) u (after_receipt (row_of f t c).receipt u (after_write f (writes c) u (f.open_call u))) ≡ Some o → IsBefore g (f.open_call u) o
+before_other g lasts f t c u o e =
+    let a = before_unblock g lasts.unblocked (makes f t c) (unblocks c) u (after_receipt (row_of f t c).receipt u (after_write f (writes c) u (f.open_call u))) o e in
+    let b = before_receipt g lasts.held (row_of f t c).receipt u (after_write f (writes c) u (f.open_call u)) a.call a.is in
+    let d = before_write g lasts.buffer f (writes c) u (f.open_call u) b.call b.is in
+    record { call = d.call; is = d.is; same = d.same ∙ b.same ∙ a.same }
+
 pub unless_is : (b : Bool) (before : Option OpenCall) (o : OpenCall) → unless b before ≡ Some o → (b ≡ false) × (before ≡ Some o)
 unless_is true before o e = absurd (none-some o e)
 unless_is false before o e = (refl, e)
 
 -- what is so of all that isn't destroyed is so of what is pending afterwards
-all_after : (P : Item → Type 0) (f : Facts) (t : ℕ) (c : Call) (h : ℕ) → AllByRecursion P (taken_out (row_of f t c).receipt h (left_by f t c h (f.pending h) ++ made_on h (makes f.connection f.priority f.number t c))) → AllByRecursion P (pending_after f t c h)
+all_after : (P : Item → Type 0) (f : Facts) (t : ℕ) (c : Call) (h : ℕ) → AllByRecursion P (taken_out (row_of f t c).receipt h (left_by f t c h (f.pending h) ++ made_on h (makes f t c))) → AllByRecursion P (pending_after f t c h)
 all_after P f t c h all =
-    elim (names (closes c) h) as (λ b. AllByRecursion P (cond b [] (taken_out (row_of f t c).receipt h (left_by f t c h (f.pending h) ++ made_on h (makes f.connection f.priority f.number t c))))) [ true ↦ tt | false ↦ all ]
+    elim (names (closes c) h) as (λ b. AllByRecursion P (cond b [] (taken_out (row_of f t c).receipt h (left_by f t c h (f.pending h) ++ made_on h (makes f t c))))) [ true ↦ tt | false ↦ all ]
 
 -- the caller begins to wait: nothing was pending, and nothing is made
 caller_finds_none : (f : Facts) (t : ℕ) (c : Call) (o : OpenCall) (h : ℕ) (kind : Kind) → unless (is_some (row_of f t c).own) (after_receipt (row_of f t c).receipt t (asks f.number c)) ≡ Some o
@@ -243,7 +283,7 @@ caller_finds_none f t c o h kind is waits =
     let b = before_receipt waits_for held_waits_for (row_of f t c).receipt t (asks f.number c) o x.1 in
     let k = begins_with_none f t c b.call (h, kind) b.is (b.same ∙ waits) (none_of (row_of f t c).own x.0) in
     let P = λ (w : Item). may_take kind w ≡ false in
-    let none : AllByRecursion (λ (w : Item). may_take kind w ≡ false) (f.pending h) = none_may kind (f.pending h) k.0 in
+    let none : AllByRecursion (λ (w : Item). may_take kind w ≡ false) (f.pending h) = none-may kind (f.pending h) k.0 in
     let L = left_by f t c h (f.pending h) in
     let Q = λ (w : Item). ((r : Received) → (row_of f t c).receipt ≡ Some r → r.channel ≡ h → eqb w.number r.item ≡ false) → may_take kind w ≡ false in
     all_after P f t c h (rw (k.1) (all_left P (row_of f t c).receipt h (L ++ [])
@@ -256,10 +296,10 @@ other_finds_none f t c u o h kind p nothing among is waits =
     let P = λ (w : Item). may_take kind w ≡ false in
     let Q = λ (w : Item). ((r : Received) → (row_of f t c).receipt ≡ Some r → r.channel ≡ h → eqb w.number r.item ≡ false) → may_take kind w ≡ false in
     let L = left_by f t c h (f.pending h) in
-    all_after P f t c h (all_left P (row_of f t c).receipt h (L ++ made_on h (makes f.connection f.priority f.number t c))
-    (all_append Q L (made_on h (makes f.connection f.priority f.number t c))
+    all_after P f t c h (all_left P (row_of f t c).receipt h (L ++ made_on h (makes f t c))
+    (all_append Q L (made_on h (makes f t c))
     (all_more P Q L (all_filter P (λ w. not (is_cut f t c h w.number)) (f.pending h) (nothing u o h kind is waits)) (λ w m _. m))
-    (elim (makes f.connection f.priority f.number t c) as (λ x. makes f.connection f.priority f.number t c ≡ x → AllByRecursion Q (made_on h x)) [
+    (elim (makes f t c) as (λ x. makes f t c ≡ x → AllByRecursion Q (made_on h x)) [
       | None ↦ λ none. tt
       | Some m ↦ λ made.
           elim (eqb m.channel h) as (λ b. eqb m.channel h ≡ b → AllByRecursion Q (cond b (m.item ∷ []) [])) [
@@ -278,20 +318,28 @@ other_finds_none f t c u o h kind p nothing among is waits =
           ] refl
     ] refl)))
 
+unblocked_waits_for : (w : Wait) → waits_for (unblocked_wait w) ≡ waits_for w
+unblocked_waits_for (Answer coid message reply_buffer None) = refl
+unblocked_waits_for (Answer coid message reply_buffer (Some receipt)) = refl
+unblocked_waits_for (ForItem chid kind buffer) = refl
+
+-- what a thread waits for to receive lasts
+lasts_waits_for : Lasts waits_for
+lasts_waits_for = record { held = held_waits_for; buffer = buffer_waits_for; unblocked = unblocked_waits_for }
+
 nothing_after : (f : Facts) (t : ℕ) (c : Call) → Passes f t c → NothingFor f → ((u : ℕ) (o : OpenCall) → f.open_call u ≡ Some o → is_among (threads_of f.roster) u ≡ true)
     → (u : ℕ) (o : OpenCall) (h : ℕ) (kind : Kind) → open_call_after f t c u ≡ Some o → waits_for o.wait ≡ Some (h, kind) → AllByRecursion (λ w. may_take kind w ≡ false) (pending_after f t c h)
 nothing_after f t c p nothing among u o h kind is waits =
     elim (eqb u t) as (λ b. eqb u t ≡ b
-    → cond b (unless (is_some (row_of f t c).own) (after_receipt (row_of f t c).receipt u (asks f.number c))) (unless (is_some ((row_of f t c).ends u)) (after_receipt (row_of f t c).receipt u (after_write f (writes c) u (f.open_call u)))) ≡ Some o
+    → cond b (unless (is_some (row_of f t c).own) (after_receipt (row_of f t c).receipt u (asks f.number c))) (unless (is_some ((row_of f t c).ends u)) (after_unblock (makes f t c) (unblocks c) u (after_receipt (row_of f t c).receipt u (after_write f (writes c) u (f.open_call u))))) ≡ Some o
     → AllByRecursion (λ w. may_take kind w ≡ false) (pending_after f t c h)) [
       | true ↦ λ same e.
           caller_finds_none f t c o h kind
           (subst (λ v. unless (is_some (row_of f t c).own) (after_receipt (row_of f t c).receipt v (asks f.number c)) ≡ Some o) (eqb-true u t same) e) waits
       | false ↦ λ other e.
-          let x = unless_is (is_some ((row_of f t c).ends u)) (after_receipt (row_of f t c).receipt u (after_write f (writes c) u (f.open_call u))) o e in
-          let b = before_receipt waits_for held_waits_for (row_of f t c).receipt u (after_write f (writes c) u (f.open_call u)) o x.1 in
-          let d = before_write waits_for buffer_waits_for f (writes c) u (f.open_call u) b.call b.is in
-          other_finds_none f t c u d.call h kind p nothing (among u d.call d.is) d.is (d.same ∙ b.same ∙ waits)
+          let x = unless_is (is_some ((row_of f t c).ends u)) (after_unblock (makes f t c) (unblocks c) u (after_receipt (row_of f t c).receipt u (after_write f (writes c) u (f.open_call u)))) o e in
+          let d = before_other waits_for lasts_waits_for f t c u o x.1 in
+          other_finds_none f t c u d.call h kind p nothing (among u d.call d.is) d.is (d.same ∙ waits)
     ] refl is
 
 pub nothing_for : (roster : List Member) (past : Trace) → IsRoster roster → IsLawful roster past → NothingFor (facts_of roster past)

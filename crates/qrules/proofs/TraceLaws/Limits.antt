@@ -9,20 +9,24 @@ use Rattle.qbase.specs.declared.errno.Errno.TheVariants.{Again, Badf, Inval}
 use Rattle.qqueue.specs.Best.{is_pulse, without}
 use Rattle.qqueue.specs.declared.item.Item.{Item}
 use Rattle.qtables.specs.declared.connection.Connection.{Connection}
-use Rattle.qrules.specs.Calls.Pulse.{is_negative, pulses_among, refusal_on}
+use Rattle.qrules.specs.Calls.Pulse.{is_negative, refusal_on}
+use Rattle.qrules.specs.Calls.Unblock as unblock
+use Rattle.qrules.specs.Pulses.{full, pulses_among}
 use Rattle.qrules.specs.Facts.{Facts, way}
 use Rattle.qrules.specs.Laws.{PulsesAreLimited}
 use Rattle.qrules.specs.Lawful.{facts_of}
 use Rattle.qrules.specs.Past.{pending}
-use Rattle.qrules.specs.Rows.{Received, closes, makes, message_item, names, pulse_item, sent_over}
+use Rattle.qrules.specs.Items.{makes}
+use Rattle.qrules.specs.Rows.{Received, closes, message_item, names, pulse_item, sent_over, Made}
 use Rattle.qrules.specs.Step.{is_cut, left_by, made_on, pending_after, taken_out}
 use Rattle.qrules.specs.Answer.{row_of}
 use Rattle.qrules.specs.declared.call.Call.{Call}
-use Rattle.qrules.specs.declared.call.Call.TheVariants.{ChannelCreate, ConnectAttach, Send, Receive, Reply, Error, Read, Write, Info, ReceivePulse, Pulse, PrioritySet, State, ChannelDestroy, Shutdown}
+use Rattle.qrules.specs.declared.call.Call.TheVariants.{ChannelCreate, ConnectAttach, Send, Receive, Reply, Error, Read, Write, Info, ReceivePulse, Pulse, PrioritySet, State, ChannelDestroy, Shutdown, Unblock}
 use Rattle.qrules.proofs.Past.Ends.{passes_of}
 use Rattle.qrules.proofs.Past.Follows.{past_follows}
 use Rattle.qrules.proofs.Past.Laws.{Passes}
-use Rattle.qrules.proofs.Properties.Rows.Delivering.{way_leads}
+use Rattle.qrules.proofs.Calls.Delivering.{sent_way}
+use Rattle.qrules.proofs.Calls.Unblock.{due_pulse, fellow_passes}
 
 -- ---- counts
 
@@ -76,22 +80,46 @@ message_more h n priority (Some c) items few =
       | false ↦ nothing_more items few
     ]
 
+-- a channel that isn't full has room
+room_left : (f : Facts) (h : ℕ) → full f h ≡ None → nat_lt (pulses_among (f.pending h)) 1024 ≡ true
+room_left f h r =
+    elim (nat_lt (pulses_among (f.pending h)) 1024) as (λ b. nat_lt (pulses_among (f.pending h)) 1024 ≡ b → cond b None (Some Again) ≡ None → nat_lt (pulses_among (f.pending h)) 1024 ≡ true) [
+      | true ↦ λ e _. e
+      | false ↦ λ e s. absurd (none-some Again (sym s))
+    ] refl r
+
 -- an accepted Pulse finds room on its channel
-finds_room : (f : Facts) (code : ℤ) (o : Option ℕ) → refusal_on f code o ≡ None → (h : ℕ) × (o ≡ Some h) × (nat_lt (pulses_among (f.pending h)) 1024 ≡ true)
+finds_room : (f : Facts) (code : ℤ) (o : Option ℕ) → refusal_on f code o ≡ None → (h : ℕ) × (o ≡ Some h) × (full f h ≡ None)
 finds_room f code None r = absurd (none-some Badf (sym r))
 finds_room f code (Some h) r =
-    elim (is_negative code) as (λ b. cond b (Some Inval) (cond (nat_lt (pulses_among (f.pending h)) 1024) None (Some Again)) ≡ None → (k : ℕ) × (Some h ≡ Some k) × (nat_lt (pulses_among (f.pending k)) 1024 ≡ true)) [
+    elim (is_negative code) as (λ b. cond b (Some Inval) (full f h) ≡ None → (k : ℕ) × (Some h ≡ Some k) × (full f k ≡ None)) [
       | true ↦ λ s. absurd (none-some Inval (sym s))
-      | false ↦ λ s.
-          elim (nat_lt (pulses_among (f.pending h)) 1024) as (λ b. nat_lt (pulses_among (f.pending h)) 1024 ≡ b → cond b None (Some Again) ≡ None → (k : ℕ) × (Some h ≡ Some k) × (nat_lt (pulses_among (f.pending k)) 1024 ≡ true)) [
-            | true ↦ λ e _. (h, refl, e)
-            | false ↦ λ e s. absurd (none-some Again (sym s))
-          ] refl s
+      | false ↦ λ s. (h, refl, s)
     ] r
 
 -- what is left of a channel's items, with what an accepted call makes
+-- a pulse finds room that is made on a channel that isn't full
+pulse_more : (f : Facts) (h : ℕ) (items : List Item) (m : Made) → is_pulse m.item.what ≡ true → full f m.channel ≡ None → pulses_among items ≤ pulses_among (f.pending h) → pulses_among (f.pending h) ≤ 1024
+    → pulses_among (items ++ made_on h (Some m)) ≤ 1024
+pulse_more f h items m pulse room less few =
+    elim (eqb m.channel h) as (λ b. eqb m.channel h ≡ b → pulses_among (items ++ cond b (m.item ∷ []) []) ≤ 1024) [
+      | true ↦ λ on.
+          let below : pulses_among (f.pending h) < 1024 = subst (λ k. pulses_among (f.pending k) < 1024) (eqb-true m.channel h on) (ltb-true _ _ (room_left f m.channel room)) in
+          subst (λ k. k ≤ 1024) (sym (more_pulse items m.item pulse)) (omega (arith, less, below))
+      | false ↦ λ off. nothing_more items (omega (arith, less, few))
+    ] refl
+
+-- the pulse of an accepted Unblock
+unblock_more : (f : Facts) (t thread h : ℕ) (items : List Item) → unblock.refusal f t thread ≡ None → pulses_among items ≤ pulses_among (f.pending h) → pulses_among (f.pending h) ≤ 1024
+    → pulses_among (items ++ made_on h (unblock.due f thread)) ≤ 1024
+unblock_more f t thread h items r less few =
+    elim (unblock.due f thread) as (λ o. unblock.due f thread ≡ o → unblock.refusal_of f o ≡ None → pulses_among (items ++ made_on h o) ≤ 1024) [
+      | None ↦ λ none s. nothing_more items (omega (arith, less, few))
+      | Some m ↦ λ is s. pulse_more f h items m (due_pulse f thread m is) s less few
+    ] refl (fellow_passes f t thread r)
+
 limited : (f : Facts) (t : ℕ) (c : Call) (h : ℕ) → Passes f t c → (items : List Item) → pulses_among items ≤ pulses_among (f.pending h) → pulses_among (f.pending h) ≤ 1024
-    → pulses_among (items ++ made_on h (makes f.connection f.priority f.number t c)) ≤ 1024
+    → pulses_among (items ++ made_on h (makes f t c)) ≤ 1024
 limited f t (ChannelCreate flags) h p items less few = nothing_more items (omega (arith, less, few))
 limited f t (ConnectAttach chid) h p items less few = nothing_more items (omega (arith, less, few))
 limited f t (Receive chid buffer) h p items less few = nothing_more items (omega (arith, less, few))
@@ -105,23 +133,16 @@ limited f t (PrioritySet thread level) h p items less few = nothing_more items (
 limited f t (State thread) h p items less few = nothing_more items (omega (arith, less, few))
 limited f t (ChannelDestroy chid) h p items less few = nothing_more items (omega (arith, less, few))
 limited f t Shutdown h p items less few = nothing_more items (omega (arith, less, few))
+limited f t (Unblock thread) h p items less few = unblock_more f t thread h items p.row less few
 limited f t (Send coid message reply_buffer) h p items less few = message_more h f.number (f.priority t) (f.connection coid) items (omega (arith, less, few))
 limited f t (Pulse coid level code value) h p items less few =
     let room = finds_room f code (way f t coid) p.row in
-    let l = way_leads f t coid room.0 room.1 in
     let x = pulse_item f.number level code value in
-    subst (λ o. pulses_among (items ++ made_on h (sent_over o x)) ≤ 1024) (sym l.is) (
-    elim (eqb l.connection.channel h) as (λ b. eqb l.connection.channel h ≡ b → pulses_among (items ++ cond b (x ∷ []) []) ≤ 1024) [
-      | true ↦ λ on.
-          let same : room.0 ≡ h = sym l.channel ∙ eqb-true l.connection.channel h on in
-          let below : pulses_among (f.pending h) < 1024 = subst (λ k. pulses_among (f.pending k) < 1024) same (ltb-true _ _ room.2) in
-          subst (λ k. k ≤ 1024) (sym (more_pulse items x refl)) (omega (arith, less, below))
-      | false ↦ λ off. nothing_more items (omega (arith, less, few))
-    ] refl)
+    subst (λ o. pulses_among (items ++ made_on h o) ≤ 1024) (sym (sent_way f t coid x room.0 room.1)) (pulse_more f h items (record { item = x; channel = room.0 }) refl room.2 less few)
 
 limited_after : (f : Facts) (t : ℕ) (c : Call) (h : ℕ) → Passes f t c → pulses_among (f.pending h) ≤ 1024 → pulses_among (pending_after f t c h) ≤ 1024
 limited_after f t c h p few =
-    let M = made_on h (makes f.connection f.priority f.number t c) in
+    let M = made_on h (makes f t c) in
     let L = left_by f t c h (f.pending h) in
     let less : pulses_among L ≤ pulses_among (f.pending h) = fewer_left (λ item. not (is_cut f t c h item.number)) (f.pending h) in
     let made : pulses_among (L ++ M) ≤ 1024 = limited f t c h p L less few in

@@ -8,7 +8,7 @@ use Rattle.qtables.specs.declared.member.Member.{Member}
 use Rattle.qrules.specs.Facts.{is_for_answer}
 use Rattle.qrules.specs.Laws.{is_for_reply, IsNotHeld, IsOpenSend, NonePendingIsHeld, PendingIsOpen, PendingRises}
 use Rattle.qrules.specs.Lawful.{IsLawful}
-use Rattle.qrules.specs.Past.{filled, is_ended, is_taken, pending, priority_of_item, receipt_of, with_receipt}
+use Rattle.qrules.specs.Past.{is_unblocked, filled, is_ended, is_taken, pending, priority_of_item, receipt_of, with_receipt}
 use Rattle.qrules.specs.Trace.{Trace}
 use Rattle.qrules.specs.declared.open_call.OpenCall.{OpenCall}
 use Rattle.qrules.specs.declared.open_call.Wait.{Wait}
@@ -36,7 +36,7 @@ unread roster past h item p = (or_parts _ _ p.stays).0
 
 -- an open call of the number of an item that isn't received is as it began
 as_begun : (roster : List Member) (past : Trace) (u : ℕ) (o : OpenCall) (k : IsOpen roster past u o) → is_taken past k.block.number ≡ false → o ≡ filled past k.block
-as_begun roster past u o k e = k.same ∙ ap (λ r. with_receipt (priority_of_item roster past k.block.number) r (filled past k.block)) (none_of (receipt_of past k.block.number) e)
+as_begun roster past u o k e = k.same ∙ ap (λ r. with_receipt (priority_of_item roster past k.block.number) (is_unblocked roster past k.block.number) r (filled past k.block)) (none_of (receipt_of past k.block.number) e)
 
 not_held : (roster : List Member) (past : Trace) (h : ℕ) (item : Item) → IsPending roster past h item → IsNotHeld roster past item.number
 not_held roster past h item p = record {

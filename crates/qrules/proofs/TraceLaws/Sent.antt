@@ -7,85 +7,31 @@ use Rattle.std.proofs.lemmas.Bool.{eqb-true, eq-eqb, and_from}
 use Rattle.std.proofs.lemmas.Option.{none-some, same_Some}
 use Rattle.qqueue.specs.Best.{best_of}
 use Rattle.qqueue.specs.declared.item.Item.{Item}
+use Rattle.qqueue.proofs.OrderLaws.{best-at}
 use Rattle.qtables.specs.declared.connection.Connection.{Connection}
 use Rattle.qtables.specs.declared.member.Member.{Member}
 use Rattle.qrules.specs.Headline.BestFirst.{TakesBest, takeable}
 use Rattle.qrules.specs.Headline.ReceivedOnce.{item_received}
-use Rattle.qrules.specs.Headline.SentOrder.{sends_over}
-use Rattle.qrules.specs.Laws.{IsSentTo, ReceivedWasSent, WasSent}
+use Rattle.qrules.specs.Headline.SentOrder.{connection_of}
+use Rattle.qrules.specs.Laws.{LeadsTo, ReceivedWasSent, WasSent}
 use Rattle.qrules.specs.Past.{connection_at, item_of, items, made_at, priority_of_thread}
-use Rattle.qrules.specs.Rows.{message_item, pulse_item, Made, makes, sent_over}
+use Rattle.qrules.specs.Items.{makes}
+use Rattle.qrules.specs.Rows.{message_item, pulse_item, Made, sent_over}
 use Rattle.qrules.specs.Trace.{Event, Trace}
 use Rattle.qrules.specs.declared.call.Call.{Call}
-use Rattle.qrules.specs.declared.call.Call.TheVariants.{ChannelCreate, ConnectAttach, Send, Receive, Reply, Error, Read, Write, Info, ReceivePulse, Pulse, PrioritySet, State, ChannelDestroy, Shutdown}
+use Rattle.qrules.specs.declared.call.Call.TheVariants.{ChannelCreate, ConnectAttach, Send, Receive, Reply, Error, Read, Write, Info, ReceivePulse, Pulse, PrioritySet, State, ChannelDestroy, Shutdown, Unblock}
 use Rattle.qrules.specs.declared.call.Completion.{Completion}
 use Rattle.qrules.proofs.Past.Items.{Stands, item_at}
 use Rattle.qrules.proofs.Past.Lists.{all_more}
-use Rattle.qrules.proofs.Past.Receipts.{best_at}
 use Rattle.qrules.proofs.Properties.BestFirst.{best_first}
-use Rattle.qrules.proofs.Properties.Connections.{takeable_made}
-use Rattle.qrules.proofs.Properties.Messages.{made_accepted}
+use Rattle.qrules.proofs.Properties.Connections.{item_over, takeable_made}
 use Rattle.qrules.proofs.Properties.ReceivedOnce.{any_first, any_last}
 use Rattle.qrules.proofs.Properties.Sends.{made_newest, made_stays}
 
--- ---- an item was made by a Send to its channel
+-- ---- an item that was sent over a connection
 
--- the call sends over a connection that leads to the channel of what it makes
-record SendsTo (connection : ℕ → Option Connection) (c : Call) (m : Made) : Type 0 where
-  pub coid : ℕ
-  pub is : sends_over c ≡ Some coid
-  pub over : Connection
-  pub is_over : connection coid ≡ Some over
-  pub channel : over.channel ≡ m.channel
-
-sends_item : (connection : ℕ → Option Connection) (coid : ℕ) (c : Call) (item : Item) (m : Made) → sends_over c ≡ Some coid → sent_over (connection coid) item ≡ Some m → SendsTo connection c m
-sends_item connection coid c item m sends e =
-    elim (connection coid) as (λ o. connection coid ≡ o → sent_over o item ≡ Some m → SendsTo connection c m) [
-      | None ↦ λ is at. absurd (none-some m at)
-      | Some x ↦ λ is at. record { coid = coid; is = sends; over = x; is_over = is; channel = ap (λ y. y.channel) (same_Some _ m at) }
-    ] refl e
-
-sends_to : (connection : ℕ → Option Connection) (priority : ℕ → ℕ) (n t : ℕ) (c : Call) (m : Made) → makes connection priority n t c ≡ Some m → SendsTo connection c m
-sends_to connection priority n t (ChannelCreate flags) m e = absurd (none-some m e)
-sends_to connection priority n t (ConnectAttach chid) m e = absurd (none-some m e)
-sends_to connection priority n t (Receive chid buffer) m e = absurd (none-some m e)
-sends_to connection priority n t (Reply rcvid status bytes) m e = absurd (none-some m e)
-sends_to connection priority n t (Error rcvid code) m e = absurd (none-some m e)
-sends_to connection priority n t (Read rcvid offset buffer) m e = absurd (none-some m e)
-sends_to connection priority n t (Write rcvid offset bytes) m e = absurd (none-some m e)
-sends_to connection priority n t (Info rcvid) m e = absurd (none-some m e)
-sends_to connection priority n t (PrioritySet thread level) m e = absurd (none-some m e)
-sends_to connection priority n t (State thread) m e = absurd (none-some m e)
-sends_to connection priority n t (ChannelDestroy chid) m e = absurd (none-some m e)
-sends_to connection priority n t Shutdown m e = absurd (none-some m e)
-sends_to connection priority n t (ReceivePulse chid) m e = absurd (none-some m e)
-sends_to connection priority n t (Pulse coid level code value) m e = sends_item connection coid (Pulse coid level code value) (pulse_item n level code value) m refl e
-sends_to connection priority n t (Send coid message reply_buffer) m e = sends_item connection coid (Send coid message reply_buffer) (message_item n (priority t)) m refl e
-
-sent_to : (roster : List Member) (past : Trace) (i : ℕ) (m : Made) → item_at roster past i ≡ Some m → IsSentTo roster past i m.channel
-sent_to roster [] i m is = absurd (none-some m is)
-sent_to roster (e ∷ past) i m is =
-    elim (eqb i (length past + 1)) as (λ b. eqb i (length past + 1) ≡ b → cond b (item_of roster e past) (item_at roster past i) ≡ Some m → IsSentTo roster (e ∷ past) i m.channel) [
-      | true ↦ λ same at.
-          let a = made_accepted roster e past m at in
-          let k = sends_to (connection_at roster past) (priority_of_thread roster past) (length past + 1) e.thread e.call m a.1 in
-          record {
-            coid = k.coid;
-            connection = k.over;
-            sent = subst (λ j. made_at (λ e. sends_over e.call) (e ∷ past) j ≡ Some k.coid) (sym (eqb-true _ _ same)) (made_newest (λ e. sends_over e.call) e past a.0 ∙ k.is);
-            is_connection = made_stays _ e past k.coid k.over k.is_over;
-            channel = k.channel;
-          }
-      | false ↦ λ other at.
-          let k = sent_to roster past i m at in
-          record {
-            coid = k.coid;
-            connection = k.connection;
-            sent = made_stays (λ e. sends_over e.call) e past i k.coid k.sent;
-            is_connection = made_stays _ e past k.coid k.connection k.is_connection;
-            channel = k.channel;
-          }
-    ] refl is
+sent_to : (roster : List Member) (past : Trace) (i : ℕ) (m : Made) → item_at roster past i ≡ Some m → (k : ℕ) → connection_of past i ≡ Some k → LeadsTo roster past k m.channel
+sent_to roster past i m is k over = let w = item_over roster past i k m is over in record { connection = w.over; is = w.is; channel = sym w.channel }
 
 -- ---- it is among the items
 
@@ -105,7 +51,7 @@ taken_stands roster past e x i k =
     → (m : Made) × (item_at roster (e ∷ past) i ≡ Some m) × (m.item.number ≡ i) × (m.channel ≡ k.channel)) [
       | None ↦ λ is at. absurd (none-some i at)
       | Some item ↦ λ is at.
-          let stands = best_at (Stands roster (e ∷ past) k.channel) k.kind (takeable roster past e k.channel) item (takeable_made roster past e k.channel) is in
+          let stands = best-at (Stands roster (e ∷ past) k.channel) k.kind (takeable roster past e k.channel) item (takeable_made roster past e k.channel) is in
           let number : item.number ≡ i = same_Some item.number i at in
           (record { item = item; channel = k.channel }, subst (λ j. item_at roster (e ∷ past) j ≡ Some (record { item = item; channel = k.channel })) number stands, number, refl)
     ] refl k.best
@@ -122,7 +68,7 @@ was_sent roster past e x i k =
       is_call = k.is_call;
       receives = k.receives;
       made = among_items (λ m. (eqb m.item.number i) && (eqb m.channel k.channel)) roster (e ∷ past) i s.0 s.1 (and_from _ _ (eq-eqb s.0.item.number i s.2) (eq-eqb s.0.channel k.channel s.3));
-      sent = subst (IsSentTo roster (e ∷ past) i) s.3 (sent_to roster (e ∷ past) i s.0 s.1);
+      sent = λ k over. subst (LeadsTo roster (e ∷ past) k) s.3 (sent_to roster (e ∷ past) i s.0 s.1 k over);
     }
 
 pub received_was_sent : ReceivedWasSent

@@ -7,11 +7,11 @@ use Rattle.std.proofs.lemmas.Option.{none-some, same_Some}
 use Rattle.qtables.specs.declared.member.Member.{Member}
 use Rattle.qrules.specs.Laws.{blocker, IsUnended, AtMostOneOpen, OpenIsUnended}
 use Rattle.qrules.specs.Lawful.{IsLawful}
-use Rattle.qrules.specs.Past.{filled, ends, is_accepted, is_ended, made_at, newest_block, open_call, priority_of_item, receipt_of}
+use Rattle.qrules.specs.Past.{is_unblocked, filled, ends, is_accepted, is_ended, made_at, newest_block, open_call, priority_of_item, receipt_of}
 use Rattle.qrules.specs.Rows.{asks}
 use Rattle.qrules.specs.Trace.{Event, Trace}
 use Rattle.qrules.specs.declared.call.Call.{Call}
-use Rattle.qrules.specs.declared.call.Call.TheVariants.{ChannelCreate, ConnectAttach, Send, Receive, Reply, Error, Read, Write, Info, ReceivePulse, Pulse, PrioritySet, State, ChannelDestroy, Shutdown}
+use Rattle.qrules.specs.declared.call.Call.TheVariants.{ChannelCreate, ConnectAttach, Send, Receive, Reply, Error, Read, Write, Info, ReceivePulse, Pulse, PrioritySet, State, ChannelDestroy, Shutdown, Unblock}
 use Rattle.qrules.specs.declared.open_call.OpenCall.{OpenCall}
 use Rattle.qrules.proofs.Past.Lists.{eqb_same}
 use Rattle.qrules.proofs.Past.Numbers.{open_from, open_parts, receipt_number}
@@ -34,6 +34,7 @@ asks_any n (PrioritySet thread level) = refl
 asks_any n (State thread) = refl
 asks_any n (ChannelDestroy chid) = refl
 asks_any n Shutdown = refl
+asks_any n (Unblock thread) = refl
 asks_any n (ReceivePulse chid) = refl
 asks_any n (Pulse coid priority code value) = refl
 
@@ -124,7 +125,7 @@ open_unended : (roster : List Member) (past : Trace) (t i : ℕ) → IsLawful ro
 open_unended roster past t i l u =
     let k = unended_newest roster past t i l u.blocks u.going in
     ap (option_map (λ (o : OpenCall). o.number)) (open_from roster past t k.block k.is (subst (λ j. is_ended past j ≡ false) (sym k.number) u.going))
-    ∙ ap (λ n. Some n) (receipt_number (priority_of_item roster past k.block.number) (receipt_of past k.block.number) (filled past k.block) ∙ k.number)
+    ∙ ap (λ n. Some n) (receipt_number (priority_of_item roster past k.block.number) (is_unblocked roster past k.block.number) (receipt_of past k.block.number) (filled past k.block) ∙ k.number)
 
 pub open_is_unended : OpenIsUnended
 open_is_unended roster past r l t i = (unended_open roster past t i, open_unended roster past t i l)

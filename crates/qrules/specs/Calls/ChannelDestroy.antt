@@ -17,6 +17,6 @@ row f t chid = record {
   refusal = refusal f t chid;
   takes_memory = false;
   own = Some (record { call = f.number; thread = t; mark = mark.Ok; buffer = [] });
-  ends = cuts f (is_on f.connection chid) Srch;
+  ends = cuts f (λ u. is_on f.connection chid) Srch;
   receipt = None;
 }

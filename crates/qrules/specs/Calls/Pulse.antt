@@ -1,12 +1,11 @@
 -- Pulse: a pulse to the receiver that began to wait last, or to the channel's pending items.
-use Rattle.std.specs.Prelude.{ℕ, ℤ, pos, negsuc, nat_lt, Bool, true, false, List, [], count_by, Option, None, Some, if◌then◌else◌}
+use Rattle.std.specs.Prelude.{ℕ, ℤ, pos, negsuc, Bool, true, false, [], Option, None, Some, if◌then◌else◌}
 use Rattle.qbase.specs.declared.errno.Errno.{Errno}
-use Rattle.qbase.specs.declared.errno.Errno.TheVariants.{Again, Badf, Inval}
-use Rattle.qqueue.specs.Best.{is_pulse}
-use Rattle.qqueue.specs.declared.item.Item.{Item}
+use Rattle.qbase.specs.declared.errno.Errno.TheVariants.{Badf, Inval}
 use Rattle.qrules.specs.declared.call.Mark.TheVariants as mark
 use Rattle.qrules.specs.Delivering.{receiver, meets, received_of}
 use Rattle.qrules.specs.Facts.{Facts, way}
+use Rattle.qrules.specs.Pulses.{full}
 use Rattle.qrules.specs.Rows.{Row, pulse_item}
 
 -- a code below 0
@@ -14,14 +13,10 @@ abbrev pub is_negative : ℤ → Bool
 is_negative (pos n) = false
 is_negative (negsuc n) = true
 
--- how many pulses are pending
-abbrev pub pulses_among : List Item → ℕ
-pulses_among items = count_by (λ x. is_pulse x.what) items
-
 -- a code below 0, and then 1,024 pulses pending on the channel
 abbrev pub refusal_on : Facts → ℤ → Option ℕ → Option Errno
 refusal_on f code None = Some Badf
-refusal_on f code (Some h) = if is_negative code then Some Inval else (if nat_lt (pulses_among (f.pending h)) 1024 then None else Some Again)
+refusal_on f code (Some h) = if is_negative code then Some Inval else full f h
 
 -- a connection that the thread's process hasn't, or whose channel isn't open, and then those
 abbrev pub refusal : Facts → ℕ → ℕ → ℤ → Option Errno

@@ -12,6 +12,6 @@ row f t = record {
   refusal = None;
   takes_memory = false;
   own = Some (record { call = f.number; thread = t; mark = mark.Ok; buffer = [] });
-  ends = cuts f (λ wait. true) Srch;
+  ends = cuts f (λ u wait. true) Srch;
   receipt = None;
 }

@@ -3,7 +3,7 @@ use Rattle.std.specs.Prelude.{◌≡◌, ℕ, ◌==◌, ◌&&◌, not, Bool, tru
 use Rattle.std.specs.List.{AllByRecursion}
 use Rattle.qtables.specs.declared.member.Member.{Member}
 use Rattle.qrules.specs.declared.call.Call.{Call}
-use Rattle.qrules.specs.declared.call.Call.TheVariants.{ChannelCreate, ConnectAttach, Send, Receive, Reply, Error, Read, Write, Info, ReceivePulse, Pulse, PrioritySet, State, ChannelDestroy, Shutdown}
+use Rattle.qrules.specs.declared.call.Call.TheVariants.{ChannelCreate, ConnectAttach, Send, Receive, Reply, Error, Read, Write, Info, ReceivePulse, Pulse, PrioritySet, State, ChannelDestroy, Shutdown, Unblock}
 use Rattle.qrules.specs.declared.call.Completion.{Completion}
 use Rattle.qrules.specs.declared.call.Mark.{Mark}
 use Rattle.qrules.specs.declared.call.Mark.TheVariants as mark
@@ -48,6 +48,7 @@ thread_of_send t (PrioritySet thread priority) = None
 thread_of_send t (State thread) = None
 thread_of_send t (ChannelDestroy chid) = None
 thread_of_send t Shutdown = None
+thread_of_send t (Unblock thread) = None
 
 -- the thread that sent message i
 abbrev pub sender_of : Trace → ℕ → Option ℕ
@@ -70,6 +71,7 @@ answered_by (PrioritySet thread priority) = None
 answered_by (State thread) = None
 answered_by (ChannelDestroy chid) = None
 answered_by Shutdown = None
+answered_by (Unblock thread) = None
 
 -- the mark is an answer
 abbrev pub is_answer : Mark → Bool

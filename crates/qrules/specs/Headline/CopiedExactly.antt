@@ -5,7 +5,7 @@ use Rattle.std.specs.Option.{option_map_or}
 use Rattle.std.specs.Ordering.{int_eq}
 use Rattle.qbase.specs.Laying.{laid_count, lay_over}
 use Rattle.qrules.specs.declared.call.Call.{Call}
-use Rattle.qrules.specs.declared.call.Call.TheVariants.{ChannelCreate, ConnectAttach, Send, Receive, Reply, Error, Read, Write, Info, ReceivePulse, Pulse, PrioritySet, State, ChannelDestroy, Shutdown}
+use Rattle.qrules.specs.declared.call.Call.TheVariants.{ChannelCreate, ConnectAttach, Send, Receive, Reply, Error, Read, Write, Info, ReceivePulse, Pulse, PrioritySet, State, ChannelDestroy, Shutdown, Unblock}
 use Rattle.qrules.specs.declared.call.Completion.{Completion}
 use Rattle.qrules.specs.declared.call.Mark.{Mark}
 use Rattle.qrules.specs.declared.call.Mark.TheVariants as mark
@@ -34,6 +34,7 @@ buffer_by past i (PrioritySet thread priority) = []
 buffer_by past i (State thread) = []
 buffer_by past i (ChannelDestroy chid) = []
 buffer_by past i Shutdown = []
+buffer_by past i (Unblock thread) = []
 
 -- the same of the call of that number, nothing where there is none
 abbrev pub buffer_at : Trace → ℕ → List ℕ
@@ -56,6 +57,7 @@ message_of (PrioritySet thread priority) = []
 message_of (State thread) = []
 message_of (ChannelDestroy chid) = []
 message_of Shutdown = []
+message_of (Unblock thread) = []
 
 -- the bytes of message i
 abbrev pub message_at : Trace → ℕ → List ℕ
@@ -78,6 +80,7 @@ replies_with (PrioritySet thread priority) = None
 replies_with (State thread) = None
 replies_with (ChannelDestroy chid) = None
 replies_with Shutdown = None
+replies_with (Unblock thread) = None
 
 -- what a call counts: a Read the bytes of the message from the offset on that it lays over its buffer, a Write those that it lays over the
 -- reply buffer from the offset on; no other call counts
@@ -98,6 +101,7 @@ IsCounted past (PrioritySet thread priority) x copied = ⊥
 IsCounted past (State thread) x copied = ⊥
 IsCounted past (ChannelDestroy chid) x copied = ⊥
 IsCounted past Shutdown x copied = ⊥
+IsCounted past (Unblock thread) x copied = ⊥
 
 -- a receipt lays the message over the front of the receiver's buffer, a reply its bytes over the front of the sender's reply buffer, each to
 -- the shorter length and with that count; a Read and a Write copy what they count; any other ending gives the buffer as it is by then

@@ -4,7 +4,7 @@ use Rattle.std.specs.List.{AllByRecursion}
 use Rattle.std.specs.Option.{option_and_then}
 use Rattle.qtables.specs.declared.member.Member.{Member}
 use Rattle.qrules.specs.declared.call.Call.{Call}
-use Rattle.qrules.specs.declared.call.Call.TheVariants.{ChannelCreate, ConnectAttach, Send, Receive, Reply, Error, Read, Write, Info, ReceivePulse, Pulse, PrioritySet, State, ChannelDestroy, Shutdown}
+use Rattle.qrules.specs.declared.call.Call.TheVariants.{ChannelCreate, ConnectAttach, Send, Receive, Reply, Error, Read, Write, Info, ReceivePulse, Pulse, PrioritySet, State, ChannelDestroy, Shutdown, Unblock}
 use Rattle.qrules.specs.declared.call.Completion.{Completion}
 use Rattle.qrules.specs.Headline.BestFirst.{takeable}
 use Rattle.qrules.specs.Headline.CopiedExactly.{call_at}
@@ -29,6 +29,7 @@ sends_over (PrioritySet thread priority) = None
 sends_over (State thread) = None
 sends_over (ChannelDestroy chid) = None
 sends_over Shutdown = None
+sends_over (Unblock thread) = None
 
 -- the connection over which item i was sent
 abbrev pub connection_of : Trace → ℕ → Option ℕ

@@ -1,14 +1,15 @@
 use Rattle.std.proofs.Common.{ap, sym, ◌∙◌}
+use Rattle.std.proofs.lemmas.Option.{IfSome_then}
 use Rattle.qqueue.specs.Best.{without}
 use Rattle.qrecords.specs.Channels.{waiting_on}
-use Rattle.qrecords.proofs.ChannelWrites.{sets_items, if_some, if_none}
+use Rattle.qrecords.proofs.ChannelWrites.{sets_items, if_none}
 use Rattle.qrecords.proofs.channel.take_best.Goals as goal
 
 pub returns-clause-taken : goal.returns-clause-taken
 returns-clause-taken c =
     let there = sym c.in_ok-channel.ensures.value in
-    if_some c.take.result (λ item rest. sets_items c.args.channels.now c.args.chid c.in_ok-channel.channel.now c.take.new.self _ there
-    (rest ∙ ap (without item.number) (sym (ap waiting_on there)))) c.take.ensures.rest
+    IfSome_then c.take.result c.take.ensures.rest (λ item rest. sets_items c.args.channels.now c.args.chid c.in_ok-channel.channel.now c.take.new.self _ there
+    (rest ∙ ap (without item.number) (sym (ap waiting_on there))))
 
 pub returns-clause-none : goal.returns-clause-none
 returns-clause-none c =

@@ -1,6 +1,6 @@
 use Rattle.std.proofs.Common.{◌≡◌, ◌<◌, ◌≤◌, ap, arith, length, ◌∙◌}
 use Rattle.qtables.specs.Entries.{entry_at}
-use Rattle.qrecords.proofs.Sweeps.{passed_on, idle_here, sweeps_init, sweeps_step, at_end, swept_endings, swept_threads, swept_channels, few_more}
+use Rattle.qrecords.proofs.Cuts.Threads.{passed_on, idle_here, sweeps_init, sweeps_step, at_end, swept_endings, swept_threads, swept_channels, few_more}
 use Rattle.qrecords.proofs.cutting.cut_calls.Goals as goal
 
 pub loop-thread-init : goal.loop-thread-init

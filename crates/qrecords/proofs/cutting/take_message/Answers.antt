@@ -4,7 +4,7 @@ use Rattle.qqueue.specs.Best.{without}
 use Rattle.qtables.specs.Entries.{entry_at}
 use Rattle.qrecords.specs.Channels.{waiting_on}
 use Rattle.qrecords.proofs.ChannelWrites.{sets_items}
-use Rattle.qrecords.proofs.Losses.{loses_nothing, loses_gone, loses_one, waits_so, unread_so}
+use Rattle.qrecords.proofs.Cuts.Queues.{loses_nothing, loses_gone, loses_one, waits_so, unread_so}
 use Rattle.qrecords.proofs.cutting.take_message.Goals as goal
 
 pub returns-in_default : goal.returns-in_default

@@ -1,4 +1,4 @@
-use Rattle.std.proofs.Common.{◌≡◌, None, Some, sym, ap, ◌∙◌}
+use Rattle.std.proofs.Common.{◌≡◌, None, Some, sym, ap, ◌∙◌, false}
 use Rattle.std.specs.Prelude.{position}
 use Rattle.std.specs.Option.{option_map}
 use Rattle.qbase.specs.Laying.{laid_count, lay_over}
@@ -28,7 +28,7 @@ returns-in-Some-clause-kept c =
     let at : position (λ t. is_send c.args.number t.open_call) c.args.threads.now.items ≡ Some c.in-Some.seat = rw c.deref.ensures.value at (sym c.sender_seat.ensures ∙ c.in-Some.is) in
     changes_there c.args.number c.args.threads.now.items c.in-Some.seat c.index_mut-sender.result.now c.requires at _ c.hand_over.new.self
     (c.hand_over.ensures.member ∙ ap (λ t. t.member) c.index_mut-sender.ensures.value) (c.hand_over.ensures.priority ∙ ap (λ t. t.priority) c.index_mut-sender.ensures.value)
-    (c.hand_over.ensures.kept ∙ ap (λ t. option_map (held_call (record { priority = c.args.priority; copied = c.hand_over.result })) t.open_call) c.index_mut-sender.ensures.value)
+    (c.hand_over.ensures.kept ∙ ap (λ t. option_map (held_call (record { priority = c.args.priority; copied = c.hand_over.result; unblocked = false })) t.open_call) c.index_mut-sender.ensures.value)
 
 pub returns-in-Some-clause-buffer : goal.returns-in-Some-clause-buffer
 returns-in-Some-clause-buffer c =

@@ -1,55 +1,20 @@
 -- A call that delivers an item meets a thread that waits on its channel, if it ends another's.
 use Rattle.std.proofs.Common.{◌≡◌, ◌∙◌, ℕ, List, ap, refl, sym, subst, cond, eqb, true, false}
-use Rattle.std.specs.Prelude.{ℤ, Option, None, Some, is_some, ◌&&◌}
+use Rattle.std.specs.Prelude.{Option, None, Some}
 use Rattle.std.proofs.lemmas.Bool.{eqb-true}
 use Rattle.std.proofs.lemmas.Option.{none-some, same_Some}
-use Rattle.qbase.specs.declared.errno.Errno.TheVariants.{Badf}
 use Rattle.qqueue.specs.Best.{may_take}
 use Rattle.qqueue.specs.declared.item.Item.{Item}
 use Rattle.qqueue.specs.declared.item.Kind.{Kind}
-use Rattle.qtables.specs.declared.connection.Connection.{Connection}
-use Rattle.qrules.specs.Calls.Pulse as pulse
-use Rattle.qrules.specs.Calls.Send as send
 use Rattle.qrules.specs.Delivering.{meets, receiver, receipt_by}
-use Rattle.qrules.specs.Facts.{Facts, leads_to, way, is_of_process}
+use Rattle.qrules.specs.Facts.{Facts, way}
 use Rattle.qrules.specs.Rows.{takes, takes_into, taking}
 use Rattle.qrules.specs.declared.call.Completion.{Completion}
 use Rattle.qrules.specs.declared.open_call.OpenCall.{OpenCall}
 use Rattle.qrules.specs.declared.open_call.Wait.{Wait}
 use Rattle.qrules.specs.declared.open_call.Wait.TheVariants.{Answer, Item as ForItem}
 use Rattle.qrules.proofs.Properties.Receivers.{WaitsOn, newest_waits}
-
--- the connection over which the thread may send, and its channel
-pub record Leads (f : Facts) (coid h : ℕ) : Type 0 where
-  pub connection : Connection
-  pub is : f.connection coid ≡ Some connection
-  pub channel : connection.channel ≡ h
-
-leads_over : (f : Facts) (t h : ℕ) (o : Option Connection) → leads_to f t o ≡ Some h → (c : Connection) × (o ≡ Some c) × (c.channel ≡ h)
-leads_over f t h None e = absurd (none-some h e)
-leads_over f t h (Some c) e =
-    elim (is_of_process f t c.process && is_some (f.channel c.channel)) as (λ b. cond b (Some c.channel) None ≡ Some h → (d : Connection) × (Some c ≡ Some d) × (d.channel ≡ h)) [
-      | true ↦ λ s. (c, refl, same_Some c.channel h s)
-      | false ↦ λ s. absurd (none-some h s)
-    ] e
-
-pub way_leads : (f : Facts) (t coid h : ℕ) → way f t coid ≡ Some h → Leads f coid h
-way_leads f t coid h e = let l = leads_over f t h (f.connection coid) e in record { connection = l.0; is = l.1; channel = l.2 }
-
--- an accepted Send has a way, and so has an accepted Pulse
-pub has_way : (f : Facts) (t coid : ℕ) → send.refusal f t coid ≡ None → (h : ℕ) × (way f t coid ≡ Some h)
-has_way f t coid r =
-    elim (way f t coid) as (λ o. cond (is_some o) None (Some Badf) ≡ None → (h : ℕ) × (o ≡ Some h)) [
-      | None ↦ λ e. absurd (none-some Badf (sym e))
-      | Some h ↦ λ e. (h, refl)
-    ] r
-
-pub pulse_way : (f : Facts) (t coid : ℕ) (code : ℤ) → pulse.refusal f t coid code ≡ None → (h : ℕ) × (way f t coid ≡ Some h)
-pulse_way f t coid code r =
-    elim (way f t coid) as (λ o. pulse.refusal_on f code o ≡ None → (h : ℕ) × (o ≡ Some h)) [
-      | None ↦ λ e. absurd (none-some Badf (sym e))
-      | Some h ↦ λ e. (h, refl)
-    ] r
+use Rattle.qrules.proofs.Ways.{Leads, leads_over}
 
 -- the open call of thread u ends by taking the item
 pub record TakesInto (item : Item) (message : List ℕ) (u : ℕ) (call : Option OpenCall) (y : Completion) : Type 0 where
@@ -80,11 +45,11 @@ meets_parts f item message (Some v) u y e =
       | false ↦ λ other s. absurd (none-some y s)
     ] refl e
 
--- thread u waits on the connection's channel, is the newest that does and may take the item, and its call ends by taking it
-pub record Meets (f : Facts) (t coid : ℕ) (item : Item) (message : List ℕ) (u : ℕ) (y : Completion) : Type 0 where
+-- thread u waits on the channel, is the newest that does and may take the item, and its call ends by taking it
+pub record Meets (f : Facts) (o : Option ℕ) (item : Item) (message : List ℕ) (u : ℕ) (y : Completion) : Type 0 where
   pub channel : ℕ
-  pub leads : Leads f coid channel
-  pub is_newest : receiver f item (way f t coid) ≡ Some u
+  pub leads : o ≡ Some channel
+  pub is_newest : receiver f item o ≡ Some u
   pub waiting : OpenCall
   pub kind : Kind
   pub buffer : List ℕ
@@ -99,19 +64,16 @@ awaited (Answer coid sent reply_buffer receipt) = reply_buffer
 awaited (ForItem chid kind buffer) = buffer
 
 -- the channel of the receiver
-over : (f : Facts) (t coid : ℕ) (item : Item) (u : ℕ) → receiver f item (way f t coid) ≡ Some u → (h : ℕ) × Leads f coid h × WaitsOn h item (f.open_call u)
-over f t coid item u e =
-    elim (way f t coid) as (λ o. way f t coid ≡ o → receiver f item o ≡ Some u → (h : ℕ) × Leads f coid h × WaitsOn h item (f.open_call u)) [
-      | None ↦ λ w s. absurd (none-some u s)
-      | Some h ↦ λ w s. (h, way_leads f t coid h w, newest_waits f h item u s)
-    ] refl e
+over : (f : Facts) (o : Option ℕ) (item : Item) (u : ℕ) → receiver f item o ≡ Some u → (h : ℕ) × (o ≡ Some h) × WaitsOn h item (f.open_call u)
+over f None item u e = absurd (none-some u e)
+over f (Some h) item u e = (h, refl, newest_waits f h item u e)
 
-pub delivery_meets : (f : Facts) (t coid : ℕ) (item : Item) (message : List ℕ) (u : ℕ) (y : Completion) → meets f item message (receiver f item (way f t coid)) u ≡ Some y → Meets f t coid item message u y
-delivery_meets f t coid item message u y e =
-    let p = meets_parts f item message (receiver f item (way f t coid)) u y e in
-    let w = over f t coid item u p.0 in
+pub delivery_meets : (f : Facts) (o : Option ℕ) (item : Item) (message : List ℕ) (u : ℕ) (y : Completion) → meets f item message (receiver f item o) u ≡ Some y → Meets f o item message u y
+delivery_meets f o item message u y e =
+    let p = meets_parts f item message (receiver f item o) u y e in
+    let w = over f o item u p.0 in
     let same : p.1.waiting ≡ w.2.waiting = same_Some _ _ (sym p.1.is_open ∙ w.2.is_open) in
-    let wait : ForItem p.1.chid p.1.kind p.1.buffer ≡ ForItem w.0 w.2.kind w.2.buffer = sym p.1.waits ∙ ap (λ o. o.wait) same ∙ w.2.waits in
+    let wait : ForItem p.1.chid p.1.kind p.1.buffer ≡ ForItem w.0 w.2.kind w.2.buffer = sym p.1.waits ∙ ap (λ v. v.wait) same ∙ w.2.waits in
     record {
       channel = w.0;
       leads = w.1;
@@ -122,5 +84,5 @@ delivery_meets f t coid item message u y e =
       is_open = w.2.is_open;
       waits = w.2.waits;
       may = w.2.may;
-      ending = subst (λ b. taking item message u w.2.waiting.number b ≡ y) (ap awaited wait) (subst (λ (o : OpenCall). taking item message u o.number p.1.buffer ≡ y) same p.1.ending);
+      ending = subst (λ b. taking item message u w.2.waiting.number b ≡ y) (ap awaited wait) (subst (λ (v : OpenCall). taking item message u v.number p.1.buffer ≡ y) same p.1.ending);
     }

@@ -14,5 +14,5 @@ returns c =
     let up = rw (← c.self.view_is) at c.requires.up in
     let free = rw (← c.self.view_is) at c.requires.free in
     let known = rw c.deref.ensures.value at c.member_of-process.ensures in
-    let ended = rw c.new-2.ensures at c.cut_calls.ensures.endings in
+    let ended = rw c.own_ending-own.ensures at c.cut_calls.ensures.endings in
     rw (← c.self.view_is) (step_destroyed _ c.args.thread c.args.chid c.member_of-process.result known up free _ _ _ c.cut_calls.ensures.threads c.cut_calls.ensures.channels c.close.ensures _ (sym c.if-not-owns.ensures) ended)

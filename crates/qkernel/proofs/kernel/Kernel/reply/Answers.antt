@@ -34,4 +34,4 @@ returns c =
     let is_sender = rw c.rcvid.view_is at c.take_sent-client.ensures.thread in
     let ended = ap (finished (replied c.args.status c.args.bytes) c.take_sent-client.result.0) (sym c.take_sent-client.ensures.had) ∙ rw (to_z-of_z w64 c.args.status c.ranges.status) at (sym c.replied_to.ensures ∙ c.in-Some-replied_to.is) in
     rw (← c.self.view_is) (step_replied _ c.args.thread c.member_of-process.result c.args.rcvid c.self.invariant known c.args.status c.args.bytes c.take_sent-client.result.0 c.in-Some-replied_to.ended up free held is_sender ended _ _
-    c.take_sent-client.ensures.after (rw c.new-2.ensures at c.end_two.ensures))
+    c.take_sent-client.ensures.after (rw c.own_ending-mine.ensures at c.end_two.ensures))

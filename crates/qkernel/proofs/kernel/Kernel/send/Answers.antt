@@ -1,7 +1,8 @@
 use Rattle.std.proofs.Common.{sym, ap, ◌∙◌, Some, refl}
 use Rattle.qrules.specs.Rows.{takes}
 use Rattle.qrecords.proofs.Seats.{seat_kept}
-use Rattle.qkernel.proofs.Steps.Delivering.{newest_receives, newest_is, waits_among, taken_there, sound_with_item, sound_threads, waits_open}
+use Rattle.qrecords.proofs.Receivers.{newest_receives, taken_there, waits_among, waits_open}
+use Rattle.qkernel.proofs.Steps.Delivering.{newest_is, sound_with_item, sound_threads}
 use Rattle.qkernel.proofs.Steps.Send.{item, step_send_nowhere, step_send_waits, step_send_met}
 use Rattle.qkernel.proofs.kernel.Kernel.send.Goals as goal
 use Rattle.qkernel.proofs.kernel.Kernel.send.Goals.{in-None+in_default-enqueue, in-Some-newest_receiver+in-Some-taken}
@@ -9,13 +10,13 @@ use Rattle.qkernel.proofs.kernel.Kernel.send.Goals.{in-None+in_default-enqueue, 
 pub wake-call-requires : goal.wake-call-requires
 wake-call-requires c =
     let newest = rw c.deref-3.ensures.value at (sym c.newest_receiver.ensures ∙ c.in-Some-newest_receiver.is) in
-    let waits = newest_receives _ c.in-Some.chid _ c.in-Some-newest_receiver.newest c.self.invariant newest in
+    let waits = newest_receives _ c.in-Some.chid _ c.in-Some-newest_receiver.newest c.self.invariant.roster newest in
     waits_open c.in-Some.chid _ _ _ waits
 
 pub unreachable-requires : goal.unreachable-requires
 unreachable-requires c =
     let newest = rw c.deref-3.ensures.value at (sym c.newest_receiver.ensures ∙ c.in-Some-newest_receiver.is) in
-    let waits = newest_receives _ c.in-Some.chid _ c.in-Some-newest_receiver.newest c.self.invariant newest in
+    let waits = newest_receives _ c.in-Some.chid _ c.in-Some-newest_receiver.newest c.self.invariant.roster newest in
     taken_there c.in-Some.chid _ _ _ _ _ c.wake-call.result c.taken.result waits c.wake-call.ensures.had c.taken.ensures.ended c.in_default-taken.is
 
 pub block-requires : goal.block-requires
@@ -62,7 +63,7 @@ returns c =
           let opens = rw (w.receipt-is, w.self-inside-is) at c.block.ensures in
           let newest = rw (c.deref-3.ensures.value, priority) at (sym c.newest_receiver.ensures ∙ w.in-Some-newest_receiver.is) in
           let receiver = w.in-Some-newest_receiver.newest in
-          let waits = newest_receives _ c.in-Some.chid _ receiver c.self.invariant newest in
+          let waits = newest_receives _ c.in-Some.chid _ receiver c.self.invariant.roster newest in
           let ended = rw priority at w.in-Some-taken.ensures.ended ∙ ap (takes (item _ c.args.thread c.args.coid c.args.message c.args.reply_buffer c.member_of.result c.in-Some.chid c.self.invariant known up free found) c.args.message receiver.1) w.wake-call.ensures.had in
           let sets = rw priority at opens in
           let wakes = rw (w.carried-level.ensures, priority) at w.wake-call.ensures.after in

@@ -14,5 +14,5 @@ returns c =
     let up = rw (← c.self.view_is) at c.requires.up in
     let free = rw (← c.self.view_is) at c.requires.free in
     let caller = some_there _ (rw (← c.self.view_is) at c.requires.known) in
-    let ended = rw c.new.ensures at c.cut_calls.ensures.endings in
+    let ended = rw c.own_ending-own.ensures at c.cut_calls.ensures.endings in
     rw (← c.self.view_is) (step_shut _ c.args.thread caller.0 _ _ _ caller.1 up free c.cut_calls.ensures.threads c.cut_calls.ensures.channels ended)

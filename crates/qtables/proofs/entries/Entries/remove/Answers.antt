@@ -4,8 +4,7 @@ use Rattle.std.specs.List.{zip, remove}
 use Rattle.std.proofs.lemmas.List.Quantifiers.{all_pairs_remove}
 use Rattle.std.proofs.lemmas.List.Edits.{length-remove}
 use Rattle.std.proofs.lemmas.Option.{slice_get_read, slice_get_past}
-use Rattle.qtables.proofs.Counts.{length-without_entry}
-use Rattle.qtables.proofs.Numbered.{place, entry_at-zip, without_entry-zip, without_entry_absent}
+use Rattle.qtables.proofs.Numbered.{place, entry_at-zip, without_entry-zip, length-remove_zip, without_entry_absent}
 use Rattle.qtables.proofs.entries.Entries.remove.Goals as goal
 
 pub invariant_of-self : goal.invariant_of-self
@@ -34,12 +33,15 @@ returns-then-place-len-clause-after g c =
     let at = c.place_of-place.ensures ∙ ap (λ l. place c.args.number l) c.deref.ensures.value in
     rw (c.remove.ensures.items, c.remove-then-place-len.ensures.items, ← c.self.view_is) (ap (λ i. zip (remove numbers i) (remove records i)) at ∙ without_entry-zip numbers records c.args.number c.self.invariant.0 c.self.invariant.1)
 
+pub returns-then-place-len-clause-fewer : goal.returns-then-place-len-clause-fewer
+returns-then-place-len-clause-fewer g c =
+    let fewer = length-remove_zip c.self.inside.numbers.items c.self.inside.records.items c.place_of-place.result c.self.invariant.1 (omega (arith, c.self.inside.numbers.ok.0)) in
+    rw (c.remove.ensures.items, c.remove-then-place-len.ensures.items, ← c.self.view_is) fewer
+
 pub returns-then-place-len-clause-shorter : goal.returns-then-place-len-clause-shorter
 returns-then-place-len-clause-shorter g c =
-    let numbers = c.self.inside.numbers.items in
-    let records = c.self.inside.records.items in
-    let at = c.place_of-place.ensures ∙ ap (λ l. place c.args.number l) c.deref.ensures.value in
-    rw (c.remove.ensures.items, c.remove-then-place-len.ensures.items, ← c.self.view_is, at, without_entry-zip numbers records c.args.number c.self.invariant.0 c.self.invariant.1) (length-without_entry (zip numbers records) c.args.number)
+    let fewer = length-remove_zip c.self.inside.numbers.items c.self.inside.records.items c.place_of-place.result c.self.invariant.1 (omega (arith, c.self.inside.numbers.ok.0)) in
+    rw (c.remove.ensures.items, c.remove-then-place-len.ensures.items, ← c.self.view_is) (omega (arith, fewer))
 
 pub returns-else-place-len-clause-value : goal.returns-else-place-len-clause-value
 returns-else-place-len-clause-value g c =

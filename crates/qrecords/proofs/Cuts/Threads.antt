@@ -16,9 +16,10 @@ use Rattle.qrecords.specs.declared.channel.Channel.{Channel}
 use Rattle.qrecords.specs.declared.cutting.Cut.{Cut}
 use Rattle.qrecords.specs.declared.thread.Thread.{Thread}
 use Rattle.qrecords.specs.Channels.{ids_of, channel_in, pending_in}
-use Rattle.qrecords.specs.Cuts.{is_cut_by, is_cut_open, is_taken_from, is_cut_among, ending_for, with_ending, left_open, Lose, LoseCut, AreCut}
+use Rattle.qrecords.specs.Cuts.{is_cut_by, is_cut_open, is_taken_from, is_cut_among, ending_for, with_ending, left_by, left_open, Lose, LoseCut, AreCut}
 use Rattle.qrecords.specs.Threads.{members_of, open_in, level_in}
-use Rattle.qrecords.proofs.Losses.{filter_same, filter_all, filter_after}
+use Rattle.qrules.proofs.Past.Lists.{filter_alike, filter_whole}
+use Rattle.qrecords.proofs.Cuts.Queues.{filter_after}
 use Rattle.qrecords.proofs.Senders.{own_open}
 
 -- ---- the threads themselves
@@ -54,30 +55,30 @@ some_cut : (is_cut : Wait → Bool) (e : Errno) (u : ℕ) (o : Option OpenCall) 
 some_cut is_cut e u None = refl
 some_cut is_cut e u (Some o) = elim (is_cut o.wait) as (λ b. is_some (cond b (Some (cut_call e u o)) None) ≡ b) [ true ↦ refl | false ↦ refl ]
 
-module _ (is_cut : Wait → Bool) (e : Errno) where
-  left_members : (threads : List Thread) → members_of (map (left_open is_cut) threads) ≡ members_of threads
+module _ (connection : ℕ → Option Connection) (cut : Cut) (e : Errno) where
+  left_members : (threads : List Thread) → members_of (map (left_by connection cut) threads) ≡ members_of threads
   left_members [] = refl
   left_members (t ∷ threads) = ap (λ ms. t.member ∷ ms) (left_members threads)
 
-  left_level : (threads : List Thread) (v : ℕ) → level_in (map (left_open is_cut) threads) v ≡ level_in threads v
+  left_level : (threads : List Thread) (v : ℕ) → level_in (map (left_by connection cut) threads) v ≡ level_in threads v
   left_level [] v = refl
   left_level (t ∷ threads) v = ap (cond (eqb t.member.thread v) t.priority) (left_level threads v)
 
-  left_calls : (threads : List Thread) (v : ℕ) → open_in (map (left_open is_cut) threads) v ≡ cond (is_some (cut_where is_cut e v (open_in threads v))) None (open_in threads v)
+  left_calls : (threads : List Thread) (v : ℕ) → open_in (map (left_by connection cut) threads) v ≡ cond (is_some (cut_where (is_cut_by connection cut v) e v (open_in threads v))) None (open_in threads v)
   left_calls [] v = refl
   left_calls (t ∷ threads) v =
-      elim (eqb t.member.thread v)
-      as (λ b. cond b (cond (is_cut_open is_cut t.open_call) None t.open_call) (open_in (map (left_open is_cut) threads) v) ≡ cond (is_some (cut_where is_cut e v (cond b t.open_call (open_in threads v)))) None (cond b t.open_call (open_in threads v))) [
-        | true ↦ ap (λ b. cond b None t.open_call) (sym (some_cut is_cut e v t.open_call))
-        | false ↦ left_calls threads v
-      ]
+      elim (eqb t.member.thread v) as (λ b. eqb t.member.thread v ≡ b → cond b (cond (is_cut_open (is_cut_by connection cut t.member.thread) t.open_call) None t.open_call) (open_in (map (left_by connection cut) threads) v)
+      ≡ cond (is_some (cut_where (is_cut_by connection cut v) e v (cond b t.open_call (open_in threads v)))) None (cond b t.open_call (open_in threads v))) [
+        | true ↦ λ same. ap (λ b. cond b None t.open_call) (ap (λ u. is_cut_open (is_cut_by connection cut u) t.open_call) (eqb-true _ _ same) ∙ sym (some_cut (is_cut_by connection cut v) e v t.open_call))
+        | false ↦ λ other. left_calls threads v
+      ] refl
 
 -- the threads once all are passed
-pub are_cut : (connection : ℕ → Option Connection) (cut : Cut) (e : Errno) (threads : List Thread) → AreCut connection cut e threads (map (left_open (is_cut_by connection cut)) threads)
+pub are_cut : (connection : ℕ → Option Connection) (cut : Cut) (e : Errno) (threads : List Thread) → AreCut connection cut e threads (map (left_by connection cut) threads)
 are_cut connection cut e threads = record {
-  members = left_members (is_cut_by connection cut) e threads;
-  open_call = left_calls (is_cut_by connection cut) e threads;
-  priority = left_level (is_cut_by connection cut) e threads;
+  members = left_members connection cut e threads;
+  open_call = left_calls connection cut e threads;
+  priority = left_level connection cut e threads;
 }
 
 endings_by : (g : ℕ → Option OpenCall → Option Completion) (open_call : ℕ → Option OpenCall) (threads : List Thread) → AllByRecursion (λ x. open_call x.member.thread ≡ x.open_call) threads
@@ -85,8 +86,8 @@ endings_by : (g : ℕ → Option OpenCall → Option Completion) (open_call : �
 endings_by g open_call [] h = refl
 endings_by g open_call (t ∷ threads) h = rw (h.0, endings_by g open_call threads h.1) refl
 
-any_by : (g : ℕ → Option OpenCall → Bool) (test : Option OpenCall → Bool) (open_call : ℕ → Option OpenCall) (threads : List Thread) → ((u : ℕ) (o : Option OpenCall) → g u o ≡ test o) → AllByRecursion (λ x. open_call x.member.thread ≡ x.open_call) threads
-    → list_any (λ u. g u (open_call u)) (threads_of (members_of threads)) ≡ list_any (λ t. test t.open_call) threads
+any_by : (g test : ℕ → Option OpenCall → Bool) (open_call : ℕ → Option OpenCall) (threads : List Thread) → ((u : ℕ) (o : Option OpenCall) → g u o ≡ test u o) → AllByRecursion (λ x. open_call x.member.thread ≡ x.open_call) threads
+    → list_any (λ u. g u (open_call u)) (threads_of (members_of threads)) ≡ list_any (λ t. test t.member.thread t.open_call) threads
 any_by g test open_call [] same h = refl
 any_by g test open_call (t ∷ threads) same h = rw (h.0, same t.member.thread t.open_call, any_by g test open_call threads same h.1) refl
 
@@ -97,8 +98,8 @@ abbrev pub is_among : ℕ → List Thread → Bool
 is_among u threads = list_any (λ t. eqb t.member.thread u) threads
 
 -- a Send of number i on channel h is cut, of one of these threads
-abbrev pub goes_among : (ℕ → Option Connection) → (Wait → Bool) → List Thread → ℕ → ℕ → Bool
-goes_among connection is_cut threads h i = list_any (λ t. is_taken_from connection is_cut t.open_call h i) threads
+abbrev pub goes_among : (ℕ → Option Connection) → (ℕ → Wait → Bool) → List Thread → ℕ → ℕ → Bool
+goes_among connection is_cut threads h i = list_any (λ t. is_taken_from connection (is_cut t.member.thread) t.open_call h i) threads
 
 later_apart : (n u : ℕ) (threads : List Thread) → eqb n u ≡ true → AllByRecursion (λ m. n < m.thread) (members_of threads) → is_among u threads ≡ false
 later_apart n u [] at h = refl
@@ -145,15 +146,15 @@ module _ (connection : ℕ → Option Connection) (cut : Cut) (e : Errno) (own :
 
   pub sweeps_on : (all rest : List Thread) (x : Thread) (first now next : List (ℕ × Channel)) (left left-2 ending : Option Completion) (endings : List Completion)
       → Sweeps all (x ∷ rest) first now left endings
-      → Lose (is_taken_from connection (is_cut_by connection cut) x.open_call) now next
+      → Lose (is_taken_from connection (is_cut_by connection cut x.member.thread) x.open_call) now next
       → left-2 ≡ cond (eqb x.member.thread own.thread) None left
-      → ending ≡ cond (eqb x.member.thread own.thread) left (cut_where (is_cut_by connection cut) e x.member.thread x.open_call)
+      → ending ≡ cond (eqb x.member.thread own.thread) left (cut_where (is_cut_by connection cut x.member.thread) e x.member.thread x.open_call)
       → Sweeps all rest first next left-2 (with_ending endings ending)
   sweeps_on all rest x first now next left left-2 ending endings so lose l-2 ends = record {
     ids = lose.ids ∙ so.ids;
     channel = λ k. lose.channel k ∙ so.channel k;
     pending = λ k. ap (filter (λ item. not (goes_among connection (is_cut_by connection cut) rest k item.number))) (lose.pending k)
-        ∙ filter_after (λ item. is_taken_from connection (is_cut_by connection cut) x.open_call k item.number) (λ item. goes_among connection (is_cut_by connection cut) rest k item.number) (pending_in now k)
+        ∙ filter_after (λ item. is_taken_from connection (is_cut_by connection cut x.member.thread) x.open_call k item.number) (λ item. goes_among connection (is_cut_by connection cut) rest k item.number) (pending_in now k)
         ∙ so.pending k;
     unspent = λ h. l-2 ∙ (elim (eqb x.member.thread own.thread) as (λ b. eqb x.member.thread own.thread ≡ b → ((b || is_among own.thread rest) ≡ true → left ≡ Some own) → cond b None left ≡ Some own) [
       | true ↦ λ at there. absurd (true≢false (sym h ∙ later_apart _ _ rest at so.roster.0))
@@ -161,7 +162,7 @@ module _ (connection : ℕ → Option Connection) (cut : Cut) (e : Errno) (own :
     ] refl so.unspent);
     brings = ending_joins endings (filter_map ending_of rest) ending
         ∙ ap (λ o. endings ++ cons_option o (filter_map ending_of rest)) (ends ∙ (elim (eqb x.member.thread own.thread)
-        as (λ b. ((b || is_among own.thread rest) ≡ true → left ≡ Some own) → cond b left (cut_where (is_cut_by connection cut) e x.member.thread x.open_call) ≡ cond b (Some own) (cut_where (is_cut_by connection cut) e x.member.thread x.open_call)) [
+        as (λ b. ((b || is_among own.thread rest) ≡ true → left ≡ Some own) → cond b left (cut_where (is_cut_by connection cut x.member.thread) e x.member.thread x.open_call) ≡ cond b (Some own) (cut_where (is_cut_by connection cut x.member.thread) e x.member.thread x.open_call)) [
           | true ↦ λ there. there refl
           | false ↦ λ there. refl
         ] so.unspent))
@@ -181,16 +182,16 @@ module _ (connection : ℕ → Option Connection) (cut : Cut) (e : Errno) (own :
   swept_channels all first now left endings roster so = record {
     ids = so.ids;
     channel = so.channel;
-    pending = λ k. sym (filter_all (λ item. true) (pending_in now k) (λ item. refl)) ∙ so.pending k
-        ∙ filter_same (λ item. not (goes_among connection (is_cut_by connection cut) all k item.number)) (λ item. not (is_cut_among connection cut e all k item.number)) (pending_in first k)
-        (λ item. ap not (sym (any_by (λ s o. is_unread_send connection k item.number o && is_some (cut_where (is_cut_by connection cut) e s o)) (λ o. is_taken_from connection (is_cut_by connection cut) o k item.number) (open_in all) all
-        (λ s o. ap (λ b. is_unread_send connection k item.number o && b) (some_cut (is_cut_by connection cut) e s o)) (own_open all roster))));
+    pending = λ k. sym (filter_whole (λ item. true) (pending_in now k) (λ item. refl)) ∙ so.pending k
+        ∙ filter_alike (λ item. not (goes_among connection (is_cut_by connection cut) all k item.number)) (λ item. not (is_cut_among connection cut e all k item.number)) (pending_in first k)
+        (λ item. ap not (sym (any_by (λ s o. is_unread_send connection k item.number o && is_some (cut_where (is_cut_by connection cut s) e s o)) (λ s o. is_taken_from connection (is_cut_by connection cut s) o k item.number) (open_in all) all
+        (λ s o. ap (λ b. is_unread_send connection k item.number o && b) (some_cut (is_cut_by connection cut s) e s o)) (own_open all roster))));
   }
 
   -- ---- by places
 
   abbrev pub passed : Thread → Thread
-  passed = left_open (is_cut_by connection cut)
+  passed = left_by connection cut
 
   pub passed_on : (all items : List Thread) (i : ℕ) (d y : Thread) → items ≡ swept passed i all → i < length all → y ≡ passed (get_or items i d) → set items i y ≡ swept passed (i + 1) all
   passed_on all items i d y is l now =
@@ -210,15 +211,15 @@ module _ (connection : ℕ → Option Connection) (cut : Cut) (e : Errno) (own :
     idle_here at = here.idle.0 (subst (λ n. eqb (get_or items i d).member.thread n ≡ true) named at)
 
     pub sweeps_step : (next : List (ℕ × Channel)) (left-2 ending : Option Completion) (endings-2 : List Completion)
-        → Lose (is_taken_from connection (is_cut_by connection cut) (get_or items i d).open_call) now next
+        → Lose (is_taken_from connection (is_cut_by connection cut (get_or items i d).member.thread) (get_or items i d).open_call) now next
         → left-2 ≡ cond (eqb (get_or items i d).member.thread caller) None left
-        → ending ≡ cond (eqb (get_or items i d).member.thread caller) left (cut_where (is_cut_by connection cut) e (get_or items i d).member.thread (get_or items i d).open_call)
+        → ending ≡ cond (eqb (get_or items i d).member.thread caller) left (cut_where (is_cut_by connection cut (get_or items i d).member.thread) e (get_or items i d).member.thread (get_or items i d).open_call)
         → endings-2 ≡ with_ending endings ending
         → Sweeps all (drop (i + 1) all) first next left-2 endings-2
     sweeps_step next left-2 ending endings-2 lose l-2 ends put = subst (λ es. Sweeps all (drop (i + 1) all) first next left-2 es) (sym put)
         (sweeps_on all (drop (i + 1) all) (get_or items i d) first now next left left-2 ending endings here lose
         (l-2 ∙ ap (λ n. cond (eqb (get_or items i d).member.thread n) None left) named)
-        (ends ∙ ap (λ n. cond (eqb (get_or items i d).member.thread n) left (cut_where (is_cut_by connection cut) e (get_or items i d).member.thread (get_or items i d).open_call)) named))
+        (ends ∙ ap (λ n. cond (eqb (get_or items i d).member.thread n) left (cut_where (is_cut_by connection cut (get_or items i d).member.thread) e (get_or items i d).member.thread (get_or items i d).open_call)) named))
 
   pub at_end : (all : List Thread) (i : ℕ) (first now : List (ℕ × Channel)) (left : Option Completion) (endings : List Completion) → length all ≤ i → Sweeps all (drop i all) first now left endings → Sweeps all [] first now left endings
   at_end all i first now left endings l so = subst (λ rest. Sweeps all rest first now left endings) (drop_all i all l) so

@@ -1,9 +1,8 @@
 -- What becomes of the queues as items leave them.
-use Rattle.std.proofs.Common.{◌≡◌, ℕ, List, [], ◌∷◌, Bool, not, ◌&&◌, ◌||◌, refl, ap, sym, subst, ◌∙◌, cond, arith, true, false, eqb}
+use Rattle.std.proofs.Common.{◌≡◌, ℕ, List, [], Bool, not, ◌&&◌, ◌||◌, refl, ap, sym, subst, ◌∙◌, cond, true, false, eqb}
 use Rattle.std.specs.Prelude.{Option, None, Some, filter}
 use Rattle.std.specs.Option.{option_map}
 use Rattle.std.proofs.lemmas.Bool.{eqb-true, and_left, and_right, not_from_false}
-use Rattle.std.proofs.lemmas.Bool.Decides.{nat_tests}
 use Rattle.std.proofs.lemmas.Option.{none-some}
 use Rattle.qqueue.specs.declared.item.Item.{Item}
 use Rattle.qqueue.specs.Best.{without}
@@ -17,34 +16,17 @@ use Rattle.qrules.specs.Cutting.{is_to, is_on, is_unread_send}
 use Rattle.qrecords.specs.declared.channel.Channel.{Channel}
 use Rattle.qrecords.specs.Channels.{pending_in, waiting_on, SetsItems}
 use Rattle.qrecords.specs.Cuts.{unread_on_by, taken_by, is_taken_from, Lose}
-
-eqb_comm : (m n : ℕ) → eqb m n ≡ eqb n m
-eqb_comm m n = grind (arith, nat_tests)
+use Rattle.qrules.proofs.Past.Lists.{eqb_either, filter_alike, filter_twice, filter_whole}
 
 and_true : (b : Bool) → (b && true) ≡ b
 and_true true = refl
 and_true false = refl
 
--- ---- filters
-
-module _ {A : Type 0} where
-  pub filter_same : (p q : A → Bool) (xs : List A) → ((x : A) → p x ≡ q x) → filter p xs ≡ filter q xs
-  filter_same p q [] h = refl
-  filter_same p q (x ∷ xs) h = rw (h x, filter_same p q xs h) refl
-
-  pub filter_all : (p : A → Bool) (xs : List A) → ((x : A) → p x ≡ true) → filter p xs ≡ xs
-  filter_all p [] h = refl
-  filter_all p (x ∷ xs) h = rw (h x) (ap (λ ys. x ∷ ys) (filter_all p xs h))
-
-  -- without those of which one thing is so, and then without those of which another is
-  pub filter_after : (p q : A → Bool) (xs : List A) → filter (λ x. not (q x)) (filter (λ x. not (p x)) xs) ≡ filter (λ x. not (p x || q x)) xs
-  filter_after p q [] = refl
-  filter_after p q (x ∷ xs) =
-      elim (p x)
-      as (λ b. filter (λ x. not (q x)) (cond (not b) (x ∷ filter (λ x. not (p x)) xs) (filter (λ x. not (p x)) xs)) ≡ cond (not (b || q x)) (x ∷ filter (λ x. not (p x || q x)) xs) (filter (λ x. not (p x || q x)) xs)) [
-        | true ↦ filter_after p q xs
-        | false ↦ ap (λ ys. cond (not (q x)) (x ∷ ys) ys) (filter_after p q xs)
-      ]
+-- without those of which one thing is so, and then without those of which another is
+pub filter_after : {A : Type 0} (p q : A → Bool) (xs : List A) → filter (λ x. not (q x)) (filter (λ x. not (p x)) xs) ≡ filter (λ x. not (p x || q x)) xs
+filter_after p q xs =
+    filter_twice (λ x. not (p x)) (λ x. not (q x)) xs
+    ∙ filter_alike (λ x. not (p x) && not (q x)) (λ x. not (p x || q x)) xs (λ x. elim (p x) as (λ b. (not b && not (q x)) ≡ not (b || q x)) [ true ↦ refl | false ↦ refl ])
 
 -- ---- channels
 
@@ -53,7 +35,7 @@ pub loses_nothing : (goes : ℕ → ℕ → Bool) (channels : List (ℕ × Chann
 loses_nothing goes channels none = record {
   ids = refl;
   channel = λ k. refl;
-  pending = λ k. sym (filter_all (λ item. not (goes k item.number)) (pending_in channels k) (λ item. not_from_false _ (none k item.number)));
+  pending = λ k. sym (filter_whole (λ item. not (goes k item.number)) (pending_in channels k) (λ item. not_from_false _ (none k item.number)));
 }
 
 -- what leaves is on a channel that isn't open
@@ -64,7 +46,7 @@ loses_gone goes channels h gone others = record {
   pending = λ k. elim (eqb h k) as (λ b. eqb h k ≡ b → pending_in channels k ≡ filter (λ item. not (goes k item.number)) (pending_in channels k)) [
     | true ↦ λ e. let empty : pending_in channels k ≡ [] = ap waiting_on (ap (entry_at channels) (sym (eqb-true h k e)) ∙ gone) in
         subst (λ (xs : List Item). xs ≡ filter (λ item. not (goes k item.number)) xs) (sym empty) refl
-    | false ↦ λ e. sym (filter_all (λ item. not (goes k item.number)) (pending_in channels k) (λ item. not_from_false _ (others k item.number e)))
+    | false ↦ λ e. sym (filter_whole (λ item. not (goes k item.number)) (pending_in channels k) (λ item. not_from_false _ (others k item.number e)))
   ] refl;
 }
 
@@ -76,9 +58,9 @@ loses_one goes channels new h n sets so = record {
   pending = λ k. sets.pending k ∙ (elim (eqb k h) as (λ b. eqb k h ≡ b → cond b (without n (pending_in channels h)) (pending_in channels k) ≡ filter (λ item. not (goes k item.number)) (pending_in channels k)) [
     | true ↦ λ e. let here : k ≡ h = eqb-true k h e in
         ap (λ j. without n (pending_in channels j)) (sym here)
-        ∙ filter_same (λ item. not (eqb item.number n)) (λ item. not (goes k item.number)) (pending_in channels k)
-        (λ item. ap not (eqb_comm item.number n ∙ sym (so k item.number ∙ rw (eqb_comm h k ∙ e) (and_true (eqb n item.number)))))
-    | false ↦ λ e. sym (filter_all (λ item. not (goes k item.number)) (pending_in channels k) (λ item. not_from_false _ (so k item.number ∙ and_right _ _ (eqb_comm h k ∙ e))))
+        ∙ filter_alike (λ item. not (eqb item.number n)) (λ item. not (goes k item.number)) (pending_in channels k)
+        (λ item. ap not (eqb_either item.number n ∙ sym (so k item.number ∙ rw (eqb_either h k ∙ e) (and_true (eqb n item.number)))))
+    | false ↦ λ e. sym (filter_whole (λ item. not (goes k item.number)) (pending_in channels k) (λ item. not_from_false _ (so k item.number ∙ and_right _ _ (eqb_either h k ∙ e))))
   ] refl);
 }
 

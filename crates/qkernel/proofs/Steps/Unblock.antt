@@ -1,0 +1,218 @@
+-- Unblock as a step of the kernel.
+use Rattle.std.proofs.Common.{◌≡◌, ℕ, ◌+◌, List, [], ◌∷◌, refl, ap, sym, ◌∙◌, cond, arith, true, false, eqb, inl, inr}
+use Rattle.std.specs.Prelude.{Option, None, Some, filter, is_some, not, ◌&&◌}
+use Rattle.std.specs.List.{list_any}
+use Rattle.std.specs.Option.{option_map}
+use Rattle.std.proofs.lemmas.Bool.{eqb-true}
+use Rattle.std.proofs.lemmas.List.{append-nil}
+use Rattle.std.proofs.lemmas.Option.{none-some, same_Some}
+use Rattle.qbase.specs.declared.errno.Errno.TheVariants.{Again, Intr, NoMemory, Srch}
+use Rattle.qtables.specs.Entries.{entry_at}
+use Rattle.qtables.specs.Members.{member_at}
+use Rattle.qtables.specs.declared.connection.Connection.{Connection}
+use Rattle.qtables.specs.declared.member.Member.{Member}
+use Rattle.qrules.specs.Answer.{MayRefuse, ending, failed, row_of}
+use Rattle.qrules.specs.Calls.Unblock.{due, due_of, due_on, ends, guard, guard_over, receipt}
+use Rattle.qrules.specs.Cutting.{cut_call, cut_where, is_unread_send}
+use Rattle.qrules.specs.Facts.{is_in_process, threads_of}
+use Rattle.qrules.specs.Rows.{unblock_item}
+use Rattle.qrules.specs.Step.{unblocked_call}
+use Rattle.qrules.specs.declared.call.Call.TheVariants.{Unblock}
+use Rattle.qrules.specs.declared.call.Completion.{Completion}
+use Rattle.qrules.specs.declared.open_call.OpenCall.{OpenCall}
+use Rattle.qrules.specs.declared.open_call.Wait.{Wait}
+use Rattle.qrules.specs.declared.open_call.Wait.TheVariants.{Answer, Item as ForItem}
+use Rattle.qrecords.specs.declared.channel.Channel.{Channel}
+use Rattle.qrecords.specs.declared.cutting.Cut.TheVariants.{Of}
+use Rattle.qrecords.specs.declared.held.Held.{Held}
+use Rattle.qrecords.specs.declared.thread.Thread.{Thread}
+use Rattle.qrecords.specs.Channels.{pending_in}
+use Rattle.qrecords.specs.Cuts.{AreCut, LoseCut}
+use Rattle.qrecords.specs.HeldIn.{guard_in, guarded_in, held_in}
+use Rattle.qrecords.specs.Pulses.{has_room}
+use Rattle.qrecords.specs.Threads.{members_of, open_in, MarksUnblocked}
+use Rattle.qkernel.specs.State.{State, IsSound, facts_in}
+use Rattle.qkernel.specs.Stands.{Steps}
+use Rattle.qrules.proofs.Past.Lists.{and_false}
+use Rattle.qrules.proofs.Rosters.{among, filter_same, only_own, rises}
+use Rattle.qkernel.proofs.Steps.Common.{counted, stays_free, step_refused_alone, uncut_by}
+use Rattle.qkernel.proofs.Steps.Cutting.{endings_cut, mine, open_after}
+use Rattle.qkernel.proofs.Steps.Delivering.{count_kept}
+use Rattle.qkernel.proofs.Steps.Telling.{AreMarked, Tells}
+
+-- ---- what guards a wait, by the kernel's content
+
+-- no channel guards what the open call waits for, and no pulse is due
+record Unguarded (s : State) (o : Option OpenCall) : Type 0 where
+  none_due : due_of (facts_in s) o ≡ None
+  unguarded : (w : OpenCall) → o ≡ Some w → guard (facts_in s) w.wait ≡ None
+
+-- channel h guards it, and the pulse is the one for that message
+record Guarded (s : State) (o : Option OpenCall) (held : Held) (h : ℕ) : Type 0 where
+  due_is : due_of (facts_in s) o ≡ due_on (s.made + 1) held.rcvid held.receipt (Some h)
+  guarded : (w : OpenCall) → o ≡ Some w → guard (facts_in s) w.wait ≡ Some h
+
+guard_same : (s : State) (o : Option Connection) → guard_over (facts_in s) o ≡ guard_in s.channels o
+guard_same s None = refl
+guard_same s (Some c) = refl
+
+none_with : (held : Held) (o : Option ℕ) → option_map {U = Held × ℕ} (λ h. (held, h)) o ≡ None → o ≡ None
+none_with held None e = refl
+none_with held (Some h) e = absurd (none-some (held, h) (sym e))
+
+some_with : (held : Held) (o : Option ℕ) (g : Held × ℕ) → option_map {U = Held × ℕ} (λ h. (held, h)) o ≡ Some g → (o ≡ Some g.1) × (held ≡ g.0)
+some_with held None g e = absurd (none-some g e)
+some_with held (Some h) g e = let same = same_Some (held, h) g e in (ap (λ x. Some x.1) same, ap (λ x. x.0) same)
+
+none_guards : (s : State) (o : Option OpenCall) → guarded_in s.connections s.channels (held_in o) ≡ None → Unguarded s o
+none_guards s None e = record { none_due = refl; unguarded = λ w is. absurd (none-some w is) }
+none_guards s (Some o) e = by_wait o.number o.wait e where
+  by_wait : (n : ℕ) (w : Wait) → guarded_in s.connections s.channels (held_in (Some (record { number = n; wait = w }))) ≡ None → Unguarded s (Some (record { number = n; wait = w }))
+  by_wait n (Answer coid message reply_buffer None) e = record { none_due = refl; unguarded = λ v is. ap (λ (x : OpenCall). guard (facts_in s) x.wait) (sym (same_Some _ v is)) }
+  by_wait n (ForItem chid kind buffer) e = record { none_due = refl; unguarded = λ v is. ap (λ (x : OpenCall). guard (facts_in s) x.wait) (sym (same_Some _ v is)) }
+  by_wait n (Answer coid message reply_buffer (Some receipt)) e =
+      let none : guard_over (facts_in s) (entry_at s.connections coid) ≡ None = guard_same s (entry_at s.connections coid) ∙ none_with (record { rcvid = n; coid = coid; receipt = receipt }) (guard_in s.channels (entry_at s.connections coid)) e in
+      record { none_due = ap (due_on (s.made + 1) n receipt) none; unguarded = λ v is. ap (λ (x : OpenCall). guard (facts_in s) x.wait) (sym (same_Some _ v is)) ∙ none }
+
+one_guards : (s : State) (o : Option OpenCall) (g : Held × ℕ) → guarded_in s.connections s.channels (held_in o) ≡ Some g → Guarded s o g.0 g.1
+one_guards s None g e = absurd (none-some g e)
+one_guards s (Some o) g e = by_wait o.number o.wait e where
+  by_wait : (n : ℕ) (w : Wait) → guarded_in s.connections s.channels (held_in (Some (record { number = n; wait = w }))) ≡ Some g → Guarded s (Some (record { number = n; wait = w })) g.0 g.1
+  by_wait n (Answer coid message reply_buffer None) e = absurd (none-some g e)
+  by_wait n (ForItem chid kind buffer) e = absurd (none-some g e)
+  by_wait n (Answer coid message reply_buffer (Some receipt)) e =
+      let k = some_with (record { rcvid = n; coid = coid; receipt = receipt }) (guard_in s.channels (entry_at s.connections coid)) g e in
+      let some : guard_over (facts_in s) (entry_at s.connections coid) ≡ Some g.1 = guard_same s (entry_at s.connections coid) ∙ k.0 in
+      record {
+        due_is = ap (due_on (s.made + 1) n receipt) some ∙ ap (λ (x : Held). due_on (s.made + 1) x.rcvid x.receipt (Some g.1)) k.1;
+        guarded = λ v is. ap (λ (x : OpenCall). guard (facts_in s) x.wait) (sym (same_Some _ v is)) ∙ some;
+      }
+
+-- ---- the step
+
+module _ (s : State) (t thread : ℕ) (m : Member) (sound : IsSound s) (known : member_at (members_of s.threads) t ≡ Some m) (up : s.down ≡ false) (free : open_in s.threads t ≡ None) where
+  pub step_unblock_refused : (X : List Completion) → is_in_process m.process (member_at (members_of s.threads) thread) ≡ false → X ≡ failed (facts_in s) t (Unblock thread) Srch ∷ []
+      → Steps s t (Unblock thread) X (counted s)
+  step_unblock_refused X other is = step_refused_alone s t (Unblock thread) Srch X (inl (rw (up, free, known, other) refl)) is
+
+  module _ (fellow : is_in_process m.process (member_at (members_of s.threads) thread) ≡ true) where
+    -- the thread's open call is cut
+    module _ (none : guarded_in s.connections s.channels (held_in (open_in s.threads thread)) ≡ None) where
+      k : Unguarded s (open_in s.threads thread)
+      k = none_guards s (open_in s.threads thread) none
+
+      cut_same : (u : ℕ) (o : Option OpenCall) → open_in s.threads u ≡ o → cut_where (λ wait. eqb u thread && not (is_some (guard (facts_in s) wait))) Intr u o ≡ cut_where (λ wait. eqb u thread) Intr u o
+      cut_same u None is = refl
+      cut_same u (Some w) is = elim (eqb u thread) as (λ b. eqb u thread ≡ b → cond (b && not (is_some (guard (facts_in s) w.wait))) (Some (cut_call Intr u w)) None ≡ cond b (Some (cut_call Intr u w)) None) [
+        | true ↦ λ same. rw (k.unguarded w (ap (open_in s.threads) (sym (eqb-true u thread same)) ∙ is)) refl
+        | false ↦ λ other. refl
+      ] refl
+
+      ends_one : (u : ℕ) → ends (facts_in s) thread (due (facts_in s) thread) u ≡ cut_where (λ wait. eqb u thread) Intr u (open_in s.threads u)
+      ends_one u = ap (λ d. ends (facts_in s) thread d u) k.none_due ∙ cut_same u (open_in s.threads u) refl
+
+      ends_same : ends (facts_in s) thread (due (facts_in s) thread) ≡ (λ u. cut_where (λ wait. eqb u thread) Intr u (open_in s.threads u))
+      ends_same = λ i u. ends_one u i
+
+      pub step_unblock_cut : (threads : List Thread) (channels : List (ℕ × Channel)) (X : List Completion) → AreCut (entry_at s.connections) (Of thread) Intr s.threads threads
+          → LoseCut (entry_at s.connections) (Of thread) Intr s.threads s.channels channels → X ≡ endings_cut s t (Of thread) Intr
+          → Steps s t (Unblock thread) X (record { made = s.made + 1; down = s.down; threads = threads; channels = channels; connections = s.connections })
+      step_unblock_cut threads channels X are lose is = (
+        true,
+        record {
+          answer = (
+            rw (up, free, known, fellow, k.none_due) refl,
+            is ∙ sym (filter_same (ending (facts_in s) t (Unblock thread)) (λ u. cond (eqb u t) (Some (mine s t)) (cut_where (λ wait. eqb u thread) Intr u (open_in s.threads u))) (threads_of (members_of s.threads))
+                (λ u. ap (cond (eqb u t) (Some (mine s t))) (ends_one u))),
+          );
+          follows = record {
+            roster = are.members;
+            number = refl;
+            down = refl;
+            channel = λ h. rw known (lose.channel h);
+            open_channels = rw known (count_kept s.channels channels lose.ids);
+            connection = λ h. rw known refl;
+            live_connections = rw known (omega arith);
+            open_call = λ u. open_after s t (Of thread) Intr threads u free are ∙ rw (ends_one u, k.none_due, and_false (eqb u thread)) refl;
+            pending = λ h. lose.pending h
+                ∙ ap (λ (g : ℕ → Option Completion). filter (λ item. not (list_any (λ v. is_unread_send (entry_at s.connections) h item.number (open_in s.threads v) && is_some (g v)) (threads_of (members_of s.threads)))) (pending_in s.channels h)) (sym ends_same)
+                ∙ rw (k.none_due) (sym (append-nil _));
+            priority = λ u. are.priority u ∙ rw (k.none_due) refl;
+          };
+        },
+      )
+
+    -- a channel guards its message
+    module _ (g : Held × ℕ) (guards : guarded_in s.connections s.channels (held_in (open_in s.threads thread)) ≡ Some g) where
+      q : Guarded s (open_in s.threads thread) g.0 g.1
+      q = one_guards s (open_in s.threads thread) g guards
+
+      -- which had its pulse
+      module _ (told : g.0.receipt.unblocked ≡ true) where
+        none_due : due (facts_in s) thread ≡ None
+        none_due = q.due_is ∙ rw told refl
+
+        uncut_where : (u : ℕ) (o : Option OpenCall) → open_in s.threads u ≡ o → cut_where (λ wait. eqb u thread && not (is_some (guard (facts_in s) wait))) Intr u o ≡ None
+        uncut_where u None is = refl
+        uncut_where u (Some w) is = elim (eqb u thread) as (λ b. eqb u thread ≡ b → cond (b && not (is_some (guard (facts_in s) w.wait))) (Some (cut_call Intr u w)) None ≡ None) [
+          | true ↦ λ same. rw (q.guarded w (ap (open_in s.threads) (sym (eqb-true u thread same)) ∙ is)) refl
+          | false ↦ λ other. refl
+        ] refl
+
+        ends_none : (u : ℕ) → ends (facts_in s) thread (due (facts_in s) thread) u ≡ None
+        ends_none u = ap (λ d. ends (facts_in s) thread d u) none_due ∙ uncut_where u (open_in s.threads u) refl
+
+        pub step_unblock_again : (X : List Completion) → X ≡ mine s t ∷ [] → Steps s t (Unblock thread) X (counted s)
+        step_unblock_again X is = (
+          true,
+          record {
+            answer = (
+              rw (up, free, known, fellow, none_due) refl,
+              is ∙ sym (filter_same (ending (facts_in s) t (Unblock thread)) (λ u. cond (eqb u t) (Some (mine s t)) None) (threads_of (members_of s.threads)) (λ u. ap (cond (eqb u t) (Some (mine s t))) (ends_none u))
+                  ∙ only_own _ t (Some (mine s t)) (rises (members_of s.threads) sound.roster) (among (members_of s.threads) t m known)),
+            );
+            follows = record {
+              roster = refl;
+              number = refl;
+              down = refl;
+              channel = λ h. rw known refl;
+              open_channels = rw known (omega arith);
+              connection = λ h. rw known refl;
+              live_connections = rw known (omega arith);
+              open_call = λ u. stays_free s.threads t u free ∙ rw (ends_none u, none_due, and_false (eqb u thread)) refl;
+              pending = λ h. uncut_by s t (Unblock thread) (λ u y e. absurd (none-some y (sym (ends_none u) ∙ e))) refl h (rw none_due (sym (append-nil _)));
+              priority = λ u. rw none_due refl;
+            };
+          },
+        )
+
+      -- which is told now
+      module _ (first : g.0.receipt.unblocked ≡ false) where
+        due_is : due (facts_in s) thread ≡ Some (record { item = unblock_item (s.made + 1) g.0.receipt.priority g.0.rcvid; channel = g.1 })
+        due_is = q.due_is ∙ rw first refl
+
+        pub unblock_full : has_room s.channels g.1 ≡ false → MayRefuse (facts_in s) t (Unblock thread) Again
+        unblock_full full = inl (rw (up, free, known, fellow, due_is, full) refl)
+
+        pub unblock_memory : has_room s.channels g.1 ≡ true → MayRefuse (facts_in s) t (Unblock thread) NoMemory
+        unblock_memory room = inr (rw (up, free, known, fellow, due_is, room) refl, rw due_is refl, refl)
+
+        pub tells_unblock : has_room s.channels g.1 ≡ true → Tells s t (Unblock thread) g.1 (unblock_item (s.made + 1) g.0.receipt.priority g.0.rcvid)
+        tells_unblock room = record {
+          quiet = record { closes_none = refl; stays_up = refl; creates_none = rw known refl; attaches_none = rw known refl; sets_none = refl; writes_none = refl };
+          passed = rw (up, free, known, fellow, due_is, room) refl;
+          number = refl;
+          pulse = refl;
+          made = due_is;
+          own = refl;
+          ends = λ u. ap (λ d. ends (facts_in s) thread d u) due_is;
+          receipt = ap (receipt (facts_in s)) due_is;
+        }
+
+-- what the thread is blocked in is marked
+pub are_marked : (thread h : ℕ) (n priority i : ℕ) (mid threads : List Thread) → MarksUnblocked thread mid threads → AreMarked (Unblock thread) h (unblock_item n priority i) mid threads
+are_marked thread h n priority i mid threads marks = record {
+  members = marks.members;
+  open_call = λ u. marks.open_call u ∙ (elim (eqb u thread) as (λ b. cond b (option_map unblocked_call (open_in mid u)) (open_in mid u) ≡ cond (b && true) (option_map unblocked_call (open_in mid u)) (open_in mid u)) [ true ↦ refl | false ↦ refl ]);
+  priority = marks.priority;
+}

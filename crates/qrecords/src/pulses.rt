@@ -1,0 +1,76 @@
+//! Pulses: to a receiver that waits, or into the queue of a channel.
+
+ghost use Rattle.std.specs.Prelude.{◌≡◌, ◌<◌, [], true, is_some, IfOk, IfErr};
+ghost use Rattle.std.specs.List.{AllByRecursion};
+ghost use Rattle.qqueue.specs.Best.{is_pulse};
+ghost use Rattle.qtables.specs.Members.{IsRoster};
+ghost use Rattle.qrules.specs.Rows.{takes};
+ghost use Rattle.qrecords.specs.Channels.{channel_in, pending_in};
+ghost use Rattle.qrecords.specs.Pulses.{IsSent, IsTurnedAway};
+ghost use Rattle.qrecords.specs.Threads.{members_of};
+
+use crate::channel::{Channel, carried, enqueue, pulses_on};
+use crate::thread::{Thread, newest_receiver, wake};
+use qbase::errno::Errno;
+use qbase::ids::{ChannelId, ThreadNo};
+use qqueue::item::Item;
+use qrules::call::{Completion, Mark};
+use qrules::open_call::{OpenCall, Wait};
+use qtables::channels::Channels;
+
+/// How many pulses wait on a channel at most: our own profile.
+pub const PULSE_LIMIT: usize = 1024;
+
+/// How the open call of a thread ends that takes a pulse; none where it doesn't wait for an item.
+fn told(call: Option<OpenCall>, thread: ThreadNo, item: &Item) -> Option<Completion>
+    requires { is_pulse item.now.what ≡ true }
+    ensures { result ≡ takes item.now [] thread call }
+{
+    let OpenCall { number, wait } = call?;
+    match wait {
+        Wait::Answer { .. } => None,
+        Wait::Item { buffer, .. } => Some(Completion {
+            call: number,
+            thread,
+            mark: Mark::Pulse {
+                item: item.number,
+                priority: item.priority,
+                what: item.what,
+            },
+            buffer,
+        }),
+    }
+}
+
+/// Sends a pulse: to the receiver that may take it and began to wait last, whose call then ends as it is
+/// answered here, or into the channel's queue, whose room is all that takes memory. `Again` where 1,024
+/// pulses wait there, and `NoMemory` where the allocator refused.
+pub fn send_pulse(
+    threads: &mut Vec<Thread>,
+    channels: &mut Channels<Channel>,
+    chid: ChannelId,
+    item: Item,
+) -> Result<Option<Completion>, Errno>
+    requires pulse { is_pulse item.what ≡ true }
+    requires there { is_some (channel_in channels.old chid) ≡ true }
+    requires newest { AllByRecursion (λ x. x.number < item.number) (pending_in channels.old chid) }
+    requires roster { IsRoster (members_of threads.old.items) }
+    ensures ok { IfOk result (λ met. IsSent chid item threads.old.items channels.old threads.new.items channels.new met) }
+    ensures err { IfErr result (λ e. IsTurnedAway chid threads.old.items channels.old threads.new.items channels.new e) }
+{
+    if pulses_on(channels, chid) >= PULSE_LIMIT {
+        return Err(Errno::Again);
+    }
+    let Some(newest) = newest_receiver(threads, chid, &item) else {
+        return match enqueue(channels, chid, item) {
+            Ok(()) => Ok(None),
+            Err(errno) => Err(errno),
+        };
+    };
+    let level = carried(channels, chid, item.priority);
+    let call = wake(threads, newest.1, level);
+    let Some(ended) = told(call, newest.1, &item) else {
+        unreachable!();
+    };
+    Ok(Some(ended))
+}

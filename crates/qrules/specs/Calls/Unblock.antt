@@ -1,0 +1,78 @@
+-- Unblock: what stands for a signal or a timeout. A thread's open call is cut; but for a message that is held on a channel with the unblock flag the
+-- server gets a pulse, once, and the thread stays blocked.
+use Rattle.std.specs.Prelude.{ℕ, ◌==◌, ◌&&◌, not, Bool, is_some, [], Option, None, Some, if◌then◌else◌}
+use Rattle.qbase.specs.declared.errno.Errno.{Errno}
+use Rattle.qbase.specs.declared.errno.Errno.TheVariants.{Intr, Srch}
+use Rattle.qtables.specs.Members.{member_at}
+use Rattle.qtables.specs.declared.connection.Connection.{Connection}
+use Rattle.qrules.specs.declared.call.Completion.{Completion}
+use Rattle.qrules.specs.declared.call.Mark.TheVariants as mark
+use Rattle.qrules.specs.declared.open_call.OpenCall.{OpenCall}
+use Rattle.qrules.specs.declared.open_call.Receipt.{Receipt}
+use Rattle.qrules.specs.declared.open_call.Wait.{Wait}
+use Rattle.qrules.specs.declared.open_call.Wait.TheVariants.{Answer, Item as ForItem}
+use Rattle.qrules.specs.Cutting.{cuts}
+use Rattle.qrules.specs.Delivering.{meets, receiver, received_of}
+use Rattle.qrules.specs.Facts.{Facts, is_fellow, tells_unblock}
+use Rattle.qrules.specs.Pulses.{full}
+use Rattle.qrules.specs.Rows.{Made, Received, Row, unblock_item}
+
+-- the channel that the connection leads to, where that has the unblock flag
+abbrev pub guard_over : Facts → Option Connection → Option ℕ
+guard_over f None = None
+guard_over f (Some c) = if tells_unblock (f.channel c.channel) then Some c.channel else None
+
+-- the channel that guards a wait: that of a message that is held, where it has the unblock flag
+abbrev pub guard : Facts → Wait → Option ℕ
+guard f (Answer coid message reply_buffer (Some receipt)) = guard_over f (f.connection coid)
+guard f (Answer coid message reply_buffer None) = None
+guard f (ForItem chid kind buffer) = None
+
+-- the pulse for message i, held with this receipt on channel h, of its priority; none where one was made
+abbrev pub due_on : ℕ → ℕ → Receipt → Option ℕ → Option Made
+due_on n i receipt None = None
+due_on n i receipt (Some h) = if receipt.unblocked then None else Some (record { item = unblock_item n receipt.priority i; channel = h })
+
+-- the same of what call i waits for: it is held, on a channel with the unblock flag
+abbrev pub due_for : Facts → ℕ → Wait → Option Made
+due_for f i (Answer coid message reply_buffer (Some receipt)) = due_on f.number i receipt (guard_over f (f.connection coid))
+due_for f i (Answer coid message reply_buffer None) = None
+due_for f i (ForItem chid kind buffer) = None
+
+-- the same of a thread's open call, if it has one
+abbrev pub due_of : Facts → Option OpenCall → Option Made
+due_of f None = None
+due_of f (Some o) = due_for f o.number o.wait
+
+-- the pulse that is due for what this thread is blocked in
+abbrev pub due : Facts → ℕ → Option Made
+due f thread = due_of f (f.open_call thread)
+
+-- where a pulse is due, 1,024 pulses pending on its channel
+abbrev pub refusal_of : Facts → Option Made → Option Errno
+refusal_of f None = None
+refusal_of f (Some m) = full f m.channel
+
+-- a thread that the roster hasn't, or of another process, and then those
+abbrev pub refusal : Facts → ℕ → ℕ → Option Errno
+refusal f t thread = if is_fellow f t thread then refusal_of f (due f thread) else Some Srch
+
+-- with no pulse due the thread's open call is cut that no channel guards; else the call of the pulse's receiver ends
+abbrev pub ends : Facts → ℕ → Option Made → ℕ → Option Completion
+ends f thread None u = cuts f (λ v wait. (v == thread) && not (is_some (guard f wait))) Intr u
+ends f thread (Some m) u = meets f m.item [] (receiver f m.item (Some m.channel)) u
+
+-- the receipt of the pulse, by a receiver that waits
+abbrev pub receipt : Facts → Option Made → Option Received
+receipt f None = None
+receipt f (Some m) = received_of f None m.item [] (Some m.channel) (receiver f m.item (Some m.channel))
+
+-- it never blocks, and takes memory only for the pulse
+abbrev pub row : Facts → ℕ → ℕ → Row
+row f t thread = record {
+  refusal = refusal f t thread;
+  takes_memory = is_some (due f thread);
+  own = Some (record { call = f.number; thread = t; mark = mark.Ok; buffer = [] });
+  ends = ends f thread (due f thread);
+  receipt = receipt f (due f thread);
+}
