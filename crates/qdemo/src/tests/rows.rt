@@ -8,3 +8,4 @@ mod priorities;
 mod pulses;
 mod refusals;
 mod texts;
+mod unblocking;

@@ -137,3 +137,43 @@ fn a_pulse_is_refused(rt: HostRuntime) -> Result<(), Fail> {
         ),
     )
 }
+
+// A channel that has all its pulses refuses one for a message that is to be unblocked, and nothing changes;
+// once there is room the pulse is made.
+#[test]
+fn an_unblock_pulse_is_refused(rt: HostRuntime) -> Result<(), Fail> {
+    expect_many(
+        &rt,
+        rt.alloc(),
+        (
+            b"1 create 2\n2 attach 3\n2 send 4 aa -\n1 receive 3 -\n",
+            b"3 3 1 channel 3\n4 4 2 connection 4\n6 6 1 message 5 0 -\n",
+        ),
+        (b"3 pulse 4 1 0 0\n", b"N N 3 ok\n"),
+        (7, 1030),
+        (
+            b"3 unblock 2\n1 receivepulse 3\n3 unblock 2\n1 reply 5 0 -\n1 receivepulse 3\n",
+            b"1031 1031 3 fail again\n1032 1032 1 pulse 7 1 user 0 0\n1033 1033 3 ok\n1034 1034 1 ok\n1034 5 2 reply 0 0 -\n1035 1035 1 pulse 1033 20 unblock 5\n",
+        ),
+    )
+}
+
+// The unblock pulse is one of them, and is no second time refused. A thread of another process is refused
+// before the limit is looked at.
+#[test]
+fn an_unblock_pulse_is_counted(rt: HostRuntime) -> Result<(), Fail> {
+    expect_many(
+        &rt,
+        rt.alloc(),
+        (
+            b"1 create 2\n2 attach 3\n2 send 4 aa -\n1 receive 3 -\n3 unblock 2\n",
+            b"3 3 1 channel 3\n4 4 2 connection 4\n6 6 1 message 5 0 -\n7 7 3 ok\n",
+        ),
+        (b"3 pulse 4 1 0 0\n", b"N N 3 ok\n"),
+        (8, 1030),
+        (
+            b"3 unblock 2\n3 unblock 1\n3 pulse 4 1 0 0\n1 receivepulse 3\n3 pulse 4 1 0 0\n",
+            b"1031 1031 3 ok\n1032 1032 3 fail srch\n1033 1033 3 fail again\n1034 1034 1 pulse 7 20 unblock 5\n1035 1035 3 ok\nopen 5 2 reply 3\n",
+        ),
+    )
+}
