@@ -2,21 +2,13 @@
 #![tactic(auto)]
 
 mod command;
-mod fault;
-mod printing;
-mod reading;
-mod script;
-#[cfg(test)]
-mod tests;
-mod transfer;
-mod watched;
 
 use clap::error::ErrorKind;
 use command::{Action, action_of};
-use script::script;
+use qscript::script::script;
+use qscript::watched::Watched;
 use std::process::ExitCode;
 use std::{env, io};
-use watched::Watched;
 
 fn main(rt: HostRuntime) -> ExitCode {
     let arguments = match env::args(&rt) {

@@ -1,17 +1,14 @@
-//! Tests of the kernel through its public calls: runs of a few calls, with the endings that each brings
-//! written out in whole. They stand in a crate of their own, since a crate is proved once more with its
-//! tests.
+//! Tests of what the kernel's public functions answer that no script of the program shows. They stand in a
+//! crate of their own, since a crate is proved once more with its tests.
 #![tactic(auto)]
 
 #[cfg(test)]
-mod answers;
+mod copying;
 #[cfg(test)]
-mod held;
+mod dispatching;
 #[cfg(test)]
 mod making;
 #[cfg(test)]
-mod priorities;
+mod running;
 #[cfg(test)]
-mod pulses;
-#[cfg(test)]
-mod refusals;
+mod stepping;

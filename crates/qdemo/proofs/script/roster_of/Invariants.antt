@@ -1,6 +1,0 @@
-use Rattle.std.proofs.Common.{◌≡◌, [], take}
-use Rattle.qdemo.specs.Enrolled.{enrolled}
-use Rattle.qdemo.proofs.script.roster_of.Given as goal
-
-abbrev pub invariant-joining : goal.invariant-joining
-invariant-joining l = l.roster ≡ enrolled [] (take l.member-index l.members)

@@ -1,9 +1,0 @@
--- A thread that is blocked when a run is over.
-use Rattle.std.specs.Prelude.{ℕ, List, [], ◌∷◌, ◌++◌, codes, decimal}
-use Rattle.qrules.specs.declared.open_call.Blocked.{Blocked}
-use Rattle.qdemo.specs.Printing.State.{state_words}
-use Rattle.qdemo.specs.Printing.Words.{spaced}
-
--- one line: the open call, its thread and what that waits for
-abbrev pub open_text : Blocked → List ℕ
-open_text b = codes "open" ++ spaced ((decimal b.number ∷ decimal b.thread ∷ []) ++ state_words b.state) ++ 10 ∷ []

@@ -1,0 +1,63 @@
+//! One example: a script, and the trace that it has to print.
+
+ghost use Rattle.std.specs.Prelude.{◌≡◌};
+ghost use Rattle.qscript.specs.Script.{Runs};
+
+use qscript::fault::ScriptFault;
+use qscript::script::script;
+use qscript::watched::Watched;
+use std::alloc::Global;
+use std::fmt;
+
+/// What came of an example.
+#[derive(Debug, Drop)]
+pub enum Outcome {
+    /// It printed its trace.
+    Same,
+    /// It printed something else from this line on.
+    Differs(usize),
+    /// It printed nothing.
+    Fault(ScriptFault),
+}
+
+impl fmt::Display for Outcome {
+    fn fmt<W: fmt::Write>(&self, f: &mut fmt::Formatter<W>) -> fmt::Result {
+        match self {
+            Outcome::Same => write!(f, "as its trace says"),
+            Outcome::Differs(line) => write!(f, "differs from its trace at line {line}"),
+            Outcome::Fault(fault) => write!(f, "{fault}"),
+        }
+    }
+}
+
+/// Runs a script, and compares what it prints with its trace. A trace that is the same is the text of a lawful
+/// run of the script.
+pub fn outcome_of(alloc: Global, input: &[u8], trace: &[u8]) -> Outcome
+    ensures same { result ≡ Outcome.Same → Runs input.now trace.now }
+{
+    let mut reader = Watched::new(input);
+    let mut writer = Watched::new(Vec::new(alloc));
+    if let Err(fault) = script(alloc, &mut reader, &mut writer) {
+        return Outcome::Fault(fault);
+    }
+    let printed = writer.into_inner();
+    if printed.as_slice() == trace {
+        Outcome::Same
+    } else {
+        Outcome::Differs(first_difference(printed.as_slice(), trace))
+    }
+}
+
+/// The number of the first line in which two texts differ.
+fn first_difference(found: &[u8], wanted: &[u8]) -> usize {
+    let mut line = 1usize;
+    for (a, b) in found.iter().zip(wanted) {
+        if a != b {
+            break;
+        }
+        if *a == b'\n' {
+            line = line.saturating_add(1);
+        }
+    }
+    line
+}

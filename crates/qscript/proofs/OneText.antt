@@ -1,0 +1,35 @@
+-- The text of a run on a new kernel.
+use Rattle.std.proofs.Common.{◌≡◌, ℕ, List, [], map, refl, ap, sym, ◌∙◌}
+use Rattle.qtables.specs.declared.member.Member.{Member}
+use Rattle.qrules.specs.declared.call.Call.{Call}
+use Rattle.qrules.specs.declared.open_call.Blocked.{Blocked}
+use Rattle.qrules.specs.Blocked.{blocked_at}
+use Rattle.qrules.specs.Lawful.{followed_by}
+use Rattle.qrules.specs.OnlyRun.{event_call}
+use Rattle.qkernel.specs.Runs.{IsWellRun}
+use Rattle.qkernel.specs.State.{State}
+use Rattle.qrules.specs.Trace.{Event, Run}
+use Rattle.qscript.specs.Enrolled.{enrolled}
+use Rattle.qscript.specs.Printing.Printed.{printed}
+use Rattle.qscript.specs.Script.{IsTextOfRun}
+
+made_same : (n m : ℕ) (xs ys : List Event) → n ≡ m → xs ≡ ys → (let r : Run = record { first = n; events = xs } in r) ≡ record { first = m; events = ys }
+made_same n m xs ys first events = rw (first, events) refl
+
+same_run : (a b : Run) → a.first ≡ b.first → a.events ≡ b.events → a ≡ b
+same_run a b first events = made_same a.first b.first a.events b.events first events
+
+pub text_of_run : (roster : List Member) (calls : List (ℕ × Call)) (new : State) (run : Run) (blocked : List Blocked) (text : List ℕ)
+    → IsWellRun (enrolled [] roster) [] run new → map event_call run.events ≡ calls
+    → blocked ≡ blocked_at (enrolled [] roster) (followed_by [] run.events) → text ≡ printed run blocked → IsTextOfRun roster calls text
+text_of_run roster calls new run blocked text well told left is = record {
+  run = run;
+  blocked = blocked;
+  ran = record { first = well.first; made = told; lawful = well.lawful; properties = well.properties; left = left };
+  printed_so = is;
+  only = λ had other others ran held.
+      let events = well.only had other.events (ran.made ∙ sym told) ran.lawful held in
+      let first : other.first ≡ run.first = ran.first ∙ sym well.first in
+      let same : others ≡ blocked = ran.left ∙ ap (λ es. blocked_at (enrolled [] roster) (followed_by [] es)) events ∙ sym left in
+      rw (same, is) (ap (λ r. printed r blocked) (same_run other run first events));
+}

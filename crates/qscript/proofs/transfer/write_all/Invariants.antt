@@ -1,0 +1,13 @@
+use Rattle.std.proofs.Common.{◌≡◌, ◌-◌, ◌≤◌, length, take, false}
+use Rattle.std.specs.Io.KnownBytes.{Appends}
+use Rattle.qscript.proofs.transfer.write_all.Given as goal
+
+abbrev pub invariant-writing : goal.invariant-writing
+invariant-writing g l = record {
+  clean : l.writer.faulted ≡ false;
+  within : l.at ≤ length l.bytes;
+  taken : Appends (g.W.Write.contents l.initial.writer.inner) (g.W.Write.contents l.writer.inner) (take l.at l.bytes);
+}
+
+abbrev pub decreases-writing : goal.decreases-writing
+decreases-writing g l = length l.bytes - l.at

@@ -1,0 +1,64 @@
+-- The text of a run.
+use Rattle.std.specs.Prelude.{ℕ, ◌+◌, ◌-◌, ◌&&◌, nat_le, Bool, true, false, List, [], ◌∷◌, ◌++◌, Option, Some, None, if◌then◌else◌, slice_get, decimal}
+use Rattle.std.specs.List.{flat_map}
+use Rattle.std.specs.Option.{option_map}
+use Rattle.qrules.specs.declared.call.Call.{Call}
+use Rattle.qrules.specs.declared.call.Call.TheVariants.{ChannelCreate, ConnectAttach, Send, Receive, Reply, Error, Read, Write, Info, ReceivePulse, Pulse, PrioritySet, State, ChannelDestroy, Shutdown, Unblock, ConnectDetach}
+use Rattle.qrules.specs.declared.call.Completion.{Completion}
+use Rattle.qrules.specs.declared.open_call.Blocked.{Blocked}
+use Rattle.qrules.specs.Trace.{Event, Run}
+use Rattle.qscript.specs.Printing.Words.{spaced}
+use Rattle.qscript.specs.Printing.Marks.{mark_words}
+use Rattle.qscript.specs.Printing.Buffer.{buffer_words}
+use Rattle.qscript.specs.Printing.OpenLine.{open_text}
+
+-- whether a call's buffer is printed when it ends
+abbrev pub shows_buffer : Call → Bool
+shows_buffer (ChannelCreate flags) = false
+shows_buffer (ConnectAttach chid) = false
+shows_buffer (Send coid message reply_buffer) = true
+shows_buffer (Receive chid buffer) = true
+shows_buffer (Reply rcvid status bytes) = false
+shows_buffer (Error rcvid code) = false
+shows_buffer (Read rcvid offset buffer) = true
+shows_buffer (Write rcvid offset bytes) = false
+shows_buffer (Info rcvid) = false
+shows_buffer (ReceivePulse chid) = false
+shows_buffer (Pulse coid priority code value) = false
+shows_buffer (PrioritySet thread priority) = false
+shows_buffer (State thread) = false
+shows_buffer (ChannelDestroy chid) = false
+shows_buffer Shutdown = false
+shows_buffer (Unblock thread) = false
+shows_buffer (ConnectDetach coid) = false
+
+-- the call of this number, which is that of the event of this number, among a run's events up to another
+abbrev pub call_by : Run → ℕ → ℕ → Option Call
+call_by run event number = if nat_le run.first number && nat_le number event then option_map (λ e. e.call) (slice_get run.events (number - run.first)) else None
+
+-- whether an ended call's buffer is printed; that of a call made before the run isn't
+abbrev pub is_shown : Option Call → Bool
+is_shown None = false
+is_shown (Some call) = shows_buffer call
+
+-- the words of an ended call's buffer
+abbrev pub ended_words : Run → ℕ → Completion → List (List ℕ)
+ended_words run event e = if is_shown (call_by run event e.call) then buffer_words e.buffer else []
+
+-- one line: the event, the ended call, its thread, its mark and its buffer
+abbrev pub ending_text : Run → ℕ → Completion → List ℕ
+ending_text run event e =
+    decimal event ++ spaced (decimal e.call ∷ decimal e.thread ∷ []) ++ spaced (mark_words e.mark) ++ spaced (ended_words run event e) ++ 10 ∷ []
+
+-- a line for each ending of an event
+abbrev pub event_text : Run → ℕ → List Completion → List ℕ
+event_text run event endings = flat_map (ending_text run event) endings
+
+-- the lines of some events of a run, which are numbered from this number on
+abbrev pub texts_from : Run → ℕ → List Event → List ℕ
+texts_from run event [] = []
+texts_from run event (e ∷ events) = event_text run event e.endings ++ texts_from run (event + 1) events
+
+-- a run's events, and then a line for each thread that is blocked after it
+unfoldable pub printed : Run → List Blocked → List ℕ
+printed run blocked = texts_from run run.first run.events ++ flat_map open_text blocked

@@ -1,0 +1,15 @@
+-- The call line `T attach C`.
+use Rattle.std.specs.Prelude.{ℕ, ◌^◌, List, Result, Ok}
+use Rattle.qrules.specs.declared.call.Call.{Call}
+use Rattle.qrules.specs.declared.call.Call.TheVariants as calls
+use Rattle.qscript.specs.declared.fault.LineFault.{LineFault}
+use Rattle.qscript.specs.Reading.Steps.{◌>>=◌}
+use Rattle.qscript.specs.Reading.Counts.{one_of}
+use Rattle.qscript.specs.Reading.Number.{number_of}
+
+-- C: the channel, a number of 64 bits
+unfoldable pub attach_of : List (List ℕ) → Result Call LineFault
+attach_of operands = do
+  word ← one_of operands
+  channel ← number_of (2 ^ 64) word
+  Ok (calls.ConnectAttach channel)

@@ -1,0 +1,72 @@
+-- A script, from a reader to a writer.
+use Rattle.std.specs.Prelude.{◌≡◌, ℕ, ◌≤◌, ◌^◌, Bool, List, [], length, map, Option}
+use Rattle.std.specs.Io.KnownBytes.{Appends}
+use Rattle.qtables.specs.declared.member.Member.{Member}
+use Rattle.qrules.specs.declared.call.Call.{Call}
+use Rattle.qrules.specs.declared.open_call.Blocked.{Blocked}
+use Rattle.qrules.specs.Blocked.{blocked_at}
+use Rattle.qrules.specs.Trace.{Run}
+use Rattle.qrules.specs.OnlyRun.{HadMemory, event_call}
+use Rattle.qkernel.specs.Runs.{AllKnown}
+use Rattle.qrules.specs.Properties.{HasProperties}
+use Rattle.qrules.specs.Lawful.{IsLawful, followed_by}
+use Rattle.qscript.specs.declared.fault.LineFault.{LineFault}
+use Rattle.qscript.specs.Enrolled.{enrolled, AllJoin}
+use Rattle.qscript.specs.Reading.Meaning.{meaning, Says, Faulty}
+use Rattle.qscript.specs.Printing.Printed.{printed}
+use Rattle.qscript.specs.Transfer.{IsReading, IsOverfull, StopsWithin}
+
+-- the threads may join one roster, each call is of one of them, and there are no more calls than a kernel can number
+pub record CanRun (roster : List Member) (calls : List (ℕ × Call)) : Type 0 where
+  pub members : AllJoin [] roster
+  pub callers : AllKnown (enrolled [] roster) calls
+  pub few : length calls ≤ 2 ^ 40
+
+-- a run of just these calls, lawful from the first call on, and who is blocked after it
+pub record IsRunOf (roster : List Member) (calls : List (ℕ × Call)) (run : Run) (blocked : List Blocked) : Type 0 where
+  pub first : run.first ≡ 1
+  pub made : map event_call run.events ≡ calls
+  pub lawful : IsLawful (enrolled [] roster) (followed_by [] run.events)
+  pub properties : HasProperties (enrolled [] roster) (followed_by [] run.events)
+  pub left : blocked ≡ blocked_at (enrolled [] roster) (followed_by [] run.events)
+
+-- the text of such a run; if no call was refused for want of memory, it is the text of each other such run
+pub record IsTextOfRun (roster : List Member) (calls : List (ℕ × Call)) (text : List ℕ) : Type 0 where
+  pub run : Run
+  pub blocked : List Blocked
+  pub ran : IsRunOf roster calls run blocked
+  pub printed_so : text ≡ printed run blocked
+  pub only : HadMemory run.events → (other : Run) (left : List Blocked) → IsRunOf roster calls other left → HadMemory other.events → printed other left ≡ text
+
+-- the text of a run of the script that was read
+pub record Runs (input : List ℕ) (text : List ℕ) : Type 0 where
+  pub roster : List Member
+  pub calls : List (ℕ × Call)
+  pub meant : meaning input ≡ Says roster calls
+  pub ran : IsTextOfRun roster calls text
+
+-- all was read, and all of the run's text was written
+pub record IsRun (reader reader_after writer writer_after : Option (List ℕ)) : Type 0 where
+  pub input : List ℕ
+  pub text : List ℕ
+  pub read : IsReading reader reader_after input
+  pub runs : Runs input text
+  pub written : Appends writer writer_after text
+
+-- more was read than a script may have
+abbrev pub IsTooLong : Option (List ℕ) → Option (List ℕ) → Type 0
+IsTooLong reader reader_after = (input : List ℕ) × IsOverfull reader reader_after input
+
+-- all was read, and this is its fault
+pub record IsFaulty (reader reader_after : Option (List ℕ)) (n : ℕ) (f : LineFault) : Type 0 where
+  pub input : List ℕ
+  pub read : IsReading reader reader_after input
+  pub meant : meaning input ≡ Faulty n f
+
+-- all was read, and a front of the run's text was written before the writer failed
+pub record IsCut (reader reader_after writer writer_after : Option (List ℕ)) (faulted : Bool) : Type 0 where
+  pub input : List ℕ
+  pub text : List ℕ
+  pub read : IsReading reader reader_after input
+  pub runs : Runs input text
+  pub written : StopsWithin writer writer_after faulted text

@@ -1,0 +1,35 @@
+-- All of a reader's bytes, and all bytes to a writer.
+use Rattle.std.specs.Prelude.{◌≡◌, ℕ, ◌<◌, ◌≤◌, Bool, true, List, length, take, Option}
+use Rattle.std.specs.Io.KnownBytes.{Consumes, Appends, IsAtEnd}
+use Rattle.qscript.specs.declared.fault.ScriptFault.{ScriptFault}
+use Rattle.qscript.specs.declared.fault.ScriptFault.TheVariants as faults
+
+-- a reader gave these bytes, and then its end
+pub record IsReading (before after : Option (List ℕ)) (bytes : List ℕ) : Type 0 where
+  pub given : Consumes before after bytes
+  pub ended : IsAtEnd after
+  pub short : length bytes ≤ 4194304
+
+-- a reader gave more bytes than a script may have
+pub record IsOverfull (before after : Option (List ℕ)) (bytes : List ℕ) : Type 0 where
+  pub given : Consumes before after bytes
+  pub long : 4194304 < length bytes
+
+-- why a reading stopped before the end
+abbrev pub IsReadFault : ScriptFault → Option (List ℕ) → Option (List ℕ) → Bool → Type 0
+IsReadFault faults.Read before after faulted = faulted ≡ true
+IsReadFault faults.TooLong before after faulted = (bytes : List ℕ) × IsOverfull before after bytes
+IsReadFault faults.NoMemory before after faulted = Unit {0}
+IsReadFault (faults.Line n f) before after faulted = ⊥
+IsReadFault faults.Write before after faulted = ⊥
+
+-- a writer took a front of the bytes, and then failed
+pub record StopsWithin (before after : Option (List ℕ)) (faulted : Bool) (bytes : List ℕ) : Type 0 where
+  pub count : ℕ
+  pub within : count ≤ length bytes
+  pub taken : Appends before after (take count bytes)
+  pub fault : faulted ≡ true
+
+-- why a writing stopped
+abbrev pub IsWriteFault : ScriptFault → Option (List ℕ) → Option (List ℕ) → Bool → List ℕ → Type 0
+IsWriteFault e before after faulted bytes = (e ≡ faults.Write) × StopsWithin before after faulted bytes

@@ -1,0 +1,11 @@
+//! Scripts of kernel calls: what their text means, their run on a new kernel, and what is printed of it.
+#![tactic(auto)]
+
+pub mod fault;
+mod printing;
+mod reading;
+pub mod script;
+#[cfg(test)]
+mod tests;
+mod transfer;
+pub mod watched;

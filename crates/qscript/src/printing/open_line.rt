@@ -1,0 +1,42 @@
+//! A thread that is blocked when the run is over.
+
+ghost use Rattle.std.specs.Prelude.{◌≡◌, ◌++◌, OnOk, string_bytes};
+ghost use Rattle.qscript.specs.Printing.Words.{spaced};
+ghost use Rattle.qscript.specs.Printing.OpenLine.{open_text};
+ghost use Rattle.qscript.specs.Printing.State.{state_words};
+
+use qbase::state::ThreadState;
+use qkernel::open_call::Blocked;
+use std::alloc::AllocError;
+
+/// The state's word and its channel, each with a space before it.
+fn push_state(out: &mut String, state: ThreadState) -> Result<(), AllocError>
+    ensures { OnOk result (string_bytes out.new ≡ string_bytes out.old ++ spaced (state_words state)) }
+{
+    match state {
+        ThreadState::Ready => write!(out, " ready"),
+        ThreadState::SendBlocked(chid) => {
+            let chid = chid.0;
+            write!(out, " send {chid}")
+        }
+        ThreadState::ReceiveBlocked(chid) => {
+            let chid = chid.0;
+            write!(out, " receive {chid}")
+        }
+        ThreadState::ReplyBlocked(chid) => {
+            let chid = chid.0;
+            write!(out, " reply {chid}")
+        }
+    }
+}
+
+/// `open NUMBER THREAD STATE CHANNEL` and a newline.
+pub fn push_open(out: &mut String, blocked: Blocked) -> Result<(), AllocError>
+    ensures { OnOk result (string_bytes out.new ≡ string_bytes out.old ++ open_text blocked) }
+{
+    let number = blocked.number;
+    let thread = blocked.thread.0;
+    write!(out, "open {number} {thread}")?;
+    push_state(out, blocked.state)?;
+    write!(out, "\n")
+}

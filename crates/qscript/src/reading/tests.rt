@@ -1,0 +1,290 @@
+//! Scripts and their faults, by texts written by hand.
+
+use crate::reading::script::{MOST_TEXT, parse};
+use qkernel::call::Call;
+use std::alloc::Global;
+use std::process::Abort;
+use std::test::Fail;
+
+const MEMBER: &[u8] = b"thread 1 1 10\n";
+
+/// Asserts that a text has this fault.
+fn expect_fault(rt: &impl Abort, alloc: Global, text: &[u8], words: &str) -> Result<(), Fail> {
+    let fault = parse(alloc, text).expect_err(rt, "a fault");
+    let found = format!(in alloc; "{fault}")?;
+    assert_eq!(rt; found.as_str(), words);
+    Ok(())
+}
+
+/// Asserts that a line after the roster line of thread 1 has this fault.
+fn expect_second(rt: &impl Abort, alloc: Global, line: &[u8], words: &str) -> Result<(), Fail> {
+    let mut text = Vec::from_slice(alloc, MEMBER)?;
+    text.extend_from_slice(line)?;
+    expect_fault(rt, alloc, text.as_slice(), words)
+}
+
+/// Asserts that a line after the roster line of thread 1 adds a call.
+fn expect_call(rt: &impl Abort, alloc: Global, line: &[u8]) -> Result<(), Fail> {
+    let mut text = Vec::from_slice(alloc, MEMBER)?;
+    text.extend_from_slice(line)?;
+    let script = parse(alloc, text.as_slice())?;
+    assert_eq!(rt; script.roster.len(), 1);
+    assert_eq!(rt; script.calls.len(), 1);
+    Ok(())
+}
+
+#[test]
+fn reads_a_thread_of_the_roster(rt: HostRuntime) -> Result<(), Fail> {
+    let script = parse(rt.alloc(), b"thread 1 2 63")?;
+    let [member] = script.roster.as_slice() else {
+        return Err(Fail::from("one member"));
+    };
+    assert_eq!(rt; member.thread.0, 1);
+    assert_eq!(rt; member.process.0, 2);
+    assert_eq!(rt; member.priority.get(), 63);
+    Ok(())
+}
+
+/// Whether a call with bytes is the one that the script of all forms has of its kind.
+fn has_written_bytes(call: &Call) -> bool {
+    match call {
+        Call::Send {
+            coid,
+            message,
+            reply_buffer,
+        } => coid.0 == 8 && message.is_empty() && reply_buffer.as_slice() == [0xab; 3].as_slice(),
+        Call::Receive { chid, buffer } => {
+            chid.0 == 7 && buffer.as_slice() == [0, 0xff].as_slice()
+        }
+        Call::Reply {
+            rcvid,
+            status,
+            bytes,
+        } => rcvid.0 == 9 && *status == -1 && bytes.as_slice() == [5].as_slice(),
+        Call::Read {
+            rcvid,
+            offset,
+            buffer,
+        } => rcvid.0 == 9 && *offset == 3 && buffer.as_slice() == [1, 1].as_slice(),
+        Call::Write {
+            rcvid,
+            offset,
+            bytes,
+        } => rcvid.0 == 9 && *offset == 4 && bytes.as_slice() == [6].as_slice(),
+        _ => false,
+    }
+}
+
+/// Whether a call is the one that the script of all forms has of its kind.
+fn is_written(call: &Call) -> bool {
+    match call {
+        Call::ChannelCreate(flags) => flags.is_known(),
+        Call::ConnectAttach(chid) => chid.0 == 7,
+        Call::Error { rcvid, code } => rcvid.0 == 9 && *code == -2,
+        Call::Info(rcvid) => rcvid.0 == 9,
+        Call::ReceivePulse(chid) => chid.0 == 7,
+        Call::Pulse {
+            coid,
+            priority,
+            code,
+            value,
+        } => coid.0 == 8 && priority.get() == 63 && *code == i8::MIN && *value == i32::MIN,
+        Call::PrioritySet { thread, priority } => thread.0 == 255 && priority.get() == 5,
+        Call::State(thread) => thread.0 == 7,
+        Call::Unblock(thread) => thread.0 == 7,
+        Call::ConnectDetach(coid) => coid.0 == 8,
+        Call::ChannelDestroy(chid) => chid.0 == 7,
+        Call::Shutdown => true,
+        _ => has_written_bytes(call),
+    }
+}
+
+// Each form once, with blank lines, a comment, and more than one blank between words.
+#[test]
+fn reads_each_form(rt: HostRuntime) -> Result<(), Fail> {
+    let text =
+        b"thread 1 2 63\n\n  # all forms\n1 create 4\r\n\t1  attach 7\n1 send 8 - 3xAb\n1 receive 7 00fF\n1 reply 9 -1 05\n1 error 9 -2\n1 read 9 3 2x01\n1 write 9 4 06\n1 info 9\n1 receivepulse 7\n1 pulse 8 63 -128 -2147483648\n1 setprio 255 5\n1 state 007\n1 destroy 7\n1 detach 8\n1 unblock 7\n1 shutdown".as_slice();
+    let script = parse(rt.alloc(), text)?;
+    assert_eq!(rt; script.calls.len(), 17);
+    for (thread, call) in &script.calls {
+        assert_eq!(rt; thread.0, 1);
+        assert!(rt; is_written(call), "{call:?}");
+    }
+    Ok(())
+}
+
+#[test]
+fn says_nothing_of_nothing(rt: HostRuntime) -> Result<(), Fail> {
+    for text in [b"".as_slice(), b"\n", b"\r\n\r\n", b"#\xff\n \t \n"] {
+        let script = parse(rt.alloc(), text)?;
+        assert!(rt; script.roster.is_empty());
+        assert!(rt; script.calls.is_empty());
+    }
+    Ok(())
+}
+
+#[test]
+fn names_the_fault_of_one_line(rt: HostRuntime) -> Result<(), Fail> {
+    let rows = [
+        (b"1 create 0".as_slice(), "line 1: unknown thread"),
+        (b"x create 0", "line 1: bad number"),
+        (b"1", "line 1: word count"),
+        (b"thread", "line 1: word count"),
+        (b"thread 1 1", "line 1: word count"),
+        (b"thread 1 1 10 1", "line 1: word count"),
+        (b"thread 256 1 10", "line 1: bad number"),
+        (b"thread 1 256 10", "line 1: bad number"),
+        (b"thread 1 1 256", "line 1: bad number"),
+        (b"thread 1 1 -1", "line 1: bad number"),
+        (b"thread 1 1 255", "line 1: bad priority"),
+        (b"thread 1 1 64", "line 1: bad priority"),
+        (b"thread 1 1 0", "line 1: bad priority"),
+        (b"1 create \x7f", "line 1: bad byte"),
+        (b"1 create 0\r\r", "line 1: bad byte"),
+    ];
+    for (text, words) in rows {
+        expect_fault(&rt, rt.alloc(), text, words)?;
+    }
+    Ok(())
+}
+
+#[test]
+fn names_the_fault_of_a_second_line(rt: HostRuntime) -> Result<(), Fail> {
+    let rows = [
+        (b"thread 1 2 20".as_slice(), "line 2: double thread"),
+        (b"1 frob", "line 2: unknown word"),
+        (b"1 creat 0", "line 2: unknown word"),
+        (b"1 create", "line 2: word count"),
+        (b"1 create 0 0", "line 2: word count"),
+        (b"1 create 256", "line 2: bad number"),
+        (b"7 create 0", "line 2: unknown thread"),
+        (b"1 send 2 abc -", "line 2: bad bytes"),
+        (b"1 send x 0xaa -", "line 2: bad number"),
+        (b"1 send 1 0xaa -", "line 2: bad bytes"),
+        (b"1 send 1 4097x00 -", "line 2: bad bytes"),
+        (b"1 send 1 000000000000000000001x00 -", "line 2: bad bytes"),
+        (b"1 send 1 x00 -", "line 2: bad bytes"),
+        (b"1 send 1 1x0 -", "line 2: bad bytes"),
+        (b"1 send 1 -- -", "line 2: bad bytes"),
+        (b"1 send 1 -", "line 2: word count"),
+        (b"1 send 1 - - -", "line 2: word count"),
+        (b"1 receive 1", "line 2: word count"),
+        (b"1 reply 1 - -", "line 2: bad number"),
+        (b"1 reply 1 -- -", "line 2: bad number"),
+        (b"1 reply 1 +1 -", "line 2: bad number"),
+        (b"1 reply -1 1 -", "line 2: bad number"),
+        (b"1 reply 1 9223372036854775808 -", "line 2: bad number"),
+        (b"1 reply 1 -9223372036854775809 -", "line 2: bad number"),
+        (b"1 error 1 2147483648", "line 2: bad number"),
+        (b"1 error 1 -2147483649", "line 2: bad number"),
+        (b"1 error 1", "line 2: word count"),
+        (b"1 read 1 -1 -", "line 2: bad number"),
+        (b"1 read 1 18446744073709551616 -", "line 2: bad number"),
+        (b"1 read 1 0 0", "line 2: bad bytes"),
+        (b"1 write 1 x -", "line 2: bad number"),
+        (b"1 write 1 0", "line 2: word count"),
+        (b"1 info", "line 2: word count"),
+        (b"1 info -1", "line 2: bad number"),
+        (b"1 receivepulse", "line 2: word count"),
+        (b"1 receivepulse -1", "line 2: bad number"),
+        (b"1 pulse 1 1 0", "line 2: word count"),
+        (b"1 pulse 1 1 0 0 0", "line 2: word count"),
+        (b"1 pulse x 0 0 0", "line 2: bad number"),
+        (b"1 pulse 1 0 128 0", "line 2: bad priority"),
+        (b"1 pulse 1 64 0 0", "line 2: bad priority"),
+        (b"1 pulse 1 256 0 0", "line 2: bad number"),
+        (b"1 pulse 1 1 128 0", "line 2: bad number"),
+        (b"1 pulse 1 1 -129 0", "line 2: bad number"),
+        (b"1 pulse 1 1 0 2147483648", "line 2: bad number"),
+        (b"1 pulse 1 1 0 -2147483649", "line 2: bad number"),
+        (b"1 setprio 1", "line 2: word count"),
+        (b"1 setprio 256 1", "line 2: bad number"),
+        (b"1 setprio 1 256", "line 2: bad number"),
+        (b"1 setprio 1 0", "line 2: bad priority"),
+        (b"1 setprio 1 64", "line 2: bad priority"),
+        (b"1 state", "line 2: word count"),
+        (b"1 state 256", "line 2: bad number"),
+        (b"1 detach", "line 2: word count"),
+        (b"1 detach 1 1", "line 2: word count"),
+        (b"1 detach x", "line 2: bad number"),
+        (b"1 unblock", "line 2: word count"),
+        (b"1 unblock 1 1", "line 2: word count"),
+        (b"1 unblock 256", "line 2: bad number"),
+        (b"1 destroy", "line 2: word count"),
+        (b"1 destroy 1 1", "line 2: word count"),
+        (b"1 destroy -1", "line 2: bad number"),
+        (b"1 shutdown 1", "line 2: word count"),
+        (b"1 attach 18446744073709551616", "line 2: bad number"),
+        (b"1 attach 000000000000000000001", "line 2: bad number"),
+        (b"1 create 0\nthread 2 1 10", "line 3: late thread"),
+        (b"1 create 0\nthread 2 1 10\x80", "line 3: bad byte"),
+        (b"1 create 0\nthread", "line 3: late thread"),
+        (b"\n#\n1 create\nx", "line 4: word count"),
+    ];
+    for (line, words) in rows {
+        expect_second(&rt, rt.alloc(), line, words)?;
+    }
+    Ok(())
+}
+
+#[test]
+fn takes_what_is_at_a_limit(rt: HostRuntime) -> Result<(), Fail> {
+    let rows = [
+        b"1 create 255".as_slice(),
+        b"001 create 00000000000000000000",
+        b"1 attach 18446744073709551615",
+        b"1 attach 00000000000000000001\r",
+        b"1 reply 1 9223372036854775807 -",
+        b"1 reply 1 -9223372036854775808 -",
+        b"1 reply 1 -00000000000000000000 -",
+        b"1 send 1 1x00 4096xff",
+        b"1 send 1 00000000000000000001x00 -",
+    ];
+    for line in rows {
+        expect_call(&rt, rt.alloc(), line)?;
+    }
+    Ok(())
+}
+
+/// A line of `#` and so many bytes that don't print, with a carriage return at its end.
+fn comment(alloc: Global, count: usize) -> Result<Vec<u8>, Fail> {
+    let mut line = Vec::from_slice(alloc, b"#")?;
+    let rest = vec![in alloc; 0xffu8; count]?;
+    line.extend_from_slice(rest.as_slice())?;
+    line.extend_from_slice(b"\r\n")?;
+    Ok(line)
+}
+
+#[test]
+fn passes_over_a_comment_of_at_most_4096_bytes(rt: HostRuntime) -> Result<(), Fail> {
+    let fits = comment(rt.alloc(), 4095)?;
+    assert!(rt; parse(rt.alloc(), fits.as_slice()).is_ok());
+    let long = comment(rt.alloc(), 4096)?;
+    expect_fault(&rt, rt.alloc(), long.as_slice(), "line 1: long line")
+}
+
+#[test]
+fn takes_at_most_64_threads(rt: HostRuntime) -> Result<(), Fail> {
+    let mut text = String::new(rt.alloc());
+    for thread in 0..64 {
+        write!(text, "thread {thread} 1 10\n")?;
+    }
+    let script = parse(rt.alloc(), text.as_bytes())?;
+    assert_eq!(rt; script.roster.len(), 64);
+    write!(text, "thread 64 1 10\n")?;
+    expect_fault(
+        &rt,
+        rt.alloc(),
+        text.as_bytes(),
+        "line 65: too many threads",
+    )
+}
+
+#[test]
+fn takes_at_most_4_mib(rt: HostRuntime) -> Result<(), Fail> {
+    let mut text = vec![in rt.alloc(); b'\n'; MOST_TEXT]?;
+    let script = parse(rt.alloc(), text.as_slice())?;
+    assert!(rt; script.calls.is_empty());
+    text.push(b'x')?;
+    expect_fault(&rt, rt.alloc(), text.as_slice(), "script too long")
+}
