@@ -1,6 +1,7 @@
 //! Worked scripts, with the texts that were written for them by hand.
 
 mod answers;
+mod detaching;
 mod ending;
 mod held;
 mod limits;

@@ -177,3 +177,24 @@ fn an_unblock_pulse_is_counted(rt: HostRuntime) -> Result<(), Fail> {
         ),
     )
 }
+
+// A channel that has all its pulses refuses the last detach of a process: the connection stays, and what was
+// sent over it waits on. Another process is refused before the limit is looked at. Once there is room the
+// pulse is made.
+#[test]
+fn a_disconnect_pulse_is_refused(rt: HostRuntime) -> Result<(), Fail> {
+    expect_many(
+        &rt,
+        rt.alloc(),
+        (
+            b"1 create 4\n2 attach 3\n2 send 4 aa 1x2e\n",
+            b"3 3 1 channel 3\n4 4 2 connection 4\n",
+        ),
+        (b"3 pulse 4 1 0 0\n", b"N N 3 ok\n"),
+        (6, 1029),
+        (
+            b"3 detach 4\n1 detach 4\n1 receivepulse 3\n3 detach 4\n1 receivepulse 3\n",
+            b"1030 1030 3 fail again\n1031 1031 1 fail inval\n1032 1032 1 pulse 6 1 user 0 0\n1033 5 2 fail badf 2e\n1033 1033 3 ok\n1034 1034 1 pulse 1033 20 disconnect 2\n",
+        ),
+    )
+}
