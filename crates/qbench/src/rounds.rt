@@ -52,29 +52,43 @@ pub struct Course {
     coid: ConnectionId,
 }
 
+/// The client's messages have the greatest priority.
 fn roster(alloc: Global) -> Result<Roster, Errno> {
-    let priority = Priority::lowest();
+    let priority = Priority::new(63).ok_or(Errno::Inval)?;
     let mut roster = Roster::new(alloc);
     roster.add(SERVER, ProcessNo(1), priority)?;
     roster.add(CLIENT, ProcessNo(2), priority)?;
     Ok(roster)
 }
 
+/// Makes a call so many times.
+fn repeat(kernel: &mut Kernel, thread: ThreadNo, call: &Call, count: u64) -> Result<(), Stopped> {
+    for _ in 0..count {
+        let call = call.copied(kernel.alloc())?;
+        kernel.dispatch(thread, call).map_err(|refused| refused.0)?;
+    }
+    Ok(())
+}
+
 impl Course {
-    /// A kernel with one channel of the server and so many connections of the client to it.
-    pub fn new(alloc: Global, connections: u64) -> Result<Course, Stopped> {
+    /// A kernel with one channel of the server, so many connections of the client to it, and so many pulses
+    /// that wait there and have the lowest priority.
+    pub fn new(alloc: Global, connections: u64, pulses: u64) -> Result<Course, Stopped> {
         let mut kernel = Kernel::new(alloc, &roster(alloc)?)?;
         let create = Call::ChannelCreate(ChannelFlags::of(0));
         kernel
             .dispatch(SERVER, create)
             .map_err(|refused| refused.0)?;
-        for _ in 0..connections {
-            let attach = Call::ConnectAttach(ChannelId(1));
-            kernel
-                .dispatch(CLIENT, attach)
-                .map_err(|refused| refused.0)?;
-        }
+        let attach = Call::ConnectAttach(ChannelId(1));
+        repeat(&mut kernel, CLIENT, &attach, connections)?;
         let coid = ConnectionId(kernel.made());
+        let pulse = Call::Pulse {
+            coid,
+            priority: Priority::lowest(),
+            code: 0,
+            value: 0,
+        };
+        repeat(&mut kernel, CLIENT, &pulse, pulses)?;
         Ok(Course {
             alloc,
             kernel,
