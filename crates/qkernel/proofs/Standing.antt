@@ -1,6 +1,7 @@
 -- A step of the kernel's content is a step at each trace at which it stands.
-use Rattle.std.proofs.Common.{◌≡◌, ℕ, ◌+◌, ◌≤◌, List, [], ◌∷◌, suc, map, cond, eqb, length, refl, ap, sym, subst, ◌∙◌, arith, Bool, true, false, inl, inr}
+use Rattle.std.proofs.Common.{◌≡◌, ℕ, ◌+◌, ◌≤◌, List, [], ◌∷◌, map, cond, eqb, length, refl, ap, sym, subst, ◌∙◌, arith, Bool, true, false, inl, inr}
 use Rattle.std.specs.Prelude.{None, Some, is_some}
+use Rattle.std.proofs.lemmas.List.{length-map}
 use Rattle.qtables.specs.Members.{member_at, IsRoster}
 use Rattle.qtables.specs.declared.member.Member.{Member}
 use Rattle.qrules.specs.declared.call.Call.{Call}
@@ -93,12 +94,8 @@ ready_level : (roster : List Member) (u : ℕ) → level_in (map ready roster) u
 ready_level [] u = refl
 ready_level (m ∷ roster) u = elim (eqb m.thread u) as (λ b. cond b m.priority (level_in (map ready roster) u) ≡ priority_in (cond b (Some m) (member_at roster u))) [ true ↦ refl | false ↦ ready_level roster u ]
 
-ready_length : (roster : List Member) → length (map ready roster) ≡ length roster
-ready_length [] = refl
-ready_length (m ∷ roster) = ap suc (ready_length roster)
-
 pub sound_new : (roster : List Member) → length roster ≤ 64 → IsRoster roster → IsSound (record { made = 0; down = false; threads = map ready roster; channels = []; connections = [] })
-sound_new roster few r = record { few = rw (ready_length roster) few; roster = rw (ready_members roster) r; channel_ids = tt; connection_ids = tt; connections = (tt, tt); items = λ h. tt }
+sound_new roster few r = record { few = rw (length-map roster ready) few; roster = rw (ready_members roster) r; channel_ids = tt; connection_ids = tt; connections = (tt, tt); items = λ h. tt }
 
 pub stands_new : (roster : List Member) → StandsAt roster (record { made = 0; down = false; threads = map ready roster; channels = []; connections = [] }) []
 stands_new roster = record {

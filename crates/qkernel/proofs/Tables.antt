@@ -5,9 +5,8 @@ use Rattle.std.specs.List.{AllByRecursion}
 use Rattle.std.proofs.lemmas.Bool.{eqb-true, eqb-false, eq-eqb, ne_eqb}
 use Rattle.qtables.specs.Entries.{entry_at, without_entry, IsRising}
 use Rattle.qrules.specs.Facts.{count_to}
-use Rattle.qrules.proofs.Past.Lists.{all_filter, eqb_same}
+use Rattle.qrules.proofs.Past.Lists.{all_append, all_filter, eqb_same}
 use Rattle.qrules.proofs.Past.Live.{count_less, count_same}
-use Rattle.qkernel.proofs.Steps.Common.{all_push}
 
 -- the record of each id, with one more entry of a new id
 pub entry_at-push : {R : Type 0} (entries : List (ℕ × R)) (n : ℕ) (r : R) (k : ℕ) → AllByRecursion (λ e. e.0 ≤ n) entries → entry_at (entries ++ (n + 1, r) ∷ []) k ≡ cond (eqb k (n + 1)) (Some r) (entry_at entries k)
@@ -31,7 +30,7 @@ entry_at-above (e ∷ entries) n k h l = let below : e.0 ≤ n = h.0 in rw (ne_e
 -- one more entry with a greater id
 pub rising_push : {R : Type 0} (entries : List (ℕ × R)) (e : ℕ × R) → IsRising entries → AllByRecursion (λ x. x.0 < e.0) entries → IsRising (entries ++ e ∷ [])
 rising_push [] e rise below = (tt, tt)
-rising_push (x ∷ entries) e rise below = (all_push (λ y. x.0 < y.0) entries e rise.0 below.0, rising_push entries e rise.1 below.1)
+rising_push (x ∷ entries) e rise below = (all_append (λ y. x.0 < y.0) entries (e ∷ []) rise.0 (below.0, tt), rising_push entries e rise.1 below.1)
 
 -- an entry less
 pub rising_without : {R : Type 0} (entries : List (ℕ × R)) (id : ℕ) → IsRising entries → IsRising (without_entry entries id)

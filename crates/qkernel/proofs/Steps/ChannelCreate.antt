@@ -23,7 +23,8 @@ use Rattle.qkernel.specs.Stands.{Steps}
 use Rattle.qrules.specs.Step.{put_at, one_for}
 use Rattle.qrecords.specs.Threads.{members_of, open_in}
 use Rattle.qrules.proofs.Rosters.{rises, among, only_own}
-use Rattle.qkernel.proofs.Steps.Common.{uncut, counted, step_refused_alone, all_up_to, all_push, stays_free}
+use Rattle.qrules.proofs.Past.Lists.{all_append}
+use Rattle.qkernel.proofs.Steps.Common.{uncut, counted, step_refused_alone, all_up_to, stays_free}
 use Rattle.qkernel.proofs.Tables.{entry_at-push, entry_at-above, length-push}
 
 ids_entries : (n : ℕ) (channels : List (ℕ × Channel)) → AllByRecursion (λ id. id ≤ n) (ids_of channels) → AllByRecursion (λ e. e.0 ≤ n) channels
@@ -106,7 +107,7 @@ module _ (s : State) (t : ℕ) (flags : ChannelFlags) (m : Member) (q : Contents
     few = sound.few;
     roster = sound.roster;
     channel_ids = rw (ids_push s.channels (s.made + 1, record { owner = m.process; flags = flags; queue = q }))
-        (all_push (λ id. id ≤ s.made + 1) (ids_of s.channels) (s.made + 1) (all_up_to (λ id. id) s.made (ids_of s.channels) sound.channel_ids) (omega arith));
+        (all_append (λ id. id ≤ s.made + 1) (ids_of s.channels) ((s.made + 1) ∷ []) (all_up_to (λ id. id) s.made (ids_of s.channels) sound.channel_ids) (omega arith, tt));
     connection_ids = all_up_to (λ e. e.0) s.made s.connections sound.connection_ids;
     connections = sound.connections;
     items = λ h. rw (pending_there h) (all_up_to (λ item. item.number) s.made (pending_in s.channels h) (sound.items h));

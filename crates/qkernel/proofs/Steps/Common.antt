@@ -1,8 +1,9 @@
 -- What the steps of all calls share.
-use Rattle.std.proofs.Common.{◌≡◌, ℕ, suc, ◌+◌, ◌<◌, ◌≤◌, List, [], ◌∷◌, ◌++◌, length, refl, ap, sym, ◌∙◌, cond, arith, true, false, eqb}
+use Rattle.std.proofs.Common.{◌≡◌, ℕ, ◌+◌, ◌<◌, ◌≤◌, List, [], ◌∷◌, ◌++◌, length, refl, ap, sym, ◌∙◌, cond, arith, true, false, eqb}
 use Rattle.std.specs.Prelude.{Option, None, Some, is_some, ◌&&◌}
 use Rattle.std.specs.List.{AllByRecursion}
 use Rattle.std.proofs.lemmas.Bool.{eqb-true}
+use Rattle.std.proofs.lemmas.List.{length-map}
 use Rattle.qtables.specs.Entries.{entry_at}
 use Rattle.qtables.specs.Members.{member_at}
 use Rattle.qtables.specs.declared.connection.Connection.{Connection}
@@ -45,12 +46,8 @@ counted s = record { made = s.made + 1; down = s.down; threads = s.threads; chan
 pub counted_alone : (s : State) → Counted s (counted s)
 counted_alone s = record { made = refl; down = refl; threads = refl; connections = refl; ids = refl; channel = λ h. refl; pending = λ h. refl }
 
-pub length_ids : (channels : List (ℕ × Channel)) → length (ids_of channels) ≡ length channels
-length_ids [] = refl
-length_ids (e ∷ channels) = ap suc (length_ids channels)
-
 pub count_same : (old new : List (ℕ × Channel)) → ids_of new ≡ ids_of old → length new ≡ length old
-count_same old new e = sym (length_ids new) ∙ ap length e ∙ length_ids old
+count_same old new e = sym (length-map new (λ e. e.0)) ∙ ap length e ∙ length-map old (λ e. e.0)
 
 -- a call that is refused only counts
 pub step_refused : (s : State) (t : ℕ) (c : Call) (e : Errno) (X : List Completion) (new : State) → MayRefuse (facts_in s) t c e → X ≡ failed (facts_in s) t c e ∷ [] → Counted s new → Steps s t c X new
@@ -104,10 +101,6 @@ all_up_to f n (x ∷ xs) h = let here : f x ≤ n = h.0 in (omega arith, all_up_
 pub up_to_below : {X : Type 0} (f : X → ℕ) (n : ℕ) (xs : List X) → AllByRecursion (λ x. f x ≤ n) xs → AllByRecursion (λ x. f x < n + 1) xs
 up_to_below f n [] h = tt
 up_to_below f n (x ∷ xs) h = let here : f x ≤ n = h.0 in (omega arith, up_to_below f n xs h.1)
-
-pub all_push : {X : Type 0} (P : X → Type 0) (xs : List X) (x : X) → AllByRecursion P xs → P x → AllByRecursion P (xs ++ x ∷ [])
-all_push P [] x h p = (p, tt)
-all_push P (y ∷ xs) x h p = (h.0, all_push P xs x h.1 p)
 
 pub ids_below : (n : ℕ) (channels : List (ℕ × Channel)) → AllByRecursion (λ id. id ≤ n) (ids_of channels) → AllByRecursion (λ e. e.0 < n + 1) channels
 ids_below n [] h = tt

@@ -17,7 +17,8 @@ use Rattle.qkernel.specs.Stands.{Steps}
 use Rattle.qrules.specs.Step.{put_at, one_for}
 use Rattle.qrecords.specs.Threads.{members_of, open_in}
 use Rattle.qrules.proofs.Rosters.{rises, among, only_own}
-use Rattle.qkernel.proofs.Steps.Common.{uncut, counted, step_refused_alone, all_up_to, all_push, stays_free, up_to_below}
+use Rattle.qrules.proofs.Past.Lists.{all_append}
+use Rattle.qkernel.proofs.Steps.Common.{uncut, counted, step_refused_alone, all_up_to, stays_free, up_to_below}
 use Rattle.qkernel.proofs.Tables.{entry_at-push, length-push, rising_push}
 
 pub step_attach_nowhere : (s : State) (t chid : ℕ) (X : List Completion) → s.down ≡ false → open_in s.threads t ≡ None → is_some (channel_in s.channels chid) ≡ false
@@ -78,7 +79,7 @@ module _ (s : State) (t chid : ℕ) (m : Member) (sound : IsSound s) where
     few = sound.few;
     roster = sound.roster;
     channel_ids = all_up_to (λ id. id) s.made _ sound.channel_ids;
-    connection_ids = all_push (λ e. e.0 ≤ s.made + 1) s.connections _ (all_up_to (λ e. e.0) s.made s.connections sound.connection_ids) (omega arith);
-    connections = (all_push (λ e. 0 < e.0) s.connections _ sound.connections.0 (omega arith), rising_push s.connections _ sound.connections.1 (up_to_below (λ e. e.0) s.made s.connections sound.connection_ids));
+    connection_ids = all_append (λ e. e.0 ≤ s.made + 1) s.connections _ (all_up_to (λ e. e.0) s.made s.connections sound.connection_ids) (omega arith, tt);
+    connections = (all_append (λ e. 0 < e.0) s.connections _ sound.connections.0 (omega arith, tt), rising_push s.connections _ sound.connections.1 (up_to_below (λ e. e.0) s.made s.connections sound.connection_ids));
     items = λ h. all_up_to (λ item. item.number) s.made _ (sound.items h);
   }

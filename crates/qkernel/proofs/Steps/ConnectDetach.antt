@@ -1,10 +1,10 @@
 -- ConnectDetach as a step of the kernel.
-use Rattle.std.proofs.Common.{◌≡◌, ℕ, suc, ◌+◌, ◌<◌, ◌≤◌, List, [], ◌∷◌, ◌++◌, length, refl, ap, sym, subst, ◌∙◌, cond, arith, true, false, eqb, inl, inr, add-zero}
+use Rattle.std.proofs.Common.{◌≡◌, ℕ, ◌+◌, ◌<◌, ◌≤◌, List, [], ◌∷◌, ◌++◌, length, refl, ap, sym, subst, ◌∙◌, cond, arith, true, false, eqb, inl, inr, add-zero}
 use Rattle.std.specs.Prelude.{Bool, Option, None, Some, IfSome, filter, count_by, is_some, not, ◌&&◌, unwrap_or}
-use Rattle.std.specs.List.{filter_map, list_any}
+use Rattle.std.specs.List.{AllByRecursion, filter_map, list_any}
 use Rattle.std.proofs.Math.Bool.{and_comm}
-use Rattle.std.proofs.lemmas.Bool.{and_parts, eqb-true, ne_eqb, true≢false}
-use Rattle.std.proofs.lemmas.List.{append-nil}
+use Rattle.std.proofs.lemmas.Bool.{eqb-true, ne_eqb, true≢false}
+use Rattle.std.proofs.lemmas.List.{append-nil, length-map}
 use Rattle.std.proofs.lemmas.List.Sums.{length-filter}
 use Rattle.std.proofs.lemmas.Option.{none-some, same_Some}
 use Rattle.qbase.specs.declared.errno.Errno.TheVariants.{Again, Badf, Inval, NoMemory}
@@ -37,12 +37,11 @@ use Rattle.qrecords.specs.Threads.{level_in, members_of, open_in}
 use Rattle.qkernel.specs.State.{State, IsSound, facts_in}
 use Rattle.qkernel.specs.Stands.{Steps}
 use Rattle.qtables.proofs.LookUps.{entry_at-without_entry}
-use Rattle.qrules.proofs.Calls.ConnectDetach.{tells_open}
 use Rattle.qrules.proofs.Calls.Cutting.{cut_parts}
 use Rattle.qrules.proofs.Calls.Delivering.{ForAnItem, met_item}
 use Rattle.qrules.proofs.Past.Lists.{all_filter, cond_same, eqb_same, filter_alike, filter_twice}
 use Rattle.qrules.proofs.Rosters.{filter_same, rises}
-use Rattle.qrecords.proofs.Inserting.{endings_fewer, inserted_among}
+use Rattle.qrecords.proofs.Inserting.{endings_fewer, first_alone, inserted_among}
 use Rattle.qrecords.proofs.Receivers.{ended_thread}
 use Rattle.qkernel.proofs.Tables.{count_picked, rising_without}
 use Rattle.qkernel.proofs.Steps.Common.{all_up_to, counted, sound_counted_alone, step_refused_alone}
@@ -83,10 +82,6 @@ counted_between s p h sound =
 
 -- ---- lists
 
-length_threads : (threads : List Thread) → length (threads_of (members_of threads)) ≡ length threads
-length_threads [] = refl
-length_threads (x ∷ threads) = ap suc (length_threads threads)
-
 filter_swapped : (p q : Item → Bool) (items : List Item) → filter p (filter q items) ≡ filter q (filter p items)
 filter_swapped p q items = filter_twice q p items ∙ filter_alike (λ x. q x && p x) (λ x. p x && q x) items (λ x. and_comm (q x) (p x)) ∙ sym (filter_twice p q items)
 
@@ -120,10 +115,6 @@ pub record IsTold (s : State) (t : ℕ) (o : Option Made) (mid : List Thread) (c
       → inserted_if met (filter_map g (threads_of (members_of s.threads))) ≡ filter_map (λ u. first_some (g u) (told (facts_in s) o u)) (threads_of (members_of s.threads))
   pub few : (g : ℕ → Option Completion) → ((u : ℕ) → is_some (told (facts_in s) o u) ≡ true → g u ≡ None) → is_some met ≡ true
       → length (filter_map g (threads_of (members_of s.threads))) + 1 ≤ length (threads_of (members_of s.threads))
-
-first_alone : (o : Option Completion) → first_some o None ≡ o
-first_alone None = refl
-first_alone (Some x) = refl
 
 -- none is due
 untold : (s : State) (t : ℕ) → IsTold s t None s.threads s.channels None
@@ -203,6 +194,11 @@ IsNew n d = IfSome d (λ item. (item.number ≡ n) × (is_pulse item.what ≡ tr
 pub new_pulse : (n priority p : ℕ) (last : Bool) (d : Option Item) → d ≡ cond last (Some (disconnect_item n priority p)) None → IsNew n d
 new_pulse n priority p last d is = subst (IsNew n) (sym is) (elim last as (λ b. IsNew n (cond b (Some (disconnect_item n priority p)) None)) [ true ↦ (refl, refl) | false ↦ tt ])
 
+-- it has a greater number than all that waits
+pub newest_due : (n : ℕ) (d : Option Item) (items : List Item) → IsNew n d → AllByRecursion (λ x. x.number < n) items → IfSome d (λ item. AllByRecursion (λ x. x.number < item.number) items)
+newest_due n None items new below = tt
+newest_due n (Some item) items new below = subst (λ k. AllByRecursion (λ (x : Item). x.number < k) items) (sym new.0) below
+
 -- one or the other
 pub is_told : (s : State) (t h : ℕ) (d : Option Item) (mid : List Thread) (channels : List (ℕ × Channel)) (met : Option Completion) → IsSound s → open_in s.threads t ≡ None
     → IsNew (s.made + 1) d → IsSentIfDue h d s.threads s.channels mid channels met → IsTold s t (made_for h d) mid channels met
@@ -238,11 +234,6 @@ module _ (s : State) (t coid : ℕ) (m : Member) (known : member_at (members_of 
         let same : m.process ≡ of.connection.process = eqb-true m.process of.connection.process of.process in
         ap (due_of (facts_in s) t) of.is
         ∙ rw (← same, of.channel, counted_between s m.process h sound, ← is) (elim last as (λ b. cond {A = Option Made} b (Some (record { item = pulse; channel = h })) None ≡ made_for h (cond b (Some pulse) None)) [ true ↦ refl | false ↦ refl ])
-
-    -- a pulse is due on an open channel alone
-    pub due_open : (last : Bool) (d : Option Item) → d ≡ cond last (Some pulse) None → last ≡ (tells_disconnect (channel_in s.channels h) && eqb (count_by (λ e. (eqb e.1.process m.process) && (eqb e.1.channel h)) s.connections) 1)
-        → is_some d ≡ true → is_some (channel_in s.channels h) ≡ true
-    due_open last d is tells some = tells_open (channel_in s.channels h) (and_parts _ _ (sym tells ∙ (elim last as (λ b. is_some (cond b (Some pulse) None) ≡ true → b ≡ true) [ true ↦ λ e. refl | false ↦ λ e. absurd (true≢false (sym e)) ] (ap is_some (sym is) ∙ some)))).0
 
     module _ (d : Option Item) (due_is : due (facts_in s) t coid ≡ made_for h d) where
       pub detach_full : is_some d ≡ true → has_room s.channels h ≡ false → MayRefuse (facts_in s) t (ConnectDetach coid) Again
@@ -314,7 +305,7 @@ module _ (s : State) (t coid : ℕ) (m : Member) (known : member_at (members_of 
         ending_is u = rw (due_is, g_is u) (elim (eqb u t) as (λ b. first_some (cond b (Some (mine s t)) (cut u)) (told (facts_in s) o u) ≡ cond b (Some (mine s t)) (first_some (cut u) (told (facts_in s) o u))) [ true ↦ refl | false ↦ refl ])
 
         pub room_for_one : length s.threads ≤ 64 → is_some met ≡ true → length (filter_map g (threads_of (members_of mid))) < 64
-        room_for_one few some = rw (is.members) (let fewer : length (filter_map g ts) + 1 ≤ length ts = is.few g g_none some in let as_many : length ts ≡ length s.threads = length_threads s.threads in omega arith)
+        room_for_one few some = rw (is.members) (let fewer : length (filter_map g ts) + 1 ≤ length ts = is.few g g_none some in let as_many : length ts ≡ length s.threads = length-map (members_of s.threads) (λ m. m.thread) ∙ length-map s.threads (λ t. t.member) in omega arith)
 
         module _ (threads : List Thread) (now : List (ℕ × Channel)) (are : AreCut (entry_at s.connections) (Over coid) Badf mid threads) (lose : LoseCut (entry_at s.connections) (Over coid) Badf mid between now) where
           abbrev pub detached : State

@@ -1,8 +1,9 @@
 -- What the steps share that deliver an item.
-use Rattle.std.proofs.Common.{◌≡◌, ℕ, suc, ◌+◌, ◌≤◌, List, [], ◌∷◌, ◌++◌, refl, ap, sym, ◌∙◌, cond, arith, true, false, eqb, append-nil, length}
+use Rattle.std.proofs.Common.{◌≡◌, ℕ, ◌+◌, ◌≤◌, List, [], ◌∷◌, ◌++◌, refl, ap, sym, ◌∙◌, cond, arith, true, false, eqb, append-nil, length}
 use Rattle.std.specs.Prelude.{Option, None, Some}
 use Rattle.std.specs.List.{AllByRecursion}
 use Rattle.std.specs.Option.{option_map}
+use Rattle.std.proofs.lemmas.List.{length-map}
 use Rattle.std.proofs.lemmas.Bool.{eqb-true, eq-eqb, ne_eqb}
 use Rattle.qqueue.specs.Best.{without}
 use Rattle.qqueue.specs.declared.item.Item.{Item}
@@ -18,10 +19,10 @@ use Rattle.qrules.specs.Rows.{sent_over}
 use Rattle.qkernel.specs.State.{State, IsSound, facts_in}
 use Rattle.qrules.specs.Step.{made_on}
 use Rattle.qrecords.specs.Threads.{members_of, newest_by}
-use Rattle.qrules.proofs.Past.Lists.{eqb_either}
+use Rattle.qrules.proofs.Past.Lists.{all_append, eqb_either}
 use Rattle.qrules.proofs.Calls.Delivering.{sent_way}
 use Rattle.qrecords.proofs.Receivers.{newest_found}
-use Rattle.qkernel.proofs.Steps.Common.{Counted, count_same, all_up_to, all_push, way-leads_to}
+use Rattle.qkernel.proofs.Steps.Common.{Counted, count_same, all_up_to, way-leads_to}
 
 -- ---- the newest receiver
 
@@ -92,13 +93,9 @@ module _ (s : State) (t coid : ℕ) (m : Member) (h : ℕ) (known : member_at (m
 
 -- ---- soundness
 
-members_length : (threads : List Thread) → length (members_of threads) ≡ length threads
-members_length [] = refl
-members_length (t ∷ threads) = ap suc (members_length threads)
-
 -- as many threads as there are members
 pub few_kept : (old new : List Thread) → members_of new ≡ members_of old → length old ≤ 64 → length new ≤ 64
-few_kept old new e few = let same : length new ≡ length old = sym (members_length new) ∙ ap length e ∙ members_length old in omega arith
+few_kept old new e few = let same : length new ≡ length old = sym (length-map new (λ t. t.member)) ∙ ap length e ∙ length-map old (λ t. t.member) in omega arith
 
 pub sound_threads : (s : State) (threads : List Thread) → IsSound s → members_of threads ≡ members_of s.threads → IsSound (record { made = s.made + 1; down = s.down; threads = threads; channels = s.channels; connections = s.connections })
 sound_threads s threads sound e = record {
@@ -138,4 +135,4 @@ sound_items s threads channels h items sound e sets all = record {
 pub sound_with_item : (s : State) (threads : List Thread) (channels : List (ℕ × Channel)) (h : ℕ) (item : Item) → IsSound s → members_of threads ≡ members_of s.threads
     → SetsItems h (pending_in s.channels h ++ item ∷ []) s.channels channels → item.number ≡ s.made + 1 → IsSound (record { made = s.made + 1; down = s.down; threads = threads; channels = channels; connections = s.connections })
 sound_with_item s threads channels h item sound e sets is =
-    sound_items s threads channels h _ sound e sets (all_push (λ x. x.number ≤ s.made + 1) (pending_in s.channels h) item (all_up_to (λ x. x.number) s.made _ (sound.items h)) (omega arith))
+    sound_items s threads channels h _ sound e sets (all_append (λ x. x.number ≤ s.made + 1) (pending_in s.channels h) (item ∷ []) (all_up_to (λ x. x.number) s.made _ (sound.items h)) (omega arith, tt))

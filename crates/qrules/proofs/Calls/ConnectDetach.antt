@@ -49,7 +49,7 @@ pub due_pulse : (f : Facts) (t k : ℕ) (m : Made) → due f t k ≡ Some m → 
 due_pulse f t k m e = ap (λ x. is_pulse x.item.what) (sym (due_parts f t (f.connection k) m e).made)
 
 -- a channel that tells anything is open
-pub tells_open : (o : Option OpenChannel) → tells_disconnect o ≡ true → is_some o ≡ true
+tells_open : (o : Option OpenChannel) → tells_disconnect o ≡ true → is_some o ≡ true
 tells_open None e = absurd (true≢false (sym e))
 tells_open (Some c) e = refl
 

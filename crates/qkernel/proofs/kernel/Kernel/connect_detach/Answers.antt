@@ -1,10 +1,11 @@
 use Rattle.std.proofs.Common.{◌+◌, ap, sym, ◌∙◌, cond}
 use Rattle.std.specs.Prelude.{None, Some}
 use Rattle.qrules.specs.Rows.{disconnect_item}
+use Rattle.qkernel.proofs.Steps.Common.{up_to_below}
 use Rattle.qrecords.specs.Endings.{inserted_if}
 use Rattle.qrules.specs.declared.call.Call.TheVariants.{ConnectDetach}
-use Rattle.qkernel.proofs.Steps.ConnectDetach.{detach_full, detach_memory, due_is, is_told, made_for, new_pulse, own_parts, room_for_one, sound_detached, sound_due, step_detached}
-use Rattle.qkernel.proofs.Steps.Telling.{step_turned_away}
+use Rattle.qkernel.proofs.Steps.ConnectDetach.{detach_full, detach_memory, due_is, is_told, made_for, new_pulse, newest_due, own_parts, room_for_one, sound_detached, sound_due, step_detach_refused, step_detached}
+use Rattle.qkernel.proofs.Steps.Telling.{sound_turned_away, step_turned_away}
 use Rattle.qkernel.proofs.kernel.Kernel.connect_detach.Goals as goal
 
 pub cut_calls-requires-clause-few : goal.cut_calls-requires-clause-few
@@ -72,3 +73,18 @@ returns-in-Err c =
     rw (← c.self.view_is) (step_turned_away _ c.args.thread (ConnectDetach c.args.coid) c.in-Some.chid c.in-Err.errno _ _ away.1 _
     (detach_full _ c.args.thread c.args.coid c.member_of-process.result known up free c.in-Some.chid of d due away.0)
     (detach_memory _ c.args.thread c.args.coid c.member_of-process.result known up free c.in-Some.chid of d due away.0) (rw c.new-in-Err.ensures at c.refuse-in-Err.ensures))
+
+pub returns-in_default : goal.returns-in_default
+returns-in_default c =
+    let up = rw (← c.self.view_is) at c.requires.up in
+    let free = rw (← c.self.view_is) at c.requires.free in
+    let known = rw c.deref.ensures.value at c.member_of-process.ensures in
+    rw (← c.self.view_is) (step_detach_refused _ c.args.thread c.args.coid c.member_of-process.result known up free _ (sym c.own_connection.ensures ∙ c.in_default.is) (rw c.new.ensures at c.refuse.ensures))
+
+pub invariant_of-self-in-Err : goal.invariant_of-self-in-Err
+invariant_of-self-in-Err c = sound_turned_away _ c.args.thread (ConnectDetach c.args.coid) c.in-Some.chid c.in-Err.errno _ _ c.in-Err.ensures.err.1 c.self.invariant
+
+pub send_due-requires-clause-newest : goal.send_due-requires-clause-newest
+send_due-requires-clause-newest c =
+    let new = new_pulse (c.self.inside.made + 1) c.level_of-priority.result c.member_of-process.result.process c.tells_detached-last.result c.pulse_for-due.result c.pulse_for-due.ensures in
+    newest_due (c.self.inside.made + 1) c.pulse_for-due.result _ new (up_to_below (λ x. x.number) c.self.inside.made _ (c.self.invariant.items c.in-Some.chid))
