@@ -7,7 +7,14 @@ use std::test::Fail;
 use std::time::Instant;
 
 /// How many connections are attached and how many pulses wait, for each line of the table.
-const LINES: [(u64, u64); 6] = [(1, 1), (64, 1), (1024, 1), (1, 1024), (64, 1024), (1024, 1024)];
+const LINES: [(u64, u64); 6] = [
+    (1, 1),
+    (64, 1),
+    (1024, 1),
+    (1, 1024),
+    (64, 1024),
+    (1024, 1024),
+];
 
 /// How many rounds are timed at once.
 const ROUNDS: u64 = 200_000;
