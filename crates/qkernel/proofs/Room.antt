@@ -19,7 +19,7 @@ use Rattle.qrecords.specs.Threads.{members_of, open_in, blocked_count}
 use Rattle.qrules.proofs.Past.Ends.{row_passes}
 use Rattle.qrules.proofs.Past.Laws.{RowLaws}
 use Rattle.qrules.proofs.Past.RowLaws.{row_laws}
-use Rattle.qrules.proofs.Past.Lists.{is_among}
+use Rattle.qbase.proofs.Lists.{is_among}
 use Rattle.qrules.proofs.Rosters.{Rises, rises, not_among}
 use Rattle.qrecords.proofs.Senders.{own_open}
 use Rattle.qrules.specs.Items.{makes}

@@ -14,7 +14,7 @@ pub mod Info
 pub mod PrioritySet
 pub mod State
 pub mod Cutting
-pub mod Meeting
+pub mod Told
 pub mod Telling
 pub mod Pulse
 pub mod Unblock

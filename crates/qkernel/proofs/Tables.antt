@@ -5,7 +5,7 @@ use Rattle.std.specs.List.{AllByRecursion}
 use Rattle.std.proofs.lemmas.Bool.{eqb-true, eqb-false, eq-eqb, ne_eqb}
 use Rattle.qtables.specs.Entries.{entry_at, without_entry, IsRising}
 use Rattle.qrules.specs.Facts.{count_to}
-use Rattle.qrules.proofs.Past.Lists.{all_append, all_filter, eqb_same}
+use Rattle.qbase.proofs.Lists.{all_append, all_filter, eqb_same}
 use Rattle.qrules.proofs.Past.Live.{count_less, count_same}
 
 -- the record of each id, with one more entry of a new id

@@ -99,20 +99,15 @@ impl Kernel {
         }
     }
 
-    /// Makes one call of the thread at a seat: its refusals before those of the call itself, and then the
-    /// call.
-    fn perform(&mut self, seat: usize, thread: ThreadNo, call: Call, endings: &mut Endings)
+    /// Makes a call of the thread at a seat that nothing refuses whichever call it is, by the call's own method.
+    fn make(&mut self, seat: usize, thread: ThreadNo, call: Call, endings: &mut Endings)
         requires limit { self.old.made < 2 ^ 40 }
         requires seat { seat_in self.old.threads thread ≡ Some seat }
+        requires up { self.old.down ≡ false }
+        requires free { open_in self.old.threads thread ≡ None }
         requires none { endings.old.items ≡ [] }
         ensures { Steps self.old thread call endings.new.items self.new }
     {
-        let refusal = self.refusal(seat, thread);
-        if let Some(errno) = refusal {
-            self.made += 1;
-            let buffer = call.into_buffer(self.alloc);
-            return refuse(endings, self.made, thread, errno, buffer);
-        }
         match call {
             Call::ChannelCreate(flags) => self.channel_create(seat, thread, flags, endings),
             Call::ConnectAttach(chid) => self.connect_attach(seat, thread, chid, endings),
@@ -155,6 +150,24 @@ impl Kernel {
             Call::Shutdown => self.shutdown(thread, endings),
             Call::Unblock(target) => self.unblock(seat, thread, target, endings),
             Call::ConnectDetach(coid) => self.connect_detach(seat, thread, coid, endings),
+        }
+    }
+
+    /// Makes one call of the thread at a seat: its refusals before those of the call itself, and then the
+    /// call.
+    fn perform(&mut self, seat: usize, thread: ThreadNo, call: Call, endings: &mut Endings)
+        requires limit { self.old.made < 2 ^ 40 }
+        requires seat { seat_in self.old.threads thread ≡ Some seat }
+        requires none { endings.old.items ≡ [] }
+        ensures { Steps self.old thread call endings.new.items self.new }
+    {
+        let refusal = self.refusal(seat, thread);
+        if let Some(errno) = refusal {
+            self.made += 1;
+            let buffer = call.into_buffer(self.alloc);
+            refuse(endings, self.made, thread, errno, buffer);
+        } else {
+            self.make(seat, thread, call, endings);
         }
     }
 

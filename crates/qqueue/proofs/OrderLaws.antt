@@ -11,6 +11,7 @@ use Rattle.qqueue.specs.declared.item.Kind.{Kind}
 use Rattle.qqueue.specs.Best.{may_take, first_of_two, best_of}
 use Rattle.qqueue.specs.Contents.{IsRising}
 use Rattle.qqueue.specs.Order.{comes_before, BestIsFirst, NoBestIfNoneMayBeTaken}
+use Rattle.qbase.proofs.Lists.{all_more}
 
 -- of greater priority, or of equal priority and made first
 before-from : (a b : Item) → (b.priority < a.priority) ⊎ ((a.priority ≡ b.priority) × (a.number < b.number)) → comes_before a b ≡ true
@@ -89,11 +90,6 @@ may-none : (kind : Kind) (items : List Item) → AllByRecursion (λ w. may_take 
 may-none kind [] all = refl
 may-none kind (y ∷ items) all = rw all.0 (may-none kind items all.1)
 
--- what follows from what is true of each item is true of each item
-weaker : (P Q : Item → Type 0) → ((w : Item) → P w → Q w) → (items : List Item) → AllByRecursion P items → AllByRecursion Q items
-weaker P Q follows [] all = tt
-weaker P Q follows (y ∷ items) all = (follows y all.0, weaker P Q follows items all.1)
-
 -- an item that may be taken is x or comes behind it
 abbrev IsBehind : Kind → Item → Item → Type 0
 IsBehind kind x w = may_take kind w ≡ true → (w ≡ x) ⊎ (comes_before x w ≡ true)
@@ -117,7 +113,7 @@ all-behind kind (y ∷ items) x rising best =
     elim (chosen kind y items x best) [
       | inl other ↦ (λ may. absurd (true≢false (sym may ∙ other.0)), all-behind kind items x rising.1 other.1)
       | inr rest ↦ elim rest [
-        | inl alone ↦ (λ _. inl alone.2, weaker (λ w. may_take kind w ≡ false) (IsBehind kind x) (λ w not_may may. absurd (true≢false (sym may ∙ not_may))) items (none-may kind items alone.1))
+        | inl alone ↦ (λ _. inl alone.2, all_more (λ w. may_take kind w ≡ false) (IsBehind kind x) items (none-may kind items alone.1) (λ w not_may may. absurd (true≢false (sym may ∙ not_may))))
         | inr two ↦
             let z = two.0 in
             let below = all-behind kind items z rising.1 two.1 in
@@ -125,7 +121,7 @@ all-behind kind (y ∷ items) x rising best =
               | inl later ↦ subst (λ v. AllByRecursion (IsBehind kind v) (y ∷ items)) later.0 (λ _. inr (before-from z y (inl later.1)), below)
               | inr earlier ↦
                   let yz = before-later y z earlier.1 (best-at (λ w. y.number < w.number) kind items z rising.0 two.1) in
-                  subst (λ v. AllByRecursion (IsBehind kind v) (y ∷ items)) earlier.0 (λ _. inl refl, weaker (IsBehind kind z) (IsBehind kind y) (λ w. behind-earlier kind y z w yz) items below)
+                  subst (λ v. AllByRecursion (IsBehind kind v) (y ∷ items)) earlier.0 (λ _. inl refl, all_more (IsBehind kind z) (IsBehind kind y) items below (λ w. behind-earlier kind y z w yz))
             ]
       ]
     ]
@@ -140,7 +136,7 @@ best_is_first kind items x rising best = record {
   among = best-at (Contains items) kind items x (recursion_from_All (Contains items) items (All-contains_itself items)) best;
   may = best-may kind items x best;
   first = All-from_recursion (λ w. may_take kind w ≡ true → w ≢ x → comes_before x w ≡ true) items
-      (weaker (IsBehind kind x) (λ w. may_take kind w ≡ true → w ≢ x → comes_before x w ≡ true) (before-other kind x) items (all-behind kind items x rising best));
+      (all_more (IsBehind kind x) (λ w. may_take kind w ≡ true → w ≢ x → comes_before x w ≡ true) items (all-behind kind items x rising best) (before-other kind x));
 }
 
 pub no_best : NoBestIfNoneMayBeTaken

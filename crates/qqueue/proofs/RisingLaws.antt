@@ -9,6 +9,7 @@ use Rattle.qqueue.specs.declared.item.Item.{Item}
 use Rattle.qqueue.specs.Best.{without, numbered}
 use Rattle.qqueue.specs.Contents.{IsRising}
 use Rattle.qqueue.specs.Places.{item_at}
+use Rattle.qbase.proofs.Lists.{all_append, all_filter}
 
 -- what is true of each item is true of the one at a place
 All-at : (P : Item → Type 0) (items : List Item) (i : ℕ) (x : Item) → AllByRecursion P items → slice_get items i ≡ Some x → P x
@@ -16,32 +17,18 @@ All-at P [] i x all at = absurd (none-some x at)
 All-at P (y ∷ items) zero x all at = subst P (same_Some y x at) all.0
 All-at P (y ∷ items) (suc i) x all at = All-at P items i x all.1 at
 
--- what is true of each item is true of each that is left
-All-filter : (P : Item → Type 0) (p : Item → Bool) (items : List Item) → AllByRecursion P items → AllByRecursion P (filter p items)
-All-filter P p [] all = tt
-All-filter P p (y ∷ items) all =
-    elim (p y) as (λ b. AllByRecursion P (cond b (y ∷ filter p items) (filter p items))) [
-      | true ↦ (all.0, All-filter P p items all.1)
-      | false ↦ All-filter P p items all.1
-    ]
-
--- what is true of each item and of a new one is true of each once that is behind them
-All-behind : (P : Item → Type 0) (items : List Item) (x : Item) → AllByRecursion P items → P x → AllByRecursion P (items ++ x ∷ [])
-All-behind P [] x all new = (new, tt)
-All-behind P (y ∷ items) x all new = (all.0, All-behind P items x all.1 new)
-
 -- one more item behind them
 pub IsRising-push : (items : List Item) (x : Item) → IsRising items → AllByRecursion (λ y. y.number < x.number) items → IsRising (items ++ x ∷ [])
 IsRising-push [] x rising newest = (tt, tt)
 IsRising-push (y ∷ items) x rising newest =
-    (All-behind (λ z. y.number < z.number) items x rising.0 newest.0, IsRising-push items x rising.1 newest.1)
+    (all_append (λ z. y.number < z.number) items (x ∷ []) rising.0 (newest.0, tt), IsRising-push items x rising.1 newest.1)
 
 -- what is left of them
 pub IsRising-filter : (p : Item → Bool) (items : List Item) → IsRising items → IsRising (filter p items)
 IsRising-filter p [] rising = tt
 IsRising-filter p (y ∷ items) rising =
     elim (p y) as (λ b. IsRising (cond b (y ∷ filter p items) (filter p items))) [
-      | true ↦ (All-filter (λ z. y.number < z.number) p items rising.0, IsRising-filter p items rising.1)
+      | true ↦ (all_filter (λ z. y.number < z.number) p items rising.0, IsRising-filter p items rising.1)
       | false ↦ IsRising-filter p items rising.1
     ]
 

@@ -8,7 +8,7 @@ use Rattle.qqueue.specs.declared.item.Item.{Item}
 use Rattle.qqueue.specs.Contents.{Contents}
 use Rattle.qtables.specs.Entries.{entry_at, with_record, without_entry}
 use Rattle.qtables.proofs.LookUps.{entry_at-with_record, entry_at-without_entry}
-use Rattle.qrules.proofs.Past.Lists.{eqb_either}
+use Rattle.qbase.proofs.Lists.{eqb_either}
 use Rattle.qrecords.specs.declared.channel.Channel.{Channel}
 use Rattle.qrecords.specs.Channels.{opened, channel_in, pending_in, waiting_on, SetsItems, ClosesIn}
 

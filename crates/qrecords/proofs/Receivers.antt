@@ -1,5 +1,5 @@
 -- The receivers of a channel, by the records of their threads.
-use Rattle.std.proofs.Common.{◌≡◌, ℕ, List, [], ◌∷◌, refl, ap, sym, subst, ◌∙◌, cond, true, false, eqb}
+use Rattle.std.proofs.Common.{◌≡◌, ℕ, List, [], ◌∷◌, refl, ap, sym, ◌∙◌, cond, true, false, eqb}
 use Rattle.std.specs.Prelude.{Option, None, Some, is_some, ◌||◌}
 use Rattle.std.specs.List.{AllByRecursion}
 use Rattle.std.specs.Option.{option_map}
@@ -13,10 +13,11 @@ use Rattle.qrules.specs.declared.open_call.Wait.{Wait}
 use Rattle.qrules.specs.declared.open_call.Wait.TheVariants.{Answer, Item as ForItem}
 use Rattle.qrecords.specs.declared.thread.Thread.{Thread}
 use Rattle.qrules.specs.Facts.{threads_of}
-use Rattle.qrules.specs.Receivers.{is_later, later, later_of, newest_among, wait_on}
+use Rattle.qrules.specs.Receivers.{later_of, newest_among, wait_on}
 use Rattle.qrules.specs.Rows.{takes, takes_into}
+use Rattle.qrules.proofs.Properties.Receivers.{found_waits}
 use Rattle.qrecords.specs.Threads.{members_of, newest_by, open_in}
-use Rattle.qrules.proofs.Past.Lists.{is_among}
+use Rattle.qbase.proofs.Lists.{is_among}
 use Rattle.qrecords.proofs.Senders.{own_open}
 
 -- ---- the newest, by records and by threads
@@ -29,23 +30,10 @@ newest_same open_call h item best (t ∷ threads) w = rw (← w.0) (newest_same 
 pub newest_found : (h : ℕ) (item : Item) (threads : List Thread) → IsRoster (members_of threads) → newest_among (open_in threads) h item None (threads_of (members_of threads)) ≡ newest_by h item None threads
 newest_found h item threads roster = sym (newest_same (open_in threads) h item None threads (own_open threads roster))
 
--- the best so far waits on h for such an item
-abbrev WaitsSoFar : (ℕ → Option OpenCall) → ℕ → Item → Option (ℕ × ℕ) → Type 0
-WaitsSoFar open_call h item None = Unit {0}
-WaitsSoFar open_call h item (Some b) = wait_on h item (open_call b.1) ≡ Some b.0
-
-later_waits : (open_call : ℕ → Option OpenCall) (h : ℕ) (item : Item) (u : ℕ) (best : Option (ℕ × ℕ)) (o : Option ℕ) → wait_on h item (open_call u) ≡ o → WaitsSoFar open_call h item best → WaitsSoFar open_call h item (later best u o)
-later_waits open_call h item u best None e w = w
-later_waits open_call h item u best (Some m) e w = elim (is_later m best) as (λ b. WaitsSoFar open_call h item (cond b (Some (m, u)) best)) [ true ↦ e | false ↦ w ]
-
-newest_waits : (open_call : ℕ → Option OpenCall) (h : ℕ) (item : Item) (ts : List ℕ) (best : Option (ℕ × ℕ)) → WaitsSoFar open_call h item best → WaitsSoFar open_call h item (newest_among open_call h item best ts)
-newest_waits open_call h item [] best w = w
-newest_waits open_call h item (u ∷ ts) best w = newest_waits open_call h item ts (later_of h item best u (open_call u)) (later_waits open_call h item u best (wait_on h item (open_call u)) refl w)
-
 -- the newest receiver waits for such an item of the channel
 pub newest_receives : (threads : List Thread) (h : ℕ) (item : Item) (b : ℕ × ℕ) → IsRoster (members_of threads) → newest_by h item None threads ≡ Some b → wait_on h item (open_in threads b.1) ≡ Some b.0
 newest_receives threads h item b roster e =
-    subst (WaitsSoFar (open_in threads) h item) (newest_found h item threads roster ∙ e) (newest_waits (open_in threads) h item (threads_of (members_of threads)) None tt)
+    found_waits (open_in threads) h item (threads_of (members_of threads)) b (newest_found h item threads roster ∙ e)
 
 -- what waits is among the threads
 pub waits_among : (h : ℕ) (item : Item) (m : ℕ) (threads : List Thread) (u : ℕ) → wait_on h item (open_in threads u) ≡ Some m → is_among (threads_of (members_of threads)) u ≡ true

@@ -207,8 +207,3 @@ not_there p u threads e = nobody (member_at (members_of threads) u) (sym (is_the
   nobody : (o : Option Member) → is_some o ≡ false → is_in_process p o ≡ false
   nobody None none = refl
   nobody (Some m) none = absurd (true≢false none)
-
--- what is there, is some
-pub some_there : {A : Type 0} (o : Option A) → is_some o ≡ true → (x : A) × (o ≡ Some x)
-some_there None e = absurd (true≢false (sym e))
-some_there (Some x) e = (x, refl)

@@ -1,7 +1,7 @@
 //! The endings of one event.
 
 ghost use Rattle.std.specs.Prelude.{◌≡◌, ◌<◌, [], ◌∷◌, true, is_some, length, nat_lt, position};
-ghost use Rattle.qrecords.specs.Endings.{in_order, inserted, inserted_if, with_other};
+ghost use Rattle.qrecords.specs.Endings.{inserted, inserted_if};
 
 use arrayvec::ArrayVec;
 use qbase::bytes::Bytes;
@@ -79,7 +79,7 @@ pub fn end_also(endings: &mut Endings, ending: Option<Completion>)
 /// Ends a call in its own event, and with it another's, if one ends.
 pub fn end_with(endings: &mut Endings, own: Completion, other: Option<Completion>)
     requires { endings.old.items ≡ [] }
-    ensures { endings.new.items ≡ with_other own other }
+    ensures { endings.new.items ≡ inserted_if other (own ∷ []) }
 {
     match other {
         None => end_one(endings, own),
@@ -103,16 +103,16 @@ pub fn refuse(endings: &mut Endings, call: u64, thread: ThreadNo, errno: Errno, 
     );
 }
 
-/// Ends two calls in one event.
-pub fn end_two(endings: &mut Endings, a: Completion, b: Completion)
+/// Ends a call in its own event, and with it another's, in rising thread number.
+pub fn end_two(endings: &mut Endings, own: Completion, other: Completion)
     requires { endings.old.items ≡ [] }
-    ensures { endings.new.items ≡ in_order a b }
+    ensures { endings.new.items ≡ inserted other (own ∷ []) }
 {
-    if a.thread.0 < b.thread.0 {
-        endings.push(a);
-        endings.push(b);
+    if is_before(other.thread, own.thread) {
+        endings.push(other);
+        endings.push(own);
     } else {
-        endings.push(b);
-        endings.push(a);
+        endings.push(own);
+        endings.push(other);
     }
 }

@@ -62,10 +62,8 @@ pub fn send_pulse(
         return Err(Errno::Again);
     }
     let Some(newest) = newest_receiver(threads, chid, &item) else {
-        return match enqueue(channels, chid, item) {
-            Ok(()) => Ok(None),
-            Err(errno) => Err(errno),
-        };
+        enqueue(channels, chid, item)?;
+        return Ok(None);
     };
     let level = carried(channels, chid, item.priority);
     let call = wake(threads, newest.1, level);

@@ -1,5 +1,4 @@
 -- What holds of every trace and of every lawful one, up to the facts after one more event.
-pub mod Lists
 pub mod Best
 pub mod Laws
 pub mod RowLaws

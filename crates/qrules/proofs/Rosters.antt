@@ -1,13 +1,13 @@
--- The threads of a roster, in rising number, and what they give where one or two of them get something.
-use Rattle.std.proofs.Common.{◌≡◌, ◌≢◌, ℕ, ◌<◌, List, [], ◌∷◌, refl, ap, sym, subst, ◌∙◌, cond, arith, true, false, eqb, ltb}
+-- The threads of a roster, in rising number, and what they give where one of them gets something.
+use Rattle.std.proofs.Common.{◌≡◌, ℕ, ◌<◌, List, [], ◌∷◌, refl, ap, sym, subst, ◌∙◌, cond, arith, true, false, eqb}
 use Rattle.std.specs.Prelude.{Option, None, Some, is_some, ◌||◌}
 use Rattle.std.specs.List.{filter_map, cons_option, AllByRecursion}
 use Rattle.std.specs.Option.{option_to_list}
-use Rattle.std.proofs.lemmas.Bool.{lt-ltb, le-ltb, eqb-true, ne_eqb, true≢false}
+use Rattle.std.proofs.lemmas.Bool.{eqb-true, ne_eqb, true≢false}
 use Rattle.qtables.specs.Members.{member_at, IsRoster}
 use Rattle.qtables.specs.declared.member.Member.{Member}
 use Rattle.qrules.specs.Facts.{threads_of}
-use Rattle.qrules.proofs.Past.Lists.{is_among}
+use Rattle.qbase.proofs.Lists.{is_among}
 
 -- the numbers rise
 abbrev pub Rises : List ℕ → Type 0
@@ -52,9 +52,9 @@ module _ {Y : Type 0} where
   nothing [] f h = refl
   nothing (u ∷ ts) f h = rw (h u) (nothing ts f h)
 
-  pub filter_same : (f g : ℕ → Option Y) (ts : List ℕ) → ((u : ℕ) → f u ≡ g u) → filter_map f ts ≡ filter_map g ts
-  filter_same f g [] h = refl
-  filter_same f g (u ∷ ts) h = rw (h u, filter_same f g ts h) refl
+  pub filter_map_same : (f g : ℕ → Option Y) (ts : List ℕ) → ((u : ℕ) → f u ≡ g u) → filter_map f ts ≡ filter_map g ts
+  filter_map_same f g [] h = refl
+  filter_map_same f g (u ∷ ts) h = rw (h u, filter_map_same f g ts h) refl
 
   none_own : (ts : List ℕ) (t : ℕ) (o : Option Y) → is_among ts t ≡ false → filter_map (λ u. cond (eqb u t) o None) ts ≡ []
   none_own [] t o h = refl
@@ -74,46 +74,3 @@ module _ {Y : Type 0} where
             rw none (elim o as (λ o. cons_option o [] ≡ option_to_list o) [ None ↦ refl | Some x ↦ refl ])
         | false ↦ λ other e. only_own ts t o r.1 e
       ] refl h
-
-  skip_first : (x : Option Y) (t : ℕ) (g : ℕ → Option Y) (ts : List ℕ) → is_among ts t ≡ false → filter_map (λ u. cond (eqb u t) x (g u)) ts ≡ filter_map g ts
-  skip_first x t g [] e = refl
-  skip_first x t g (u ∷ ts) e =
-      elim (eqb u t) as (λ b. (b || is_among ts t) ≡ false → cons_option (cond b x (g u)) (filter_map (λ u. cond (eqb u t) x (g u)) ts) ≡ cons_option (g u) (filter_map g ts)) [
-        | true ↦ λ e. absurd (true≢false e)
-        | false ↦ λ e. ap (cons_option (g u)) (skip_first x t g ts e)
-      ] e
-
-  skip_second : (x y : Option Y) (t v : ℕ) (ts : List ℕ) → is_among ts v ≡ false → filter_map (λ u. cond (eqb u t) x (cond (eqb u v) y None)) ts ≡ filter_map (λ u. cond (eqb u t) x None) ts
-  skip_second x y t v [] e = refl
-  skip_second x y t v (u ∷ ts) e =
-      elim (eqb u v) as (λ b. (b || is_among ts v) ≡ false → cons_option (cond (eqb u t) x (cond b y None)) (filter_map (λ u. cond (eqb u t) x (cond (eqb u v) y None)) ts)
-      ≡ cons_option (cond (eqb u t) x None) (filter_map (λ u. cond (eqb u t) x None) ts)) [
-        | true ↦ λ e. absurd (true≢false e)
-        | false ↦ λ e. ap (cons_option (cond (eqb u t) x None)) (skip_second x y t v ts e)
-      ] e
-
-  -- two threads get something, and no other
-  pub two_hits : (ts : List ℕ) (t v : ℕ) (a b : Y) → Rises ts → is_among ts t ≡ true → is_among ts v ≡ true → t ≢ v
-      → filter_map (λ u. cond (eqb u t) (Some a) (cond (eqb u v) (Some b) None)) ts ≡ cond (ltb t v) (a ∷ b ∷ []) (b ∷ a ∷ [])
-  two_hits [] t v a b r ht hv apart = absurd (true≢false (sym ht))
-  two_hits (u ∷ ts) t v a b r ht hv apart =
-      elim (eqb u t) as (λ c. eqb u t ≡ c → (c || is_among ts t) ≡ true → cons_option (cond c (Some a) (cond (eqb u v) (Some b) None)) (filter_map (λ u. cond (eqb u t) (Some a) (cond (eqb u v) (Some b) None)) ts)
-      ≡ cond (ltb t v) (a ∷ b ∷ []) (b ∷ a ∷ [])) [
-        | true ↦ λ at e.
-            let same : u ≡ t = eqb-true u t at in
-            let here : eqb u v ≡ false = ne_eqb u v (λ s. apart (sym same ∙ s)) in
-            let later : is_among ts v ≡ true = rw here at hv in
-            let below : t < v = subst (λ k. k < v) same (all_at u v ts r.0 later) in
-            let gone : is_among ts t ≡ false = subst (λ k. is_among ts k ≡ false) same (not_among ts u r.0) in
-            rw (lt-ltb t v below, skip_first (Some a) t (λ u. cond (eqb u v) (Some b) None) ts gone, only_own ts v (Some b) r.1 later) refl
-        | false ↦ λ no e.
-            elim (eqb u v) as (λ c. eqb u v ≡ c → (c || is_among ts v) ≡ true → cons_option (cond c (Some b) None) (filter_map (λ u. cond (eqb u t) (Some a) (cond (eqb u v) (Some b) None)) ts)
-            ≡ cond (ltb t v) (a ∷ b ∷ []) (b ∷ a ∷ [])) [
-              | true ↦ λ at f.
-                  let same : u ≡ v = eqb-true u v at in
-                  let below : v < t = subst (λ k. k < t) same (all_at u t ts r.0 e) in
-                  let gone : is_among ts v ≡ false = subst (λ k. is_among ts k ≡ false) same (not_among ts u r.0) in
-                  rw (le-ltb t v (omega arith), skip_second (Some a) (Some b) t v ts gone, only_own ts t (Some a) r.1 e) refl
-              | false ↦ λ _ f. two_hits ts t v a b r.1 e f apart
-            ] refl hv
-      ] refl ht

@@ -1,7 +1,7 @@
 -- What is searched for in the list of all past calls. The newest event stands first.
 use Rattle.std.specs.Prelude.{ℕ, ◌+◌, ◌==◌, ◌&&◌, ◌||◌, not, Bool, true, false, is_some, List, [], ◌∷◌, ◌++◌, length, map, filter, Option, None, Some, if◌then◌else◌, option_and_then, unwrap_or}
 use Rattle.std.specs.List.{list_any}
-use Rattle.std.specs.Option.{option_map, option_to_list}
+use Rattle.std.specs.Option.{option_map, option_to_list, option_or}
 use Rattle.qqueue.specs.Best.{is_pulse}
 use Rattle.qqueue.specs.declared.item.Item.{Item}
 use Rattle.qqueue.specs.declared.item.What.{What}
@@ -21,7 +21,7 @@ use Rattle.qrules.specs.declared.open_call.Wait.TheVariants.{Answer, Item as For
 use Rattle.qrules.specs.Trace.{Event, Trace}
 use Rattle.qrules.specs.Facts.{Facts, OpenChannel, count_to, is_fixed}
 use Rattle.qrules.specs.Items.{makes}
-use Rattle.qrules.specs.Rows.{Made, asks, closes, detaches, names, shuts_down, received, writes, written_over, with_buffer, set_for, sets, first_some}
+use Rattle.qrules.specs.Rows.{Made, asks, closes, detaches, names, shuts_down, received, writes, written_over, with_buffer, set_for, sets}
 
 -- ---- accepted, ended
 
@@ -150,7 +150,7 @@ live_connections roster past = count_to (connection_at roster past) (length past
 -- what the first of these endings has of which something is told
 abbrev pub first_among : {A : Type 0} → (Completion → Option A) → List Completion → Option A
 first_among tell [] = None
-first_among tell (x ∷ endings) = first_some (tell x) (first_among tell endings)
+first_among tell (x ∷ endings) = option_or (tell x) (first_among tell endings)
 
 -- the priority of a member, 0 where there is none
 abbrev pub priority_in : Option Member → ℕ
@@ -181,7 +181,7 @@ receipt_among endings i = first_among (λ x. copied_of i (received x.mark)) endi
 -- the receipt of item i, by an ending of some event
 abbrev pub receipt_of : Trace → ℕ → Option ℕ
 receipt_of [] i = None
-receipt_of (e ∷ past) i = first_some (receipt_among e.endings i) (receipt_of past i)
+receipt_of (e ∷ past) i = option_or (receipt_among e.endings i) (receipt_of past i)
 
 -- item i is taken
 abbrev pub is_taken : Trace → ℕ → Bool
@@ -279,7 +279,7 @@ given_by priority t x = if x.thread == t then option_and_then (λ r. priority r.
 -- the priority that event e gives thread t, of all that was made by then: an accepted PrioritySet sets it, or the thread receives an item
 abbrev pub given : List Member → Event → Trace → List Made → ℕ → Option ℕ
 given roster e past made t =
-    first_some (if is_accepted e past then set_for (sets e.call) t else None) (first_among (given_by (λ i. carried (channel_at roster past) (made_among made i)) t) e.endings)
+    option_or (if is_accepted e past then set_for (sets e.call) t else None) (first_among (given_by (λ i. carried (channel_at roster past) (made_among made i)) t) e.endings)
 
 abbrev mutual
   -- all items made so far, in rising number
@@ -302,10 +302,6 @@ item_of roster e past = item_by (facts_by roster past (items roster past) (λ t.
 -- the priority that item i was made with
 abbrev pub priority_of_item : List Member → Trace → ℕ → ℕ
 priority_of_item roster past i = priority_made (made_among (items roster past) i)
-
--- an unblock pulse was made for message i
-abbrev pub is_unblocked : List Member → Trace → ℕ → Bool
-is_unblocked roster past i = unblocked_among (items roster past) i
 
 -- what is pending on channel h, in rising number
 abbrev pub pending : List Member → Trace → ℕ → List Item

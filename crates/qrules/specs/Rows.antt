@@ -44,11 +44,6 @@ pub record Row : Type 0 where
 abbrev pub ends_none : ℕ → Option Completion
 ends_none u = None
 
--- the first of two, or else the second
-abbrev pub first_some : {A : Type 0} → Option A → Option A → Option A
-first_some None y = y
-first_some (Some x) y = Some x
-
 -- ---- blocking
 
 -- what a call waits for where it doesn't end in its own event

@@ -1,7 +1,7 @@
 -- One call by its facts: what they are after it.
 use Rattle.std.specs.Prelude.{◌≡◌, ℕ, ◌+◌, ◌==◌, ◌&&◌, ◌||◌, not, filter, Bool, true, false, is_some, List, [], ◌∷◌, ◌++◌, Option, None, Some, if◌then◌else◌, unwrap_or}
 use Rattle.std.specs.List.{list_any}
-use Rattle.std.specs.Option.{option_map}
+use Rattle.std.specs.Option.{option_map, option_or}
 use Rattle.qbase.specs.Laying.{lay_over}
 use Rattle.qqueue.specs.Best.{without}
 use Rattle.qqueue.specs.declared.item.Item.{Item}
@@ -14,7 +14,7 @@ use Rattle.qrules.specs.declared.open_call.Wait.{Wait}
 use Rattle.qrules.specs.declared.open_call.Wait.TheVariants.{Answer, Item as ForItem}
 use Rattle.qrules.specs.Cutting.{is_unread_send}
 use Rattle.qrules.specs.Facts.{Facts, OpenChannel, sender, is_fixed, threads_of}
-use Rattle.qrules.specs.Rows.{Made, Received, Written, asks, closes, detaches, names, shuts_down, unblocks, writes, with_buffer, set_for, sets, first_some}
+use Rattle.qrules.specs.Rows.{Made, Received, Written, asks, closes, detaches, names, shuts_down, unblocks, writes, with_buffer, set_for, sets}
 use Rattle.qrules.specs.Answer.{row_of}
 use Rattle.qrules.specs.Items.{makes}
 use Rattle.qrules.specs.Past.{creates, attaches, held_with}
@@ -114,7 +114,7 @@ taken_by f None u = None
 taken_by f (Some r) u = if r.by == u then (if is_fixed (f.channel r.channel) then None else Some r.kept.priority) else None
 
 abbrev pub priority_after : Facts → ℕ → Call → ℕ → ℕ
-priority_after f t c u = unwrap_or (first_some (set_for (sets c) u) (taken_by f (row_of f t c).receipt u)) (f.priority u)
+priority_after f t c u = unwrap_or (option_or (set_for (sets c) u) (taken_by f (row_of f t c).receipt u)) (f.priority u)
 
 -- g are the facts after the call
 pub record Follows (f : Facts) (t : ℕ) (c : Call) (accepted : Bool) (g : Facts) : Type 0 where

@@ -3,7 +3,8 @@
 
 ghost use Rattle.qrules.specs.Laws.{AtMostOneOpen, EndingsNameOwnCalls, NonePendingIsHeld, NothingFromDestroyed, OnlyRefusedWhenDown, OpenIsUnended, PendingIsOpen, PendingRises, PulsesAreLimited, ReceivedWasSent};
 
-/// A message that is received was sent before or by the same event, to the channel on which it is received.
+/// An item that is received was made before or by the same event, for the channel on which it is received; and
+/// what was sent over a connection was sent to the channel that this leads to.
 pub fn received_was_sent()
     ensures { ReceivedWasSent }
 {}

@@ -2,9 +2,12 @@
 use Rattle.std.proofs.Common.{◌≡◌, ℕ, zero, suc, ◌+◌, ◌-◌, ◌<◌, ◌≤◌, ◌==◌, ◌||◌, Bool, true, false, cond, IsTrue, List, [], ◌∷◌, ◌++◌, length, length-take, take, get_or, slice_index, Option, Some, None, is_some, Result, Ok, Err, refl, sym, ap, ◌∙◌, map, add-one, append-nil, nat_lt, nat_le, arith}
 use Rattle.std.specs.List.{cons_option, filter_map, slice_split}
 use Rattle.std.proofs.lemmas.List.{length-map, take_all}
-use Rattle.std.proofs.lemmas.Bool.{ne_eqb, leb-false, ltb-false}
+use Rattle.std.proofs.lemmas.Bool.{ne_eqb, leb-false, ltb-false, or_right}
 use Rattle.std.proofs.lemmas.List.Splits.{length-slice_split}
 use Rattle.std.proofs.lemmas.List.Sums.{count_by-le-length}
+use Rattle.std.proofs.Math.Bool.{or-false}
+use Rattle.std.specs.Option.{option_or}
+use Rattle.qbase.proofs.Lists.{length-filter_map}
 use Rattle.qtables.specs.declared.member.Member.{Member}
 use Rattle.qtables.specs.Members.{member_at, joined, join_refusal}
 use Rattle.qrules.specs.declared.call.Call.{Call}
@@ -18,9 +21,10 @@ use Rattle.qscript.specs.Script.{CanRun}
 use Rattle.qscript.specs.Reading.Line.{line_of}
 use Rattle.qscript.specs.Reading.Lines.{lines_of, is_newline, without_return, without_last_end}
 use Rattle.qscript.specs.Reading.Words.{is_empty}
-use Rattle.qscript.specs.Reading.Meaning.{Meaning, TooLong, Says, meaning, is_in, placed, member_in, call_in, roster_of, calls_of, line_with, line_after, fault_in, fault_at, or_else, first_fault, unless, of_lines}
+use Rattle.qscript.specs.Reading.Meaning.{Meaning, TooLong, Says, meaning, is_in, placed, member_in, call_in, roster_of, calls_of, line_with, line_after, fault_in, fault_at, first_fault, unless, of_lines}
 use Rattle.qscript.proofs.Texts.Early.{bind_ok, placed_keeps, alone}
 use Rattle.qscript.proofs.Texts.Progress.{roster_more, calls_more}
+use Rattle.qscript.proofs.Joining.{enrolled_more}
 
 -- ---- who is in a roster
 
@@ -40,14 +44,6 @@ or_move true false c = refl
 or_move false true c = refl
 or_move false false c = refl
 
-or_none : (a : Bool) → a ≡ (a || false)
-or_none true = refl
-or_none false = refl
-
-or_true : (a b : Bool) → IsTrue b → IsTrue (a || b)
-or_true true b h = refl
-or_true false b h = h
-
 in_joined : (t : ℕ) (m : Member) (r : List Member) → is_in t (joined m r) ≡ ((m.thread == t) || is_in t r)
 in_joined t m [] = refl
 in_joined t m (x ∷ r) =
@@ -65,7 +61,7 @@ length_joined m (x ∷ r) =
     ]
 
 in_enrolled : (t : ℕ) (r ms : List Member) → is_in t (enrolled r ms) ≡ (is_in t r || is_in t ms)
-in_enrolled t r [] = or_none (is_in t r)
+in_enrolled t r [] = sym (or-false (is_in t r))
 in_enrolled t r (m ∷ ms) = in_enrolled t (joined m r) ms ∙ rw (in_joined t m r) (or_move (m.thread == t) (is_in t r) (is_in t ms))
 
 length_enrolled : (r ms : List Member) → length (enrolled r ms) ≡ length r + length ms
@@ -86,15 +82,11 @@ still_known : (r : List Member) (m : Member) (cs : List (ℕ × Call)) → AllKn
 still_known r m [] all = tt
 still_known r m (c ∷ cs) all =
     let here : IsTrue (is_in c.0 r) = rw (known r c.0) at all.0 in
-    (rw (known (joined m r) c.0, in_joined c.0 m r) (or_true (m.thread == c.0) (is_in c.0 r) here), still_known r m cs all.1)
+    (rw (known (joined m r) c.0, in_joined c.0 m r) (or_right (m.thread == c.0) (is_in c.0 r) here), still_known r m cs all.1)
 
 known_more : (r : List Member) (cs : List (ℕ × Call)) (t : ℕ) (c : Call) → AllKnown r cs → IsTrue (is_some (member_at r t)) → AllKnown r (cs ++ (t, c) ∷ [])
 known_more r [] t c all h = (h, tt)
 known_more r (x ∷ cs) t c all h = (all.0, known_more r cs t c all.1 h)
-
-enrolled_last : (r ms : List Member) (m : Member) → enrolled r (ms ++ m ∷ []) ≡ joined m (enrolled r ms)
-enrolled_last r [] m = refl
-enrolled_last r (x ∷ ms) m = enrolled_last (joined x r) ms m
 
 -- ---- one line more
 
@@ -129,7 +121,7 @@ fine_more : (ms : List Member) (cs : List (ℕ × Call)) (l : Line) → Fine ms 
 fine_more ms cs lines.Blank f h = rw (append-nil, append-nil) f
 fine_more ms cs (lines.Roster m) f h = record {
   members = joins_more [] ms m f.members (joins_next ms m _ h);
-  callers = rw (append-nil, enrolled_last [] ms m) (still_known (enrolled [] ms) m cs f.callers);
+  callers = rw (append-nil, enrolled_more [] ms m) (still_known (enrolled [] ms) m cs f.callers);
 }
 fine_more ms cs (lines.Call t c) f h = record {
   members = rw append-nil f.members;
@@ -152,7 +144,7 @@ no_fault_in : (n : ℕ) (r : Result Line LineFault) → fault_in n r ≡ None �
 no_fault_in n (Ok l) h = (l, refl)
 no_fault_in n (Err f) h = cc
 
-neither : (x y : Option (ℕ × LineFault)) → or_else x y ≡ None → (x ≡ None) × (y ≡ None)
+neither : (x y : Option (ℕ × LineFault)) → option_or x y ≡ None → (x ≡ None) × (y ≡ None)
 neither None y h = (refl, h)
 neither (Some x) y h = cc
 
@@ -170,13 +162,6 @@ fine_to ls (suc n) h none =
     rw (sym (add-one n)) (rw (rosters, calls) more)
 
 -- ---- how many
-
-few_found : {X Y : Type 0} (f : X → Option Y) (xs : List X) → length (filter_map f xs) ≤ length xs
-few_found f [] = omega arith
-few_found f (x ∷ xs) = elim (f x) as (λ o. length (cons_option o (filter_map f xs)) ≤ length (x ∷ xs)) [
-  | Some y ↦ omega (arith, few_found f xs)
-  | None ↦ omega (arith, few_found f xs)
-]
 
 few_parts : (xs : List ℕ) → length (map without_return (slice_split is_newline xs)) ≤ length xs + 1
 few_parts xs = omega (arith, length-map (slice_split is_newline xs) without_return, length-slice_split is_newline xs, count_by-le-length is_newline xs)
@@ -196,7 +181,7 @@ few_lines text = elim (is_empty text) as (λ b. length (cond b [] (map without_r
 
 few_calls : (ls : List (List ℕ)) → length (calls_of ls) ≤ length ls
 unfolding calls_of
-few_calls ls = few_found (λ line. call_in (line_of false line)) ls
+few_calls ls = length-filter_map (λ line. call_in (line_of false line)) ls
 
 -- ---- the whole
 

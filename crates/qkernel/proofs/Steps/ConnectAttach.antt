@@ -17,7 +17,7 @@ use Rattle.qkernel.specs.Stands.{Steps}
 use Rattle.qrules.specs.Step.{put_at, one_for}
 use Rattle.qrecords.specs.Threads.{members_of, open_in}
 use Rattle.qrules.proofs.Rosters.{rises, among, only_own}
-use Rattle.qrules.proofs.Past.Lists.{all_append}
+use Rattle.qbase.proofs.Lists.{all_append}
 use Rattle.qkernel.proofs.Steps.Common.{uncut, counted, step_refused_alone, all_up_to, stays_free, up_to_below}
 use Rattle.qkernel.proofs.Tables.{entry_at-push, length-push, rising_push}
 

@@ -1,14 +1,16 @@
 -- ConnectDetach as a step of the kernel.
 use Rattle.std.proofs.Common.{◌≡◌, ℕ, ◌+◌, ◌<◌, ◌≤◌, List, [], ◌∷◌, ◌++◌, length, refl, ap, sym, subst, ◌∙◌, cond, arith, true, false, eqb, inl, inr, add-zero}
-use Rattle.std.specs.Prelude.{Bool, Option, None, Some, IfSome, filter, count_by, is_some, not, ◌&&◌, unwrap_or}
-use Rattle.std.specs.List.{AllByRecursion, filter_map, list_any}
+use Rattle.std.specs.Prelude.{Bool, Option, None, Some, filter, count_by, is_some, not, ◌&&◌}
+use Rattle.std.specs.List.{filter_map, list_any}
 use Rattle.std.proofs.Math.Bool.{and_comm}
 use Rattle.std.proofs.lemmas.Bool.{eqb-true, ne_eqb, true≢false}
-use Rattle.std.proofs.lemmas.List.{append-nil, length-map}
+use Rattle.std.proofs.lemmas.List.{length-map}
 use Rattle.std.proofs.lemmas.List.Sums.{length-filter}
 use Rattle.std.proofs.lemmas.Option.{none-some, same_Some}
+use Rattle.std.proofs.lemmas.List.Elements.{filter_agree}
+use Rattle.std.specs.Option.{option_or}
 use Rattle.qbase.specs.declared.errno.Errno.TheVariants.{Again, Badf, Inval, NoMemory}
-use Rattle.qqueue.specs.Best.{is_pulse, without}
+use Rattle.qqueue.specs.Best.{without}
 use Rattle.qqueue.specs.declared.item.Item.{Item}
 use Rattle.qtables.specs.Entries.{entry_at, without_entry}
 use Rattle.qtables.specs.Members.{member_at}
@@ -19,36 +21,30 @@ use Rattle.qrules.specs.Calls.ConnectDetach.{between, connections_between, due, 
 use Rattle.qrules.specs.Cutting.{cut_where, is_on, is_over, is_unread_send}
 use Rattle.qrules.specs.Facts.{tells_disconnect, threads_of}
 use Rattle.qrules.specs.Pulses.{full_for, told, told_receipt}
-use Rattle.qrules.specs.Receivers.{newest}
-use Rattle.qrules.specs.Rows.{Made, Received, disconnect_item, first_some, received}
-use Rattle.qrules.specs.Step.{after_receipt, is_cut, left_by, made_on, taken_by, taken_out, unless}
+use Rattle.qrules.specs.Rows.{Made, Received, disconnect_item}
+use Rattle.qrules.specs.Step.{is_cut, left_by, made_on, taken_out, unless}
 use Rattle.qrules.specs.declared.call.Call.TheVariants.{ConnectDetach}
 use Rattle.qrules.specs.declared.call.Completion.{Completion}
-use Rattle.qrules.specs.declared.open_call.OpenCall.{OpenCall}
 use Rattle.qrules.specs.declared.open_call.Wait.TheVariants.{Item as ForItem}
 use Rattle.qrecords.specs.declared.channel.Channel.{Channel}
 use Rattle.qrecords.specs.declared.cutting.Cut.TheVariants.{Over}
 use Rattle.qrecords.specs.declared.thread.Thread.{Thread}
-use Rattle.qrecords.specs.Channels.{channel_in, ids_of, own_channel_in, pending_in}
+use Rattle.qrecords.specs.Channels.{channel_in, own_channel_in, pending_in}
 use Rattle.qrecords.specs.Cuts.{AreCut, LoseCut, ending_for, is_cut_among}
 use Rattle.qrecords.specs.Endings.{inserted_if}
-use Rattle.qrecords.specs.Pulses.{IsLeft, IsMet, IsSentIfDue, has_room}
+use Rattle.qrecords.specs.Pulses.{has_room}
 use Rattle.qrecords.specs.Threads.{level_in, members_of, open_in}
 use Rattle.qkernel.specs.State.{State, IsSound, facts_in}
 use Rattle.qkernel.specs.Stands.{Steps}
 use Rattle.qtables.proofs.LookUps.{entry_at-without_entry}
 use Rattle.qrules.proofs.Calls.Cutting.{cut_parts}
-use Rattle.qrules.proofs.Calls.Delivering.{ForAnItem, met_item}
-use Rattle.qrules.proofs.Past.Lists.{all_filter, cond_same, eqb_same, filter_alike, filter_twice}
-use Rattle.qrules.proofs.Rosters.{filter_same, rises}
-use Rattle.qrecords.proofs.Inserting.{endings_fewer, first_alone, inserted_among}
-use Rattle.qrecords.proofs.Receivers.{ended_thread}
+use Rattle.qbase.proofs.Lists.{all_filter, cond_same, filter_twice, or_none}
+use Rattle.qrules.proofs.Rosters.{filter_map_same}
 use Rattle.qkernel.proofs.Tables.{count_picked, rising_without}
-use Rattle.qkernel.proofs.Steps.Common.{all_up_to, counted, sound_counted_alone, step_refused_alone}
+use Rattle.qkernel.proofs.Steps.Common.{all_up_to, counted, step_refused_alone}
 use Rattle.qkernel.proofs.Steps.Cutting.{mine, sound_less}
-use Rattle.qkernel.proofs.Steps.Delivering.{count_kept, items_after, newest_is, with_item}
-use Rattle.qkernel.proofs.Steps.Meeting.{apart, ended_is, newest_met, receiver, there, told_mark, waits_after}
-use Rattle.qkernel.proofs.Steps.Telling.{sound_sent}
+use Rattle.qkernel.proofs.Steps.Delivering.{count_kept}
+use Rattle.qkernel.proofs.Steps.Told.{IsNew, IsTold, made_for, not_caller, told_waits}
 
 -- ---- the connection, and how many there are
 
@@ -83,7 +79,7 @@ counted_between s p h sound =
 -- ---- lists
 
 filter_swapped : (p q : Item → Bool) (items : List Item) → filter p (filter q items) ≡ filter q (filter p items)
-filter_swapped p q items = filter_twice q p items ∙ filter_alike (λ x. q x && p x) (λ x. p x && q x) items (λ x. and_comm (q x) (p x)) ∙ sym (filter_twice p q items)
+filter_swapped p q items = filter_twice q p items ∙ filter_agree (λ x. q x && p x) (λ x. p x && q x) (λ x. and_comm (q x) (p x)) items ∙ sym (filter_twice p q items)
 
 -- what is taken out and what leaves may go in either order
 taken_filtered : (p : Item → Bool) (receipt : Option Received) (k : ℕ) (items : List Item) → filter p (taken_out receipt k items) ≡ taken_out receipt k (filter p items)
@@ -93,124 +89,9 @@ taken_filtered p (Some r) k items = elim (eqb r.channel k) as (λ b. filter p (c
   | false ↦ refl
 ]
 
--- ---- the pulse that is due, sent or not
-
--- the same with its channel
-abbrev pub made_for : ℕ → Option Item → Option Made
-made_for h None = None
-made_for h (Some item) = Some (record { item = item; channel = h })
-
--- what has become of the threads and the channels, and how the call of its receiver ends
-pub record IsTold (s : State) (t : ℕ) (o : Option Made) (mid : List Thread) (channels : List (ℕ × Channel)) (met : Option Completion) : Type 0 where
-  pub room : full_for (facts_in s) o ≡ None
-  pub members : members_of mid ≡ members_of s.threads
-  pub open_call : (u : ℕ) → open_in mid u ≡ unless (is_some (told (facts_in s) o u)) (open_in s.threads u)
-  pub idle : told (facts_in s) o t ≡ None
-  pub priority : (u : ℕ) → level_in mid u ≡ unwrap_or (taken_by (facts_in s) (told_receipt (facts_in s) o) u) (level_in s.threads u)
-  pub senderless : (u : ℕ) (call : Option OpenCall) → after_receipt (told_receipt (facts_in s) o) u call ≡ call
-  pub ids : ids_of channels ≡ ids_of s.channels
-  pub channel : (k : ℕ) → channel_in channels k ≡ channel_in s.channels k
-  pub pending : (k : ℕ) → pending_in channels k ≡ taken_out (told_receipt (facts_in s) o) k (pending_in s.channels k ++ made_on k o)
-  pub endings : (g : ℕ → Option Completion) → ((u : ℕ) (x : Completion) → g u ≡ Some x → x.thread ≡ u) → ((u : ℕ) → is_some (told (facts_in s) o u) ≡ true → g u ≡ None)
-      → inserted_if met (filter_map g (threads_of (members_of s.threads))) ≡ filter_map (λ u. first_some (g u) (told (facts_in s) o u)) (threads_of (members_of s.threads))
-  pub few : (g : ℕ → Option Completion) → ((u : ℕ) → is_some (told (facts_in s) o u) ≡ true → g u ≡ None) → is_some met ≡ true
-      → length (filter_map g (threads_of (members_of s.threads))) + 1 ≤ length (threads_of (members_of s.threads))
-
--- none is due
-untold : (s : State) (t : ℕ) → IsTold s t None s.threads s.channels None
-untold s t = record {
-  room = refl;
-  members = refl;
-  open_call = λ u. refl;
-  idle = refl;
-  priority = λ u. refl;
-  senderless = λ u call. refl;
-  ids = refl;
-  channel = λ k. refl;
-  pending = λ k. sym (append-nil _);
-  endings = λ g own none. filter_same g (λ u. first_some (g u) None) (threads_of (members_of s.threads)) (λ u. sym (first_alone (g u)));
-  few = λ g none e. absurd (true≢false (sym e));
-}
-
-module _ (s : State) (t h : ℕ) (item : Item) (sound : IsSound s) (free : open_in s.threads t ≡ None) (number : item.number ≡ s.made + 1) (mid : List Thread) (channels : List (ℕ × Channel)) where
-  abbrev sent : Option Made
-  sent = Some (record { item = item; channel = h })
-
-  -- it waits
-  told_left : IsLeft h item s.threads s.channels mid channels → IsTold s t sent mid channels None
-  told_left left =
-      let none : newest (facts_in s) h item ≡ None = newest_is s h item None sound left.nobody in
-      record {
-        room = rw (left.room) refl;
-        members = ap members_of left.threads_are;
-        open_call = λ u. ap (λ ts. open_in ts u) left.threads_are ∙ rw none refl;
-        idle = rw none refl;
-        priority = λ u. ap (λ ts. level_in ts u) left.threads_are ∙ rw none refl;
-        senderless = λ u call. rw none refl;
-        ids = left.sets.ids;
-        channel = left.sets.channel;
-        pending = λ k. left.sets.pending k ∙ rw none (with_item s h item sound number k);
-        endings = λ g own nothing. filter_same g (λ u. first_some (g u) (told (facts_in s) sent u)) (threads_of (members_of s.threads)) (λ u. rw none (sym (first_alone (g u))));
-        few = λ g nothing e. absurd (true≢false (sym e));
-      }
-
-  -- it meets a receiver
-  module _ (y : Completion) (pulse : is_pulse item.what ≡ true) (met : IsMet h item s.threads s.channels mid channels y) where
-    abbrev r : ℕ
-    r = receiver s t h item y mid channels sound free met
-
-    newest_is_r : newest (facts_in s) h item ≡ Some r
-    newest_is_r = newest_met s t h item y mid channels sound free met
-
-    told_is : (u : ℕ) → told (facts_in s) sent u ≡ cond (eqb u r) (Some y) None
-    told_is u = rw newest_is_r (ended_is s t h item y mid channels sound free met u)
-
-    told_r : is_some (told (facts_in s) sent r) ≡ true
-    told_r = rw (told_is r, eqb_same r) refl
-
-    told_met : IsTold s t sent mid channels (Some y)
-    told_met =
-        let mark : received y.mark ≡ Some (item.number, 0) = told_mark item r (open_in s.threads r) y pulse met.ended in
-        let thread : y.thread ≡ r = ended_thread item [] r (open_in s.threads r) y met.ended in
-        record {
-          room = rw (met.room) refl;
-          members = met.wakes.members;
-          open_call = λ u. waits_after s t h item y mid channels sound free met u ∙ rw newest_is_r refl;
-          idle = told_is t ∙ rw (ne_eqb t r (apart s t h item y mid channels sound free met)) refl;
-          priority = λ u. met.wakes.priority u ∙ rw (newest_is_r, met.ended, mark, thread) refl;
-          senderless = λ u call. rw (newest_is_r, met.ended, mark) refl;
-          ids = ap ids_of met.channels_are;
-          channel = λ k. ap (λ cs. channel_in cs k) met.channels_are;
-          pending = λ k. ap (λ cs. pending_in cs k) met.channels_are ∙ rw (newest_is_r, met.ended, mark) (items_after s h item sound number k);
-          endings = λ g own none. inserted_among y r thread g own (none r told_r) (threads_of (members_of s.threads)) (rises (members_of s.threads) sound.roster) (there s t h item y mid channels sound free met)
-              ∙ filter_same (λ u. first_some (g u) (cond (eqb u r) (Some y) None)) (λ u. first_some (g u) (told (facts_in s) sent u)) (threads_of (members_of s.threads)) (λ u. ap (first_some (g u)) (sym (told_is u)));
-          few = λ g none e. endings_fewer g r (threads_of (members_of s.threads)) (none r told_r) (there s t h item y mid channels sound free met);
-        }
-
--- a pulse of the call's number
-abbrev pub IsNew : ℕ → Option Item → Type 0
-IsNew n d = IfSome d (λ item. (item.number ≡ n) × (is_pulse item.what ≡ true))
-
+-- the pulse is one of the call's number
 pub new_pulse : (n priority p : ℕ) (last : Bool) (d : Option Item) → d ≡ cond last (Some (disconnect_item n priority p)) None → IsNew n d
 new_pulse n priority p last d is = subst (IsNew n) (sym is) (elim last as (λ b. IsNew n (cond b (Some (disconnect_item n priority p)) None)) [ true ↦ (refl, refl) | false ↦ tt ])
-
--- it has a greater number than all that waits
-pub newest_due : (n : ℕ) (d : Option Item) (items : List Item) → IsNew n d → AllByRecursion (λ x. x.number < n) items → IfSome d (λ item. AllByRecursion (λ x. x.number < item.number) items)
-newest_due n None items new below = tt
-newest_due n (Some item) items new below = subst (λ k. AllByRecursion (λ (x : Item). x.number < k) items) (sym new.0) below
-
--- one or the other
-pub is_told : (s : State) (t h : ℕ) (d : Option Item) (mid : List Thread) (channels : List (ℕ × Channel)) (met : Option Completion) → IsSound s → open_in s.threads t ≡ None
-    → IsNew (s.made + 1) d → IsSentIfDue h d s.threads s.channels mid channels met → IsTold s t (made_for h d) mid channels met
-is_told s t h None mid channels met sound free pulse sent = rw (sent.0, sent.1, sent.2) (untold s t)
-is_told s t h (Some item) mid channels None sound free pulse sent = told_left s t h item sound free pulse.0 mid channels sent
-is_told s t h (Some item) mid channels (Some y) sound free pulse sent = told_met s t h item sound free pulse.0 mid channels y pulse.1 sent
-
--- the kernel stays sound as it is sent
-pub sound_due : (s : State) (h : ℕ) (d : Option Item) (mid : List Thread) (channels : List (ℕ × Channel)) (met : Option Completion) → IsSound s → IsNew (s.made + 1) d → IsSentIfDue h d s.threads s.channels mid channels met
-    → IsSound (record { made = s.made + 1; down = s.down; threads = mid; channels = channels; connections = s.connections })
-sound_due s h None mid channels met sound new sent = rw (sent.0, sent.1) (sound_counted_alone s sound)
-sound_due s h (Some item) mid channels met sound new sent = sound_sent s h item mid channels met new.0 sent sound
 
 -- ---- the step
 
@@ -265,16 +146,12 @@ module _ (s : State) (t coid : ℕ) (m : Member) (known : member_at (members_of 
         abbrev cut : ℕ → Option Completion
         cut u = cut_where (is_over coid) Badf u (open_in s.threads u)
 
-        for_item : (o : Option Made) (u : ℕ) (y : Completion) → told (facts_in s) o u ≡ Some y → ForAnItem (open_in s.threads u)
-        for_item None u y e = absurd (none-some y e)
-        for_item (Some x) u y e = met_item (facts_in s) x.item [] (Some x.channel) u y e
-
         -- what meets the pulse isn't cut
         met_uncut : (u : ℕ) (y : Completion) → told (facts_in s) o u ≡ Some y → cut u ≡ None
-        met_uncut u y e = let k = for_item o u y e in rw (k.is, k.waits) refl
+        met_uncut u y e = let k = told_waits s o u y e in rw (k.is, k.waits) refl
 
         met_unread : (u k i : ℕ) (y : Completion) → told (facts_in s) o u ≡ Some y → is_unread_send (entry_at s.connections) k i (open_in s.threads u) ≡ false
-        met_unread u k i y e = let w = for_item o u y e in rw (w.is, w.waits) (elim (eqb w.waiting.number i) as (λ b. (b && false && is_on (entry_at s.connections) k (ForItem w.chid w.kind w.buffer)) ≡ false) [ true ↦ refl | false ↦ refl ])
+        met_unread u k i y e = let w = told_waits s o u y e in rw (w.is, w.waits) (elim (eqb w.waiting.number i) as (λ b. (b && false && is_on (entry_at s.connections) k (ForItem w.chid w.kind w.buffer)) ≡ false) [ true ↦ refl | false ↦ refl ])
 
         cut_mid : (u : ℕ) → cut_where (is_over coid) Badf u (open_in mid u) ≡ cut u
         cut_mid u = rw (is.open_call u) (elim (told (facts_in s) o u) as (λ x. told (facts_in s) o u ≡ x → cut_where (is_over coid) Badf u (unless (is_some x) (open_in s.threads u)) ≡ cut u) [
@@ -298,11 +175,11 @@ module _ (s : State) (t coid : ℕ) (m : Member) (known : member_at (members_of 
         g_none : (u : ℕ) → is_some (told (facts_in s) o u) ≡ true → g u ≡ None
         g_none u there = g_is u ∙ (elim (told (facts_in s) o u) as (λ x. told (facts_in s) o u ≡ x → is_some x ≡ true → cond (eqb u t) (Some (mine s t)) (cut u) ≡ None) [
           | None ↦ λ e some. absurd (true≢false (sym some))
-          | Some y ↦ λ e some. rw (ne_eqb u t (λ same. none-some y (sym is.idle ∙ ap (told (facts_in s) o) (sym same) ∙ e)), met_uncut u y e) refl
+          | Some y ↦ λ e some. rw (ne_eqb u t (not_caller s t u o mid between met is there), met_uncut u y e) refl
         ] refl there)
 
-        ending_is : (u : ℕ) → first_some (g u) (told (facts_in s) o u) ≡ ending (facts_in s) t (ConnectDetach coid) u
-        ending_is u = rw (due_is, g_is u) (elim (eqb u t) as (λ b. first_some (cond b (Some (mine s t)) (cut u)) (told (facts_in s) o u) ≡ cond b (Some (mine s t)) (first_some (cut u) (told (facts_in s) o u))) [ true ↦ refl | false ↦ refl ])
+        ending_is : (u : ℕ) → option_or (g u) (told (facts_in s) o u) ≡ ending (facts_in s) t (ConnectDetach coid) u
+        ending_is u = rw (due_is, g_is u) (elim (eqb u t) as (λ b. option_or (cond b (Some (mine s t)) (cut u)) (told (facts_in s) o u) ≡ cond b (Some (mine s t)) (option_or (cut u) (told (facts_in s) o u))) [ true ↦ refl | false ↦ refl ])
 
         pub room_for_one : length s.threads ≤ 64 → is_some met ≡ true → length (filter_map g (threads_of (members_of mid))) < 64
         room_for_one few some = rw (is.members) (let fewer : length (filter_map g ts) + 1 ≤ length ts = is.few g g_none some in let as_many : length ts ≡ length s.threads = length-map (members_of s.threads) (λ m. m.thread) ∙ length-map s.threads (λ t. t.member) in omega arith)
@@ -311,23 +188,23 @@ module _ (s : State) (t coid : ℕ) (m : Member) (known : member_at (members_of 
           abbrev pub detached : State
           detached = record { made = s.made + 1; down = s.down; threads = threads; channels = now; connections = without_entry s.connections coid }
 
-          open_is : (u : ℕ) → open_in threads u ≡ unless (is_some (first_some (cut u) (told (facts_in s) o u))) (open_in s.threads u)
-          open_is u = are.open_call u ∙ rw (cut_mid u, is.open_call u) (elim (told (facts_in s) o u) as (λ x. told (facts_in s) o u ≡ x → cond (is_some (cut u)) None (unless (is_some x) (open_in s.threads u)) ≡ unless (is_some (first_some (cut u) x)) (open_in s.threads u)) [
-            | None ↦ λ e. rw (first_alone (cut u)) refl
+          open_is : (u : ℕ) → open_in threads u ≡ unless (is_some (option_or (cut u) (told (facts_in s) o u))) (open_in s.threads u)
+          open_is u = are.open_call u ∙ rw (cut_mid u, is.open_call u) (elim (told (facts_in s) o u) as (λ x. told (facts_in s) o u ≡ x → cond (is_some (cut u)) None (unless (is_some x) (open_in s.threads u)) ≡ unless (is_some (option_or (cut u) x)) (open_in s.threads u)) [
+            | None ↦ λ e. rw (or_none (cut u)) refl
             | Some y ↦ λ e. rw (met_uncut u y e) refl
           ] refl)
 
-          open_after : (u : ℕ) → open_in threads u ≡ cond (eqb u t) None (unless (is_some (first_some (cut u) (told (facts_in s) o u))) (open_in s.threads u))
-          open_after u = elim (eqb u t) as (λ b. eqb u t ≡ b → open_in threads u ≡ cond b None (unless (is_some (first_some (cut u) (told (facts_in s) o u))) (open_in s.threads u))) [
+          open_after : (u : ℕ) → open_in threads u ≡ cond (eqb u t) None (unless (is_some (option_or (cut u) (told (facts_in s) o u))) (open_in s.threads u))
+          open_after u = elim (eqb u t) as (λ b. eqb u t ≡ b → open_in threads u ≡ cond b None (unless (is_some (option_or (cut u) (told (facts_in s) o u))) (open_in s.threads u))) [
             | true ↦ λ same. open_is u ∙ (let idle : open_in s.threads u ≡ None = ap (open_in s.threads) (eqb-true u t same) ∙ free in rw idle (cond_same _ None))
             | false ↦ λ other. open_is u
           ] refl
 
           gone_is : (k i v : ℕ) → (is_unread_send (entry_at s.connections) k i (open_in mid v) && is_some (cut_where (is_over coid) Badf v (open_in mid v)))
-              ≡ (is_unread_send (entry_at s.connections) k i (open_in s.threads v) && is_some (first_some (cut v) (told (facts_in s) o v)))
+              ≡ (is_unread_send (entry_at s.connections) k i (open_in s.threads v) && is_some (option_or (cut v) (told (facts_in s) o v)))
           gone_is k i v = rw (cut_mid v, is.open_call v) (elim (told (facts_in s) o v) as (λ x. told (facts_in s) o v ≡ x → (is_unread_send (entry_at s.connections) k i (unless (is_some x) (open_in s.threads v)) && is_some (cut v))
-              ≡ (is_unread_send (entry_at s.connections) k i (open_in s.threads v) && is_some (first_some (cut v) x))) [
-                | None ↦ λ e. rw (first_alone (cut v)) refl
+              ≡ (is_unread_send (entry_at s.connections) k i (open_in s.threads v) && is_some (option_or (cut v) x))) [
+                | None ↦ λ e. rw (or_none (cut v)) refl
                 | Some y ↦ λ e. rw (met_unread v k i y e) refl
               ] refl)
 
@@ -336,7 +213,7 @@ module _ (s : State) (t coid : ℕ) (m : Member) (known : member_at (members_of 
 
           pending_is : (k : ℕ) → pending_in now k ≡ taken_out (told_receipt (facts_in s) o) k (left_by (facts_in s) t (ConnectDetach coid) k (pending_in s.channels k ++ made_on k o))
           pending_is k = lose.pending k
-              ∙ filter_alike (λ (item : Item). not (is_cut_among (entry_at s.connections) (Over coid) Badf mid k item.number)) (λ item. not (is_cut (facts_in s) t (ConnectDetach coid) k item.number)) (pending_in between k) (λ item. ap not (cut_is k item.number))
+              ∙ filter_agree (λ (item : Item). not (is_cut_among (entry_at s.connections) (Over coid) Badf mid k item.number)) (λ item. not (is_cut (facts_in s) t (ConnectDetach coid) k item.number)) (λ item. ap not (cut_is k item.number)) (pending_in between k)
               ∙ ap (left_by (facts_in s) t (ConnectDetach coid) k) (is.pending k)
               ∙ taken_filtered (λ item. not (is_cut (facts_in s) t (ConnectDetach coid) k item.number)) (told_receipt (facts_in s) o) k (pending_in s.channels k ++ made_on k o)
 
@@ -348,7 +225,7 @@ module _ (s : State) (t coid : ℕ) (m : Member) (known : member_at (members_of 
               answer = (
                 rw (up, free, own, due_is) is.room,
                 is_X ∙ ap (λ ms. inserted_if met (filter_map g (threads_of ms))) is.members ∙ is.endings g g_own g_none
-                    ∙ filter_same (λ u. first_some (g u) (told (facts_in s) o u)) (ending (facts_in s) t (ConnectDetach coid)) ts ending_is,
+                    ∙ filter_map_same (λ u. option_or (g u) (told (facts_in s) o u)) (ending (facts_in s) t (ConnectDetach coid)) ts ending_is,
               );
               follows = record {
                 roster = are.members ∙ is.members;

@@ -17,7 +17,7 @@ use Rattle.qrecords.specs.declared.channel.Channel.{Channel}
 use Rattle.qrecords.specs.declared.cutting.Cut.{Cut}
 use Rattle.qrecords.specs.declared.thread.Thread.{Thread}
 use Rattle.qkernel.specs.State.{State, IsSound}
-use Rattle.qrules.proofs.Past.Lists.{all_filter}
+use Rattle.qbase.proofs.Lists.{all_filter}
 use Rattle.qkernel.proofs.Steps.Common.{counted, sound_counted_alone}
 use Rattle.qkernel.proofs.Steps.Delivering.{sound_kept}
 

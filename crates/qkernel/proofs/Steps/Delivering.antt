@@ -19,7 +19,7 @@ use Rattle.qrules.specs.Rows.{sent_over}
 use Rattle.qkernel.specs.State.{State, IsSound, facts_in}
 use Rattle.qrules.specs.Step.{made_on}
 use Rattle.qrecords.specs.Threads.{members_of, newest_by}
-use Rattle.qrules.proofs.Past.Lists.{all_append, eqb_either}
+use Rattle.qbase.proofs.Lists.{all_append, eqb_either}
 use Rattle.qrules.proofs.Calls.Delivering.{sent_way}
 use Rattle.qrecords.proofs.Receivers.{newest_found}
 use Rattle.qkernel.proofs.Steps.Common.{Counted, count_same, all_up_to, way-leads_to}

@@ -1,5 +1,5 @@
 -- Error as a step of the kernel.
-use Rattle.std.proofs.Common.{◌≡◌, ℕ, ◌+◌, List, [], refl, sym, arith, true, append-nil, false}
+use Rattle.std.proofs.Common.{◌≡◌, ℕ, ◌+◌, List, [], ◌∷◌, refl, sym, arith, true, append-nil, false}
 use Rattle.std.specs.Prelude.{ℤ, None, Some}
 use Rattle.qtables.specs.Members.{member_at}
 use Rattle.qtables.specs.declared.member.Member.{Member}
@@ -8,7 +8,7 @@ use Rattle.qrules.specs.declared.call.Completion.{Completion}
 use Rattle.qrules.specs.declared.call.Mark.TheVariants as mark
 use Rattle.qrecords.specs.declared.thread.Thread.{Thread}
 use Rattle.qrules.specs.Calls.Error.{errored}
-use Rattle.qrecords.specs.Endings.{in_order}
+use Rattle.qrecords.specs.Endings.{inserted}
 use Rattle.qrules.specs.Held.{finished}
 use Rattle.qrecords.specs.HeldIn.{is_held_in}
 use Rattle.qkernel.specs.State.{State, IsSound}
@@ -19,7 +19,7 @@ use Rattle.qkernel.proofs.Steps.Held.{is_held, two_ended, answered_calls}
 
 pub step_errored : (s : State) (t : ℕ) (m : Member) (i : ℕ) (sound : IsSound s) (known : member_at (members_of s.threads) t ≡ Some m) (code : ℤ) (u : ℕ) (y : Completion)
     → s.down ≡ false → open_in s.threads t ≡ None → is_held_in s.threads s.connections s.channels m.process i ≡ true → sender_in s.threads i ≡ Some u → finished (errored code) u (open_in s.threads u) ≡ Some y
-    → (threads : List Thread) (X : List Completion) → SetsOpen u None s.threads threads → X ≡ in_order (record { call = s.made + 1; thread = t; mark = mark.Ok; buffer = [] }) y
+    → (threads : List Thread) (X : List Completion) → SetsOpen u None s.threads threads → X ≡ inserted y (record { call = s.made + 1; thread = t; mark = mark.Ok; buffer = [] } ∷ [])
     → Steps s t (Error i code) X (record { made = s.made + 1; down = s.down; threads = threads; channels = s.channels; connections = s.connections })
 step_errored s t m i sound known code u y up free held is_sender ended threads X takes is = (
   true,

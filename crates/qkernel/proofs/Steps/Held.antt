@@ -1,5 +1,5 @@
 -- What the calls on held messages share, by the kernel's content.
-use Rattle.std.proofs.Common.{◌≡◌, ◌≢◌, ℕ, ◌+◌, List, [], ◌∷◌, refl, ap, sym, subst, ◌∙◌, cond, true, false, eqb, ltb, inl}
+use Rattle.std.proofs.Common.{◌≡◌, ◌≢◌, ℕ, ◌+◌, List, [], ◌∷◌, refl, ap, sym, subst, ◌∙◌, cond, true, false, eqb, inl}
 use Rattle.std.specs.Prelude.{Option, None, Some, is_some, ◌||◌}
 use Rattle.std.specs.List.{filter_map}
 use Rattle.std.proofs.lemmas.Bool.{eqb-true, eq-eqb, true≢false, and_parts}
@@ -18,7 +18,7 @@ use Rattle.qrules.specs.declared.open_call.Wait.TheVariants.{Answer, Item as For
 use Rattle.qrecords.specs.declared.thread.Thread.{Thread}
 use Rattle.qrules.specs.Answer.{row_of, failed}
 use Rattle.qrecords.specs.Channels.{channel_in}
-use Rattle.qrecords.specs.Endings.{in_order}
+use Rattle.qrecords.specs.Endings.{inserted}
 use Rattle.qrules.specs.Facts.{is_send, sender, sender_among, threads_of}
 use Rattle.qrules.specs.Held.{Finish, ends_sender, finished, finished_with, is_held_for, owns_end, refusal}
 use Rattle.qrecords.specs.HeldIn.{leads_to_own, is_held_over, is_held_in}
@@ -26,8 +26,9 @@ use Rattle.qkernel.specs.State.{State, IsSound, facts_in}
 use Rattle.qkernel.specs.Stands.{Steps}
 use Rattle.qrules.specs.Step.{unless}
 use Rattle.qrecords.specs.Threads.{members_of, open_in, held_over_in, sender_in, sent_call, SetsOpen}
-use Rattle.qrules.proofs.Past.Lists.{is_among, cond_same}
-use Rattle.qrules.proofs.Rosters.{rises, among, filter_same, two_hits}
+use Rattle.qrecords.proofs.Inserting.{two_endings}
+use Rattle.qbase.proofs.Lists.{is_among, cond_same}
+use Rattle.qrules.proofs.Rosters.{rises, among, filter_map_same}
 use Rattle.qkernel.proofs.Steps.Common.{counted, step_refused_alone, owned_by_member}
 
 module _ (s : State) (t : ℕ) (m : Member) (i : ℕ) (sound : IsSound s) (known : member_at (members_of s.threads) t ≡ Some m) where
@@ -103,14 +104,14 @@ module _ (s : State) (t : ℕ) (m : Member) (i : ℕ) (sound : IsSound s) (known
   apart e = none-some y (sym (ap (finished finish u) (ap (open_in s.threads) (sym e) ∙ free)) ∙ ended)
 
   -- the endings of the two threads
-  pub two_ended : (X : List Completion) → X ≡ in_order mine y → X ≡ filter_map (λ v. cond (eqb v t) (Some mine) (ends_sender (facts_in s) finish (sender (facts_in s) i) v)) (threads_of (members_of s.threads))
+  pub two_ended : (X : List Completion) → X ≡ inserted y (mine ∷ []) → X ≡ filter_map (λ v. cond (eqb v t) (Some mine) (ends_sender (facts_in s) finish (sender (facts_in s) i) v)) (threads_of (members_of s.threads))
   two_ended X is =
-      is ∙ ap (λ v. cond (ltb t v) (mine ∷ y ∷ []) (y ∷ mine ∷ [])) (finished_thread finish u (open_in s.threads u) y ended)
-      ∙ sym (filter_same (λ v. cond (eqb v t) (Some mine) (ends_sender (facts_in s) finish (sender (facts_in s) i) v)) (λ v. cond (eqb v t) (Some mine) (cond (eqb v u) (Some y) None)) (threads_of (members_of s.threads)) (λ v. rw is_sender
+      is ∙ two_endings mine y t u refl (finished_thread finish u (open_in s.threads u) y ended) apart (threads_of (members_of s.threads)) (rises (members_of s.threads) sound.roster) (among (members_of s.threads) t m known) (among_senders s.threads i u is_sender)
+      ∙ sym (filter_map_same (λ v. cond (eqb v t) (Some mine) (ends_sender (facts_in s) finish (sender (facts_in s) i) v)) (λ v. cond (eqb v t) (Some mine) (cond (eqb v u) (Some y) None)) (threads_of (members_of s.threads)) (λ v. rw is_sender
       (ap (cond (eqb v t) (Some mine)) (elim (eqb v u) as (λ b. eqb v u ≡ b → cond b (finished finish v (open_in s.threads v)) None ≡ cond b (Some y) None) [
         | true ↦ λ f. rw (eqb-true v u f) ended
         | false ↦ λ f. refl
-      ] refl))) ∙ two_hits (threads_of (members_of s.threads)) t u mine y (rises (members_of s.threads) sound.roster) (among (members_of s.threads) t m known) (among_senders s.threads i u is_sender) apart)
+      ] refl))))
 
   -- the sender waits no more
   pub answered_calls : (threads : List Thread) → SetsOpen u None s.threads threads → (v : ℕ)

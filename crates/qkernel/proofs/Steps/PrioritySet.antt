@@ -2,6 +2,7 @@
 use Rattle.std.proofs.Common.{◌≡◌, ℕ, ◌+◌, List, [], ◌∷◌, refl, sym, ◌∙◌, cond, arith, true, false, eqb, inl}
 use Rattle.std.specs.Prelude.{None, Some, unwrap_or}
 use Rattle.std.proofs.lemmas.List.{append-nil}
+use Rattle.std.specs.Option.{option_or}
 use Rattle.qbase.specs.declared.errno.Errno.TheVariants.{Srch}
 use Rattle.qtables.specs.Members.{member_at}
 use Rattle.qtables.specs.declared.member.Member.{Member}
@@ -16,7 +17,6 @@ use Rattle.qkernel.specs.Stands.{Steps}
 use Rattle.qrecords.specs.Threads.{level_in, members_of, open_in, SetsLevel}
 use Rattle.qrules.proofs.Rosters.{among, only_own, rises}
 use Rattle.qkernel.proofs.Steps.Common.{uncut, counted, stays_free, step_refused_alone}
-use Rattle.qrules.specs.Rows.{first_some}
 
 module _ (s : State) (t thread priority : ℕ) (m : Member) (known : member_at (members_of s.threads) t ≡ Some m) (up : s.down ≡ false) (free : open_in s.threads t ≡ None) where
   pub step_set_refused : (X : List Completion) → is_in_process m.process (member_at (members_of s.threads) thread) ≡ false → X ≡ failed (facts_in s) t (PrioritySet thread priority) Srch ∷ []
@@ -46,7 +46,7 @@ module _ (s : State) (t thread priority : ℕ) (m : Member) (known : member_at (
         live_connections = rw known (omega arith);
         open_call = λ u. sets.open_call u ∙ stays_free s.threads t u free;
         pending = λ k. uncut s t (PrioritySet thread priority) (rw (up, free, known, own) refl) refl refl k (sym (append-nil _));
-        priority = λ u. sets.priority u ∙ (elim (eqb thread u) as (λ b. unwrap_or (cond b (Some priority) None) (level_in s.threads u) ≡ unwrap_or (first_some (cond b (Some priority) None) None) (level_in s.threads u)) [ true ↦ refl | false ↦ refl ]);
+        priority = λ u. sets.priority u ∙ (elim (eqb thread u) as (λ b. unwrap_or (cond b (Some priority) None) (level_in s.threads u) ≡ unwrap_or (option_or (cond b (Some priority) None) None) (level_in s.threads u)) [ true ↦ refl | false ↦ refl ]);
       };
     },
   )

@@ -14,6 +14,7 @@ use Rattle.qrecords.specs.Channels.{way_in}
 use Rattle.qrecords.specs.Pulses.{has_room}
 use Rattle.qrules.specs.Facts.{way}
 use Rattle.qrules.specs.Rows.{pulse_item}
+use Rattle.qrules.specs.Pulses.{full}
 use Rattle.qkernel.specs.State.{State, facts_in}
 use Rattle.qkernel.specs.Stands.{Steps}
 use Rattle.qrecords.specs.Threads.{members_of, open_in}
@@ -56,14 +57,12 @@ module _ (s : State) (t coid priority : ℕ) (code value : ℤ) (m : Member) (kn
 -- ---- a pulse that is sent
 
 pub tells_pulse : (s : State) (t coid priority : ℕ) (code value : ℤ) (m : Member) (h : ℕ) → member_at (members_of s.threads) t ≡ Some m → s.down ≡ false → open_in s.threads t ≡ None
-    → way_in m.process s.channels (entry_at s.connections coid) ≡ Some h → is_negative code ≡ false → has_room s.channels h ≡ true → Tells s t (Pulse coid priority code value) h (pulse_item (s.made + 1) priority code value)
+    → way_in m.process s.channels (entry_at s.connections coid) ≡ Some h → is_negative code ≡ false → full (facts_in s) h ≡ None → Tells s t (Pulse coid priority code value) (Some (record { item = pulse_item (s.made + 1) priority code value; channel = h }))
 tells_pulse s t coid priority code value m h known up free found positive room =
     let there : way (facts_in s) t coid ≡ Some h = some_way s t coid m h known found in
     record {
       quiet = record { closes_none = refl; detaches_none = refl; stays_up = refl; creates_none = rw known refl; attaches_none = rw known refl; sets_none = refl; writes_none = refl };
       passed = rw (up, free, there, positive, room) refl;
-      number = refl;
-      pulse = refl;
       made = some_sent s t coid m h known found (pulse_item (s.made + 1) priority code value);
       own = refl;
       ends = λ u. rw there refl;

@@ -29,8 +29,8 @@ use Rattle.qkernel.specs.State.{State, IsSound, facts_in}
 use Rattle.qkernel.specs.Stands.{Steps}
 use Rattle.qrules.specs.Step.{after_receipt, is_thread, held_call, taken_out, unless, taken_by}
 use Rattle.qrecords.specs.Threads.{members_of, open_in, level_in, message_from, sender_in, SetsOpen, HandsOver, SetsLevel}
-use Rattle.qrules.proofs.Past.Lists.{all_filter, eqb_either, cond_same}
-use Rattle.qrules.proofs.Rosters.{rises, among, nothing, filter_same, only_own}
+use Rattle.qbase.proofs.Lists.{all_filter, eqb_either, cond_same}
+use Rattle.qrules.proofs.Rosters.{rises, among, nothing, filter_map_same, only_own}
 use Rattle.qkernel.proofs.Steps.Common.{uncut, counted, step_refused_alone, owned_by_member, all_up_to, stays_free}
 use Rattle.qkernel.proofs.Steps.Delivering.{count_kept, sound_items}
 
@@ -81,7 +81,7 @@ step_of s t chid Any buffer m o X threads channels none known up free owned best
   record {
     answer = (
       rw (up, free, owned) refl,
-      r.endings ∙ sym (filter_same (ending (facts_in s) t (Receive chid buffer)) (λ u. cond (eqb u t) (own_of s t buffer o) None) (threads_of (members_of s.threads)) (λ u. rw best refl)),
+      r.endings ∙ sym (filter_map_same (ending (facts_in s) t (Receive chid buffer)) (λ u. cond (eqb u t) (own_of s t buffer o) None) (threads_of (members_of s.threads)) (λ u. rw best refl)),
     );
     follows = record {
       roster = r.roster;
@@ -104,7 +104,7 @@ step_of s t chid PulseOnly buffer m o X threads channels none known up free owne
     record {
       answer = (
         rw (up, free, owned) refl,
-        q.endings ∙ sym (filter_same (ending (facts_in s) t (ReceivePulse chid)) (λ u. cond (eqb u t) (own_of s t [] o) None) (threads_of (members_of s.threads)) (λ u. rw best refl)),
+        q.endings ∙ sym (filter_map_same (ending (facts_in s) t (ReceivePulse chid)) (λ u. cond (eqb u t) (own_of s t [] o) None) (threads_of (members_of s.threads)) (λ u. rw best refl)),
       );
       follows = record {
         roster = q.roster;

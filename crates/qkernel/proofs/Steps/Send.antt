@@ -26,8 +26,8 @@ use Rattle.qkernel.specs.State.{State, IsSound, facts_in}
 use Rattle.qkernel.specs.Stands.{Steps}
 use Rattle.qrules.specs.Step.{unless, held_call, made_on}
 use Rattle.qrecords.specs.Threads.{members_of, open_in, level_in, newest_by, SetsOpen, Wakes}
-use Rattle.qrules.proofs.Past.Lists.{is_among, cond_same}
-use Rattle.qrules.proofs.Rosters.{rises, nothing, filter_same, only_own}
+use Rattle.qbase.proofs.Lists.{is_among, cond_same}
+use Rattle.qrules.proofs.Rosters.{rises, nothing, filter_map_same, only_own}
 use Rattle.qkernel.proofs.Steps.Delivering.{counted_room, count_kept, items_after, newest_is, some_sent, some_way, with_item, level_of}
 use Rattle.qrecords.proofs.Receivers.{ended_thread}
 use Rattle.qkernel.proofs.Steps.Common.{uncut, counted, step_refused, step_refused_alone, way-leads_to}
@@ -119,7 +119,7 @@ module _ (s : State) (t coid : ℕ) (message reply_buffer : List ℕ) (m : Membe
       record {
         answer = (
           rw (up, free, over_way) refl,
-          is ∙ sym (filter_same (ending (facts_in s) t (Send coid message reply_buffer)) (λ u. cond (eqb u r) (Some y) None) (threads_of (members_of s.threads)) (λ u. rw (over_way, newest_is_r) (
+          is ∙ sym (filter_map_same (ending (facts_in s) t (Send coid message reply_buffer)) (λ u. cond (eqb u r) (Some y) None) (threads_of (members_of s.threads)) (λ u. rw (over_way, newest_is_r) (
               elim (eqb u t) as (λ b. eqb u t ≡ b → cond b None (cond (eqb u r) (takes item message u (open_in s.threads u)) None) ≡ cond (eqb u r) (Some y) None) [
                 | true ↦ λ e. let other : eqb u r ≡ false = ne_eqb u r (λ s. apart (sym (eqb-true u t e) ∙ s)) in rw other refl
                 | false ↦ λ e. elim (eqb u r) as (λ b. eqb u r ≡ b → cond b (takes item message u (open_in s.threads u)) None ≡ cond b (Some y) None) [

@@ -1,40 +1,39 @@
 -- What the steps share that send a pulse.
-use Rattle.std.proofs.Common.{◌≡◌, ℕ, ◌+◌, List, [], ◌∷◌, refl, ap, sym, subst, ◌∙◌, cond, arith, true, false, eqb, ltb, inl, inr}
+use Rattle.std.proofs.Common.{◌≡◌, ℕ, ◌+◌, List, [], ◌∷◌, refl, ap, sym, subst, ◌∙◌, cond, arith, true, false, eqb, inl, inr}
 use Rattle.std.specs.Prelude.{Bool, Option, None, Some, is_some}
-use Rattle.std.proofs.lemmas.Bool.{eqb-true}
-use Rattle.qqueue.specs.Best.{is_pulse}
+use Rattle.std.proofs.lemmas.Bool.{eqb-true, ne_eqb}
+use Rattle.std.specs.Option.{option_or}
 use Rattle.qqueue.specs.declared.item.Item.{Item}
 use Rattle.qtables.specs.Members.{member_at}
 use Rattle.qtables.specs.declared.member.Member.{Member}
 use Rattle.qbase.specs.declared.errno.Errno.{Errno}
 use Rattle.qbase.specs.declared.errno.Errno.TheVariants.{Again, NoMemory}
+use Rattle.qbase.proofs.Lists.{cond_same}
 use Rattle.qrules.specs.Answer.{MayRefuse, ending, failed, refusal, row_of}
-use Rattle.qrules.specs.Delivering.{meets, received_of}
 use Rattle.qrules.specs.Facts.{Facts, threads_of}
 use Rattle.qrules.specs.Items.{makes}
 use Rattle.qrules.specs.Past.{attaches, creates}
-use Rattle.qrules.specs.Receivers.{newest}
-use Rattle.qrules.specs.Rows.{closes, detaches, received, sets, shuts_down, takes, unblocks, writes}
+use Rattle.qrules.specs.Rows.{Made, closes, detaches, sets, shuts_down, unblocks, writes}
 use Rattle.qrules.specs.Step.{after_unblock, unless}
 use Rattle.qrules.specs.declared.call.Call.{Call}
 use Rattle.qrules.specs.declared.call.Completion.{Completion}
 use Rattle.qrules.specs.declared.open_call.OpenCall.{OpenCall}
 use Rattle.qrecords.specs.declared.channel.Channel.{Channel}
 use Rattle.qrecords.specs.declared.thread.Thread.{Thread}
-use Rattle.qrecords.specs.Channels.{pending_in}
-use Rattle.qrecords.specs.Endings.{in_order, with_other}
-use Rattle.qrecords.specs.Pulses.{IsLeft, IsMet, IsSent, IsTurnedAway, has_room}
+use Rattle.qrecords.specs.Endings.{inserted_if}
+use Rattle.qrecords.specs.Pulses.{IsSent, IsSentIfDue, IsTurnedAway, has_room}
 use Rattle.qrecords.specs.Threads.{level_in, members_of, open_in}
+use Rattle.qrecords.proofs.Inserting.{own_first, own_one}
 use Rattle.qkernel.specs.State.{State, IsSound, facts_in}
 use Rattle.qkernel.specs.Stands.{Steps}
-use Rattle.qrules.proofs.Calls.Delivering.{delivers_settled}
 use Rattle.qrules.proofs.Past.OpenCalls.{unblock_none}
-use Rattle.qrules.proofs.Rosters.{among, filter_same, only_own, rises, two_hits}
-use Rattle.qrecords.proofs.Receivers.{ended_thread}
-use Rattle.qkernel.proofs.Steps.Common.{Counted, counted_alone, sound_counted, step_refused, uncut_by}
+use Rattle.qrules.proofs.Rosters.{among, filter_map_same, only_own, rises}
+use Rattle.qrules.specs.Pulses.{told, told_receipt}
+use Rattle.qrules.proofs.Past.Laws.{IsSettled}
+use Rattle.qkernel.proofs.Steps.Common.{Counted, counted_alone, sound_counted, sound_counted_alone, step_refused, uncut_by}
 use Rattle.qkernel.proofs.Steps.Cutting.{mine}
-use Rattle.qkernel.proofs.Steps.Meeting.{apart, ended_is, idle_after, newest_met, receiver, there, told_mark, waits_after}
-use Rattle.qkernel.proofs.Steps.Delivering.{count_kept, counted_room, items_after, newest_is, sound_threads, sound_with_item, with_item}
+use Rattle.qkernel.proofs.Steps.Delivering.{count_kept, counted_room, sound_threads, sound_with_item}
+use Rattle.qkernel.proofs.Steps.Told.{IsNew, IsTold, not_caller, told_settled}
 
 -- of its own the call neither creates nor attaches, detaches, destroys, sets or writes anything
 pub record Quiet (f : Facts) (t : ℕ) (c : Call) : Type 0 where
@@ -46,118 +45,85 @@ pub record Quiet (f : Facts) (t : ℕ) (c : Call) : Type 0 where
   pub sets_none : sets c ≡ None
   pub writes_none : writes c ≡ None
 
--- the call is accepted, and sends this pulse to channel h
-pub record Tells (s : State) (t : ℕ) (c : Call) (h : ℕ) (item : Item) : Type 0 where
+-- the call is accepted, and sends this pulse
+pub record Tells (s : State) (t : ℕ) (c : Call) (o : Option Made) : Type 0 where
   pub quiet : Quiet (facts_in s) t c
   pub passed : refusal (facts_in s) t c ≡ None
-  pub number : item.number ≡ s.made + 1
-  pub pulse : is_pulse item.what ≡ true
-  pub made : makes (facts_in s) t c ≡ Some (record { item = item; channel = h })
+  pub made : makes (facts_in s) t c ≡ o
   pub own : (row_of (facts_in s) t c).own ≡ Some (mine s t)
-  pub ends : (u : ℕ) → (row_of (facts_in s) t c).ends u ≡ meets (facts_in s) item [] (newest (facts_in s) h item) u
-  pub receipt : (row_of (facts_in s) t c).receipt ≡ received_of (facts_in s) None item [] (Some h) (newest (facts_in s) h item)
+  pub ends : (u : ℕ) → (row_of (facts_in s) t c).ends u ≡ told (facts_in s) o u
+  pub receipt : (row_of (facts_in s) t c).receipt ≡ told_receipt (facts_in s) o
 
 -- the threads once it is kept that an unblock pulse was made, if it was
-pub record AreMarked (c : Call) (h : ℕ) (item : Item) (mid threads : List Thread) : Type 0 where
+pub record AreMarked (c : Call) (o : Option Made) (mid threads : List Thread) : Type 0 where
   pub members : members_of threads ≡ members_of mid
-  pub open_call : (u : ℕ) → open_in threads u ≡ after_unblock (Some (record { item = item; channel = h })) (unblocks c) u (open_in mid u)
+  pub open_call : (u : ℕ) → open_in threads u ≡ after_unblock o (unblocks c) u (open_in mid u)
   pub priority : (u : ℕ) → level_in threads u ≡ level_in mid u
 
-module _ (s : State) (t : ℕ) (c : Call) (m : Member) (h : ℕ) (item : Item) (sound : IsSound s) (known : member_at (members_of s.threads) t ≡ Some m) (free : open_in s.threads t ≡ None) (tells : Tells s t c h item) where
-  -- another than the caller is marked, since that waits for nothing
-  marked_after : (after : ℕ → Option OpenCall) → ((u : ℕ) → eqb u t ≡ true → after u ≡ None) → (u : ℕ)
-      → after_unblock (Some (record { item = item; channel = h })) (unblocks c) u (after u) ≡ cond (eqb u t) None (after_unblock (Some (record { item = item; channel = h })) (unblocks c) u (after u))
-  marked_after after idle u = elim (eqb u t) as (λ b. eqb u t ≡ b → after_unblock (Some (record { item = item; channel = h })) (unblocks c) u (after u) ≡ cond b None (after_unblock (Some (record { item = item; channel = h })) (unblocks c) u (after u))) [
-    | true ↦ λ same. ap (after_unblock (Some (record { item = item; channel = h })) (unblocks c) u) (idle u same) ∙ unblock_none (Some (record { item = item; channel = h })) (unblocks c) u
-    | false ↦ λ other. refl
-  ] refl
+module _ (s : State) (t : ℕ) (c : Call) (m : Member) (o : Option Made) (sound : IsSound s) (known : member_at (members_of s.threads) t ≡ Some m) (free : open_in s.threads t ≡ None) (tells : Tells s t c o)
+    (mid : List Thread) (channels : List (ℕ × Channel)) (met : Option Completion) (is : IsTold s t o mid channels met) where
+  abbrev ts : List ℕ
+  ts = threads_of (members_of s.threads)
 
-  idle_caller : (u : ℕ) → eqb u t ≡ true → open_in s.threads u ≡ None
-  idle_caller u same = ap (open_in s.threads) (eqb-true u t same) ∙ free
+  -- the caller's own ending
+  abbrev g : ℕ → Option Completion
+  g u = cond (eqb u t) (Some (mine s t)) None
 
-  -- the pulse waits
-  step_left : (mid threads : List Thread) (channels : List (ℕ × Channel)) (X : List Completion) → IsLeft h item s.threads s.channels mid channels → AreMarked c h item mid threads → X ≡ mine s t ∷ []
+  g_none : (u : ℕ) → is_some (told (facts_in s) o u) ≡ true → g u ≡ None
+  g_none u there = rw (ne_eqb u t (not_caller s t u o mid channels met is there)) refl
+
+  ending_is : (u : ℕ) → option_or (g u) (told (facts_in s) o u) ≡ ending (facts_in s) t c u
+  ending_is u = rw (tells.own, tells.ends u) (own_first (eqb u t) (Some (mine s t)) (told (facts_in s) o u))
+
+  -- the receiver of the pulse isn't marked, and neither is the caller
+  unless_after : (b : Bool) (u : ℕ) (w : Option OpenCall) → after_unblock o (unblocks c) u (unless b w) ≡ unless b (after_unblock o (unblocks c) u w)
+  unless_after true u w = unblock_none o (unblocks c) u
+  unless_after false u w = refl
+
+  idle : (u : ℕ) → eqb u t ≡ true → after_unblock o (unblocks c) u (open_in s.threads u) ≡ None
+  idle u same = ap (after_unblock o (unblocks c) u) (ap (open_in s.threads) (eqb-true u t same) ∙ free) ∙ unblock_none o (unblocks c) u
+
+  open_after : (u : ℕ) → after_unblock o (unblocks c) u (open_in mid u) ≡ cond (eqb u t) None (unless (is_some (told (facts_in s) o u)) (after_unblock o (unblocks c) u (open_in s.threads u)))
+  open_after u = ap (after_unblock o (unblocks c) u) (is.open_call u) ∙ unless_after (is_some (told (facts_in s) o u)) u (open_in s.threads u)
+      ∙ (elim (eqb u t) as (λ b. eqb u t ≡ b → unless (is_some (told (facts_in s) o u)) (after_unblock o (unblocks c) u (open_in s.threads u))
+      ≡ cond b None (unless (is_some (told (facts_in s) o u)) (after_unblock o (unblocks c) u (open_in s.threads u)))) [
+        | true ↦ λ same. ap (unless (is_some (told (facts_in s) o u))) (idle u same) ∙ cond_same (is_some (told (facts_in s) o u)) None
+        | false ↦ λ other. refl
+      ] refl)
+
+  settled : (u : ℕ) (y : Completion) → (row_of (facts_in s) t c).ends u ≡ Some y → IsSettled (open_in s.threads u)
+  settled u y e = told_settled s o u y (sym (tells.ends u) ∙ e)
+
+  -- it waits, or meets a receiver
+  pub step_told : (threads : List Thread) (X : List Completion) → AreMarked c o mid threads → X ≡ inserted_if met (mine s t ∷ [])
       → Steps s t c X (record { made = s.made + 1; down = s.down; threads = threads; channels = channels; connections = s.connections })
-  step_left mid threads channels X left marked is =
-      let none : newest (facts_in s) h item ≡ None = newest_is s h item None sound left.nobody in
+  step_told threads X marked is_X =
       let q = tells.quiet in (
         true,
         record {
           answer = (
             tells.passed,
-            is ∙ sym (filter_same (ending (facts_in s) t c) (λ u. cond (eqb u t) (Some (mine s t)) None) (threads_of (members_of s.threads)) (λ u. rw (tells.own, tells.ends u, none) refl)
-                ∙ only_own (threads_of (members_of s.threads)) t (Some (mine s t)) (rises (members_of s.threads) sound.roster) (among (members_of s.threads) t m known)),
+            is_X ∙ ap (inserted_if met) (sym (only_own ts t (Some (mine s t)) (rises (members_of s.threads) sound.roster) (among (members_of s.threads) t m known)))
+                ∙ is.endings g (λ u x e. own_one (mine s t) t u x refl e) g_none ∙ filter_map_same (λ u. option_or (g u) (told (facts_in s) o u)) (ending (facts_in s) t c) ts ending_is,
           );
           follows = record {
-            roster = marked.members ∙ ap members_of left.threads_are;
+            roster = marked.members ∙ is.members;
             number = refl;
             down = rw (q.stays_up) refl;
-            channel = λ k. left.sets.channel k ∙ rw (q.closes_none, q.creates_none) refl;
-            open_channels = rw (q.closes_none, q.creates_none) (count_kept s.channels channels left.sets.ids);
+            channel = λ k. is.channel k ∙ rw (q.closes_none, q.creates_none) refl;
+            open_channels = rw (q.closes_none, q.creates_none) (count_kept s.channels channels is.ids);
             connection = λ k. rw (q.attaches_none, q.detaches_none) refl;
             live_connections = rw (q.attaches_none, q.detaches_none) (omega arith);
-            open_call = λ u. marked.open_call u ∙ ap (λ ts. after_unblock (Some (record { item = item; channel = h })) (unblocks c) u (open_in ts u)) left.threads_are
-                ∙ marked_after (open_in s.threads) idle_caller u ∙ rw (tells.own, tells.ends u, tells.receipt, none, tells.made, q.writes_none) refl;
-            pending = λ k. uncut_by s t c (delivers_settled (facts_in s) t (Some h) c item [] None tells.ends tells.receipt) q.closes_none k (left.sets.pending k ∙ rw (tells.receipt, none, tells.made) (with_item s h item sound tells.number k));
-            priority = λ u. marked.priority u ∙ ap (λ ts. level_in ts u) left.threads_are ∙ rw (q.sets_none, tells.receipt, none) refl;
+            open_call = λ u. marked.open_call u ∙ open_after u ∙ rw (tells.own, tells.ends u, tells.receipt, tells.made, q.writes_none, is.senderless u (open_in s.threads u)) refl;
+            pending = λ k. uncut_by s t c settled q.closes_none k (is.pending k ∙ rw (tells.receipt, tells.made) refl);
+            priority = λ u. marked.priority u ∙ is.priority u ∙ rw (q.sets_none, tells.receipt) refl;
           };
         },
       )
 
-  -- the pulse meets a receiver
-  module _ (y : Completion) (mid threads : List Thread) (channels : List (ℕ × Channel)) (met : IsMet h item s.threads s.channels mid channels y) where
-    -- an unblock pulse marks another than its receiver
-    unless_after : (b : Bool) (u : ℕ) (o : Option OpenCall) → after_unblock (Some (record { item = item; channel = h })) (unblocks c) u (unless b o) ≡ unless b (after_unblock (Some (record { item = item; channel = h })) (unblocks c) u o)
-    unless_after true u o = unblock_none (Some (record { item = item; channel = h })) (unblocks c) u
-    unless_after false u o = refl
-
-    pub step_met : (X : List Completion) → AreMarked c h item mid threads → X ≡ in_order (mine s t) y
-        → Steps s t c X (record { made = s.made + 1; down = s.down; threads = threads; channels = channels; connections = s.connections })
-    step_met X marked is =
-        let q = tells.quiet in
-        let mark : received y.mark ≡ Some (item.number, 0) = told_mark item (receiver s t h item y mid channels sound free met) (open_in s.threads (receiver s t h item y mid channels sound free met)) y tells.pulse met.ended in
-        let thread : y.thread ≡ receiver s t h item y mid channels sound free met = ended_thread item [] (receiver s t h item y mid channels sound free met) (open_in s.threads (receiver s t h item y mid channels sound free met)) y met.ended in (
-          true,
-          record {
-            answer = (
-              tells.passed,
-              is ∙ ap (λ v. cond (ltb t v) (mine s t ∷ y ∷ []) (y ∷ mine s t ∷ [])) thread
-                  ∙ sym (filter_same (ending (facts_in s) t c) (λ u. cond (eqb u t) (Some (mine s t)) (cond (eqb u (receiver s t h item y mid channels sound free met)) (Some y) None)) (threads_of (members_of s.threads))
-                  (λ u. rw (tells.own, tells.ends u, newest_met s t h item y mid channels sound free met) (ap (cond (eqb u t) (Some (mine s t))) (ended_is s t h item y mid channels sound free met u)))
-                  ∙ two_hits (threads_of (members_of s.threads)) t (receiver s t h item y mid channels sound free met) (mine s t) y (rises (members_of s.threads) sound.roster) (among (members_of s.threads) t m known) (there s t h item y mid channels sound free met) (apart s t h item y mid channels sound free met)),
-            );
-            follows = record {
-              roster = marked.members ∙ met.wakes.members;
-              number = refl;
-              down = rw (q.stays_up) refl;
-              channel = λ k. rw (q.closes_none, q.creates_none, met.channels_are) refl;
-              open_channels = rw (q.closes_none, q.creates_none, met.channels_are) (omega arith);
-              connection = λ k. rw (q.attaches_none, q.detaches_none) refl;
-              live_connections = rw (q.attaches_none, q.detaches_none) (omega arith);
-              open_call = λ u. marked.open_call u ∙ marked_after (open_in mid) (idle_after s t h item y mid channels sound free met) u
-                  ∙ ap (cond (eqb u t) None) (ap (after_unblock (Some (record { item = item; channel = h })) (unblocks c) u) (waits_after s t h item y mid channels sound free met u) ∙ unless_after (is_some (cond (eqb u (receiver s t h item y mid channels sound free met)) (takes item [] u (open_in s.threads u)) None)) u (open_in s.threads u))
-                  ∙ rw (tells.own, tells.ends u, tells.receipt, newest_met s t h item y mid channels sound free met, met.ended, mark, tells.made, q.writes_none) refl;
-              pending = λ k. uncut_by s t c (delivers_settled (facts_in s) t (Some h) c item [] None tells.ends tells.receipt) q.closes_none k
-                  (ap (λ cs. pending_in cs k) met.channels_are ∙ rw (tells.receipt, newest_met s t h item y mid channels sound free met, met.ended, mark, tells.made) (items_after s h item sound tells.number k));
-              priority = λ u. marked.priority u ∙ met.wakes.priority u ∙ rw (q.sets_none, tells.receipt, newest_met s t h item y mid channels sound free met, met.ended, mark, thread) refl;
-            };
-          },
-        )
-
-  -- one or the other
-  pub step_told : (other : Option Completion) (mid threads : List Thread) (channels : List (ℕ × Channel)) (X : List Completion) → IsSent h item s.threads s.channels mid channels other → AreMarked c h item mid threads
-      → X ≡ with_other (mine s t) other → Steps s t c X (record { made = s.made + 1; down = s.down; threads = threads; channels = channels; connections = s.connections })
-  step_told None mid threads channels X sent marked is = step_left mid threads channels X sent marked is
-  step_told (Some y) mid threads channels X sent marked is = step_met y mid threads channels sent X marked is
-
--- a pulse that is sent finds room
-pub sent_room : (h : ℕ) (item : Item) (old : List Thread) (channels : List (ℕ × Channel)) (new : List Thread) (now : List (ℕ × Channel)) (other : Option Completion) → IsSent h item old channels new now other → has_room channels h ≡ true
-sent_room h item old channels new now None sent = sent.room
-sent_room h item old channels new now (Some y) sent = sent.room
-
 -- a call that unblocks none leaves all as it is
-pub none_marked : (c : Call) (h : ℕ) (item : Item) (mid : List Thread) → unblocks c ≡ None → AreMarked c h item mid mid
-none_marked c h item mid none = record { members = refl; open_call = λ u. rw none refl; priority = λ u. refl }
+pub none_marked : (c : Call) (o : Option Made) (mid : List Thread) → unblocks c ≡ None → AreMarked c o mid mid
+none_marked c o mid none = record { members = refl; open_call = λ u. rw none refl; priority = λ u. refl }
 
 -- ---- a pulse that is turned away
 
@@ -178,13 +144,15 @@ module _ (s : State) (t : ℕ) (c : Call) (h : ℕ) (e : Errno) (threads : List 
 
 -- ---- soundness
 
-pub sound_sent : (s : State) (h : ℕ) (item : Item) (threads : List Thread) (channels : List (ℕ × Channel)) (other : Option Completion) → item.number ≡ s.made + 1 → IsSent h item s.threads s.channels threads channels other → IsSound s
+-- the kernel stays sound as a pulse is sent
+sound_sent : (s : State) (h : ℕ) (item : Item) (threads : List Thread) (channels : List (ℕ × Channel)) (met : Option Completion) → item.number ≡ s.made + 1 → IsSent h item s.threads s.channels threads channels met → IsSound s
     → IsSound (record { made = s.made + 1; down = s.down; threads = threads; channels = channels; connections = s.connections })
 sound_sent s h item threads channels None number sent sound = sound_with_item s threads channels h item sound (ap members_of sent.threads_are) sent.sets number
 sound_sent s h item threads channels (Some y) number sent sound =
     subst (λ cs. IsSound (record { made = s.made + 1; down = s.down; threads = threads; channels = cs; connections = s.connections })) (sym sent.channels_are) (sound_threads s threads sound sent.wakes.members)
 
--- the threads are those that there were
-pub sent_members : (h : ℕ) (item : Item) (old : List Thread) (channels : List (ℕ × Channel)) (new : List Thread) (now : List (ℕ × Channel)) (other : Option Completion) → IsSent h item old channels new now other → members_of new ≡ members_of old
-sent_members h item old channels new now None sent = ap members_of sent.threads_are
-sent_members h item old channels new now (Some y) sent = sent.wakes.members
+-- and so where none may be due
+pub sound_due : (s : State) (h : ℕ) (d : Option Item) (mid : List Thread) (channels : List (ℕ × Channel)) (met : Option Completion) → IsSound s → IsNew (s.made + 1) d → IsSentIfDue h d s.threads s.channels mid channels met
+    → IsSound (record { made = s.made + 1; down = s.down; threads = mid; channels = channels; connections = s.connections })
+sound_due s h None mid channels met sound new sent = rw (sent.0, sent.1) (sound_counted_alone s sound)
+sound_due s h (Some item) mid channels met sound new sent = sound_sent s h item mid channels met new.0 sent sound

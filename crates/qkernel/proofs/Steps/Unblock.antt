@@ -1,12 +1,14 @@
 -- Unblock as a step of the kernel.
-use Rattle.std.proofs.Common.{◌≡◌, ℕ, ◌+◌, List, [], ◌∷◌, ◌++◌, refl, ap, sym, ◌∙◌, cond, arith, true, false, eqb, inl, inr}
+use Rattle.std.proofs.Common.{◌≡◌, ℕ, ◌+◌, List, [], ◌∷◌, ◌++◌, refl, ap, sym, subst, ◌∙◌, cond, arith, true, false, eqb, inl, inr}
 use Rattle.std.specs.Prelude.{Option, None, Some, filter, is_some, not, ◌&&◌}
 use Rattle.std.specs.List.{list_any}
 use Rattle.std.specs.Option.{option_map}
 use Rattle.std.proofs.lemmas.Bool.{eqb-true}
 use Rattle.std.proofs.lemmas.List.{append-nil}
 use Rattle.std.proofs.lemmas.Option.{none-some, same_Some}
+use Rattle.std.proofs.Math.Bool.{and-false}
 use Rattle.qbase.specs.declared.errno.Errno.TheVariants.{Again, Intr, NoMemory, Srch}
+use Rattle.qqueue.specs.declared.item.Item.{Item}
 use Rattle.qtables.specs.Entries.{entry_at}
 use Rattle.qtables.specs.Members.{member_at}
 use Rattle.qtables.specs.declared.connection.Connection.{Connection}
@@ -15,8 +17,8 @@ use Rattle.qrules.specs.Answer.{MayRefuse, ending, failed}
 use Rattle.qrules.specs.Calls.Unblock.{due, due_of, due_on, ends, guard, guard_over}
 use Rattle.qrules.specs.Cutting.{cut_call, cut_where, is_unread_send}
 use Rattle.qrules.specs.Facts.{is_in_process, threads_of}
-use Rattle.qrules.specs.Pulses.{told_receipt}
-use Rattle.qrules.specs.Rows.{unblock_item}
+use Rattle.qrules.specs.Pulses.{told_receipt, full}
+use Rattle.qrules.specs.Rows.{unblock_item, Made}
 use Rattle.qrules.specs.Step.{left_by, made_on, taken_out, unblocked_call}
 use Rattle.qrules.specs.declared.call.Call.TheVariants.{Unblock}
 use Rattle.qrules.specs.declared.call.Completion.{Completion}
@@ -34,12 +36,12 @@ use Rattle.qrecords.specs.Pulses.{has_room}
 use Rattle.qrecords.specs.Threads.{members_of, open_in, MarksUnblocked}
 use Rattle.qkernel.specs.State.{State, IsSound, facts_in}
 use Rattle.qkernel.specs.Stands.{Steps}
-use Rattle.qrules.proofs.Past.Lists.{and_false}
-use Rattle.qrules.proofs.Rosters.{among, filter_same, only_own, rises}
+use Rattle.qrules.proofs.Rosters.{among, filter_map_same, only_own, rises}
 use Rattle.qkernel.proofs.Steps.Common.{counted, stays_free, step_refused_alone, uncut_by}
 use Rattle.qkernel.proofs.Steps.Cutting.{endings_cut, mine, open_after}
 use Rattle.qkernel.proofs.Steps.Delivering.{count_kept}
 use Rattle.qkernel.proofs.Steps.Telling.{AreMarked, Tells}
+use Rattle.qkernel.proofs.Steps.Told.{IsNew}
 
 -- ---- what guards a wait, by the kernel's content
 
@@ -123,7 +125,7 @@ module _ (s : State) (t thread : ℕ) (m : Member) (sound : IsSound s) (known : 
         record {
           answer = (
             rw (up, free, known, fellow, k.none_due) refl,
-            is ∙ sym (filter_same (ending (facts_in s) t (Unblock thread)) (λ u. cond (eqb u t) (Some (mine s t)) (cut_where (λ wait. eqb u thread) Intr u (open_in s.threads u))) (threads_of (members_of s.threads))
+            is ∙ sym (filter_map_same (ending (facts_in s) t (Unblock thread)) (λ u. cond (eqb u t) (Some (mine s t)) (cut_where (λ wait. eqb u thread) Intr u (open_in s.threads u))) (threads_of (members_of s.threads))
                 (λ u. ap (cond (eqb u t) (Some (mine s t))) (ends_one u))),
           );
           follows = record {
@@ -134,7 +136,7 @@ module _ (s : State) (t thread : ℕ) (m : Member) (sound : IsSound s) (known : 
             open_channels = rw known (count_kept s.channels channels lose.ids);
             connection = λ h. rw known refl;
             live_connections = rw known (omega arith);
-            open_call = λ u. open_after s t (Of thread) Intr threads u free are ∙ rw (ends_one u, k.none_due, and_false (eqb u thread)) refl;
+            open_call = λ u. open_after s t (Of thread) Intr threads u free are ∙ rw (ends_one u, k.none_due, and-false (eqb u thread)) refl;
             pending = λ h. lose.pending h
                 ∙ ap (λ (g : ℕ → Option Completion). filter (λ item. not (list_any (λ v. is_unread_send (entry_at s.connections) h item.number (open_in s.threads v) && is_some (g v)) (threads_of (members_of s.threads)))) (pending_in s.channels h)) (sym ends_same)
                 ∙ ap (left_by (facts_in s) t (Unblock thread) h) (sym (append-nil (pending_in s.channels h)))
@@ -170,7 +172,7 @@ module _ (s : State) (t thread : ℕ) (m : Member) (sound : IsSound s) (known : 
           record {
             answer = (
               rw (up, free, known, fellow, none_due) refl,
-              is ∙ sym (filter_same (ending (facts_in s) t (Unblock thread)) (λ u. cond (eqb u t) (Some (mine s t)) None) (threads_of (members_of s.threads)) (λ u. ap (cond (eqb u t) (Some (mine s t))) (ends_none u))
+              is ∙ sym (filter_map_same (ending (facts_in s) t (Unblock thread)) (λ u. cond (eqb u t) (Some (mine s t)) None) (threads_of (members_of s.threads)) (λ u. ap (cond (eqb u t) (Some (mine s t))) (ends_none u))
                   ∙ only_own _ t (Some (mine s t)) (rises (members_of s.threads) sound.roster) (among (members_of s.threads) t m known)),
             );
             follows = record {
@@ -181,17 +183,17 @@ module _ (s : State) (t thread : ℕ) (m : Member) (sound : IsSound s) (known : 
               open_channels = rw known (omega arith);
               connection = λ h. rw known refl;
               live_connections = rw known (omega arith);
-              open_call = λ u. stays_free s.threads t u free ∙ rw (ends_none u, none_due, and_false (eqb u thread)) refl;
+              open_call = λ u. stays_free s.threads t u free ∙ rw (ends_none u, none_due, and-false (eqb u thread)) refl;
               pending = λ h. uncut_by s t (Unblock thread) (λ u y e. absurd (none-some y (sym (ends_none u) ∙ e))) refl h (rw none_due (sym (append-nil _)));
               priority = λ u. rw none_due refl;
             };
           },
         )
 
-      -- which is told now
-      module _ (first : g.0.receipt.unblocked ≡ false) where
-        due_is : due (facts_in s) thread ≡ Some (record { item = unblock_item (s.made + 1) g.0.receipt.priority g.0.rcvid; channel = g.1 })
-        due_is = q.due_is ∙ rw first refl
+      -- which is told now, by this pulse
+      module _ (first : g.0.receipt.unblocked ≡ false) (pulse : Item) (is_pulse : pulse ≡ unblock_item (s.made + 1) g.0.receipt.priority g.0.rcvid) where
+        due_is : due (facts_in s) thread ≡ Some (record { item = pulse; channel = g.1 })
+        due_is = q.due_is ∙ rw (first, is_pulse) refl
 
         pub unblock_full : has_room s.channels g.1 ≡ false → MayRefuse (facts_in s) t (Unblock thread) Again
         unblock_full full = inl (rw (up, free, known, fellow, due_is, full) refl)
@@ -199,21 +201,23 @@ module _ (s : State) (t thread : ℕ) (m : Member) (sound : IsSound s) (known : 
         pub unblock_memory : has_room s.channels g.1 ≡ true → MayRefuse (facts_in s) t (Unblock thread) NoMemory
         unblock_memory room = inr (rw (up, free, known, fellow, due_is, room) refl, rw due_is refl, refl)
 
-        pub tells_unblock : has_room s.channels g.1 ≡ true → Tells s t (Unblock thread) g.1 (unblock_item (s.made + 1) g.0.receipt.priority g.0.rcvid)
+        pub tells_unblock : full (facts_in s) g.1 ≡ None → Tells s t (Unblock thread) (Some (record { item = pulse; channel = g.1 }))
         tells_unblock room = record {
           quiet = record { closes_none = refl; detaches_none = refl; stays_up = refl; creates_none = rw known refl; attaches_none = rw known refl; sets_none = refl; writes_none = refl };
           passed = rw (up, free, known, fellow, due_is, room) refl;
-          number = refl;
-          pulse = refl;
           made = due_is;
           own = refl;
           ends = λ u. ap (λ d. ends (facts_in s) thread d u) due_is;
           receipt = ap (told_receipt (facts_in s)) due_is;
         }
 
+-- the pulse is one of the call's number
+pub new_pulse : (n priority i : ℕ) (pulse : Item) → pulse ≡ unblock_item n priority i → IsNew n (Some pulse)
+new_pulse n priority i pulse is = subst (λ x. IsNew n (Some x)) (sym is) (refl, refl)
+
 -- what the thread is blocked in is marked
-pub are_marked : (thread h : ℕ) (n priority i : ℕ) (mid threads : List Thread) → MarksUnblocked thread mid threads → AreMarked (Unblock thread) h (unblock_item n priority i) mid threads
-are_marked thread h n priority i mid threads marks = record {
+pub are_marked : (thread : ℕ) (m : Made) (mid threads : List Thread) → MarksUnblocked thread mid threads → AreMarked (Unblock thread) (Some m) mid threads
+are_marked thread m mid threads marks = record {
   members = marks.members;
   open_call = λ u. marks.open_call u ∙ (elim (eqb u thread) as (λ b. cond b (option_map unblocked_call (open_in mid u)) (open_in mid u) ≡ cond (b && true) (option_map unblocked_call (open_in mid u)) (open_in mid u)) [ true ↦ refl | false ↦ refl ]);
   priority = marks.priority;

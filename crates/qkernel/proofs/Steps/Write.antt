@@ -16,7 +16,7 @@ use Rattle.qrules.specs.Step.{is_thread, written_call}
 use Rattle.qkernel.specs.State.{State, IsSound}
 use Rattle.qkernel.specs.Stands.{Steps}
 use Rattle.qrecords.specs.Threads.{members_of, open_in, sender_in, sent_call, ChangesSender}
-use Rattle.qrules.proofs.Past.Lists.{cond_same}
+use Rattle.qbase.proofs.Lists.{cond_same}
 use Rattle.qrules.proofs.Rosters.{among, only_own, rises}
 use Rattle.qkernel.proofs.Steps.Common.{uncut}
 use Rattle.qkernel.proofs.Steps.Held.{is_held}

@@ -1,6 +1,7 @@
 //! Unblock.
 
 ghost use Rattle.std.specs.Prelude.{◌≡◌, ◌<◌, ◌^◌, [], None, Some, false};
+ghost use Rattle.qrules.specs.Rows.{unblock_item};
 ghost use Rattle.qrecords.specs.Threads.{open_in, seat_in};
 
 use super::Kernel;
@@ -10,10 +11,21 @@ use qbase::ids::ThreadNo;
 use qqueue::item::{Item, What};
 use qrecords::cutting::{Cut, cut_calls};
 use qrecords::endings::{Endings, end_one, end_with, own_ending, refuse};
-use qrecords::held::{guarded, mark_unblocked};
+use qrecords::held::{Held, guarded, mark_unblocked};
 use qrecords::pulses::send_pulse;
 use qrecords::thread::{member_of, seat_in_process};
 use qrules::call::{Call, Mark};
+
+/// The pulse that tells of a held message whose sender is to be unblocked.
+fn pulse_for(number: u64, held: &Held) -> Item
+    ensures { result ≡ unblock_item number held.now.receipt.priority held.now.rcvid }
+{
+    Item {
+        number,
+        priority: held.receipt.priority,
+        what: What::Unblock(held.rcvid),
+    }
+}
 
 impl Kernel {
     ghost use Rattle.qkernel.specs.Stands.{Steps};
@@ -65,12 +77,8 @@ impl Kernel {
         if held.receipt.unblocked {
             return end_one(endings, own);
         }
-        let item = Item {
-            number,
-            priority: held.receipt.priority,
-            what: What::Unblock(held.rcvid),
-        };
-        match send_pulse(&mut self.threads, &mut self.channels, chid, item) {
+        let pulse = pulse_for(number, &held);
+        match send_pulse(&mut self.threads, &mut self.channels, chid, pulse) {
             Ok(met) => {
                 mark_unblocked(&mut self.threads, there, target);
                 end_with(endings, own, met);

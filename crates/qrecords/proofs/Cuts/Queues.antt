@@ -4,6 +4,8 @@ use Rattle.std.specs.Prelude.{Option, None, Some, filter}
 use Rattle.std.specs.Option.{option_map}
 use Rattle.std.proofs.lemmas.Bool.{eqb-true, and_left, and_right, not_from_false}
 use Rattle.std.proofs.lemmas.Option.{none-some}
+use Rattle.std.proofs.lemmas.List.Elements.{filter_agree}
+use Rattle.std.proofs.Math.Bool.{and-true}
 use Rattle.qqueue.specs.declared.item.Item.{Item}
 use Rattle.qqueue.specs.Best.{without}
 use Rattle.qtables.specs.Entries.{entry_at}
@@ -16,17 +18,13 @@ use Rattle.qrules.specs.Cutting.{is_to, is_on, is_unread_send}
 use Rattle.qrecords.specs.declared.channel.Channel.{Channel}
 use Rattle.qrecords.specs.Channels.{pending_in, waiting_on, SetsItems}
 use Rattle.qrecords.specs.Cuts.{unread_on_by, taken_by, is_taken_from, Lose}
-use Rattle.qrules.proofs.Past.Lists.{eqb_either, filter_alike, filter_twice, filter_whole}
-
-and_true : (b : Bool) → (b && true) ≡ b
-and_true true = refl
-and_true false = refl
+use Rattle.qbase.proofs.Lists.{eqb_either, filter_twice, filter_whole}
 
 -- without those of which one thing is so, and then without those of which another is
 pub filter_after : {A : Type 0} (p q : A → Bool) (xs : List A) → filter (λ x. not (q x)) (filter (λ x. not (p x)) xs) ≡ filter (λ x. not (p x || q x)) xs
 filter_after p q xs =
     filter_twice (λ x. not (p x)) (λ x. not (q x)) xs
-    ∙ filter_alike (λ x. not (p x) && not (q x)) (λ x. not (p x || q x)) xs (λ x. elim (p x) as (λ b. (not b && not (q x)) ≡ not (b || q x)) [ true ↦ refl | false ↦ refl ])
+    ∙ filter_agree (λ x. not (p x) && not (q x)) (λ x. not (p x || q x)) (λ x. elim (p x) as (λ b. (not b && not (q x)) ≡ not (b || q x)) [ true ↦ refl | false ↦ refl ]) xs
 
 -- ---- channels
 
@@ -58,8 +56,8 @@ loses_one goes channels new h n sets so = record {
   pending = λ k. sets.pending k ∙ (elim (eqb k h) as (λ b. eqb k h ≡ b → cond b (without n (pending_in channels h)) (pending_in channels k) ≡ filter (λ item. not (goes k item.number)) (pending_in channels k)) [
     | true ↦ λ e. let here : k ≡ h = eqb-true k h e in
         ap (λ j. without n (pending_in channels j)) (sym here)
-        ∙ filter_alike (λ item. not (eqb item.number n)) (λ item. not (goes k item.number)) (pending_in channels k)
-        (λ item. ap not (eqb_either item.number n ∙ sym (so k item.number ∙ rw (eqb_either h k ∙ e) (and_true (eqb n item.number)))))
+        ∙ filter_agree (λ item. not (eqb item.number n)) (λ item. not (goes k item.number))
+        (λ item. ap not (eqb_either item.number n ∙ sym (so k item.number ∙ rw (eqb_either h k ∙ e) (and-true (eqb n item.number))))) (pending_in channels k)
     | false ↦ λ e. sym (filter_whole (λ item. not (goes k item.number)) (pending_in channels k) (λ item. not_from_false _ (so k item.number ∙ and_right _ _ (eqb_either h k ∙ e))))
   ] refl);
 }
@@ -75,7 +73,7 @@ pub unread_so : (connection : ℕ → Option Connection) (n : ℕ) (w : Wait) (h
 unread_so connection n (Answer coid message reply_buffer None) h i =
     elim (connection coid) as (λ c. ((eqb n i && true) && is_to h c) ≡ waits_so (option_map (λ c. c.channel) c) n h i) [
       | None ↦ and_right _ false refl
-      | Some c ↦ ap (λ b. b && eqb c.channel h) (and_true (eqb n i))
+      | Some c ↦ ap (λ b. b && eqb c.channel h) (and-true (eqb n i))
     ]
 unread_so connection n (Answer coid message reply_buffer (Some receipt)) h i = and_left _ _ (and_right (eqb n i) false refl)
 unread_so connection n (ForItem chid kind buffer) h i = and_left _ _ (and_right (eqb n i) false refl)

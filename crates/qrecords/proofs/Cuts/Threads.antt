@@ -4,6 +4,7 @@ use Rattle.std.specs.Prelude.{Option, None, Some, is_some, filter, filter_map}
 use Rattle.std.specs.List.{AllByRecursion, list_any, cons_option}
 use Rattle.std.proofs.lemmas.Bool.{eqb-true, ne_eqb, true≢false}
 use Rattle.std.proofs.lemmas.List.{append-nil, drop_more, drop_all, take_at}
+use Rattle.std.proofs.lemmas.List.Elements.{filter_agree}
 use Rattle.qbase.specs.declared.errno.Errno.{Errno}
 use Rattle.qtables.specs.Members.{IsRoster}
 use Rattle.qtables.specs.declared.connection.Connection.{Connection}
@@ -18,7 +19,7 @@ use Rattle.qrecords.specs.declared.thread.Thread.{Thread}
 use Rattle.qrecords.specs.Channels.{ids_of, channel_in, pending_in}
 use Rattle.qrecords.specs.Cuts.{is_cut_by, is_cut_open, is_taken_from, is_cut_among, ending_for, with_ending, left_by, Lose, LoseCut, AreCut}
 use Rattle.qrecords.specs.Threads.{members_of, open_in, level_in}
-use Rattle.qrules.proofs.Past.Lists.{filter_alike, filter_whole}
+use Rattle.qbase.proofs.Lists.{filter_whole}
 use Rattle.qrecords.proofs.Cuts.Queues.{filter_after}
 use Rattle.qrecords.proofs.Senders.{own_open}
 
@@ -183,9 +184,10 @@ module _ (connection : ℕ → Option Connection) (cut : Cut) (e : Errno) (own :
     ids = so.ids;
     channel = so.channel;
     pending = λ k. sym (filter_whole (λ item. true) (pending_in now k) (λ item. refl)) ∙ so.pending k
-        ∙ filter_alike (λ item. not (goes_among connection (is_cut_by connection cut) all k item.number)) (λ item. not (is_cut_among connection cut e all k item.number)) (pending_in first k)
+        ∙ filter_agree (λ item. not (goes_among connection (is_cut_by connection cut) all k item.number)) (λ item. not (is_cut_among connection cut e all k item.number))
         (λ item. ap not (sym (any_by (λ s o. is_unread_send connection k item.number o && is_some (cut_where (is_cut_by connection cut s) e s o)) (λ s o. is_taken_from connection (is_cut_by connection cut s) o k item.number) (open_in all) all
-        (λ s o. ap (λ b. is_unread_send connection k item.number o && b) (some_cut (is_cut_by connection cut s) e s o)) (own_open all roster))));
+        (λ s o. ap (λ b. is_unread_send connection k item.number o && b) (some_cut (is_cut_by connection cut s) e s o)) (own_open all roster))))
+        (pending_in first k);
   }
 
   -- ---- by places

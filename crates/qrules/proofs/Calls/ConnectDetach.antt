@@ -3,6 +3,7 @@ use Rattle.std.proofs.Common.{◌≡◌, ◌∙◌, ◌⊎◌, ℕ, [], ap, refl
 use Rattle.std.specs.Prelude.{Option, None, Some, is_some, ◌&&◌}
 use Rattle.std.proofs.lemmas.Bool.{true≢false, and_parts}
 use Rattle.std.proofs.lemmas.Option.{none-some, same_Some}
+use Rattle.std.specs.Option.{option_or}
 use Rattle.qbase.specs.declared.errno.Errno.TheVariants.{Badf, Inval}
 use Rattle.qqueue.specs.Best.{is_pulse}
 use Rattle.qtables.specs.declared.connection.Connection.{Connection}
@@ -12,7 +13,7 @@ use Rattle.qrules.specs.Cutting.{cut_where, is_over}
 use Rattle.qrules.specs.Facts.{Facts, OpenChannel, tells_disconnect}
 use Rattle.qrules.specs.Past.{is_unblock_for}
 use Rattle.qrules.specs.Pulses.{full_for, told, told_receipt}
-use Rattle.qrules.specs.Rows.{Made, Received, disconnect_item, first_some, received}
+use Rattle.qrules.specs.Rows.{Made, Received, disconnect_item, received}
 use Rattle.qrules.specs.declared.call.Call.TheVariants.{ConnectDetach}
 use Rattle.qrules.specs.declared.call.Completion.{Completion}
 use Rattle.qrules.proofs.Past.Laws.{CallLaws, IsOfOpen, IsOwn, IsReceipt, IsReceived, Passes, RowLaws}
@@ -65,7 +66,7 @@ own_passes f t k r = elim (is_own f t (f.connection k)) as (λ b. cond b (full_f
 -- another's call that it ends is cut, or meets the pulse
 pub detach_ends : (f : Facts) (k : ℕ) (o : Option Made) (u : ℕ) (y : Completion) → ends f k o u ≡ Some y → IsCutCall (is_over k) Badf u (f.open_call u) y ⊎ (told f o u ≡ Some y)
 detach_ends f k o u y e =
-    elim (cut_where (is_over k) Badf u (f.open_call u)) as (λ x. cut_where (is_over k) Badf u (f.open_call u) ≡ x → first_some x (told f o u) ≡ Some y → IsCutCall (is_over k) Badf u (f.open_call u) y ⊎ (told f o u ≡ Some y)) [
+    elim (cut_where (is_over k) Badf u (f.open_call u)) as (λ x. cut_where (is_over k) Badf u (f.open_call u) ≡ x → option_or x (told f o u) ≡ Some y → IsCutCall (is_over k) Badf u (f.open_call u) y ⊎ (told f o u ≡ Some y)) [
       | None ↦ λ none s. inr s
       | Some x ↦ λ some s. inl (cut_parts (is_over k) Badf u (f.open_call u) y (some ∙ s))
     ] refl e
@@ -105,7 +106,7 @@ module _ (f : Facts) (t coid : ℕ) (p : Passes f t (ConnectDetach coid)) where
   met_ends m is u y e =
       let k = met_item f m.item [] (Some m.channel) u y e in
       let uncut : cut_where (is_over coid) Badf u (f.open_call u) ≡ None = rw (k.is, k.waits) refl in
-      ap (λ x. first_some x (told f (due f t coid) u)) uncut ∙ ap (λ o. told f o u) is ∙ e
+      ap (λ x. option_or x (told f (due f t coid) u)) uncut ∙ ap (λ o. told f o u) is ∙ e
 
   receives : (o : Option Made) → due f t coid ≡ o → (q : Received) → told_receipt f o ≡ Some q → IsReceived f t (ConnectDetach coid) q
   receives None is q e = absurd (none-some q e)

@@ -12,13 +12,13 @@ use Rattle.qrules.specs.Delivering.{meets, receiver, receipt_by, received_of}
 use Rattle.qrules.specs.Facts.{Facts, leads_to, way}
 use Rattle.qrules.specs.Receivers.{newest}
 use Rattle.qrules.specs.Items.{makes}
-use Rattle.qrules.specs.Rows.{Received, Made, asks, received, receipt_in, sent_over, takes, takes_into}
+use Rattle.qrules.specs.Rows.{Received, Made, asks, received, receipt_in, sent_over, takes, takes_into, taking}
 use Rattle.qrules.specs.declared.call.Call.{Call}
 use Rattle.qrules.specs.declared.call.Completion.{Completion}
 use Rattle.qrules.specs.declared.open_call.OpenCall.{OpenCall}
 use Rattle.qrules.specs.declared.open_call.Wait.{Wait}
 use Rattle.qrules.specs.declared.open_call.Wait.TheVariants.{Answer, Item as ForItem}
-use Rattle.qrules.proofs.Past.Lists.{eqb_same}
+use Rattle.qbase.proofs.Lists.{eqb_same}
 use Rattle.qrules.proofs.Past.Laws.{IsOfOpen, IsSettled, IsReceipt, IsReceived, is_settled}
 use Rattle.qrules.proofs.Calls.Taking.{Taken, taken_by, receipt_from, receipt_in_at}
 use Rattle.qrules.proofs.Ways.{leads_over}
@@ -31,14 +31,14 @@ sent_item (Some c) item m e = ap (λ x. x.item) (sym (same_Some _ m e))
 -- ---- the receiver that it meets
 
 -- thread u is the receiver r, and its open call ends by taking the item
-record Meets (f : Facts) (item : Item) (message : List ℕ) (r : Option ℕ) (u : ℕ) (y : Completion) : Type 0 where
-  receiver_is : r ≡ Some u
-  given : receipt_by f item message u ≡ Some y
+pub record IsReceiver (f : Facts) (item : Item) (message : List ℕ) (r : Option ℕ) (u : ℕ) (y : Completion) : Type 0 where
+  pub receiver_is : r ≡ Some u
+  pub given : receipt_by f item message u ≡ Some y
 
-met_by : (f : Facts) (item : Item) (message : List ℕ) (r : Option ℕ) (u : ℕ) (y : Completion) → meets f item message r u ≡ Some y → Meets f item message r u y
+pub met_by : (f : Facts) (item : Item) (message : List ℕ) (r : Option ℕ) (u : ℕ) (y : Completion) → meets f item message r u ≡ Some y → IsReceiver f item message r u y
 met_by f item message None u y e = absurd (none-some y e)
 met_by f item message (Some v) u y e =
-    elim (eqb u v) as (λ b. eqb u v ≡ b → cond b (receipt_by f item message u) None ≡ Some y → Meets f item message (Some v) u y) [
+    elim (eqb u v) as (λ b. eqb u v ≡ b → cond b (receipt_by f item message u) None ≡ Some y → IsReceiver f item message (Some v) u y) [
       | true ↦ λ same is. record { receiver_is = ap Some (sym (eqb-true u v same)); given = is }
       | false ↦ λ other is. absurd (none-some y is)
     ] refl e
@@ -119,17 +119,19 @@ pub record ForAnItem (call : Option OpenCall) : Type 0 where
   pub buffer : List ℕ
   pub waits : waiting.wait ≡ ForItem chid kind buffer
 
-takes_item : (item : Item) (message : List ℕ) (u : ℕ) (call : Option OpenCall) (y : Completion) → takes item message u call ≡ Some y → ForAnItem call
+-- what takes the item waits for one, and ends by taking it
+pub takes_item : (item : Item) (message : List ℕ) (u : ℕ) (call : Option OpenCall) (y : Completion) → takes item message u call ≡ Some y
+    → (w : ForAnItem call) × (taking item message u w.waiting.number w.buffer ≡ y)
 takes_item item message u None y e = absurd (none-some y e)
 takes_item item message u (Some o) y e = by_wait o.wait e where
-  by_wait : (w : Wait) → takes_into item message u o.number w ≡ Some y → ForAnItem (Some (record { number = o.number; wait = w }))
+  by_wait : (w : Wait) → takes_into item message u o.number w ≡ Some y → (k : ForAnItem (Some (record { number = o.number; wait = w }))) × (taking item message u k.waiting.number k.buffer ≡ y)
   by_wait (Answer coid sent reply_buffer receipt) e = absurd (none-some y e)
-  by_wait (ForItem chid kind buffer) e = record { waiting = record { number = o.number; wait = ForItem chid kind buffer }; is = refl; chid = chid; kind = kind; buffer = buffer; waits = refl }
+  by_wait (ForItem chid kind buffer) e = (record { waiting = record { number = o.number; wait = ForItem chid kind buffer }; is = refl; chid = chid; kind = kind; buffer = buffer; waits = refl }, same_Some _ y e)
 
 module _ (f : Facts) (item : Item) (message : List ℕ) (o : Option ℕ) where
   -- what is met waits for an item
   pub met_item : (u : ℕ) (y : Completion) → meets f item message (receiver f item o) u ≡ Some y → ForAnItem (f.open_call u)
-  met_item u y e = takes_item item message u (f.open_call u) y (met_by f item message (receiver f item o) u y e).given
+  met_item u y e = (takes_item item message u (f.open_call u) y (met_by f item message (receiver f item o) u y e).given).0
 
   pub met_open : (u : ℕ) (y : Completion) → meets f item message (receiver f item o) u ≡ Some y → IsOfOpen f u y
   met_open u y e =

@@ -14,7 +14,7 @@ use Rattle.qrules.specs.declared.call.Call.{Call}
 use Rattle.qrules.specs.declared.call.Completion.{Completion}
 use Rattle.qrules.specs.declared.open_call.OpenCall.{OpenCall}
 use Rattle.qrules.specs.declared.open_call.Wait.TheVariants.{Item as ForItem}
-use Rattle.qrules.proofs.Past.Lists.{eqb_same}
+use Rattle.qbase.proofs.Lists.{eqb_same}
 use Rattle.qrules.proofs.Past.Laws.{BeginsToWait, CallLaws, RowLaws, IsOwn, IsReceived}
 use Rattle.qrules.proofs.Calls.Taking.{given_no_failure, given_received, receipt_from, receipt_in_at}
 

@@ -8,7 +8,7 @@ use Rattle.qqueue.specs.Best.{best_of, first_of_two, may_take}
 use Rattle.qqueue.specs.Contents.{IsRising}
 use Rattle.qqueue.specs.declared.item.Item.{Item}
 use Rattle.qqueue.specs.declared.item.Kind.{Kind}
-use Rattle.qrules.proofs.Past.Lists.{all_more}
+use Rattle.qbase.proofs.Lists.{all_more}
 
 -- of what may be taken with the priority of x, nothing was made before x
 abbrev pub IsEarliest : Kind → List Item → Item → Type 0

@@ -3,6 +3,7 @@ use Rattle.std.proofs.Common.{◌≡◌, ℕ, List, refl, ap, sym, subst, ◌∙
 use Rattle.std.specs.Prelude.{Option, None, Some, is_some, not, ◌&&◌, ◌||◌}
 use Rattle.std.proofs.lemmas.Bool.{eqb-true, eqb-false, eq-eqb, ne_eqb, true≢false, and_parts, or_parts}
 use Rattle.std.proofs.lemmas.Option.{same_Some, none-some}
+use Rattle.std.proofs.Math.Bool.{and-false}
 use Rattle.qqueue.specs.Best.{is_pulse}
 use Rattle.qqueue.specs.declared.item.Item.{Item}
 use Rattle.qtables.specs.declared.connection.Connection.{Connection}
@@ -12,7 +13,7 @@ use Rattle.qrules.specs.Cutting.{is_on, is_unread_send}
 use Rattle.qrules.specs.Facts.{Facts, is_for_answer, is_for_receipt, threads_of}
 use Rattle.qrules.specs.Headline.AnsweredToSender.{sender_of}
 use Rattle.qrules.specs.Lawful.{facts_of, IsLawful, with_event}
-use Rattle.qrules.specs.Past.{is_unblocked, connection_at, ends, filled, is_ended, is_taken, open_call, priority_of_item, receipt_of, with_receipt, attached}
+use Rattle.qrules.specs.Past.{connection_at, ends, filled, is_ended, is_taken, open_call, priority_of_item, receipt_of, with_receipt, attached}
 use Rattle.qrules.specs.Step.{is_cut, left_by}
 use Rattle.qrules.specs.Trace.{Trace}
 use Rattle.qrules.specs.declared.call.Call.{Call}
@@ -23,8 +24,8 @@ use Rattle.qrules.specs.declared.open_call.Wait.TheVariants.{Answer, Item as For
 use Rattle.qrules.proofs.Past.Ends.{ends_other, open_known, passes_of}
 use Rattle.qrules.proofs.Past.Items.{IsPending, item_at, item_message}
 use Rattle.qrules.proofs.Past.Laws.{IsSettled, is_settled}
-use Rattle.qrules.proofs.Past.Lists.{and_false, any_never, any_only, filter_whole, none_of}
-use Rattle.qrules.proofs.Past.Numbers.{block_fresh, filled_answer, filled_settled, open_from, open_parts, open_thread}
+use Rattle.qbase.proofs.Lists.{any_never, any_only, filter_whole, none_of}
+use Rattle.qrules.proofs.Past.Numbers.{block_fresh, filled_answer, filled_settled, open_from, open_parts, open_thread, is_unblocked}
 use Rattle.qrules.proofs.Properties.Answers.{over}
 use Rattle.qrules.proofs.Properties.Messages.{item_waits, pending_going}
 use Rattle.qrules.proofs.Properties.Sends.{block_over, block_sender, buffer_over}
@@ -70,7 +71,7 @@ EndsSettled f t c = (u : ℕ) (y : Completion) → (row_of f t c).ends u ≡ Som
 none_is_cut : (f : Facts) (t : ℕ) (c : Call) → EndsSettled f t c → (h i : ℕ) → is_cut f t c h i ≡ false
 none_is_cut f t c settled h i = any_never _ (threads_of f.roster) (λ s.
     elim ((row_of f t c).ends s) as (λ y. (row_of f t c).ends s ≡ y → (is_unread_send f.connection h i (f.open_call s) && is_some y) ≡ false) [
-      | None ↦ λ e. and_false _
+      | None ↦ λ e. and-false _
       | Some y ↦ λ e. rw (not_unread f.connection h i (f.open_call s) (settled s y e)) refl
     ] refl)
 

@@ -4,6 +4,7 @@ use Rattle.std.specs.Prelude.{None, Some, is_some}
 use Rattle.std.specs.List.{list_any, filter_map, AllByRecursion}
 use Rattle.std.proofs.lemmas.Bool.{eqb-true, eq-eqb, ne_eqb}
 use Rattle.std.proofs.lemmas.Option.{none-some, same_Some}
+use Rattle.std.proofs.Math.Bool.{and-false}
 use Rattle.qbase.specs.declared.errno.Errno.TheVariants.{Down, Busy}
 use Rattle.qtables.specs.Members.{member_at}
 use Rattle.qtables.specs.declared.member.Member.{Member}
@@ -15,7 +16,7 @@ use Rattle.qrules.specs.Trace.{Trace}
 use Rattle.qrules.specs.declared.call.Call.{Call}
 use Rattle.qrules.specs.declared.call.Completion.{Completion}
 use Rattle.qrules.specs.declared.open_call.OpenCall.{OpenCall}
-use Rattle.qrules.proofs.Past.Lists.{eqb_same, and_false, any_filter_map, any_filter_map_at, all_filter_map}
+use Rattle.qbase.proofs.Lists.{eqb_same, any_filter_map, any_filter_map_at, all_filter_map}
 use Rattle.qrules.proofs.Past.Laws.{Passes, RowLaws, IsOwn, IsOfOpen}
 use Rattle.qrules.proofs.Past.RowLaws.{row_laws}
 use Rattle.qrules.proofs.Past.Numbers.{block_cases, open_parts, open_below, open_thread}
@@ -67,7 +68,7 @@ other_below roster past v y h = let below : h.waiting.number ≤ length past = o
 pub accepted : (roster : List Member) (past : Trace) (t : ℕ) (c : Call) (X : List Completion) → Outcome true (facts_of roster past) t c X → refuses X (length past + 1) ≡ false
 accepted roster past t c X a = rw (a.1) (any_filter_map _ (ending (facts_of roster past) t c) (threads_of roster) (λ v y e.
     elim (ending_names (facts_of roster past) t c v y (laws_of (facts_of roster past) t c X a) e) [
-      | inl h ↦ rw (h.names.mark) (and_false _)
+      | inl h ↦ rw (h.names.mark) (and-false _)
       | inr h ↦
           let below : y.call ≤ length past = other_below roster past v y h.names in
           let other : eqb y.call (length past + 1) ≡ false = ne_eqb _ _ (λ same. omega arith) in

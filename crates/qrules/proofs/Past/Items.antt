@@ -17,7 +17,7 @@ use Rattle.qrules.specs.Rows.{Made, asks}
 use Rattle.qrules.specs.Trace.{Event, Trace}
 use Rattle.qrules.specs.declared.call.Call.{Call}
 use Rattle.qrules.specs.declared.open_call.OpenCall.{OpenCall}
-use Rattle.qrules.proofs.Past.Lists.{eqb_same, all_append, all_map, all_more, all_passing}
+use Rattle.qbase.proofs.Lists.{eqb_same, all_append, all_map, all_more, all_passing}
 use Rattle.qrules.proofs.Past.Laws.{MakesItem}
 use Rattle.qrules.proofs.Past.RowLaws.{call_laws}
 use Rattle.qrules.proofs.Past.Numbers.{call_below, call_earlier, call_newest, block_asked}

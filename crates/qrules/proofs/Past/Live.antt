@@ -15,7 +15,7 @@ use Rattle.qrules.specs.Trace.{Event, Trace}
 use Rattle.qrules.specs.declared.call.Call.{Call}
 use Rattle.qrules.specs.declared.call.Completion.{Completion}
 use Rattle.qrules.proofs.Past.Ends.{accepted, refused}
-use Rattle.qrules.proofs.Past.Lists.{cond_same, eqb_same}
+use Rattle.qbase.proofs.Lists.{cond_same, eqb_same}
 use Rattle.qrules.proofs.Past.Numbers.{made_beyond, made_below}
 
 -- what is made has a number from 1 on

@@ -7,7 +7,7 @@ use Rattle.std.proofs.lemmas.Option.{same_Some, none-some}
 use Rattle.qtables.specs.declared.member.Member.{Member}
 use Rattle.qrules.specs.Facts.{is_for_answer}
 use Rattle.qrules.specs.Headline.CopiedExactly.{call_at}
-use Rattle.qrules.specs.Past.{is_unblocked, filled, is_accepted, is_ended, made_at, newest_block, unless_ended, with_receipt, held_with, open_call, receipt_of, priority_of_item}
+use Rattle.qrules.specs.Past.{filled, is_accepted, is_ended, made_at, newest_block, unless_ended, with_receipt, held_with, open_call, receipt_of, priority_of_item, unblocked_among, items}
 use Rattle.qrules.specs.Rows.{asks, with_buffer}
 use Rattle.qrules.specs.Trace.{Event, Trace}
 use Rattle.qrules.specs.declared.call.Call.{Call}
@@ -15,7 +15,7 @@ use Rattle.qrules.specs.declared.open_call.OpenCall.{OpenCall}
 use Rattle.qrules.specs.declared.open_call.Receipt.{Receipt}
 use Rattle.qrules.specs.declared.open_call.Wait.{Wait}
 use Rattle.qrules.specs.declared.open_call.Wait.TheVariants.{Answer, Item as ForItem}
-use Rattle.qrules.proofs.Past.Lists.{eqb_same}
+use Rattle.qbase.proofs.Lists.{eqb_same}
 use Rattle.qrules.proofs.Past.Laws.{is_settled}
 use Rattle.qrules.proofs.Past.RowLaws.{call_laws}
 
@@ -148,6 +148,10 @@ filled_answer past b = buffer_answer _ b.wait
 
 pub filled_settled : (past : Trace) (b : OpenCall) → is_settled (filled past b).wait ≡ is_settled b.wait
 filled_settled past b = buffer_settled _ b.wait
+
+-- an unblock pulse was made for message i
+abbrev pub is_unblocked : List Member → Trace → ℕ → Bool
+is_unblocked roster past i = unblocked_among (items roster past) i
 
 -- an open call is the newest blocking call of its thread, and isn't ended
 pub record IsOpen (roster : List Member) (past : Trace) (u : ℕ) (o : OpenCall) : Type 0 where

@@ -1,9 +1,10 @@
 -- The open calls after one more event.
 use Rattle.std.proofs.Common.{◌≡◌, ◌≢◌, ℕ, ◌+◌, ◌≤◌, List, ◌∷◌, length, refl, ap, sym, subst, ◌∙◌, cond, arith, Bool, true, false, eqb, ◌⊎◌, inl, inr}
 use Rattle.std.specs.Prelude.{Option, None, Some, is_some, ◌||◌, ◌&&◌}
-use Rattle.std.specs.Option.{option_map, option_to_list}
+use Rattle.std.specs.Option.{option_map, option_to_list, option_or}
 use Rattle.std.proofs.lemmas.Bool.{cases_Bool, eqb-true, eqb-false, eq-eqb, ne_eqb, or_parts}
 use Rattle.std.proofs.lemmas.Option.{none-some, same_Some}
+use Rattle.std.proofs.Math.Bool.{and-false, or-true, or-false}
 use Rattle.qqueue.specs.Best.{is_pulse}
 use Rattle.qqueue.specs.declared.item.Item.{Item}
 use Rattle.qtables.specs.Members.{member_at}
@@ -11,19 +12,19 @@ use Rattle.qtables.specs.declared.member.Member.{Member}
 use Rattle.qrules.specs.Answer.{row_of, Outcome}
 use Rattle.qrules.specs.Facts.{Facts, sender, threads_of}
 use Rattle.qrules.specs.Lawful.{facts_of, IsLawful, with_event}
-use Rattle.qrules.specs.Past.{is_unblocked, filled, refuses, ends, is_ended, is_taken, item_of, receipt_of, priority_of_item, newest_block, held_with, unless_ended, with_receipt, open_call, unblocked_among}
+use Rattle.qrules.specs.Past.{filled, refuses, ends, is_ended, is_taken, item_of, receipt_of, priority_of_item, newest_block, held_with, unless_ended, with_receipt, open_call, unblocked_among}
 use Rattle.qrules.specs.Receiving.{sender_for}
 use Rattle.qrules.specs.Items.{makes}
-use Rattle.qrules.specs.Rows.{Made, Received, Written, asks, unblocks, writes, written_over, first_some}
+use Rattle.qrules.specs.Rows.{Made, Received, Written, asks, unblocks, writes, written_over}
 use Rattle.qrules.specs.Step.{held_call, is_thread, after_receipt, after_unblock, after_write, unblocked_call, unless, written_call, open_call_after}
 use Rattle.qrules.specs.Trace.{Event, Trace}
 use Rattle.qrules.specs.declared.call.Call.{Call}
 use Rattle.qrules.specs.declared.call.Completion.{Completion}
 use Rattle.qrules.specs.declared.open_call.OpenCall.{OpenCall}
-use Rattle.qrules.proofs.Past.Lists.{eqb_same, none_of, and_false, or_true, or_false}
+use Rattle.qbase.proofs.Lists.{eqb_same, none_of}
 use Rattle.qrules.proofs.Past.Laws.{IsReceived}
 use Rattle.qrules.proofs.Past.RowLaws.{call_laws}
-use Rattle.qrules.proofs.Past.Numbers.{block_below, filled_answer, open_from, open_thread, receipt_number, receipt_for_answer}
+use Rattle.qrules.proofs.Past.Numbers.{block_below, filled_answer, open_from, open_thread, receipt_number, receipt_for_answer, is_unblocked}
 use Rattle.qrules.proofs.Past.Ends.{laws_of, passes_of, accepted, refused, refused_ends, ended_below, ends_other, ends_own, block_known}
 use Rattle.qrules.proofs.Past.Items.{item_at, item_answer, item_message, item_below, item_priority, priority_earlier, priority_newest}
 use Rattle.qrules.proofs.Past.Receipts.{copied_by, accepted_receipts, refused_receipts, best_pending, receipt_beyond}
@@ -49,7 +50,7 @@ pub record IsOthers (r : Received) (u i : ℕ) : Type 0 where
 
 -- what thread u keeps of the receipt of item i in this event or before is what the row's receipt leaves it
 kept_after : (o : Option Received) (u i priority : ℕ) (unblocked : Bool) (before : Option ℕ) (b : OpenCall) → ((r : Received) → o ≡ Some r → IsIts r u i priority unblocked before ⊎ IsOthers r u i)
-    → Some (with_receipt priority unblocked (first_some (copied_by o i) before) b) ≡ after_receipt o u (Some (with_receipt priority unblocked before b))
+    → Some (with_receipt priority unblocked (option_or (copied_by o i) before) b) ≡ after_receipt o u (Some (with_receipt priority unblocked before b))
 kept_after None u i priority unblocked before b h = refl
 kept_after (Some r) u i priority unblocked before b h = elim (h r refl) [
   | inl k ↦ rw (k.item, k.sender, k.first) (ap (λ p. Some (record { number = b.number; wait = held_with (record { priority = p; copied = r.kept.copied; unblocked = unblocked }) b.wait })) (sym k.priority_is)
@@ -148,7 +149,7 @@ kept roster past o = with_receipt (priority_of_item roster past o.number) (is_un
 
 -- the newest blocking calls after an event
 newest_refused : (past : Trace) (t : ℕ) (c : Call) (X : List Completion) (u : ℕ) → refuses X (length past + 1) ≡ true → newest_block (with_event t c X past) u ≡ newest_block past u
-newest_refused past t c X u r = rw (r, and_false (eqb t u)) refl
+newest_refused past t c X u r = rw (r, and-false (eqb t u)) refl
 
 newest_own : (past : Trace) (t : ℕ) (c : Call) (X : List Completion) → refuses X (length past + 1) ≡ false
     → newest_block (with_event t c X past) t ≡ cond (is_some (asks (length past + 1) c)) (asks (length past + 1) c) (newest_block past t)
@@ -170,7 +171,7 @@ open_refused roster past t c X u a =
           let ended : is_ended (with_event t c X past) b.number ≡ is_ended past b.number = rw (refused_ends roster past t c X b.number a (λ s. omega arith)) refl in
           let written : filled (with_event t c X past) b ≡ filled past b = filled_refused (record { thread = t; call = c; endings = X }) past b (refused roster past t c X a) in
           let unblocked : is_unblocked roster (with_event t c X past) b.number ≡ is_unblocked roster past b.number =
-          unblocked_by roster (record { thread = t; call = c; endings = X }) past b.number ∙ rw (refused roster past t c X a) (or_false (is_unblocked roster past b.number)) in
+          unblocked_by roster (record { thread = t; call = c; endings = X }) past b.number ∙ rw (refused roster past t c X a) (or-false (is_unblocked roster past b.number)) in
           let same : now b ≡ kept roster past b =
           ap (λ p. with_receipt p (is_unblocked roster (with_event t c X past) b.number) (receipt_of (with_event t c X past) b.number) (filled (with_event t c X past) b)) priority
           ∙ ap (λ x. with_receipt (priority_of_item roster past b.number) x (receipt_of (with_event t c X past) b.number) (filled (with_event t c X past) b)) unblocked
@@ -207,7 +208,7 @@ other_none f t c u =
     ap (λ o. after_unblock (makes f t c) (unblocks c) u (after_receipt (row_of f t c).receipt u o)) (write_none f (writes c) u) ∙ ap (after_unblock (makes f t c) (unblocks c) u) (after_none (row_of f t c).receipt u)
     ∙ unblock_none (makes f t c) (unblocks c) u
 
-some_later : (x y : Option ℕ) → is_some y ≡ true → is_some (first_some x y) ≡ true
+some_later : (x y : Option ℕ) → is_some y ≡ true → is_some (option_or x y) ≡ true
 some_later None y e = e
 some_later (Some x) y e = refl
 
@@ -225,13 +226,13 @@ open_other roster past t c X u l member a other =
       | Some b ↦ λ e.
           elim (is_ended past b.number) as (λ d. is_ended past b.number ≡ d → option_map (kept roster (with_event t c X past)) (cond (ends X b.number || d) None (Some b))
           ≡ unless (is_some (R.ends u)) (other_after (facts_of roster past) t c u (option_map (kept roster past) (cond d None (Some b))))) [
-            | true ↦ λ gone. rw (or_true (ends X b.number)) (sym nothing)
+            | true ↦ λ gone. rw (or-true (ends X b.number)) (sym nothing)
             | false ↦ λ going.
                 let below : b.number ≤ length past = block_below past u b e in
                 let ended : ends X b.number ≡ is_some (R.ends u) =
                 ap (ends X) (sym (receipt_number _ _ _ (filled past b))) ∙ ends_other roster past t c X u (kept roster past b) l a other (open_from roster past u b e going) in
                 let priority : priority_of_item roster (with_event t c X past) b.number ≡ priority_of_item roster past b.number = priority_earlier roster (record { thread = t; call = c; endings = X }) past b.number below in
-                let receipt : receipt_of (with_event t c X past) b.number ≡ first_some (copied_by R.receipt b.number) (receipt_of past b.number) = rw (accepted_receipts roster past t c X b.number l member a) refl in
+                let receipt : receipt_of (with_event t c X past) b.number ≡ option_or (copied_by R.receipt b.number) (receipt_of past b.number) = rw (accepted_receipts roster past t c X b.number l member a) refl in
                 let waits = open_from roster past u b e going in
                 let old : Bool = is_unblocked roster past b.number in
                 let new : Bool = unblocked_among (option_to_list M) b.number in
@@ -241,14 +242,14 @@ open_other roster past t c X u l member a other =
                 ap (λ p. Some (with_receipt p (is_unblocked roster (with_event t c X past) b.number) (receipt_of (with_event t c X past) b.number) (filled (with_event t c X past) b))) priority
                 ∙ ap (λ x. Some (with_receipt (priority_of_item roster past b.number) x (receipt_of (with_event t c X past) b.number) (filled (with_event t c X past) b))) unblocked
                 ∙ ap (λ r. Some (with_receipt (priority_of_item roster past b.number) (old || new) r (filled (with_event t c X past) b))) receipt
-                ∙ ap (λ w. Some (with_receipt (priority_of_item roster past b.number) (old || new) (first_some (copied_by R.receipt b.number) (receipt_of past b.number)) w)) (filled_accepted (record { thread = t; call = c; endings = X }) past b (accepted roster past t c X a))
-                ∙ unblocked_after M (unblocks c) u old new (priority_of_item roster past b.number) (first_some (copied_by R.receipt b.number) (receipt_of past b.number)) (changed (written_over (writes c) b.number) (filled past b)) marked
+                ∙ ap (λ w. Some (with_receipt (priority_of_item roster past b.number) (old || new) (option_or (copied_by R.receipt b.number) (receipt_of past b.number)) w)) (filled_accepted (record { thread = t; call = c; endings = X }) past b (accepted roster past t c X a))
+                ∙ unblocked_after M (unblocks c) u old new (priority_of_item roster past b.number) (option_or (copied_by R.receipt b.number) (receipt_of past b.number)) (changed (written_over (writes c) b.number) (filled past b)) marked
                 (λ is. some_later (copied_by R.receipt b.number) (receipt_of past b.number) (unblocked_now roster past t c b.number is).taken)
                 ∙ ap (after_unblock M (unblocks c) u) (kept_after R.receipt u b.number (priority_of_item roster past b.number) old (receipt_of past b.number) (changed (written_over (writes c) b.number) (filled past b))
                 (λ r is. other_holds roster past t c u b r l other e going ((laws_of (facts_of roster past) t c X a).receives r is))
                 ∙ ap (after_receipt R.receipt u) (receipt_written (facts_of roster past) (writes c) u (priority_of_item roster past b.number) old (receipt_of past b.number) (filled past b) (receipt_number _ _ _ (filled past b))
                 (λ x is. written_sender roster past t c X u (kept roster past b) x a waits is ∙ ap (eqb x.message) (receipt_number _ _ _ (filled past b))))) in
-                rw (or_false (ends X b.number), ended) (
+                rw (or-false (ends X b.number), ended) (
                 elim (is_some (R.ends u)) as (λ d. option_map (kept roster (with_event t c X past)) (cond d None (Some b)) ≡ unless d (other_after (facts_of roster past) t c u (Some (kept roster past b)))) [ true ↦ refl | false ↦ now ])
           ] refl
     ] refl
@@ -258,7 +259,7 @@ still : (roster : List Member) (e : Event) (past : Trace) (o : Option OpenCall) 
 still roster e past None h = refl
 still roster e past (Some b) h =
     elim (is_ended past b.number) as (λ d. option_map (kept roster past) (cond d None (Some b)) ≡ None → option_map (kept roster (e ∷ past)) (cond (ends e.endings b.number || d) None (Some b)) ≡ None) [
-      | true ↦ λ h. rw (or_true (ends e.endings b.number)) refl
+      | true ↦ λ h. rw (or-true (ends e.endings b.number)) refl
       | false ↦ λ h. absurd (none-some _ (sym h))
     ] h
 
@@ -276,8 +277,8 @@ open_own roster past t c X l member a =
       | Some o ↦ λ e.
           let number : o.number ≡ length past + 1 = ((call_laws c).asks_one (length past + 1) o e).number in
           let ended : is_ended (with_event t c X past) o.number ≡ is_some R.own =
-          ap (is_ended (with_event t c X past)) number ∙ rw (ends_own roster past t c X member a, ended_below roster past (length past + 1) l (omega arith)) (or_false (is_some R.own)) in
-          let receipt : receipt_of (with_event t c X past) (length past + 1) ≡ first_some (copied_by R.receipt (length past + 1)) None =
+          ap (is_ended (with_event t c X past)) number ∙ rw (ends_own roster past t c X member a, ended_below roster past (length past + 1) l (omega arith)) (or-false (is_some R.own)) in
+          let receipt : receipt_of (with_event t c X past) (length past + 1) ≡ option_or (copied_by R.receipt (length past + 1)) None =
           rw (accepted_receipts roster past t c X (length past + 1) l member a, receipt_beyond roster past (length past + 1) l (omega arith)) refl in
           let unblocked : is_unblocked roster (with_event t c X past) (length past + 1) ≡ false =
           unblocked_by roster (record { thread = t; call = c; endings = X }) past (length past + 1) ∙ rw (unblocked_beyond roster past (length past + 1) (omega arith), accepted roster past t c X a) (fresh_unblocked roster past t c) in

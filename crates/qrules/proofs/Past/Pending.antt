@@ -2,10 +2,10 @@
 use Rattle.std.proofs.Common.{◌≡◌, ℕ, ◌+◌, ◌≤◌, List, [], ◌∷◌, ◌++◌, map, length, refl, ap, sym, subst, ◌∙◌, cond, arith, Bool, true, false, eqb, inl, inr}
 use Rattle.std.specs.Prelude.{Option, None, Some, is_some, not, ◌&&◌, ◌||◌, filter}
 use Rattle.std.specs.List.{AllByRecursion}
-use Rattle.std.specs.Option.{option_to_list}
+use Rattle.std.specs.Option.{option_to_list, option_or}
 use Rattle.std.proofs.lemmas.Bool.{eqb-true, eqb-false, ne_eqb, true≢false, or_parts, or_cases, or_left, or_right, and_parts, and_from}
 use Rattle.std.proofs.lemmas.List.{map-append, append-nil}
-use Rattle.std.proofs.lemmas.List.Elements.{filter-append}
+use Rattle.std.proofs.lemmas.List.Elements.{filter-append, filter_agree}
 use Rattle.std.proofs.lemmas.Option.{same_Some}
 use Rattle.qqueue.specs.Best.{is_pulse, without}
 use Rattle.qqueue.specs.declared.item.Item.{Item}
@@ -15,12 +15,12 @@ use Rattle.qrules.specs.Answer.{row_of, Outcome}
 use Rattle.qrules.specs.Lawful.{facts_of, IsLawful, with_event}
 use Rattle.qrules.specs.Past.{channel_at, ends, is_closed, is_ended, is_taken, is_gone, items, item_of, pending, receipt_among, receipt_of, open_call}
 use Rattle.qrules.specs.Items.{makes}
-use Rattle.qrules.specs.Rows.{Made, Received, closes, names, first_some}
+use Rattle.qrules.specs.Rows.{Made, Received, closes, names}
 use Rattle.qrules.specs.Step.{is_cut, left_by, made_on, taken_out, pending_after}
 use Rattle.qrules.specs.Trace.{Event, Trace}
 use Rattle.qrules.specs.declared.call.Call.{Call}
 use Rattle.qrules.specs.declared.call.Completion.{Completion}
-use Rattle.qrules.proofs.Past.Lists.{cond_same, eqb_either, none_of, all_append, all_filter, all_more, filter_alike, filter_same, filter_twice, filter_all, filter_whole, any_never}
+use Rattle.qbase.proofs.Lists.{cond_same, eqb_either, none_of, all_append, all_filter, all_more, filter_same, filter_twice, filter_all, filter_whole, any_never}
 use Rattle.qrules.proofs.Past.Laws.{IsReceived}
 use Rattle.qrules.proofs.Past.Channels.{closed_accepted, closed_refused}
 use Rattle.qrules.proofs.Past.Cuts.{ended_is_cut}
@@ -77,7 +77,7 @@ pending_refused roster past t c X h a =
 abbrev leaves : Option Received → Item → Bool
 leaves o item = not (is_some (copied_by o item.number))
 
-taken_now : (x : Option ℕ) (y : Option ℕ) → y ≡ None → is_some (first_some x y) ≡ is_some x
+taken_now : (x : Option ℕ) (y : Option ℕ) → y ≡ None → is_some (option_or x y) ≡ is_some x
 taken_now None y e = ap is_some e
 taken_now (Some k) y e = refl
 
@@ -93,7 +93,7 @@ gone_now : (roster : List Member) (past : Trace) (t : ℕ) (c : Call) (X : List 
     → not (is_gone (with_event t c X past) item) ≡ (not cut && leaves (row_of (facts_of roster past) t c).receipt item)
 gone_now roster past t c X item cut l member a fresh ended =
     let taken : is_taken (with_event t c X past) item.number ≡ is_some (copied_by (row_of (facts_of roster past) t c).receipt item.number) =
-    ap (λ r. is_some (first_some r (receipt_of past item.number))) (accepted_receipts roster past t c X item.number l member a)
+    ap (λ r. is_some (option_or r (receipt_of past item.number))) (accepted_receipts roster past t c X item.number l member a)
     ∙ taken_now (copied_by (row_of (facts_of roster past) t c).receipt item.number) (receipt_of past item.number) fresh in
     ap (λ b. not (is_taken (with_event t c X past) item.number || b)) ended
     ∙ ap (λ b. not (b || cut)) taken
@@ -105,7 +105,7 @@ stays_gone past t c X item e =
     let ended_now = is_ended (with_event t c X past) item.number in
     elim (or_cases (is_taken past item.number) (not (is_pulse item.what) && is_ended past item.number) e) [
       | inl taken ↦ or_left (is_taken (with_event t c X past) item.number) (not (is_pulse item.what) && ended_now) (
-          elim (receipt_among X item.number) as (λ r. is_some (first_some r (receipt_of past item.number)) ≡ true) [ None ↦ taken | Some k ↦ refl ])
+          elim (receipt_among X item.number) as (λ r. is_some (option_or r (receipt_of past item.number)) ≡ true) [ None ↦ taken | Some k ↦ refl ])
       | inr ended ↦
           let p = and_parts (not (is_pulse item.what)) (is_ended past item.number) ended in
           or_right (is_taken (with_event t c X past) item.number) (not (is_pulse item.what) && ended_now)
@@ -186,8 +186,8 @@ taken_from : (o : Option Received) (h : ℕ) (L : List Item) → ((r : Received)
 taken_from None h L other = sym (filter_whole (leaves None) L (λ item. refl))
 taken_from (Some r) h L other =
     elim (eqb r.channel h) as (λ b. eqb r.channel h ≡ b → cond b (without r.item L) L ≡ filter (leaves (Some r)) L) [
-      | true ↦ λ e. filter_alike (λ item. not (eqb item.number r.item)) (leaves (Some r)) L (λ item.
-          ap not (eqb_either item.number r.item) ∙ elim (eqb r.item item.number) as (λ b. not b ≡ not (is_some (cond b (Some r.kept.copied) None))) [ true ↦ refl | false ↦ refl ])
+      | true ↦ λ e. filter_agree (λ item. not (eqb item.number r.item)) (leaves (Some r)) (λ item.
+          ap not (eqb_either item.number r.item) ∙ elim (eqb r.item item.number) as (λ b. not b ≡ not (is_some (cond b (Some r.kept.copied) None))) [ true ↦ refl | false ↦ refl ]) L
       | false ↦ λ e. sym (filter_all (leaves (Some r)) L (all_more (λ item. eqb r.item item.number ≡ false) (λ item. leaves (Some r) item ≡ true) L (other r refl e) (λ item d. rw d refl)))
     ] refl
 

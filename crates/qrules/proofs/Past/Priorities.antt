@@ -3,13 +3,14 @@ use Rattle.std.proofs.Common.{◌≡◌, ℕ, ◌+◌, List, length, refl, ap, s
 use Rattle.std.specs.Prelude.{Option, None, Some, is_some, not, option_and_then, unwrap_or}
 use Rattle.std.specs.List.{filter_map}
 use Rattle.std.proofs.lemmas.Option.{none-some}
+use Rattle.std.specs.Option.{option_or}
 use Rattle.qtables.specs.Members.{member_at}
 use Rattle.qtables.specs.declared.member.Member.{Member}
 use Rattle.qrules.specs.Answer.{row_of, ending, Outcome}
 use Rattle.qrules.specs.Facts.{threads_of}
 use Rattle.qrules.specs.Lawful.{facts_of, IsLawful, with_event}
 use Rattle.qrules.specs.Past.{carried, channel_at, first_among, given_by, item_of, items, made_among, priority_of_thread, refuses}
-use Rattle.qrules.specs.Rows.{Received, received, set_for, sets, first_some}
+use Rattle.qrules.specs.Rows.{Received, received, set_for, sets}
 use Rattle.qrules.specs.Step.{taken_by, priority_after}
 use Rattle.qrules.specs.Trace.{Trace}
 use Rattle.qrules.specs.declared.call.Call.{Call}
@@ -88,16 +89,16 @@ module _ (roster : List Member) (past : Trace) (t : ℕ) (c : Call) (X : List Co
 
   pub priority_accepted : priority_of_thread roster (with_event t c X past) u ≡ priority_after (facts_of roster past) t c u
   priority_accepted =
-      ap (λ o. unwrap_or (first_some (cond (not (refuses X (length past + 1))) (set_for (sets c) u) None) o) (priority_of_thread roster past u)) given_accepted
-      ∙ ap (λ b. unwrap_or (first_some (cond (not b) (set_for (sets c) u) None) (taken_by (facts_of roster past) (row_of (facts_of roster past) t c).receipt u)) (priority_of_thread roster past u)) (accepted roster past t c X a)
+      ap (λ o. unwrap_or (option_or (cond (not (refuses X (length past + 1))) (set_for (sets c) u) None) o) (priority_of_thread roster past u)) given_accepted
+      ∙ ap (λ b. unwrap_or (option_or (cond (not b) (set_for (sets c) u) None) (taken_by (facts_of roster past) (row_of (facts_of roster past) t c).receipt u)) (priority_of_thread roster past u)) (accepted roster past t c X a)
 
 -- a refused call changes no priority
 pub priority_refused : (roster : List Member) (past : Trace) (t : ℕ) (c : Call) (X : List Completion) (u : ℕ) → Outcome false (facts_of roster past) t c X
     → priority_of_thread roster (with_event t c X past) u ≡ priority_of_thread roster past u
 priority_refused roster past t c X u a =
-    ap (λ b. unwrap_or (first_some (cond (not b) (set_for (sets c) u) None) (first_among (given_by (λ i. carried (channel_at roster past) (made_among (items roster (with_event t c X past)) i)) u) X)) (priority_of_thread roster past u)) (refused roster past t c X a)
+    ap (λ b. unwrap_or (option_or (cond (not b) (set_for (sets c) u) None) (first_among (given_by (λ i. carried (channel_at roster past) (made_among (items roster (with_event t c X past)) i)) u) X)) (priority_of_thread roster past u)) (refused roster past t c X a)
     ∙ ap (λ Y. unwrap_or (first_among (given_by (λ i. carried (channel_at roster past) (made_among (items roster (with_event t c X past)) i)) u) Y) (priority_of_thread roster past u)) (a.2)
     ∙ nothing (eqb t u) where
-      nothing : (b : Bool) → unwrap_or (first_some (cond b None None) None) (priority_of_thread roster past u) ≡ priority_of_thread roster past u
+      nothing : (b : Bool) → unwrap_or (option_or (cond b None None) None) (priority_of_thread roster past u) ≡ priority_of_thread roster past u
       nothing true = refl
       nothing false = refl

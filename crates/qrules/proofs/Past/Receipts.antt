@@ -17,7 +17,7 @@ use Rattle.qrules.specs.Rows.{Received, received}
 use Rattle.qrules.specs.Trace.{Trace}
 use Rattle.qrules.specs.declared.call.Call.{Call}
 use Rattle.qrules.specs.declared.call.Completion.{Completion}
-use Rattle.qrules.proofs.Past.Lists.{is_among}
+use Rattle.qbase.proofs.Lists.{is_among}
 use Rattle.qrules.proofs.Past.Laws.{RowLaws, IsReceipt, IsReceived}
 use Rattle.qrules.proofs.Past.RowLaws.{call_laws}
 use Rattle.qrules.proofs.Past.Ends.{laws_of, ending_names, open_known}

@@ -11,7 +11,7 @@ use Rattle.qrules.specs.Past.{is_closed, is_gone, item_of, pending}
 use Rattle.qrules.specs.Rows.{Made}
 use Rattle.qrules.specs.Step.{made_on}
 use Rattle.qrules.specs.Trace.{Event, Trace}
-use Rattle.qrules.proofs.Past.Lists.{all_more}
+use Rattle.qbase.proofs.Lists.{all_more}
 use Rattle.qrules.proofs.Past.Items.{IsPending, Stands, items_on, stands_all, staying, pending_all, item_below, made_by}
 use Rattle.qrules.proofs.Past.Pending.{items_more}
 

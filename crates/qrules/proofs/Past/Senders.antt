@@ -5,7 +5,7 @@ use Rattle.std.proofs.lemmas.Bool.{eqb-true, eq-eqb, and_parts, and_from, trueâ‰
 use Rattle.std.proofs.lemmas.Option.{none-some, same_Some}
 use Rattle.qrules.specs.Facts.{is_send, is_for_answer, sender_among}
 use Rattle.qrules.specs.declared.open_call.OpenCall.{OpenCall}
-use Rattle.qrules.proofs.Past.Lists.{is_among}
+use Rattle.qbase.proofs.Lists.{is_among}
 
 -- the open call of a sender has that number, and waits for an answer
 pub record Sends (i : â„•) (o : Option OpenCall) : Type 0 where

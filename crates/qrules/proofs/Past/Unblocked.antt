@@ -1,27 +1,28 @@
 -- The messages for which an unblock pulse was made: each of them was received before.
 use Rattle.std.proofs.Common.{◌≡◌, ℕ, ◌+◌, ◌≤◌, List, [], ◌∷◌, length, refl, ap, sym, subst, ◌∙◌, cond, arith, Bool, true, false, eqb, inl, inr}
 use Rattle.std.specs.Prelude.{Option, None, Some, is_some, not, ◌&&◌, ◌||◌}
-use Rattle.std.specs.Option.{option_map, option_to_list}
+use Rattle.std.specs.Option.{option_map, option_to_list, option_or}
 use Rattle.std.proofs.lemmas.Bool.{cases_Bool, eqb-true, ne_eqb, true≢false, or_cases}
 use Rattle.std.proofs.lemmas.List.Folds.{list_any-append}
 use Rattle.std.proofs.lemmas.Option.{same_Some}
+use Rattle.std.proofs.Math.Bool.{and-false, or-true, or-false}
 use Rattle.qtables.specs.declared.member.Member.{Member}
 use Rattle.qrules.specs.Facts.{is_for_answer}
 use Rattle.qrules.specs.Items.{makes}
 use Rattle.qrules.specs.Laws.{is_for_reply}
 use Rattle.qrules.specs.Lawful.{facts_of}
-use Rattle.qrules.specs.Past.{filled, held_with, is_taken, is_unblock_for, is_unblocked, item_of, items, open_call, priority_of_item, receipt_among, receipt_of, unblocked_among, with_receipt}
-use Rattle.qrules.specs.Rows.{Made, unblocks, first_some}
+use Rattle.qrules.specs.Past.{filled, held_with, is_taken, is_unblock_for, item_of, items, open_call, priority_of_item, receipt_among, receipt_of, unblocked_among, with_receipt}
+use Rattle.qrules.specs.Rows.{Made, unblocks}
 use Rattle.qrules.specs.Step.{after_unblock, unblocked_call, unblocked_wait}
 use Rattle.qrules.specs.Trace.{Event, Trace}
 use Rattle.qrules.specs.declared.call.Call.{Call}
 use Rattle.qrules.specs.declared.open_call.OpenCall.{OpenCall}
 use Rattle.qrules.specs.declared.open_call.Wait.{Wait}
 use Rattle.qrules.specs.declared.open_call.Wait.TheVariants.{Answer, Item as ForItem}
-use Rattle.qrules.proofs.Past.Lists.{and_false, eqb_same, or_false, or_true}
+use Rattle.qbase.proofs.Lists.{eqb_same}
 use Rattle.qrules.proofs.Past.Laws.{is_settled}
 use Rattle.qrules.proofs.Past.RowLaws.{call_laws}
-use Rattle.qrules.proofs.Past.Numbers.{IsOpen, block_fresh, filled_answer, filled_settled, open_below, open_parts, open_thread}
+use Rattle.qrules.proofs.Past.Numbers.{IsOpen, block_fresh, filled_answer, filled_settled, open_below, open_parts, open_thread, is_unblocked}
 use Rattle.qrules.proofs.Past.Items.{item_accepted}
 
 -- ---- what is held is taken
@@ -70,7 +71,7 @@ pub unblocked_now : (roster : List Member) (past : Trace) (t : ℕ) (c : Call) (
 unblocked_now roster past t c i e =
     elim (makes (facts_of roster past) t c) as (λ o. makes (facts_of roster past) t c ≡ o → unblocked_among (option_to_list o) i ≡ true → WasReceived past i) [
       | None ↦ λ none s. absurd (true≢false (sym s))
-      | Some m ↦ λ some s. by_item roster past t c i m some (sym (or_false (is_unblock_for i m.item.what)) ∙ s)
+      | Some m ↦ λ some s. by_item roster past t c i m some (sym (or-false (is_unblock_for i m.item.what)) ∙ s)
     ] refl e
 
 -- with one more event, what that makes
@@ -80,7 +81,7 @@ unblocked_by roster e past i = list_any-append (λ m. is_unblock_for i m.item.wh
 -- what was received stays so
 received_stays : (e : Event) (past : Trace) (i : ℕ) → WasReceived past i → WasReceived (e ∷ past) i
 received_stays e past i k = let below : i ≤ length past = k.below in record { below = omega arith; taken = later (receipt_among e.endings i) } where
-  later : (o : Option ℕ) → is_some (first_some o (receipt_of past i)) ≡ true
+  later : (o : Option ℕ) → is_some (option_or o (receipt_of past i)) ≡ true
   later None = k.taken
   later (Some r) = refl
 
@@ -91,7 +92,7 @@ unblocked_received roster (e ∷ past) i is = elim (or_cases _ _ (sym (unblocked
   | inr now ↦ received_stays e past i (
       elim (item_of roster e past) as (λ o. item_of roster e past ≡ o → unblocked_among (option_to_list o) i ≡ true → WasReceived past i) [
         | None ↦ λ none s. absurd (true≢false (sym s))
-        | Some m ↦ λ some s. by_item roster past e.thread e.call i m (item_accepted roster e past m some).1 (sym (or_false (is_unblock_for i m.item.what)) ∙ s)
+        | Some m ↦ λ some s. by_item roster past e.thread e.call i m (item_accepted roster e past m some).1 (sym (or-false (is_unblock_for i m.item.what)) ∙ s)
       ] refl now)
 ]
 
@@ -128,8 +129,8 @@ pub marks_it : (roster : List Member) (past : Trace) (t : ℕ) (c : Call) (u : �
     → unblocked_among (option_to_list (makes (facts_of roster past) t c)) o.number ≡ marks (makes (facts_of roster past) t c) (unblocks c) u
 marks_it roster past t c u o is =
     elim (makes (facts_of roster past) t c) as (λ m. makes (facts_of roster past) t c ≡ m → unblocked_among (option_to_list m) o.number ≡ marks m (unblocks c) u) [
-      | None ↦ λ none. elim (unblocks c) as (λ w. false ≡ marks None w u) [ None ↦ refl | Some v ↦ sym (and_false (eqb u v)) ]
-      | Some m ↦ λ some. or_false (is_unblock_for o.number m.item.what) ∙ (
+      | None ↦ λ none. elim (unblocks c) as (λ w. false ≡ marks None w u) [ None ↦ refl | Some v ↦ sym (and-false (eqb u v)) ]
+      | Some m ↦ λ some. or-false (is_unblock_for o.number m.item.what) ∙ (
           elim (unblocks c) as (λ w. unblocks c ≡ w → is_unblock_for o.number m.item.what ≡ marks (Some m) w u) [
             | None ↦ λ none. (call_laws c).unblocks_none none (facts_of roster past) t m some o.number
             | Some v ↦ λ named.
@@ -152,10 +153,10 @@ unblocked_held priority copied unblocked (ForItem chid kind buffer) = refl
 -- what is kept of a received message with what the event makes
 marked : (unblocked x : Bool) (priority : ℕ) (r : Option ℕ) (o : OpenCall) → (x ≡ true → is_some r ≡ true)
     → with_receipt priority (unblocked || x) r o ≡ cond x (unblocked_call (with_receipt priority unblocked r o)) (with_receipt priority unblocked r o)
-marked unblocked false priority r o h = ap (λ b. with_receipt priority b r o) (or_false unblocked)
+marked unblocked false priority r o h = ap (λ b. with_receipt priority b r o) (or-false unblocked)
 marked unblocked true priority None o h = absurd (true≢false (sym (h refl)))
 marked unblocked true priority (Some copied) o h =
-    ap (λ b. with_receipt priority b (Some copied) o) (or_true unblocked) ∙ ap (λ w. record { number = o.number; wait = w }) (unblocked_held priority copied unblocked o.wait)
+    ap (λ b. with_receipt priority b (Some copied) o) (or-true unblocked) ∙ ap (λ w. record { number = o.number; wait = w }) (unblocked_held priority copied unblocked o.wait)
 
 pub unblocked_after : (m : Option Made) (w : Option ℕ) (u : ℕ) (unblocked x : Bool) (priority : ℕ) (r : Option ℕ) (o : OpenCall) → x ≡ marks m w u → (x ≡ true → is_some r ≡ true)
     → Some (with_receipt priority (unblocked || x) r o) ≡ after_unblock m w u (Some (with_receipt priority unblocked r o))

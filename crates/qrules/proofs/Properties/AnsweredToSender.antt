@@ -18,7 +18,7 @@ use Rattle.qrules.specs.Trace.{Event, Trace}
 use Rattle.qrules.specs.declared.call.Completion.{Completion}
 use Rattle.qrules.proofs.Past.Ends.{open_known, passes_of}
 use Rattle.qrules.proofs.Past.Laws.{is_settled}
-use Rattle.qrules.proofs.Past.Lists.{all_filter_map, all_more, is_among}
+use Rattle.qbase.proofs.Lists.{all_filter_map, all_more, is_among}
 use Rattle.qrules.proofs.Past.Numbers.{buffer_answer, held_for_answer, open_parts}
 use Rattle.qrules.proofs.Properties.Answers.{AnswersHeld, answers_held, answers_one, over}
 use Rattle.qrules.proofs.Properties.Events.{is_accepted_by, outcome_of}

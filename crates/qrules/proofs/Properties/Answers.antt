@@ -31,7 +31,7 @@ use Rattle.qrules.specs.declared.open_call.Wait.{Wait}
 use Rattle.qrules.specs.declared.open_call.Wait.TheVariants.{Answer, Item as ForItem}
 use Rattle.qrules.proofs.Calls.Cutting.{cut_parts}
 use Rattle.qrules.proofs.Calls.Held.{IsHeldFor, SenderEnds, answering, finished_held, has_sender, held_for, sender_ends}
-use Rattle.qrules.proofs.Past.Lists.{eqb_same}
+use Rattle.qbase.proofs.Lists.{eqb_same}
 use Rattle.qrules.proofs.Past.Senders.{sender_sends}
 use Rattle.qrules.proofs.Past.Laws.{Passes}
 use Rattle.qrules.proofs.Properties.Receipts.{ending_of}

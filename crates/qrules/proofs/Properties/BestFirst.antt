@@ -17,7 +17,7 @@ use Rattle.qrules.specs.Past.{pending}
 use Rattle.qrules.specs.Step.{made_on}
 use Rattle.qrules.specs.Trace.{Event, Trace}
 use Rattle.qrules.specs.declared.call.Completion.{Completion}
-use Rattle.qrules.proofs.Past.Lists.{eqb_same}
+use Rattle.qbase.proofs.Lists.{eqb_same}
 use Rattle.qrules.proofs.Past.Numbers.{block_asked, block_below, call_earlier, call_newest, open_parts}
 use Rattle.qrules.proofs.Properties.Events.{each_received, made_now, none_made}
 use Rattle.qrules.proofs.Properties.Receipts.{TakesMade, TakesPending, waits_for}

@@ -18,7 +18,7 @@ use Rattle.qrules.specs.Trace.{Event, Trace}
 use Rattle.qrules.specs.declared.call.Call.{Call}
 use Rattle.qrules.specs.declared.call.Call.TheVariants.{ChannelCreate, ConnectAttach, Send, Receive, Reply, Error, Read, Write, Info, ReceivePulse, Pulse, PrioritySet, State, ChannelDestroy, Shutdown, Unblock, ConnectDetach}
 use Rattle.qrules.proofs.Past.Items.{item_accepted, IsPending, item_at, item_below, item_earlier, item_newest, made_by, pending_all}
-use Rattle.qrules.proofs.Past.Lists.{all_append, all_more}
+use Rattle.qbase.proofs.Lists.{all_append, all_more}
 use Rattle.qrules.proofs.Past.Pending.{made_all}
 use Rattle.qrules.proofs.Properties.Sends.{made_stays}
 use Rattle.qrules.specs.Facts.{Facts}

@@ -39,7 +39,7 @@ use Rattle.qrules.specs.declared.open_call.Wait.{Wait}
 use Rattle.qrules.proofs.Past.Ends.{passes_of, refused}
 use Rattle.qrules.proofs.Past.Items.{item_below}
 use Rattle.qrules.proofs.Past.Laws.{Passes}
-use Rattle.qrules.proofs.Past.Lists.{all_filter_map}
+use Rattle.qbase.proofs.Lists.{all_filter_map}
 use Rattle.qrules.proofs.Past.Numbers.{call_earlier, call_newest, open_below}
 use Rattle.qrules.proofs.Past.Receipts.{best_pending}
 use Rattle.qrules.proofs.Past.Senders.{sender_sends}

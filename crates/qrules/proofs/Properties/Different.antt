@@ -8,7 +8,7 @@ use Rattle.qtables.specs.Members.{IsRoster}
 use Rattle.qrules.specs.declared.call.Completion.{Completion}
 use Rattle.qrules.specs.Facts.{threads_of}
 use Rattle.qrules.specs.Headline.ReceivedOnce.{AllDifferent, calls_ended}
-use Rattle.qrules.proofs.Past.Lists.{all_append}
+use Rattle.qbase.proofs.Lists.{all_append}
 
 -- a number is none of these
 abbrev pub IsNoneOf : ℕ → List ℕ → Type 0

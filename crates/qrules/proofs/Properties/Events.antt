@@ -16,7 +16,7 @@ use Rattle.qrules.specs.Trace.{Event, Trace}
 use Rattle.qrules.specs.declared.call.Call.{Call}
 use Rattle.qrules.specs.declared.call.Completion.{Completion}
 use Rattle.qrules.proofs.Past.Ends.{accepted, passes_of, refused}
-use Rattle.qrules.proofs.Past.Lists.{all_filter_map}
+use Rattle.qbase.proofs.Lists.{all_filter_map}
 use Rattle.qrules.proofs.Properties.Receipts.{TakesOne, receives_it, takes_one}
 
 pub is_accepted_by : (roster : List Member) (e : Event) (past : Trace) → Outcome true (facts_of roster past) e.thread e.call e.endings → is_accepted e past ≡ true

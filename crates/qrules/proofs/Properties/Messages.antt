@@ -11,7 +11,7 @@ use Rattle.qrules.specs.Cutting.{buffer_of_wait}
 use Rattle.qrules.specs.Facts.{is_for_answer, message, message_in, message_of, sender, threads_of, is_send}
 use Rattle.qrules.specs.Headline.CopiedExactly.{buffer_at, buffer_by, message_at, message_of as message_in_call}
 use Rattle.qrules.specs.Lawful.{facts_of, IsLawful}
-use Rattle.qrules.specs.Past.{is_unblocked, ends, filled, held_with, is_ended, item_of, newest_block, open_call, priority_of_item, receipt_of, with_receipt, with_writes}
+use Rattle.qrules.specs.Past.{ends, filled, held_with, is_ended, item_of, newest_block, open_call, priority_of_item, receipt_of, with_receipt, with_writes}
 use Rattle.qrules.specs.Facts.{Facts}
 use Rattle.qrules.specs.Items.{makes}
 use Rattle.qrules.specs.Rows.{pulse_item, Made, asks, with_buffer}
@@ -25,8 +25,8 @@ use Rattle.qrules.specs.declared.open_call.Wait.TheVariants.{Answer, Item as For
 use Rattle.qrules.proofs.Calls.Delivering.{sent_item}
 use Rattle.qrules.proofs.Past.Ends.{open_known, passes_of}
 use Rattle.qrules.proofs.Past.Items.{item_accepted, IsPending, item_at}
-use Rattle.qrules.proofs.Past.Lists.{eqb_same}
-use Rattle.qrules.proofs.Past.Numbers.{blocks, blocks_thread, block_asked, filled_answer, open_from, open_parts, open_thread, receipt_for_answer, receipt_number}
+use Rattle.qbase.proofs.Lists.{eqb_same}
+use Rattle.qrules.proofs.Past.Numbers.{blocks, blocks_thread, block_asked, filled_answer, open_from, open_parts, open_thread, receipt_for_answer, receipt_number, is_unblocked}
 use Rattle.qrules.proofs.Past.RowLaws.{call_laws}
 use Rattle.qrules.proofs.Past.Senders.{send_from, send_parts, sender_found}
 use Rattle.qrules.proofs.Properties.Events.{outcome_of}

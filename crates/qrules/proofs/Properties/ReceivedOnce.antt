@@ -2,11 +2,12 @@
 use Rattle.std.proofs.Common.{◌≡◌, ◌∙◌, ℕ, ◌+◌, ◌≤◌, List, [], ◌∷◌, ◌++◌, length, refl, ap, sym, subst, arith, cond, eqb, Bool, true, false, inl, inr}
 use Rattle.std.specs.Prelude.{Option, None, Some, is_some, ◌||◌}
 use Rattle.std.specs.List.{AllByRecursion, filter_map, cons_option, list_any}
-use Rattle.std.specs.Option.{option_map, option_to_list}
+use Rattle.std.specs.Option.{option_map, option_to_list, option_or}
 use Rattle.std.proofs.lemmas.Bool.{or_parts, ne_eqb, eqb-false, eqb-true, eq-eqb, true≢false}
 use Rattle.std.proofs.lemmas.List.{map-append}
 use Rattle.std.proofs.lemmas.List.Elements.{filter_map-append}
 use Rattle.std.proofs.lemmas.Option.{none-some, same_Some, option_and_then_some}
+use Rattle.std.proofs.Math.Bool.{or-true}
 use Rattle.qtables.specs.declared.member.Member.{Member}
 use Rattle.qtables.specs.Members.{IsRoster}
 use Rattle.qrules.specs.Answer.{ending, Answers}
@@ -14,14 +15,14 @@ use Rattle.qrules.specs.Facts.{Facts, threads_of}
 use Rattle.qrules.specs.Headline.ReceivedOnce.{AllDifferent, NoneEarly, ReceivedOnce, endings_of, calls_ended, item_received, items_received, is_made}
 use Rattle.qrules.specs.Lawful.{facts_of, IsLawful}
 use Rattle.qrules.specs.Past.{copied_of, ends, is_ended, is_taken, item_of, items, receipt_among, receipt_of}
-use Rattle.qrules.specs.Rows.{Made, received, first_some}
+use Rattle.qrules.specs.Rows.{Made, received}
 use Rattle.qrules.specs.Trace.{Trace}
 use Rattle.qrules.specs.declared.call.Call.{Call}
 use Rattle.qrules.specs.declared.call.Completion.{Completion}
 use Rattle.qrules.proofs.Past.Ends.{ending_names, laws_of, not_ended, other_below}
 use Rattle.qrules.proofs.Past.Items.{IsPending, item_at, item_below, item_earlier, item_newest, made_by}
 use Rattle.qrules.proofs.Past.RowLaws.{call_laws}
-use Rattle.qrules.proofs.Past.Lists.{all_append, all_map, all_more, or_true}
+use Rattle.qbase.proofs.Lists.{all_append, all_map, all_more}
 use Rattle.qrules.proofs.Past.Numbers.{open_thread}
 use Rattle.qrules.proofs.Past.Receipts.{best_pending, ending_receives, receipt_beyond}
 use Rattle.qrules.proofs.Properties.Different.{IsNoneOf, different_append, different_kept, calls_ended_as}
@@ -126,10 +127,10 @@ event_items roster past t c X r a = elim a [
 none_received : (X : List Completion) (i : ℕ) → is_some (receipt_among X i) ≡ false → IsNoneOf i (items_received X)
 none_received [] i e = tt
 none_received (x ∷ X) i e =
-    elim (received x.mark) as (λ o. is_some (first_some (copied_of i o) (receipt_among X i)) ≡ false → IsNoneOf i (cons_option (option_map (λ r. r.0) o) (items_received X))) [
+    elim (received x.mark) as (λ o. is_some (option_or (copied_of i o) (receipt_among X i)) ≡ false → IsNoneOf i (cons_option (option_map (λ r. r.0) o) (items_received X))) [
       | None ↦ λ h. none_received X i h
       | Some r ↦ λ h.
-          elim (eqb r.0 i) as (λ b. eqb r.0 i ≡ b → is_some (first_some (cond b (Some r.1) None) (receipt_among X i)) ≡ false → IsNoneOf i (r.0 ∷ items_received X)) [
+          elim (eqb r.0 i) as (λ b. eqb r.0 i ≡ b → is_some (option_or (cond b (Some r.1) None) (receipt_among X i)) ≡ false → IsNoneOf i (r.0 ∷ items_received X)) [
             | true ↦ λ same s. absurd (true≢false s)
             | false ↦ λ other s. (eqb_flip r.0 i other, none_received X i s)
           ] refl h
@@ -139,7 +140,7 @@ none_received (x ∷ X) i e =
 untaken : (past : Trace) (i : ℕ) → is_taken past i ≡ false → IsNoneOf i (items_received (endings_of past))
 untaken [] i e = tt
 untaken (e ∷ past) i is =
-    elim (receipt_among e.endings i) as (λ o. receipt_among e.endings i ≡ o → is_some (first_some o (receipt_of past i)) ≡ false → IsNoneOf i (items_received (e.endings ++ endings_of past))) [
+    elim (receipt_among e.endings i) as (λ o. receipt_among e.endings i ≡ o → is_some (option_or o (receipt_of past i)) ≡ false → IsNoneOf i (items_received (e.endings ++ endings_of past))) [
       | None ↦ λ none s. rw (filter_map-append item_received e.endings (endings_of past))
           (all_append (λ m. eqb i m ≡ false) (items_received e.endings) (items_received (endings_of past)) (none_received e.endings i (ap is_some none)) (untaken past i s))
       | Some copied ↦ λ some s. absurd (true≢false s)
@@ -164,7 +165,7 @@ any_first p (x ∷ xs) ys e =
 
 pub any_last : (p : Made → Bool) (xs : List Made) (y : Made) → p y ≡ true → list_any p (xs ++ y ∷ []) ≡ true
 any_last p [] y e = rw e refl
-any_last p (x ∷ xs) y e = rw (any_last p xs y e) (or_true (p x))
+any_last p (x ∷ xs) y e = rw (any_last p xs y e) (or-true (p x))
 
 -- an item that was made is among all items
 is_made_at : (roster : List Member) (past : Trace) (i : ℕ) (m : Made) → item_at roster past i ≡ Some m → is_made roster past i ≡ true

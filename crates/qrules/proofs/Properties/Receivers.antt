@@ -1,5 +1,5 @@
 -- The receiver that began to wait last is one that waits, and there is one where any waits.
-use Rattle.std.proofs.Common.{◌≡◌, ℕ, List, [], ◌∷◌, refl, ap, sym, subst, ◌∙◌, cond, eqb, true, false, inl, inr, ◌⊎◌}
+use Rattle.std.proofs.Common.{◌≡◌, ℕ, List, [], ◌∷◌, refl, ap, sym, subst, ◌∙◌, cond, eqb, true, false, inl, inr}
 use Rattle.std.specs.Prelude.{Option, None, Some, is_some, ◌&&◌}
 use Rattle.std.specs.Option.{option_map}
 use Rattle.std.proofs.lemmas.Bool.{and_parts, eqb-true, cases_Bool, true≢false}
@@ -12,7 +12,7 @@ use Rattle.qrules.specs.declared.open_call.Wait.{Wait}
 use Rattle.qrules.specs.declared.open_call.Wait.TheVariants.{Answer, Item as ForItem}
 use Rattle.qrules.specs.Facts.{Facts, threads_of}
 use Rattle.qrules.specs.Receivers.{is_later, wait_for, wait_on, later, later_of, newest_among, newest}
-use Rattle.qrules.proofs.Past.Lists.{eqb_same, is_among}
+use Rattle.qbase.proofs.Lists.{eqb_same, is_among}
 
 -- the open call waits for an item of channel h, and may take this one
 pub record WaitsOn (h : ℕ) (item : Item) (call : Option OpenCall) : Type 0 where
@@ -36,40 +36,29 @@ wait_on_is : (h : ℕ) (item : Item) (call : Option OpenCall) (k : ℕ) → wait
 wait_on_is h item None k e = absurd (none-some k e)
 wait_on_is h item (Some o) k e = let w = wait_for_is h item o.number o.wait k e in record { waiting = o; kind = w.0; buffer = w.1; is_open = refl; waits = w.2; may = w.3 }
 
-later_is : (best : Option (ℕ × ℕ)) (u : ℕ) (o : Option ℕ) (r : ℕ × ℕ) → later best u o ≡ Some r → (best ≡ Some r) ⊎ ((r.1 ≡ u) × ((m : ℕ) × (o ≡ Some m)))
-later_is best u None r e = inl e
-later_is best u (Some m) r e =
-    elim (is_later m best) as (λ b. cond b (Some (m, u)) best ≡ Some r → (best ≡ Some r) ⊎ ((r.1 ≡ u) × ((k : ℕ) × (Some m ≡ Some k)))) [
-      | true ↦ λ s. inr (sym (ap (λ p. p.1) (same_Some (m, u) r s)), (m, refl))
-      | false ↦ λ s. inl s
-    ] e
+-- the best so far waits on h for such an item
+abbrev WaitsSoFar : (ℕ → Option OpenCall) → ℕ → Item → Option (ℕ × ℕ) → Type 0
+WaitsSoFar open_call h item None = Unit {0}
+WaitsSoFar open_call h item (Some b) = wait_on h item (open_call b.1) ≡ Some b.0
 
-later_of_is : (h : ℕ) (item : Item) (best : Option (ℕ × ℕ)) (u : ℕ) (call : Option OpenCall) (r : ℕ × ℕ) → later_of h item best u call ≡ Some r → (best ≡ Some r) ⊎ ((r.1 ≡ u) × WaitsOn h item call)
-later_of_is h item best u call r e = elim (later_is best u (wait_on h item call) r e) [
-  | inl b ↦ inl b
-  | inr w ↦ inr (w.0, wait_on_is h item call w.1.0 w.1.1)
-]
+later_waits : (open_call : ℕ → Option OpenCall) (h : ℕ) (item : Item) (u : ℕ) (best : Option (ℕ × ℕ)) (o : Option ℕ) → wait_on h item (open_call u) ≡ o → WaitsSoFar open_call h item best → WaitsSoFar open_call h item (later best u o)
+later_waits open_call h item u best None e w = w
+later_waits open_call h item u best (Some m) e w = elim (is_later m best) as (λ b. WaitsSoFar open_call h item (cond b (Some (m, u)) best)) [ true ↦ e | false ↦ w ]
 
-newest_among_is : (open_call : ℕ → Option OpenCall) (h : ℕ) (item : Item) (best : Option (ℕ × ℕ)) (threads : List ℕ) (r : ℕ × ℕ) → newest_among open_call h item best threads ≡ Some r
-    → (best ≡ Some r) ⊎ WaitsOn h item (open_call r.1)
-newest_among_is open_call h item best [] r e = inl e
-newest_among_is open_call h item best (u ∷ threads) r e = elim (newest_among_is open_call h item (later_of h item best u (open_call u)) threads r e) [
-  | inl b ↦ elim (later_of_is h item best u (open_call u) r b) [
-    | inl same ↦ inl same
-    | inr w ↦ inr (subst (λ v. WaitsOn h item (open_call v)) (sym w.0) w.1)
-  ]
-  | inr w ↦ inr w
-]
+newest_so_far : (open_call : ℕ → Option OpenCall) (h : ℕ) (item : Item) (ts : List ℕ) (best : Option (ℕ × ℕ)) → WaitsSoFar open_call h item best → WaitsSoFar open_call h item (newest_among open_call h item best ts)
+newest_so_far open_call h item [] best w = w
+newest_so_far open_call h item (u ∷ ts) best w = newest_so_far open_call h item ts (later_of h item best u (open_call u)) (later_waits open_call h item u best (wait_on h item (open_call u)) refl w)
+
+-- the one that is found waits for such an item with that call
+pub found_waits : (open_call : ℕ → Option OpenCall) (h : ℕ) (item : Item) (ts : List ℕ) (b : ℕ × ℕ) → newest_among open_call h item None ts ≡ Some b → wait_on h item (open_call b.1) ≡ Some b.0
+found_waits open_call h item ts b e = subst (WaitsSoFar open_call h item) e (newest_so_far open_call h item ts None tt)
 
 -- the newest receiver waits on the channel
 pub newest_waits : (f : Facts) (h : ℕ) (item : Item) (r : ℕ) → newest f h item ≡ Some r → WaitsOn h item (f.open_call r)
 newest_waits f h item r e =
     elim (newest_among f.open_call h item None (threads_of f.roster)) as (λ o. newest_among f.open_call h item None (threads_of f.roster) ≡ o → option_map (λ best. best.1) o ≡ Some r → WaitsOn h item (f.open_call r)) [
-      | None ↦ λ a s. absurd (none-some r s)
-      | Some p ↦ λ a s. elim (newest_among_is f.open_call h item None (threads_of f.roster) p a) [
-        | inl none ↦ absurd (none-some p none)
-        | inr w ↦ subst (λ v. WaitsOn h item (f.open_call v)) (same_Some p.1 r s) w
-      ]
+      | None ↦ λ is s. absurd (none-some r s)
+      | Some b ↦ λ is s. subst (λ v. WaitsOn h item (f.open_call v)) (same_Some b.1 r s) (wait_on_is h item (f.open_call b.1) b.0 (found_waits f.open_call h item (threads_of f.roster) b is))
     ] refl e
 
 -- ---- where one waits

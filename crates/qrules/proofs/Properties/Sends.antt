@@ -10,7 +10,7 @@ use Rattle.qtables.specs.declared.member.Member.{Member}
 use Rattle.qrules.specs.Facts.{is_for_answer}
 use Rattle.qrules.specs.Headline.AnsweredToSender.{channel_among, sender_of, thread_of_send}
 use Rattle.qrules.specs.Lawful.{facts_of, IsLawful}
-use Rattle.qrules.specs.Past.{is_unblocked, filled, is_accepted, item_of, items, made_at, newest_block, priority_of_item, receipt_of, with_receipt, with_writes, held_with, attached}
+use Rattle.qrules.specs.Past.{filled, is_accepted, item_of, items, made_at, newest_block, priority_of_item, receipt_of, with_receipt, with_writes, held_with, attached}
 use Rattle.qrules.specs.Rows.{Made, asks, with_buffer}
 use Rattle.qrules.specs.Trace.{Event, Trace}
 use Rattle.qrules.specs.declared.open_call.OpenCall.{OpenCall}
@@ -19,8 +19,8 @@ use Rattle.qrules.specs.declared.open_call.Wait.{Wait}
 use Rattle.qrules.specs.declared.open_call.Wait.TheVariants.{Answer, Item as ForItem}
 use Rattle.qrules.proofs.Past.Ends.{passes_of}
 use Rattle.qrules.proofs.Past.Items.{item_at, item_below, item_earlier, item_newest, items_below, made_by}
-use Rattle.qrules.proofs.Past.Lists.{eqb_same, all_more}
-use Rattle.qrules.proofs.Past.Numbers.{IsOpen, blocks, blocks_thread, buffer_answer, held_for_answer, made_below}
+use Rattle.qbase.proofs.Lists.{eqb_same, all_more}
+use Rattle.qrules.proofs.Past.Numbers.{IsOpen, blocks, blocks_thread, buffer_answer, held_for_answer, made_below, is_unblocked}
 use Rattle.qrules.proofs.Past.RowLaws.{call_laws}
 use Rattle.qrules.proofs.Properties.Answers.{over, sends_by, sends_over}
 use Rattle.qrules.proofs.Properties.Events.{made_now, outcome_of}

@@ -24,7 +24,7 @@ use Rattle.qrules.specs.declared.call.Call.TheVariants.{Receive}
 use Rattle.qrules.specs.declared.call.Completion.{Completion}
 use Rattle.qrules.proofs.Past.Best.{best_earliest}
 use Rattle.qrules.proofs.Past.Items.{item_at, item_priority}
-use Rattle.qrules.proofs.Past.Lists.{all_more}
+use Rattle.qbase.proofs.Lists.{all_more}
 use Rattle.qrules.proofs.Past.Rising.{takeable_rises}
 use Rattle.qrules.proofs.Properties.BestFirst.{best_first}
 use Rattle.qrules.proofs.Properties.Connections.{item_over, takeable_made}

@@ -2,7 +2,7 @@
 use Rattle.std.proofs.Common.{◌≡◌, ◌∙◌, ℕ, List, [], ◌∷◌, ◌++◌, refl, ap, sym, subst, cond, eqb, Bool, true, false, inl, inr}
 use Rattle.std.specs.Prelude.{Option, None, Some, is_some, not, filter}
 use Rattle.std.specs.List.{AllByRecursion}
-use Rattle.std.proofs.lemmas.Bool.{eqb-true, eqb-false, not-true, true≢false}
+use Rattle.std.proofs.lemmas.Bool.{eqb-true, eqb-false, not-true}
 use Rattle.std.proofs.lemmas.Option.{none-some, same_Some, some_pair_parts}
 use Rattle.qqueue.specs.Best.{best_of, may_take, without}
 use Rattle.qqueue.specs.declared.item.Item.{Item}
@@ -34,7 +34,7 @@ use Rattle.qrules.proofs.Calls.Taking.{given_received, receipt_from, receipt_in_
 use Rattle.qrules.proofs.Past.Ends.{open_known, passes_of}
 use Rattle.qrules.proofs.Past.Follows.{past_follows}
 use Rattle.qrules.proofs.Past.Laws.{Passes}
-use Rattle.qrules.proofs.Past.Lists.{all_append, all_filter, all_more, is_among, none_of}
+use Rattle.qbase.proofs.Lists.{all_append, all_filter, all_more, is_among, none_of, some_of}
 use Rattle.qrules.proofs.Properties.Receipts.{waits_for}
 use Rattle.qrules.proofs.Past.Before.{Lasts, before_other, before_receipt, unless_is}
 use Rattle.qrules.proofs.Properties.Receivers.{WaitsOn, newest_some, newest_waits}
@@ -115,10 +115,6 @@ pub record IsReceivedAtOnce (f : Facts) (t : ℕ) (c : Call) (m : Made) : Type 0
   pub is : (row_of f t c).receipt ≡ Some receipt
   pub channel : receipt.channel ≡ m.channel
   pub item : receipt.item ≡ m.item.number
-
-some_of : {A : Type 0} (o : Option A) → is_some o ≡ true → (x : A) × (o ≡ Some x)
-some_of None e = absurd (true≢false (sym e))
-some_of (Some x) e = (x, refl)
 
 -- the receipt of an item by the newest receiver
 delivered_receipt : (f : Facts) (sender : Option ℕ) (item : Item) (message : List ℕ) (w : Option ℕ) (h r : ℕ) (v : WaitsOn h item (f.open_call r)) → w ≡ Some h → newest f h item ≡ Some r

@@ -16,7 +16,7 @@ use Rattle.qrules.specs.declared.call.Call.{Call}
 use Rattle.qrules.specs.declared.call.Completion.{Completion}
 use Rattle.qrules.specs.declared.open_call.OpenCall.{OpenCall}
 use Rattle.qrules.proofs.Past.Ends.{ending_names, laws_of, passes_of}
-use Rattle.qrules.proofs.Past.Lists.{all_filter_map, eqb_same}
+use Rattle.qbase.proofs.Lists.{all_filter_map, eqb_same}
 use Rattle.qrules.proofs.Past.Numbers.{block_below, open_parts}
 use Rattle.qrules.proofs.Properties.Sends.{begins_now}
 use Rattle.qrules.proofs.Properties.ShutForGood.{shut_for_good}

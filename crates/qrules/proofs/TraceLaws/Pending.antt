@@ -8,7 +8,7 @@ use Rattle.qtables.specs.declared.member.Member.{Member}
 use Rattle.qrules.specs.Facts.{is_for_answer}
 use Rattle.qrules.specs.Laws.{is_for_reply, IsNotHeld, IsOpenSend, NonePendingIsHeld, PendingIsOpen, PendingRises}
 use Rattle.qrules.specs.Lawful.{IsLawful}
-use Rattle.qrules.specs.Past.{is_unblocked, filled, is_ended, is_taken, pending, priority_of_item, receipt_of, with_receipt}
+use Rattle.qrules.specs.Past.{filled, is_ended, is_taken, pending, priority_of_item, receipt_of, with_receipt}
 use Rattle.qrules.specs.Trace.{Trace}
 use Rattle.qrules.specs.declared.open_call.OpenCall.{OpenCall}
 use Rattle.qrules.specs.declared.open_call.Wait.{Wait}
@@ -16,8 +16,8 @@ use Rattle.qrules.specs.declared.open_call.Wait.TheVariants.{Answer, Item as For
 use Rattle.qrules.proofs.Past.Cuts.{sent_by}
 use Rattle.qrules.proofs.Past.Items.{IsPending, pending_all}
 use Rattle.qrules.proofs.Past.Laws.{is_settled}
-use Rattle.qrules.proofs.Past.Lists.{all_more, none_of}
-use Rattle.qrules.proofs.Past.Numbers.{IsOpen, block_fresh, filled_answer, filled_settled, open_parts}
+use Rattle.qbase.proofs.Lists.{all_more, none_of}
+use Rattle.qrules.proofs.Past.Numbers.{IsOpen, block_fresh, filled_answer, filled_settled, open_parts, is_unblocked}
 use Rattle.qrules.proofs.Past.Rising.{pending_rises}
 
 -- ---- waits

@@ -17,7 +17,7 @@ use Rattle.qrules.specs.Rows.{Made}
 use Rattle.qrules.specs.Trace.{Event, Trace}
 use Rattle.qrules.specs.declared.call.Completion.{Completion}
 use Rattle.qrules.proofs.Past.Items.{Stands, item_at}
-use Rattle.qrules.proofs.Past.Lists.{all_more}
+use Rattle.qbase.proofs.Lists.{all_more}
 use Rattle.qrules.proofs.Properties.BestFirst.{best_first}
 use Rattle.qrules.proofs.Properties.Connections.{item_over, takeable_made}
 use Rattle.qrules.proofs.Properties.ReceivedOnce.{any_first, any_last}

@@ -7,14 +7,14 @@ use Rattle.std.proofs.lemmas.Option.{none-some, same_Some}
 use Rattle.qtables.specs.declared.member.Member.{Member}
 use Rattle.qrules.specs.Laws.{blocker, IsUnended, AtMostOneOpen, OpenIsUnended}
 use Rattle.qrules.specs.Lawful.{IsLawful}
-use Rattle.qrules.specs.Past.{is_unblocked, filled, ends, is_accepted, is_ended, made_at, newest_block, open_call, priority_of_item, receipt_of}
+use Rattle.qrules.specs.Past.{filled, ends, is_accepted, is_ended, made_at, newest_block, open_call, priority_of_item, receipt_of}
 use Rattle.qrules.specs.Rows.{asks}
 use Rattle.qrules.specs.Trace.{Event, Trace}
 use Rattle.qrules.specs.declared.call.Call.{Call}
 use Rattle.qrules.specs.declared.call.Call.TheVariants.{ChannelCreate, ConnectAttach, Send, Receive, Reply, Error, Read, Write, Info, ReceivePulse, Pulse, PrioritySet, State, ChannelDestroy, Shutdown, Unblock, ConnectDetach}
 use Rattle.qrules.specs.declared.open_call.OpenCall.{OpenCall}
-use Rattle.qrules.proofs.Past.Lists.{eqb_same}
-use Rattle.qrules.proofs.Past.Numbers.{open_from, open_parts, receipt_number}
+use Rattle.qbase.proofs.Lists.{eqb_same}
+use Rattle.qrules.proofs.Past.Numbers.{open_from, open_parts, receipt_number, is_unblocked}
 use Rattle.qrules.proofs.Past.RowLaws.{call_laws}
 use Rattle.qrules.proofs.Properties.Messages.{block_stays}
 use Rattle.qrules.proofs.Properties.Sends.{begins_now, made_newest, made_stays}

@@ -1,6 +1,7 @@
 -- ConnectDetach: the end of a connection, and of each Send over it; where it is the last one of its process to a channel with the disconnect flag, the
 -- server gets a pulse.
 use Rattle.std.specs.Prelude.{ℕ, ◌==◌, ◌&&◌, Bool, false, is_some, [], Option, None, Some, if◌then◌else◌}
+use Rattle.std.specs.Option.{option_or}
 use Rattle.qbase.specs.declared.errno.Errno.{Errno}
 use Rattle.qbase.specs.declared.errno.Errno.TheVariants.{Badf, Inval}
 use Rattle.qtables.specs.declared.connection.Connection.{Connection}
@@ -9,7 +10,7 @@ use Rattle.qrules.specs.declared.call.Mark.TheVariants as mark
 use Rattle.qrules.specs.Cutting.{cuts, is_over}
 use Rattle.qrules.specs.Facts.{Facts, count_to, is_of_process, tells_disconnect}
 use Rattle.qrules.specs.Pulses.{full_for, told, told_receipt}
-use Rattle.qrules.specs.Rows.{Made, Row, disconnect_item, first_some}
+use Rattle.qrules.specs.Rows.{Made, Row, disconnect_item}
 
 -- a connection, if it is one of process p to channel h
 abbrev pub between : ℕ → ℕ → Option Connection → Option Connection
@@ -42,7 +43,7 @@ refusal f t k = if is_own f t (f.connection k) then full_for f (due f t k) else 
 
 -- each Send over the connection is cut, and the call of the pulse's receiver ends
 abbrev pub ends : Facts → ℕ → Option Made → ℕ → Option Completion
-ends f k m u = first_some (cuts f (λ v. is_over k) Badf u) (told f m u)
+ends f k m u = option_or (cuts f (λ v. is_over k) Badf u) (told f m u)
 
 -- it never blocks, and takes memory only for the pulse; that the connection is detached is read off the past calls
 abbrev pub row : Facts → ℕ → ℕ → Row

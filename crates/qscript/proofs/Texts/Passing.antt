@@ -6,6 +6,8 @@ use Rattle.std.proofs.lemmas.Grind.{common_steps}
 use Rattle.std.proofs.lemmas.List.{take-append-le, get_or_append_left, get_or-append-add}
 use Rattle.std.proofs.lemmas.List.Elements.{filter_map-append}
 use Rattle.std.proofs.Math.Seq.{take-append_seam, take-append-add, get_or-append_seam}
+use Rattle.std.specs.Option.{option_or}
+use Rattle.qbase.proofs.Lists.{or_none}
 use Rattle.qtables.specs.declared.member.Member.{Member}
 use Rattle.qrules.specs.declared.call.Call.{Call}
 use Rattle.qscript.specs.declared.reading.line.Line.{Line}
@@ -13,7 +15,7 @@ use Rattle.qscript.specs.declared.reading.line.Line.TheVariants as lines
 use Rattle.qscript.specs.declared.fault.LineFault.{LineFault}
 use Rattle.qscript.specs.Reading.Words.{words_of}
 use Rattle.qscript.specs.Reading.Line.{line_of, said_of}
-use Rattle.qscript.specs.Reading.Meaning.{Faulty, Says, member_in, call_in, roster_of, calls_of, line_with, line_after, fault_in, fault_at, or_else, first_fault, unless, of_lines}
+use Rattle.qscript.specs.Reading.Meaning.{Faulty, Says, member_in, call_in, roster_of, calls_of, line_with, line_after, fault_in, fault_at, first_fault, unless, of_lines}
 use Rattle.qscript.specs.Reading.Laws.{is_passed_over, IsPassedOver, renumbered}
 
 -- ---- what it says
@@ -64,14 +66,10 @@ shifted : ℕ → Option (ℕ × LineFault) → Option (ℕ × LineFault)
 shifted k None = None
 shifted k (Some x) = Some (cond (nat_lt x.0 k) x.0 (x.0 + 1), x.1)
 
-shifted_else : (k : ℕ) (a b : Option (ℕ × LineFault)) → shifted k (or_else a b) ≡ or_else (shifted k a) (shifted k b)
+shifted_else : (k : ℕ) (a b : Option (ℕ × LineFault)) → shifted k (option_or a b) ≡ option_or (shifted k a) (shifted k b)
 unfolding shifted
 shifted_else k None b = refl
 shifted_else k (Some x) b = refl
-
-or_none : (a : Option (ℕ × LineFault)) → or_else a None ≡ a
-or_none None = refl
-or_none (Some x) = refl
 
 fault_before : (k n : ℕ) (r : Result Line LineFault) → n < k → shifted k (fault_in n r) ≡ fault_in n r
 unfolding shifted
@@ -95,16 +93,16 @@ first_front : (front g h : List (List ℕ)) (n : ℕ) → n ≤ length front →
 unfolding first_fault
 first_front front g h zero le = refl
 first_front front g h (suc n) le =
-    ap (λ a. or_else a (fault_at (front ++ g) n)) (first_front front g h n (omega arith))
-    ∙ ap (λ b. or_else (first_fault (front ++ h) n) b) (fault_front front g h n (omega arith))
+    ap (λ a. option_or a (fault_at (front ++ g) n)) (first_front front g h n (omega arith))
+    ∙ ap (λ b. option_or (first_fault (front ++ h) n) b) (fault_front front g h n (omega arith))
 
 first_kept : (ls : List (List ℕ)) (k n : ℕ) → n ≤ k → shifted k (first_fault ls n) ≡ first_fault ls n
 unfolding first_fault shifted
 first_kept ls k zero le = refl
 first_kept ls k (suc n) le =
     shifted_else k (first_fault ls n) (fault_at ls n)
-    ∙ ap (λ a. or_else a (shifted k (fault_at ls n))) (first_kept ls k n (omega arith))
-    ∙ ap (λ b. or_else (first_fault ls n) b) (fault_before k n (line_after (take n ls) (get_or ls n [])) (omega arith))
+    ∙ ap (λ a. option_or a (shifted k (fault_at ls n))) (first_kept ls k n (omega arith))
+    ∙ ap (λ b. option_or (first_fault ls n) b) (fault_before k n (line_after (take n ls) (get_or ls n [])) (omega arith))
 
 -- the line itself
 fault_here : (front back : List (List ℕ)) (line : List ℕ) → IsPassedOver line → fault_at (front ++ line ∷ back) (length front) ≡ None
@@ -143,8 +141,8 @@ first_past front back line (suc j) h =
     let next : k + suc (suc j) ≡ suc (k + suc j) = omega arith in
     let same : k + suc j ≡ suc (k + j) = omega arith in
     ap (first_fault (front ++ line ∷ back)) next
-    ∙ ap (λ a. or_else a (fault_at (front ++ line ∷ back) (k + suc j))) (first_past front back line j h)
-    ∙ ap (λ b. or_else (shifted k (first_fault (front ++ back) (k + j))) b) (fault_past front back line j h)
+    ∙ ap (λ a. option_or a (fault_at (front ++ line ∷ back) (k + suc j))) (first_past front back line j h)
+    ∙ ap (λ b. option_or (shifted k (first_fault (front ++ back) (k + j))) b) (fault_past front back line j h)
     ∙ sym (shifted_else k (first_fault (front ++ back) (k + j)) (fault_at (front ++ back) (k + j)))
     ∙ ap (λ n. shifted k (first_fault (front ++ back) n)) (sym same)
 

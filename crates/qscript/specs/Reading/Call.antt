@@ -1,6 +1,7 @@
 -- The call that a word and its operands name.
 use Rattle.std.specs.Prelude.{ℕ, List, Option, Some, None, Result, Err, if◌then◌else◌, codes}
 use Rattle.std.specs.Str.{bytes_eq}
+use Rattle.std.specs.Option.{option_or}
 use Rattle.qrules.specs.declared.call.Call.{Call}
 use Rattle.qscript.specs.declared.reading.verb.Verb.{Verb}
 use Rattle.qscript.specs.declared.reading.verb.Verb.TheVariants as verbs
@@ -23,7 +24,6 @@ use Rattle.qscript.specs.Reading.Forms.Destroy.{destroy_of}
 use Rattle.qscript.specs.Reading.Forms.Shutdown.{shutdown_of}
 use Rattle.qscript.specs.Reading.Forms.Unblock.{unblock_of}
 use Rattle.qscript.specs.Reading.Forms.Detach.{detach_of}
-use Rattle.qrules.specs.Rows.{first_some}
 
 -- the verb that a word is, of a call on channels and connections
 unfoldable pub channel_verb : List ℕ → Option Verb
@@ -59,7 +59,7 @@ thread_verb word =
 
 -- the verb that a word is
 unfoldable pub verb_of : List ℕ → Option Verb
-verb_of word = first_some (channel_verb word) (first_some (message_verb word) (thread_verb word))
+verb_of word = option_or (channel_verb word) (option_or (message_verb word) (thread_verb word))
 
 -- the call of a verb and its operands
 abbrev pub call_by : Option Verb → List (List ℕ) → Result Call LineFault

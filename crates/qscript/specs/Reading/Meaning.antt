@@ -1,6 +1,7 @@
 -- What a text means, read off the list of its lines.
 use Rattle.std.specs.Prelude.{◌≡◌, ℕ, zero, suc, ◌+◌, ◌==◌, Bool, false, List, [], length, take, Option, Some, None, Result, Ok, Err, nat_lt, nat_le, if◌then◌else◌, slice_index_or}
 use Rattle.std.specs.List.{list_any, filter_map}
+use Rattle.std.specs.Option.{option_or}
 use Rattle.qtables.specs.declared.member.Member.{Member}
 use Rattle.qrules.specs.declared.call.Call.{Call}
 use Rattle.qscript.specs.declared.reading.line.Line.{Line}
@@ -74,15 +75,10 @@ fault_in n (Err fault) = Some (n, fault)
 abbrev pub fault_at : List (List ℕ) → ℕ → Option (ℕ × LineFault)
 fault_at lines n = fault_in n (line_after (take n lines) (slice_index_or lines n []))
 
--- the one, or else the other
-abbrev pub or_else : {A : Type 0} → Option A → Option A → Option A
-or_else None y = y
-or_else (Some x) y = Some x
-
 -- the first faulty line among the first n, and its fault
 unfoldable pub first_fault : List (List ℕ) → ℕ → Option (ℕ × LineFault)
 first_fault lines zero = None
-first_fault lines (suc n) = or_else (first_fault lines n) (fault_at lines n)
+first_fault lines (suc n) = option_or (first_fault lines n) (fault_at lines n)
 
 -- a text is too long, or has a first faulty line, or says a roster and calls
 pub data Meaning : Type 0 where

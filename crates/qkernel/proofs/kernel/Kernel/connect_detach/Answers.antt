@@ -4,9 +4,10 @@ use Rattle.qrules.specs.Rows.{disconnect_item}
 use Rattle.qkernel.proofs.Steps.Common.{up_to_below}
 use Rattle.qrecords.specs.Endings.{inserted_if}
 use Rattle.qrules.specs.declared.call.Call.TheVariants.{ConnectDetach}
-use Rattle.qkernel.proofs.Steps.ConnectDetach.{detach_full, detach_memory, due_is, is_told, made_for, new_pulse, newest_due, own_parts, room_for_one, sound_detached, sound_due, step_detach_refused, step_detached}
-use Rattle.qkernel.proofs.Steps.Telling.{sound_turned_away, step_turned_away}
+use Rattle.qkernel.proofs.Steps.ConnectDetach.{detach_full, detach_memory, due_is, new_pulse, own_parts, room_for_one, sound_detached, step_detach_refused, step_detached}
+use Rattle.qkernel.proofs.Steps.Telling.{sound_due, sound_turned_away, step_turned_away}
 use Rattle.qkernel.proofs.kernel.Kernel.connect_detach.Goals as goal
+use Rattle.qkernel.proofs.Steps.Told.{is_told, made_for, newest_due}
 
 pub cut_calls-requires-clause-few : goal.cut_calls-requires-clause-few
 cut_calls-requires-clause-few c =

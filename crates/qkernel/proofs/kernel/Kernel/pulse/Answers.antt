@@ -1,16 +1,18 @@
 use Rattle.std.proofs.Common.{◌+◌, refl, sym, ◌∙◌, w8, w32}
 use Rattle.std.proofs.lemmas.Int.{to_z-of_z}
+use Rattle.std.specs.Prelude.{Some}
 use Rattle.qrules.specs.Rows.{pulse_item}
 use Rattle.qrules.specs.declared.call.Call.TheVariants.{Pulse}
 use Rattle.qkernel.specs.State.{State}
 use Rattle.qkernel.proofs.Steps.Pulse.{natural, pulse_full, pulse_memory, tells_pulse}
-use Rattle.qkernel.proofs.Steps.Telling.{none_marked, sent_room, sound_sent, sound_turned_away, step_told, step_turned_away}
+use Rattle.qkernel.proofs.Steps.Telling.{none_marked, sound_due, sound_turned_away, step_told, step_turned_away}
 use Rattle.qkernel.proofs.kernel.Kernel.pulse.Goals as goal
 use Rattle.qkernel.proofs.kernel.Kernel.pulse.Goals.{in-Ok, in-Err}
+use Rattle.qkernel.proofs.Steps.Told.{is_told, made_for}
 
 pub invariant_of-self-2 : goal.invariant_of-self-2
 invariant_of-self-2 c = elim c.match-send_pulse.branch [
-  | in-Ok w ↦ sound_sent _ c.in-Some.chid _ _ _ w.in-Ok.met refl w.in-Ok.ensures.ok c.self.invariant
+  | in-Ok w ↦ sound_due _ c.in-Some.chid (Some _) _ _ w.in-Ok.met c.self.invariant (refl, refl) w.in-Ok.ensures.ok
   | in-Err w ↦ sound_turned_away _ c.args.thread (Pulse c.args.coid c.args.priority c.args.code c.args.value) c.in-Some.chid w.in-Err.errno _ _ w.in-Err.ensures.err c.self.invariant
 ]
 
@@ -26,10 +28,10 @@ returns c =
     elim c.match-send_pulse.branch [
       | in-Ok w ↦
           let sent = rw (to_z-of_z w8 c.args.code c.ranges.code, to_z-of_z w32 c.args.value c.ranges.value) at w.in-Ok.ensures.ok in
-          let room = sent_room c.in-Some.chid item _ _ _ _ w.in-Ok.met sent in
-          rw (w.endings-is, ← c.self.view_is) (step_told _ c.args.thread (Pulse c.args.coid c.args.priority c.args.code c.args.value) c.member_of-process.result c.in-Some.chid item c.self.invariant known free
-          (tells_pulse _ c.args.thread c.args.coid c.args.priority c.args.code c.args.value c.member_of-process.result c.in-Some.chid known up free found positive room) w.in-Ok.met _ _ _ _ sent
-          (none_marked (Pulse c.args.coid c.args.priority c.args.code c.args.value) c.in-Some.chid item _ refl) (rw w.own_ending-own.ensures at w.end_with.ensures))
+          let told = is_told _ c.args.thread c.in-Some.chid (Some item) _ _ w.in-Ok.met c.self.invariant free (refl, refl) sent in
+          rw (w.endings-is, ← c.self.view_is) (step_told _ c.args.thread (Pulse c.args.coid c.args.priority c.args.code c.args.value) c.member_of-process.result (made_for c.in-Some.chid (Some item)) c.self.invariant known free
+          (tells_pulse _ c.args.thread c.args.coid c.args.priority c.args.code c.args.value c.member_of-process.result c.in-Some.chid known up free found positive told.room) _ _ w.in-Ok.met told _ _
+          (none_marked (Pulse c.args.coid c.args.priority c.args.code c.args.value) (made_for c.in-Some.chid (Some item)) _ refl) (rw w.own_ending-own.ensures at w.end_with.ensures))
       | in-Err w ↦
           rw (w.endings-is, ← c.self.view_is) (step_turned_away _ c.args.thread (Pulse c.args.coid c.args.priority c.args.code c.args.value) c.in-Some.chid w.in-Err.errno _ _ w.in-Err.ensures.err _
           (pulse_full old c.args.thread c.args.coid c.args.priority c.args.code c.args.value c.member_of-process.result known up free c.in-Some.chid found positive)

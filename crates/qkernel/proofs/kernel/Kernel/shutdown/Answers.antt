@@ -1,7 +1,7 @@
 use Rattle.std.proofs.Common.{true}
 use Rattle.qbase.specs.declared.errno.Errno.TheVariants.{Srch}
+use Rattle.qbase.proofs.Lists.{some_of}
 use Rattle.qrecords.specs.declared.cutting.Cut.TheVariants.{All}
-use Rattle.qrecords.proofs.Seats.{some_there}
 use Rattle.qkernel.proofs.Steps.Cutting.{sound_cut}
 use Rattle.qkernel.proofs.Steps.Shutdown.{step_shut}
 use Rattle.qkernel.proofs.kernel.Kernel.shutdown.Goals as goal
@@ -13,6 +13,6 @@ pub returns : goal.returns
 returns c =
     let up = rw (← c.self.view_is) at c.requires.up in
     let free = rw (← c.self.view_is) at c.requires.free in
-    let caller = some_there _ (rw (← c.self.view_is) at c.requires.known) in
+    let caller = some_of _ (rw (← c.self.view_is) at c.requires.known) in
     let ended = rw c.own_ending-own.ensures at c.cut_calls.ensures.endings in
     rw (← c.self.view_is) (step_shut _ c.args.thread caller.0 _ _ _ caller.1 up free c.cut_calls.ensures.threads c.cut_calls.ensures.channels ended)

@@ -1,16 +1,16 @@
-use Rattle.std.proofs.Common.{◌+◌, refl, ap, sym, ◌∙◌}
-use Rattle.std.specs.Prelude.{is_some}
+use Rattle.std.proofs.Common.{◌+◌, ap, sym, ◌∙◌}
+use Rattle.std.specs.Prelude.{is_some, Some}
 use Rattle.qbase.specs.declared.errno.Errno.TheVariants.{Intr}
-use Rattle.qrules.specs.Rows.{unblock_item}
 use Rattle.qrules.specs.declared.call.Call.TheVariants.{Unblock}
 use Rattle.qrecords.specs.declared.cutting.Cut.TheVariants.{Of}
 use Rattle.qrecords.proofs.Seats.{seat_kept}
 use Rattle.qkernel.proofs.Steps.Common.{sound_counted_alone, up_to_below}
 use Rattle.qkernel.proofs.Steps.Cutting.{sound_cut}
 use Rattle.qkernel.proofs.Steps.Delivering.{sound_kept}
-use Rattle.qkernel.proofs.Steps.Telling.{sent_members, sent_room, sound_sent, sound_turned_away, step_told, step_turned_away}
-use Rattle.qkernel.proofs.Steps.Unblock.{are_marked, step_unblock_again, step_unblock_cut, tells_unblock, unblock_full, unblock_memory}
+use Rattle.qkernel.proofs.Steps.Telling.{sound_due, sound_turned_away, step_told, step_turned_away}
+use Rattle.qkernel.proofs.Steps.Unblock.{are_marked, new_pulse, step_unblock_again, step_unblock_cut, tells_unblock, unblock_full, unblock_memory}
 use Rattle.qkernel.proofs.kernel.Kernel.unblock.Goals as goal
+use Rattle.qkernel.proofs.Steps.Told.{is_told, made_for, newest_due}
 
 -- ---- the thread's open call is cut
 
@@ -43,16 +43,26 @@ returns-then-held c =
 
 -- ---- its server is told
 
+pub send_pulse-requires-clause-pulse : goal.send_pulse-requires-clause-pulse
+send_pulse-requires-clause-pulse c = (new_pulse (c.self.inside.made + 1) _ _ _ c.pulse_for-pulse.ensures).1
+
 pub send_pulse-requires-clause-newest : goal.send_pulse-requires-clause-newest
-send_pulse-requires-clause-newest c = up_to_below (λ x. x.number) c.self.inside.made _ (c.self.invariant.items c.in-Some-guarded.guarded.1)
+send_pulse-requires-clause-newest c =
+    let new = new_pulse (c.self.inside.made + 1) _ _ c.pulse_for-pulse.result c.pulse_for-pulse.ensures in
+    newest_due (c.self.inside.made + 1) (Some c.pulse_for-pulse.result) _ new (up_to_below (λ x. x.number) c.self.inside.made _ (c.self.invariant.items c.in-Some-guarded.guarded.1))
 
 pub mark_unblocked-requires : goal.mark_unblocked-requires
 mark_unblocked-requires c =
     let there = rw c.deref-2.ensures.value at c.in-Some.ensures.seat in
-    seat_kept c.args.target _ _ (sent_members c.in-Some-guarded.guarded.1 _ _ _ _ _ c.in-Ok.met c.in-Ok.ensures.ok) ∙ there
+    let free = rw (← c.self.view_is) at c.requires.free in
+    let new = new_pulse (c.self.inside.made + 1) _ _ c.pulse_for-pulse.result c.pulse_for-pulse.ensures in
+    let told = is_told _ c.args.thread c.in-Some-guarded.guarded.1 (Some c.pulse_for-pulse.result) _ _ c.in-Ok.met c.self.invariant free new c.in-Ok.ensures.ok in
+    seat_kept c.args.target _ _ told.members ∙ there
 
 pub invariant_of-self-in-Ok : goal.invariant_of-self-in-Ok
-invariant_of-self-in-Ok c = sound_kept _ _ c.mark_unblocked.ensures.members (sound_sent _ c.in-Some-guarded.guarded.1 _ _ _ c.in-Ok.met refl c.in-Ok.ensures.ok c.self.invariant)
+invariant_of-self-in-Ok c =
+    let new = new_pulse (c.self.inside.made + 1) _ _ c.pulse_for-pulse.result c.pulse_for-pulse.ensures in
+    sound_kept _ _ c.mark_unblocked.ensures.members (sound_due _ c.in-Some-guarded.guarded.1 (Some c.pulse_for-pulse.result) _ _ c.in-Ok.met c.self.invariant new c.in-Ok.ensures.ok)
 
 pub invariant_of-self-in-Err-1 : goal.invariant_of-self-in-Err-1
 invariant_of-self-in-Err-1 c = sound_turned_away _ c.args.thread (Unblock c.args.target) c.in-Some-guarded.guarded.1 c.in-Err.errno _ _ c.in-Err.ensures.err c.self.invariant
@@ -65,10 +75,12 @@ returns-in-Ok c =
     let fellow = rw c.deref-2.ensures.value at (sym c.seat_in_process.ensures.own ∙ ap is_some c.in-Some.is) in
     let guards = rw c.deref-3.ensures.value at (sym c.guarded.ensures ∙ c.in-Some-guarded.is) in
     let g = c.in-Some-guarded.guarded in
-    let room = sent_room g.1 _ _ _ _ _ c.in-Ok.met c.in-Ok.ensures.ok in
-    rw (← c.self.view_is) (step_told _ c.args.thread (Unblock c.args.target) c.member_of-process.result g.1 (unblock_item (c.self.inside.made + 1) g.0.receipt.priority g.0.rcvid) c.self.invariant known free
-    (tells_unblock _ c.args.thread c.args.target c.member_of-process.result c.self.invariant known up free fellow g guards c.if-held.false room) c.in-Ok.met _ _ _ _ c.in-Ok.ensures.ok
-    (are_marked c.args.target g.1 (c.self.inside.made + 1) g.0.receipt.priority g.0.rcvid _ _ c.mark_unblocked.ensures) (rw c.own_ending-own.ensures at c.end_with.ensures))
+    let pulse = c.pulse_for-pulse.result in
+    let new = new_pulse (c.self.inside.made + 1) _ _ pulse c.pulse_for-pulse.ensures in
+    let told = is_told _ c.args.thread g.1 (Some pulse) _ _ c.in-Ok.met c.self.invariant free new c.in-Ok.ensures.ok in
+    rw (← c.self.view_is) (step_told _ c.args.thread (Unblock c.args.target) c.member_of-process.result (made_for g.1 (Some pulse)) c.self.invariant known free
+    (tells_unblock _ c.args.thread c.args.target c.member_of-process.result c.self.invariant known up free fellow g guards c.if-held.false pulse c.pulse_for-pulse.ensures told.room) _ _ c.in-Ok.met told _ _
+    (are_marked c.args.target (record { item = pulse; channel = g.1 }) _ _ c.mark_unblocked.ensures) (rw c.own_ending-own.ensures at c.end_with.ensures))
 
 pub returns-in-Err : goal.returns-in-Err
 returns-in-Err c =
@@ -78,6 +90,7 @@ returns-in-Err c =
     let fellow = rw c.deref-2.ensures.value at (sym c.seat_in_process.ensures.own ∙ ap is_some c.in-Some.is) in
     let guards = rw c.deref-3.ensures.value at (sym c.guarded.ensures ∙ c.in-Some-guarded.is) in
     let g = c.in-Some-guarded.guarded in
+    let pulse = c.pulse_for-pulse.result in
     rw (← c.self.view_is) (step_turned_away _ c.args.thread (Unblock c.args.target) g.1 c.in-Err.errno _ _ c.in-Err.ensures.err _
-    (unblock_full _ c.args.thread c.args.target c.member_of-process.result c.self.invariant known up free fellow g guards c.if-held.false)
-    (unblock_memory _ c.args.thread c.args.target c.member_of-process.result c.self.invariant known up free fellow g guards c.if-held.false) (rw c.new-in-Err.ensures at c.refuse-in-Err.ensures))
+    (unblock_full _ c.args.thread c.args.target c.member_of-process.result c.self.invariant known up free fellow g guards c.if-held.false pulse c.pulse_for-pulse.ensures)
+    (unblock_memory _ c.args.thread c.args.target c.member_of-process.result c.self.invariant known up free fellow g guards c.if-held.false pulse c.pulse_for-pulse.ensures) (rw c.new-in-Err.ensures at c.refuse-in-Err.ensures))

@@ -1,7 +1,7 @@
 use Rattle.std.proofs.Common.{ap, sym, ◌∙◌}
 use Rattle.std.specs.Prelude.{is_some}
 use Rattle.qrecords.proofs.Seats.{is_there}
-use Rattle.qkernel.proofs.kernel.Kernel.perform.Goals as goal
+use Rattle.qkernel.proofs.kernel.Kernel.make.Goals as goal
 
 pub state-requires-clause-known : goal.state-requires-clause-known
 state-requires-clause-known c = sym (is_there c.args.thread c.args.self.now.threads) ∙ ap is_some c.requires.seat

@@ -1,0 +1,179 @@
+-- A pulse that is sent, if one is due: what becomes of the threads and the channels, and whose call ends.
+use Rattle.std.proofs.Common.{◌≡◌, ◌≢◌, ℕ, ◌+◌, ◌<◌, ◌≤◌, List, [], ◌++◌, length, refl, ap, sym, subst, ◌∙◌, cond, true, false, eqb}
+use Rattle.std.specs.Prelude.{Option, None, Some, IfSome, is_some, unwrap_or}
+use Rattle.std.specs.List.{AllByRecursion, filter_map}
+use Rattle.std.proofs.lemmas.Bool.{eqb-true, ne_eqb, true≢false}
+use Rattle.std.proofs.lemmas.List.{append-nil}
+use Rattle.std.proofs.lemmas.Option.{none-some, same_Some}
+use Rattle.std.specs.Option.{option_or}
+use Rattle.qbase.proofs.Lists.{eqb_same, is_among, or_none}
+use Rattle.qqueue.specs.Best.{is_pulse}
+use Rattle.qqueue.specs.declared.item.Item.{Item}
+use Rattle.qrules.specs.Facts.{threads_of}
+use Rattle.qrules.specs.Pulses.{full_for, told, told_receipt}
+use Rattle.qrules.specs.Receivers.{newest}
+use Rattle.qrules.specs.Rows.{Made, received, takes, takes_into}
+use Rattle.qrules.specs.Step.{after_receipt, made_on, taken_by, taken_out, unless}
+use Rattle.qrules.specs.declared.call.Completion.{Completion}
+use Rattle.qrules.specs.declared.open_call.OpenCall.{OpenCall}
+use Rattle.qrules.specs.declared.open_call.Wait.{Wait}
+use Rattle.qrules.specs.declared.open_call.Wait.TheVariants.{Answer, Item as ForItem}
+use Rattle.qrules.proofs.Rosters.{filter_map_same, rises}
+use Rattle.qrules.proofs.Calls.Delivering.{ForAnItem, met_item, met_settled}
+use Rattle.qrules.proofs.Past.Laws.{IsSettled}
+use Rattle.qrecords.specs.Channels.{channel_in, ids_of, pending_in}
+use Rattle.qrecords.specs.Endings.{inserted_if}
+use Rattle.qrecords.specs.Pulses.{IsLeft, IsMet, IsSentIfDue}
+use Rattle.qrecords.specs.Threads.{level_in, members_of, open_in}
+use Rattle.qrecords.specs.declared.channel.Channel.{Channel}
+use Rattle.qrecords.specs.declared.thread.Thread.{Thread}
+use Rattle.qrecords.proofs.Inserting.{endings_fewer, inserted_among}
+use Rattle.qrecords.proofs.Receivers.{ended_thread, newest_receives, waits_among}
+use Rattle.qkernel.specs.State.{State, IsSound, facts_in}
+use Rattle.qkernel.proofs.Steps.Delivering.{items_after, newest_is, with_item}
+
+-- the item that is due, with its channel
+abbrev pub made_for : ℕ → Option Item → Option Made
+made_for h None = None
+made_for h (Some item) = Some (record { item = item; channel = h })
+
+-- what has become of the threads and the channels, and how the call of its receiver ends
+pub record IsTold (s : State) (t : ℕ) (o : Option Made) (mid : List Thread) (channels : List (ℕ × Channel)) (met : Option Completion) : Type 0 where
+  pub room : full_for (facts_in s) o ≡ None
+  pub members : members_of mid ≡ members_of s.threads
+  pub open_call : (u : ℕ) → open_in mid u ≡ unless (is_some (told (facts_in s) o u)) (open_in s.threads u)
+  pub idle : told (facts_in s) o t ≡ None
+  pub priority : (u : ℕ) → level_in mid u ≡ unwrap_or (taken_by (facts_in s) (told_receipt (facts_in s) o) u) (level_in s.threads u)
+  pub senderless : (u : ℕ) (call : Option OpenCall) → after_receipt (told_receipt (facts_in s) o) u call ≡ call
+  pub ids : ids_of channels ≡ ids_of s.channels
+  pub channel : (k : ℕ) → channel_in channels k ≡ channel_in s.channels k
+  pub pending : (k : ℕ) → pending_in channels k ≡ taken_out (told_receipt (facts_in s) o) k (pending_in s.channels k ++ made_on k o)
+  pub endings : (g : ℕ → Option Completion) → ((u : ℕ) (x : Completion) → g u ≡ Some x → x.thread ≡ u) → ((u : ℕ) → is_some (told (facts_in s) o u) ≡ true → g u ≡ None)
+      → inserted_if met (filter_map g (threads_of (members_of s.threads))) ≡ filter_map (λ u. option_or (g u) (told (facts_in s) o u)) (threads_of (members_of s.threads))
+  pub few : (g : ℕ → Option Completion) → ((u : ℕ) → is_some (told (facts_in s) o u) ≡ true → g u ≡ None) → is_some met ≡ true
+      → length (filter_map g (threads_of (members_of s.threads))) + 1 ≤ length (threads_of (members_of s.threads))
+
+-- ---- none is due
+
+untold : (s : State) (t : ℕ) → IsTold s t None s.threads s.channels None
+untold s t = record {
+  room = refl;
+  members = refl;
+  open_call = λ u. refl;
+  idle = refl;
+  priority = λ u. refl;
+  senderless = λ u call. refl;
+  ids = refl;
+  channel = λ k. refl;
+  pending = λ k. sym (append-nil _);
+  endings = λ g own none. filter_map_same g (λ u. option_or (g u) None) (threads_of (members_of s.threads)) (λ u. sym (or_none (g u)));
+  few = λ g none e. absurd (true≢false (sym e));
+}
+
+-- ---- one is due
+
+-- a receipt of a pulse is one of its number, with no bytes
+told_mark : (item : Item) (r : ℕ) (o : Option OpenCall) (y : Completion) → is_pulse item.what ≡ true → takes item [] r o ≡ Some y → received y.mark ≡ Some (item.number, 0)
+told_mark item r None y pulse e = absurd (none-some y e)
+told_mark item r (Some o) y pulse e = by_wait o.wait e where
+  by_wait : (w : Wait) → takes_into item [] r o.number w ≡ Some y → received y.mark ≡ Some (item.number, 0)
+  by_wait (Answer coid sent reply_buffer receipt) e = absurd (none-some y e)
+  by_wait (ForItem chid kind buffer) e = sym (ap (λ x. received x.mark) (same_Some _ y e)) ∙ rw pulse refl
+
+module _ (s : State) (t h : ℕ) (item : Item) (sound : IsSound s) (free : open_in s.threads t ≡ None) (number : item.number ≡ s.made + 1) (mid : List Thread) (channels : List (ℕ × Channel)) where
+  abbrev sent : Option Made
+  sent = Some (record { item = item; channel = h })
+
+  -- it waits
+  told_left : IsLeft h item s.threads s.channels mid channels → IsTold s t sent mid channels None
+  told_left left =
+      let none : newest (facts_in s) h item ≡ None = newest_is s h item None sound left.nobody in
+      record {
+        room = rw (left.room) refl;
+        members = ap members_of left.threads_are;
+        open_call = λ u. ap (λ ts. open_in ts u) left.threads_are ∙ rw none refl;
+        idle = rw none refl;
+        priority = λ u. ap (λ ts. level_in ts u) left.threads_are ∙ rw none refl;
+        senderless = λ u call. rw none refl;
+        ids = left.sets.ids;
+        channel = left.sets.channel;
+        pending = λ k. left.sets.pending k ∙ rw none (with_item s h item sound number k);
+        endings = λ g own nothing. filter_map_same g (λ u. option_or (g u) (told (facts_in s) sent u)) (threads_of (members_of s.threads)) (λ u. rw none (sym (or_none (g u))));
+        few = λ g nothing e. absurd (true≢false (sym e));
+      }
+
+  -- it meets a receiver
+  module _ (y : Completion) (pulse : is_pulse item.what ≡ true) (met : IsMet h item s.threads s.channels mid channels y) where
+    abbrev r : ℕ
+    r = met.receiver.1
+
+    newest_is_r : newest (facts_in s) h item ≡ Some r
+    newest_is_r = newest_is s h item (Some met.receiver) sound met.newest
+
+    apart : t ≢ r
+    apart e = none-some y (sym (ap (takes item [] r) (ap (open_in s.threads) (sym e) ∙ free)) ∙ met.ended)
+
+    there : is_among (threads_of (members_of s.threads)) r ≡ true
+    there = waits_among h item _ s.threads r (newest_receives s.threads h item met.receiver sound.roster met.newest)
+
+    told_is : (u : ℕ) → told (facts_in s) sent u ≡ cond (eqb u r) (Some y) None
+    told_is u = rw newest_is_r (elim (eqb u r) as (λ b. eqb u r ≡ b → cond b (takes item [] u (open_in s.threads u)) None ≡ cond b (Some y) None) [
+      | true ↦ λ f. rw (eqb-true u r f) met.ended
+      | false ↦ λ f. refl
+    ] refl)
+
+    told_r : is_some (told (facts_in s) sent r) ≡ true
+    told_r = rw (told_is r, eqb_same r) refl
+
+    -- the receiver waits no more
+    waits_after : (u : ℕ) → open_in mid u ≡ unless (is_some (cond (eqb u r) (Some y) None)) (open_in s.threads u)
+    waits_after u = met.wakes.open_call u ∙ (elim (eqb u r) as (λ b. cond b None (open_in s.threads u) ≡ unless (is_some (cond b (Some y) None)) (open_in s.threads u)) [ true ↦ refl | false ↦ refl ])
+
+    told_met : IsTold s t sent mid channels (Some y)
+    told_met =
+        let mark : received y.mark ≡ Some (item.number, 0) = told_mark item r (open_in s.threads r) y pulse met.ended in
+        let thread : y.thread ≡ r = ended_thread item [] r (open_in s.threads r) y met.ended in
+        record {
+          room = rw (met.room) refl;
+          members = met.wakes.members;
+          open_call = λ u. waits_after u ∙ ap (λ x. unless (is_some x) (open_in s.threads u)) (sym (told_is u));
+          idle = told_is t ∙ rw (ne_eqb t r apart) refl;
+          priority = λ u. met.wakes.priority u ∙ rw (newest_is_r, met.ended, mark, thread) refl;
+          senderless = λ u call. rw (newest_is_r, met.ended, mark) refl;
+          ids = ap ids_of met.channels_are;
+          channel = λ k. ap (λ cs. channel_in cs k) met.channels_are;
+          pending = λ k. ap (λ cs. pending_in cs k) met.channels_are ∙ rw (newest_is_r, met.ended, mark) (items_after s h item sound number k);
+          endings = λ g own none. inserted_among y r thread g own (none r told_r) (threads_of (members_of s.threads)) (rises (members_of s.threads) sound.roster) there
+              ∙ filter_map_same (λ u. option_or (g u) (cond (eqb u r) (Some y) None)) (λ u. option_or (g u) (told (facts_in s) sent u)) (threads_of (members_of s.threads)) (λ u. ap (option_or (g u)) (sym (told_is u)));
+          few = λ g none e. endings_fewer g r (threads_of (members_of s.threads)) (none r told_r) there;
+        }
+
+-- ---- one or none
+
+-- a pulse of the call's number
+abbrev pub IsNew : ℕ → Option Item → Type 0
+IsNew n d = IfSome d (λ item. (item.number ≡ n) × (is_pulse item.what ≡ true))
+
+-- it has a greater number than all that waits
+pub newest_due : (n : ℕ) (d : Option Item) (items : List Item) → IsNew n d → AllByRecursion (λ x. x.number < n) items → IfSome d (λ item. AllByRecursion (λ x. x.number < item.number) items)
+newest_due n None items new below = tt
+newest_due n (Some item) items new below = subst (λ k. AllByRecursion (λ (x : Item). x.number < k) items) (sym new.0) below
+
+pub is_told : (s : State) (t h : ℕ) (d : Option Item) (mid : List Thread) (channels : List (ℕ × Channel)) (met : Option Completion) → IsSound s → open_in s.threads t ≡ None
+    → IsNew (s.made + 1) d → IsSentIfDue h d s.threads s.channels mid channels met → IsTold s t (made_for h d) mid channels met
+is_told s t h None mid channels met sound free new sent = rw (sent.0, sent.1, sent.2) (untold s t)
+is_told s t h (Some item) mid channels None sound free new sent = told_left s t h item sound free new.0 mid channels sent
+is_told s t h (Some item) mid channels (Some y) sound free new sent = told_met s t h item sound free new.0 mid channels y new.1 sent
+
+-- what meets the pulse isn't the caller
+pub not_caller : (s : State) (t u : ℕ) (o : Option Made) (mid : List Thread) (channels : List (ℕ × Channel)) (met : Option Completion) → IsTold s t o mid channels met → is_some (told (facts_in s) o u) ≡ true → u ≢ t
+not_caller s t u o mid channels met is there same = true≢false (sym there ∙ ap (λ v. is_some (told (facts_in s) o v)) same ∙ ap is_some is.idle)
+
+-- what meets the pulse waits for an item
+pub told_waits : (s : State) (o : Option Made) (u : ℕ) (y : Completion) → told (facts_in s) o u ≡ Some y → ForAnItem (open_in s.threads u)
+told_waits s None u y e = absurd (none-some y e)
+told_waits s (Some x) u y e = met_item (facts_in s) x.item [] (Some x.channel) u y e
+
+pub told_settled : (s : State) (o : Option Made) (u : ℕ) (y : Completion) → told (facts_in s) o u ≡ Some y → IsSettled (open_in s.threads u)
+told_settled s None u y e = absurd (none-some y e)
+told_settled s (Some x) u y e = met_settled (facts_in s) x.item [] (Some x.channel) u y e
