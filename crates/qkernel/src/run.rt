@@ -63,6 +63,19 @@ fn place(entry: &mut Entry, start: usize, end: usize)
     entry.end = end;
 }
 
+/// How many calls a list has room for at least, whose room is given back: some hundreds of kilobytes.
+const WORTH_GIVING_BACK: usize = 4096;
+
+/// Gives back the room of calls that were made, once it is half of what the list has.
+fn give_back(calls: &mut Vec<(ThreadNo, Call)>)
+    ensures items { calls.new.items ≡ calls.old.items }
+    ensures len { vec_len calls.new ≡ vec_len calls.old }
+{
+    if calls.capacity() >= WORTH_GIVING_BACK && calls.len() <= calls.capacity() / 2 {
+        calls.shrink_to_fit();
+    }
+}
+
 /// Makes the calls in order, and gives each entry its endings.
 fn run_all(
     kernel: &mut Kernel,
@@ -89,6 +102,7 @@ fn run_all(
         let start = all.len();
         append(all, &mut endings);
         place(&mut entries[k], start, all.len());
+        give_back(&mut calls);
         k += 1;
     }
 }

@@ -11,10 +11,10 @@ use qqueue::item::Kind;
 pub struct Receipt {
     /// The priority that the message was received with.
     pub priority: Priority,
-    /// How many of its bytes were copied.
-    pub copied: usize,
     /// Whether an unblock pulse was made for it.
     pub unblocked: bool,
+    /// How many of its bytes were copied.
+    pub copied: usize,
 }
 
 /// What a blocked thread waits for.

@@ -17,13 +17,16 @@ use qkernel::open_call::Blocked;
 use qkernel::trace::Trace;
 use std::alloc::{AllocError, Global};
 
+/// How many bytes are reserved for the line of an event: as many as most lines without bytes have, and some more.
+const LINE: usize = 32;
+
 /// A line for each ending of each event, and then one for each blocked thread.
 #[tactic(auto, unfolding(crate::specs::Printing::Printed::printed))]
 pub fn text_of(alloc: Global, run: &Trace, blocked: &[Blocked]) -> Result<String, AllocError>
     requires { run.now.first + length run.now.events ≤ 2 ^ 64 }
     ensures { IfOk result (λ text. string_bytes text ≡ printed run.now blocked.now) }
 {
-    let mut out = String::new(alloc);
+    let mut out = String::with_capacity(alloc, run.len().saturating_mul(LINE))?;
     push_events(alloc, &mut out, run)?;
     push_open_lines(&mut out, blocked)?;
     Ok(out)

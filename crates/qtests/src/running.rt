@@ -40,3 +40,21 @@ fn a_run_is_of_known_threads(rt: HostRuntime) {
     assert_eq!(rt; refused.err(), Some(Errno::NoThread));
     assert_eq!(rt; kernel.made(), 0);
 }
+
+// A long list gives back the room of the calls that were made, and loses none of the others.
+#[test]
+fn a_long_run_makes_every_call(rt: HostRuntime) {
+    let alloc = rt.alloc();
+    let mut kernel = kernel(&rt, alloc);
+    let mut list = Vec::new(alloc);
+    for _ in 0..10_000u64 {
+        list.push((ThreadNo(1), Call::State(ThreadNo(2))))
+            .expect(&rt, "room");
+    }
+    let trace = run(&mut kernel, list).expect(&rt, "a trace");
+    assert_eq!(rt; trace.len(), 10_000);
+    assert_eq!(rt; kernel.made(), 10_000);
+    for ending in trace.endings(9_999).iter() {
+        assert_eq!(rt; ending.call, 10_000);
+    }
+}

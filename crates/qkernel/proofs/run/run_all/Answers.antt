@@ -32,7 +32,7 @@ loop-next-preserved c =
     let start : c.len-start.result ≡ length c.loop-next.all.items = omega (arith, c.len-start.ensures, c.loop-next.all.ok.0) in
     let finish : c.len.result ≡ length (c.loop-next.all.items ++ c.step.new.endings.items) = rw (← c.append.ensures.items) (omega (arith, c.len.ensures, c.append.new.all.ok.0)) in
     record {
-      running = rw (c.place.ensures, c.append.ensures.items) (running_more _ _ _ _ _ _ _ _ _ c.index_mut.result.now _ _ _ running c.index_mut.ensures.value c.step.ensures.event c.step.ensures.roster c.step.ensures.made c.step.ensures.room start finish);
+      running = rw (c.place.ensures, c.append.ensures.items, c.give_back.ensures.items) (running_more _ _ _ _ _ _ _ _ _ c.index_mut.result.now _ _ _ running c.index_mut.ensures.value c.step.ensures.event c.step.ensures.roster c.step.ensures.made c.step.ensures.room start finish);
       room = omega (arith, c.loop-next.invariant.room, c.append.ensures.capacity);
       emptied = c.append.ensures.emptied;
     }
