@@ -1,22 +1,40 @@
 //! Times the kernel's calls. With no argument it makes a few calls and says how many; with `measure` it
-//! prints a table of nanoseconds a call.
+//! prints a table of nanoseconds a call; with `tour` it makes each call once or more often, and prints each
+//! before it is made.
 #![tactic(auto)]
 
 mod rounds;
 mod table;
+mod tour;
 
 use std::env;
 use std::test::Fail;
 
+/// What the program is asked for.
+#[derive(Clone, Copy)]
+enum Task {
+    Show,
+    Measure,
+    Tour,
+}
+
+/// The task that a word names.
+fn task_of(word: &str) -> Task {
+    match word {
+        "measure" => Task::Measure,
+        "tour" => Task::Tour,
+        _ => Task::Show,
+    }
+}
+
 fn main(rt: HostRuntime) -> Result<(), Fail> {
-    let mut measures = false;
+    let mut task = Task::Show;
     for word in env::args(&rt)? {
-        measures = word.as_str() == "measure";
+        task = task_of(word.as_str());
     }
-    if measures {
-        table::measure(&rt)?;
-    } else {
-        table::show(&rt)?;
+    match task {
+        Task::Show => table::show(&rt),
+        Task::Measure => table::measure(&rt),
+        Task::Tour => tour::walk(&rt),
     }
-    Ok(())
 }

@@ -1,0 +1,181 @@
+#!/usr/bin/env python3
+"""Measures the kernel and its program, and prints one table with what is aimed at.
+
+usage: bench/bench.py [core] [allocations] [scripts]
+
+With no word it measures all three. It wants the built programs `crates/qbench/out/qbench` and
+`crates/qdemo/out/qdemo`, which `rt run` leaves in each of the two crates.
+
+  core         nanoseconds a call in rounds of Send, Receive and Reply, with 1, 64 and 1,024
+               connections, and 1 and 1,024 pulses that wait on the channel
+  allocations  requests to the allocator by each call, as `valgrind --trace-malloc=yes` counts
+               them: the least and the most that one call of the kind made
+  scripts      seconds and peak memory of `qdemo script` on scripts of 1, 2 and 4 MiB; the least
+               time and the greatest memory of three runs
+"""
+
+import os
+import re
+import subprocess
+import sys
+import tempfile
+import time
+
+ROOT = os.path.dirname(os.path.dirname(os.path.abspath(__file__)))
+QBENCH = os.path.join(ROOT, "crates/qbench/out/qbench")
+QDEMO = os.path.join(ROOT, "crates/qdemo/out/qdemo")
+
+MEBIBYTE = 1024 * 1024
+RUNS = 3
+PRELUDE = "thread 1 1 10\nthread 2 2 20\n1 create 0\n2 attach 1\n"
+
+NANOSECONDS = 200
+GROWTH = 1.5
+# Twice what plain Rust took for a script of 4 MiB: seconds for each MiB, and megabytes.
+SCRIPT_SECONDS = {"empty": 2 * 0.13 / 4, "bytes": 2 * 0.09 / 4}
+SCRIPT_MEGABYTES = 2 * 30
+# The most requests that a call makes: one for each vector that may grow. The other calls make none.
+REQUESTS = {
+    "Kernel::new": 1,
+    "ChannelCreate": 2,
+    "ConnectAttach": 2,
+    "Send": 1,
+    "Pulse": 1,
+    "Unblock": 1,
+    "ConnectDetach": 1,
+}
+
+
+def row(name, value, aim="", met=True):
+    """A line of the table."""
+    print(f"{name:<58}{value:>14}{aim:>14}{'' if met else '  missed'}")
+
+
+def program(path):
+    """The path of a built program."""
+    if not os.access(path, os.X_OK):
+        crate = os.path.basename(path)
+        sys.exit(f"no program {path}; build it by `rt run` in crates/{crate}\n\n{__doc__}")
+    return path
+
+
+def core():
+    """Nanoseconds a call."""
+    out = subprocess.run([program(QBENCH), "measure"], capture_output=True, text=True, check=True)
+    lines = [line.split() for line in out.stdout.splitlines()[1:]]
+    alone = {pulses: float(ns) for connections, pulses, ns in lines if connections == "1"}
+    for connections, pulses, ns in lines:
+        aim = NANOSECONDS if connections == "1" else GROWTH * alone[pulses]
+        name = f"a call, with {connections} connections and {pulses} pulses that wait"
+        row(name, f"{ns} ns", f"{aim:.1f} ns", float(ns) <= aim)
+
+
+def requests_of(trace):
+    """How many requests came behind each line that the program printed, and that line's first word."""
+    name, count = None, 0
+    for line in trace.splitlines():
+        if line.startswith("--"):
+            count += bool(re.match(r"--\d+-- (malloc|realloc|calloc|memalign)", line))
+        elif not line.startswith("=="):
+            if name:
+                yield name, count
+            name, count = re.match(r"[\w:]+", line).group(0), 0
+
+
+def allocations():
+    """Requests to the allocator by each call."""
+    words = ["valgrind", "--trace-malloc=yes", program(QBENCH), "tour"]
+    try:
+        out = subprocess.run(words, stdout=subprocess.PIPE, stderr=subprocess.STDOUT, text=True, check=True)
+    except FileNotFoundError:
+        sys.exit("no valgrind, which counts the requests")
+    found = {}
+    for name, count in requests_of(out.stdout):
+        found.setdefault(name, []).append(count)
+    for name, counts in found.items():
+        least, most, aim = min(counts), max(counts), REQUESTS.get(name, 0)
+        value = str(least) if least == most else f"{least} to {most}"
+        row(f"requests by {name}, made {len(counts)} times", value, str(aim), most <= aim)
+
+
+def rounds(size, line_of):
+    """The prelude and as many whole rounds as there is room for."""
+    parts, length, call = [PRELUDE], len(PRELUDE), 3
+    while True:
+        text = line_of(call)
+        if length + len(text) > size:
+            return "".join(parts)
+        parts.append(text)
+        length += len(text)
+        call += 3
+
+
+def empty_round(call):
+    """A Send, a Receive and a Reply without bytes."""
+    return f"2 send 2 - -\n1 receive 1 -\n1 reply {call} 0 -\n"
+
+
+def bytes_round(call):
+    """The same with messages, buffers and replies of 32 bytes."""
+    data = f"{call:064x}"
+    return f"2 send 2 {data} 32x00\n1 receive 1 32xff\n1 reply {call} -1 {data}\n"
+
+
+KINDS = {
+    "empty": lambda size: rounds(size, empty_round),
+    "bytes": lambda size: rounds(size, bytes_round),
+    "newlines": lambda size: "\n" * size,
+}
+
+
+def run(path):
+    """The seconds and the peak memory in megabytes of one run."""
+    with open(path, "rb") as script:
+        start = time.perf_counter()
+        child = subprocess.Popen([program(QDEMO), "script"], stdin=script, stdout=subprocess.DEVNULL)
+        _, status, usage = os.wait4(child.pid, 0)
+        seconds = time.perf_counter() - start
+    child.returncode = os.waitstatus_to_exitcode(status)
+    if child.returncode != 0:
+        sys.exit(f"{QDEMO} script ended with status {child.returncode} on {path}")
+    return seconds, usage.ru_maxrss * 1024 / 1e6
+
+
+def script(kind, mebibytes, folder):
+    """The two rows of a script."""
+    text = KINDS[kind](mebibytes * MEBIBYTE)
+    path = os.path.join(folder, "script")
+    with open(path, "w", encoding="ascii") as file:
+        file.write(text)
+    results = [run(path) for _ in range(RUNS)]
+    seconds = min(result[0] for result in results)
+    megabytes = max(result[1] for result in results)
+    lines = text.count("\n")
+    name = f"a script of {mebibytes} MiB, {kind}, {lines} lines"
+    aim = SCRIPT_SECONDS.get(kind, 0) * mebibytes
+    row(f"{name}: time", f"{seconds:.3f} s", f"{aim:.3f} s" if aim else "", not aim or seconds <= aim)
+    row(f"{name}: peak memory", f"{megabytes:.1f} MB", f"{SCRIPT_MEGABYTES} MB", megabytes <= SCRIPT_MEGABYTES)
+
+
+def scripts():
+    """Time and memory of the program."""
+    with tempfile.TemporaryDirectory() as folder:
+        for kind in KINDS:
+            for mebibytes in (1, 2, 4):
+                script(kind, mebibytes, folder)
+
+
+PARTS = {"core": core, "allocations": allocations, "scripts": scripts}
+
+
+def main():
+    words = sys.argv[1:] or list(PARTS)
+    if any(word not in PARTS for word in words):
+        sys.exit(__doc__)
+    row("what", "measured", "aim")
+    for word in words:
+        PARTS[word]()
+
+
+if __name__ == "__main__":
+    main()
