@@ -12,14 +12,21 @@ pub enum Action {
 
 const ABOUT: &str = "A kernel of synchronous messages, after QNX Neutrino's";
 
+const EXAMPLE: &str = "Example:
+  $ printf 'thread 1 1 10\\n1 create 0\\n' | qdemo script
+  1 1 1 channel 1
+
+A script goes in on standard input, and what its calls are answered comes out on
+standard output. 'qdemo help script' describes the lines of both.";
+
 const SCRIPT_ABOUT: &str = "Runs the script on standard input and prints what its calls answer";
 
 const SCRIPT_LONG: &str = "Runs the script on standard input and prints what its calls answer.
 
 A script is a line for each thread, with its process and its priority, and
 then a line for each kernel call, with the thread that makes it. The calls are
-numbered from 1; a channel, a connection and a message have the number of the
-call that made them.
+numbered from 1; a channel, a connection and a receive id have the number of
+the call that made them.
 
   thread THREAD PROCESS PRIORITY
   THREAD create FLAGS
@@ -27,11 +34,11 @@ call that made them.
   THREAD detach CONNECTION
   THREAD send CONNECTION MESSAGE REPLY_BUFFER
   THREAD receive CHANNEL BUFFER
-  THREAD reply MESSAGE_NUMBER STATUS DATA
-  THREAD error MESSAGE_NUMBER CODE
-  THREAD read MESSAGE_NUMBER OFFSET BUFFER
-  THREAD write MESSAGE_NUMBER OFFSET DATA
-  THREAD info MESSAGE_NUMBER
+  THREAD reply RECEIVE_ID STATUS DATA
+  THREAD error RECEIVE_ID CODE
+  THREAD read RECEIVE_ID OFFSET BUFFER
+  THREAD write RECEIVE_ID OFFSET DATA
+  THREAD info RECEIVE_ID
   THREAD receivepulse CHANNEL
   THREAD pulse CONNECTION PRIORITY CODE VALUE
   THREAD setprio THREAD PRIORITY
@@ -68,6 +75,7 @@ fn command<'a>(alloc: Global) -> Result<Command<'a>, AllocError> {
         .after_help(SCRIPT_EXAMPLE);
     Command::new(alloc, "qdemo")
         .about(ABOUT)
+        .after_help(EXAMPLE)
         .subcommand_required(true)
         .subcommand(script)
 }

@@ -2,6 +2,8 @@
 #![tactic(auto)]
 
 mod command;
+#[cfg(test)]
+mod tests;
 
 use clap::error::ErrorKind;
 use command::{Action, action_of};
