@@ -173,6 +173,7 @@ pub headline_of : (old new : State) (first : ℕ) (events : List Event) → IsRo
 headline_of old new first events rises is run = λ roster past l st.
     let now = run roster past l st in
     record {
+      rising = subst IsRoster st.roster_is rises;
       first = is ∙ ap (λ n. n + 1) st.made;
       lawful = now.0;
       properties = has_properties roster (followed_by past events) (subst IsRoster st.roster_is rises) now.0;

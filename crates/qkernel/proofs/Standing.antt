@@ -1,21 +1,28 @@
 -- A step of the kernel's content is a step at each trace at which it stands.
 use Rattle.std.proofs.Common.{◌≡◌, ℕ, ◌+◌, ◌≤◌, List, [], ◌∷◌, map, cond, eqb, length, refl, ap, sym, subst, ◌∙◌, arith, Bool, true, false, inl, inr}
 use Rattle.std.specs.Prelude.{None, Some, is_some}
+use Rattle.std.specs.List.{AllByRecursion, filter_map}
+use Rattle.std.proofs.lemmas.Bool.{eqb-false, true≢false}
 use Rattle.std.proofs.lemmas.List.{length-map}
+use Rattle.qbase.specs.declared.errno.Errno.{Errno}
 use Rattle.qtables.specs.Members.{member_at, IsRoster}
 use Rattle.qtables.specs.declared.member.Member.{Member}
 use Rattle.qrules.specs.declared.call.Call.{Call}
 use Rattle.qrules.specs.declared.call.Completion.{Completion}
-use Rattle.qrules.specs.Answer.{Outcome, Answers}
-use Rattle.qrules.specs.Facts.{Facts}
+use Rattle.qrules.specs.Answer.{Outcome, Answers, ending, failed}
+use Rattle.qrules.specs.Facts.{Facts, threads_of}
+use Rattle.qrules.specs.Laws.{IsOnlyCounted}
 use Rattle.qrules.specs.Lawful.{facts_of, with_event}
-use Rattle.qrules.specs.Past.{priority_in}
-use Rattle.qkernel.specs.Stands.{StandsAt, Steps, AnswersAtTraces}
+use Rattle.qrules.specs.Past.{is_failure, priority_in}
+use Rattle.qkernel.specs.Stands.{StandsAt, Step, Steps, AnswersAtTraces, LeavesIfRefused}
 use Rattle.qkernel.specs.State.{State, IsSound, facts_in}
 use Rattle.qrules.specs.Step.{Follows}
 use Rattle.qrecords.specs.Threads.{members_of, open_in, level_in, ready}
 use Rattle.qrules.specs.Trace.{Trace}
+use Rattle.qbase.proofs.Lists.{all_filter_map}
+use Rattle.qrules.proofs.Past.Ends.{ending_names, laws_of}
 use Rattle.qrules.proofs.Past.Follows.{past_follows}
+use Rattle.qrules.proofs.TraceLaws.Refused.{only_counted}
 
 -- facts that say the same of each thing are one
 same_facts : (f g : Facts) → f.roster ≡ g.roster → f.number ≡ g.number → f.down ≡ g.down → ((h : ℕ) → f.channel h ≡ g.channel h) → f.open_channels ≡ g.open_channels → ((k : ℕ) → f.connection k ≡ g.connection k)
@@ -75,6 +82,26 @@ step_at_traces old t c X new rises known step roster past lawful stands =
 -- the roster stays
 pub steps_roster : (old : State) (t : ℕ) (c : Call) (X : List Completion) (new : State) → Steps old t c X new → members_of new.threads ≡ members_of old.threads
 steps_roster old t c X new step = step.1.follows.roster
+
+-- an accepted call's own ending is no failure, and its others go to other threads
+passed_unfailed : (f : Facts) (t : ℕ) (c : Call) (X : List Completion) → Outcome true f t c X → (e : Errno) → X ≡ failed f t c e ∷ [] → ⊥
+passed_unfailed f t c X a e is = (subst (AllByRecursion P) (sym a.1 ∙ is) others).0 refl refl where
+  abbrev P : Completion → Type 0
+  P x = x.thread ≡ t → is_failure x.mark ≡ true → ⊥
+
+  others : AllByRecursion P (filter_map (ending f t c) (threads_of f.roster))
+  others = all_filter_map P (ending f t c) (threads_of f.roster) (λ v y given.
+      elim (ending_names f t c v y (laws_of f t c X a) given) [
+        | inl own ↦ λ _ failure. true≢false (sym failure ∙ own.names.mark)
+        | inr other ↦ λ at _. eqb-false v t other.thread (sym other.names.thread ∙ at)
+      ])
+
+-- what is refused leaves all but the count
+pub refused_leaves : (old : State) (t : ℕ) (c : Call) (X : List Completion) (new : State) → Steps old t c X new → LeavesIfRefused old t c X new
+refused_leaves old t c X new step e is = by_case step.0 step.1 where
+  by_case : (accepted : Bool) → Step old t c accepted X new → IsOnlyCounted (facts_in old) (facts_in new)
+  by_case true k = absurd (passed_unfailed (facts_in old) t c X k.answer e is)
+  by_case false k = only_counted (facts_in old) (facts_in new) t c k.follows
 
 -- one more call was made
 pub steps_made : (old : State) (t : ℕ) (c : Call) (X : List Completion) (new : State) → Steps old t c X new → new.made ≡ old.made + 1

@@ -3,7 +3,7 @@ use Rattle.std.specs.Prelude.{◌≡◌, ℕ, ◌+◌, ◌<◌, ◌≤◌, ◌^�
 use Rattle.std.specs.List.{AllByRecursion}
 use Rattle.qbase.specs.declared.errno.Errno.{Errno}
 use Rattle.qbase.specs.declared.errno.Errno.TheVariants.{NoThread, Exhausted, NoMemory}
-use Rattle.qtables.specs.Members.{member_at}
+use Rattle.qtables.specs.Members.{IsRoster, member_at}
 use Rattle.qtables.specs.declared.member.Member.{Member}
 use Rattle.qrules.specs.declared.call.Call.{Call}
 use Rattle.qkernel.specs.declared.trace.Entry.{Entry}
@@ -32,8 +32,9 @@ abbrev pub RunsAtTraces : State → List Event → State → Type 0
 RunsAtTraces old events new = (roster : List Member) (past : Trace) → IsLawful roster past → StandsAt roster old past
     → IsLawful roster (followed_by past events) × StandsAt roster new (followed_by past events)
 
--- the headline: what is so after a run that began at a lawful trace
+-- the headline: what is so after a run that began at a lawful trace; the roster's threads stand in rising number, which the laws of lawful traces ask
 pub record IsWellRun (roster : List Member) (past : Trace) (run : Run) (new : State) : Type 0 where
+  pub rising : IsRoster roster
   pub first : run.first ≡ length past + 1
   pub lawful : IsLawful roster (followed_by past run.events)
   pub properties : HasProperties roster (followed_by past run.events)

@@ -1,5 +1,5 @@
 -- A kernel stands at a trace if its content is that of the trace.
-use Rattle.std.specs.Prelude.{◌≡◌, ℕ, ◌^◌, ◌≤◌, Bool, true, false, is_some, List, length, ◌⊎◌}
+use Rattle.std.specs.Prelude.{◌≡◌, ℕ, ◌^◌, ◌≤◌, Bool, true, false, is_some, List, [], ◌∷◌, length, ◌⊎◌}
 use Rattle.qbase.specs.declared.errno.Errno.{Errno}
 use Rattle.qbase.specs.declared.errno.Errno.TheVariants.{NoThread, Exhausted}
 use Rattle.qtables.specs.Entries.{entry_at}
@@ -7,8 +7,9 @@ use Rattle.qtables.specs.Members.{member_at}
 use Rattle.qtables.specs.declared.member.Member.{Member}
 use Rattle.qrules.specs.declared.call.Call.{Call}
 use Rattle.qrules.specs.declared.call.Completion.{Completion}
-use Rattle.qrules.specs.Answer.{Outcome, Answers}
+use Rattle.qrules.specs.Answer.{Outcome, Answers, failed}
 use Rattle.qrecords.specs.Channels.{channel_in, pending_in}
+use Rattle.qrules.specs.Laws.{IsOnlyCounted}
 use Rattle.qrules.specs.Lawful.{IsLawful, facts_of, with_event}
 use Rattle.qrules.specs.Past.{is_down, channel_at, open_channels, connection_at, live_connections, open_call, pending, priority_of_thread}
 use Rattle.qkernel.specs.State.{State, facts_in}
@@ -42,6 +43,10 @@ Steps old t c endings new = (accepted : Bool) × Step old t c accepted endings n
 abbrev pub AnswersAtTraces : State → ℕ → Call → List Completion → State → Type 0
 AnswersAtTraces old t c endings new = (roster : List Member) (past : Trace) → IsLawful roster past → StandsAt roster old past
     → Answers (facts_of roster past) t c endings × StandsAt roster new (with_event t c endings past)
+
+-- a refused call, whose one ending is its own failure, leaves all as it was but how many calls were made
+abbrev pub LeavesIfRefused : State → ℕ → Call → List Completion → State → Type 0
+LeavesIfRefused old t c endings new = (e : Errno) → endings ≡ failed (facts_in old) t c e ∷ [] → IsOnlyCounted (facts_in old) (facts_in new)
 
 -- why a call is no event: its thread isn't in the roster, or else the kernel has made all the calls that it can number
 abbrev pub DispatchError : State → ℕ → Errno → Type 0

@@ -62,7 +62,7 @@ impl Model for Kernel {
 }
 
 impl Kernel {
-    ghost use Rattle.qkernel.specs.Stands.{Steps, StandsAt, AnswersAtTraces, DispatchError};
+    ghost use Rattle.qkernel.specs.Stands.{Steps, StandsAt, AnswersAtTraces, DispatchError, LeavesIfRefused};
     ghost use Rattle.qkernel.specs.State.{IsSound};
 
     /// A kernel without channels, all threads of the roster ready at the priority that they begin with. The
@@ -181,6 +181,7 @@ impl Kernel {
         ensures event { AnswersAtTraces self.old thread call endings.new.items self.new }
         ensures roster { members_of self.new.threads ≡ members_of self.old.threads }
         ensures made { self.new.made ≡ self.old.made + 1 }
+        ensures refused { LeavesIfRefused self.old thread call endings.new.items self.new }
 
         // An event ends at most its own call and calls that were open.
         ensures room { length endings.new.items + blocked_count self.new.threads ≤ blocked_count self.old.threads + 1 }
@@ -197,6 +198,7 @@ impl Kernel {
     /// nothing.
     pub fn dispatch(&mut self, thread: ThreadNo, call: Call) -> Result<Endings, (Errno, Call)>
         ensures event { IfOk result (λ endings. AnswersAtTraces self.old thread call endings.items self.new) }
+        ensures refused { IfOk result (λ endings. LeavesIfRefused self.old thread call endings.items self.new) }
         ensures roster { members_of self.new.threads ≡ members_of self.old.threads }
         ensures ok { OnOk result ((is_some (member_at (members_of self.old.threads) thread) ≡ true) × (self.old.made < 2 ^ 40) × (self.new.made ≡ self.old.made + 1)) }
 

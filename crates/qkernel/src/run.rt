@@ -112,6 +112,7 @@ fn run_all(
 /// `Exhausted` if the list would pass 2^40 calls, else `NoMemory`. The list is then dropped.
 pub fn run(kernel: &mut Kernel, calls: Vec<(ThreadNo, Call)>) -> Result<Trace, Errno>
     ensures headline { IfOk result (λ trace. Headline kernel.old trace kernel.new) }
+    ensures ok { OnOk result (AllKnown (members_of kernel.old.threads) calls.items × (kernel.old.made + length calls.items ≤ 2 ^ 40)) }
     ensures told { IfOk result (λ trace. map event_call trace.events ≡ calls.items) }
 
     // Which error, and that it changes nothing.

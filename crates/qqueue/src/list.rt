@@ -8,7 +8,7 @@ ghost use Rattle.qqueue.specs.Best.{best_of, without};
 ghost use Rattle.qqueue.specs.Contents.{IsRising};
 ghost use Rattle.qqueue.specs.Places.{item_at, best_with};
 
-use crate::item::{Item, Kind};
+use crate::item::{Item, Kind, What};
 
 /// Of the best place so far and a later one, the place of the item that is received first: among equals
 /// the earlier.
@@ -54,11 +54,12 @@ pub fn append(items: &mut Vec<Item>, item: Item)
     requires newest { AllByRecursion (λ x. x.number < item.number) items.old.items }
     ensures items { items.new.items ≡ items.old.items ++ item ∷ [] }
     ensures len { vec_len items.new ≡ vec_len items.old + 1 }
-    ensures capacity { vec_capacity items.old ≤ vec_capacity items.new }
+    ensures capacity { vec_capacity items.new ≡ vec_capacity items.old }
     ensures rising { IsRising items.new.items }
 {
-    // As `push`, which the prover can't yet follow at an item.
-    let _ = items.extend_from_slice(&[item]);
+    // Spelled out: the prover follows an item that is pushed only where its parts are named.
+    let what: What = item.what;
+    items.push_reserved(Item { what, ..item });
 }
 
 /// Takes out the item at a place.

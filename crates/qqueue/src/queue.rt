@@ -55,12 +55,13 @@ impl Queue {
         self.items.reserve(n).map_err(|_| Errno::NoMemory)
     }
 
-    /// Puts an item behind all others, into the room that was reserved.
+    /// Puts an item behind all others, into the room that was reserved; takes no memory: just one place of the
+    /// room is used.
     pub fn push(&mut self, item: Item)
         requires room { 0 < self.old.room }
         requires newest { AllByRecursion (λ x. x.number < item.number) self.old.items }
         ensures items { self.new.items ≡ self.old.items ++ item ∷ [] }
-        ensures room { self.old.room ≤ self.new.room + 1 }
+        ensures room { self.new.room + 1 ≡ self.old.room }
     {
         append(&mut self.items, item);
     }

@@ -21,6 +21,15 @@ abbrev pub waiting_on : Option Channel → List Item
 waiting_on None = []
 waiting_on (Some c) = c.queue.items
 
+-- how many more items a channel has room for
+abbrev pub room_of : Option Channel → ℕ
+room_of None = 0
+room_of (Some c) = c.queue.room
+
+-- how many more items the channel of an id has room for
+abbrev pub room_in : List (ℕ × Channel) → ℕ → ℕ
+room_in channels h = room_of (entry_at channels h)
+
 -- what waits on the channel of an id
 abbrev pub pending_in : List (ℕ × Channel) → ℕ → List Item
 pending_in channels h = waiting_on (entry_at channels h)

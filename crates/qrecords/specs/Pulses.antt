@@ -10,7 +10,7 @@ use Rattle.qrules.specs.Rows.{takes}
 use Rattle.qrecords.specs.declared.channel.Channel.{Channel}
 use Rattle.qrecords.specs.declared.thread.Thread.{Thread}
 use Rattle.qrecords.specs.Channels.{channel_in, pending_in, SetsItems}
-use Rattle.qrecords.specs.Threads.{newest_by, open_in, Wakes}
+use Rattle.qrecords.specs.Threads.{newest_in, open_in, Wakes}
 
 -- fewer than 1,024 pulses wait on channel h
 abbrev pub has_room : List (ℕ × Channel) → ℕ → Bool
@@ -23,17 +23,17 @@ level_on channels h priority = if is_fixed (channel_in channels h) then None els
 -- no receiver may take the pulse, and it waits behind all others
 pub record IsLeft (h : ℕ) (item : Item) (threads : List Thread) (channels : List (ℕ × Channel)) (after : List Thread) (now : List (ℕ × Channel)) : Type 0 where
   pub room : has_room channels h ≡ true
-  pub nobody : newest_by h item None threads ≡ None
+  pub nobody : newest_in h item threads ≡ None
   pub threads_are : after ≡ threads
   pub sets : SetsItems h (pending_in channels h ++ item ∷ []) channels now
 
 -- the receiver that may take the pulse and began last takes it, and its call ends so
 pub record IsMet (h : ℕ) (item : Item) (threads : List Thread) (channels : List (ℕ × Channel)) (after : List Thread) (now : List (ℕ × Channel)) (y : Completion) : Type 0 where
   pub room : has_room channels h ≡ true
-  pub receiver : ℕ × ℕ
-  pub newest : newest_by h item None threads ≡ Some receiver
-  pub ended : takes item [] receiver.1 (open_in threads receiver.1) ≡ Some y
-  pub wakes : Wakes receiver.1 (level_on channels h item.priority) threads after
+  pub receiver : ℕ
+  pub newest : newest_in h item threads ≡ Some receiver
+  pub ended : takes item [] receiver (open_in threads receiver) ≡ Some y
+  pub wakes : Wakes receiver (level_on channels h item.priority) threads after
   pub channels_are : now ≡ channels
 
 -- one or the other
@@ -46,7 +46,25 @@ abbrev pub IsSentIfDue : ℕ → Option Item → List Thread → List (ℕ × Ch
 IsSentIfDue h None threads channels after now met = (after ≡ threads) × (now ≡ channels) × (met ≡ None)
 IsSentIfDue h (Some item) threads channels after now met = IsSent h item threads channels after now met
 
--- the channel is full, or no memory was found for the pulse to wait in: nothing is changed but the room of its queue
-abbrev pub IsTurnedAway : ℕ → List Thread → List (ℕ × Channel) → List Thread → List (ℕ × Channel) → Errno → Type 0
-IsTurnedAway h threads channels after now e =
-    (after ≡ threads) × (((has_room channels h ≡ false) × (now ≡ channels) × (e ≡ Again)) ⊎ ((has_room channels h ≡ true) × SetsItems h (pending_in channels h) channels now × (e ≡ NoMemory)))
+-- the channel is full: nothing is changed
+pub record IsFull (h : ℕ) (channels now : List (ℕ × Channel)) (e : Errno) : Type 0 where
+  pub room : has_room channels h ≡ false
+  pub channels_are : now ≡ channels
+  pub error : e ≡ Again
+
+-- no receiver may take the pulse, and no memory was found for it to wait in: nothing is changed but the room of the channel's queue
+pub record IsUnstored (h : ℕ) (item : Item) (threads : List Thread) (channels now : List (ℕ × Channel)) (e : Errno) : Type 0 where
+  pub room : has_room channels h ≡ true
+  pub nobody : newest_in h item threads ≡ None
+  pub sets : SetsItems h (pending_in channels h) channels now
+  pub error : e ≡ NoMemory
+
+-- why a pulse isn't sent; no thread is changed
+abbrev pub IsTurnedAway : ℕ → Item → List Thread → List (ℕ × Channel) → List Thread → List (ℕ × Channel) → Errno → Type 0
+IsTurnedAway h item threads channels after now e = (after ≡ threads) × (IsFull h channels now e ⊎ IsUnstored h item threads channels now e)
+
+-- a pulse is due, and isn't sent
+pub record IsUnsent (h : ℕ) (due : Option Item) (threads : List Thread) (channels : List (ℕ × Channel)) (after : List Thread) (now : List (ℕ × Channel)) (e : Errno) : Type 0 where
+  pub item : Item
+  pub is_due : due ≡ Some item
+  pub away : IsTurnedAway h item threads channels after now e

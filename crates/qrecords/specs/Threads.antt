@@ -1,5 +1,5 @@
 -- The threads of a kernel, one after another.
-use Rattle.std.specs.Prelude.{◌≡◌, ℕ, ◌+◌, ◌==◌, Bool, true, false, List, [], ◌∷◌, map, position, is_some, unwrap_or, Option, None, Some, if◌then◌else◌}
+use Rattle.std.specs.Prelude.{◌≡◌, ℕ, ◌+◌, ◌==◌, nat_lt, Bool, true, false, List, [], ◌∷◌, map, position, is_some, unwrap_or, Option, None, Some, if◌then◌else◌}
 use Rattle.std.specs.Option.{option_map, option_and_then}
 use Rattle.qqueue.specs.declared.item.Item.{Item}
 use Rattle.qtables.specs.declared.member.Member.{Member}
@@ -9,7 +9,7 @@ use Rattle.qrules.specs.declared.open_call.Wait.{Wait}
 use Rattle.qrules.specs.declared.open_call.Wait.TheVariants.{Answer, Item as ForItem}
 use Rattle.qrecords.specs.declared.thread.Thread.{Thread}
 use Rattle.qrules.specs.Facts.{threads_of, sender_among, message_in}
-use Rattle.qrules.specs.Receivers.{later_of}
+use Rattle.qrules.specs.Receivers.{newest_among}
 use Rattle.qrules.specs.Step.{held_call, is_thread, unblocked_call}
 
 -- the roster
@@ -39,14 +39,19 @@ seat_in threads u = position (λ t. t.member.thread == u) threads
 abbrev pub ready : Member → Thread
 ready m = record { member = m; priority = m.priority; open_call = None }
 
--- the later of the best receiver so far and a thread
-abbrev pub later_by : ℕ → Item → Option (ℕ × ℕ) → Thread → Option (ℕ × ℕ)
-later_by h item best t = later_of h item best t.member.thread t.open_call
+-- the receiver on channel h that may take the item and began last
+abbrev pub newest_in : ℕ → Item → List Thread → Option ℕ
+newest_in h item threads = newest_among (open_in threads) h item (threads_of (members_of threads))
 
--- the receiver that may take the item and began last
-abbrev pub newest_by : ℕ → Item → Option (ℕ × ℕ) → List Thread → Option (ℕ × ℕ)
-newest_by h item best [] = best
-newest_by h item best (t ∷ threads) = newest_by h item (later_by h item best t) threads
+-- call m is later than the best so far, which is the number of a call and its thread
+abbrev pub is_later : ℕ → Option (ℕ × ℕ) → Bool
+is_later m None = true
+is_later m (Some best) = nat_lt best.0 m
+
+-- the later of the best so far and call m of thread u, if there is one
+abbrev pub later : Option (ℕ × ℕ) → ℕ → Option ℕ → Option (ℕ × ℕ)
+later best u None = best
+later best u (Some m) = if is_later m best then Some (m, u) else best
 
 -- thread u has this open call, and all else is as it was
 pub record SetsOpen (u : ℕ) (o : Option OpenCall) (old new : List Thread) : Type 0 where

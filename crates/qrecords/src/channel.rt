@@ -1,11 +1,11 @@
 //! What the kernel keeps of an open channel.
 
-ghost use Rattle.std.specs.Prelude.{◌≡◌, ◌==◌, ◌+◌, ◌≤◌, ◌<◌, ◌++◌, ◌∷◌, ◌&&◌, [], count_by, is_some, true, None, Some, if◌then◌else◌, OnOk, OnErr, IfErr, IfSome, IfNone};
+ghost use Rattle.std.specs.Prelude.{◌≡◌, ◌==◌, ◌+◌, ◌≤◌, ◌<◌, ◌++◌, ◌∷◌, ◌&&◌, [], count_by, is_some, true, None, Some, if◌then◌else◌, IsOk, OnOk, OnErr, IfErr, IfSome, IfNone};
 ghost use Rattle.std.specs.List.{AllByRecursion};
 ghost use Rattle.qqueue.specs.Best.{best_of, without};
 ghost use Rattle.qrules.specs.Pulses.{pulses_among};
 ghost use Rattle.qrules.specs.Facts.{is_fixed, tells_disconnect, tells_unblock};
-ghost use Rattle.qrecords.specs.Channels.{channel_in, own_channel_in, pending_in, is_of, way_in, ClosesIn, SetsItems};
+ghost use Rattle.qrecords.specs.Channels.{channel_in, own_channel_in, pending_in, is_of, room_in, way_in, ClosesIn, SetsItems};
 ghost use Rattle.qtables.specs.Entries.{entry_at};
 
 use qbase::errno::Errno;
@@ -139,22 +139,22 @@ pub fn take_best(channels: &mut Channels<Channel>, chid: ChannelId, kind: Kind) 
     channel.queue.take(kind)
 }
 
-/// Puts an item behind all that wait on a channel, after room was made for it.
+/// Puts an item behind all that wait on a channel, after room was made for it; where room is there already no
+/// memory is wanted.
 pub fn enqueue(channels: &mut Channels<Channel>, chid: ChannelId, item: Item) -> Result<(), Errno>
     requires there { is_some (channel_in channels.old chid) ≡ true }
     requires newest { AllByRecursion (λ x. x.number < item.number) (pending_in channels.old chid) }
     ensures ok { OnOk result (SetsItems chid (pending_in channels.old chid ++ item ∷ []) channels.old channels.new) }
     ensures err { OnErr result (SetsItems chid (pending_in channels.old chid) channels.old channels.new) }
+    ensures succeeds { 0 < room_in channels.old chid → IsOk result }
     ensures error { IfErr result (λ e. e ≡ Errno.NoMemory) }
 {
-    match channels.get_mut(chid) {
-        None => Err(Errno::NoMemory),
-        Some(channel) => {
-            channel.queue.reserve(1)?;
-            channel.queue.push(item);
-            Ok(())
-        }
-    }
+    let Some(channel) = channels.get_mut(chid) else {
+        unreachable!();
+    };
+    channel.queue.reserve(1)?;
+    channel.queue.push(item);
+    Ok(())
 }
 
 /// Removes an open channel with all that waits on it.

@@ -6,7 +6,7 @@ ghost use Rattle.qqueue.specs.Best.{is_pulse};
 ghost use Rattle.qtables.specs.Members.{IsRoster};
 ghost use Rattle.qrules.specs.Rows.{takes};
 ghost use Rattle.qrecords.specs.Channels.{channel_in, pending_in};
-ghost use Rattle.qrecords.specs.Pulses.{IsSent, IsSentIfDue, IsTurnedAway};
+ghost use Rattle.qrecords.specs.Pulses.{IsSent, IsSentIfDue, IsTurnedAway, IsUnsent};
 ghost use Rattle.qrecords.specs.Threads.{members_of};
 
 use crate::channel::{Channel, carried, enqueue, pulses_on};
@@ -44,7 +44,7 @@ fn told(call: Option<OpenCall>, thread: ThreadNo, item: &Item) -> Option<Complet
 
 /// Sends a pulse: to the receiver that may take it and began to wait last, whose call then ends as it is
 /// answered here, or into the channel's queue, whose room is all that takes memory. `Again` where 1,024
-/// pulses wait there, and `NoMemory` where the allocator refused.
+/// pulses wait there, and `NoMemory` where no receiver may take it and the allocator refused.
 pub fn send_pulse(
     threads: &mut Vec<Thread>,
     channels: &mut Channels<Channel>,
@@ -56,18 +56,18 @@ pub fn send_pulse(
     requires newest { AllByRecursion (λ x. x.number < item.number) (pending_in channels.old chid) }
     requires roster { IsRoster (members_of threads.old.items) }
     ensures ok { IfOk result (λ met. IsSent chid item threads.old.items channels.old threads.new.items channels.new met) }
-    ensures err { IfErr result (λ e. IsTurnedAway chid threads.old.items channels.old threads.new.items channels.new e) }
+    ensures err { IfErr result (λ e. IsTurnedAway chid item threads.old.items channels.old threads.new.items channels.new e) }
 {
     if pulses_on(channels, chid) >= PULSE_LIMIT {
         return Err(Errno::Again);
     }
-    let Some(newest) = newest_receiver(threads, chid, &item) else {
+    let Some(receiver) = newest_receiver(threads, chid, &item) else {
         enqueue(channels, chid, item)?;
         return Ok(None);
     };
     let level = carried(channels, chid, item.priority);
-    let call = wake(threads, newest.1, level);
-    let Some(ended) = told(call, newest.1, &item) else {
+    let call = wake(threads, receiver, level);
+    let Some(ended) = told(call, receiver, &item) else {
         unreachable!();
     };
     Ok(Some(ended))
@@ -85,7 +85,7 @@ pub fn send_due(
     requires newest { IfSome due (λ item. AllByRecursion (λ x. x.number < item.number) (pending_in channels.old chid)) }
     requires roster { IsRoster (members_of threads.old.items) }
     ensures ok { IfOk result (λ met. IsSentIfDue chid due threads.old.items channels.old threads.new.items channels.new met) }
-    ensures err { IfErr result (λ e. (is_some due ≡ true) × IsTurnedAway chid threads.old.items channels.old threads.new.items channels.new e) }
+    ensures err { IfErr result (λ e. IsUnsent chid due threads.old.items channels.old threads.new.items channels.new e) }
 {
     match due {
         None => Ok(None),

@@ -7,7 +7,7 @@ ghost use Rattle.qqueue.specs.Best.{is_pulse};
 ghost use Rattle.qrules.specs.Facts.{is_in_process, is_send, message_in};
 ghost use Rattle.qrules.specs.Rows.{given};
 ghost use Rattle.qrules.specs.Step.{held_call};
-ghost use Rattle.qrecords.specs.Threads.{members_of, open_in, seat_in, level_in, ready, newest_by, later_by, held_over_in, message_from, SetsOpen, SetsLevel, Wakes, ChangesSender, HandsOver};
+ghost use Rattle.qrecords.specs.Threads.{members_of, open_in, seat_in, level_in, ready, newest_in, later, held_over_in, message_from, SetsOpen, SetsLevel, Wakes, ChangesSender, HandsOver};
 ghost use Rattle.qrules.specs.Receivers.{wait_on};
 
 use qbase::bytes::Bytes;
@@ -264,7 +264,7 @@ fn later(
     channel: ChannelId,
     item: &Item,
 ) -> Option<(u64, ThreadNo)>
-    ensures { result ≡ later_by channel item.now best thread.now }
+    ensures { result ≡ later best thread.now.member.thread (wait_on channel item.now thread.now.open_call) }
 {
     let Some(number) = waits_on(thread, channel, item) else {
         return best;
@@ -294,18 +294,16 @@ fn waits_on(thread: &Thread, channel: ChannelId, item: &Item) -> Option<u64>
     }
 }
 
-/// The receiver on a channel that may take an item and began to wait last: the number of its call, and its
-/// thread.
-pub fn newest_receiver(
-    threads: &[Thread],
-    channel: ChannelId,
-    item: &Item,
-) -> Option<(u64, ThreadNo)>
-    ensures { result ≡ newest_by channel item.now None threads.now }
+/// The thread that waits on a channel, may take an item and began to wait last.
+pub fn newest_receiver(threads: &[Thread], channel: ChannelId, item: &Item) -> Option<ThreadNo>
+    ensures { IsRoster (members_of threads.now) → result ≡ newest_in channel item.now threads.now }
 {
     let mut best = None;
     for thread in threads {
         best = later(best, thread, channel, item);
     }
-    best
+    match best {
+        None => None,
+        Some(newest) => Some(newest.1),
+    }
 }

@@ -20,3 +20,4 @@ pub mod Pending
 pub mod Priorities
 pub mod Rising
 pub mod Follows
+pub mod Waits

@@ -4,3 +4,6 @@ pub mod Unended
 pub mod Pending
 pub mod Ending
 pub mod Limits
+pub mod Waiting
+pub mod Refused
+pub mod Held

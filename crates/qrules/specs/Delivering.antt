@@ -1,5 +1,5 @@
 -- Delivering: an item that is sent goes to the receiver that began to wait last, or to the channel's pending items.
-use Rattle.std.specs.Prelude.{ℕ, ◌==◌, List, Option, None, Some, if◌then◌else◌}
+use Rattle.std.specs.Prelude.{ℕ, ◌==◌, not, is_some, Bool, List, Option, None, Some, if◌then◌else◌}
 use Rattle.std.specs.Option.{option_and_then}
 use Rattle.qqueue.specs.declared.item.Item.{Item}
 use Rattle.qrules.specs.declared.call.Completion.{Completion}
@@ -11,6 +11,10 @@ use Rattle.qrules.specs.Rows.{Received, takes, receipt_in}
 abbrev pub receiver : Facts → Item → Option ℕ → Option ℕ
 receiver f item None = None
 receiver f item (Some h) = newest f h item
+
+-- no receiver takes the item at once, so it wants memory to wait in
+abbrev pub wants_room : Facts → Item → Option ℕ → Bool
+wants_room f item o = not (is_some (receiver f item o))
 
 -- how that receiver's call ends
 abbrev pub receipt_by : Facts → Item → List ℕ → ℕ → Option Completion

@@ -1,10 +1,11 @@
 -- What the definitions of the past mean, as laws of all lawful traces.
-use Rattle.std.specs.Prelude.{◌≡◌, ◌↔◌, ℕ, ◌+◌, ◌≤◌, ◌==◌, ◌&&◌, Bool, true, false, is_some, length, List, [], ◌∷◌, Option, None, Some, if◌then◌else◌}
+use Rattle.std.specs.Prelude.{◌≡◌, ◌↔◌, ℕ, ◌+◌, ◌<◌, ◌≤◌, ◌==◌, ◌&&◌, Bool, true, false, is_some, length, List, [], ◌∷◌, Option, None, Some, if◌then◌else◌}
 use Rattle.std.specs.List.{AllByRecursion, list_any}
 use Rattle.std.specs.Option.{option_map}
 use Rattle.qbase.specs.declared.errno.Errno.TheVariants.{Down}
-use Rattle.qqueue.specs.Best.{is_pulse}
+use Rattle.qqueue.specs.Best.{is_pulse, may_take}
 use Rattle.qqueue.specs.Contents.{IsRising}
+use Rattle.qqueue.specs.declared.item.Item.{Item}
 use Rattle.qqueue.specs.declared.item.Kind.{Kind}
 use Rattle.qtables.specs.Members.{IsRoster}
 use Rattle.qtables.specs.declared.connection.Connection.{Connection}
@@ -13,19 +14,21 @@ use Rattle.qrules.specs.declared.call.Call.{Call}
 use Rattle.qrules.specs.declared.call.Completion.{Completion}
 use Rattle.qrules.specs.declared.call.Mark.TheVariants as mark
 use Rattle.qrules.specs.declared.open_call.OpenCall.{OpenCall}
+use Rattle.qrules.specs.declared.open_call.Receipt.{Receipt}
 use Rattle.qrules.specs.declared.open_call.Wait.{Wait}
 use Rattle.qrules.specs.declared.open_call.Wait.TheVariants.{Answer, Item as ForItem}
 use Rattle.qrules.specs.Buffers.{buffer_of}
-use Rattle.qrules.specs.Facts.{is_for_receipt}
+use Rattle.qrules.specs.Facts.{Facts, is_for_receipt, sender}
 use Rattle.qrules.specs.Headline.AnsweredToSender.{is_held, sender_of}
 use Rattle.qrules.specs.Headline.BestFirst.{receives_on}
 use Rattle.qrules.specs.Headline.CopiedExactly.{call_at}
 use Rattle.qrules.specs.Headline.ReceivedOnce.{item_received}
 use Rattle.qrules.specs.Headline.SentOrder.{connection_of}
 use Rattle.qrules.specs.Headline.ShutForGood.{NoneReceivedFrom}
-use Rattle.qrules.specs.Lawful.{IsLawful}
+use Rattle.qrules.specs.Lawful.{IsLawful, facts_of}
 use Rattle.qrules.specs.Pulses.{pulses_among}
-use Rattle.qrules.specs.Past.{attached, made_at, is_closed, is_down, is_ended, items, open_call, pending}
+use Rattle.qrules.specs.Past.{attached, channel_at, connection_at, made_at, is_accepted, is_closed, is_down, is_ended, items, open_call, pending}
+use Rattle.qrules.specs.Receivers.{newest, wait_on}
 use Rattle.qrules.specs.Rows.{asks}
 use Rattle.qrules.specs.Trace.{Event, Trace}
 
@@ -77,6 +80,41 @@ abbrev pub OpenIsUnended : Type 0
 OpenIsUnended = (roster : List Member) (past : Trace) → IsRoster roster → IsLawful roster past
     → (t i : ℕ) → (option_map (λ o. o.number) (open_call roster past t) ≡ Some i) ↔ IsUnended past t i
 
+-- connection k is live, and its channel open
+pub record IsLiveWay (roster : List Member) (past : Trace) (k : ℕ) : Type 0 where
+  pub connection : Connection
+  pub is_live : connection_at roster past k ≡ Some connection
+  pub is_open : is_some (channel_at roster past connection.channel) ≡ true
+
+-- the connection of each open Send is live, and its channel open
+abbrev pub OpenSendsAreLive : Type 0
+OpenSendsAreLive = (roster : List Member) (past : Trace) → IsRoster roster → IsLawful roster past
+    → (u n coid : ℕ) (message reply_buffer : List ℕ) (receipt : Option Receipt) → open_call roster past u ≡ Some (record { number = n; wait = Answer coid message reply_buffer receipt }) → IsLiveWay roster past coid
+
+-- ---- receivers
+
+-- thread u waits for such an item, in this call, and no thread does in a later one
+pub record IsLastWait (f : Facts) (h : ℕ) (item : Item) (u : ℕ) : Type 0 where
+  pub number : ℕ
+  pub waits : wait_on h item (f.open_call u) ≡ Some number
+  pub greatest : (v n : ℕ) → wait_on h item (f.open_call v) ≡ Some n → n ≤ number
+
+-- the newest receiver of an item is the one whose call has the greatest number of all that may take it
+abbrev pub NewestIsGreatest : Type 0
+NewestIsGreatest = (roster : List Member) (past : Trace) → IsRoster roster → IsLawful roster past
+    → (h u : ℕ) (item : Item) → newest (facts_of roster past) h item ≡ Some u → IsLastWait (facts_of roster past) h item u
+
+-- there is none exactly where no thread waits that may take it
+abbrev pub NoneIsNewest : Type 0
+NoneIsNewest = (roster : List Member) (past : Trace) → IsRoster roster → IsLawful roster past
+    → (h : ℕ) (item : Item) → (newest (facts_of roster past) h item ≡ None) ↔ ((u : ℕ) → wait_on h item (open_call roster past u) ≡ None)
+
+-- nothing is pending on a channel that a thread may take which waits there
+abbrev pub NothingPendingForWaiting : Type 0
+NothingPendingForWaiting = (roster : List Member) (past : Trace) → IsRoster roster → IsLawful roster past
+    → (u n h : ℕ) (kind : Kind) (buffer : List ℕ) → open_call roster past u ≡ Some (record { number = n; wait = ForItem h kind buffer })
+    → AllByRecursion (λ item. may_take kind item ≡ false) (pending roster past h)
+
 -- ---- pending items
 
 -- a wait for the answer to a message that is received
@@ -113,6 +151,40 @@ abbrev pub PendingIsOpen : Type 0
 PendingIsOpen = (roster : List Member) (past : Trace) → IsRoster roster → IsLawful roster past
     → (h : ℕ) → AllByRecursion (λ item. is_pulse item.what ≡ false → IsOpenSend roster past item.number) (pending roster past h)
 
+-- ---- held messages
+
+-- a thread is blocked in the Send of number i, and its message is received
+pub record IsHeldSend (roster : List Member) (past : Trace) (i : ℕ) : Type 0 where
+  pub thread : ℕ
+  pub waiting : OpenCall
+  pub is_sender : sender (facts_of roster past) i ≡ Some thread
+  pub is_open : open_call roster past thread ≡ Some waiting
+  pub received : is_for_reply waiting.wait ≡ true
+
+-- a message is held as the past has it, received and its Send not ended, exactly where it is held as the rows have it
+abbrev pub HeldIsHeldSend : Type 0
+HeldIsHeldSend = (roster : List Member) (past : Trace) → IsRoster roster → IsLawful roster past → (i : ℕ) → (is_held past i ≡ true) ↔ IsHeldSend roster past i
+
+-- ---- refusals
+
+-- all is as it was, but one more call was made
+pub record IsOnlyCounted (f g : Facts) : Type 0 where
+  pub roster : g.roster ≡ f.roster
+  pub number : g.number ≡ f.number + 1
+  pub down : g.down ≡ f.down
+  pub channel : (h : ℕ) → g.channel h ≡ f.channel h
+  pub open_channels : g.open_channels ≡ f.open_channels
+  pub connection : (k : ℕ) → g.connection k ≡ f.connection k
+  pub live_connections : g.live_connections ≡ f.live_connections
+  pub open_call : (u : ℕ) → g.open_call u ≡ f.open_call u
+  pub pending : (h : ℕ) → g.pending h ≡ f.pending h
+  pub priority : (u : ℕ) → g.priority u ≡ f.priority u
+
+-- a refused call changes nothing but how many were made
+abbrev pub RefusedChangesNothing : Type 0
+RefusedChangesNothing = (roster : List Member) (past : Trace) (e : Event) → IsRoster roster → IsLawful roster (e ∷ past)
+    → is_accepted e past ≡ false → IsOnlyCounted (facts_of roster past) (facts_of roster (e ∷ past))
+
 -- ---- the end of a channel, and of the kernel
 
 -- nothing is received from a channel that is destroyed
@@ -136,6 +208,15 @@ thread_at (e ∷ past) i = if i == length past + 1 then Some e.thread else threa
 abbrev pub EndingsNameOwnCalls : Type 0
 EndingsNameOwnCalls = (roster : List Member) (past : Trace) (e : Event) → IsRoster roster → IsLawful roster (e ∷ past)
     → AllByRecursion (λ x. thread_at (e ∷ past) x.call ≡ Some x.thread) e.endings
+
+-- these endings rise in the number of their threads, so each goes to a thread of its own
+abbrev pub RiseByThread : List Completion → Type 0
+RiseByThread [] = Unit {0}
+RiseByThread (x ∷ endings) = AllByRecursion (λ y. x.thread < y.thread) endings × RiseByThread endings
+
+-- so it is in each event
+abbrev pub EndingsRiseByThread : Type 0
+EndingsRiseByThread = (roster : List Member) (past : Trace) (e : Event) → IsRoster roster → IsLawful roster (e ∷ past) → RiseByThread e.endings
 
 -- ---- limits
 

@@ -295,6 +295,11 @@ abbrev mutual
 
 -- ---- what was so after all past calls
 
+-- the item that is made, where it is of channel h
+abbrev pub made_on : ℕ → Option Made → List Item
+made_on h None = []
+made_on h (Some m) = if m.channel == h then m.item ∷ [] else []
+
 -- the item that an event makes
 abbrev pub item_of : List Member → Event → Trace → Option Made
 item_of roster e past = item_by (facts_by roster past (items roster past) (λ t. priority_of_thread roster past t)) e past

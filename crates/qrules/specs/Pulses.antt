@@ -1,11 +1,11 @@
 -- Pulses: what the calls share that make them.
-use Rattle.std.specs.Prelude.{ℕ, nat_lt, List, [], count_by, Option, None, Some, if◌then◌else◌}
+use Rattle.std.specs.Prelude.{ℕ, nat_lt, Bool, false, List, [], count_by, Option, None, Some, if◌then◌else◌}
 use Rattle.qbase.specs.declared.errno.Errno.{Errno}
 use Rattle.qbase.specs.declared.errno.Errno.TheVariants.{Again}
 use Rattle.qqueue.specs.Best.{is_pulse}
 use Rattle.qqueue.specs.declared.item.Item.{Item}
 use Rattle.qrules.specs.declared.call.Completion.{Completion}
-use Rattle.qrules.specs.Delivering.{meets, receiver, received_of}
+use Rattle.qrules.specs.Delivering.{meets, receiver, received_of, wants_room}
 use Rattle.qrules.specs.Facts.{Facts}
 use Rattle.qrules.specs.Rows.{Made, Received}
 
@@ -21,6 +21,11 @@ full f h = if nat_lt (pulses_among (f.pending h)) 1024 then None else Some Again
 abbrev pub full_for : Facts → Option Made → Option Errno
 full_for f None = None
 full_for f (Some m) = full f m.channel
+
+-- a pulse is due that wants memory to wait in
+abbrev pub wants_room_for : Facts → Option Made → Bool
+wants_room_for f None = false
+wants_room_for f (Some m) = wants_room f m.item (Some m.channel)
 
 -- the call of the receiver ends that a pulse which is due meets
 abbrev pub told : Facts → Option Made → ℕ → Option Completion

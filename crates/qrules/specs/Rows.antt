@@ -32,7 +32,8 @@ pub record Received : Type 0 where
   pub kept : Receipt
 
 -- what a call is answered: the first of its own refusals that applies, whether it may also be refused for want of memory, how it ends in
--- its own event where it does, how it ends the open call of another thread, and the receipt that it brings about
+-- its own event where it does, and how it ends the open call of another thread; and the receipt that it brings about, which says nothing of
+-- what is answered: it serves to tell what is so after the call (Step)
 pub record Row : Type 0 where
   pub refusal : Option Errno
   pub takes_memory : Bool

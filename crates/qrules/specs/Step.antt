@@ -17,7 +17,7 @@ use Rattle.qrules.specs.Facts.{Facts, OpenChannel, sender, is_fixed, threads_of}
 use Rattle.qrules.specs.Rows.{Made, Received, Written, asks, closes, detaches, names, shuts_down, unblocks, writes, with_buffer, set_for, sets}
 use Rattle.qrules.specs.Answer.{row_of}
 use Rattle.qrules.specs.Items.{makes}
-use Rattle.qrules.specs.Past.{creates, attaches, held_with}
+use Rattle.qrules.specs.Past.{creates, attaches, held_with, made_on}
 
 -- a look-up with one more record at n
 abbrev pub put_at : {A : Type 0} → Option A → ℕ → (ℕ → Option A) → ℕ → Option A
@@ -76,18 +76,16 @@ abbrev pub after_unblock : Option Made → Option ℕ → ℕ → Option OpenCal
 after_unblock m None u o = o
 after_unblock m (Some thread) u o = if (u == thread) && is_some m then option_map unblocked_call o else o
 
+-- an open call, unless it is ended
 abbrev pub unless : Bool → Option OpenCall → Option OpenCall
 unless b o = if b then None else o
 
+-- what thread u waits for after the call: the caller for what it asks, unless that ended at once, and another for what it waited for, as
+-- that was written over, received or unblocked, unless it is ended
 abbrev pub open_call_after : Facts → ℕ → Call → ℕ → Option OpenCall
 open_call_after f t c u =
     if u == t then unless (is_some (row_of f t c).own) (after_receipt (row_of f t c).receipt u (asks f.number c))
     else unless (is_some ((row_of f t c).ends u)) (after_unblock (makes f t c) (unblocks c) u (after_receipt (row_of f t c).receipt u (after_write f (writes c) u (f.open_call u))))
-
--- the item that is made, where it is of channel h
-abbrev pub made_on : ℕ → Option Made → List Item
-made_on h None = []
-made_on h (Some m) = if m.channel == h then m.item ∷ [] else []
 
 -- the items of channel h but the one that was received from it
 abbrev pub taken_out : Option Received → ℕ → List Item → List Item
@@ -113,6 +111,7 @@ abbrev pub taken_by : Facts → Option Received → ℕ → Option ℕ
 taken_by f None u = None
 taken_by f (Some r) u = if r.by == u then (if is_fixed (f.channel r.channel) then None else Some r.kept.priority) else None
 
+-- the priority of thread u after the call: the one that is set for it, or else that it takes by a receipt, or else its own
 abbrev pub priority_after : Facts → ℕ → Call → ℕ → ℕ
 priority_after f t c u = unwrap_or (option_or (set_for (sets c) u) (taken_by f (row_of f t c).receipt u)) (f.priority u)
 

@@ -1,7 +1,7 @@
 //! What the definitions of the past mean. Each function does nothing: its contract is a law that is proved of
 //! all lawful traces.
 
-ghost use Rattle.qrules.specs.Laws.{AtMostOneOpen, EndingsNameOwnCalls, NonePendingIsHeld, NothingFromDestroyed, OnlyRefusedWhenDown, OpenIsUnended, PendingIsOpen, PendingRises, PulsesAreLimited, ReceivedWasSent};
+ghost use Rattle.qrules.specs.Laws.{AtMostOneOpen, EndingsNameOwnCalls, EndingsRiseByThread, HeldIsHeldSend, NewestIsGreatest, NoneIsNewest, NonePendingIsHeld, NothingFromDestroyed, NothingPendingForWaiting, OnlyRefusedWhenDown, OpenIsUnended, OpenSendsAreLive, PendingIsOpen, PendingRises, PulsesAreLimited, ReceivedWasSent, RefusedChangesNothing};
 
 /// An item that is received was made before or by the same event, for the channel on which it is received; and
 /// what was sent over a connection was sent to the channel that this leads to.
@@ -15,12 +15,40 @@ pub fn one_open_call()
     ensures same { OpenIsUnended }
 {}
 
+/// The connection of each open Send is live, and its channel open.
+pub fn open_sends_are_live()
+    ensures { OpenSendsAreLive }
+{}
+
+/// The newest receiver of an item is the one whose call has the greatest number of all that wait on the channel
+/// and may take it; there is none exactly where none waits so.
+pub fn newest_is_greatest()
+    ensures greatest { NewestIsGreatest }
+    ensures none { NoneIsNewest }
+{}
+
+/// Nothing is pending on a channel while a thread waits there that may take it.
+pub fn nothing_pending_for_waiting()
+    ensures { NothingPendingForWaiting }
+{}
+
 /// What is pending on a channel rises in number, isn't held, and the Send of each message is the open call of
 /// its sender.
 pub fn pending_is_sent()
     ensures rising { PendingRises }
     ensures unheld { NonePendingIsHeld }
     ensures waiting { PendingIsOpen }
+{}
+
+/// A message is held as the past has it, received and not answered, exactly where its Send is open and has a
+/// receipt, as the rows have it.
+pub fn held_is_held_send()
+    ensures { HeldIsHeldSend }
+{}
+
+/// A refused call changes nothing but how many calls were made.
+pub fn refused_changes_nothing()
+    ensures { RefusedChangesNothing }
 {}
 
 /// Nothing is received from a channel once it is destroyed, in the event that destroys it or later.
@@ -36,6 +64,11 @@ pub fn only_refused_when_down()
 /// Each ending goes to the thread that made the call that it ends.
 pub fn endings_name_own_calls()
     ensures { EndingsNameOwnCalls }
+{}
+
+/// The endings of one event rise in the number of their threads, so each goes to a thread of its own.
+pub fn endings_rise_by_thread()
+    ensures { EndingsRiseByThread }
 {}
 
 /// There are never more than 1,024 pulses pending on a channel.

@@ -22,4 +22,4 @@ IsRoster (m ∷ members) = AllByRecursion (λ x. m.thread < x.thread) members ×
 
 -- why a thread may not join: it is there, or else there are 64 threads
 abbrev pub join_refusal : List Member → ℕ → Option Errno
-join_refusal members thread = if is_some (member_at members thread) then Some Inval else (if length members == 64 then Some Again else None)
+join_refusal members thread = if is_some (member_at members thread) then Some Inval else (if nat_lt (length members) 64 then None else Some Again)

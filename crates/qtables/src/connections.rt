@@ -1,6 +1,6 @@
 //! The live connections.
 
-ghost use Rattle.std.specs.Prelude.{◌≡◌, ◌<◌, ◌≤◌, ◌==◌, ◌+◌, ◌&&◌, [], ◌∷◌, ◌++◌, length, count_by, option_copied, if◌then◌else◌, IfErr, OnOk, OnErr, OnSome};
+ghost use Rattle.std.specs.Prelude.{◌≡◌, ◌<◌, ◌≤◌, ◌==◌, nat_lt, ◌+◌, ◌&&◌, [], ◌∷◌, ◌++◌, length, count_by, option_copied, if◌then◌else◌, IfErr, OnOk, OnErr, OnSome};
 ghost use Rattle.std.specs.List.{AllByRecursion};
 ghost use Rattle.std.specs.Option.{option_copied_mut};
 ghost use Rattle.std.specs.Borrow.{sem};
@@ -56,7 +56,7 @@ impl Connections {
         ensures ok { OnOk result (self.new ≡ self.old ++ (number, entry) ∷ []) }
         ensures room { OnOk result (length self.old < 1024) }
         ensures err { OnErr result (self.new ≡ self.old) }
-        ensures error { IfErr result (λ e. e.0 ≡ (if length self.old == 1024 then Errno.Again else Errno.NoMemory)) }
+        ensures error { IfErr result (λ e. e.0 ≡ (if nat_lt (length self.old) 1024 then Errno.NoMemory else Errno.Again)) }
         ensures returned { IfErr result (λ e. e.1 ≡ entry) }
     {
         self.entries.create(number.0, entry, CONNECTION_LIMIT)

@@ -1,6 +1,6 @@
 //! Records by number, kept in rising number: what channels and connections have in common.
 
-ghost use Rattle.std.specs.Prelude.{◌≡◌, ◌<◌, ◌≤◌, ◌==◌, ◌+◌, [], ◌∷◌, ◌++◌, map, length, option_copied, if◌then◌else◌, IfErr, OnOk, OnErr, OnSome};
+ghost use Rattle.std.specs.Prelude.{◌≡◌, ◌<◌, ◌≤◌, ◌==◌, nat_lt, ◌+◌, [], ◌∷◌, ◌++◌, map, length, option_copied, if◌then◌else◌, IfErr, OnOk, OnErr, OnSome};
 ghost use Rattle.std.specs.List.{AllByRecursion, AllPairs, position_or_len};
 ghost use Rattle.std.specs.Option.{option_copied_mut};
 ghost use Rattle.std.specs.Borrow.{sem};
@@ -68,7 +68,7 @@ impl<Record: Drop> Entries<Record> {
         ensures ok { OnOk result (self.new ≡ self.old ++ (number, entry) ∷ []) }
         ensures room { OnOk result (length self.old < limit) }
         ensures err { OnErr result (self.new ≡ self.old) }
-        ensures error { IfErr result (λ e. e.0 ≡ (if length self.old == limit then Errno.Again else Errno.NoMemory)) }
+        ensures error { IfErr result (λ e. e.0 ≡ (if nat_lt (length self.old) limit then Errno.NoMemory else Errno.Again)) }
         ensures returned { IfErr result (λ e. e.1 ≡ entry) }
     {
         if self.numbers.len() >= limit {

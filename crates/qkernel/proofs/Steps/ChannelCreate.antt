@@ -36,15 +36,15 @@ ids_push [] e = refl
 ids_push (x ∷ channels) e = ap (λ ns. x.0 ∷ ns) (ids_push channels e)
 
 -- the table's refusal is the row's, or want of memory
-may_refuse : (s : State) (t : ℕ) (flags : ChannelFlags) (e : Errno) → s.down ≡ false → open_in s.threads t ≡ None → nat_lt flags.0 8 ≡ true → e ≡ cond (eqb (length s.channels) 64) Again NoMemory
+may_refuse : (s : State) (t : ℕ) (flags : ChannelFlags) (e : Errno) → s.down ≡ false → open_in s.threads t ≡ None → nat_lt flags.0 8 ≡ true → e ≡ cond (nat_lt (length s.channels) 64) NoMemory Again
     → MayRefuse (facts_in s) t (ChannelCreate flags) e
 may_refuse s t flags e up free known is =
-    elim (eqb (length s.channels) 64) as (λ b. eqb (length s.channels) 64 ≡ b → e ≡ cond b Again NoMemory → MayRefuse (facts_in s) t (ChannelCreate flags) e) [
-      | true ↦ λ full same. inl (rw (up, free, known, full) (ap Some (sym same)))
-      | false ↦ λ room same. inr (rw (up, free, known, room) refl, refl, same)
+    elim (nat_lt (length s.channels) 64) as (λ b. nat_lt (length s.channels) 64 ≡ b → e ≡ cond b NoMemory Again → MayRefuse (facts_in s) t (ChannelCreate flags) e) [
+      | true ↦ λ room same. inr (rw (up, free, known, room) refl, refl, same)
+      | false ↦ λ full same. inl (rw (up, free, known, full) (ap Some (sym same)))
     ] refl is
 
-pub step_create_refused : (s : State) (t : ℕ) (flags : ChannelFlags) (e : Errno) (X : List Completion) → s.down ≡ false → open_in s.threads t ≡ None → nat_lt flags.0 8 ≡ true → e ≡ cond (eqb (length s.channels) 64) Again NoMemory
+pub step_create_refused : (s : State) (t : ℕ) (flags : ChannelFlags) (e : Errno) (X : List Completion) → s.down ≡ false → open_in s.threads t ≡ None → nat_lt flags.0 8 ≡ true → e ≡ cond (nat_lt (length s.channels) 64) NoMemory Again
     → X ≡ failed (facts_in s) t (ChannelCreate flags) e ∷ [] → Steps s t (ChannelCreate flags) X (counted s)
 step_create_refused s t flags e X up free known is X_is = step_refused_alone s t (ChannelCreate flags) e X (may_refuse s t flags e up free known is) X_is
 
@@ -78,7 +78,7 @@ module _ (s : State) (t : ℕ) (flags : ChannelFlags) (m : Member) (q : Contents
         | false ↦ λ e. refl
       ] refl)
 
-  pub step_created : (X : List Completion) → member_at (members_of s.threads) t ≡ Some m → s.down ≡ false → open_in s.threads t ≡ None → nat_lt flags.0 8 ≡ true → eqb (length s.channels) 64 ≡ false
+  pub step_created : (X : List Completion) → member_at (members_of s.threads) t ≡ Some m → s.down ≡ false → open_in s.threads t ≡ None → nat_lt flags.0 8 ≡ true → nat_lt (length s.channels) 64 ≡ true
       → X ≡ record { call = s.made + 1; thread = t; mark = mark.Channel (s.made + 1); buffer = [] } ∷ [] → Steps s t (ChannelCreate flags) X with_channel
   step_created X known up free is_known room is = (
     true,

@@ -17,7 +17,8 @@ use Rattle.qqueue.specs.declared.item.Item.{Item}
 use Rattle.qrules.specs.Answer.{MayRefuse, failed, refusal, row_of}
 use Rattle.qrules.specs.Items.{makes}
 use Rattle.qrules.specs.Rows.{closes, names}
-use Rattle.qrules.specs.Step.{left_by, made_on, pending_after, taken_out}
+use Rattle.qrules.specs.Step.{left_by, pending_after, taken_out}
+use Rattle.qrules.specs.Past.{made_on}
 use Rattle.qrules.proofs.Past.Cuts.{EndsSettled, none_cut}
 use Rattle.qrules.proofs.Past.Ends.{row_passes}
 use Rattle.qrules.proofs.Past.Laws.{is_forceful}

@@ -1,6 +1,6 @@
 -- ConnectAttach as a step of the kernel.
 use Rattle.std.proofs.Common.{◌≡◌, ℕ, ◌+◌, ◌≤◌, ◌<◌, List, [], ◌∷◌, ◌++◌, length, add-zero, refl, ap, sym, ◌∙◌, cond, arith, true, false, eqb, append-nil, inl, inr}
-use Rattle.std.specs.Prelude.{None, Some, is_some}
+use Rattle.std.specs.Prelude.{None, Some, is_some, nat_lt}
 use Rattle.qbase.specs.declared.errno.Errno.{Errno}
 use Rattle.qbase.specs.declared.errno.Errno.TheVariants.{Srch, Again, NoMemory}
 use Rattle.qtables.specs.Entries.{entry_at}
@@ -26,15 +26,15 @@ pub step_attach_nowhere : (s : State) (t chid : ℕ) (X : List Completion) → s
 step_attach_nowhere s t chid X up free closed is = step_refused_alone s t (ConnectAttach chid) Srch X (inl (rw (up, free, closed) refl)) is
 
 -- the table's refusal is the row's, or want of memory
-may_refuse : (s : State) (t chid : ℕ) (e : Errno) → s.down ≡ false → open_in s.threads t ≡ None → is_some (channel_in s.channels chid) ≡ true → e ≡ cond (eqb (length s.connections) 1024) Again NoMemory
+may_refuse : (s : State) (t chid : ℕ) (e : Errno) → s.down ≡ false → open_in s.threads t ≡ None → is_some (channel_in s.channels chid) ≡ true → e ≡ cond (nat_lt (length s.connections) 1024) NoMemory Again
     → MayRefuse (facts_in s) t (ConnectAttach chid) e
 may_refuse s t chid e up free opens is =
-    elim (eqb (length s.connections) 1024) as (λ b. eqb (length s.connections) 1024 ≡ b → e ≡ cond b Again NoMemory → MayRefuse (facts_in s) t (ConnectAttach chid) e) [
-      | true ↦ λ full same. inl (rw (up, free, opens, full) (ap Some (sym same)))
-      | false ↦ λ room same. inr (rw (up, free, opens, room) refl, refl, same)
+    elim (nat_lt (length s.connections) 1024) as (λ b. nat_lt (length s.connections) 1024 ≡ b → e ≡ cond b NoMemory Again → MayRefuse (facts_in s) t (ConnectAttach chid) e) [
+      | true ↦ λ room same. inr (rw (up, free, opens, room) refl, refl, same)
+      | false ↦ λ full same. inl (rw (up, free, opens, full) (ap Some (sym same)))
     ] refl is
 
-pub step_attach_refused : (s : State) (t chid : ℕ) (e : Errno) (X : List Completion) → s.down ≡ false → open_in s.threads t ≡ None → is_some (channel_in s.channels chid) ≡ true → e ≡ cond (eqb (length s.connections) 1024) Again NoMemory
+pub step_attach_refused : (s : State) (t chid : ℕ) (e : Errno) (X : List Completion) → s.down ≡ false → open_in s.threads t ≡ None → is_some (channel_in s.channels chid) ≡ true → e ≡ cond (nat_lt (length s.connections) 1024) NoMemory Again
     → X ≡ failed (facts_in s) t (ConnectAttach chid) e ∷ [] → Steps s t (ConnectAttach chid) X (counted s)
 step_attach_refused s t chid e X up free opens is X_is = step_refused_alone s t (ConnectAttach chid) e X (may_refuse s t chid e up free opens is) X_is
 
@@ -49,7 +49,7 @@ module _ (s : State) (t chid : ℕ) (m : Member) (sound : IsSound s) where
     connections = s.connections ++ (s.made + 1, record { process = m.process; channel = chid }) ∷ [];
   }
 
-  pub step_attached : (X : List Completion) → member_at (members_of s.threads) t ≡ Some m → s.down ≡ false → open_in s.threads t ≡ None → is_some (channel_in s.channels chid) ≡ true → eqb (length s.connections) 1024 ≡ false
+  pub step_attached : (X : List Completion) → member_at (members_of s.threads) t ≡ Some m → s.down ≡ false → open_in s.threads t ≡ None → is_some (channel_in s.channels chid) ≡ true → nat_lt (length s.connections) 1024 ≡ true
       → X ≡ record { call = s.made + 1; thread = t; mark = mark.Connection (s.made + 1); buffer = [] } ∷ [] → Steps s t (ConnectAttach chid) X with_connection
   step_attached X known up free opens room is = (
     true,

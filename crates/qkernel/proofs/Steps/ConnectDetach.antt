@@ -22,7 +22,8 @@ use Rattle.qrules.specs.Cutting.{cut_where, is_on, is_over, is_unread_send}
 use Rattle.qrules.specs.Facts.{tells_disconnect, threads_of}
 use Rattle.qrules.specs.Pulses.{full_for, told, told_receipt}
 use Rattle.qrules.specs.Rows.{Made, Received, disconnect_item}
-use Rattle.qrules.specs.Step.{is_cut, left_by, made_on, taken_out, unless}
+use Rattle.qrules.specs.Step.{is_cut, left_by, taken_out, unless}
+use Rattle.qrules.specs.Past.{made_on}
 use Rattle.qrules.specs.declared.call.Call.TheVariants.{ConnectDetach}
 use Rattle.qrules.specs.declared.call.Completion.{Completion}
 use Rattle.qrules.specs.declared.open_call.Wait.TheVariants.{Item as ForItem}
@@ -33,7 +34,8 @@ use Rattle.qrecords.specs.Channels.{channel_in, own_channel_in, pending_in}
 use Rattle.qrecords.specs.Cuts.{AreCut, LoseCut, ending_for, is_cut_among}
 use Rattle.qrecords.specs.Endings.{inserted_if}
 use Rattle.qrecords.specs.Pulses.{has_room}
-use Rattle.qrecords.specs.Threads.{level_in, members_of, open_in}
+use Rattle.qrules.specs.Receivers.{newest}
+use Rattle.qrecords.specs.Threads.{level_in, members_of, newest_in, open_in}
 use Rattle.qkernel.specs.State.{State, IsSound, facts_in}
 use Rattle.qkernel.specs.Stands.{Steps}
 use Rattle.qtables.proofs.LookUps.{entry_at-without_entry}
@@ -123,14 +125,13 @@ module _ (s : State) (t coid : ℕ) (m : Member) (known : member_at (members_of 
         | Some item ↦ λ e. rw full refl
       ] some))
 
-      pub detach_memory : is_some d ≡ true → has_room s.channels h ≡ true → MayRefuse (facts_in s) t (ConnectDetach coid) NoMemory
-      detach_memory some room =
+      pub detach_memory : (item : Item) → d ≡ Some item → has_room s.channels h ≡ true → newest_in h item s.threads ≡ None → MayRefuse (facts_in s) t (ConnectDetach coid) NoMemory
+      detach_memory item some room nobody =
+          let none : newest (facts_in s) h item ≡ None = nobody in
+          let made : due (facts_in s) t coid ≡ Some (record { item = item; channel = h }) = due_is ∙ ap (made_for h) some in
           inr (
-            rw (up, free, own, due_is) (elim d as (λ d. is_some d ≡ true → full_for (facts_in s) (made_for h d) ≡ None) [
-              | None ↦ λ e. absurd (true≢false (sym e))
-              | Some item ↦ λ e. rw room refl
-            ] some),
-            ap is_some due_is ∙ (elim d as (λ d. is_some d ≡ true → is_some (made_for h d) ≡ true) [ None ↦ λ e. e | Some item ↦ λ e. refl ] some),
+            rw (up, free, own, made, room) refl,
+            rw (made, none) refl,
             refl,
           )
 

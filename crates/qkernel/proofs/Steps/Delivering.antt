@@ -14,20 +14,13 @@ use Rattle.qrecords.specs.declared.channel.Channel.{Channel}
 use Rattle.qrecords.specs.declared.thread.Thread.{Thread}
 use Rattle.qrecords.specs.Channels.{pending_in, ids_of, way_in, SetsItems, channel_in}
 use Rattle.qrules.specs.Facts.{way, is_fixed}
-use Rattle.qrules.specs.Receivers.{newest}
 use Rattle.qrules.specs.Rows.{sent_over}
 use Rattle.qkernel.specs.State.{State, IsSound, facts_in}
-use Rattle.qrules.specs.Step.{made_on}
-use Rattle.qrecords.specs.Threads.{members_of, newest_by}
+use Rattle.qrules.specs.Past.{made_on}
+use Rattle.qrecords.specs.Threads.{members_of}
 use Rattle.qbase.proofs.Lists.{all_append, eqb_either}
 use Rattle.qrules.proofs.Calls.Delivering.{sent_way}
-use Rattle.qrecords.proofs.Receivers.{newest_found}
 use Rattle.qkernel.proofs.Steps.Common.{Counted, count_same, all_up_to, way-leads_to}
-
--- ---- the newest receiver
-
-pub newest_is : (s : State) (h : ℕ) (item : Item) (best : Option (ℕ × ℕ)) → IsSound s → newest_by h item None s.threads ≡ best → newest (facts_in s) h item ≡ option_map (λ b. b.1) best
-newest_is s h item best sound e = ap (option_map (λ b. b.1)) (newest_found h item s.threads sound.roster ∙ e)
 
 -- the priority that a receiver on channel h takes of the item
 abbrev pub level_of : State → ℕ → Item → Option ℕ

@@ -17,7 +17,8 @@ use Rattle.qrules.specs.Rows.{pulse_item}
 use Rattle.qrules.specs.Pulses.{full}
 use Rattle.qkernel.specs.State.{State, facts_in}
 use Rattle.qkernel.specs.Stands.{Steps}
-use Rattle.qrecords.specs.Threads.{members_of, open_in}
+use Rattle.qrules.specs.Receivers.{newest}
+use Rattle.qrecords.specs.Threads.{members_of, newest_in, open_in}
 use Rattle.qkernel.proofs.Steps.Common.{counted, step_refused_alone, way-leads_to}
 use Rattle.qkernel.proofs.Steps.Delivering.{some_sent, some_way}
 use Rattle.qkernel.proofs.Steps.Telling.{Tells}
@@ -49,10 +50,11 @@ module _ (s : State) (t coid priority : ℕ) (code value : ℤ) (m : Member) (kn
       let there : way (facts_in s) t coid ≡ Some h = way-leads_to s t m (entry_at s.connections coid) known ∙ found in
       inl (rw (up, free, there, positive, full) refl)
 
-  pub pulse_memory : (h : ℕ) → way_in m.process s.channels (entry_at s.connections coid) ≡ Some h → is_negative code ≡ false → has_room s.channels h ≡ true → MayRefuse (facts_in s) t (Pulse coid priority code value) NoMemory
-  pulse_memory h found positive room =
+  pub pulse_memory : (h : ℕ) → way_in m.process s.channels (entry_at s.connections coid) ≡ Some h → is_negative code ≡ false → has_room s.channels h ≡ true → newest_in h (pulse_item (s.made + 1) priority code value) s.threads ≡ None → MayRefuse (facts_in s) t (Pulse coid priority code value) NoMemory
+  pulse_memory h found positive room nobody =
       let there : way (facts_in s) t coid ≡ Some h = way-leads_to s t m (entry_at s.connections coid) known ∙ found in
-      inr (rw (up, free, there, positive, room) refl, refl, refl)
+      let none : newest (facts_in s) h (pulse_item (s.made + 1) priority code value) ≡ None = nobody in
+      inr (rw (up, free, there, positive, room) refl, rw (there, none) refl, refl)
 
 -- ---- a pulse that is sent
 

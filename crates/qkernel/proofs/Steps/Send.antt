@@ -24,11 +24,12 @@ use Rattle.qrules.specs.Receivers.{newest}
 use Rattle.qrules.specs.Rows.{message_item, takes, received, sent_over}
 use Rattle.qkernel.specs.State.{State, IsSound, facts_in}
 use Rattle.qkernel.specs.Stands.{Steps}
-use Rattle.qrules.specs.Step.{unless, held_call, made_on}
-use Rattle.qrecords.specs.Threads.{members_of, open_in, level_in, newest_by, SetsOpen, Wakes}
+use Rattle.qrules.specs.Step.{unless, held_call}
+use Rattle.qrules.specs.Past.{made_on}
+use Rattle.qrecords.specs.Threads.{members_of, open_in, level_in, newest_in, SetsOpen, Wakes}
 use Rattle.qbase.proofs.Lists.{is_among, cond_same}
 use Rattle.qrules.proofs.Rosters.{rises, nothing, filter_map_same, only_own}
-use Rattle.qkernel.proofs.Steps.Delivering.{counted_room, count_kept, items_after, newest_is, some_sent, some_way, with_item, level_of}
+use Rattle.qkernel.proofs.Steps.Delivering.{counted_room, count_kept, items_after, some_sent, some_way, with_item, level_of}
 use Rattle.qrecords.proofs.Receivers.{ended_thread}
 use Rattle.qkernel.proofs.Steps.Common.{uncut, counted, step_refused, step_refused_alone, way-leads_to}
 use Rattle.qqueue.specs.Best.{without}
@@ -42,12 +43,13 @@ step_send_nowhere s t coid message reply_buffer m X known up free none is =
     step_refused_alone s t (Send coid message reply_buffer) Badf X (inl (rw (up, free, no_way) refl)) is
 
 pub step_send_no_memory : (s : State) (t coid : ℕ) (message reply_buffer : List ℕ) (m : Member) (h : ℕ) (new : List (ℕ × Channel)) (e : Errno) (X : List Completion) → member_at (members_of s.threads) t ≡ Some m
-    → s.down ≡ false → open_in s.threads t ≡ None → way_in m.process s.channels (entry_at s.connections coid) ≡ Some h → e ≡ NoMemory → SetsItems h (pending_in s.channels h) s.channels new
+    → s.down ≡ false → open_in s.threads t ≡ None → way_in m.process s.channels (entry_at s.connections coid) ≡ Some h → e ≡ NoMemory → newest_in h (message_item (s.made + 1) (level_in s.threads t)) s.threads ≡ None → SetsItems h (pending_in s.channels h) s.channels new
     → X ≡ failed (facts_in s) t (Send coid message reply_buffer) e ∷ []
     → Steps s t (Send coid message reply_buffer) X (record { made = s.made + 1; down = s.down; threads = s.threads; channels = new; connections = s.connections })
-step_send_no_memory s t coid message reply_buffer m h new e X known up free found want sets is =
+step_send_no_memory s t coid message reply_buffer m h new e X known up free found want nobody sets is =
     let some_way : way (facts_in s) t coid ≡ Some h = way-leads_to s t m (entry_at s.connections coid) known ∙ found in
-    step_refused s t (Send coid message reply_buffer) e X _ (inr (rw (up, free, some_way) refl, refl, want)) is (counted_room s h new sets)
+    let none : newest (facts_in s) h (message_item (s.made + 1) (level_in s.threads t)) ≡ None = nobody in
+    step_refused s t (Send coid message reply_buffer) e X _ (inr (rw (up, free, some_way) refl, rw (some_way, none) refl, want)) is (counted_room s h new sets)
 
 module _ (s : State) (t coid : ℕ) (message reply_buffer : List ℕ) (m : Member) (h : ℕ) (sound : IsSound s) (known : member_at (members_of s.threads) t ≡ Some m) (up : s.down ≡ false) (free : open_in s.threads t ≡ None)
     (found : way_in m.process s.channels (entry_at s.connections coid) ≡ Some h) where
@@ -65,11 +67,11 @@ module _ (s : State) (t coid : ℕ) (message reply_buffer : List ℕ) (m : Membe
   abbrev pub waiting : Option Receipt → OpenCall
   waiting receipt = record { number = s.made + 1; wait = Answer coid message reply_buffer receipt }
 
-  pub step_send_waits : (threads : List Thread) (channels : List (ℕ × Channel)) (X : List Completion) → newest_by h item None s.threads ≡ None → SetsOpen t (Some (waiting None)) s.threads threads
+  pub step_send_waits : (threads : List Thread) (channels : List (ℕ × Channel)) (X : List Completion) → newest_in h item s.threads ≡ None → SetsOpen t (Some (waiting None)) s.threads threads
       → SetsItems h (pending_in s.channels h ++ item ∷ []) s.channels channels → X ≡ []
       → Steps s t (Send coid message reply_buffer) X (record { made = s.made + 1; down = s.down; threads = threads; channels = channels; connections = s.connections })
   step_send_waits threads channels X nobody opens sets is =
-      let none : newest (facts_in s) h item ≡ None = newest_is s h item None sound nobody in (
+      let none : newest (facts_in s) h item ≡ None = nobody in (
         true,
         record {
           answer = (

@@ -22,7 +22,7 @@ use Rattle.qrecords.specs.declared.channel.Channel.{Channel}
 use Rattle.qrecords.specs.declared.thread.Thread.{Thread}
 use Rattle.qrecords.specs.Endings.{inserted_if}
 use Rattle.qrecords.specs.Pulses.{IsSent, IsSentIfDue, IsTurnedAway, has_room}
-use Rattle.qrecords.specs.Threads.{level_in, members_of, open_in}
+use Rattle.qrecords.specs.Threads.{level_in, members_of, newest_in, open_in}
 use Rattle.qrecords.proofs.Inserting.{own_first, own_one}
 use Rattle.qkernel.specs.State.{State, IsSound, facts_in}
 use Rattle.qkernel.specs.Stands.{Steps}
@@ -127,17 +127,17 @@ none_marked c o mid none = record { members = refl; open_call = λ u. rw none re
 
 -- ---- a pulse that is turned away
 
-module _ (s : State) (t : ℕ) (c : Call) (h : ℕ) (e : Errno) (threads : List Thread) (channels : List (ℕ × Channel)) (away : IsTurnedAway h s.threads s.channels threads channels e) where
+module _ (s : State) (t : ℕ) (c : Call) (h : ℕ) (item : Item) (e : Errno) (threads : List Thread) (channels : List (ℕ × Channel)) (away : IsTurnedAway h item s.threads s.channels threads channels e) where
   only_counted : Counted s (record { made = s.made + 1; down = s.down; threads = threads; channels = channels; connections = s.connections })
   only_counted = subst (λ ts. Counted s (record { made = s.made + 1; down = s.down; threads = ts; channels = channels; connections = s.connections })) (sym away.0) (elim (away.1) [
-    | inl full ↦ subst (λ cs. Counted s (record { made = s.made + 1; down = s.down; threads = s.threads; channels = cs; connections = s.connections })) (sym full.1) (counted_alone s)
-    | inr want ↦ counted_room s h channels want.1
+    | inl full ↦ subst (λ cs. Counted s (record { made = s.made + 1; down = s.down; threads = s.threads; channels = cs; connections = s.connections })) (sym full.channels_are) (counted_alone s)
+    | inr want ↦ counted_room s h channels want.sets
   ])
 
-  pub step_turned_away : (X : List Completion) → (has_room s.channels h ≡ false → MayRefuse (facts_in s) t c Again) → (has_room s.channels h ≡ true → MayRefuse (facts_in s) t c NoMemory) → X ≡ failed (facts_in s) t c e ∷ []
+  pub step_turned_away : (X : List Completion) → (has_room s.channels h ≡ false → MayRefuse (facts_in s) t c Again) → (has_room s.channels h ≡ true → newest_in h item s.threads ≡ None → MayRefuse (facts_in s) t c NoMemory) → X ≡ failed (facts_in s) t c e ∷ []
       → Steps s t c X (record { made = s.made + 1; down = s.down; threads = threads; channels = channels; connections = s.connections })
   step_turned_away X again memory is =
-      step_refused s t c e X _ (elim (away.1) [ inl full ↦ subst (MayRefuse (facts_in s) t c) (sym full.2) (again full.0) | inr want ↦ subst (MayRefuse (facts_in s) t c) (sym want.2) (memory want.0) ]) is only_counted
+      step_refused s t c e X _ (elim (away.1) [ inl full ↦ subst (MayRefuse (facts_in s) t c) (sym full.error) (again full.room) | inr want ↦ subst (MayRefuse (facts_in s) t c) (sym want.error) (memory want.room want.nobody) ]) is only_counted
 
   pub sound_turned_away : IsSound s → IsSound (record { made = s.made + 1; down = s.down; threads = threads; channels = channels; connections = s.connections })
   sound_turned_away sound = sound_counted s _ only_counted sound

@@ -13,7 +13,8 @@ use Rattle.qrules.specs.Facts.{threads_of}
 use Rattle.qrules.specs.Pulses.{full_for, told, told_receipt}
 use Rattle.qrules.specs.Receivers.{newest}
 use Rattle.qrules.specs.Rows.{Made, received, takes, takes_into}
-use Rattle.qrules.specs.Step.{after_receipt, made_on, taken_by, taken_out, unless}
+use Rattle.qrules.specs.Step.{after_receipt, taken_by, taken_out, unless}
+use Rattle.qrules.specs.Past.{made_on}
 use Rattle.qrules.specs.declared.call.Completion.{Completion}
 use Rattle.qrules.specs.declared.open_call.OpenCall.{OpenCall}
 use Rattle.qrules.specs.declared.open_call.Wait.{Wait}
@@ -30,7 +31,7 @@ use Rattle.qrecords.specs.declared.thread.Thread.{Thread}
 use Rattle.qrecords.proofs.Inserting.{endings_fewer, inserted_among}
 use Rattle.qrecords.proofs.Receivers.{ended_thread, newest_receives, waits_among}
 use Rattle.qkernel.specs.State.{State, IsSound, facts_in}
-use Rattle.qkernel.proofs.Steps.Delivering.{items_after, newest_is, with_item}
+use Rattle.qkernel.proofs.Steps.Delivering.{items_after, with_item}
 
 -- the item that is due, with its channel
 abbrev pub made_for : ℕ → Option Item → Option Made
@@ -87,7 +88,7 @@ module _ (s : State) (t h : ℕ) (item : Item) (sound : IsSound s) (free : open_
   -- it waits
   told_left : IsLeft h item s.threads s.channels mid channels → IsTold s t sent mid channels None
   told_left left =
-      let none : newest (facts_in s) h item ≡ None = newest_is s h item None sound left.nobody in
+      let none : newest (facts_in s) h item ≡ None = left.nobody in
       record {
         room = rw (left.room) refl;
         members = ap members_of left.threads_are;
@@ -105,16 +106,16 @@ module _ (s : State) (t h : ℕ) (item : Item) (sound : IsSound s) (free : open_
   -- it meets a receiver
   module _ (y : Completion) (pulse : is_pulse item.what ≡ true) (met : IsMet h item s.threads s.channels mid channels y) where
     abbrev r : ℕ
-    r = met.receiver.1
+    r = met.receiver
 
     newest_is_r : newest (facts_in s) h item ≡ Some r
-    newest_is_r = newest_is s h item (Some met.receiver) sound met.newest
+    newest_is_r = met.newest
 
     apart : t ≢ r
     apart e = none-some y (sym (ap (takes item [] r) (ap (open_in s.threads) (sym e) ∙ free)) ∙ met.ended)
 
     there : is_among (threads_of (members_of s.threads)) r ≡ true
-    there = waits_among h item _ s.threads r (newest_receives s.threads h item met.receiver sound.roster met.newest)
+    there = let w = newest_receives s.threads h item r met.newest in waits_among h item w.0 s.threads r w.1
 
     told_is : (u : ℕ) → told (facts_in s) sent u ≡ cond (eqb u r) (Some y) None
     told_is u = rw newest_is_r (elim (eqb u r) as (λ b. eqb u r ≡ b → cond b (takes item [] u (open_in s.threads u)) None ≡ cond b (Some y) None) [

@@ -19,7 +19,8 @@ use Rattle.qrules.specs.Cutting.{cut_call, cut_where, is_unread_send}
 use Rattle.qrules.specs.Facts.{is_in_process, threads_of}
 use Rattle.qrules.specs.Pulses.{told_receipt, full}
 use Rattle.qrules.specs.Rows.{unblock_item, Made}
-use Rattle.qrules.specs.Step.{left_by, made_on, taken_out, unblocked_call}
+use Rattle.qrules.specs.Step.{left_by, taken_out, unblocked_call}
+use Rattle.qrules.specs.Past.{made_on}
 use Rattle.qrules.specs.declared.call.Call.TheVariants.{Unblock}
 use Rattle.qrules.specs.declared.call.Completion.{Completion}
 use Rattle.qrules.specs.declared.open_call.OpenCall.{OpenCall}
@@ -33,7 +34,8 @@ use Rattle.qrecords.specs.Channels.{pending_in}
 use Rattle.qrecords.specs.Cuts.{AreCut, LoseCut}
 use Rattle.qrecords.specs.HeldIn.{guard_in, guarded_in, held_in}
 use Rattle.qrecords.specs.Pulses.{has_room}
-use Rattle.qrecords.specs.Threads.{members_of, open_in, MarksUnblocked}
+use Rattle.qrules.specs.Receivers.{newest}
+use Rattle.qrecords.specs.Threads.{members_of, newest_in, open_in, MarksUnblocked}
 use Rattle.qkernel.specs.State.{State, IsSound, facts_in}
 use Rattle.qkernel.specs.Stands.{Steps}
 use Rattle.qrules.proofs.Rosters.{among, filter_map_same, only_own, rises}
@@ -198,8 +200,10 @@ module _ (s : State) (t thread : ℕ) (m : Member) (sound : IsSound s) (known : 
         pub unblock_full : has_room s.channels g.1 ≡ false → MayRefuse (facts_in s) t (Unblock thread) Again
         unblock_full full = inl (rw (up, free, known, fellow, due_is, full) refl)
 
-        pub unblock_memory : has_room s.channels g.1 ≡ true → MayRefuse (facts_in s) t (Unblock thread) NoMemory
-        unblock_memory room = inr (rw (up, free, known, fellow, due_is, room) refl, rw due_is refl, refl)
+        pub unblock_memory : has_room s.channels g.1 ≡ true → newest_in g.1 pulse s.threads ≡ None → MayRefuse (facts_in s) t (Unblock thread) NoMemory
+        unblock_memory room nobody =
+            let none : newest (facts_in s) g.1 pulse ≡ None = nobody in
+            inr (rw (up, free, known, fellow, due_is, room) refl, rw (due_is, none) refl, refl)
 
         pub tells_unblock : full (facts_in s) g.1 ≡ None → Tells s t (Unblock thread) (Some (record { item = pulse; channel = g.1 }))
         tells_unblock room = record {

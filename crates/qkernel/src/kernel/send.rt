@@ -91,10 +91,10 @@ impl Kernel {
                 }
                 None
             }
-            Some(newest) => {
+            Some(receiver) => {
                 let level = carried(&self.channels, chid, priority);
-                let call = wake(&mut self.threads, newest.1, level);
-                let Some(met) = taken(call, newest.1, &item, &message) else {
+                let call = wake(&mut self.threads, receiver, level);
+                let Some(met) = taken(call, receiver, &item, &message) else {
                     unreachable!();
                 };
                 let (completion, copied) = met;

@@ -7,9 +7,8 @@ use Rattle.qqueue.specs.Contents.{IsRising}
 use Rattle.qqueue.specs.declared.item.Item.{Item}
 use Rattle.qqueue.proofs.RisingLaws.{IsRising-push, IsRising-filter}
 use Rattle.qtables.specs.declared.member.Member.{Member}
-use Rattle.qrules.specs.Past.{is_closed, is_gone, item_of, pending}
+use Rattle.qrules.specs.Past.{is_closed, is_gone, item_of, pending, made_on}
 use Rattle.qrules.specs.Rows.{Made}
-use Rattle.qrules.specs.Step.{made_on}
 use Rattle.qrules.specs.Trace.{Event, Trace}
 use Rattle.qbase.proofs.Lists.{all_more}
 use Rattle.qrules.proofs.Past.Items.{IsPending, Stands, items_on, stands_all, staying, pending_all, item_below, made_by}

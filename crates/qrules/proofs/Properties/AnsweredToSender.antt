@@ -22,6 +22,7 @@ use Rattle.qbase.proofs.Lists.{all_filter_map, all_more, is_among}
 use Rattle.qrules.proofs.Past.Numbers.{buffer_answer, held_for_answer, open_parts}
 use Rattle.qrules.proofs.Properties.Answers.{AnswersHeld, answers_held, answers_one, over}
 use Rattle.qrules.proofs.Properties.Events.{is_accepted_by, outcome_of}
+use Rattle.qrules.proofs.Properties.ReceivedOnce.{different_calls}
 use Rattle.qrules.proofs.Past.Unblocked.{held_is_taken}
 use Rattle.qrules.proofs.Rosters.{known}
 use Rattle.qrules.proofs.Properties.Sends.{block_sender, item_channel, open_keeps, open_over}
@@ -108,13 +109,12 @@ answers_once roster past e r l a i answered was =
     let p = passes_of (facts_of roster past) e.thread e.call e.endings o in
     let k = answers_one (facts_of roster past) e.thread e.call i p answered in
     let other : eqb k.thread e.thread ≡ false = ne_eqb k.thread e.thread (λ same. none-some k.waiting (sym p.idle ∙ ap (λ t. f.open_call t) (sym same) ∙ k.is_open)) in
-    rw (o.1) (count_one (λ x. (eqb x.call i) && is_answer x.mark) (ending (facts_of roster past) e.thread e.call) roster k.thread k.given r
+    let given : ending f e.thread e.call k.thread ≡ Some k.given = rw other k.is in
+    rw (o.1) (count_one (λ x. eqb x.call i) (ending f e.thread e.call) roster k.thread k.given r
     (known roster k.thread (open_known roster past k.thread k.waiting l k.is_open))
-    (rw other k.is)
-    (and_from _ _ (eq-eqb k.given.call i k.call) k.answers)
-    (λ v z apart is. and_false_where (eqb z.call i) (is_answer z.mark) (λ same answers.
-    let h = answers_held (facts_of roster past) e.thread e.call v z p is answers in
-    apart (same_Some v k.thread (sym h.is_sender ∙ ap (λ j. sender (facts_of roster past) j) (eqb-true z.call i same) ∙ k.is_sender)))))
+    given
+    (eq-eqb k.given.call i k.call)
+    (λ v z apart is. subst (λ j. eqb z.call j ≡ false) k.call (different_calls roster past e.thread e.call e.endings o v k.thread z k.given apart is given)))
 
 pub answered_to_sender : (roster : List Member) (past : Trace) → IsRoster roster → IsLawful roster past → AnsweredToSender roster past
 answered_to_sender roster [] r l = tt

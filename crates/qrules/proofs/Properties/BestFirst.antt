@@ -13,8 +13,7 @@ use Rattle.qrules.specs.Answer.{Outcome}
 use Rattle.qrules.specs.Headline.BestFirst.{BestFirst, TakesBest, takeable}
 use Rattle.qrules.specs.Headline.CopiedExactly.{call_at}
 use Rattle.qrules.specs.Lawful.{facts_of, IsLawful}
-use Rattle.qrules.specs.Past.{pending}
-use Rattle.qrules.specs.Step.{made_on}
+use Rattle.qrules.specs.Past.{pending, made_on}
 use Rattle.qrules.specs.Trace.{Event, Trace}
 use Rattle.qrules.specs.declared.call.Completion.{Completion}
 use Rattle.qbase.proofs.Lists.{eqb_same}

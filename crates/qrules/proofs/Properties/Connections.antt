@@ -10,10 +10,9 @@ use Rattle.qtables.specs.declared.member.Member.{Member}
 use Rattle.qrules.specs.Headline.BestFirst.{takeable}
 use Rattle.qrules.specs.Headline.CopiedExactly.{call_at}
 use Rattle.qrules.specs.Headline.SentOrder.{connection_of, sends_over}
-use Rattle.qrules.specs.Past.{item_of, pending, attached}
+use Rattle.qrules.specs.Past.{item_of, pending, attached, made_on}
 use Rattle.qrules.specs.Items.{makes}
 use Rattle.qrules.specs.Rows.{message_item, pulse_item, Made, sent_over}
-use Rattle.qrules.specs.Step.{made_on}
 use Rattle.qrules.specs.Trace.{Event, Trace}
 use Rattle.qrules.specs.declared.call.Call.{Call}
 use Rattle.qrules.specs.declared.call.Call.TheVariants.{ChannelCreate, ConnectAttach, Send, Receive, Reply, Error, Read, Write, Info, ReceivePulse, Pulse, PrioritySet, State, ChannelDestroy, Shutdown, Unblock, ConnectDetach}

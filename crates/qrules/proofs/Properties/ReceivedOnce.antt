@@ -1,5 +1,5 @@
 -- No item is received twice, none before it was made, and no call is ended twice.
-use Rattle.std.proofs.Common.{◌≡◌, ◌∙◌, ℕ, ◌+◌, ◌≤◌, List, [], ◌∷◌, ◌++◌, length, refl, ap, sym, subst, arith, cond, eqb, Bool, true, false, inl, inr}
+use Rattle.std.proofs.Common.{◌≡◌, ◌≢◌, ◌∙◌, ℕ, ◌+◌, ◌≤◌, List, [], ◌∷◌, ◌++◌, length, refl, ap, sym, subst, arith, cond, eqb, Bool, true, false, inl, inr}
 use Rattle.std.specs.Prelude.{Option, None, Some, is_some, ◌||◌}
 use Rattle.std.specs.List.{AllByRecursion, filter_map, cons_option, list_any}
 use Rattle.std.specs.Option.{option_map, option_to_list, option_or}
@@ -10,7 +10,7 @@ use Rattle.std.proofs.lemmas.Option.{none-some, same_Some, option_and_then_some}
 use Rattle.std.proofs.Math.Bool.{or-true}
 use Rattle.qtables.specs.declared.member.Member.{Member}
 use Rattle.qtables.specs.Members.{IsRoster}
-use Rattle.qrules.specs.Answer.{ending, Answers}
+use Rattle.qrules.specs.Answer.{ending, Answers, Outcome}
 use Rattle.qrules.specs.Facts.{Facts, threads_of}
 use Rattle.qrules.specs.Headline.ReceivedOnce.{AllDifferent, NoneEarly, ReceivedOnce, endings_of, calls_ended, item_received, items_received, is_made}
 use Rattle.qrules.specs.Lawful.{facts_of, IsLawful}
@@ -34,6 +34,24 @@ eqb_flip n m e = ne_eqb m n (λ same. eqb-false n m e (sym same))
 
 -- ---- no call is ended twice
 
+-- two threads' endings of one event are of different calls
+pub different_calls : (roster : List Member) (past : Trace) (t : ℕ) (c : Call) (X : List Completion) → Outcome true (facts_of roster past) t c X → (u v : ℕ) (y z : Completion) → u ≢ v
+    → ending (facts_of roster past) t c u ≡ Some y → ending (facts_of roster past) t c v ≡ Some z → eqb y.call z.call ≡ false
+different_calls roster past t c X a u v y z apart yis zis =
+    let f = facts_of roster past in
+    let laws = laws_of (facts_of roster past) t c X a in
+    elim (ending_names f t c u y laws yis) as (λ _. eqb y.call z.call ≡ false) [
+      | inl h ↦ elim (ending_names f t c v z laws zis) as (λ _. eqb y.call z.call ≡ false) [
+        | inl k ↦ absurd (apart (h.thread ∙ sym k.thread))
+        | inr k ↦ let below : z.call ≤ length past = other_below roster past v z k.names in ne_eqb y.call z.call (λ same. omega (arith, h.names.call))
+      ]
+      | inr h ↦ elim (ending_names f t c v z laws zis) as (λ _. eqb y.call z.call ≡ false) [
+        | inl k ↦ let below : y.call ≤ length past = other_below roster past u y h.names in ne_eqb y.call z.call (λ same. omega (arith, k.names.call))
+        | inr k ↦ ne_eqb y.call z.call (λ same.
+            apart (open_thread roster past u v h.names.waiting k.names.waiting h.names.is k.names.is (sym h.names.call ∙ same ∙ k.names.call)))
+      ]
+    ]
+
 -- the endings of one event are of different calls
 event_calls : (roster : List Member) (past : Trace) (t : ℕ) (c : Call) (X : List Completion) → IsRoster roster → Answers (facts_of roster past) t c X → AllDifferent (calls_ended X)
 event_calls roster past t c X r a = elim a [
@@ -41,21 +59,8 @@ event_calls roster past t c X r a = elim a [
       (different_kept (λ x. Some x.call) (ending (facts_of roster past) t c) roster r (λ u v i j less eu ev.
       option_and_then_some (λ (x : Completion). Some x.call) (ending (facts_of roster past) t c u) i eu (λ y yis yi.
       option_and_then_some (λ (x : Completion). Some x.call) (ending (facts_of roster past) t c v) j ev (λ z zis zj.
-      let f = facts_of roster past in
-      let laws = laws_of (facts_of roster past) t c X a in
-      let first : y.call ≡ i = same_Some y.call i yi in
-      let second : z.call ≡ j = same_Some z.call j zj in
-      elim (ending_names f t c u y laws yis) as (λ _. eqb i j ≡ false) [
-        | inl h ↦ elim (ending_names f t c v z laws zis) as (λ _. eqb i j ≡ false) [
-          | inl k ↦ absurd (omega (arith, h.thread, k.thread))
-          | inr k ↦ let below : z.call ≤ length past = other_below roster past v z k.names in ne_eqb i j (λ same. omega (arith, h.names.call))
-        ]
-        | inr h ↦ elim (ending_names f t c v z laws zis) as (λ _. eqb i j ≡ false) [
-          | inl k ↦ let below : y.call ≤ length past = other_below roster past u y h.names in ne_eqb i j (λ same. omega (arith, k.names.call))
-          | inr k ↦ ne_eqb i j (λ same.
-              let one : u ≡ v = open_thread roster past u v h.names.waiting k.names.waiting h.names.is k.names.is (sym h.names.call ∙ first ∙ same ∙ sym second ∙ k.names.call) in omega arith)
-        ]
-      ]))))
+      subst (λ n. eqb n j ≡ false) (same_Some y.call i yi) (subst (λ n. eqb y.call n ≡ false) (same_Some z.call j zj)
+      (different_calls roster past t c X a u v y z (λ same. omega arith) yis zis))))))
   | inr a ↦ rw (a.2) (tt, tt)
 ]
 

@@ -1,9 +1,11 @@
--- The receiver that began to wait last is one that waits, and there is one where any waits.
-use Rattle.std.proofs.Common.{◌≡◌, ℕ, List, [], ◌∷◌, refl, ap, sym, subst, ◌∙◌, cond, eqb, true, false, inl, inr}
-use Rattle.std.specs.Prelude.{Option, None, Some, is_some, ◌&&◌}
-use Rattle.std.specs.Option.{option_map}
-use Rattle.std.proofs.lemmas.Bool.{and_parts, eqb-true, cases_Bool, true≢false}
+-- The receiver that began to wait last: it waits, no other that waits began later, and there is one where any waits.
+use Rattle.std.proofs.Common.{◌≡◌, ◌<◌, ◌≤◌, ◌∙◌, ℕ, List, [], ◌∷◌, refl, ap, sym, subst, arith, cond, eqb, true, false, inl, inr}
+use Rattle.std.specs.Prelude.{Option, None, Some, is_some, ◌&&◌, ◌⊎◌, nat_lt, Bool}
+use Rattle.std.specs.List.{list_any}
+use Rattle.std.specs.Option.{option_map_or}
+use Rattle.std.proofs.lemmas.Bool.{and_parts, cases_Bool, eqb-true, le-ltb, lt-ltb, ltb-true, not-true, or_cases, or_parts, true≢false}
 use Rattle.std.proofs.lemmas.Option.{none-some, same_Some}
+use Rattle.std.proofs.Math.Bool.{or-true}
 use Rattle.qqueue.specs.Best.{may_take}
 use Rattle.qqueue.specs.declared.item.Item.{Item}
 use Rattle.qqueue.specs.declared.item.Kind.{Kind}
@@ -11,7 +13,7 @@ use Rattle.qrules.specs.declared.open_call.OpenCall.{OpenCall}
 use Rattle.qrules.specs.declared.open_call.Wait.{Wait}
 use Rattle.qrules.specs.declared.open_call.Wait.TheVariants.{Answer, Item as ForItem}
 use Rattle.qrules.specs.Facts.{Facts, threads_of}
-use Rattle.qrules.specs.Receivers.{is_later, wait_for, wait_on, later, later_of, newest_among, newest}
+use Rattle.qrules.specs.Receivers.{first_where, is_after, is_last, is_newest, newest, newest_among, wait_for, wait_on}
 use Rattle.qbase.proofs.Lists.{eqb_same, is_among}
 
 -- the open call waits for an item of channel h, and may take this one
@@ -36,63 +38,132 @@ wait_on_is : (h : ℕ) (item : Item) (call : Option OpenCall) (k : ℕ) → wait
 wait_on_is h item None k e = absurd (none-some k e)
 wait_on_is h item (Some o) k e = let w = wait_for_is h item o.number o.wait k e in record { waiting = o; kind = w.0; buffer = w.1; is_open = refl; waits = w.2; may = w.3 }
 
--- the best so far waits on h for such an item
-abbrev WaitsSoFar : (ℕ → Option OpenCall) → ℕ → Item → Option (ℕ × ℕ) → Type 0
-WaitsSoFar open_call h item None = Unit {0}
-WaitsSoFar open_call h item (Some b) = wait_on h item (open_call b.1) ≡ Some b.0
+-- the first number of which this is so is one of which it is so
+first_is : (p : ℕ → Bool) (ns : List ℕ) (u : ℕ) → first_where p ns ≡ Some u → p u ≡ true
+first_is p [] u e = absurd (none-some u e)
+first_is p (v ∷ ns) u e = elim (p v) as (λ b. p v ≡ b → cond b (Some v) (first_where p ns) ≡ Some u → p u ≡ true) [
+  | true ↦ λ is s. subst (λ w. p w ≡ true) (same_Some v u s) is
+  | false ↦ λ _ s. first_is p ns u s
+] refl e
 
-later_waits : (open_call : ℕ → Option OpenCall) (h : ℕ) (item : Item) (u : ℕ) (best : Option (ℕ × ℕ)) (o : Option ℕ) → wait_on h item (open_call u) ≡ o → WaitsSoFar open_call h item best → WaitsSoFar open_call h item (later best u o)
-later_waits open_call h item u best None e w = w
-later_waits open_call h item u best (Some m) e w = elim (is_later m best) as (λ b. WaitsSoFar open_call h item (cond b (Some (m, u)) best)) [ true ↦ e | false ↦ w ]
+-- it is among them
+first_among_them : (p : ℕ → Bool) (ns : List ℕ) (u : ℕ) → first_where p ns ≡ Some u → is_among ns u ≡ true
+first_among_them p [] u e = absurd (none-some u e)
+first_among_them p (v ∷ ns) u e = elim (p v) as (λ b. cond b (Some v) (first_where p ns) ≡ Some u → is_among (v ∷ ns) u ≡ true) [
+  | true ↦ λ s. rw (same_Some v u s, eqb_same u) refl
+  | false ↦ λ s. rw (first_among_them p ns u s) (or-true (eqb v u))
+] e
 
-newest_so_far : (open_call : ℕ → Option OpenCall) (h : ℕ) (item : Item) (ts : List ℕ) (best : Option (ℕ × ℕ)) → WaitsSoFar open_call h item best → WaitsSoFar open_call h item (newest_among open_call h item best ts)
-newest_so_far open_call h item [] best w = w
-newest_so_far open_call h item (u ∷ ts) best w = newest_so_far open_call h item ts (later_of h item best u (open_call u)) (later_waits open_call h item u best (wait_on h item (open_call u)) refl w)
+-- where it is so of one of them, there is a first
+first_there : (p : ℕ → Bool) (ns : List ℕ) (u : ℕ) → is_among ns u ≡ true → p u ≡ true → is_some (first_where p ns) ≡ true
+first_there p [] u a is = absurd (true≢false (sym a))
+first_there p (v ∷ ns) u a is = elim (cases_Bool (eqb v u)) [
+  | inl same ↦ let here : p v ≡ true = ap p (eqb-true v u same) ∙ is in rw here refl
+  | inr other ↦ elim (p v) as (λ b. is_some (cond b (Some v) (first_where p ns)) ≡ true) [ true ↦ refl | false ↦ first_there p ns u (rw other at a) is ]
+]
 
--- the one that is found waits for such an item with that call
-pub found_waits : (open_call : ℕ → Option OpenCall) (h : ℕ) (item : Item) (ts : List ℕ) (b : ℕ × ℕ) → newest_among open_call h item None ts ≡ Some b → wait_on h item (open_call b.1) ≡ Some b.0
-found_waits open_call h item ts b e = subst (WaitsSoFar open_call h item) e (newest_so_far open_call h item ts None tt)
+-- ---- calls that wait, by the number of each thread's, if it waits
+
+module _ (wait : ℕ → Option ℕ) where
+  -- one of these threads waits in a call later than m
+  abbrev pub any_after : ℕ → List ℕ → Bool
+  any_after m ts = list_any (λ v. is_after m (wait v)) ts
+
+  -- what is later than m is later than an earlier call
+  pub after_less : (n m : ℕ) (ts : List ℕ) → n ≤ m → any_after m ts ≡ true → any_after n ts ≡ true
+  after_less n m [] less e = absurd (true≢false (sym e))
+  after_less n m (v ∷ ts) less e = elim (or_cases (is_after m (wait v)) (any_after m ts) e) [
+    | inl here ↦ rw (after_one (wait v) here) refl
+    | inr rest ↦ rw (after_less n m ts less rest) (or-true (is_after n (wait v)))
+  ] where
+    after_one : (o : Option ℕ) → is_after m o ≡ true → is_after n o ≡ true
+    after_one None h = absurd (true≢false (sym h))
+    after_one (Some k) h = let later : m < k = ltb-true m k h in lt-ltb n k (omega arith)
+
+  -- with none later than n, none is later than a later call
+  none_after : (n m : ℕ) (ts : List ℕ) → n ≤ m → any_after n ts ≡ false → any_after m ts ≡ false
+  none_after n m ts less e = elim (any_after m ts) as (λ b. any_after m ts ≡ b → b ≡ false) [
+    | true ↦ λ some. absurd (true≢false (sym (after_less n m ts less some) ∙ e))
+    | false ↦ λ _. refl
+  ] refl
+
+  -- thread u waits in call m, and none of these in a later one
+  pub record Greatest (ts : List ℕ) : Type 0 where
+    pub thread : ℕ
+    pub call : ℕ
+    pub among : is_among ts thread ≡ true
+    pub waits : wait thread ≡ Some call
+    pub last : any_after call ts ≡ false
+
+  -- where none waits, none waits in a later call
+  unwaited : (m : ℕ) (ts : List ℕ) → list_any (λ v. is_some (wait v)) ts ≡ false → any_after m ts ≡ false
+  unwaited m [] e = refl
+  unwaited m (v ∷ ts) e = let p = or_parts (is_some (wait v)) (list_any (λ u. is_some (wait u)) ts) e in rw (unwaited_one (wait v) p.0, unwaited m ts p.1) refl where
+    unwaited_one : (o : Option ℕ) → is_some o ≡ false → is_after m o ≡ false
+    unwaited_one None h = refl
+    unwaited_one (Some k) h = absurd (true≢false h)
+
+  greatest_or_none : (ts : List ℕ) → (list_any (λ v. is_some (wait v)) ts ≡ false) ⊎ Greatest ts
+  greatest_or_none [] = inl refl
+  greatest_or_none (t ∷ ts) = elim (wait t) as (λ o. wait t ≡ o → (list_any (λ v. is_some (wait v)) (t ∷ ts) ≡ false) ⊎ Greatest (t ∷ ts)) [
+    | None ↦ λ is. elim (greatest_or_none ts) [
+      | inl none ↦ inl (rw (is, none) refl)
+      | inr g ↦ inr (record { thread = g.thread; call = g.call; among = rw (g.among) (or-true (eqb t g.thread)); waits = g.waits; last = rw (is, g.last) refl })
+    ]
+    | Some n ↦ λ is. inr (elim (greatest_or_none ts) [
+      | inl none ↦ record { thread = t; call = n; among = rw (eqb_same t) refl; waits = is; last = rw (is, ltb_irreflexive n, unwaited n ts none) refl }
+      | inr g ↦ elim (cases_Bool (nat_lt g.call n)) [
+        | inl later ↦
+            let less : g.call < n = ltb-true g.call n later in
+            record { thread = t; call = n; among = rw (eqb_same t) refl; waits = is; last = rw (is, ltb_irreflexive n, none_after g.call n ts (omega arith) g.last) refl }
+        | inr earlier ↦ record { thread = g.thread; call = g.call; among = rw (g.among) (or-true (eqb t g.thread)); waits = g.waits; last = rw (is, earlier, g.last) refl }
+      ]
+    ])
+  ] refl where
+    ltb_irreflexive : (k : ℕ) → nat_lt k k ≡ false
+    ltb_irreflexive k = le-ltb k k (omega arith)
+
+  -- where one waits, one waits in the greatest call
+  pub greatest : (ts : List ℕ) (u m : ℕ) → is_among ts u ≡ true → wait u ≡ Some m → Greatest ts
+  greatest ts u m a w = elim (greatest_or_none ts) [
+    | inl none ↦ absurd (true≢false (sym (waited ts a) ∙ none))
+    | inr g ↦ g
+  ] where
+    waited : (vs : List ℕ) → is_among vs u ≡ true → list_any (λ v. is_some (wait v)) vs ≡ true
+    waited [] b = absurd (true≢false (sym b))
+    waited (v ∷ vs) b = elim (or_cases (eqb v u) (is_among vs u) b) [
+      | inl same ↦ let here : is_some (wait v) ≡ true = ap (λ k. is_some (wait k)) (eqb-true v u same) ∙ ap is_some w in rw here refl
+      | inr rest ↦ rw (waited vs rest) (or-true (is_some (wait v)))
+    ]
+
+-- ---- the newest
+
+-- thread u waits for such an item in call m, and none of these in a later one
+pub record IsNewest (open_call : ℕ → Option OpenCall) (h : ℕ) (item : Item) (ts : List ℕ) (u m : ℕ) : Type 0 where
+  pub among : is_among ts u ≡ true
+  pub waits : wait_on h item (open_call u) ≡ Some m
+  pub last : any_after (λ v. wait_on h item (open_call v)) m ts ≡ false
+
+pub newest_parts : (open_call : ℕ → Option OpenCall) (h : ℕ) (item : Item) (ts : List ℕ) (u : ℕ) → newest_among open_call h item ts ≡ Some u → (m : ℕ) × IsNewest open_call h item ts u m
+newest_parts open_call h item ts u e =
+    elim (wait_on h item (open_call u)) as (λ o. wait_on h item (open_call u) ≡ o → option_map_or (is_last open_call h item ts) o false ≡ true → (m : ℕ) × IsNewest open_call h item ts u m) [
+      | None ↦ λ w s. absurd (true≢false (sym s))
+      | Some m ↦ λ w s. (m, record { among = first_among_them (is_newest open_call h item ts) ts u e; waits = w; last = not-true _ s })
+    ] refl (first_is (is_newest open_call h item ts) ts u e)
 
 -- the newest receiver waits on the channel
 pub newest_waits : (f : Facts) (h : ℕ) (item : Item) (r : ℕ) → newest f h item ≡ Some r → WaitsOn h item (f.open_call r)
-newest_waits f h item r e =
-    elim (newest_among f.open_call h item None (threads_of f.roster)) as (λ o. newest_among f.open_call h item None (threads_of f.roster) ≡ o → option_map (λ best. best.1) o ≡ Some r → WaitsOn h item (f.open_call r)) [
-      | None ↦ λ is s. absurd (none-some r s)
-      | Some b ↦ λ is s. subst (λ v. WaitsOn h item (f.open_call v)) (same_Some b.1 r s) (wait_on_is h item (f.open_call b.1) b.0 (found_waits f.open_call h item (threads_of f.roster) b is))
-    ] refl e
+newest_waits f h item r e = let n = newest_parts f.open_call h item (threads_of f.roster) r e in wait_on_is h item (f.open_call r) n.0 n.1.waits
 
--- ---- where one waits
-
-later_some : (best : Option (ℕ × ℕ)) (u : ℕ) (o : Option ℕ) → is_some best ≡ true → is_some (later best u o) ≡ true
-later_some best u None b = b
-later_some best u (Some m) b = elim (is_later m best) as (λ t. is_some (cond t (Some (m, u)) best) ≡ true) [ true ↦ refl | false ↦ b ]
-
-newest_some_from : (open_call : ℕ → Option OpenCall) (h : ℕ) (item : Item) (best : Option (ℕ × ℕ)) (threads : List ℕ) → is_some best ≡ true → is_some (newest_among open_call h item best threads) ≡ true
-newest_some_from open_call h item best [] b = b
-newest_some_from open_call h item best (u ∷ threads) b = newest_some_from open_call h item (later_of h item best u (open_call u)) threads (later_some best u (wait_on h item (open_call u)) b)
-
--- a thread that waits on the channel is later than nothing
-waiting_later : (best : Option (ℕ × ℕ)) (u m : ℕ) → is_some (later best u (Some m)) ≡ true
-waiting_later None u m = refl
-waiting_later (Some p) u m = elim (is_later m (Some p)) as (λ t. is_some (cond t (Some (m, u)) (Some p)) ≡ true) [ true ↦ refl | false ↦ refl ]
-
-waiting_on : (h : ℕ) (item : Item) (call : Option OpenCall) (w : WaitsOn h item call) → wait_on h item call ≡ Some w.waiting.number
+pub waiting_on : (h : ℕ) (item : Item) (call : Option OpenCall) (w : WaitsOn h item call) → wait_on h item call ≡ Some w.waiting.number
 waiting_on h item call w = rw (w.is_open, w.waits, eqb_same h, w.may) refl
 
-newest_some_among : (open_call : ℕ → Option OpenCall) (h : ℕ) (item : Item) (best : Option (ℕ × ℕ)) (threads : List ℕ) (u : ℕ) → is_among threads u ≡ true → WaitsOn h item (open_call u)
-    → is_some (newest_among open_call h item best threads) ≡ true
-newest_some_among open_call h item best [] u a w = absurd (true≢false (sym a))
-newest_some_among open_call h item best (v ∷ threads) u a w = elim (cases_Bool (eqb v u)) [
-  | inl same ↦
-      let at : wait_on h item (open_call v) ≡ Some w.waiting.number = ap (λ k. wait_on h item (open_call k)) (eqb-true v u same) ∙ waiting_on h item (open_call u) w in
-      newest_some_from open_call h item (later_of h item best v (open_call v)) threads (subst (λ o. is_some (later best v o) ≡ true) (sym at) (waiting_later best v w.waiting.number))
-  | inr other ↦ newest_some_among open_call h item (later_of h item best v (open_call v)) threads u (rw other at a) w
-]
-
 -- where a thread of the roster waits on the channel, there is a newest
+pub newest_there : (f : Facts) (h : ℕ) (item : Item) (u m : ℕ) → is_among (threads_of f.roster) u ≡ true → wait_on h item (f.open_call u) ≡ Some m → is_some (newest f h item) ≡ true
+newest_there f h item u m a w =
+    let ts = threads_of f.roster in
+    let g = greatest (λ v. wait_on h item (f.open_call v)) ts u m a w in
+    first_there (is_newest f.open_call h item ts) ts g.thread g.among (rw (g.waits, g.last) refl)
+
 pub newest_some : (f : Facts) (h : ℕ) (item : Item) (u : ℕ) → is_among (threads_of f.roster) u ≡ true → WaitsOn h item (f.open_call u) → is_some (newest f h item) ≡ true
-newest_some f h item u a w =
-    elim (newest_among f.open_call h item None (threads_of f.roster)) as (λ o. is_some o ≡ true → is_some (option_map (λ best. best.1) o) ≡ true) [
-      | None ↦ λ s. s
-      | Some p ↦ λ s. refl
-    ] (newest_some_among f.open_call h item None (threads_of f.roster) u a w)
+newest_some f h item u a w = newest_there f h item u w.waiting.number a (waiting_on h item (f.open_call u) w)

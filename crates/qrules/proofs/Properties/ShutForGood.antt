@@ -15,7 +15,7 @@ use Rattle.qrules.specs.Headline.AnsweredToSender.{channel_among}
 use Rattle.qrules.specs.Headline.BestFirst.{receives_on}
 use Rattle.qrules.specs.Headline.ShutForGood.{NoneBlockedOn, NoneReceivedFrom, ShutForGood}
 use Rattle.qrules.specs.Lawful.{facts_of, IsLawful}
-use Rattle.qrules.specs.Past.{attaches, connection_at, held_with, is_closed, items, open_call}
+use Rattle.qrules.specs.Past.{attached, attaches, connection_at, held_with, is_closed, items, open_call}
 use Rattle.qrules.specs.Items.{makes}
 use Rattle.qrules.specs.Rows.{asks, closes, names, with_buffer, writes, unblocks, detaches}
 use Rattle.qrules.specs.Step.{after_receipt, after_write, channel_after, connection_after, open_call_after, put_at, unless, after_unblock, unblocked_wait}
@@ -40,7 +40,7 @@ use Rattle.qrules.proofs.Properties.Receipts.{TakesOne}
 use Rattle.qrules.proofs.Properties.Sends.{item_channel, open_over}
 use Rattle.qrules.proofs.Past.Before.{Lasts, before_other, before_receipt, unless_is}
 use Rattle.qrules.proofs.Ways.{has_way, leads_over}
-use Rattle.qrules.proofs.Past.LiveSends.{stays_open}
+use Rattle.qrules.proofs.Past.LiveSends.{over_attached, stays_open}
 
 -- ---- by each call's row
 
@@ -267,9 +267,15 @@ none_received roster e past h l closed =
     each_received (λ x i. channel_among (items roster (e ∷ past)) i ≡ Some h → ⊥) roster past e.thread e.call e.endings l.2
     (λ u y i a k is. taken_is_open roster e past u i h y a k is (sym (closed_accepted roster e past h (accepted roster past e.thread e.call e.endings a)) ∙ closed))
 
+-- an open Send's connection is as it was attached
+on_attached : (roster : List Member) (past : Trace) (h : ℕ) (w : Wait) → (is_for_answer w ≡ true → connection_at roster past (over w) ≡ attached roster past (over w))
+    → is_on (λ k. attached roster past k) h w ≡ is_on (λ k. connection_at roster past k) h w
+on_attached roster past h (Answer coid message reply_buffer receipt) same = ap (is_to h) (sym (same refl))
+on_attached roster past h (ForItem chid kind buffer) same = refl
+
 none_blocked : (roster : List Member) (past : Trace) (h : ℕ) → IsRoster roster → IsLawful roster past → is_closed past h ≡ true → NoneBlockedOn roster past h
 none_blocked roster past h r l closed u o is =
-    elim (is_on (λ k. connection_at roster past k) h o.wait) as (λ b. is_on (λ k. connection_at roster past k) h o.wait ≡ b → b ≡ false) [
+    on_attached roster past h o.wait (over_attached roster past u o l is) ∙ elim (is_on (λ k. connection_at roster past k) h o.wait) as (λ b. is_on (λ k. connection_at roster past k) h o.wait ≡ b → b ≡ false) [
       | true ↦ λ on.
           let standing = (open_at roster past h (waits_on_open roster past r l u o h is on)).standing in
           absurd (true≢false (sym closed ∙ standing))

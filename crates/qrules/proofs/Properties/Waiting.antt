@@ -18,11 +18,11 @@ use Rattle.qrules.specs.Receiving.{receipt_of}
 use Rattle.qrules.specs.Facts.{Facts, sender, threads_of, way}
 use Rattle.qrules.specs.Headline.BestFirst.{receives_on}
 use Rattle.qrules.specs.Lawful.{facts_of, IsLawful}
-use Rattle.qrules.specs.Past.{held_with}
+use Rattle.qrules.specs.Past.{held_with, made_on}
 use Rattle.qrules.specs.Receivers.{newest}
 use Rattle.qrules.specs.Items.{makes}
 use Rattle.qrules.specs.Rows.{Made, Received, asks, closes, names, pulse_item, sent_over, takes, taking, with_buffer, writes, unblocks}
-use Rattle.qrules.specs.Step.{after_receipt, after_write, is_cut, left_by, made_on, open_call_after, pending_after, taken_out, unless, after_unblock, unblocked_wait}
+use Rattle.qrules.specs.Step.{after_receipt, after_write, is_cut, left_by, open_call_after, pending_after, taken_out, unless, after_unblock, unblocked_wait}
 use Rattle.qrules.specs.Trace.{Trace}
 use Rattle.qrules.specs.declared.call.Call.{Call}
 use Rattle.qrules.specs.declared.call.Call.TheVariants.{ChannelCreate, ConnectAttach, Send, Receive, Reply, Error, Read, Write, Info, ReceivePulse, Pulse, PrioritySet, State, ChannelDestroy, Shutdown, Unblock, ConnectDetach}

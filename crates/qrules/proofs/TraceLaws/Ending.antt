@@ -1,14 +1,14 @@
--- Whose calls end, and what ends after a channel is destroyed or the kernel is shut down.
-use Rattle.std.proofs.Common.{◌≡◌, ◌∙◌, ℕ, ◌+◌, ◌≤◌, [], ◌∷◌, length, refl, ap, sym, subst, arith, eqb, true, false, inl, inr}
-use Rattle.std.specs.Prelude.{Some}
-use Rattle.std.specs.List.{AllByRecursion}
+-- Whose calls end, in which order, and what ends after a channel is destroyed or the kernel is shut down.
+use Rattle.std.proofs.Common.{◌≡◌, ◌∙◌, ℕ, ◌+◌, ◌<◌, ◌≤◌, List, [], ◌∷◌, length, refl, ap, sym, subst, arith, eqb, true, false, inl, inr}
+use Rattle.std.specs.Prelude.{Option, None, Some}
+use Rattle.std.specs.List.{AllByRecursion, cons_option, filter_map}
 use Rattle.std.proofs.lemmas.Bool.{ne_eqb, true≢false}
 use Rattle.std.proofs.lemmas.Option.{none-some, same_Some}
 use Rattle.qbase.specs.declared.errno.Errno.{Errno}
 use Rattle.qbase.specs.declared.errno.Errno.TheVariants.{Down}
 use Rattle.qrules.specs.Answer.{ending, failed, refusal, MayRefuse}
 use Rattle.qrules.specs.Facts.{Facts, threads_of}
-use Rattle.qrules.specs.Laws.{EndingsNameOwnCalls, NothingFromDestroyed, OnlyRefusedWhenDown, thread_at}
+use Rattle.qrules.specs.Laws.{EndingsNameOwnCalls, EndingsRiseByThread, NothingFromDestroyed, OnlyRefusedWhenDown, RiseByThread, thread_at}
 use Rattle.qrules.specs.Lawful.{facts_of}
 use Rattle.qrules.specs.Past.{newest_block}
 use Rattle.qrules.specs.Trace.{Event, Trace}
@@ -16,6 +16,8 @@ use Rattle.qrules.specs.declared.call.Call.{Call}
 use Rattle.qrules.specs.declared.call.Completion.{Completion}
 use Rattle.qrules.specs.declared.open_call.OpenCall.{OpenCall}
 use Rattle.qrules.proofs.Past.Ends.{ending_names, laws_of, passes_of}
+use Rattle.qrules.proofs.Past.Laws.{RowLaws}
+use Rattle.qrules.proofs.Rosters.{Rises, rises}
 use Rattle.qbase.proofs.Lists.{all_filter_map, eqb_same}
 use Rattle.qrules.proofs.Past.Numbers.{block_below, open_parts}
 use Rattle.qrules.proofs.Properties.Sends.{begins_now}
@@ -39,6 +41,40 @@ only_refused_when_down roster past e r l down = elim (l.2) [
   | inl a ↦ absurd (true≢false (sym down ∙ (passes_of (facts_of roster past) e.thread e.call e.endings a).up))
   | inr a ↦ a.2 ∙ ap (λ errno. failed (facts_of roster past) e.thread e.call errno ∷ []) (down_refusal (facts_of roster past) e.thread e.call a.0 down a.1)
 ]
+
+-- ---- in rising thread number
+
+-- what is given to threads above n is of threads above n
+given_above : (g : ℕ → Option Completion) (n : ℕ) (ts : List ℕ) → ((u : ℕ) (y : Completion) → g u ≡ Some y → y.thread ≡ u) → AllByRecursion (λ u. n < u) ts → AllByRecursion (λ y. n < y.thread) (filter_map g ts)
+given_above g n [] names above = tt
+given_above g n (u ∷ ts) names above =
+    elim (g u) as (λ o. g u ≡ o → AllByRecursion (λ y. n < y.thread) (cons_option o (filter_map g ts))) [
+      | None ↦ λ is. given_above g n ts names above.1
+      | Some y ↦ λ is. (subst (λ k. n < k) (sym (names u y is)) above.0, given_above g n ts names above.1)
+    ] refl
+
+given_rise : (g : ℕ → Option Completion) (ts : List ℕ) → ((u : ℕ) (y : Completion) → g u ≡ Some y → y.thread ≡ u) → Rises ts → RiseByThread (filter_map g ts)
+given_rise g [] names r = tt
+given_rise g (u ∷ ts) names r =
+    elim (g u) as (λ o. g u ≡ o → RiseByThread (cons_option o (filter_map g ts))) [
+      | None ↦ λ is. given_rise g ts names r.1
+      | Some y ↦ λ is. (subst (λ k. AllByRecursion (λ (z : Completion). k < z.thread) (filter_map g ts)) (sym (names u y is)) (given_above g u ts names r.0), given_rise g ts names r.1)
+    ] refl
+
+-- an accepted call's endings go to the threads that get them
+pub ending_thread : (f : Facts) (t : ℕ) (c : Call) → RowLaws f t c → (u : ℕ) (y : Completion) → ending f t c u ≡ Some y → y.thread ≡ u
+ending_thread f t c laws u y e = elim (ending_names f t c u y laws e) [
+  | inl own ↦ own.names.thread ∙ sym own.thread
+  | inr other ↦ other.names.thread
+]
+
+pub endings_rise_by_thread : EndingsRiseByThread
+endings_rise_by_thread roster past e r l =
+    let f = facts_of roster past in
+    elim (l.2) [
+      | inl a ↦ subst RiseByThread (sym a.1) (given_rise (ending f e.thread e.call) (threads_of roster) (ending_thread f e.thread e.call (laws_of f e.thread e.call e.endings a)) (rises roster r))
+      | inr a ↦ subst RiseByThread (sym a.2) (tt, tt)
+    ]
 
 -- ---- whose calls end
 

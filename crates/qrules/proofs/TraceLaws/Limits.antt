@@ -16,10 +16,10 @@ use Rattle.qrules.specs.Pulses.{full, full_for, pulses_among}
 use Rattle.qrules.specs.Facts.{Facts, way}
 use Rattle.qrules.specs.Laws.{PulsesAreLimited}
 use Rattle.qrules.specs.Lawful.{facts_of}
-use Rattle.qrules.specs.Past.{pending}
+use Rattle.qrules.specs.Past.{pending, made_on}
 use Rattle.qrules.specs.Items.{makes}
 use Rattle.qrules.specs.Rows.{Received, closes, message_item, names, pulse_item, sent_over, Made}
-use Rattle.qrules.specs.Step.{is_cut, left_by, made_on, pending_after, taken_out}
+use Rattle.qrules.specs.Step.{is_cut, left_by, pending_after, taken_out}
 use Rattle.qrules.specs.Answer.{row_of}
 use Rattle.qrules.specs.declared.call.Call.{Call}
 use Rattle.qrules.specs.declared.call.Call.TheVariants.{ChannelCreate, ConnectAttach, Send, Receive, Reply, Error, Read, Write, Info, ReceivePulse, Pulse, PrioritySet, State, ChannelDestroy, Shutdown, Unblock, ConnectDetach}

@@ -23,7 +23,7 @@ use Rattle.qrules.proofs.Past.Rising.{pending_rises}
 -- ---- waits
 
 -- a wait for a reply is for an answer, and settled
-reply_parts : (w : Wait) → is_for_reply w ≡ true → (is_for_answer w ≡ true) × (is_settled w ≡ true)
+pub reply_parts : (w : Wait) → is_for_reply w ≡ true → (is_for_answer w ≡ true) × (is_settled w ≡ true)
 reply_parts (Answer coid message reply_buffer None) e = absurd (true≢false (sym e))
 reply_parts (Answer coid message reply_buffer (Some receipt)) e = (refl, refl)
 reply_parts (ForItem chid kind buffer) e = absurd (true≢false (sym e))

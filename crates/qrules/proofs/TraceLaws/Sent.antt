@@ -39,7 +39,7 @@ among_items p roster (e ∷ past) i m is passes =
 
 -- ---- what is taken stood on its channel
 
-taken_stands : (roster : List Member) (past : Trace) (e : Event) (x : Completion) (i : ℕ) (k : TakesBest roster past e x i) → (m : Made) × (item_at roster (e ∷ past) i ≡ Some m) × (m.item.number ≡ i) × (m.channel ≡ k.channel)
+pub taken_stands : (roster : List Member) (past : Trace) (e : Event) (x : Completion) (i : ℕ) (k : TakesBest roster past e x i) → (m : Made) × (item_at roster (e ∷ past) i ≡ Some m) × (m.item.number ≡ i) × (m.channel ≡ k.channel)
 taken_stands roster past e x i k =
     elim (best_of k.kind (takeable roster past e k.channel)) as (λ o. best_of k.kind (takeable roster past e k.channel) ≡ o → option_map (λ item. item.number) o ≡ Some i
     → (m : Made) × (item_at roster (e ∷ past) i ≡ Some m) × (m.item.number ≡ i) × (m.channel ≡ k.channel)) [

@@ -20,7 +20,7 @@ use Rattle.qrules.proofs.Properties.Messages.{block_stays}
 use Rattle.qrules.proofs.Properties.Sends.{begins_now, made_newest, made_stays}
 
 -- whether a call may wait is no matter of its number
-asks_any : (n : ℕ) (c : Call) → is_some (asks n c) ≡ is_some (asks 0 c)
+pub asks_any : (n : ℕ) (c : Call) → is_some (asks n c) ≡ is_some (asks 0 c)
 asks_any n (ChannelCreate flags) = refl
 asks_any n (ConnectAttach chid) = refl
 asks_any n (Send coid message reply_buffer) = refl
@@ -75,12 +75,12 @@ begun_newest e past t k = subst (λ u. newest_block (e ∷ past) u ≡ Some k.bl
 -- ---- the newest blocking call
 
 -- call i is the newest blocking call of thread t
-record IsBlock (past : Trace) (t i : ℕ) : Type 0 where
+pub record IsBlock (past : Trace) (t i : ℕ) : Type 0 where
   pub block : OpenCall
   pub is : newest_block past t ≡ Some block
   pub number : block.number ≡ i
 
-unended_newest : (roster : List Member) (past : Trace) (t i : ℕ) → IsLawful roster past → made_at blocker past i ≡ Some t → is_ended past i ≡ false → IsBlock past t i
+pub unended_newest : (roster : List Member) (past : Trace) (t i : ℕ) → IsLawful roster past → made_at blocker past i ≡ Some t → is_ended past i ≡ false → IsBlock past t i
 unended_newest roster [] t i l is going = absurd (none-some t is)
 unended_newest roster (e ∷ past) t i l is going =
     elim (eqb i (length past + 1)) as (λ b. eqb i (length past + 1) ≡ b → cond b (cond (is_accepted e past) (blocker e) None) (made_at blocker past i) ≡ Some t → IsBlock (e ∷ past) t i) [

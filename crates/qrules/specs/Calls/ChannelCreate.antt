@@ -1,5 +1,5 @@
 -- ChannelCreate: a new channel of the caller's process.
-use Rattle.std.specs.Prelude.{ℕ, ◌==◌, nat_lt, true, [], Option, None, Some, if◌then◌else◌}
+use Rattle.std.specs.Prelude.{ℕ, nat_lt, true, [], Option, None, Some, if◌then◌else◌}
 use Rattle.qbase.specs.declared.errno.Errno.{Errno}
 use Rattle.qbase.specs.declared.errno.Errno.TheVariants.{Inval, Again}
 use Rattle.qbase.specs.declared.flags.ChannelFlags.{ChannelFlags}
@@ -9,7 +9,7 @@ use Rattle.qrules.specs.Rows.{Row, ends_none}
 
 -- a flag that isn't one of the three, and then 64 open channels
 abbrev pub refusal : Facts → ChannelFlags → Option Errno
-refusal f flags = if nat_lt flags.0 8 then (if f.open_channels == 64 then Some Again else None) else Some Inval
+refusal f flags = if nat_lt flags.0 8 then (if nat_lt f.open_channels 64 then None else Some Again) else Some Inval
 
 -- its id is its number
 abbrev pub row : Facts → ℕ → ChannelFlags → Row

@@ -1,5 +1,5 @@
 -- ConnectAttach: a connection of the caller's process to an open channel.
-use Rattle.std.specs.Prelude.{ℕ, ◌==◌, is_some, true, [], Option, None, Some, if◌then◌else◌}
+use Rattle.std.specs.Prelude.{ℕ, nat_lt, is_some, true, [], Option, None, Some, if◌then◌else◌}
 use Rattle.qbase.specs.declared.errno.Errno.{Errno}
 use Rattle.qbase.specs.declared.errno.Errno.TheVariants.{Srch, Again}
 use Rattle.qrules.specs.declared.call.Mark.TheVariants as mark
@@ -8,7 +8,7 @@ use Rattle.qrules.specs.Rows.{Row, ends_none}
 
 -- no such channel, and then 1,024 live connections
 abbrev pub refusal : Facts → ℕ → Option Errno
-refusal f chid = if is_some (f.channel chid) then (if f.live_connections == 1024 then Some Again else None) else Some Srch
+refusal f chid = if is_some (f.channel chid) then (if nat_lt f.live_connections 1024 then None else Some Again) else Some Srch
 
 -- its id is its number
 abbrev pub row : Facts → ℕ → ℕ → Row

@@ -9,7 +9,7 @@ use Rattle.qrules.specs.declared.call.Completion.{Completion}
 use Rattle.qrules.specs.declared.call.Mark.TheVariants as mark
 use Rattle.qrules.specs.Cutting.{cuts, is_over}
 use Rattle.qrules.specs.Facts.{Facts, count_to, is_of_process, tells_disconnect}
-use Rattle.qrules.specs.Pulses.{full_for, told, told_receipt}
+use Rattle.qrules.specs.Pulses.{full_for, told, told_receipt, wants_room_for}
 use Rattle.qrules.specs.Rows.{Made, Row, disconnect_item}
 
 -- a connection, if it is one of process p to channel h
@@ -17,7 +17,7 @@ abbrev pub between : ℕ → ℕ → Option Connection → Option Connection
 between p h None = None
 between p h (Some c) = if (c.process == p) && (c.channel == h) then Some c else None
 
--- how many live connections process p has to channel h
+-- how many live connections process p has to channel h; none has a number above that of the call that is answered
 abbrev pub connections_between : Facts → ℕ → ℕ → ℕ
 connections_between f p h = count_to (λ k. between p h (f.connection k)) f.number
 
@@ -45,11 +45,11 @@ refusal f t k = if is_own f t (f.connection k) then full_for f (due f t k) else 
 abbrev pub ends : Facts → ℕ → Option Made → ℕ → Option Completion
 ends f k m u = option_or (cuts f (λ v. is_over k) Badf u) (told f m u)
 
--- it never blocks, and takes memory only for the pulse; that the connection is detached is read off the past calls
+-- it never blocks; memory is wanted only for a pulse that waits; that the connection is detached is read off the past calls
 abbrev pub row : Facts → ℕ → ℕ → Row
 row f t k = record {
   refusal = refusal f t k;
-  takes_memory = is_some (due f t k);
+  takes_memory = wants_room_for f (due f t k);
   own = Some (record { call = f.number; thread = t; mark = mark.Ok; buffer = [] });
   ends = ends f k (due f t k);
   receipt = told_receipt f (due f t k);

@@ -3,7 +3,7 @@ use Rattle.std.specs.Prelude.{ℕ, ℤ, pos, negsuc, Bool, true, false, [], Opti
 use Rattle.qbase.specs.declared.errno.Errno.{Errno}
 use Rattle.qbase.specs.declared.errno.Errno.TheVariants.{Badf, Inval}
 use Rattle.qrules.specs.declared.call.Mark.TheVariants as mark
-use Rattle.qrules.specs.Delivering.{receiver, meets, received_of}
+use Rattle.qrules.specs.Delivering.{receiver, meets, received_of, wants_room}
 use Rattle.qrules.specs.Facts.{Facts, way}
 use Rattle.qrules.specs.Pulses.{full}
 use Rattle.qrules.specs.Rows.{Row, pulse_item}
@@ -22,11 +22,11 @@ refusal_on f code (Some h) = if is_negative code then Some Inval else full f h
 abbrev pub refusal : Facts → ℕ → ℕ → ℤ → Option Errno
 refusal f t coid code = refusal_on f code (way f t coid)
 
--- it never blocks
+-- it never blocks; memory is wanted only for a pulse that waits
 abbrev pub row : Facts → ℕ → ℕ → ℕ → ℤ → ℤ → Row
 row f t coid priority code value = record {
   refusal = refusal f t coid code;
-  takes_memory = true;
+  takes_memory = wants_room f (pulse_item f.number priority code value) (way f t coid);
   own = Some (record { call = f.number; thread = t; mark = mark.Ok; buffer = [] });
   ends = meets f (pulse_item f.number priority code value) [] (receiver f (pulse_item f.number priority code value) (way f t coid));
   receipt = received_of f None (pulse_item f.number priority code value) [] (way f t coid) (receiver f (pulse_item f.number priority code value) (way f t coid));

@@ -1,9 +1,9 @@
 -- Send: a message to the receiver that began to wait last, or to the channel's pending items.
-use Rattle.std.specs.Prelude.{ℕ, is_some, true, List, Option, None, Some, if◌then◌else◌}
+use Rattle.std.specs.Prelude.{ℕ, is_some, List, Option, None, Some, if◌then◌else◌}
 use Rattle.qbase.specs.declared.errno.Errno.{Errno}
 use Rattle.qbase.specs.declared.errno.Errno.TheVariants.{Badf}
 use Rattle.qqueue.specs.declared.item.Item.{Item}
-use Rattle.qrules.specs.Delivering.{receiver, meets, received_of}
+use Rattle.qrules.specs.Delivering.{receiver, meets, received_of, wants_room}
 use Rattle.qrules.specs.Facts.{Facts, way}
 use Rattle.qrules.specs.Rows.{Row, message_item}
 
@@ -15,11 +15,11 @@ refusal f t coid = if is_some (way f t coid) then None else Some Badf
 abbrev pub item : Facts → ℕ → Item
 item f t = message_item f.number (f.priority t)
 
--- the sender is blocked until its message is answered
+-- the sender is blocked until its message is answered; memory is wanted only for a message that waits
 abbrev pub row : Facts → ℕ → ℕ → List ℕ → Row
 row f t coid message = record {
   refusal = refusal f t coid;
-  takes_memory = true;
+  takes_memory = wants_room f (item f t) (way f t coid);
   own = None;
   ends = meets f (item f t) message (receiver f (item f t) (way f t coid));
   receipt = received_of f (Some t) (item f t) message (way f t coid) (receiver f (item f t) (way f t coid));

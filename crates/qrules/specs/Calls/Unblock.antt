@@ -12,7 +12,7 @@ use Rattle.qrules.specs.declared.open_call.Wait.{Wait}
 use Rattle.qrules.specs.declared.open_call.Wait.TheVariants.{Answer, Item as ForItem}
 use Rattle.qrules.specs.Cutting.{cuts}
 use Rattle.qrules.specs.Facts.{Facts, is_fellow, tells_unblock}
-use Rattle.qrules.specs.Pulses.{full_for, told, told_receipt}
+use Rattle.qrules.specs.Pulses.{full_for, told, told_receipt, wants_room_for}
 use Rattle.qrules.specs.Rows.{Made, Row, unblock_item}
 
 -- the channel that the connection leads to, where that has the unblock flag
@@ -55,11 +55,11 @@ abbrev pub ends : Facts → ℕ → Option Made → ℕ → Option Completion
 ends f thread None u = cuts f (λ v wait. (v == thread) && not (is_some (guard f wait))) Intr u
 ends f thread (Some m) u = told f (Some m) u
 
--- it never blocks, and takes memory only for the pulse
+-- it never blocks; memory is wanted only for a pulse that waits
 abbrev pub row : Facts → ℕ → ℕ → Row
 row f t thread = record {
   refusal = refusal f t thread;
-  takes_memory = is_some (due f thread);
+  takes_memory = wants_room_for f (due f thread);
   own = Some (record { call = f.number; thread = t; mark = mark.Ok; buffer = [] });
   ends = ends f thread (due f thread);
   receipt = told_receipt f (due f thread);

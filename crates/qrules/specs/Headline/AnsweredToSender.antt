@@ -102,13 +102,13 @@ pub record AnswersIts (roster : List Member) (past : Trace) (e : Event) (x : Com
 abbrev pub EachAnswersIts : List Member → Trace → Event → Type 0
 EachAnswersIts roster past e = AllByRecursion (λ x. is_answer x.mark ≡ true → AnswersIts roster past e x) e.endings
 
--- how many of these endings answer message i
-abbrev pub answers_to : ℕ → List Completion → ℕ
-answers_to i endings = count_by (λ x. (x.call == i) && is_answer x.mark) endings
+-- how many of these endings are of call i
+abbrev pub endings_for : ℕ → List Completion → ℕ
+endings_for i endings = count_by (λ x. x.call == i) endings
 
--- an accepted call that answers a message has just one answer to it
+-- an accepted call that answers a message has just one ending of its Send
 abbrev pub AnswersOnce : Trace → Event → Type 0
-AnswersOnce past e = (i : ℕ) → answered_by e.call ≡ Some i → is_accepted e past ≡ true → answers_to i e.endings ≡ 1
+AnswersOnce past e = (i : ℕ) → answered_by e.call ≡ Some i → is_accepted e past ≡ true → endings_for i e.endings ≡ 1
 
 -- so it is in each event
 abbrev pub AnsweredToSender : List Member → Trace → Type 0

@@ -12,8 +12,7 @@ use Rattle.qrules.specs.declared.call.Call.TheVariants.{ChannelCreate, ConnectAt
 use Rattle.qrules.specs.declared.call.Completion.{Completion}
 use Rattle.qrules.specs.Headline.CopiedExactly.{call_at}
 use Rattle.qrules.specs.Headline.ReceivedOnce.{item_received}
-use Rattle.qrules.specs.Past.{pending, item_of}
-use Rattle.qrules.specs.Step.{made_on}
+use Rattle.qrules.specs.Past.{pending, item_of, made_on}
 use Rattle.qrules.specs.Trace.{Event, Trace}
 
 -- the channel that a call receives on, and what it may take

@@ -65,7 +65,7 @@ pub fn told_of_the_last_detach()
 pub fn disconnect_pulse_taken_at_once()
     ensures lawful { IsLawfulRun roster detached.taken_at_once }
     ensures first { EndsOnlySo roster detached.taken_at_once 6 }
-    ensures last { EndsOnlySoWithMemory roster detached.taken_at_once 9 }
+    ensures last { EndsOnlySo roster detached.taken_at_once 9 }
     ensures message_gone { EndsOnlySo roster detached.taken_at_once 10 }
 {}
 
@@ -87,7 +87,7 @@ pub fn other_channel_stays()
     ensures lawful { IsLawfulRun roster destroyed.others_stay }
     ensures destroyed { EndsOnlySo roster destroyed.others_stay 6 }
     ensures attached { EndsOnlySoWithMemory roster destroyed.others_stay 7 }
-    ensures pulse { EndsOnlySoWithMemory roster destroyed.others_stay 8 }
+    ensures pulse { EndsOnlySo roster destroyed.others_stay 8 }
 {}
 
 /// A blocked thread is busy until the kernel is shut down, and then every call is refused.

@@ -51,7 +51,7 @@ pub fn first_among_equals()
 pub fn waiting_receiver_takes_at_once()
     ensures lawful { IsLawfulRun roster waiting.events }
     ensures waits { EndsOnlySo roster waiting.events 3 }
-    ensures taken { EndsOnlySoWithMemory roster waiting.events 4 }
+    ensures taken { EndsOnlySo roster waiting.events 4 }
     ensures answered { EndsOnlySo roster waiting.events 5 }
 {}
 
@@ -59,7 +59,7 @@ pub fn waiting_receiver_takes_at_once()
 pub fn newest_receiver_takes()
     ensures lawful { IsLawfulRun roster receivers.newest }
     ensures waits { EndsOnlySo roster receivers.newest 4 }
-    ensures taken { EndsOnlySoWithMemory roster receivers.newest 5 }
+    ensures taken { EndsOnlySo roster receivers.newest 5 }
     ensures blocked { blocked_after roster receivers.newest ≡ receivers.still_waiting }
 {}
 

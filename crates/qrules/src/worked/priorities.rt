@@ -31,7 +31,7 @@ pub fn priority_left()
 /// A waiting server takes the priority of a pulse, and loses it as its priority is set.
 pub fn priority_given()
     ensures lawful { IsLawfulRun roster given.events }
-    ensures pulsed { EndsOnlySoWithMemory roster given.events 4 }
+    ensures pulsed { EndsOnlySo roster given.events 4 }
     ensures taken { EndsOnlySo roster given.events 5 }
     ensures set { EndsOnlySo roster given.events 6 }
     ensures told { EndsOnlySo roster given.events 7 }
@@ -47,7 +47,7 @@ pub fn priority_given()
 pub fn threads_states()
     ensures lawful { IsLawfulRun roster states.events }
     ensures receives { EndsOnlySo roster states.events 4 }
-    ensures taken { EndsOnlySoWithMemory roster states.events 5 }
+    ensures taken { EndsOnlySo roster states.events 5 }
     ensures waits_for_answer { EndsOnlySo roster states.events 6 }
     ensures waits_for_receipt { EndsOnlySo roster states.events 8 }
     ensures answered { EndsOnlySo roster states.events 9 }

@@ -47,8 +47,8 @@ pub fn pulses_alone()
 pub fn passed_over_by_message()
     ensures lawful { IsLawfulRun roster receivers.passed_over }
     ensures waits { EndsOnlySo roster receivers.passed_over 4 }
-    ensures message { EndsOnlySoWithMemory roster receivers.passed_over 5 }
-    ensures pulse { EndsOnlySoWithMemory roster receivers.passed_over 6 }
+    ensures message { EndsOnlySo roster receivers.passed_over 5 }
+    ensures pulse { EndsOnlySo roster receivers.passed_over 6 }
 {}
 
 /// An unblock pulse is sent once, and the client stays blocked until it is answered.
@@ -66,6 +66,6 @@ pub fn unblock_pulse_once()
 /// A server that waits takes an unblock pulse at once, and no second one.
 pub fn unblock_pulse_taken_at_once()
     ensures lawful { IsLawfulRun roster unblock_pulse.taken_at_once }
-    ensures first { EndsOnlySoWithMemory roster unblock_pulse.taken_at_once 8 }
+    ensures first { EndsOnlySo roster unblock_pulse.taken_at_once 8 }
     ensures second { EndsOnlySo roster unblock_pulse.taken_at_once 10 }
 {}

@@ -4,5 +4,5 @@ use Rattle.qqueue.proofs.list.append.Goals as goal
 
 pub returns-clause-rising : goal.returns-clause-rising
 returns-clause-rising c =
-    let behind : c.extend_from_slice.new.self.items ≡ c.args.items.now.items ++ c.args.item ∷ [] = search rules in
+    let behind : c.push_reserved.new.self.items ≡ c.args.items.now.items ++ c.args.item ∷ [] = search rules in
     rw behind (IsRising-push c.args.items.now.items c.args.item c.requires.rising c.requires.newest)

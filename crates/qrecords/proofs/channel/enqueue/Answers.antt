@@ -3,13 +3,13 @@ use Rattle.qrecords.specs.Channels.{waiting_on}
 use Rattle.qrecords.proofs.ChannelWrites.{sets_items, on_err}
 use Rattle.qrecords.proofs.channel.enqueue.Goals as goal
 
-pub returns-in_err-reserve-in-Some-clause-err : goal.returns-in_err-reserve-in-Some-clause-err
-returns-in_err-reserve-in-Some-clause-err c =
+pub returns-in_err-reserve-clause-err : goal.returns-in_err-reserve-clause-err
+returns-in_err-reserve-clause-err c =
     let there = sym c.in-Some.ensures.value in
     on_err c.from_residual.result (sets_items c.args.channels.now c.args.chid c.in-Some.channel.now c.reserve.new.self _ there (c.reserve.ensures.items ∙ sym (ap waiting_on there)))
 
-pub returns-in_ok-reserve-in-Some-clause-ok : goal.returns-in_ok-reserve-in-Some-clause-ok
-returns-in_ok-reserve-in-Some-clause-ok c =
+pub returns-clause-ok : goal.returns-clause-ok
+returns-clause-ok c =
     let there = sym c.in-Some.ensures.value in
     sets_items c.args.channels.now c.args.chid c.in-Some.channel.now c.push.new.self _ there
     (c.push.ensures.items ∙ ap (λ xs. xs ++ c.args.item ∷ []) (c.reserve.ensures.items ∙ sym (ap waiting_on there)))

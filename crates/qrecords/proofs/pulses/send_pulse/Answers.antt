@@ -1,14 +1,20 @@
-use Rattle.std.proofs.Common.{[], sym, ◌∙◌}
+use Rattle.std.proofs.Common.{[], ap, sym, subst, ◌∙◌}
+use Rattle.std.specs.Prelude.{List}
+use Rattle.qtables.specs.Members.{IsRoster}
+use Rattle.qrecords.specs.Threads.{members_of}
 use Rattle.qrecords.proofs.Receivers.{met_there, newest_receives, waits_open}
 use Rattle.qrecords.proofs.pulses.send_pulse.Goals as goal
 
 pub wake-call-requires : goal.wake-call-requires
 wake-call-requires c =
-    let newest = rw c.deref.ensures.value at (sym c.newest_receiver.ensures ∙ c.in-Some.is) in
-    waits_open c.args.chid _ _ _ (newest_receives c.args.threads.now.items c.args.chid c.args.item c.in-Some.newest c.requires.roster newest)
+    let roster : IsRoster (members_of c.deref.result.now) = rw (c.deref.ensures.value) c.requires.roster in
+    let newest = rw c.deref.ensures.value at (sym (c.newest_receiver.ensures roster) ∙ c.in-Some.is) in
+    let waits = newest_receives c.args.threads.now.items c.args.chid c.args.item c.in-Some.receiver newest in
+    waits_open c.args.chid waits.0 _ _ waits.1
 
 pub unreachable-requires : goal.unreachable-requires
 unreachable-requires c =
-    let newest = rw c.deref.ensures.value at (sym c.newest_receiver.ensures ∙ c.in-Some.is) in
-    let waits = newest_receives c.args.threads.now.items c.args.chid c.args.item c.in-Some.newest c.requires.roster newest in
-    met_there c.args.chid _ _ [] _ _ c.wake-call.result c.told.result waits c.wake-call.ensures.had c.told.ensures c.in_default-told.is
+    let roster : IsRoster (members_of c.deref.result.now) = rw (c.deref.ensures.value) c.requires.roster in
+    let newest = rw c.deref.ensures.value at (sym (c.newest_receiver.ensures roster) ∙ c.in-Some.is) in
+    let waits = newest_receives c.args.threads.now.items c.args.chid c.args.item c.in-Some.receiver newest in
+    met_there c.args.chid waits.0 _ [] _ _ c.wake-call.result c.told.result waits.1 c.wake-call.ensures.had c.told.ensures c.in_default-told.is

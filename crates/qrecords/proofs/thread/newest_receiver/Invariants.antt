@@ -1,6 +1,6 @@
 use Rattle.std.proofs.Common.{◌≡◌, drop}
 use Rattle.std.specs.Prelude.{None}
-use Rattle.qrecords.specs.Threads.{newest_by}
+use Rattle.qrecords.proofs.Receivers.{newest_by}
 use Rattle.qrecords.proofs.thread.newest_receiver.Given as goal
 
 abbrev pub invariant-loop-thread : goal.invariant-loop-thread

@@ -1,5 +1,6 @@
 use Rattle.std.proofs.Common.{◌≡◌, sym, ap, false, eqb, length, arith}
-use Rattle.std.proofs.lemmas.Bool.{ne_eqb}
+use Rattle.std.specs.Prelude.{nat_lt}
+use Rattle.std.proofs.lemmas.Bool.{lt-ltb}
 use Rattle.qkernel.proofs.Steps.Common.{sound_counted_alone, ids_below}
 use Rattle.qkernel.proofs.Steps.ChannelCreate.{step_created, sound_created, step_create_refused}
 use Rattle.qkernel.proofs.kernel.Kernel.channel_create.Goals as goal
@@ -22,7 +23,7 @@ returns c =
     let flags = sym c.if-not-is_known.ensures in
     elim c.match-create.branch [
       | in-Ok w ↦
-          let room : eqb (length c.self.inside.channels) 64 ≡ false = ne_eqb _ _ (λ e. omega (arith, w.in-Ok.ensures.room, e)) in
+          let room : nat_lt (length c.self.inside.channels) 64 ≡ true = lt-ltb (length c.self.inside.channels) 64 (omega (arith, w.in-Ok.ensures.room)) in
           rw (w.endings-is, ← c.self.view_is, w.in-Ok.ensures.ok) (step_created _ c.args.thread c.args.flags c.member_of.result c.new-2.result c.self.invariant (ap (λ q. q.items) c.new-2.ensures) _ known up free flags room w.end_own.ensures)
       | in-Err w ↦ rw (w.endings-is, ← c.self.view_is, w.in-Err.ensures.err)
           (step_create_refused _ c.args.thread c.args.flags w.in-Err.errno _ up free flags w.in-Err.ensures.error (rw w.new-in-Err.ensures at w.refuse-in-Err.ensures))

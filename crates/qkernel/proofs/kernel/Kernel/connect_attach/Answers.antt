@@ -1,6 +1,7 @@
 use Rattle.std.proofs.Common.{◌≡◌, sym, false, true, eqb, length, arith}
 use Rattle.std.specs.Prelude.{is_some}
-use Rattle.std.proofs.lemmas.Bool.{ne_eqb}
+use Rattle.std.specs.Prelude.{nat_lt}
+use Rattle.std.proofs.lemmas.Bool.{lt-ltb}
 use Rattle.qrecords.specs.Channels.{channel_in}
 use Rattle.qkernel.proofs.Steps.Common.{sound_counted_alone, up_to_below}
 use Rattle.qkernel.proofs.Steps.ConnectAttach.{step_attach_refused, step_attached, sound_attached}
@@ -24,7 +25,7 @@ returns c =
     let opens : is_some (channel_in c.self.inside.channels c.args.chid) ≡ true = sym c.if-not-is_open.ensures in
     elim c.match-create.branch [
       | in-Ok w ↦
-          let room : eqb (length c.self.inside.connections) 1024 ≡ false = ne_eqb _ _ (λ e. omega (arith, w.in-Ok.ensures.room, e)) in
+          let room : nat_lt (length c.self.inside.connections) 1024 ≡ true = lt-ltb (length c.self.inside.connections) 1024 (omega (arith, w.in-Ok.ensures.room)) in
           rw (w.endings-is, ← c.self.view_is, w.in-Ok.ensures.ok) (step_attached _ c.args.thread c.args.chid c.member_of.result c.self.invariant _ known up free opens room w.end_own.ensures)
       | in-Err w ↦ rw (w.endings-is, ← c.self.view_is, w.in-Err.ensures.err)
           (step_attach_refused _ c.args.thread c.args.chid w.in-Err.errno _ up free opens w.in-Err.ensures.error (rw w.new-in-Err.ensures at w.refuse-in-Err.ensures))

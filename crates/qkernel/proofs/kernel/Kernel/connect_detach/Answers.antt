@@ -71,9 +71,9 @@ returns-in-Err c =
     let pulsed = c.pulse_for-due.ensures ∙ ap (λ p. cond c.tells_detached-last.result (Some (disconnect_item (c.self.inside.made + 1) p c.member_of-process.result.process)) None) priority in
     let due = due_is _ c.args.thread c.args.coid c.member_of-process.result known up free c.in-Some.chid of c.tells_detached-last.result c.self.invariant c.tells_detached-last.ensures ∙ ap (made_for c.in-Some.chid) (sym pulsed) in
     let away = c.in-Err.ensures.err in
-    rw (← c.self.view_is) (step_turned_away _ c.args.thread (ConnectDetach c.args.coid) c.in-Some.chid c.in-Err.errno _ _ away.1 _
-    (detach_full _ c.args.thread c.args.coid c.member_of-process.result known up free c.in-Some.chid of d due away.0)
-    (detach_memory _ c.args.thread c.args.coid c.member_of-process.result known up free c.in-Some.chid of d due away.0) (rw c.new-in-Err.ensures at c.refuse-in-Err.ensures))
+    rw (← c.self.view_is) (step_turned_away _ c.args.thread (ConnectDetach c.args.coid) c.in-Some.chid away.item c.in-Err.errno _ _ away.away _
+    (detach_full _ c.args.thread c.args.coid c.member_of-process.result known up free c.in-Some.chid of d due (ap is_some away.is_due))
+    (detach_memory _ c.args.thread c.args.coid c.member_of-process.result known up free c.in-Some.chid of d due away.item away.is_due) (rw c.new-in-Err.ensures at c.refuse-in-Err.ensures))
 
 pub returns-in_default : goal.returns-in_default
 returns-in_default c =
@@ -83,7 +83,7 @@ returns-in_default c =
     rw (← c.self.view_is) (step_detach_refused _ c.args.thread c.args.coid c.member_of-process.result known up free _ (sym c.own_connection.ensures ∙ c.in_default.is) (rw c.new.ensures at c.refuse.ensures))
 
 pub invariant_of-self-in-Err : goal.invariant_of-self-in-Err
-invariant_of-self-in-Err c = sound_turned_away _ c.args.thread (ConnectDetach c.args.coid) c.in-Some.chid c.in-Err.errno _ _ c.in-Err.ensures.err.1 c.self.invariant
+invariant_of-self-in-Err c = sound_turned_away _ c.args.thread (ConnectDetach c.args.coid) c.in-Some.chid c.in-Err.ensures.err.item c.in-Err.errno _ _ c.in-Err.ensures.err.away c.self.invariant
 
 pub send_due-requires-clause-newest : goal.send_due-requires-clause-newest
 send_due-requires-clause-newest c =

@@ -3,7 +3,7 @@ use Rattle.std.specs.Prelude.{is_some}
 use Rattle.qtables.specs.Members.{member_at, IsRoster}
 use Rattle.qrecords.specs.Threads.{members_of}
 use Rattle.qrecords.proofs.Seats.{is_there}
-use Rattle.qkernel.proofs.Standing.{step_at_traces, steps_made}
+use Rattle.qkernel.proofs.Standing.{refused_leaves, step_at_traces, steps_made}
 use Rattle.qkernel.proofs.kernel.Kernel.dispatch.Goals as goal
 
 pub returns-in_default-clause-error : goal.returns-in_default-clause-error
@@ -22,6 +22,9 @@ returns-clause-event c =
     let known : is_some (member_at (members_of c.args.self.now.threads) c.args.thread) ≡ true = rw (← c.self.view_is) (sym (is_there c.args.thread c.self.inside.threads.items) ∙ some) in
     let roster : IsRoster (members_of c.args.self.now.threads) = rw (← c.self.view_is) c.self.invariant.roster in
     step_at_traces _ _ _ _ _ roster known c.perform.ensures
+
+pub returns-clause-refused : goal.returns-clause-refused
+returns-clause-refused c = refused_leaves _ _ _ _ _ c.perform.ensures
 
 pub returns-clause-ok : goal.returns-clause-ok
 returns-clause-ok c =

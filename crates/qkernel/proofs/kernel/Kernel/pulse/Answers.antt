@@ -13,7 +13,7 @@ use Rattle.qkernel.proofs.Steps.Told.{is_told, made_for}
 pub invariant_of-self-2 : goal.invariant_of-self-2
 invariant_of-self-2 c = elim c.match-send_pulse.branch [
   | in-Ok w ↦ sound_due _ c.in-Some.chid (Some _) _ _ w.in-Ok.met c.self.invariant (refl, refl) w.in-Ok.ensures.ok
-  | in-Err w ↦ sound_turned_away _ c.args.thread (Pulse c.args.coid c.args.priority c.args.code c.args.value) c.in-Some.chid w.in-Err.errno _ _ w.in-Err.ensures.err c.self.invariant
+  | in-Err w ↦ sound_turned_away _ c.args.thread (Pulse c.args.coid c.args.priority c.args.code c.args.value) c.in-Some.chid _ w.in-Err.errno _ _ w.in-Err.ensures.err c.self.invariant
 ]
 
 pub returns : goal.returns
@@ -33,7 +33,8 @@ returns c =
           (tells_pulse _ c.args.thread c.args.coid c.args.priority c.args.code c.args.value c.member_of-process.result c.in-Some.chid known up free found positive told.room) _ _ w.in-Ok.met told _ _
           (none_marked (Pulse c.args.coid c.args.priority c.args.code c.args.value) (made_for c.in-Some.chid (Some item)) _ refl) (rw w.own_ending-own.ensures at w.end_with.ensures))
       | in-Err w ↦
-          rw (w.endings-is, ← c.self.view_is) (step_turned_away _ c.args.thread (Pulse c.args.coid c.args.priority c.args.code c.args.value) c.in-Some.chid w.in-Err.errno _ _ w.in-Err.ensures.err _
+          let away = rw (to_z-of_z w8 c.args.code c.ranges.code, to_z-of_z w32 c.args.value c.ranges.value) at w.in-Err.ensures.err in
+          rw (w.endings-is, ← c.self.view_is) (step_turned_away _ c.args.thread (Pulse c.args.coid c.args.priority c.args.code c.args.value) c.in-Some.chid item w.in-Err.errno _ _ away _
           (pulse_full old c.args.thread c.args.coid c.args.priority c.args.code c.args.value c.member_of-process.result known up free c.in-Some.chid found positive)
           (pulse_memory old c.args.thread c.args.coid c.args.priority c.args.code c.args.value c.member_of-process.result known up free c.in-Some.chid found positive)
           (rw w.new-in-Err.ensures at w.refuse-in-Err.ensures))

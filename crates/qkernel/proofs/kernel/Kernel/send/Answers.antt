@@ -1,23 +1,27 @@
 use Rattle.std.proofs.Common.{sym, ap, ◌∙◌, Some, refl}
+use Rattle.qtables.specs.Members.{IsRoster}
 use Rattle.qrules.specs.Rows.{takes}
+use Rattle.qrecords.specs.Threads.{members_of}
 use Rattle.qrecords.proofs.Seats.{seat_kept}
 use Rattle.qrecords.proofs.Receivers.{newest_receives, taken_there, waits_among, waits_open}
-use Rattle.qkernel.proofs.Steps.Delivering.{newest_is, sound_with_item, sound_threads}
+use Rattle.qkernel.proofs.Steps.Delivering.{sound_with_item, sound_threads}
 use Rattle.qkernel.proofs.Steps.Send.{item, step_send_nowhere, step_send_waits, step_send_met}
 use Rattle.qkernel.proofs.kernel.Kernel.send.Goals as goal
 use Rattle.qkernel.proofs.kernel.Kernel.send.Goals.{in-None+in_default-enqueue, in-Some-newest_receiver+in-Some-taken}
 
 pub wake-call-requires : goal.wake-call-requires
 wake-call-requires c =
-    let newest = rw c.deref-3.ensures.value at (sym c.newest_receiver.ensures ∙ c.in-Some-newest_receiver.is) in
-    let waits = newest_receives _ c.in-Some.chid _ c.in-Some-newest_receiver.newest c.self.invariant.roster newest in
-    waits_open c.in-Some.chid _ _ _ waits
+    let roster : IsRoster (members_of c.deref-3.result.now) = rw (c.deref-3.ensures.value) c.self.invariant.roster in
+    let newest = rw c.deref-3.ensures.value at (sym (c.newest_receiver.ensures roster) ∙ c.in-Some-newest_receiver.is) in
+    let waits = newest_receives _ c.in-Some.chid _ c.in-Some-newest_receiver.receiver newest in
+    waits_open c.in-Some.chid waits.0 _ _ waits.1
 
 pub unreachable-requires : goal.unreachable-requires
 unreachable-requires c =
-    let newest = rw c.deref-3.ensures.value at (sym c.newest_receiver.ensures ∙ c.in-Some-newest_receiver.is) in
-    let waits = newest_receives _ c.in-Some.chid _ c.in-Some-newest_receiver.newest c.self.invariant.roster newest in
-    taken_there c.in-Some.chid _ _ _ _ _ c.wake-call.result c.taken.result waits c.wake-call.ensures.had c.taken.ensures.ended c.in_default-taken.is
+    let roster : IsRoster (members_of c.deref-3.result.now) = rw (c.deref-3.ensures.value) c.self.invariant.roster in
+    let newest = rw c.deref-3.ensures.value at (sym (c.newest_receiver.ensures roster) ∙ c.in-Some-newest_receiver.is) in
+    let waits = newest_receives _ c.in-Some.chid _ c.in-Some-newest_receiver.receiver newest in
+    taken_there c.in-Some.chid waits.0 _ _ _ _ c.wake-call.result c.taken.result waits.1 c.wake-call.ensures.had c.taken.ensures.ended c.in_default-taken.is
 
 pub block-requires : goal.block-requires
 block-requires c =
@@ -52,23 +56,24 @@ returns c =
     let known = rw c.deref.ensures.value at c.member_of.ensures in
     let found = sym c.way.ensures ∙ c.in-Some.is in
     let priority = rw c.deref-2.ensures.value at c.level_of-priority.ensures in
+    let roster : IsRoster (members_of c.deref-3.result.now) = rw (c.deref-3.ensures.value) c.self.invariant.roster in
     elim c.match-newest_receiver.branch [
       | in-None+in_default-enqueue w ↦
-          let nobody = rw (c.deref-3.ensures.value, priority) at (sym c.newest_receiver.ensures ∙ w.in-None.is) in
+          let nobody = rw (c.deref-3.ensures.value, priority) at (sym (c.newest_receiver.ensures roster) ∙ w.in-None.is) in
           let opens = rw (w.receipt-is, w.self-inside-is) at c.block.ensures in
           let sets = rw priority at w.in_default-enqueue.ensures.ok in
           rw (w.self-inside-is, w.endings-is, ← c.self.view_is)
           (step_send_waits _ c.args.thread c.args.coid c.args.message c.args.reply_buffer c.member_of.result c.in-Some.chid c.self.invariant known up free found _ _ _ nobody opens sets c.requires.none)
       | in-Some-newest_receiver+in-Some-taken w ↦
           let opens = rw (w.receipt-is, w.self-inside-is) at c.block.ensures in
-          let newest = rw (c.deref-3.ensures.value, priority) at (sym c.newest_receiver.ensures ∙ w.in-Some-newest_receiver.is) in
-          let receiver = w.in-Some-newest_receiver.newest in
-          let waits = newest_receives _ c.in-Some.chid _ receiver c.self.invariant.roster newest in
-          let ended = rw priority at w.in-Some-taken.ensures.ended ∙ ap (takes (item _ c.args.thread c.args.coid c.args.message c.args.reply_buffer c.member_of.result c.in-Some.chid c.self.invariant known up free found) c.args.message receiver.1) w.wake-call.ensures.had in
+          let newest = rw (c.deref-3.ensures.value, priority) at (sym (c.newest_receiver.ensures roster) ∙ w.in-Some-newest_receiver.is) in
+          let receiver = w.in-Some-newest_receiver.receiver in
+          let waits = newest_receives _ c.in-Some.chid _ receiver newest in
+          let ended = rw priority at w.in-Some-taken.ensures.ended ∙ ap (takes (item _ c.args.thread c.args.coid c.args.message c.args.reply_buffer c.member_of.result c.in-Some.chid c.self.invariant known up free found) c.args.message receiver) w.wake-call.ensures.had in
           let sets = rw priority at opens in
           let wakes = rw (w.carried-level.ensures, priority) at w.wake-call.ensures.after in
           rw (w.self-inside-is, w.endings-is, ← c.self.view_is)
           (step_send_met _ c.args.thread c.args.coid c.args.message c.args.reply_buffer c.member_of.result c.in-Some.chid c.self.invariant known up free found
-          receiver.1 w.in-Some-taken.met.0 w.in-Some-taken.met.1 (newest_is _ c.in-Some.chid _ (Some receiver) c.self.invariant newest) (waits_among c.in-Some.chid _ _ _ receiver.1 waits) (sym ended) w.in-Some-taken.ensures.copied
+          receiver w.in-Some-taken.met.0 w.in-Some-taken.met.1 newest (waits_among c.in-Some.chid _ waits.0 _ receiver waits.1) (sym ended) w.in-Some-taken.ensures.copied
           w.wake-call.new.threads.items _ _ wakes sets w.end_one.ensures)
     ]

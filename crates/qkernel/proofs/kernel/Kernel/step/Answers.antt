@@ -5,7 +5,7 @@ use Rattle.qtables.specs.Members.{IsRoster}
 use Rattle.qrecords.specs.Threads.{members_of}
 use Rattle.qkernel.proofs.Room.{steps_room}
 use Rattle.qrecords.proofs.Seats.{is_there}
-use Rattle.qkernel.proofs.Standing.{step_at_traces}
+use Rattle.qkernel.proofs.Standing.{refused_leaves, step_at_traces}
 use Rattle.qkernel.proofs.kernel.Kernel.step.Goals as goal
 
 pub unreachable-requires : goal.unreachable-requires
@@ -17,6 +17,9 @@ pub returns-clause-event : goal.returns-clause-event
 returns-clause-event c =
     let roster : IsRoster (members_of c.args.self.now.threads) = rw (← c.self.view_is) c.self.invariant.roster in
     step_at_traces _ _ _ _ _ roster c.requires.known c.perform.ensures
+
+pub returns-clause-refused : goal.returns-clause-refused
+returns-clause-refused c = refused_leaves _ _ _ _ _ c.perform.ensures
 
 pub returns-clause-room : goal.returns-clause-room
 returns-clause-room c =

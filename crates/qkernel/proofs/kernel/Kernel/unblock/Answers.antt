@@ -65,7 +65,7 @@ invariant_of-self-in-Ok c =
     sound_kept _ _ c.mark_unblocked.ensures.members (sound_due _ c.in-Some-guarded.guarded.1 (Some c.pulse_for-pulse.result) _ _ c.in-Ok.met c.self.invariant new c.in-Ok.ensures.ok)
 
 pub invariant_of-self-in-Err-1 : goal.invariant_of-self-in-Err-1
-invariant_of-self-in-Err-1 c = sound_turned_away _ c.args.thread (Unblock c.args.target) c.in-Some-guarded.guarded.1 c.in-Err.errno _ _ c.in-Err.ensures.err c.self.invariant
+invariant_of-self-in-Err-1 c = sound_turned_away _ c.args.thread (Unblock c.args.target) c.in-Some-guarded.guarded.1 c.pulse_for-pulse.result c.in-Err.errno _ _ c.in-Err.ensures.err c.self.invariant
 
 pub returns-in-Ok : goal.returns-in-Ok
 returns-in-Ok c =
@@ -91,6 +91,6 @@ returns-in-Err c =
     let guards = rw c.deref-3.ensures.value at (sym c.guarded.ensures ∙ c.in-Some-guarded.is) in
     let g = c.in-Some-guarded.guarded in
     let pulse = c.pulse_for-pulse.result in
-    rw (← c.self.view_is) (step_turned_away _ c.args.thread (Unblock c.args.target) g.1 c.in-Err.errno _ _ c.in-Err.ensures.err _
+    rw (← c.self.view_is) (step_turned_away _ c.args.thread (Unblock c.args.target) g.1 pulse c.in-Err.errno _ _ c.in-Err.ensures.err _
     (unblock_full _ c.args.thread c.args.target c.member_of-process.result c.self.invariant known up free fellow g guards c.if-held.false pulse c.pulse_for-pulse.ensures)
     (unblock_memory _ c.args.thread c.args.target c.member_of-process.result c.self.invariant known up free fellow g guards c.if-held.false pulse c.pulse_for-pulse.ensures) (rw c.new-in-Err.ensures at c.refuse-in-Err.ensures))

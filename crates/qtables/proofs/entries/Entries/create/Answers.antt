@@ -1,5 +1,5 @@
-use Rattle.std.proofs.Common.{◌<◌, length-append, ◌∷◌, [], length, arith}
-use Rattle.std.proofs.lemmas.Bool.{eq-eqb, ne_eqb}
+use Rattle.std.proofs.Common.{◌<◌, length-append, ◌∷◌, [], length, refl, arith}
+use Rattle.std.proofs.lemmas.Bool.{le-ltb, lt-ltb}
 use Rattle.std.proofs.lemmas.List.Quantifiers.{all_pairs_push}
 use Rattle.qtables.proofs.Numbered.{length_entries, append-zip, below_new}
 use Rattle.qtables.proofs.entries.Entries.create.Goals as goal
@@ -7,12 +7,12 @@ use Rattle.qtables.proofs.entries.Entries.create.Goals as goal
 pub returns-then-len-limit-clause-error : goal.returns-then-len-limit-clause-error
 returns-then-len-limit-clause-error g c =
     let long = length_entries c.self.inside.numbers.items c.self.inside.records.items c.args.self.now c.self.view_is c.self.invariant.1 in
-    rw (eq-eqb (length c.args.self.now) c.args.limit (omega (arith, long, c.self.inside.numbers.ok.0)))
+    rw (le-ltb (length c.args.self.now) c.args.limit (omega (arith, long, c.self.inside.numbers.ok.0))) refl
 
 pub returns-then-is_err-clause-error : goal.returns-then-is_err-clause-error
 returns-then-is_err-clause-error g c =
     let long = length_entries c.self.inside.numbers.items c.self.inside.records.items c.args.self.now c.self.view_is c.self.invariant.1 in
-    rw (ne_eqb (length c.args.self.now) c.args.limit (λ e. omega (arith, e, long, c.self.inside.numbers.ok.0)))
+    rw (lt-ltb (length c.args.self.now) c.args.limit (omega (arith, long, c.self.inside.numbers.ok.0))) refl
 
 pub invariant_of-self-2 : goal.invariant_of-self-2
 invariant_of-self-2 g c =
