@@ -83,14 +83,15 @@ step_at_traces old t c X new rises known step roster past lawful stands =
 pub steps_roster : (old : State) (t : ℕ) (c : Call) (X : List Completion) (new : State) → Steps old t c X new → members_of new.threads ≡ members_of old.threads
 steps_roster old t c X new step = step.1.follows.roster
 
+-- the ending is no failure of thread t
+abbrev IsNoFailureOf : ℕ → Completion → Type 0
+IsNoFailureOf t x = x.thread ≡ t → is_failure x.mark ≡ true → ⊥
+
 -- an accepted call's own ending is no failure, and its others go to other threads
 passed_unfailed : (f : Facts) (t : ℕ) (c : Call) (X : List Completion) → Outcome true f t c X → (e : Errno) → X ≡ failed f t c e ∷ [] → ⊥
-passed_unfailed f t c X a e is = (subst (AllByRecursion P) (sym a.1 ∙ is) others).0 refl refl where
-  abbrev P : Completion → Type 0
-  P x = x.thread ≡ t → is_failure x.mark ≡ true → ⊥
-
-  others : AllByRecursion P (filter_map (ending f t c) (threads_of f.roster))
-  others = all_filter_map P (ending f t c) (threads_of f.roster) (λ v y given.
+passed_unfailed f t c X a e is = (subst (AllByRecursion (IsNoFailureOf t)) (sym a.1 ∙ is) others).0 refl refl where
+  others : AllByRecursion (IsNoFailureOf t) (filter_map (ending f t c) (threads_of f.roster))
+  others = all_filter_map (IsNoFailureOf t) (ending f t c) (threads_of f.roster) (λ v y given.
       elim (ending_names f t c v y (laws_of f t c X a) given) [
         | inl own ↦ λ _ failure. true≢false (sym failure ∙ own.names.mark)
         | inr other ↦ λ at _. eqb-false v t other.thread (sym other.names.thread ∙ at)

@@ -1,5 +1,5 @@
 use Rattle.std.proofs.Common.{◌+◌, ap, sym, ◌∙◌, cond}
-use Rattle.std.specs.Prelude.{None, Some}
+use Rattle.std.specs.Prelude.{None, Some, is_some}
 use Rattle.qrules.specs.Rows.{disconnect_item}
 use Rattle.qkernel.proofs.Steps.Common.{up_to_below}
 use Rattle.qrecords.specs.Endings.{inserted_if}

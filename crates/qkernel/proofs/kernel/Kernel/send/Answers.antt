@@ -5,7 +5,7 @@ use Rattle.qrecords.specs.Threads.{members_of}
 use Rattle.qrecords.proofs.Seats.{seat_kept}
 use Rattle.qrecords.proofs.Receivers.{newest_receives, taken_there, waits_among, waits_open}
 use Rattle.qkernel.proofs.Steps.Delivering.{sound_with_item, sound_threads}
-use Rattle.qkernel.proofs.Steps.Send.{item, step_send_nowhere, step_send_waits, step_send_met}
+use Rattle.qkernel.proofs.Steps.Send.{item, step_send_no_memory, step_send_nowhere, step_send_waits, step_send_met}
 use Rattle.qkernel.proofs.kernel.Kernel.send.Goals as goal
 use Rattle.qkernel.proofs.kernel.Kernel.send.Goals.{in-None+in_default-enqueue, in-Some-newest_receiver+in-Some-taken}
 
@@ -45,15 +45,27 @@ pub returns-in_default : goal.returns-in_default
 returns-in_default c =
     let up = rw (← c.self.view_is) at c.requires.up in
     let free = rw (← c.self.view_is) at c.requires.free in
-    let known = rw c.deref.ensures.value at c.member_of.ensures in
+    let known = rw c.deref.ensures.value at c.member_of-process.ensures in
     let found = sym c.way.ensures ∙ c.in_default.is in
-    rw (← c.self.view_is) (step_send_nowhere _ c.args.thread c.args.coid c.args.message c.args.reply_buffer c.member_of.result _ known up free found c.refuse.ensures)
+    rw (← c.self.view_is) (step_send_nowhere _ c.args.thread c.args.coid c.args.message c.args.reply_buffer c.member_of-process.result _ known up free found c.refuse.ensures)
+
+pub returns-in-Err : goal.returns-in-Err
+returns-in-Err c =
+    let up = rw (← c.self.view_is) at c.requires.up in
+    let free = rw (← c.self.view_is) at c.requires.free in
+    let known = rw c.deref.ensures.value at c.member_of-process.ensures in
+    let found = sym c.way.ensures ∙ c.in-Some.is in
+    let priority = rw c.deref-2.ensures.value at c.level_of-priority.ensures in
+    let roster : IsRoster (members_of c.deref-3.result.now) = rw (c.deref-3.ensures.value) c.self.invariant.roster in
+    let nobody = rw (c.deref-3.ensures.value, priority) at (sym (c.newest_receiver.ensures roster) ∙ c.in-None.is) in
+    rw (← c.self.view_is)
+    (step_send_no_memory _ c.args.thread c.args.coid c.args.message c.args.reply_buffer c.member_of-process.result c.in-Some.chid _ c.in-Err.errno _ known up free found c.in-Err.ensures.error nobody c.in-Err.ensures.err c.refuse-in-Err.ensures)
 
 pub returns : goal.returns
 returns c =
     let up = rw (← c.self.view_is) at c.requires.up in
     let free = rw (← c.self.view_is) at c.requires.free in
-    let known = rw c.deref.ensures.value at c.member_of.ensures in
+    let known = rw c.deref.ensures.value at c.member_of-process.ensures in
     let found = sym c.way.ensures ∙ c.in-Some.is in
     let priority = rw c.deref-2.ensures.value at c.level_of-priority.ensures in
     let roster : IsRoster (members_of c.deref-3.result.now) = rw (c.deref-3.ensures.value) c.self.invariant.roster in
@@ -63,17 +75,17 @@ returns c =
           let opens = rw (w.receipt-is, w.self-inside-is) at c.block.ensures in
           let sets = rw priority at w.in_default-enqueue.ensures.ok in
           rw (w.self-inside-is, w.endings-is, ← c.self.view_is)
-          (step_send_waits _ c.args.thread c.args.coid c.args.message c.args.reply_buffer c.member_of.result c.in-Some.chid c.self.invariant known up free found _ _ _ nobody opens sets c.requires.none)
+          (step_send_waits _ c.args.thread c.args.coid c.args.message c.args.reply_buffer c.member_of-process.result c.in-Some.chid c.self.invariant known up free found _ _ _ nobody opens sets c.requires.none)
       | in-Some-newest_receiver+in-Some-taken w ↦
           let opens = rw (w.receipt-is, w.self-inside-is) at c.block.ensures in
           let newest = rw (c.deref-3.ensures.value, priority) at (sym (c.newest_receiver.ensures roster) ∙ w.in-Some-newest_receiver.is) in
           let receiver = w.in-Some-newest_receiver.receiver in
           let waits = newest_receives _ c.in-Some.chid _ receiver newest in
-          let ended = rw priority at w.in-Some-taken.ensures.ended ∙ ap (takes (item _ c.args.thread c.args.coid c.args.message c.args.reply_buffer c.member_of.result c.in-Some.chid c.self.invariant known up free found) c.args.message receiver) w.wake-call.ensures.had in
+          let ended = rw priority at w.in-Some-taken.ensures.ended ∙ ap (takes (item _ c.args.thread c.args.coid c.args.message c.args.reply_buffer c.member_of-process.result c.in-Some.chid c.self.invariant known up free found) c.args.message receiver) w.wake-call.ensures.had in
           let sets = rw priority at opens in
           let wakes = rw (w.carried-level.ensures, priority) at w.wake-call.ensures.after in
           rw (w.self-inside-is, w.endings-is, ← c.self.view_is)
-          (step_send_met _ c.args.thread c.args.coid c.args.message c.args.reply_buffer c.member_of.result c.in-Some.chid c.self.invariant known up free found
+          (step_send_met _ c.args.thread c.args.coid c.args.message c.args.reply_buffer c.member_of-process.result c.in-Some.chid c.self.invariant known up free found
           receiver w.in-Some-taken.met.0 w.in-Some-taken.met.1 newest (waits_among c.in-Some.chid _ waits.0 _ receiver waits.1) (sym ended) w.in-Some-taken.ensures.copied
           w.wake-call.new.threads.items _ _ wakes sets w.end_one.ensures)
     ]
