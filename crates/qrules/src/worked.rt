@@ -6,3 +6,4 @@ pub mod messages;
 pub mod priorities;
 pub mod pulses;
 pub mod refusals;
+pub mod three_processes;
