@@ -28,3 +28,4 @@ pub mod AllFlags
 pub mod LastOfAProcess
 pub mod Overwritten
 pub mod LaterPriority
+pub mod Broken
