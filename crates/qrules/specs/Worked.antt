@@ -23,6 +23,7 @@ pub mod Refusals
 pub mod OthersMessages
 pub mod RefusedPulses
 pub mod Limits
+pub mod Counted
 pub mod ThreeProcesses
 pub mod AllFlags
 pub mod LastOfAProcess
