@@ -14,18 +14,19 @@ use Rattle.qrules.specs.Worked.ThreeProcesses.{attached}
 -- message's priority, and is received after the answer
 abbrev pub held : List Event
 held = attached (
-    event 43 (Send 2 (replicate 8 0xaa) (replicate 9 0x00)) []
-    ∷ event 35 (Receive 1 (replicate 6 0x00)) (ended 5 35 (mark.Message 4 6) (replicate 6 0xaa) ∷ [])
-    ∷ event 35 (State 35) (ended 6 35 (mark.State Ready 17) [] ∷ [])
-    ∷ event 42 (PrioritySet 43 33) (ended 7 42 mark.Ok [] ∷ [])
-    ∷ event 42 (PrioritySet 42 38) (ended 8 42 mark.Ok [] ∷ [])
-    ∷ event 31 (Info 4) (ended 9 31 (mark.Info (record { process = 152; thread = 43; connection = 2; msglen = 6; srcmsglen = 8; dstmsglen = 9; priority = 23 })) [] ∷ [])
-    ∷ event 42 (Unblock 43) (ended 10 42 mark.Ok [] ∷ [])
-    ∷ event 35 (State 43) (ended 11 35 (mark.State (ReplyBlocked 1) 33) [] ∷ [])
-    ∷ event 31 (Reply 4 (pos 61) []) (ended 12 31 mark.Ok [] ∷ ended 4 43 (mark.Replied (pos 61) 0) (replicate 9 0x00) ∷ [])
-    ∷ event 31 (ReceivePulse 1) (ended 13 31 (mark.Pulse 10 23 (what.Unblock 4)) [] ∷ [])
-    ∷ event 31 (State 31) (ended 14 31 (mark.State Ready 14) [] ∷ [])
-    ∷ event 31 (State 42) (ended 15 31 (mark.State Ready 38) [] ∷ [])
+    event 42 (PrioritySet 43 29) (ended 4 42 mark.Ok [] ∷ [])
+    ∷ event 43 (Send 2 (replicate 8 0xaa) (replicate 9 0x00)) []
+    ∷ event 35 (Receive 1 (replicate 6 0x00)) (ended 6 35 (mark.Message 5 6) (replicate 6 0xaa) ∷ [])
+    ∷ event 35 (State 35) (ended 7 35 (mark.State Ready 17) [] ∷ [])
+    ∷ event 42 (PrioritySet 43 33) (ended 8 42 mark.Ok [] ∷ [])
+    ∷ event 42 (PrioritySet 42 38) (ended 9 42 mark.Ok [] ∷ [])
+    ∷ event 31 (Info 5) (ended 10 31 (mark.Info (record { process = 152; thread = 43; connection = 2; msglen = 6; srcmsglen = 8; dstmsglen = 9; priority = 29 })) [] ∷ [])
+    ∷ event 42 (Unblock 43) (ended 11 42 mark.Ok [] ∷ [])
+    ∷ event 35 (State 43) (ended 12 35 (mark.State (ReplyBlocked 1) 33) [] ∷ [])
+    ∷ event 31 (Reply 5 (pos 61) []) (ended 13 31 mark.Ok [] ∷ ended 5 43 (mark.Replied (pos 61) 0) (replicate 9 0x00) ∷ [])
+    ∷ event 31 (ReceivePulse 1) (ended 14 31 (mark.Pulse 11 29 (what.Unblock 5)) [] ∷ [])
+    ∷ event 31 (State 31) (ended 15 31 (mark.State Ready 14) [] ∷ [])
+    ∷ event 31 (State 42) (ended 16 31 (mark.State Ready 38) [] ∷ [])
     ∷ [])
 
 -- a thread whose message isn't received is unblocked at once, and so is a receiver; one that isn't blocked unblocks itself, and nothing happens

@@ -11,17 +11,17 @@ ghost use Rattle.qrules.specs.Worked.ThreeProcesses.{roster};
 /// A held message is told of and unblocked with the priority that it was sent with, whatever is set since.
 pub fn held_with_all_flags()
     ensures lawful { IsLawfulRun roster flags.held }
-    ensures received { EndsOnlySo roster flags.held 5 }
-    ensures kept { EndsOnlySo roster flags.held 6 }
-    ensures set_for_blocked { EndsOnlySo roster flags.held 7 }
-    ensures set_for_itself { EndsOnlySo roster flags.held 8 }
-    ensures told { EndsOnlySo roster flags.held 9 }
-    ensures unblocked { EndsOnlySoWithMemory roster flags.held 10 }
-    ensures still_blocked { EndsOnlySo roster flags.held 11 }
-    ensures answered { EndsOnlySo roster flags.held 12 }
-    ensures pulse { EndsOnlySo roster flags.held 13 }
-    ensures kept_again { EndsOnlySo roster flags.held 14 }
-    ensures set { EndsOnlySo roster flags.held 15 }
+    ensures received { EndsOnlySo roster flags.held 6 }
+    ensures kept { EndsOnlySo roster flags.held 7 }
+    ensures set_for_blocked { EndsOnlySo roster flags.held 8 }
+    ensures set_for_itself { EndsOnlySo roster flags.held 9 }
+    ensures told { EndsOnlySo roster flags.held 10 }
+    ensures unblocked { EndsOnlySoWithMemory roster flags.held 11 }
+    ensures still_blocked { EndsOnlySo roster flags.held 12 }
+    ensures answered { EndsOnlySo roster flags.held 13 }
+    ensures pulse { EndsOnlySo roster flags.held 14 }
+    ensures kept_again { EndsOnlySo roster flags.held 15 }
+    ensures set { EndsOnlySo roster flags.held 16 }
 {}
 
 /// A thread whose message isn't held is unblocked at once, on a channel with the unblock flag too.
