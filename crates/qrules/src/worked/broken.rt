@@ -1,13 +1,16 @@
 //! Runs that break one of the properties of a lawful trace: the property refuses them.
 
+ghost use Rattle.std.specs.Prelude.{[]};
 ghost use Rattle.qrules.specs.Headline.AnsweredToSender.{AnsweredToSender};
 ghost use Rattle.qrules.specs.Headline.BestFirst.{BestFirst};
 ghost use Rattle.qrules.specs.Headline.CopiedExactly.{CopiedExactly};
 ghost use Rattle.qrules.specs.Headline.ReceivedOnce.{ReceivedOnce};
 ghost use Rattle.qrules.specs.Headline.SentOrder.{SentOrder};
 ghost use Rattle.qrules.specs.Headline.ShutForGood.{ShutForGood};
+ghost use Rattle.qrules.specs.Lawful.{IsLawful};
 ghost use Rattle.qrules.specs.Worked.Broken.Answered as answered;
 ghost use Rattle.qrules.specs.Worked.Broken.Copied as copied;
+ghost use Rattle.qrules.specs.Worked.Broken.Held.{held, run_of, sent};
 ghost use Rattle.qrules.specs.Worked.Broken.Received as received;
 ghost use Rattle.qrules.specs.Worked.Broken.Shut as shut;
 ghost use Rattle.qrules.specs.Worked.Broken.Taken as taken;
@@ -71,4 +74,40 @@ pub fn shut_for_good()
     ensures send_left { ShutForGood roster shut.send_left → ⊥ }
     ensures held_left { ShutForGood roster shut.held_left → ⊥ }
     ensures receiver_left { ShutForGood roster shut.receiver_left → ⊥ }
+{}
+
+/// What the broken runs begin with is lawful.
+pub fn lawful_so_far()
+    ensures attached { IsLawful roster (run_of []) }
+    ensures sent { IsLawful roster (sent []) }
+    ensures held { IsLawful roster (held []) }
+{}
+
+/// Each of these runs breaks one property, and has the five others.
+pub fn one_property_broken()
+    ensures ended_twice_answered { AnsweredToSender roster received.ended_twice }
+    ensures ended_twice_copied { CopiedExactly received.ended_twice }
+    ensures ended_twice_best { BestFirst roster received.ended_twice }
+    ensures ended_twice_order { SentOrder roster received.ended_twice }
+    ensures ended_twice_shut { ShutForGood roster received.ended_twice }
+    ensures answered_received { ReceivedOnce roster answered.to_another_thread }
+    ensures answered_copied { CopiedExactly answered.to_another_thread }
+    ensures answered_best { BestFirst roster answered.to_another_thread }
+    ensures answered_order { SentOrder roster answered.to_another_thread }
+    ensures answered_shut { ShutForGood roster answered.to_another_thread }
+    ensures copied_received { ReceivedOnce roster copied.message_byte }
+    ensures copied_answered { AnsweredToSender roster copied.message_byte }
+    ensures copied_best { BestFirst roster copied.message_byte }
+    ensures copied_order { SentOrder roster copied.message_byte }
+    ensures copied_shut { ShutForGood roster copied.message_byte }
+    ensures best_received { ReceivedOnce roster taken.lesser }
+    ensures best_answered { AnsweredToSender roster taken.lesser }
+    ensures best_copied { CopiedExactly taken.lesser }
+    ensures best_order { SentOrder roster taken.lesser }
+    ensures best_shut { ShutForGood roster taken.lesser }
+    ensures shut_received { ReceivedOnce roster shut.send_left }
+    ensures shut_answered { AnsweredToSender roster shut.send_left }
+    ensures shut_copied { CopiedExactly shut.send_left }
+    ensures shut_best { BestFirst roster shut.send_left }
+    ensures shut_order { SentOrder roster shut.send_left }
 {}
