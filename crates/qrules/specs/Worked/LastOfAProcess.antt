@@ -8,8 +8,9 @@ use Rattle.qrules.specs.Trace.{Event}
 use Rattle.qrules.specs.Worked.Runs.{event, ended}
 use Rattle.qrules.specs.Worked.ThreeProcesses.{attached}
 
--- three Sends are open, over three connections: each detach ends those over its own. The disconnect pulse names the process and has the priority that
--- the detaching thread has by now; the pulse that was sent over the connection before its end is still received, and so is the other process's message
+-- two Sends are open, over connections 4 and 3: the detach of connection 2 ends neither, that of connection 4 its own. The disconnect pulse names the
+-- process and has the priority that the detaching thread has by now. The pulse that was sent over the connection before its end is still received, and
+-- so is the other process's message
 abbrev pub two_processes : List Event
 two_processes = attached (
     event 42 (ConnectAttach 1) (ended 4 42 (mark.Connection 4) [] ∷ [])
