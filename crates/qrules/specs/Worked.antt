@@ -23,3 +23,10 @@ pub mod Refusals
 pub mod OthersMessages
 pub mod RefusedPulses
 pub mod Limits
+pub mod Counted
+pub mod ThreeProcesses
+pub mod AllFlags
+pub mod LastOfAProcess
+pub mod Overwritten
+pub mod LaterPriority
+pub mod Broken

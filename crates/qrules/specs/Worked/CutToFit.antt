@@ -9,16 +9,16 @@ use Rattle.qrules.specs.Worked.Setting.{connected}
 -- a message of five bytes is received into two, and three are kept for its answer
 abbrev pub events : List Event
 events = connected (
-    event 2 (Send 2 (1 ∷ 2 ∷ 3 ∷ 4 ∷ 5 ∷ []) (204 ∷ 204 ∷ 204 ∷ [])) []
-    ∷ event 1 (Receive 1 (0 ∷ 0 ∷ [])) (ended 4 1 (mark.Message 3 2) (1 ∷ 2 ∷ []) ∷ [])
-    ∷ event 1 (Write 3 2 (6 ∷ 7 ∷ [])) (ended 5 1 (mark.Count 1) [] ∷ [])
-    ∷ event 1 (Reply 3 (negsuc 4) (170 ∷ 187 ∷ [])) (ended 6 1 mark.Ok [] ∷ ended 3 2 (mark.Replied (negsuc 4) 2) (170 ∷ 187 ∷ 6 ∷ []) ∷ [])
+    event 2 (Send 2 (0x01 ∷ 0x02 ∷ 0x03 ∷ 0x04 ∷ 0x05 ∷ []) (0xcc ∷ 0xcc ∷ 0xcc ∷ [])) []
+    ∷ event 1 (Receive 1 (0x00 ∷ 0x00 ∷ [])) (ended 4 1 (mark.Message 3 2) (0x01 ∷ 0x02 ∷ []) ∷ [])
+    ∷ event 1 (Write 3 2 (0x06 ∷ 0x07 ∷ [])) (ended 5 1 (mark.Count 1) [] ∷ [])
+    ∷ event 1 (Reply 3 (negsuc 4) (0xaa ∷ 0xbb ∷ [])) (ended 6 1 mark.Ok [] ∷ ended 3 2 (mark.Replied (negsuc 4) 2) (0xaa ∷ 0xbb ∷ 0x06 ∷ []) ∷ [])
     ∷ [])
 
 -- a reply that is longer than the sender's buffer
 abbrev pub reply_cut : List Event
 reply_cut = connected (
-    event 2 (Send 2 [] (204 ∷ 204 ∷ 204 ∷ [])) []
-    ∷ event 1 (Receive 1 (9 ∷ 9 ∷ [])) (ended 4 1 (mark.Message 3 0) (9 ∷ 9 ∷ []) ∷ [])
-    ∷ event 1 (Reply 3 (pos 7) (170 ∷ 187 ∷ 204 ∷ 221 ∷ [])) (ended 5 1 mark.Ok [] ∷ ended 3 2 (mark.Replied (pos 7) 3) (170 ∷ 187 ∷ 204 ∷ []) ∷ [])
+    event 2 (Send 2 [] (0xcc ∷ 0xcc ∷ 0xcc ∷ [])) []
+    ∷ event 1 (Receive 1 (0x09 ∷ 0x09 ∷ [])) (ended 4 1 (mark.Message 3 0) (0x09 ∷ 0x09 ∷ []) ∷ [])
+    ∷ event 1 (Reply 3 (pos 7) (0xaa ∷ 0xbb ∷ 0xcc ∷ 0xdd ∷ [])) (ended 5 1 mark.Ok [] ∷ ended 3 2 (mark.Replied (pos 7) 3) (0xaa ∷ 0xbb ∷ 0xcc ∷ []) ∷ [])
     ∷ [])

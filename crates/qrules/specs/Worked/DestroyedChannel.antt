@@ -11,14 +11,14 @@ use Rattle.qrules.specs.Worked.Setting.{connected}
 -- a held message, a pending one and a receiver; then calls that name the channel, its connection and its messages
 abbrev pub events : List Event
 events = connected (
-    event 2 (Send 2 (170 ∷ []) []) []
+    event 2 (Send 2 (0xaa ∷ []) []) []
     ∷ event 1 (Receive 1 []) (ended 4 1 (mark.Message 3 0) [] ∷ [])
-    ∷ event 3 (Send 2 (187 ∷ []) []) []
+    ∷ event 3 (Send 2 (0xbb ∷ []) []) []
     ∷ event 4 (ReceivePulse 1) []
     ∷ event 1 (ChannelDestroy 1) (ended 7 1 mark.Ok [] ∷ ended 3 2 (mark.Failed Srch) [] ∷ ended 5 3 (mark.Failed Srch) [] ∷ ended 6 4 (mark.Failed Srch) [] ∷ [])
-    ∷ event 2 (Send 2 (204 ∷ []) (170 ∷ [])) (ended 8 2 (mark.Failed Badf) (170 ∷ []) ∷ [])
+    ∷ event 2 (Send 2 (0xcc ∷ []) (0xaa ∷ [])) (ended 8 2 (mark.Failed Badf) (0xaa ∷ []) ∷ [])
     ∷ event 3 (Pulse 2 20 (pos 0) (pos 0)) (ended 9 3 (mark.Failed Badf) [] ∷ [])
-    ∷ event 1 (Receive 1 (187 ∷ [])) (ended 10 1 (mark.Failed Srch) (187 ∷ []) ∷ [])
+    ∷ event 1 (Receive 1 (0xbb ∷ [])) (ended 10 1 (mark.Failed Srch) (0xbb ∷ []) ∷ [])
     ∷ event 4 (ReceivePulse 1) (ended 11 4 (mark.Failed Srch) [] ∷ [])
     ∷ event 1 (ChannelDestroy 1) (ended 12 1 (mark.Failed Inval) [] ∷ [])
     ∷ event 1 (Reply 3 (pos 0) []) (ended 13 1 (mark.Failed Srch) [] ∷ [])

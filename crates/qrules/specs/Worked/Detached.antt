@@ -13,10 +13,10 @@ use Rattle.qrules.specs.Worked.Setting.{connected}
 -- message 3 isn't received: it leaves the channel, and the connection leads nowhere
 abbrev pub waiting : List Event
 waiting = connected (
-    event 3 (Send 2 (170 ∷ []) (0 ∷ 0 ∷ [])) []
-    ∷ event 2 (ConnectDetach 2) (ended 4 2 mark.Ok [] ∷ ended 3 3 (mark.Failed Badf) (0 ∷ 0 ∷ []) ∷ [])
+    event 3 (Send 2 (0xaa ∷ []) (0x00 ∷ 0x00 ∷ [])) []
+    ∷ event 2 (ConnectDetach 2) (ended 4 2 mark.Ok [] ∷ ended 3 3 (mark.Failed Badf) (0x00 ∷ 0x00 ∷ []) ∷ [])
     ∷ event 2 (ConnectDetach 2) (ended 5 2 (mark.Failed Inval) [] ∷ [])
-    ∷ event 3 (Send 2 [] (9 ∷ [])) (ended 6 3 (mark.Failed Badf) (9 ∷ []) ∷ [])
+    ∷ event 3 (Send 2 [] (0x09 ∷ [])) (ended 6 3 (mark.Failed Badf) (0x09 ∷ []) ∷ [])
     ∷ event 1 (Receive 1 []) []
     ∷ [])
 
@@ -28,11 +28,11 @@ nothing_there = blocked 7 1 (ReceiveBlocked 1) ∷ []
 -- was sent over another connection of the client is answered
 abbrev pub held : List Event
 held = connected (
-    event 3 (Send 2 (170 ∷ []) (0 ∷ [])) []
+    event 3 (Send 2 (0xaa ∷ []) (0x00 ∷ [])) []
     ∷ event 1 (Receive 1 []) (ended 4 1 (mark.Message 3 0) [] ∷ [])
     ∷ event 4 (ConnectDetach 2) (ended 5 4 (mark.Failed Inval) [] ∷ [])
     ∷ event 2 (ConnectAttach 1) (ended 6 2 (mark.Connection 6) [] ∷ [])
-    ∷ event 2 (ConnectDetach 2) (ended 7 2 mark.Ok [] ∷ ended 3 3 (mark.Failed Badf) (0 ∷ []) ∷ [])
+    ∷ event 2 (ConnectDetach 2) (ended 7 2 mark.Ok [] ∷ ended 3 3 (mark.Failed Badf) (0x00 ∷ []) ∷ [])
     ∷ event 1 (Reply 3 (pos 1) []) (ended 8 1 (mark.Failed Srch) [] ∷ [])
     ∷ event 3 (Send 6 [] []) []
     ∷ event 1 (Receive 1 []) (ended 10 1 (mark.Message 9 0) [] ∷ [])
@@ -65,8 +65,8 @@ no_more = blocked 9 1 (ReceiveBlocked 3) ∷ []
 abbrev pub taken_at_once : List Event
 taken_at_once = twice_attached (
     event 3 (ConnectDetach 4) (ended 6 3 mark.Ok [] ∷ [])
-    ∷ event 3 (Send 5 [] (7 ∷ [])) []
+    ∷ event 3 (Send 5 [] (0x07 ∷ [])) []
     ∷ event 1 (ReceivePulse 3) []
-    ∷ event 2 (ConnectDetach 5) (ended 8 1 (mark.Pulse 9 20 (what.Disconnect 2)) [] ∷ ended 9 2 mark.Ok [] ∷ ended 7 3 (mark.Failed Badf) (7 ∷ []) ∷ [])
+    ∷ event 2 (ConnectDetach 5) (ended 8 1 (mark.Pulse 9 20 (what.Disconnect 2)) [] ∷ ended 9 2 mark.Ok [] ∷ ended 7 3 (mark.Failed Badf) (0x07 ∷ []) ∷ [])
     ∷ event 1 (Receive 3 []) []
     ∷ [])

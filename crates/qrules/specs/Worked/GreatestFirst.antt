@@ -42,12 +42,12 @@ one_moved = with_endings 6 [] (with_endings 7 (ended 6 1 (mark.Message 5 0) [] �
 abbrev pub ties : List Event
 ties = connected (
     event 4 (ConnectAttach 1) (ended 3 4 (mark.Connection 3) [] ∷ [])
-    ∷ event 4 (Send 3 (1 ∷ []) []) []
-    ∷ event 2 (Send 2 (2 ∷ []) []) []
-    ∷ event 3 (Send 2 (3 ∷ []) []) []
-    ∷ event 1 (Receive 1 (0 ∷ [])) (ended 7 1 (mark.Message 5 1) (2 ∷ []) ∷ [])
-    ∷ event 1 (Receive 1 (0 ∷ [])) (ended 8 1 (mark.Message 6 1) (3 ∷ []) ∷ [])
-    ∷ event 1 (Receive 1 (0 ∷ [])) (ended 9 1 (mark.Message 4 1) (1 ∷ []) ∷ [])
+    ∷ event 4 (Send 3 (0x01 ∷ []) []) []
+    ∷ event 2 (Send 2 (0x02 ∷ []) []) []
+    ∷ event 3 (Send 2 (0x03 ∷ []) []) []
+    ∷ event 1 (Receive 1 (0x00 ∷ [])) (ended 7 1 (mark.Message 5 1) (0x02 ∷ []) ∷ [])
+    ∷ event 1 (Receive 1 (0x00 ∷ [])) (ended 8 1 (mark.Message 6 1) (0x03 ∷ []) ∷ [])
+    ∷ event 1 (Receive 1 (0x00 ∷ [])) (ended 9 1 (mark.Message 4 1) (0x01 ∷ []) ∷ [])
     ∷ [])
 
 -- all three are held then

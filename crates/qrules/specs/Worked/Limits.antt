@@ -1,18 +1,19 @@
 -- What is answered at a limit: 64 open channels, 1,024 live connections, and 1,024 pulses that are pending on a channel.
-use Rattle.std.specs.Prelude.{◌≡◌, ℕ, ◌+◌, List, [], ◌∷◌, replicate, pos}
+use Rattle.std.specs.Prelude.{◌≡◌, ℕ, ◌+◌, List, [], ◌∷◌, ◌++◌, replicate, pos}
 use Rattle.qbase.specs.declared.errno.Errno.{Errno}
 use Rattle.qqueue.specs.declared.item.Item.{Item}
 use Rattle.qrules.specs.declared.call.Call.{Call}
-use Rattle.qrules.specs.declared.call.Call.TheVariants.{ChannelCreate}
+use Rattle.qrules.specs.declared.call.Call.TheVariants.{ChannelCreate, ChannelDestroy, ConnectDetach}
 use Rattle.qrules.specs.declared.call.Completion.{Completion}
 use Rattle.qrules.specs.declared.call.Mark.TheVariants as mark
 use Rattle.qrules.specs.Answer.{Answers}
 use Rattle.qrules.specs.Buffers.{buffer_of}
 use Rattle.qrules.specs.Facts.{Facts}
 use Rattle.qrules.specs.Lawful.{facts_of, followed_by}
-use Rattle.qrules.specs.Rows.{pulse_item}
+use Rattle.qrules.specs.Rows.{message_item, pulse_item}
 use Rattle.qrules.specs.Trace.{Event}
 use Rattle.qrules.specs.Worked.Runs.{event, ended, flags_of}
+use Rattle.qrules.specs.Worked.Detached.{twice_attached}
 use Rattle.qrules.specs.Worked.Setting.{roster, connected}
 use Rattle.qrules.specs.Worked.UnblockPulse.{held}
 
@@ -35,6 +36,10 @@ creations n (Prim.Native.Nat.suc k) = event 1 (ChannelCreate (flags_of 0)) (ende
 abbrev pub channels : List Event
 channels = connected (creations 3 63)
 
+-- and one of them is destroyed
+abbrev pub one_destroyed : List Event
+one_destroyed = connected (creations 3 63 ++ (event 1 (ChannelDestroy 5) (ended 66 1 mark.Ok [] ∷ []) ∷ []))
+
 -- the facts where so many connections are live
 abbrev pub with_connections : ℕ → Facts
 with_connections n = record (facts_after (connected [])) { live_connections = n }
@@ -50,3 +55,15 @@ with_pulses n = record (facts_after (connected [])) { pending = pulses n }
 -- the same where a message is held on a channel with the unblock flag
 abbrev pub held_with_pulses : ℕ → Facts
 held_with_pulses n = record (facts_after (held [])) { pending = pulses n }
+
+-- the facts where so many pulses are pending on each channel, and 64 messages
+abbrev pub with_messages_and_pulses : ℕ → Facts
+with_messages_and_pulses n = record (facts_after (connected [])) { pending = λ h. replicate 64 (message_item 0 1) ++ pulses n h }
+
+-- the facts where so many pulses are pending and a process has connections 4 and 5 to a channel with the disconnect flag
+abbrev pub twice_with_pulses : ℕ → Facts
+twice_with_pulses n = record (facts_after (twice_attached [])) { pending = pulses n }
+
+-- the same where it has connection 5 alone
+abbrev pub last_with_pulses : ℕ → Facts
+last_with_pulses n = record (facts_after (twice_attached (event 3 (ConnectDetach 4) (ended 6 3 mark.Ok [] ∷ []) ∷ []))) { pending = pulses n }

@@ -20,9 +20,9 @@ newest = connected (
 -- the later receiver waits for pulses alone: a message passes it over, and a pulse doesn't
 abbrev pub passed_over : List Event
 passed_over = connected (
-    event 1 (Receive 1 (0 ∷ [])) []
+    event 1 (Receive 1 (0x00 ∷ [])) []
     ∷ event 4 (ReceivePulse 1) []
-    ∷ event 2 (Send 2 (170 ∷ []) []) (ended 3 1 (mark.Message 5 1) (170 ∷ []) ∷ [])
+    ∷ event 2 (Send 2 (0xaa ∷ []) []) (ended 3 1 (mark.Message 5 1) (0xaa ∷ []) ∷ [])
     ∷ event 3 (Pulse 2 5 (pos 0) (pos 0)) (ended 6 3 mark.Ok [] ∷ ended 4 4 (mark.Pulse 6 5 (what.User (pos 0) (pos 0))) [] ∷ [])
     ∷ [])
 

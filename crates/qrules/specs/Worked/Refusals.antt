@@ -10,14 +10,14 @@ use Rattle.qrules.specs.Worked.Setting.{connected}
 -- eight refused calls, a Send among them that is accepted, and the receipt of its message
 abbrev pub events : List Event
 events = connected (
-    event 2 (Receive 1 (7 ∷ 8 ∷ [])) (ended 3 2 (mark.Failed Srch) (7 ∷ 8 ∷ []) ∷ [])
-    ∷ event 1 (Send 2 (1 ∷ []) (9 ∷ [])) (ended 4 1 (mark.Failed Badf) (9 ∷ []) ∷ [])
+    event 2 (Receive 1 (0x07 ∷ 0x08 ∷ [])) (ended 3 2 (mark.Failed Srch) (0x07 ∷ 0x08 ∷ []) ∷ [])
+    ∷ event 1 (Send 2 (0x01 ∷ []) (0x09 ∷ [])) (ended 4 1 (mark.Failed Badf) (0x09 ∷ []) ∷ [])
     ∷ event 2 (ConnectAttach 9) (ended 5 2 (mark.Failed Srch) [] ∷ [])
     ∷ event 1 (ChannelCreate (flags_of 8)) (ended 6 1 (mark.Failed Inval) [] ∷ [])
-    ∷ event 1 (Reply 4 (pos 0) (1 ∷ [])) (ended 7 1 (mark.Failed Srch) [] ∷ [])
-    ∷ event 2 (Send 2 (1 ∷ []) (9 ∷ [])) []
-    ∷ event 2 (Receive 1 (7 ∷ 8 ∷ [])) (ended 9 2 (mark.Failed Busy) (7 ∷ 8 ∷ []) ∷ [])
-    ∷ event 1 (Reply 8 (pos 0) (1 ∷ [])) (ended 10 1 (mark.Failed Srch) [] ∷ [])
-    ∷ event 1 (Receive 6 (7 ∷ [])) (ended 11 1 (mark.Failed Srch) (7 ∷ []) ∷ [])
-    ∷ event 1 (Receive 1 (7 ∷ [])) (ended 12 1 (mark.Message 8 1) (1 ∷ []) ∷ [])
+    ∷ event 1 (Reply 4 (pos 0) (0x01 ∷ [])) (ended 7 1 (mark.Failed Srch) [] ∷ [])
+    ∷ event 2 (Send 2 (0x01 ∷ []) (0x09 ∷ [])) []
+    ∷ event 2 (Receive 1 (0x07 ∷ 0x08 ∷ [])) (ended 9 2 (mark.Failed Busy) (0x07 ∷ 0x08 ∷ []) ∷ [])
+    ∷ event 1 (Reply 8 (pos 0) (0x01 ∷ [])) (ended 10 1 (mark.Failed Srch) [] ∷ [])
+    ∷ event 1 (Receive 6 (0x07 ∷ [])) (ended 11 1 (mark.Failed Srch) (0x07 ∷ []) ∷ [])
+    ∷ event 1 (Receive 1 (0x07 ∷ [])) (ended 12 1 (mark.Message 8 1) (0x01 ∷ []) ∷ [])
     ∷ [])

@@ -12,12 +12,12 @@ use Rattle.qrules.specs.Worked.Setting.{connected}
 -- a Send is cut, and the same thread sends again
 abbrev pub events : List Event
 events = connected (
-    event 2 (Send 2 (170 ∷ []) (0 ∷ [])) []
+    event 2 (Send 2 (0xaa ∷ []) (0x00 ∷ [])) []
     ∷ event 1 (Receive 1 []) (ended 4 1 (mark.Message 3 0) [] ∷ [])
-    ∷ event 3 (Unblock 2) (ended 3 2 (mark.Failed Intr) (0 ∷ []) ∷ ended 5 3 mark.Ok [] ∷ [])
-    ∷ event 2 (Send 2 (187 ∷ []) (0 ∷ [])) []
-    ∷ event 1 (Reply 3 (pos 0) (255 ∷ [])) (ended 7 1 (mark.Failed Srch) [] ∷ [])
-    ∷ event 1 (Receive 1 (0 ∷ [])) (ended 8 1 (mark.Message 6 1) (187 ∷ []) ∷ [])
+    ∷ event 3 (Unblock 2) (ended 3 2 (mark.Failed Intr) (0x00 ∷ []) ∷ ended 5 3 mark.Ok [] ∷ [])
+    ∷ event 2 (Send 2 (0xbb ∷ []) (0x00 ∷ [])) []
+    ∷ event 1 (Reply 3 (pos 0) (0xff ∷ [])) (ended 7 1 (mark.Failed Srch) [] ∷ [])
+    ∷ event 1 (Receive 1 (0x00 ∷ [])) (ended 8 1 (mark.Message 6 1) (0xbb ∷ []) ∷ [])
     ∷ [])
 
 -- the second message waits for its answer

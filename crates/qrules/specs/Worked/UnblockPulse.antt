@@ -14,7 +14,7 @@ abbrev pub held : List Event → List Event
 held events = connected (
     event 1 (ChannelCreate (flags_of 2)) (ended 3 1 (mark.Channel 3) [] ∷ [])
     ∷ event 2 (ConnectAttach 3) (ended 4 2 (mark.Connection 4) [] ∷ [])
-    ∷ event 2 (Send 4 (170 ∷ []) []) []
+    ∷ event 2 (Send 4 (0xaa ∷ []) []) []
     ∷ event 1 (Receive 3 []) (ended 6 1 (mark.Message 5 0) [] ∷ [])
     ∷ events)
 
@@ -36,8 +36,8 @@ still_waiting = blocked 10 1 (ReceiveBlocked 3) ∷ []
 -- a server that waits takes the pulse at once, and no second one
 abbrev pub taken_at_once : List Event
 taken_at_once = held (
-    event 1 (Receive 3 (0 ∷ [])) []
-    ∷ event 3 (Unblock 2) (ended 7 1 (mark.Pulse 8 20 (what.Unblock 5)) (0 ∷ []) ∷ ended 8 3 mark.Ok [] ∷ [])
+    event 1 (Receive 3 (0x00 ∷ [])) []
+    ∷ event 3 (Unblock 2) (ended 7 1 (mark.Pulse 8 20 (what.Unblock 5)) (0x00 ∷ []) ∷ ended 8 3 mark.Ok [] ∷ [])
     ∷ event 1 (Receive 3 []) []
     ∷ event 3 (Unblock 2) (ended 10 3 mark.Ok [] ∷ [])
     ∷ [])

@@ -11,8 +11,8 @@ use Rattle.qrules.specs.Worked.Setting.{connected}
 -- a message is cut before its receipt and never received; another process's thread and an unknown one are refused
 abbrev pub events : List Event
 events = connected (
-    event 2 (Send 2 (170 ∷ []) (0 ∷ [])) []
-    ∷ event 3 (Unblock 2) (ended 3 2 (mark.Failed Intr) (0 ∷ []) ∷ ended 4 3 mark.Ok [] ∷ [])
+    event 2 (Send 2 (0xaa ∷ []) (0x00 ∷ [])) []
+    ∷ event 3 (Unblock 2) (ended 3 2 (mark.Failed Intr) (0x00 ∷ []) ∷ ended 4 3 mark.Ok [] ∷ [])
     ∷ event 3 (Unblock 2) (ended 5 3 mark.Ok [] ∷ [])
     ∷ event 3 (Unblock 1) (ended 6 3 (mark.Failed Srch) [] ∷ [])
     ∷ event 3 (Unblock 9) (ended 7 3 (mark.Failed Srch) [] ∷ [])
