@@ -50,8 +50,8 @@ the call that made them.
 A THREAD and a PROCESS are 0 to 255, a PRIORITY is 1 to 63, FLAGS are the sum
 of 1 (FIXED_PRIORITY), 2 (UNBLOCK) and 4 (DISCONNECT), and the CODE of a pulse
 is 0 to 127. Bytes are hexadecimal digits (0aff), so many equal ones (16x00), or
-- for none. Empty lines and lines that begin with # are passed over. A line has
-at most 4,096 bytes and a script 4,194,304.
+- for none. Empty lines and lines whose first word begins with # are passed over.
+A line has at most 4,096 bytes and a script 4,194,304.
 
 For each call that ends the output has a line: the number of the call that
 ended it, its own number, its thread, how it ended, and the buffer of a Send,
