@@ -10,8 +10,9 @@ With no word it measures all three. It wants the built programs `crates/qbench/o
                connections, and 1 and 1,024 pulses that wait on the channel
   allocations  requests to the allocator by each call, as `valgrind --trace-malloc=yes` counts
                them: the least and the most that one call of the kind made
-  scripts      seconds and peak memory of `qdemo script` on scripts of 1, 2 and 4 MiB; the least
-               time and the greatest memory of three runs
+  scripts      seconds and peak memory of `qdemo script` on scripts of 1, 2 and 4 MiB: the least
+               time of three runs, and the greatest memory of three others, as `/usr/bin/time`
+               (GNU time) tells it
 """
 
 import os
@@ -24,6 +25,7 @@ import time
 ROOT = os.path.dirname(os.path.dirname(os.path.abspath(__file__)))
 QBENCH = os.path.join(ROOT, "crates/qbench/out/qbench")
 QDEMO = os.path.join(ROOT, "crates/qdemo/out/qdemo")
+GNU_TIME = "/usr/bin/time"
 
 MEBIBYTE = 1024 * 1024
 RUNS = 3
@@ -129,17 +131,27 @@ KINDS = {
 }
 
 
-def run(path):
-    """The seconds and the peak memory in megabytes of one run."""
+def run(path, *before):
+    """The seconds of one run on a script, and what was written on standard error; some words stand before the command."""
     with open(path, "rb") as script:
         start = time.perf_counter()
-        child = subprocess.Popen([program(QDEMO), "script"], stdin=script, stdout=subprocess.DEVNULL)
-        _, status, usage = os.wait4(child.pid, 0)
+        done = subprocess.run(
+            [*before, program(QDEMO), "script"], stdin=script, stdout=subprocess.DEVNULL, stderr=subprocess.PIPE, text=True
+        )
         seconds = time.perf_counter() - start
-    child.returncode = os.waitstatus_to_exitcode(status)
-    if child.returncode != 0:
-        sys.exit(f"{QDEMO} script ended with status {child.returncode} on {path}")
-    return seconds, usage.ru_maxrss * 1024 / 1e6
+    if done.returncode != 0:
+        sys.exit(f"{QDEMO} script ended with status {done.returncode} on {path}")
+    return seconds, done.stderr
+
+
+def peak(path):
+    """The peak memory in megabytes of one run.
+
+    The system counts the peak of a program from that of the process that starts it, and this one's is greater than what
+    is measured. GNU time is small, starts the program in a process of its own, and tells its peak in KiB.
+    """
+    _, told = run(path, GNU_TIME, "-f", "%M")
+    return int(told) * 1024 / 1e6
 
 
 def script(kind, mebibytes, folder):
@@ -148,13 +160,14 @@ def script(kind, mebibytes, folder):
     path = os.path.join(folder, "script")
     with open(path, "w", encoding="ascii") as file:
         file.write(text)
-    results = [run(path) for _ in range(RUNS)]
-    seconds = min(result[0] for result in results)
-    megabytes = max(result[1] for result in results)
+    seconds = min(run(path)[0] for _ in range(RUNS))
     lines = text.count("\n")
     name = f"a script of {mebibytes} MiB, {kind}, {lines} lines"
     aim = SCRIPT_SECONDS.get(kind, 0) * mebibytes
     row(f"{name}: time", f"{seconds:.3f} s", f"{aim:.3f} s" if aim else "", not aim or seconds <= aim)
+    if not os.access(GNU_TIME, os.X_OK):
+        return row(f"{name}: peak memory", f"no {GNU_TIME}")
+    megabytes = max(peak(path) for _ in range(RUNS))
     row(f"{name}: peak memory", f"{megabytes:.1f} MB", f"{SCRIPT_MEGABYTES} MB", megabytes <= SCRIPT_MEGABYTES)
 
 

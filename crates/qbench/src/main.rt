@@ -1,6 +1,6 @@
 //! Times the kernel's calls. With no argument it makes a few calls and says how many; with `measure` it
 //! prints a table of nanoseconds a call; with `tour` it makes each call once or more often, and prints each
-//! before it is made.
+//! before it is made. Any other word is a fault, with status 2.
 #![tactic(auto)]
 
 mod rounds;
@@ -8,6 +8,7 @@ mod table;
 mod tour;
 
 use std::env;
+use std::process::ExitCode;
 use std::test::Fail;
 
 /// What the program is asked for.
@@ -18,23 +19,28 @@ enum Task {
     Tour,
 }
 
-/// The task that a word names.
-fn task_of(word: &str) -> Task {
+/// The task that a word names, if it names one.
+fn task_of(word: &str) -> Option<Task> {
     match word {
-        "measure" => Task::Measure,
-        "tour" => Task::Tour,
-        _ => Task::Show,
+        "measure" => Some(Task::Measure),
+        "tour" => Some(Task::Tour),
+        _ => None,
     }
 }
 
-fn main(rt: HostRuntime) -> Result<(), Fail> {
+fn main(rt: HostRuntime) -> Result<ExitCode, Fail> {
     let mut task = Task::Show;
-    for word in env::args(&rt)? {
-        task = task_of(word.as_str());
+    for word in env::args(&rt)?.skip(1) {
+        let Some(named) = task_of(word.as_str()) else {
+            let _ = eprintln!(rt; "qbench: no task is called {word}; there are measure and tour");
+            return Ok(ExitCode::from(2));
+        };
+        task = named;
     }
     match task {
-        Task::Show => table::show(&rt),
-        Task::Measure => table::measure(&rt),
-        Task::Tour => tour::walk(&rt),
+        Task::Show => table::show(&rt)?,
+        Task::Measure => table::measure(&rt)?,
+        Task::Tour => tour::walk(&rt)?,
     }
+    Ok(ExitCode::SUCCESS)
 }

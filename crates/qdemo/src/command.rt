@@ -47,12 +47,35 @@ the call that made them.
   THREAD destroy CHANNEL
   THREAD shutdown
 
-Bytes are hexadecimal digits (0aff), so many equal ones (16x00), or - for none.
-Empty lines and lines that begin with # are passed over.
+A THREAD and a PROCESS are 0 to 255, a PRIORITY is 1 to 63, FLAGS are the sum
+of 1 (FIXED_PRIORITY), 2 (UNBLOCK) and 4 (DISCONNECT), and the CODE of a pulse
+is 0 to 127. Bytes are hexadecimal digits (0aff), so many equal ones (16x00), or
+- for none. Empty lines and lines whose first word begins with # are passed over.
+A line has at most 4,096 bytes and a script 4,194,304.
 
 For each call that ends the output has a line: the number of the call that
 ended it, its own number, its thread, how it ended, and the buffer of a Send,
-Receive or Read. Then comes a line for each thread that is blocked at the end.";
+Receive or Read. It ended as one of these:
+
+  ok
+  fail ERROR
+  channel ID
+  connection ID
+  message RECEIVE_ID COPIED
+  pulse NUMBER PRIORITY user CODE VALUE
+  pulse NUMBER PRIORITY unblock RECEIVE_ID
+  pulse NUMBER PRIORITY disconnect PROCESS
+  reply STATUS COPIED
+  error CODE
+  count COPIED
+  state STATE CHANNEL PRIORITY
+  state ready PRIORITY
+  info PROCESS THREAD CONNECTION MSGLEN SRCMSGLEN DSTMSGLEN PRIORITY
+
+Then comes a line for each thread that is blocked at the end, where STATE is
+send, receive or reply:
+
+  open CALL THREAD STATE CHANNEL";
 
 const SCRIPT_EXAMPLE: &str = "Example:
   input            output

@@ -5,6 +5,7 @@ mod command;
 #[cfg(test)]
 mod tests;
 
+use clap::Error;
 use clap::error::ErrorKind;
 use command::{Action, action_of};
 use qscript::script::script;
@@ -23,16 +24,21 @@ fn main(rt: HostRuntime) -> ExitCode {
     };
     match action_of(rt.alloc(), words.as_slice()) {
         Ok(Action::Script) => run_script(&rt),
-        Err(error) => {
-            if error.kind() == ErrorKind::OutOfMemory {
-                return failed(&rt, "out of memory");
-            }
-            if error.print(&rt).is_err() {
-                return failed(&rt, "write failed");
-            }
-            ExitCode::from(error.exit_code() as u8)
-        }
+        Err(error) => answered(&rt, &error),
     }
+}
+
+/// Ends a program whose words ask for no action: with the help text that they want, or with what is wrong
+/// with them. A fault of the command line has its status also where its text can't be written.
+fn answered<R: Print + Eprint>(rt: &R, error: &Error) -> ExitCode {
+    if error.kind() == ErrorKind::OutOfMemory {
+        return failed(rt, "out of memory");
+    }
+    let printed = error.print(rt);
+    if printed.is_err() && !error.use_stderr() {
+        return failed(rt, "write failed");
+    }
+    ExitCode::from(error.exit_code() as u8)
 }
 
 /// Runs the script on standard input.

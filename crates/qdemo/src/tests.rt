@@ -63,6 +63,9 @@ fn help_of_a_script_has_each_line_and_an_example(rt: HostRuntime) {
         "THREAD state THREAD",
         "THREAD destroy CHANNEL",
         "THREAD shutdown",
+        "1 (FIXED_PRIORITY), 2 (UNBLOCK) and 4 (DISCONNECT)",
+        "pulse NUMBER PRIORITY user CODE VALUE",
+        "open CALL THREAD STATE CHANNEL",
         "1 receive 1 -    4 4 1 message 3 0 -",
     ];
     for line in lines {

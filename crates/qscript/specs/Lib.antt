@@ -1,3 +1,4 @@
+pub mod TextLimit
 pub mod Reading
 pub mod Printing
 pub mod Status

@@ -14,7 +14,7 @@ use Rattle.qscript.specs.declared.fault.LineFault.{LineFault}
 use Rattle.qscript.specs.Enrolled.{enrolled, AllJoin}
 use Rattle.qscript.specs.Reading.Meaning.{meaning, Says, Faulty}
 use Rattle.qscript.specs.Printing.Printed.{printed}
-use Rattle.qscript.specs.Transfer.{IsReading, IsOverfull, StopsWithin}
+use Rattle.qscript.specs.Transfer.{IsReading, FailsWithin, IsOverfull, StopsWithin}
 
 -- the threads may join one roster, each call is of one of them, and there are no more calls than a kernel can number
 pub record CanRun (roster : List Member) (calls : List (ℕ × Call)) : Type 0 where
@@ -53,9 +53,13 @@ pub record IsRun (reader reader_after writer writer_after : Option (List ℕ)) :
   pub runs : Runs input text
   pub written : Appends writer writer_after text
 
--- more was read than a script may have
-abbrev pub IsTooLong : Option (List ℕ) → Option (List ℕ) → Type 0
-IsTooLong reader reader_after = (input : List ℕ) × IsOverfull reader reader_after input
+-- the reader failed before more was read than a script may have
+abbrev pub IsUnread : Option (List ℕ) → Option (List ℕ) → Bool → Type 0
+IsUnread reader reader_after faulted = (input : List ℕ) × FailsWithin reader reader_after faulted input
+
+-- more was read than a script may have, before the reader failed
+abbrev pub IsTooLong : Option (List ℕ) → Option (List ℕ) → Bool → Type 0
+IsTooLong reader reader_after faulted = (input : List ℕ) × IsOverfull reader reader_after faulted input
 
 -- all was read, and this is its fault
 pub record IsFaulty (reader reader_after : Option (List ℕ)) (n : ℕ) (f : LineFault) : Type 0 where

@@ -1,24 +1,32 @@
 -- All of a reader's bytes, and all bytes to a writer.
-use Rattle.std.specs.Prelude.{◌≡◌, ℕ, ◌<◌, ◌≤◌, Bool, true, List, length, take, Option}
+use Rattle.std.specs.Prelude.{◌≡◌, ℕ, ◌<◌, ◌≤◌, Bool, true, false, List, length, take, Option}
 use Rattle.std.specs.Io.KnownBytes.{Consumes, Appends, IsAtEnd}
 use Rattle.qscript.specs.declared.fault.ScriptFault.{ScriptFault}
 use Rattle.qscript.specs.declared.fault.ScriptFault.TheVariants as faults
+use Rattle.qscript.specs.TextLimit.{most_text}
 
 -- a reader gave these bytes, and then its end
 pub record IsReading (before after : Option (List ℕ)) (bytes : List ℕ) : Type 0 where
   pub given : Consumes before after bytes
   pub ended : IsAtEnd after
-  pub short : length bytes ≤ 4194304
+  pub short : length bytes ≤ most_text
 
--- a reader gave more bytes than a script may have
-pub record IsOverfull (before after : Option (List ℕ)) (bytes : List ℕ) : Type 0 where
+-- a reader gave these bytes, no more than a script may have, and then failed
+pub record FailsWithin (before after : Option (List ℕ)) (faulted : Bool) (bytes : List ℕ) : Type 0 where
   pub given : Consumes before after bytes
-  pub long : 4194304 < length bytes
+  pub short : length bytes ≤ most_text
+  pub fault : faulted ≡ true
+
+-- a reader gave more bytes than a script may have, and hadn't failed
+pub record IsOverfull (before after : Option (List ℕ)) (faulted : Bool) (bytes : List ℕ) : Type 0 where
+  pub given : Consumes before after bytes
+  pub long : most_text < length bytes
+  pub no_fault : faulted ≡ false
 
 -- why a reading stopped before the end
 abbrev pub IsReadFault : ScriptFault → Option (List ℕ) → Option (List ℕ) → Bool → Type 0
-IsReadFault faults.Read before after faulted = faulted ≡ true
-IsReadFault faults.TooLong before after faulted = (bytes : List ℕ) × IsOverfull before after bytes
+IsReadFault faults.Read before after faulted = (bytes : List ℕ) × FailsWithin before after faulted bytes
+IsReadFault faults.TooLong before after faulted = (bytes : List ℕ) × IsOverfull before after faulted bytes
 IsReadFault faults.NoMemory before after faulted = Unit {0}
 IsReadFault (faults.Line n f) before after faulted = ⊥
 IsReadFault faults.Write before after faulted = ⊥

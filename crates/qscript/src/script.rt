@@ -1,8 +1,8 @@
 //! A script, from a reader to a writer.
 
-ghost use Rattle.std.specs.Prelude.{◌≡◌, ℕ, [], IfOk, IfErr, OnOk, IsErrOf, false, true, string_bytes};
+ghost use Rattle.std.specs.Prelude.{◌≡◌, ℕ, [], IfOk, IfErr, OnOk, IsErrOf, false, string_bytes};
 ghost use Rattle.qscript.specs.Enrolled.{enrolled, AllJoin};
-ghost use Rattle.qscript.specs.Script.{CanRun, IsTextOfRun, IsRun, IsTooLong, IsFaulty, IsCut};
+ghost use Rattle.qscript.specs.Script.{CanRun, IsTextOfRun, IsRun, IsUnread, IsTooLong, IsFaulty, IsCut};
 ghost use Rattle.qscript.specs.Watched.{inner_of, has_faulted};
 ghost use Rattle.qscript.specs.declared.fault.LineFault.{LineFault};
 
@@ -67,7 +67,8 @@ fn run_text(alloc: Global, script: Script) -> Result<String, ScriptFault>
 }
 
 /// Reads a script to its end, runs its calls on a new kernel, and writes what each of them was answered
-/// and who is blocked at the end. Nothing is written before the whole text is made.
+/// and who is blocked at the end. Nothing is written before the whole text is made. Of a reader that fails
+/// and a text that is too long, the fault is what comes first.
 pub fn script<R: Read, W: Write>(
     alloc: Global,
     reader: &mut Watched<R>,
@@ -77,9 +78,10 @@ pub fn script<R: Read, W: Write>(
     requires writer { has_faulted writer.old ≡ false }
     ensures ok { OnOk result (IsRun (R.remaining (inner_of reader.old)) (R.remaining (inner_of reader.new))
         (W.contents (inner_of writer.old)) (W.contents (inner_of writer.new))) }
-    ensures read { IsErrOf result ScriptFault.Read → (has_faulted reader.new ≡ true) × (writer.new ≡ writer.old) }
+    ensures read { IsErrOf result ScriptFault.Read →
+        IsUnread (R.remaining (inner_of reader.old)) (R.remaining (inner_of reader.new)) (has_faulted reader.new) × (writer.new ≡ writer.old) }
     ensures too_long { IsErrOf result ScriptFault.TooLong →
-        IsTooLong (R.remaining (inner_of reader.old)) (R.remaining (inner_of reader.new)) × (writer.new ≡ writer.old) }
+        IsTooLong (R.remaining (inner_of reader.old)) (R.remaining (inner_of reader.new)) (has_faulted reader.new) × (writer.new ≡ writer.old) }
     ensures line { (n : ℕ) (f : LineFault) → IsErrOf result (ScriptFault.Line n f) →
         IsFaulty (R.remaining (inner_of reader.old)) (R.remaining (inner_of reader.new)) n f × (writer.new ≡ writer.old) }
     ensures memory { IsErrOf result ScriptFault.NoMemory → writer.new ≡ writer.old }

@@ -5,17 +5,16 @@ ghost use Rattle.std.specs.Io.KnownBytes.{Appends};
 ghost use Rattle.qscript.specs.Transfer.{IsReading, IsReadFault, IsWriteFault};
 
 use crate::fault::ScriptFault;
+use crate::reading::script::MOST_TEXT;
 use crate::watched::Watched;
 use std::alloc::Global;
 use std::io::{Read, Write};
 
-/// The most bytes that a script's text may have.
-const MOST_TEXT: usize = 4_194_304;
-
 /// How many bytes are asked for at a time.
 const CHUNK: usize = 4096;
 
-/// Reads all there is, up to the length of a script.
+/// Reads all there is. The reading ends where the reader fails, or once there is more than a script may have,
+/// whichever comes first.
 pub fn read_all<R: Read>(alloc: Global, reader: &mut Watched<R>) -> Result<Vec<u8>, ScriptFault>
     requires { reader.old.faulted ≡ false }
     ensures ok { IfOk result (λ text. IsReading (R.remaining reader.old.inner) (R.remaining reader.new.inner) text.items) }

@@ -9,7 +9,8 @@ use std::io;
 use std::io::{Read, Write};
 
 /// A reader or a writer that remembers whether one of its reads or writes failed. A write that takes none
-/// of some bytes failed too. All reads and writes are passed on as they are.
+/// of some bytes failed too. All reads, writes and flushes are passed on as they are; a flush that fails is
+/// told and not remembered.
 #[derive(Drop)]
 pub struct Watched<T> {
     inner: T,
@@ -79,12 +80,8 @@ impl<W: Write> Write for Watched<W> {
 
     fn flush(&mut self) -> io::Result<()>
         ensures bytes { Keeps (W.contents (inner_of self.old)) (W.contents (inner_of self.new)) }
-        ensures faulted { has_faulted self.new ≡ (has_faulted self.old || is_err result) }
+        ensures faulted { has_faulted self.new ≡ has_faulted self.old }
     {
-        let result = self.inner.flush();
-        if result.is_err() {
-            self.faulted = true;
-        }
-        result
+        self.inner.flush()
     }
 }

@@ -1,6 +1,6 @@
 //! Calls that are copied, and the buffers that they bring.
 
-use crate::making::{bytes, send};
+use crate::making::{bytes, many, send};
 use qbase::flags::ChannelFlags;
 use qbase::ids::{ChannelId, ConnectionId, ReceiveId, ThreadNo};
 use qbase::priority::Priority;
@@ -47,6 +47,18 @@ fn plain_calls_are_copied(rt: HostRuntime) {
     ] {
         expect_copy(&rt, rt.alloc(), call, b"");
     }
+}
+
+// A call that brings 64 KiB.
+#[test]
+fn many_bytes_are_copied(rt: HostRuntime) {
+    let alloc = rt.alloc();
+    let receive = Call::Receive {
+        chid: ChannelId(1),
+        buffer: many(&rt, alloc, b'b'),
+    };
+    let buffer = many(&rt, alloc, b'b');
+    expect_copy(&rt, alloc, receive, buffer.as_slice());
 }
 
 // Calls that bring bytes, and give back the buffer among them.

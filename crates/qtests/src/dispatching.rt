@@ -1,6 +1,6 @@
 //! Calls handed to `dispatch`, and what it gives back.
 
-use crate::making::{bytes, kernel, send};
+use crate::making::{bytes, kernel, many, send};
 use qbase::errno::Errno;
 use qbase::flags::ChannelFlags;
 use qbase::ids::{ChannelId, ConnectionId, ReceiveId, ThreadNo};
@@ -77,6 +77,43 @@ fn there_is_memory_for_calls(rt: HostRuntime) {
         value: 0,
     };
     brings(&rt, &mut kernel, 2, pulse, &[(6, 2, Mark::Ok, b"")]);
+}
+
+// A message of 64 KiB, which is received and answered whole.
+#[test]
+fn there_is_memory_for_64_kib(rt: HostRuntime) {
+    let alloc = rt.alloc();
+    let mut kernel = connected(&rt, alloc);
+    let send = Call::Send {
+        coid: ConnectionId(2),
+        message: many(&rt, alloc, b'm'),
+        reply_buffer: many(&rt, alloc, b'-'),
+    };
+    brings(&rt, &mut kernel, 2, send, &[]);
+    let receive = Call::Receive {
+        chid: ChannelId(1),
+        buffer: many(&rt, alloc, b'-'),
+    };
+    let received = Mark::Message {
+        rcvid: ReceiveId(3),
+        copied: 65_536,
+    };
+    let message = many(&rt, alloc, b'm');
+    let taken = (4, 1, received, message.as_slice());
+    brings(&rt, &mut kernel, 1, receive, &[taken]);
+    let reply = Call::Reply {
+        rcvid: ReceiveId(3),
+        status: 0,
+        bytes: many(&rt, alloc, b'r'),
+    };
+    let replied = Mark::Replied {
+        status: 0,
+        copied: 65_536,
+    };
+    let answer = many(&rt, alloc, b'r');
+    let own = (5, 1, Mark::Ok, b"".as_slice());
+    let client = (3, 2, replied, answer.as_slice());
+    brings(&rt, &mut kernel, 1, reply, &[own, client]);
 }
 
 // A thread outside the roster gets its call back, and nothing is counted.

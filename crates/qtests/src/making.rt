@@ -32,3 +32,8 @@ pub fn send(rt: &impl Abort, alloc: Global) -> Call {
         reply_buffer: bytes(rt, alloc, b"buffer"),
     }
 }
+
+/// 64 KiB of this byte.
+pub fn many(rt: &impl Abort, alloc: Global, byte: u8) -> Bytes {
+    Bytes::from(vec![in alloc; byte; 65_536].expect(rt, "room"))
+}

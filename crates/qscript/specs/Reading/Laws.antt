@@ -1,6 +1,7 @@
 -- What the meaning of a script doesn't depend on.
 use Rattle.std.specs.Prelude.{◌≡◌, ◌≢◌, ℕ, ◌+◌, ◌-◌, ◌<◌, ◌≤◌, ◌==◌, ◌⊎◌, Bool, true, false, List, [], ◌∷◌, ◌++◌, length, nat_le, if◌then◌else◌, slice_index}
 use Rattle.std.specs.List.{All}
+use Rattle.qscript.specs.TextLimit.{most_text}
 use Rattle.qscript.specs.Reading.Words.{words_of}
 use Rattle.qscript.specs.Reading.Lines.{lines_of, is_newline, without_return}
 use Rattle.qscript.specs.Reading.Meaning.{Meaning, TooLong, Faulty, Says, meaning}
@@ -31,17 +32,17 @@ renumbered k (Says roster calls) = Says roster calls
 -- a blank line or a comment between two lines changes only the numbers of the lines behind it
 abbrev pub PassesOver : Type 0
 PassesOver = (front line back : List ℕ) → IsWhole front → IsOneLine line → IsPassedOver (without_return line)
-    → length (front ++ line ++ 10 ∷ back) ≤ 4194304
+    → length (front ++ line ++ 10 ∷ back) ≤ most_text
     → meaning (front ++ line ++ 10 ∷ back) ≡ renumbered (length (lines_of front)) (meaning (front ++ back))
 
 -- one carriage return before a line end changes nothing
 abbrev pub DropsReturn : Type 0
 DropsReturn = (front back : List ℕ) → slice_index front (length front - 1) ≢ 13
-    → length (front ++ 13 ∷ 10 ∷ back) ≤ 4194304
+    → length (front ++ 13 ∷ 10 ∷ back) ≤ most_text
     → meaning (front ++ 13 ∷ 10 ∷ back) ≡ meaning (front ++ 10 ∷ back)
 
 -- the end of the last line changes nothing
 abbrev pub DropsLastEnd : Type 0
 DropsLastEnd = (text : List ℕ) → 0 < length text → slice_index text (length text - 1) ≢ 10
-    → length (text ++ 10 ∷ []) ≤ 4194304
+    → length (text ++ 10 ∷ []) ≤ most_text
     → meaning (text ++ 10 ∷ []) ≡ meaning text

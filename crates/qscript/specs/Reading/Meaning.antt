@@ -13,6 +13,7 @@ use Rattle.qscript.specs.declared.fault.ParseError.TheVariants as errors
 use Rattle.qscript.specs.declared.fault.ScriptFault.{ScriptFault}
 use Rattle.qscript.specs.declared.fault.ScriptFault.TheVariants as faults
 use Rattle.qscript.specs.declared.reading.script.Script.{Script}
+use Rattle.qscript.specs.TextLimit.{most_text}
 use Rattle.qscript.specs.Reading.Steps.{◌>>=◌}
 use Rattle.qscript.specs.Reading.Line.{line_of}
 use Rattle.qscript.specs.Reading.Lines.{lines_of}
@@ -97,7 +98,7 @@ of_lines lines = unless (first_fault lines (length lines)) (Says (roster_of line
 
 -- what a text means
 unfoldable pub meaning : List ℕ → Meaning
-meaning text = if nat_lt 4194304 (length text) then TooLong else of_lines (lines_of text)
+meaning text = if nat_lt most_text (length text) then TooLong else of_lines (lines_of text)
 
 -- ---- what reading answers
 

@@ -101,6 +101,26 @@ fn a_read_that_fails(rt: HostRuntime) {
     assert!(rt; text.is_empty());
 }
 
+// Of a read that fails and a text that is too long, what comes first is told. A text may have 4,194,304 bytes.
+#[test]
+fn a_read_that_fails_at_the_limit(rt: HostRuntime) -> Result<(), Fail> {
+    let text = vec![in rt.alloc(); b'\n'; 4_194_306]?;
+    for (left, fails) in [(0, true), (4_194_304, true), (4_194_305, false)] {
+        let mut written = Vec::new(rt.alloc());
+        let mut reader = Watched::new(Drip {
+            bytes: text.as_slice(),
+            left,
+        });
+        let mut writer = Watched::new(&mut written);
+        let result = script(rt.alloc(), &mut reader, &mut writer);
+        assert_eq!(rt; matches!(&result, Err(ScriptFault::Read)), fails);
+        assert_eq!(rt; matches!(&result, Err(ScriptFault::TooLong)), !fails);
+        assert_eq!(rt; reader.faulted(), fails);
+        assert!(rt; written.is_empty());
+    }
+    Ok(())
+}
+
 #[test]
 fn a_write_that_fails(rt: HostRuntime) {
     for full in [Full::Nothing, Full::Error] {

@@ -1,12 +1,43 @@
-//! As many channels, connections and pulses as there may be, and one more.
+//! As many channels, connections, pulses, threads and bytes as there may be, and one more. Memory is there:
+//! nothing is refused for want of it.
 
-use crate::tests::expect_after_prelude;
+use crate::tests::{expect_after_prelude, expect_text};
 use std::alloc::Global;
 use std::process::Abort;
 use std::test::Fail;
 
 /// Lines after the prelude, and what they write.
 type Row<'a> = (&'a [u8], &'a [u8]);
+
+/// A text, and the first and the last of the numbers for which it stands: each `N` in it is the number.
+type Part<'a> = (&'a [u8], (u64, u64));
+
+/// For a text that stands once and has no `N`.
+const ONCE: (u64, u64) = (0, 0);
+
+/// Adds a text once for each of its numbers.
+fn push_part(alloc: Global, out: &mut Vec<u8>, (text, (first, last)): Part) -> Result<(), Fail> {
+    for number in first..=last {
+        let digits = format!(in alloc; "{number}")?;
+        for byte in text {
+            if *byte == b'N' {
+                out.extend_from_slice(digits.as_bytes())?;
+            } else {
+                out.push(*byte)?;
+            }
+        }
+    }
+    Ok(())
+}
+
+/// The text that these parts are.
+fn joined(alloc: Global, parts: &[Part]) -> Result<Vec<u8>, Fail> {
+    let mut out = Vec::new(alloc);
+    for part in parts {
+        push_part(alloc, &mut out, *part)?;
+    }
+    Ok(out)
+}
 
 /// Asserts what a script writes in which one line stands many times, for the calls of these numbers: an `N`
 /// in its text stands for the number.
@@ -15,25 +46,23 @@ fn expect_many(
     alloc: Global,
     before: Row,
     (line, answer): Row,
-    (first, last): (u64, u64),
+    numbers: (u64, u64),
     after: Row,
 ) -> Result<(), Fail> {
-    let mut lines = Vec::from_slice(alloc, before.0)?;
-    let mut text = Vec::from_slice(alloc, before.1)?;
-    for number in first..=last {
-        lines.extend_from_slice(line)?;
-        let digits = format!(in alloc; "{number}")?;
-        for byte in answer {
-            if *byte == b'N' {
-                text.extend_from_slice(digits.as_bytes())?;
-            } else {
-                text.push(*byte)?;
-            }
-        }
-    }
-    lines.extend_from_slice(after.0)?;
-    text.extend_from_slice(after.1)?;
+    let lines = joined(alloc, &[(before.0, ONCE), (line, numbers), (after.0, ONCE)])?;
+    let text = joined(
+        alloc,
+        &[(before.1, ONCE), (answer, numbers), (after.1, ONCE)],
+    )?;
     expect_after_prelude(rt, alloc, lines.as_slice(), text.as_slice())
+}
+
+/// Asserts what a whole script of these parts writes.
+fn expect_parts(rt: &impl Abort, alloc: Global, lines: &[Part], text: &[Part]) -> Result<(), Fail> {
+    let lines = joined(alloc, lines)?;
+    let text = joined(alloc, text)?;
+    expect_text(rt, alloc, lines.as_slice(), text.as_slice());
+    Ok(())
 }
 
 // The prelude's channel is the first of 64. A flag that there isn't is looked at before the limit.
@@ -196,5 +225,58 @@ fn a_disconnect_pulse_is_refused(rt: HostRuntime) -> Result<(), Fail> {
             b"3 detach 4\n1 detach 4\n1 receivepulse 3\n3 detach 4\n1 receivepulse 3\n",
             b"1030 1030 3 fail again\n1031 1031 1 fail inval\n1032 1032 1 pulse 6 1 user 0 0\n1033 5 2 fail badf 2e\n1033 1033 3 ok\n1034 1034 1 pulse 1033 20 disconnect 2\n",
         ),
+    )
+}
+
+// Each thread of a roster of 64 but the server sends, and then as many pulses wait beside these messages as
+// may. The first of the messages is received first, by its priority.
+#[test]
+fn as_many_pulses_beside_messages(rt: HostRuntime) -> Result<(), Fail> {
+    expect_parts(
+        &rt,
+        rt.alloc(),
+        &[
+            (b"thread 1 1 10\n", ONCE),
+            (b"thread N 2 20\n", (3, 65)),
+            (b"1 create 0\n3 attach 1\n", ONCE),
+            (b"N send 2 - -\n", (3, 65)),
+            (b"1 attach 1\n", ONCE),
+            (b"1 pulse 66 1 0 0\n", (67, 1090)),
+            (b"1 pulse 66 1 0 0\n1 receive 1 -\n", ONCE),
+        ],
+        &[
+            (b"1 1 1 channel 1\n2 2 3 connection 2\n", ONCE),
+            (b"66 66 1 connection 66\n", ONCE),
+            (b"N N 1 ok\n", (67, 1090)),
+            (b"1091 1091 1 fail again\n", ONCE),
+            (b"1092 1092 1 message 3 0 -\nopen 3 3 reply 1\n", ONCE),
+            (b"open N N send 1\n", (4, 65)),
+        ],
+    )
+}
+
+// Sixteen messages of 4,096 bytes, the most that a word may say, wait at once, each with as much room for its
+// reply: twice 64 KiB. One is received and answered whole.
+#[test]
+fn as_many_bytes(rt: HostRuntime) -> Result<(), Fail> {
+    expect_parts(
+        &rt,
+        rt.alloc(),
+        &[
+            (b"thread 1 1 10\n", ONCE),
+            (b"thread N 2 20\n", (3, 18)),
+            (b"1 create 0\n3 attach 1\n", ONCE),
+            (b"N send 2 4096xaa 4096x00\n", (3, 18)),
+            (b"1 receive 1 4096xff\n1 reply 3 0 4096xbb\n", ONCE),
+        ],
+        &[
+            (b"1 1 1 channel 1\n2 2 3 connection 2\n", ONCE),
+            (b"19 19 1 message 3 4096 ", ONCE),
+            (b"aa", (1, 4096)),
+            (b"\n20 20 1 ok\n20 3 3 reply 0 4096 ", ONCE),
+            (b"bb", (1, 4096)),
+            (b"\n", ONCE),
+            (b"open N N send 1\n", (4, 18)),
+        ],
     )
 }
