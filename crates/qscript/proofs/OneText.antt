@@ -25,7 +25,7 @@ pub text_of_run : (roster : List Member) (calls : List (ℕ × Call)) (new : Sta
 text_of_run roster calls new run blocked text well told left is = record {
   run = run;
   blocked = blocked;
-  ran = record { first = well.first; made = told; lawful = well.lawful; properties = well.properties; left = left };
+  ran = record { rising = well.rising; first = well.first; made = told; lawful = well.lawful; properties = well.properties; left = left };
   printed_so = is;
   only = λ had other others ran held.
       let events = well.only had other.events (ran.made ∙ sym told) ran.lawful held in

@@ -1,6 +1,7 @@
 -- A script, from a reader to a writer.
 use Rattle.std.specs.Prelude.{◌≡◌, ℕ, ◌≤◌, ◌^◌, Bool, List, [], length, map, Option}
 use Rattle.std.specs.Io.KnownBytes.{Appends}
+use Rattle.qtables.specs.Members.{IsRoster}
 use Rattle.qtables.specs.declared.member.Member.{Member}
 use Rattle.qrules.specs.declared.call.Call.{Call}
 use Rattle.qrules.specs.declared.open_call.Blocked.{Blocked}
@@ -22,8 +23,10 @@ pub record CanRun (roster : List Member) (calls : List (ℕ × Call)) : Type 0 w
   pub callers : AllKnown (enrolled [] roster) calls
   pub few : length calls ≤ 2 ^ 40
 
--- a run of just these calls, lawful from the first call on, and who is blocked after it
+-- a run of just these calls, lawful from the first call on, and who is blocked after it; the roster's threads stand in rising number, which the
+-- laws of lawful traces ask
 pub record IsRunOf (roster : List Member) (calls : List (ℕ × Call)) (run : Run) (blocked : List Blocked) : Type 0 where
+  pub rising : IsRoster (enrolled [] roster)
   pub first : run.first ≡ 1
   pub made : map event_call run.events ≡ calls
   pub lawful : IsLawful (enrolled [] roster) (followed_by [] run.events)

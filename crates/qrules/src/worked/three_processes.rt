@@ -38,10 +38,10 @@ pub fn not_held_with_all_flags()
 pub fn waiting_with_all_flags()
     ensures lawful { IsLawfulRun roster flags.waiting }
     ensures waits { EndsOnlySo roster flags.waiting 5 }
-    ensures message { EndsOnlySoWithMemory roster flags.waiting 6 }
+    ensures message { EndsOnlySo roster flags.waiting 6 }
     ensures kept { EndsOnlySo roster flags.waiting 7 }
     ensures waits_again { EndsOnlySo roster flags.waiting 8 }
-    ensures pulse { EndsOnlySoWithMemory roster flags.waiting 9 }
+    ensures pulse { EndsOnlySo roster flags.waiting 9 }
     ensures kept_again { EndsOnlySo roster flags.waiting 10 }
     ensures blocked { blocked_after roster flags.waiting ≡ flags.still_waiting }
 {}
