@@ -124,7 +124,7 @@ held_to_send roster past i r l held =
     let is_open : open_call roster past t.0 ≡ Some waiting = open_from roster past t.0 k.block k.is (subst (λ j. is_ended past j ≡ false) (sym k.number) going) in
     let number : waiting.number ≡ i = receipt_number (priority_of_item roster past n) (is_unblocked roster past n) (receipt_of past n) (filled past k.block) ∙ k.number in
     let reply : is_for_reply waiting.wait ≡ true = received_for_reply (priority_of_item roster past n) (is_unblocked roster past n) (receipt_of past n) (filled past k.block)
-        (subst (λ j. is_taken past j ≡ true) (sym k.number) p.0) (filled_answer past k.block ∙ answer) in
+    (subst (λ j. is_taken past j ≡ true) (sym k.number) p.0) (filled_answer past k.block ∙ answer) in
     record {
       thread = t.0;
       waiting = waiting;
