@@ -14,7 +14,9 @@ use Rattle.qrules.proofs.worked.broken.best_first.Goals as goal
 -- of one call there is one channel and one kind
 best_so : (best : Kind → ℕ → Option ℕ) (i : ℕ) (call same : Call) (h channel : ℕ) (kind same_kind : Kind) → Some call ≡ Some same → receives_on call ≡ Some (h, kind) → receives_on same ≡ Some (channel, same_kind) → best same_kind channel ≡ Some i → best kind h ≡ Some i
 best_so best i call same h channel kind same_kind calls receives receives_same found =
-    let pair : (h, kind) ≡ (channel, same_kind) = cc in
+    let one : ℕ × Kind = (h, kind) in
+    let other : ℕ × Kind = (channel, same_kind) in
+    let pair : one ≡ other = cc in
     let the_channel : h ≡ channel = ap (λ (p : ℕ × Kind). p.0) pair in
     let the_kind : kind ≡ same_kind = ap (λ (p : ℕ × Kind). p.1) pair in
     cc
