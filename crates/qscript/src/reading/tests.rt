@@ -148,81 +148,96 @@ fn names_the_fault_of_one_line(rt: HostRuntime) -> Result<(), Fail> {
     Ok(())
 }
 
+/// Faults, and behind each a line that has it after the roster line of thread 1.
+const SECOND_LINES: &str = "double thread: thread 1 2 20
+unknown word: 1 frob
+unknown word: 1 creat 0
+word count: 1 create
+word count: 1 create 0 0
+bad number: 1 create 256
+unknown thread: 7 create 0
+bad bytes: 1 send 2 abc -
+bad number: 1 send x 0xaa -
+bad bytes: 1 send 1 0xaa -
+bad bytes: 1 send 1 4097x00 -
+bad bytes: 1 send 1 000000000000000000001x00 -
+bad bytes: 1 send 1 x00 -
+bad bytes: 1 send 1 1x0 -
+bad bytes: 1 send 1 -- -
+word count: 1 send 1 -
+word count: 1 send 1 - - -
+word count: 1 receive 1
+bad number: 1 reply 1 - -
+bad number: 1 reply 1 -- -
+bad number: 1 reply 1 +1 -
+bad number: 1 reply -1 1 -
+bad number: 1 reply 1 9223372036854775808 -
+bad number: 1 reply 1 -9223372036854775809 -
+bad number: 1 error 1 2147483648
+bad number: 1 error 1 -2147483649
+word count: 1 error 1
+bad number: 1 read 1 -1 -
+bad number: 1 read 1 18446744073709551616 -
+bad bytes: 1 read 1 0 0
+bad number: 1 write 1 x -
+word count: 1 write 1 0
+word count: 1 info
+bad number: 1 info -1
+word count: 1 receivepulse
+bad number: 1 receivepulse -1
+word count: 1 pulse 1 1 0
+word count: 1 pulse 1 1 0 0 0
+bad number: 1 pulse x 0 0 0
+bad priority: 1 pulse 1 0 128 0
+bad priority: 1 pulse 1 64 0 0
+bad number: 1 pulse 1 256 0 0
+bad number: 1 pulse 1 1 128 0
+bad number: 1 pulse 1 1 -129 0
+bad number: 1 pulse 1 1 0 2147483648
+bad number: 1 pulse 1 1 0 -2147483649
+word count: 1 setprio 1
+bad number: 1 setprio 256 1
+bad number: 1 setprio 1 256
+bad priority: 1 setprio 1 0
+bad priority: 1 setprio 1 64
+word count: 1 state
+bad number: 1 state 256
+word count: 1 detach
+word count: 1 detach 1 1
+bad number: 1 detach x
+word count: 1 unblock
+word count: 1 unblock 1 1
+bad number: 1 unblock 256
+word count: 1 destroy
+word count: 1 destroy 1 1
+bad number: 1 destroy -1
+word count: 1 shutdown 1
+bad number: 1 attach 18446744073709551616
+bad number: 1 attach 000000000000000000001";
+
 #[test]
 fn names_the_fault_of_a_second_line(rt: HostRuntime) -> Result<(), Fail> {
+    for row in SECOND_LINES.lines() {
+        let (fault, line) = row.split_once(": ").expect(&rt, "a row");
+        let words = format!(in rt.alloc(); "line 2: {fault}")?;
+        expect_second(&rt, rt.alloc(), line.as_bytes(), words.as_str())?;
+    }
+    Ok(())
+}
+
+#[test]
+fn names_the_fault_of_a_later_line(rt: HostRuntime) -> Result<(), Fail> {
     let rows = [
-        (b"thread 1 2 20".as_slice(), "line 2: double thread"),
-        (b"1 frob", "line 2: unknown word"),
-        (b"1 creat 0", "line 2: unknown word"),
-        (b"1 create", "line 2: word count"),
-        (b"1 create 0 0", "line 2: word count"),
-        (b"1 create 256", "line 2: bad number"),
-        (b"7 create 0", "line 2: unknown thread"),
-        (b"1 send 2 abc -", "line 2: bad bytes"),
-        (b"1 send x 0xaa -", "line 2: bad number"),
-        (b"1 send 1 0xaa -", "line 2: bad bytes"),
-        (b"1 send 1 4097x00 -", "line 2: bad bytes"),
-        (b"1 send 1 000000000000000000001x00 -", "line 2: bad bytes"),
-        (b"1 send 1 x00 -", "line 2: bad bytes"),
-        (b"1 send 1 1x0 -", "line 2: bad bytes"),
-        (b"1 send 1 -- -", "line 2: bad bytes"),
-        (b"1 send 1 -", "line 2: word count"),
-        (b"1 send 1 - - -", "line 2: word count"),
-        (b"1 receive 1", "line 2: word count"),
-        (b"1 reply 1 - -", "line 2: bad number"),
-        (b"1 reply 1 -- -", "line 2: bad number"),
-        (b"1 reply 1 +1 -", "line 2: bad number"),
-        (b"1 reply -1 1 -", "line 2: bad number"),
-        (b"1 reply 1 9223372036854775808 -", "line 2: bad number"),
-        (b"1 reply 1 -9223372036854775809 -", "line 2: bad number"),
-        (b"1 error 1 2147483648", "line 2: bad number"),
-        (b"1 error 1 -2147483649", "line 2: bad number"),
-        (b"1 error 1", "line 2: word count"),
-        (b"1 read 1 -1 -", "line 2: bad number"),
-        (b"1 read 1 18446744073709551616 -", "line 2: bad number"),
-        (b"1 read 1 0 0", "line 2: bad bytes"),
-        (b"1 write 1 x -", "line 2: bad number"),
-        (b"1 write 1 0", "line 2: word count"),
-        (b"1 info", "line 2: word count"),
-        (b"1 info -1", "line 2: bad number"),
-        (b"1 receivepulse", "line 2: word count"),
-        (b"1 receivepulse -1", "line 2: bad number"),
-        (b"1 pulse 1 1 0", "line 2: word count"),
-        (b"1 pulse 1 1 0 0 0", "line 2: word count"),
-        (b"1 pulse x 0 0 0", "line 2: bad number"),
-        (b"1 pulse 1 0 128 0", "line 2: bad priority"),
-        (b"1 pulse 1 64 0 0", "line 2: bad priority"),
-        (b"1 pulse 1 256 0 0", "line 2: bad number"),
-        (b"1 pulse 1 1 128 0", "line 2: bad number"),
-        (b"1 pulse 1 1 -129 0", "line 2: bad number"),
-        (b"1 pulse 1 1 0 2147483648", "line 2: bad number"),
-        (b"1 pulse 1 1 0 -2147483649", "line 2: bad number"),
-        (b"1 setprio 1", "line 2: word count"),
-        (b"1 setprio 256 1", "line 2: bad number"),
-        (b"1 setprio 1 256", "line 2: bad number"),
-        (b"1 setprio 1 0", "line 2: bad priority"),
-        (b"1 setprio 1 64", "line 2: bad priority"),
-        (b"1 state", "line 2: word count"),
-        (b"1 state 256", "line 2: bad number"),
-        (b"1 detach", "line 2: word count"),
-        (b"1 detach 1 1", "line 2: word count"),
-        (b"1 detach x", "line 2: bad number"),
-        (b"1 unblock", "line 2: word count"),
-        (b"1 unblock 1 1", "line 2: word count"),
-        (b"1 unblock 256", "line 2: bad number"),
-        (b"1 destroy", "line 2: word count"),
-        (b"1 destroy 1 1", "line 2: word count"),
-        (b"1 destroy -1", "line 2: bad number"),
-        (b"1 shutdown 1", "line 2: word count"),
-        (b"1 attach 18446744073709551616", "line 2: bad number"),
-        (b"1 attach 000000000000000000001", "line 2: bad number"),
-        (b"1 create 0\nthread 2 1 10", "line 3: late thread"),
+        (
+            b"1 create 0\nthread 2 1 10".as_slice(),
+            "line 3: late thread",
+        ),
         (b"1 create 0\nthread 2 1 10\x80", "line 3: bad byte"),
         (b"1 create 0\nthread", "line 3: late thread"),
         (b"\n#\n1 create\nx", "line 4: word count"),
     ];
-    for (line, words) in rows {
-        expect_second(&rt, rt.alloc(), line, words)?;
+    for (lines, words) in rows {
+        expect_second(&rt, rt.alloc(), lines, words)?;
     }
     Ok(())
 }
