@@ -2,7 +2,7 @@
 use Rattle.std.proofs.Common.{◌≡◌, ℕ, zero, suc, ◌+◌, ◌-◌, ◌<◌, ◌≤◌, ◌==◌, ◌||◌, Bool, true, false, cond, IsTrue, List, [], ◌∷◌, ◌++◌, length, length-take, take, get_or, slice_index, Option, Some, None, is_some, Result, Ok, Err, refl, sym, ap, ◌∙◌, map, add-one, append-nil, nat_lt, nat_le, arith}
 use Rattle.std.specs.List.{cons_option, filter_map, slice_split}
 use Rattle.std.proofs.lemmas.List.{length-map, take_all}
-use Rattle.std.proofs.lemmas.Bool.{ne_eqb, leb-false, ltb-false, or_right}
+use Rattle.std.proofs.lemmas.Bool.{lt-ltb, leb-false, ltb-false, or_right}
 use Rattle.std.proofs.lemmas.List.Splits.{length-slice_split}
 use Rattle.std.proofs.lemmas.List.Sums.{count_by-le-length}
 use Rattle.std.proofs.Math.Bool.{or-false}
@@ -101,7 +101,7 @@ one_free true x l h = refl
 one_free false x l h = cc
 
 not_refused : (r : List Member) (t : ℕ) → is_some (member_at r t) ≡ false → length r < 64 → join_refusal r t ≡ None
-not_refused r t absent few = rw (absent, ne_eqb (length r) 64 (λ e. omega (arith, e)))
+not_refused r t absent few = rw (absent, lt-ltb (length r) 64 few)
 
 under : (n : ℕ) → nat_le 64 n ≡ false → n < 64
 under n h = leb-false 64 n h
