@@ -53,6 +53,12 @@ pub fn copied_exactly()
     ensures code_buffer { CopiedExactly copied.code_buffer → ⊥ }
     ensures failed_buffer { CopiedExactly copied.failed_buffer → ⊥ }
     ensures buffer_from_nothing { CopiedExactly copied.buffer_from_nothing → ⊥ }
+    ensures channel_buffer { CopiedExactly copied.channel_buffer → ⊥ }
+    ensures connection_buffer { CopiedExactly copied.connection_buffer → ⊥ }
+    ensures info_buffer { CopiedExactly copied.info_buffer → ⊥ }
+    ensures state_buffer { CopiedExactly copied.state_buffer → ⊥ }
+    ensures write_buffer { CopiedExactly copied.write_buffer → ⊥ }
+    ensures counted_nothing { CopiedExactly copied.counted_nothing → ⊥ }
 {}
 
 /// No receipt takes a lesser item, a later one of equal priority, or one that it may not take.

@@ -1,11 +1,12 @@
 -- A byte or a count isn't what was to be copied.
 use Rattle.std.specs.Prelude.{[], ◌∷◌, pos}
 use Rattle.qbase.specs.declared.errno.Errno.TheVariants.{Intr}
+use Rattle.qbase.specs.declared.state.ThreadState.TheVariants.{Ready}
 use Rattle.qqueue.specs.declared.item.What.TheVariants as what
-use Rattle.qrules.specs.declared.call.Call.TheVariants.{Receive, Reply, Error, Read, Write, Pulse, Unblock}
+use Rattle.qrules.specs.declared.call.Call.TheVariants.{ChannelCreate, ConnectAttach, Receive, Reply, Error, Read, Write, Info, Pulse, Unblock, State}
 use Rattle.qrules.specs.declared.call.Mark.TheVariants as mark
 use Rattle.qrules.specs.Trace.{Trace}
-use Rattle.qrules.specs.Worked.Runs.{event, ended}
+use Rattle.qrules.specs.Worked.Runs.{event, ended, flags_of}
 use Rattle.qrules.specs.Worked.Broken.Held.{held, run_of, sent}
 
 -- the second byte that is received isn't the one that was sent
@@ -69,3 +70,27 @@ failed_buffer = sent (event 42 (Unblock 43) (ended 5 42 mark.Ok [] ∷ ended 4 4
 -- a call that brings no buffer gives one back
 abbrev pub buffer_from_nothing : Trace
 buffer_from_nothing = sent (event 42 (Unblock 42) (ended 5 42 mark.Ok (0xaa ∷ []) ∷ []) ∷ [])
+
+-- the same of a channel that is created
+abbrev pub channel_buffer : Trace
+channel_buffer = run_of (event 31 (ChannelCreate (flags_of 0)) (ended 4 31 (mark.Channel 4) (0xaa ∷ []) ∷ []) ∷ [])
+
+-- the same of a connection that is attached
+abbrev pub connection_buffer : Trace
+connection_buffer = run_of (event 43 (ConnectAttach 1) (ended 4 43 (mark.Connection 4) (0xaa ∷ []) ∷ []) ∷ [])
+
+-- the same of a message that is told of
+abbrev pub info_buffer : Trace
+info_buffer = held (event 31 (Info 4) (ended 6 31 (mark.Info (record { process = 152; thread = 43; connection = 2; msglen = 1; srcmsglen = 2; dstmsglen = 3; priority = 23 })) (0xaa ∷ []) ∷ []) ∷ [])
+
+-- the same of a thread's state
+abbrev pub state_buffer : Trace
+state_buffer = run_of (event 31 (State 54) (ended 4 31 (mark.State Ready 26) (0xaa ∷ []) ∷ []) ∷ [])
+
+-- the same of a write
+abbrev pub write_buffer : Trace
+write_buffer = held (event 31 (Write 4 2 (0xcc ∷ [])) (ended 6 31 (mark.Count 1) (0xaa ∷ []) ∷ []) ∷ [])
+
+-- a call counts that neither reads nor writes
+abbrev pub counted_nothing : Trace
+counted_nothing = held (event 31 (Info 4) (ended 6 31 (mark.Count 0) [] ∷ []) ∷ [])
