@@ -4,13 +4,13 @@ use Rattle.std.specs.Prelude.{Option, None, Some, not, ◌&&◌, count_by}
 use Rattle.std.specs.List.{AllByRecursion, filter_map, cons_option}
 use Rattle.std.proofs.lemmas.Bool.{and_from, cases_Bool, ne_eqb, eq-eqb, eqb-true, eqb-false, true≢false}
 use Rattle.std.proofs.lemmas.List.Sums.{sum_by-cons}
-use Rattle.std.proofs.lemmas.Option.{none-some, same_Some}
+use Rattle.std.proofs.lemmas.Option.{none-some}
 use Rattle.qtables.specs.declared.connection.Connection.{Connection}
 use Rattle.qtables.specs.declared.member.Member.{Member}
 use Rattle.qtables.specs.Members.{IsRoster}
 use Rattle.qrules.specs.Answer.{ending, Outcome, Answers}
 use Rattle.qrules.specs.Held.{owns_end}
-use Rattle.qrules.specs.Facts.{Facts, is_for_answer, owns, sender, threads_of}
+use Rattle.qrules.specs.Facts.{Facts, is_for_answer, owns, threads_of}
 use Rattle.qrules.specs.Headline.AnsweredToSender.{AnsweredToSender, AnswersIts, AnswersOnce, EachAnswersIts, is_answer, is_held, owns_channel_of, owns_that, sender_of}
 use Rattle.qrules.specs.Lawful.{facts_of, IsLawful}
 use Rattle.qrules.specs.Past.{connection_at, is_taken}

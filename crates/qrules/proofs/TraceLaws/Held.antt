@@ -1,6 +1,6 @@
 -- A message is held by what the past says exactly where it is by what its sender waits for.
-use Rattle.std.proofs.Common.{◌≡◌, ◌∙◌, ◌+◌, ℕ, List, [], ◌∷◌, length, refl, ap, sym, subst, cond, eqb, true, false, inl, inr}
-use Rattle.std.specs.Prelude.{Option, None, Some, is_some, not, ◌&&◌, ◌||◌, Bool}
+use Rattle.std.proofs.Common.{◌≡◌, ◌∙◌, ◌+◌, ℕ, List, [], ◌∷◌, length, refl, ap, sym, subst, cond, eqb, true, false}
+use Rattle.std.specs.Prelude.{Option, None, Some, is_some, not, Bool}
 use Rattle.std.specs.List.{AllByRecursion}
 use Rattle.std.specs.Option.{option_map, option_or}
 use Rattle.std.proofs.lemmas.Bool.{and_from, and_parts, eqb-true, not-true, not_from_false, or_parts, true≢false}
@@ -16,7 +16,7 @@ use Rattle.qrules.specs.Laws.{HeldIsHeldSend, IsHeldSend, blocker, is_for_reply}
 use Rattle.qrules.specs.Lawful.{IsLawful, facts_of}
 use Rattle.qrules.specs.Past.{copied_of, ends, filled, held_with, is_ended, is_taken, item_of, made_at, open_call, priority_of_item, receipt_among, receipt_of, with_receipt}
 use Rattle.qrules.specs.Rows.{Made, asks, received}
-use Rattle.qrules.specs.Trace.{Event, Trace}
+use Rattle.qrules.specs.Trace.{Trace}
 use Rattle.qrules.specs.declared.call.Completion.{Completion}
 use Rattle.qrules.specs.declared.open_call.OpenCall.{OpenCall}
 use Rattle.qrules.specs.declared.open_call.Receipt.{Receipt}

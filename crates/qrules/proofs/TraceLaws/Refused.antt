@@ -1,15 +1,12 @@
 -- A refused call changes nothing but how many were made.
-use Rattle.std.proofs.Common.{◌≡◌, ◌∙◌, ℕ, List, ◌∷◌, refl, ap, sym, arith, true, false, inl, inr}
-use Rattle.std.specs.Prelude.{Bool, not}
+use Rattle.std.proofs.Common.{◌∙◌, ℕ, ◌∷◌, ap, sym, false, inl, inr}
+use Rattle.std.specs.Prelude.{not}
 use Rattle.std.proofs.lemmas.Bool.{true≢false}
 use Rattle.std.proofs.Math.Nat.{add-zero}
-use Rattle.qtables.specs.Members.{IsRoster}
-use Rattle.qtables.specs.declared.member.Member.{Member}
 use Rattle.qrules.specs.Facts.{Facts}
 use Rattle.qrules.specs.Laws.{IsOnlyCounted, RefusedChangesNothing}
-use Rattle.qrules.specs.Lawful.{IsLawful, facts_of}
+use Rattle.qrules.specs.Lawful.{facts_of}
 use Rattle.qrules.specs.Step.{Follows}
-use Rattle.qrules.specs.Trace.{Event, Trace}
 use Rattle.qrules.specs.declared.call.Call.{Call}
 use Rattle.qrules.proofs.Past.Ends.{accepted}
 use Rattle.qrules.proofs.Past.Follows.{past_follows}

@@ -1,21 +1,18 @@
 -- Who waits: over a live connection, in the last call that may take an item, and beside nothing that it may take.
-use Rattle.std.proofs.Common.{◌≡◌, ◌∙◌, ◌≤◌, ℕ, List, [], ◌∷◌, refl, ap, sym, subst, arith, eqb, true, false, inl, inr}
-use Rattle.std.specs.Prelude.{Option, None, Some, is_some, Bool, nat_lt}
+use Rattle.std.proofs.Common.{◌≡◌, ◌∙◌, ℕ, List, [], ◌∷◌, refl, ap, sym, eqb, true, false, inl, inr}
+use Rattle.std.specs.Prelude.{None, Some, is_some, Bool}
 use Rattle.std.specs.List.{list_any}
 use Rattle.std.proofs.lemmas.Bool.{eqb-true, ltb-false, or_cases, or_parts, true≢false}
-use Rattle.std.proofs.lemmas.Option.{none-some, same_Some}
+use Rattle.std.proofs.lemmas.Option.{none-some}
 use Rattle.qqueue.specs.declared.item.Item.{Item}
-use Rattle.qtables.specs.Members.{IsRoster}
-use Rattle.qtables.specs.declared.connection.Connection.{Connection}
 use Rattle.qtables.specs.declared.member.Member.{Member}
 use Rattle.qrules.specs.Cutting.{is_to}
 use Rattle.qrules.specs.Facts.{threads_of}
-use Rattle.qrules.specs.Laws.{IsLastWait, IsLiveWay, NewestIsGreatest, NoneIsNewest, NothingPendingForWaiting, OpenSendsAreLive}
+use Rattle.qrules.specs.Laws.{NewestIsGreatest, NoneIsNewest, NothingPendingForWaiting, OpenSendsAreLive}
 use Rattle.qrules.specs.Lawful.{IsLawful, facts_of}
-use Rattle.qrules.specs.Past.{channel_at, connection_at, open_call}
+use Rattle.qrules.specs.Past.{connection_at, open_call}
 use Rattle.qrules.specs.Receivers.{is_after, newest, wait_on}
 use Rattle.qrules.specs.Trace.{Trace}
-use Rattle.qrules.specs.declared.open_call.OpenCall.{OpenCall}
 use Rattle.qbase.proofs.Lists.{eqb_same, is_among, some_of}
 use Rattle.qrules.proofs.Past.Ends.{open_known}
 use Rattle.qrules.proofs.Past.LiveSends.{live_over}

@@ -80,6 +80,7 @@ pub fn shut_for_good()
     ensures send_left { ShutForGood roster shut.send_left → ⊥ }
     ensures held_left { ShutForGood roster shut.held_left → ⊥ }
     ensures receiver_left { ShutForGood roster shut.receiver_left → ⊥ }
+    ensures detached_left { ShutForGood roster shut.detached_left → ⊥ }
 {}
 
 /// What the broken runs begin with is lawful.

@@ -1,7 +1,7 @@
 -- A channel is destroyed, and what was on it goes on.
 use Rattle.std.specs.Prelude.{[], ◌∷◌}
 use Rattle.qbase.specs.declared.errno.Errno.TheVariants.{Srch}
-use Rattle.qrules.specs.declared.call.Call.TheVariants.{Receive, ReceivePulse, ChannelDestroy}
+use Rattle.qrules.specs.declared.call.Call.TheVariants.{ConnectDetach, Receive, ReceivePulse, ChannelDestroy}
 use Rattle.qrules.specs.declared.call.Mark.TheVariants as mark
 use Rattle.qrules.specs.Trace.{Trace}
 use Rattle.qrules.specs.Worked.Runs.{event, ended}
@@ -27,4 +27,11 @@ abbrev pub receiver_left : Trace
 receiver_left = run_of (
     event 35 (ReceivePulse 1) []
     ∷ event 31 (ChannelDestroy 1) (ended 5 31 mark.Ok [] ∷ [])
+    ∷ [])
+
+-- a Send stays open over a connection that was detached before
+abbrev pub detached_left : Trace
+detached_left = sent (
+    event 42 (ConnectDetach 2) (ended 5 42 mark.Ok [] ∷ [])
+    ∷ event 31 (ChannelDestroy 1) (ended 6 31 mark.Ok [] ∷ [])
     ∷ [])

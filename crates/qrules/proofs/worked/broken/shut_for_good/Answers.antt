@@ -12,3 +12,6 @@ returns-clause-held_left c = λ p. let h : true ≡ false = (p.0 1 refl).1 43 _ 
 
 pub returns-clause-receiver_left : goal.returns-clause-receiver_left
 returns-clause-receiver_left c = λ p. let h : true ≡ false = (p.0 1 refl).1 35 _ refl in cc
+
+pub returns-clause-detached_left : goal.returns-clause-detached_left
+returns-clause-detached_left c = λ p. let h : true ≡ false = (p.0 1 refl).1 43 _ refl in cc
