@@ -5,5 +5,3 @@ pub mod item;
 pub mod laws;
 mod list;
 pub mod queue;
-#[cfg(test)]
-mod tests;

@@ -1,6 +1,6 @@
 -- What a text says can run: its threads join one roster, and its calls are of these threads.
 use Rattle.std.proofs.Common.{◌≡◌, ℕ, zero, suc, ◌+◌, ◌-◌, ◌<◌, ◌≤◌, ◌==◌, ◌||◌, Bool, true, false, cond, IsTrue, List, [], ◌∷◌, ◌++◌, length, length-take, take, get_or, slice_index, Option, Some, None, is_some, Result, Ok, Err, refl, sym, ap, ◌∙◌, map, add-one, append-nil, nat_lt, nat_le, arith}
-use Rattle.std.specs.List.{cons_option, filter_map, slice_split}
+use Rattle.std.specs.List.{cons_option, slice_split}
 use Rattle.std.proofs.lemmas.List.{length-map, take_all}
 use Rattle.std.proofs.lemmas.Bool.{lt-ltb, leb-false, ltb-false, or_right}
 use Rattle.std.proofs.lemmas.List.Splits.{length-slice_split}

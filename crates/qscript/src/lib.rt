@@ -5,7 +5,7 @@ pub mod fault;
 mod printing;
 mod reading;
 pub mod script;
-#[cfg(test)]
-mod tests;
 mod transfer;
 pub mod watched;
+
+pub use reading::script::{MOST_TEXT, Script, parse};

@@ -8,7 +8,5 @@ pub mod line;
 pub mod lines;
 pub mod number;
 pub mod script;
-#[cfg(test)]
-mod tests;
 pub mod verb;
 pub mod words;

@@ -8,5 +8,3 @@ mod entries;
 pub mod laws;
 pub mod member;
 pub mod roster;
-#[cfg(test)]
-mod tests;

@@ -1,5 +1,5 @@
 -- ConnectAttach as a step of the kernel.
-use Rattle.std.proofs.Common.{◌≡◌, ℕ, ◌+◌, ◌≤◌, ◌<◌, List, [], ◌∷◌, ◌++◌, length, add-zero, refl, ap, sym, ◌∙◌, cond, arith, true, false, eqb, append-nil, inl, inr}
+use Rattle.std.proofs.Common.{◌≡◌, ℕ, ◌+◌, ◌≤◌, ◌<◌, List, [], ◌∷◌, ◌++◌, length, add-zero, refl, ap, sym, ◌∙◌, cond, arith, true, false, append-nil, inl, inr}
 use Rattle.std.specs.Prelude.{None, Some, is_some, nat_lt}
 use Rattle.qbase.specs.declared.errno.Errno.{Errno}
 use Rattle.qbase.specs.declared.errno.Errno.TheVariants.{Srch, Again, NoMemory}

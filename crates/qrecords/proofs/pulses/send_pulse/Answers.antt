@@ -1,5 +1,4 @@
-use Rattle.std.proofs.Common.{[], ap, sym, subst, ◌∙◌}
-use Rattle.std.specs.Prelude.{List}
+use Rattle.std.proofs.Common.{[], sym, ◌∙◌}
 use Rattle.qtables.specs.Members.{IsRoster}
 use Rattle.qrecords.specs.Threads.{members_of}
 use Rattle.qrecords.proofs.Receivers.{met_there, newest_receives, waits_open}

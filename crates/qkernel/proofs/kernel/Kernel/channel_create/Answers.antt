@@ -1,4 +1,4 @@
-use Rattle.std.proofs.Common.{◌≡◌, sym, ap, false, true, length, arith}
+use Rattle.std.proofs.Common.{◌≡◌, sym, ap, true, length, arith}
 use Rattle.std.specs.Prelude.{nat_lt}
 use Rattle.std.proofs.lemmas.Bool.{lt-ltb}
 use Rattle.qkernel.proofs.Steps.Common.{sound_counted_alone, ids_below}

@@ -1,4 +1,4 @@
-use Rattle.std.proofs.Common.{◌≡◌, sym, false, true, eqb, length, arith}
+use Rattle.std.proofs.Common.{◌≡◌, sym, true, length, arith}
 use Rattle.std.specs.Prelude.{is_some}
 use Rattle.std.specs.Prelude.{nat_lt}
 use Rattle.std.proofs.lemmas.Bool.{lt-ltb}

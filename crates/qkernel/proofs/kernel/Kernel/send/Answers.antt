@@ -1,4 +1,4 @@
-use Rattle.std.proofs.Common.{sym, ap, ◌∙◌, Some, refl}
+use Rattle.std.proofs.Common.{sym, ap, ◌∙◌, refl}
 use Rattle.qtables.specs.Members.{IsRoster}
 use Rattle.qrules.specs.Rows.{takes}
 use Rattle.qrecords.specs.Threads.{members_of}

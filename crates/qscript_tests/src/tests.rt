@@ -3,9 +3,9 @@
 mod rows;
 mod streams;
 
-use crate::fault::ScriptFault;
-use crate::script::script;
-use crate::watched::Watched;
+use qscript::fault::ScriptFault;
+use qscript::script::script;
+use qscript::watched::Watched;
 use std::alloc::Global;
 use std::process::Abort;
 use std::test::Fail;

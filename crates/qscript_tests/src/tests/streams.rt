@@ -1,9 +1,9 @@
 //! Readers and writers that give or take little, or fail.
 
-use crate::fault::ScriptFault;
-use crate::script::script;
 use crate::tests::{PRELUDE, PRELUDE_TEXT};
-use crate::watched::Watched;
+use qscript::fault::ScriptFault;
+use qscript::script::script;
+use qscript::watched::Watched;
 use std::io;
 use std::io::{ErrorKind, Read, Write};
 use std::test::Fail;

@@ -1,10 +1,12 @@
+//! The queue of one channel, by calls whose answers are written out by hand.
+
 ghost use Rattle.std.specs.Prelude.{◌≡◌, IfOk};
 
-use crate::item::{Item, Kind, What};
-use crate::queue::Queue;
 use qbase::errno::Errno;
 use qbase::ids::{ProcessNo, ReceiveId};
 use qbase::priority::Priority;
+use qqueue::item::{Item, Kind, What};
+use qqueue::queue::Queue;
 use std::test::Fail;
 
 fn item(number: u64, level: u8, what: What) -> Result<Item, Fail>

@@ -1,17 +1,19 @@
+//! The roster and the tables, by calls whose answers are written out by hand, up to their limits.
+
 ghost use Rattle.std.specs.Prelude.{◌≡◌, ◌<◌, IfOk, IfSome, IsSome, None};
 ghost use Rattle.std.specs.List.{AllByRecursion};
 ghost use Rattle.qbase.specs.Laying.{lay_over};
 ghost use Rattle.qtables.specs.Entries.{entry_at, with_record};
 
-use crate::channels::{CHANNEL_LIMIT, Channels};
-use crate::connection::Connection;
-use crate::connections::{CONNECTION_LIMIT, Connections};
-use crate::laws::{joins_just_its_own, tables_are_maps};
-use crate::roster::{Roster, THREAD_LIMIT};
 use qbase::bytes::Bytes;
 use qbase::errno::Errno;
 use qbase::ids::{ChannelId, ConnectionId, ProcessNo, ThreadNo};
 use qbase::priority::Priority;
+use qtables::channels::{CHANNEL_LIMIT, Channels};
+use qtables::connection::Connection;
+use qtables::connections::{CONNECTION_LIMIT, Connections};
+use qtables::laws::{joins_just_its_own, tables_are_maps};
+use qtables::roster::{Roster, THREAD_LIMIT};
 use std::alloc::Global;
 use std::test::Fail;
 

@@ -1,7 +1,7 @@
 //! Scripts and their faults, by texts written by hand.
 
-use crate::reading::script::{MOST_TEXT, parse};
 use qkernel::call::Call;
+use qscript::{MOST_TEXT, parse};
 use std::alloc::Global;
 use std::process::Abort;
 use std::test::Fail;

@@ -1,6 +1,6 @@
 use Rattle.std.proofs.Common.{arith}
 use Rattle.qtables.proofs.Fresh.{Below-le, Below-create}
-use Rattle.qtables.proofs.tests.all_channels.Goals as goal
+use Rattle.qtests.proofs.tables.all_channels.Goals as goal
 
 pub loop-number-preserved : goal.loop-number-preserved
 loop-number-preserved c = rw c.in_ok-create.ensures.ok (Below-create c.loop-number.number c.loop-number.channels _ c.loop-number.invariant)
