@@ -1,9 +1,10 @@
 -- A row of thread seats.
-use Rattle.std.proofs.Common.{◌≡◌, ℕ, zero, suc, List, [], ◌∷◌, ◌++◌, length, sym, refl, ◌∙◌, subst, ⊎_elim}
+use Rattle.std.proofs.Common.{◌≡◌, ℕ, zero, suc, List, [], ◌∷◌, ◌++◌, length, sym, refl, ap, ◌∙◌, subst, ⊎_elim}
 use lib.ListN.{get_elem?}
+use Rattle.atomic_table.proofs.Lists.{at_longer, at_last}
 use Rattle.atomic_table.specs.Seated.{TableId}
 use Rattle.qhandoff.specs.declared.seats.ThreadSeat.{ThreadSeat}
-use Rattle.qhandoff.specs.Words.{taken, took, IsRow}
+use Rattle.qhandoff.specs.Words.{taken, took, thread_id, thread_of, IsRow}
 use Rattle.qhandoff.proofs.Starting.{at_end}
 
 module _ {T : Type 0} where
@@ -15,3 +16,9 @@ module _ {T : Type 0} where
   took_more [] s old now (suc k) = refl
   took_more (x ∷ xs) s old now zero = old zero
   took_more (x ∷ xs) s old now (suc k) = took_more xs s (λ j. old (suc j)) now k
+
+  pub row_front : (z : TableId) (all seats : List (ThreadSeat T)) (s : ThreadSeat T) → IsRow z all → all ≡ seats ++ s ∷ [] → IsRow z seats
+  row_front z all seats s row e k u at = row k u (ap (λ xs. get_elem? xs k) e ∙ at_longer seats (s ∷ []) k u at)
+
+  pub row_last : (z : TableId) (all seats : List (ThreadSeat T)) (s : ThreadSeat T) → IsRow z all → all ≡ seats ++ s ∷ [] → (thread_id s ≡ z) × (thread_of s ≡ length seats)
+  row_last z all seats s row e = row (length seats) s (ap (λ xs. get_elem? xs (length seats)) e ∙ at_last seats s (length seats) refl)

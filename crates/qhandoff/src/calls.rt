@@ -2,6 +2,7 @@
 //! each stands what is needed of it.
 
 ghost use Rattle.std.specs.Prelude.{◌≡◌, ◌<◌, ◌++◌, [], ◌∷◌, true, false, MatchBool, MatchOption};
+ghost use Rattle.std.specs.Bool.{OnTrue};
 ghost use Rattle.qhandoff.specs.Rule.{line};
 ghost use Rattle.qhandoff.specs.Steps.{opened_desk, cancelled_desk, put_desk, IsBusy};
 ghost use Rattle.qhandoff.specs.Words.{count, desk, taken, kernel_id, thread_id, thread_of, IsKernelOf, IsThreadOf};
@@ -32,6 +33,7 @@ impl<T: Drop> KernelSeat<T> {
         requires cells { IsKernelOf cells.now self.old }
         requires thread { thread < count cells.now }
         ensures cells { kernel_id self.new ≡ kernel_id self.old }
+        ensures won { OnTrue result ((line (desk self.new) thread).opened ≡ true) }
         ensures desk { MatchBool result ((desk self.new ≡ opened_desk (desk self.old) thread) × ((line (desk self.old) thread).opened ≡ false)) ((desk self.new ≡ desk self.old) × IsBusy (line (desk self.old) thread)) }
     {
         // SeqCst. Acquire is enough: it meets the release of the thread's last give back, which emptied the slot.

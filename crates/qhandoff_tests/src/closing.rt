@@ -1,0 +1,1 @@
+//! What is left when the cells are closed.

@@ -1,0 +1,1 @@
+//! Completions that cross from one thread to another.
