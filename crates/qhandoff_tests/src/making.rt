@@ -16,7 +16,11 @@ pub fn cells(
     rt: &impl Abort,
     alloc: Global,
     threads: usize,
-) -> (Cells<Completion>, KernelSeat<Completion>, Vec<ThreadSeat<Completion>>)
+) -> (
+    Cells<Completion>,
+    KernelSeat<Completion>,
+    Vec<ThreadSeat<Completion>>,
+)
     ensures count { count result.0 ≡ threads }
     ensures kernel { IsKernelOf result.0 result.1 }
     ensures seats { (length result.2.items ≡ threads) × IsRow (cells_id result.0) result.2.items }
