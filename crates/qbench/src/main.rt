@@ -1,8 +1,9 @@
 //! Times the kernel's calls. With no argument it makes a few calls and says how many; with `measure` it
 //! prints a table of nanoseconds a call; with `tour` it makes each call once or more often, and prints each
-//! before it is made.
+//! before it is made; with `cells` it prints nanoseconds a completion that goes through a cell.
 #![tactic(auto)]
 
+mod handover;
 mod rounds;
 mod table;
 mod tour;
@@ -16,6 +17,7 @@ enum Task {
     Show,
     Measure,
     Tour,
+    Cells,
 }
 
 /// The task that a word names.
@@ -23,6 +25,7 @@ fn task_of(word: &str) -> Task {
     match word {
         "measure" => Task::Measure,
         "tour" => Task::Tour,
+        "cells" => Task::Cells,
         _ => Task::Show,
     }
 }
@@ -36,5 +39,6 @@ fn main(rt: HostRuntime) -> Result<(), Fail> {
         Task::Show => table::show(&rt),
         Task::Measure => table::measure(&rt),
         Task::Tour => tour::walk(&rt),
+        Task::Cells => handover::measure(&rt),
     }
 }
