@@ -1,5 +1,5 @@
 use Rattle.std.proofs.Common.{◌≡◌}
-use Rattle.qhandoff.specs.Words.{kernel_id, thread_id}
+use Rattle.qhandoff.specs.Words.{thread_id}
 use Rattle.qbench.proofs.handover.take_all.Given as goal
 
 abbrev pub invariant-loop : goal.invariant-loop

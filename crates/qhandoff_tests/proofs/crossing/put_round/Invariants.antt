@@ -1,5 +1,5 @@
-use Rattle.std.proofs.Common.{◌≡◌, ◌<◌, true, ℕ, ◌+◌, ◌-◌, ◌*◌, ◌≤◌, length}
-use Rattle.qhandoff.specs.Words.{count, kernel_id, thread_id, thread_of}
+use Rattle.std.proofs.Common.{◌≡◌}
+use Rattle.qhandoff.specs.Words.{count, kernel_id}
 use Rattle.qhandoff_tests.proofs.crossing.put_round.Given as goal
 
 abbrev pub invariant-loop-thread : goal.invariant-loop-thread
