@@ -1,13 +1,15 @@
 #!/usr/bin/env python3
 """Measures the kernel and its program, and prints one table with what is aimed at.
 
-usage: bench/bench.py [core] [allocations] [scripts]
+usage: bench/bench.py [core] [cells] [allocations] [scripts]
 
-With no word it measures all three. It wants the built programs `crates/qbench/out/qbench` and
+With no word it measures all four. It wants the built programs `crates/qbench/out/qbench` and
 `crates/qdemo/out/qdemo`, which `rt run` leaves in each of the two crates.
 
   core         nanoseconds a call in rounds of Send, Receive and Reply, with 1, 64 and 1,024
                connections, and 1 and 1,024 pulses that wait on the channel
+  cells        nanoseconds a completion that goes through a cell, put and taken by one thread in
+               turn, and put by one thread and taken by another
   allocations  requests to the allocator by each call, as `valgrind --trace-malloc=yes` counts
                them: the least and the most that one call of the kind made
   scripts      seconds and peak memory of `qdemo script` on scripts of 1, 2 and 4 MiB: the least
@@ -71,6 +73,14 @@ def core():
         aim = NANOSECONDS if connections == "1" else GROWTH * min(NANOSECONDS, alone[pulses])
         name = f"a call, with {connections} connections and {pulses} pulses that wait"
         row(name, f"{ns} ns", f"{aim:.1f} ns", float(ns) <= aim)
+
+
+def cells():
+    """Nanoseconds a completion through a cell."""
+    out = subprocess.run([program(QBENCH), "cells"], capture_output=True, text=True, check=True)
+    for line in out.stdout.splitlines()[1:]:
+        threads, ns = line.split()
+        row(f"a completion through a cell, by {threads} thread{'s' if threads != '1' else ''}", f"{ns} ns")
 
 
 def requests_of(trace):
@@ -179,7 +189,7 @@ def scripts():
                 script(kind, mebibytes, folder)
 
 
-PARTS = {"core": core, "allocations": allocations, "scripts": scripts}
+PARTS = {"core": core, "cells": cells, "allocations": allocations, "scripts": scripts}
 
 
 def main():

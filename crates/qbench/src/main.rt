@@ -1,8 +1,10 @@
 //! Times the kernel's calls. With no argument it makes a few calls and says how many; with `measure` it
 //! prints a table of nanoseconds a call; with `tour` it makes each call once or more often, and prints each
-//! before it is made. Any other word is a fault, with status 2.
+//! before it is made; with `cells` it prints nanoseconds a completion that goes through a cell. Any other word
+//! is a fault, with status 2.
 #![tactic(auto)]
 
+mod handover;
 mod rounds;
 mod table;
 mod tour;
@@ -17,6 +19,7 @@ enum Task {
     Show,
     Measure,
     Tour,
+    Cells,
 }
 
 /// The task that a word names, if it names one.
@@ -24,6 +27,7 @@ fn task_of(word: &str) -> Option<Task> {
     match word {
         "measure" => Some(Task::Measure),
         "tour" => Some(Task::Tour),
+        "cells" => Some(Task::Cells),
         _ => None,
     }
 }
@@ -32,7 +36,9 @@ fn main(rt: HostRuntime) -> Result<ExitCode, Fail> {
     let mut task = Task::Show;
     for word in env::args(&rt)?.skip(1) {
         let Some(named) = task_of(word.as_str()) else {
-            let _ = eprintln!(rt; "qbench: no task is called {word}; there are measure and tour");
+            let _ = eprintln!(rt;
+                "qbench: no task is called {word}; there are measure, tour and cells"
+            );
             return Ok(ExitCode::from(2));
         };
         task = named;
@@ -41,6 +47,7 @@ fn main(rt: HostRuntime) -> Result<ExitCode, Fail> {
         Task::Show => table::show(&rt)?,
         Task::Measure => table::measure(&rt)?,
         Task::Tour => tour::walk(&rt)?,
+        Task::Cells => handover::measure(&rt)?,
     }
     Ok(ExitCode::SUCCESS)
 }

@@ -1,0 +1,6 @@
+use Rattle.std.proofs.Common.{◌≡◌}
+use Rattle.qhandoff.specs.Words.{thread_id}
+use Rattle.qbench.proofs.handover.poll_until.Given as goal
+
+abbrev pub invariant-loop : goal.invariant-loop
+invariant-loop g l = (goal.iterator-loop g).can_next l.iterator' × (goal.iterator-loop g).is_finite l.iterator' × (thread_id l.seat ≡ thread_id l.initial.seat)

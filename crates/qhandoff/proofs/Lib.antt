@@ -1,0 +1,9 @@
+pub mod Changes
+pub mod Allowed
+pub mod Rests
+pub mod Starting
+pub mod Rows
+pub mod Settling
+pub mod Joining
+pub mod Left
+pub mod Behind

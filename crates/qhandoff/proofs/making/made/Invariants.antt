@@ -1,0 +1,10 @@
+use Rattle.std.proofs.Common.{◌≡◌, ℕ, ◌≤◌, [], length, vec_capacity}
+use lib.ListN.{get_elem?}
+use Rattle.qhandoff.specs.declared.view.View.TheVariants.{Kernel}
+use Rattle.qhandoff.specs.Steps.{seated_desk}
+use Rattle.qhandoff.specs.Words.{took, IsRow}
+use Rattle.qhandoff.proofs.making.made.Given as goal
+
+abbrev pub invariant-loop-thread : goal.invariant-loop-thread
+invariant-loop-thread g l = (l.seat.table_id ≡ l.table.shared.table_id) × (l.seat.me ≡ (Kernel (seated_desk l.thread l.thread-end), []))
+    × (length l.seats.items ≡ l.thread) × (l.thread-end ≤ vec_capacity l.seats) × IsRow l.table.shared.table_id l.seats.items × ((k : ℕ) → took (get_elem? l.seats.items k) ≡ [])

@@ -1,0 +1,112 @@
+//! What the seats do. Every load, store and exchange of a word is sequentially consistent in `atomic_table`; beside
+//! each stands what is needed of it.
+
+ghost use Rattle.std.specs.Prelude.{◌≡◌, ◌<◌, ◌++◌, [], ◌∷◌, true, false, MatchBool, MatchOption};
+ghost use Rattle.std.specs.Bool.{OnTrue};
+ghost use Rattle.qhandoff.specs.Rule.{line};
+ghost use Rattle.qhandoff.specs.Steps.{opened_desk, cancelled_desk, put_desk, IsBusy};
+ghost use Rattle.qhandoff.specs.Words.{count, desk, taken, kernel_id, thread_id, thread_of, IsKernelOf, IsThreadOf};
+
+use crate::cells::Cells;
+use crate::seats::{KernelSeat, ThreadSeat};
+use crate::steps::{BeginPut, Cancel, EndPut, GiveBack, Open, Take};
+
+/// Nothing was opened, or what was put was taken.
+const IDLE: u64 = 0;
+
+/// Opened for a completion that is to come.
+const OPENED: u64 = 1;
+
+/// The kernel's seat holds the slot.
+const PUTTING: u64 = 2;
+
+/// A completion lies in the slot.
+const FULL: u64 = 3;
+
+/// The thread's seat holds the slot.
+const TAKING: u64 = 4;
+
+impl<T: Drop> KernelSeat<T> {
+    /// Opens the cell of a thread, or answers false where it wasn't idle: it is opened already, or something was put
+    /// for it. Nothing changes then.
+    pub fn open(&mut self, cells: &Cells<T>, thread: usize) -> bool
+        requires cells { IsKernelOf cells.now self.old }
+        requires thread { thread < count cells.now }
+        ensures cells { kernel_id self.new ≡ kernel_id self.old }
+        ensures won { OnTrue result ((line (desk self.new) thread).opened ≡ true) }
+        ensures desk { MatchBool result ((desk self.new ≡ opened_desk (desk self.old) thread) × ((line (desk self.old) thread).opened ≡ false)) ((desk self.new ≡ desk self.old) × IsBusy (line (desk self.old) thread)) }
+    {
+        // SeqCst. Acquire is enough: it meets the release of the thread's last give back, which emptied the slot.
+        let found = cells
+            .table
+            .shared
+            .compare_exchange::<Open>(&mut self.seat, thread, IDLE, OPENED);
+        found == IDLE
+    }
+
+    /// Makes an opened cell idle again.
+    pub fn cancel(&mut self, cells: &Cells<T>, thread: usize)
+        requires cells { IsKernelOf cells.now self.old }
+        requires thread { thread < count cells.now }
+        requires opened { (line (desk self.old) thread).opened ≡ true }
+        ensures cells { kernel_id self.new ≡ kernel_id self.old }
+        ensures desk { desk self.new ≡ cancelled_desk (desk self.old) thread }
+    {
+        // SeqCst. Relaxed is enough: the slot wasn't touched, and the thread does the same at 0 as at 1.
+        cells
+            .table
+            .shared
+            .store::<Cancel>(&mut self.seat, thread, IDLE)
+    }
+
+    /// Fills an opened cell.
+    pub fn put(&mut self, cells: &Cells<T>, thread: usize, completion: T)
+        requires cells { IsKernelOf cells.now self.old }
+        requires thread { thread < count cells.now }
+        requires opened { (line (desk self.old) thread).opened ≡ true }
+        ensures cells { kernel_id self.new ≡ kernel_id self.old }
+        ensures desk { desk self.new ≡ put_desk (desk self.old) thread completion }
+    {
+        let shared = &cells.table.shared;
+        // SeqCst. Relaxed is enough: it marks what only this seat does, and the thread does the same at 2 as at 1.
+        shared.store::<BeginPut>(&mut self.seat, thread, PUTTING);
+        // No atomic step: this seat holds the slot, so this is a plain read and a plain write.
+        drop(shared.exchange(&mut self.seat, thread, Some(completion)));
+        // SeqCst. Release is enough: who finds 3 by an acquire sees the whole completion in the slot.
+        shared.store::<EndPut>(&mut self.seat, thread, FULL);
+    }
+}
+
+impl<T: Drop> ThreadSeat<T> {
+    /// The number of the thread's cell.
+    pub fn thread(&self) -> usize
+        ensures number { result ≡ thread_of self.now }
+        ensures within { result < (thread_id self.now).slots }
+    {
+        self.thread
+    }
+
+    /// Takes what was put, if anything was. It tries once and waits for nobody.
+    pub fn poll(&mut self, cells: &Cells<T>) -> Option<T>
+        requires cells { IsThreadOf cells.now self.old }
+        ensures cells { thread_id self.new ≡ thread_id self.old }
+        ensures thread { thread_of self.new ≡ thread_of self.old }
+        ensures taken { MatchOption result (taken self.new ≡ taken self.old) (λ x. taken self.new ≡ taken self.old ++ x ∷ []) }
+    {
+        let shared = &cells.table.shared;
+        let thread = self.thread;
+        // SeqCst. Relaxed is enough: it only spares an exchange that would fail, and the exchange finds out by itself.
+        if shared.peek(thread) != FULL {
+            return None;
+        }
+        // SeqCst. Acquire is enough: it meets the release of end put, so the whole completion is seen.
+        if shared.compare_exchange::<Take>(&mut self.seat, thread, FULL, TAKING) != FULL {
+            return None;
+        }
+        // No atomic step: this seat holds the slot, so this is a plain read and a plain write.
+        let completion = shared.exchange(&mut self.seat, thread, None);
+        // SeqCst. Release is enough: who finds 0 by an acquire sees the slot as it was left.
+        shared.store::<GiveBack>(&mut self.seat, thread, IDLE);
+        completion
+    }
+}

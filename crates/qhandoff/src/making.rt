@@ -1,0 +1,76 @@
+//! How the cells and their seats are made.
+
+ghost use Rattle.std.specs.Prelude.{◌≡◌, ◌<◌, ◌≤◌, ◌+◌, ℕ, [], IfOk, IfErr, length};
+ghost use lib.ListN.{get_elem?};
+ghost use Rattle.qbase.specs.declared.errno.Errno.TheVariants.{Inval, NoMemory};
+ghost use Rattle.qhandoff.specs.declared.view.View.TheVariants.{Kernel};
+ghost use Rattle.qhandoff.specs.Steps.{seated_desk};
+ghost use Rattle.qhandoff.specs.Words.{cells_id, count, desk, taken, took, thread_id, thread_of, IsKernelOf, IsRow};
+
+use crate::cells::Cells;
+use crate::seats::{KernelSeat, ThreadSeat};
+use crate::steps::{HandOff, SeatOne};
+use crate::view::View;
+use atomic_table::{Seat, Shared, Table};
+use qbase::errno::Errno;
+use std::alloc::{AllocError, Global};
+
+/// The most cells that there may be.
+const LIMIT: usize = 64;
+
+/// Cells with the seat that fills them, and for each the seat that empties it.
+type Made<T> = (Cells<T>, KernelSeat<T>, Vec<ThreadSeat<T>>);
+
+/// The seat of the next thread.
+fn next_seat<T: Drop>(
+    shared: &Shared<Option<T>, View<T>, usize, HandOff>,
+    seat: &mut Seat<Option<T>, View<T>>,
+    thread: usize,
+) -> ThreadSeat<T>
+    requires sized { (shared.now.key ≡ shared.now.table_id.slots) × (shared.now.table_id.words ≡ shared.now.table_id.slots) × (thread < shared.now.table_id.slots) }
+    requires seat { (seat.old.table_id ≡ shared.now.table_id) × (seat.old.me ≡ (Kernel (seated_desk thread shared.now.table_id.slots), [])) }
+    ensures seat { (seat.new.table_id ≡ seat.old.table_id) × (seat.new.me ≡ (Kernel (seated_desk (thread + 1) shared.now.table_id.slots), [])) }
+    ensures next { (thread_id result ≡ seat.old.table_id) × (thread_of result ≡ thread) × (taken result ≡ []) }
+{
+    // A load by SeqCst, of which nothing is needed: no other thread has a seat yet.
+    let seat = shared.split_seat::<SeatOne>(seat);
+    ThreadSeat { thread, seat }
+}
+
+/// So many idle cells, with the room for `close`.
+fn made<T: Drop>(alloc: Global, threads: usize) -> Result<Made<T>, AllocError>
+    ensures cells { IfOk result (λ r. (count r.0 ≡ threads) × IsKernelOf r.0 r.1 × (desk r.1 ≡ seated_desk threads threads)) }
+    ensures seats { IfOk result (λ r. (length r.2.items ≡ threads) × IsRow (cells_id r.0) r.2.items × ((k : ℕ) → took (get_elem? r.2.items k) ≡ [])) }
+{
+    let words = Vec::from_elem(alloc, 0u64, threads)?;
+    let room = Vec::with_capacity(alloc, threads)?;
+    let mut seats = Vec::with_capacity(alloc, threads)?;
+    let (table, mut seat) = Table::vacant(alloc, words.as_slice(), threads, &threads)?;
+    for thread in 0..threads {
+        seats.push_reserved(next_seat(&table.shared, &mut seat, thread));
+    }
+    Ok((Cells { table, room }, KernelSeat { seat }, seats))
+}
+
+impl<T: Drop> Cells<T> {
+    /// Cells for so many threads, at most 64, the seat that fills them, and for each thread the seat that empties its
+    /// own. The room that `close` needs is made here.
+    pub fn new(
+        alloc: Global,
+        threads: usize,
+    ) -> Result<(Cells<T>, KernelSeat<T>, Vec<ThreadSeat<T>>), Errno>
+        ensures cells { IfOk result (λ r. (count r.0 ≡ threads) × IsKernelOf r.0 r.1 × (desk r.1 ≡ seated_desk threads threads)) }
+        ensures seats { IfOk result (λ r. (length r.2.items ≡ threads) × IsRow (cells_id r.0) r.2.items × ((k : ℕ) → took (get_elem? r.2.items k) ≡ [])) }
+        ensures within { IfOk result (λ r. threads ≤ 64) }
+        ensures inval { 64 < threads → IfErr result (λ e. e ≡ Inval) }
+        ensures memory { threads ≤ 64 → IfErr result (λ e. e ≡ NoMemory) }
+    {
+        if threads > LIMIT {
+            return Err(Errno::Inval);
+        }
+        let Ok(made) = made(alloc, threads) else {
+            return Err(Errno::NoMemory);
+        };
+        Ok(made)
+    }
+}
