@@ -2,5 +2,6 @@ pub mod Tables
 pub mod Steps
 pub mod Standing
 pub mod Room
+pub mod Logging
 pub mod Running
 pub mod BlockedThreads

@@ -1,8 +1,10 @@
--- How a run's events are kept: the calls, and all their endings one after another.
-use Rattle.std.specs.Prelude.{◌≤◌, List, map, length, slice_range}
+-- How a log keeps events: the calls, and all their endings one after another.
+use Rattle.std.specs.Prelude.{ℕ, ◌≤◌, List, map, length, take, drop, slice_range}
 use Rattle.std.specs.List.{AllByRecursion}
 use Rattle.qrules.specs.declared.call.Completion.{Completion}
+use Rattle.qrules.specs.declared.call.Call.{Call}
 use Rattle.qkernel.specs.declared.trace.Entry.{Entry}
+use Rattle.qkernel.specs.Logged.{Logged}
 use Rattle.qrules.specs.Trace.{Event}
 
 -- the event of an entry, whose endings stand between two places of the list of all
@@ -16,3 +18,18 @@ events_of endings entries = map (event_of endings) entries
 -- each entry's endings stand within the list of all
 abbrev pub AllWithin : List Completion → List Entry → Type 0
 AllWithin endings entries = AllByRecursion (λ e. (e.start ≤ e.end) × (e.end ≤ length endings)) entries
+
+-- who made the call of an entry, and which it is
+abbrev pub entry_call : Entry → ℕ × Call
+entry_call e = (e.thread, e.call)
+
+-- what is logged by these entries, of which so many are events, and by these endings, of which those from a place on are of the next call
+abbrev pub logged_by : List Entry → List Completion → ℕ → ℕ → ℕ → ℕ → Logged
+logged_by entries endings made start call_room ending_room =
+    record { events = events_of endings (take made entries); noted = map entry_call (drop made entries); endings = drop start endings; call_room = call_room; ending_room = ending_room }
+
+-- what is so of them
+pub record IsKept (entries : List Entry) (endings : List Completion) (made start : ℕ) : Type 0 where
+  pub within : AllWithin endings (take made entries)
+  pub few : made ≤ length entries
+  pub begun : start ≤ length endings

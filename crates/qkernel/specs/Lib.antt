@@ -1,3 +1,4 @@
+pub mod Logged
 pub mod Kept
 pub mod State
 pub mod Stands

@@ -6,7 +6,6 @@ use Rattle.qbase.specs.declared.errno.Errno.TheVariants.{NoThread, Exhausted, No
 use Rattle.qtables.specs.Members.{IsRoster, member_at}
 use Rattle.qtables.specs.declared.member.Member.{Member}
 use Rattle.qrules.specs.declared.call.Call.{Call}
-use Rattle.qkernel.specs.declared.trace.Entry.{Entry}
 use Rattle.qrules.specs.Lawful.{IsLawful, followed_by}
 use Rattle.qrules.specs.OnlyRun.{IsOnlyRun}
 use Rattle.qrules.specs.Properties.{HasProperties}
@@ -14,14 +13,6 @@ use Rattle.qkernel.specs.Stands.{StandsAt}
 use Rattle.qkernel.specs.State.{State}
 use Rattle.qrecords.specs.Threads.{members_of}
 use Rattle.qrules.specs.Trace.{Event, Trace, Run}
-
--- who made a call, and which, of an entry of a kept trace
-abbrev pub entry_call : Entry → ℕ × Call
-entry_call e = (e.thread, e.call)
-
--- an entry whose call isn't made yet
-abbrev pub blank_entry : ℕ × Call → Entry
-blank_entry p = record { thread = p.0; call = p.1; start = 0; end = 0 }
 
 -- each of these calls is of a thread of the roster
 abbrev pub AllKnown : List Member → List (ℕ × Call) → Type 0

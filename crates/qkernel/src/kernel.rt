@@ -234,6 +234,13 @@ impl Kernel {
         self.made
     }
 
+    /// Whether it is shut down: every further call is refused with `Down`.
+    pub fn is_down(&self) -> bool
+        ensures { result ≡ self.now.down }
+    {
+        self.down
+    }
+
     /// The allocator.
     pub fn alloc(&self) -> Global {
         self.alloc

@@ -2,6 +2,7 @@
 //! contracts speak of the list of all past calls.
 #![tactic(auto)]
 
+pub mod event_log;
 pub mod kernel;
 pub mod run;
 pub mod trace;

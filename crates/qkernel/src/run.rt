@@ -1,37 +1,34 @@
 //! A run of many calls.
 
-ghost use Rattle.std.specs.Prelude.{◌≡◌, ◌+◌, ◌<◌, ◌≤◌, ◌^◌, ◌++◌, [], length, map, true, IfOk, IfErr, OnOk, OnErr, vec_len, vec_capacity};
+ghost use Rattle.std.specs.Prelude.{◌≡◌, ◌+◌, ◌<◌, ◌≤◌, ◌^◌, [], length, map, true, IfOk, IfErr, OnOk, OnErr, vec_len};
 ghost use Rattle.std.specs.List.{AllByRecursion};
-ghost use Rattle.arrayvec.specs.ArrayVec.{array_vec_len};
-ghost use Rattle.qkernel.specs.Runs.{Headline, RunsAtTraces, AllKnown, RunError, blank_entry, entry_call};
+ghost use Rattle.qkernel.specs.Runs.{Headline, RunsAtTraces, AllKnown, RunError};
 ghost use Rattle.qrules.specs.OnlyRun.{event_call};
-ghost use Rattle.qkernel.specs.Kept.{events_of, AllWithin};
 ghost use Rattle.qrecords.specs.Threads.{blocked_count, members_of};
 
+use crate::event_log::EventLog;
 use crate::kernel::{CALL_LIMIT, Kernel};
-use crate::trace::{Entry, Trace};
+use crate::trace::Trace;
 use arrayvec::ArrayVec;
 use qbase::errno::Errno;
 use qbase::ids::ThreadNo;
 use qrecords::endings::Endings;
-use qrules::call::{Call, Completion};
+use qrules::call::Call;
 use qtables::roster::THREAD_LIMIT;
 use std::alloc::{AllocError, Global};
 
-/// An entry for each call, with a copy of it and no endings yet.
-fn entries_for(alloc: Global, calls: &[(ThreadNo, Call)]) -> Result<Vec<Entry>, AllocError>
-    ensures { IfOk result (λ entries. entries.items ≡ map blank_entry calls.now) }
+/// A log in which each call is noted, by a copy of it, and in which there is room for all their endings.
+fn log_for(alloc: Global, calls: &[(ThreadNo, Call)]) -> Result<EventLog, AllocError>
+    requires { length calls.now ≤ 2 ^ 40 }
+    ensures none { IfOk result (λ log. (log.events ≡ []) × (log.endings ≡ [])) }
+    ensures noted { IfOk result (λ log. log.noted ≡ calls.now) }
+    ensures room { IfOk result (λ log. log.ending_room ≡ length calls.now + 64) }
 {
-    let mut entries = Vec::with_capacity(alloc, calls.len())?;
+    let mut log = EventLog::with_room(alloc, calls.len(), calls.len() + THREAD_LIMIT)?;
     for (thread, call) in calls {
-        entries.push(Entry {
-            thread: *thread,
-            call: call.copied(alloc)?,
-            start: 0,
-            end: 0,
-        })?;
+        log.note(*thread, call.copied(alloc)?);
     }
-    Ok(entries)
+    Ok(log)
 }
 
 /// Whether each call is of a thread of the roster.
@@ -40,27 +37,6 @@ fn all_known(kernel: &Kernel, calls: &[(ThreadNo, Call)]) -> bool
     ensures unknown { AllKnown (members_of kernel.now.threads) calls.now → result ≡ true }
 {
     calls.iter().all(|(thread, _)| kernel.knows(*thread))
-}
-
-/// Moves the endings of one event behind those of the events before it, for which there is room.
-fn append(all: &mut Vec<Completion>, endings: &mut Endings)
-    requires { vec_len all.old + array_vec_len endings.old ≤ vec_capacity all.old }
-    ensures items { all.new.items ≡ all.old.items ++ endings.old.items }
-    ensures capacity { vec_capacity all.old ≤ vec_capacity all.new }
-    ensures emptied { endings.new.items ≡ [] }
-{
-    endings.as_mut_slice().reverse();
-    while let Some(completion) = endings.pop() {
-        let _ = all.push(completion);
-    }
-}
-
-/// Says where the endings of an entry stand.
-fn place(entry: &mut Entry, start: usize, end: usize)
-    ensures { entry.new ≡ record entry.old { start = start; end = end } }
-{
-    entry.start = start;
-    entry.end = end;
 }
 
 /// How many calls a list has room for at least, whose room is given back: some hundreds of kilobytes.
@@ -76,34 +52,25 @@ fn give_back(calls: &mut Vec<(ThreadNo, Call)>)
     }
 }
 
-/// Makes the calls in order, and gives each entry its endings.
-fn run_all(
-    kernel: &mut Kernel,
-    entries: &mut Vec<Entry>,
-    all: &mut Vec<Completion>,
-    mut calls: Vec<(ThreadNo, Call)>,
-)
-    requires blank { entries.old.items ≡ map blank_entry calls.items }
-    requires none { all.old.items ≡ [] }
+/// Makes the calls in order, which are those that the log has noted.
+fn run_all(kernel: &mut Kernel, log: &mut EventLog, mut calls: Vec<(ThreadNo, Call)>)
+    requires noted { log.old.noted ≡ calls.items }
+    requires none { (log.old.events ≡ []) × (log.old.endings ≡ []) }
     requires known { AllKnown (members_of kernel.old.threads) calls.items }
     requires limit { kernel.old.made + length calls.items ≤ 2 ^ 40 }
-    requires room { length calls.items + 64 ≤ vec_capacity all.old }
-    requires few { blocked_count kernel.old.threads ≤ 64 }
-    ensures ran { RunsAtTraces kernel.old (events_of all.new.items entries.new.items) kernel.new }
-    ensures within { AllWithin all.new.items entries.new.items }
-    ensures told { map entry_call entries.new.items ≡ calls.items }
+    requires room { length calls.items + blocked_count kernel.old.threads ≤ log.old.ending_room }
+    ensures ran { RunsAtTraces kernel.old log.new.events kernel.new }
+    ensures told { map event_call log.new.events ≡ calls.items }
+    ensures all { log.new.noted ≡ [] }
 {
     let mut endings: Endings = ArrayVec::new_in(kernel.alloc());
     calls.reverse();
-    let mut k = 0;
     while let Some(next) = calls.pop() {
         let (thread, call) = next;
         kernel.step(thread, call, &mut endings);
-        let start = all.len();
-        append(all, &mut endings);
-        place(&mut entries[k], start, all.len());
+        log.append(&mut endings);
+        log.event();
         give_back(&mut calls);
-        k += 1;
     }
 }
 
@@ -126,13 +93,9 @@ pub fn run(kernel: &mut Kernel, calls: Vec<(ThreadNo, Call)>) -> Result<Trace, E
     if made > CALL_LIMIT || calls.len() as u64 > CALL_LIMIT - made {
         return Err(Errno::Exhausted);
     }
-    let alloc = kernel.alloc();
-    let Ok(mut entries) = entries_for(alloc, &calls) else {
+    let Ok(mut log) = log_for(kernel.alloc(), &calls) else {
         return Err(Errno::NoMemory);
     };
-    let Ok(mut all) = Vec::with_capacity(alloc, calls.len() + THREAD_LIMIT) else {
-        return Err(Errno::NoMemory);
-    };
-    run_all(kernel, &mut entries, &mut all, calls);
-    Ok(Trace::of(made + 1, entries, all))
+    run_all(kernel, &mut log, calls);
+    Ok(log.into_trace(made + 1))
 }

@@ -10,11 +10,11 @@ use std::marker::Model;
 
 /// A call, and where its endings stand.
 #[derive(Debug, Drop)]
-pub struct Entry {
-    pub thread: ThreadNo,
-    pub call: Call,
-    pub start: usize,
-    pub end: usize,
+pub(crate) struct Entry {
+    pub(crate) thread: ThreadNo,
+    pub(crate) call: Call,
+    pub(crate) start: usize,
+    pub(crate) end: usize,
 }
 
 /// The calls of a run in order, each with its endings. Contracts see the number of the first event and

@@ -6,3 +6,4 @@ pub mod Properties
 pub mod TraceLaws
 pub mod Rosters
 pub mod OnlyRun
+pub mod Following

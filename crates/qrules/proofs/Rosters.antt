@@ -31,6 +31,9 @@ is_among-member (m ∷ roster) t =
 pub known : (roster : List Member) (t : ℕ) → is_some (member_at roster t) ≡ true → is_among (threads_of roster) t ≡ true
 known roster t h = sym (is_among-member roster t) ∙ h
 
+pub among_member : (roster : List Member) (t : ℕ) → is_among (threads_of roster) t ≡ true → is_some (member_at roster t) ≡ true
+among_member roster t h = is_among-member roster t ∙ h
+
 pub among : (roster : List Member) (t : ℕ) (m : Member) → member_at roster t ≡ Some m → is_among (threads_of roster) t ≡ true
 among roster t m e = known roster t (ap is_some e)
 

@@ -7,3 +7,5 @@ pub mod Limits
 pub mod Waiting
 pub mod Refused
 pub mod Held
+pub mod Blocked
+pub mod Lengths

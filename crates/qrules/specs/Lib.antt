@@ -20,4 +20,5 @@ pub mod Blocked
 pub mod Headline
 pub mod Worked
 pub mod Laws
+pub mod Endings
 pub mod Properties

@@ -1,6 +1,7 @@
 //! What the definitions of the past mean. Each function does nothing: its contract is a law that is proved of
 //! all lawful traces.
 
+ghost use Rattle.qrules.specs.Endings.{BlockedUnlessEnded, CallerGetsItsOwn, EndingsAreApart, EndingsGoToBlocked, EndingsKeepLength, EndsOrWaits, OpenCallsKeepLength};
 ghost use Rattle.qrules.specs.Laws.{AtMostOneOpen, EndingsNameOwnCalls, EndingsRiseByThread, HeldIsHeldSend, NewestIsGreatest, NoneIsNewest, NonePendingIsHeld, NothingFromDestroyed, NothingPendingForWaiting, OnlyRefusedWhenDown, OpenIsUnended, OpenSendsAreLive, PendingIsOpen, PendingRises, PulsesAreLimited, ReceivedWasSent, RefusedChangesNothing};
 
 /// An item that is received was made before or by the same event, for the channel on which it is received; and
@@ -69,6 +70,33 @@ pub fn endings_name_own_calls()
 /// The endings of one event rise in the number of their threads, so each goes to a thread of its own.
 pub fn endings_rise_by_thread()
     ensures { EndingsRiseByThread }
+{}
+
+/// Each ending of an event goes to a thread of its own: to the caller or to one that was blocked, and to one of
+/// the roster.
+pub fn endings_go_to_blocked()
+    ensures apart { EndingsAreApart }
+    ensures blocked { EndingsGoToBlocked }
+{}
+
+/// After an event of a thread that wasn't blocked just those threads are blocked whose calls might have ended
+/// and did not.
+pub fn blocked_unless_ended()
+    ensures { BlockedUnlessEnded }
+{}
+
+/// A call either ends in its own event, or its thread waits in it afterwards; and the caller gets an ending just
+/// where its call ends so.
+pub fn ends_or_waits()
+    ensures waits { EndsOrWaits }
+    ensures gets { CallerGetsItsOwn }
+{}
+
+/// An ending's buffer is as long as the one that its thread brought, and an open call's as the one that it was
+/// made with.
+pub fn buffers_keep_their_length()
+    ensures ended { EndingsKeepLength }
+    ensures waiting { OpenCallsKeepLength }
 {}
 
 /// There are never more than 1,024 pulses pending on a channel.

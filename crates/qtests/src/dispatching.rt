@@ -41,6 +41,15 @@ fn connected(rt: &impl Abort, alloc: Global) -> Kernel {
     kernel
 }
 
+// A kernel is down once a Shutdown was accepted.
+#[test]
+fn a_kernel_is_down_after_a_shutdown(rt: HostRuntime) {
+    let mut kernel = kernel(&rt, rt.alloc());
+    assert!(rt; !kernel.is_down());
+    brings(&rt, &mut kernel, 1, Call::Shutdown, &[(1, 1, Mark::Ok, b"")]);
+    assert!(rt; kernel.is_down());
+}
+
 // The calls that may be refused for want of memory, where there is memory: a channel, a connection, a pulse
 // and a message, which is received and answered.
 #[test]

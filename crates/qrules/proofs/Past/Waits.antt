@@ -17,6 +17,7 @@ use Rattle.qrules.specs.declared.open_call.OpenCall.{OpenCall}
 use Rattle.qbase.proofs.Lists.{eqb_same, is_among, some_of}
 use Rattle.qrules.proofs.Calls.Held.{has_sender, held_for}
 use Rattle.qrules.proofs.Past.Laws.{Passes}
+use Rattle.qrules.proofs.Rosters.{among_member}
 
 -- ---- what is told of a held message
 
@@ -28,11 +29,6 @@ sender_is_among open_call i (u ∷ us) s e =
       | true ↦ λ at. rw (same_Some u s at, eqb_same s) refl
       | false ↦ λ at. rw (sender_is_among open_call i us s at) (or-true (eqb u s))
     ] e
-
-among_member : (roster : List Member) (t : ℕ) → is_among (threads_of roster) t ≡ true → is_some (member_at roster t) ≡ true
-among_member [] t e = absurd (true≢false (sym e))
-among_member (m ∷ roster) t e =
-    elim (eqb m.thread t) as (λ b. (b || is_among (threads_of roster) t) ≡ true → is_some (cond b (Some m) (member_at roster t)) ≡ true) [ true ↦ λ e. refl | false ↦ λ e. among_member roster t e ] e
 
 -- an accepted Info tells something
 info_tells : (f : Facts) (t rcvid : ℕ) → Passes f t (Info rcvid) → is_some (told f (sender f rcvid)) ≡ true

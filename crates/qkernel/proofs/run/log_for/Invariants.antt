@@ -1,0 +1,11 @@
+use Rattle.std.proofs.Common.{◌≡◌, ◌+◌, [], length, take}
+use Rattle.qkernel.proofs.run.log_for.Given as goal
+
+abbrev pub invariant-loop-thread : goal.invariant-loop-thread
+invariant-loop-thread l = record {
+  noted : l.log.noted ≡ take l.thread-index l.calls;
+  events : l.log.events ≡ [];
+  endings : l.log.endings ≡ [];
+  calls : l.log.call_room + l.thread-index ≡ length l.calls;
+  room : l.log.ending_room ≡ length l.calls + 64;
+}
