@@ -46,7 +46,13 @@ fn connected(rt: &impl Abort, alloc: Global) -> Kernel {
 fn a_kernel_is_down_after_a_shutdown(rt: HostRuntime) {
     let mut kernel = kernel(&rt, rt.alloc());
     assert!(rt; !kernel.is_down());
-    brings(&rt, &mut kernel, 1, Call::Shutdown, &[(1, 1, Mark::Ok, b"")]);
+    brings(
+        &rt,
+        &mut kernel,
+        1,
+        Call::Shutdown,
+        &[(1, 1, Mark::Ok, b"")],
+    );
     assert!(rt; kernel.is_down());
 }
 
