@@ -1,13 +1,16 @@
 #!/usr/bin/env python3
 """Measures the kernel and its program, and prints one table with what is aimed at.
 
-usage: bench/bench.py [core] [cells] [allocations] [scripts]
+usage: bench/bench.py [core] [tables] [cells] [allocations] [scripts]
 
-With no word it measures all four. It wants the built programs `crates/qbench/out/qbench` and
+With no word it measures all five. It wants the built programs `crates/qbench/out/qbench` and
 `crates/qdemo/out/qdemo`, which `rt run` leaves in each of the two crates.
 
   core         nanoseconds a call in rounds of Send, Receive and Reply, with 1, 64 and 1,024
                connections, and 1 and 1,024 pulses that wait on the channel
+  tables       nanoseconds an attach and a detach of the oldest with 1 and 1,023 live connections, and
+               a create and a destroy of the oldest with 1 and 63 open channels: the least and the
+               median of 21 times
   cells        nanoseconds a completion that goes through a cell, put and taken by one thread in
                turn, and put by one thread and taken by another
   allocations  requests to the allocator by each call, as `valgrind --trace-malloc=yes` counts
@@ -73,6 +76,22 @@ def core():
         aim = NANOSECONDS if connections == "1" else GROWTH * min(NANOSECONDS, alone[pulses])
         name = f"a call, with {connections} connections and {pulses} pulses that wait"
         row(name, f"{ns} ns", f"{aim:.1f} ns", float(ns) <= aim)
+
+
+ROUNDS = {
+    "attach": "an attach and a detach, with {live} live connections",
+    "create": "a create and a destroy, with {live} open channels",
+}
+
+
+def tables():
+    """Nanoseconds that it takes to make an id and to end the oldest."""
+    out = subprocess.run([program(QBENCH), "tables"], capture_output=True, text=True, check=True)
+    for line in out.stdout.splitlines()[1:]:
+        call, live, least, median = line.split()
+        name = ROUNDS[call].format(live=live)
+        row(f"{name}: least", f"{least} ns")
+        row(f"{name}: median", f"{median} ns")
 
 
 def cells():
@@ -189,7 +208,7 @@ def scripts():
                 script(kind, mebibytes, folder)
 
 
-PARTS = {"core": core, "cells": cells, "allocations": allocations, "scripts": scripts}
+PARTS = {"core": core, "tables": tables, "cells": cells, "allocations": allocations, "scripts": scripts}
 
 
 def main():

@@ -1,13 +1,14 @@
 //! Times the kernel's calls. With no argument it makes a few calls and says how many; with `measure` it
 //! prints a table of nanoseconds a call; with `tour` it makes each call once or more often, and prints each
-//! before it is made; with `cells` it prints nanoseconds a completion that goes through a cell. Any other word
-//! is a fault, with status 2.
+//! before it is made; with `cells` it prints nanoseconds a completion that goes through a cell; with `tables`
+//! nanoseconds an attach and a detach, and a create and a destroy. Any other word is a fault, with status 2.
 #![tactic(auto)]
 
 mod handover;
 mod rounds;
 mod table;
 mod tour;
+mod turnover;
 
 use std::env;
 use std::process::ExitCode;
@@ -20,6 +21,7 @@ enum Task {
     Measure,
     Tour,
     Cells,
+    Tables,
 }
 
 /// The task that a word names, if it names one.
@@ -28,6 +30,7 @@ fn task_of(word: &str) -> Option<Task> {
         "measure" => Some(Task::Measure),
         "tour" => Some(Task::Tour),
         "cells" => Some(Task::Cells),
+        "tables" => Some(Task::Tables),
         _ => None,
     }
 }
@@ -37,7 +40,7 @@ fn main(rt: HostRuntime) -> Result<ExitCode, Fail> {
     for word in env::args(&rt)?.skip(1) {
         let Some(named) = task_of(word.as_str()) else {
             let _ = eprintln!(rt;
-                "qbench: no task is called {word}; there are measure, tour and cells"
+                "qbench: no task is called {word}; there are measure, tour, cells and tables"
             );
             return Ok(ExitCode::from(2));
         };
@@ -48,6 +51,7 @@ fn main(rt: HostRuntime) -> Result<ExitCode, Fail> {
         Task::Measure => table::measure(&rt)?,
         Task::Tour => tour::walk(&rt)?,
         Task::Cells => handover::measure(&rt)?,
+        Task::Tables => turnover::measure(&rt)?,
     }
     Ok(ExitCode::SUCCESS)
 }

@@ -13,10 +13,10 @@ use qtables::roster::Roster;
 use std::alloc::{AllocError, Global};
 
 /// The thread that creates the channel, receives and replies.
-const SERVER: ThreadNo = ThreadNo(1);
+pub const SERVER: ThreadNo = ThreadNo(1);
 
 /// The thread that sends.
-const CLIENT: ThreadNo = ThreadNo(2);
+pub const CLIENT: ThreadNo = ThreadNo(2);
 
 /// Why no rounds are made.
 #[derive(Debug, Drop)]
@@ -53,7 +53,7 @@ pub struct Course {
 }
 
 /// The client's messages have the greatest priority.
-fn roster(alloc: Global) -> Result<Roster, Errno> {
+pub fn roster(alloc: Global) -> Result<Roster, Errno> {
     let priority = Priority::new(63).ok_or(Errno::Inval)?;
     let mut roster = Roster::new(alloc);
     roster.add(SERVER, ProcessNo(1), priority)?;

@@ -1,11 +1,18 @@
--- Counts over the values of a list.
-use Rattle.std.proofs.Common.{◌≡◌, ◌+◌, Bool, cond, List, [], ◌∷◌, map, refl}
-use Rattle.std.specs.Prelude.{count_by, fold}
+-- Counts over the records of entries.
+use Rattle.std.proofs.Common.{◌≡◌, ℕ, ◌+◌, ◌<◌, Bool, true, false, cond, List, length, take, get_or, refl, sym, ap, ◌∙◌, add-zero}
+use Rattle.std.specs.Prelude.{Some, count_by, slice_get}
+use Rattle.std.specs.Option.{option_map}
+use Rattle.std.proofs.lemmas.List.Sums.{count_by_more_yes, count_by_more_no}
+use Rattle.std.proofs.lemmas.Option.{slice_get-get_or}
 
-fold-map : {A B C : Type 0} (f : C → B → C) (g : A → B) (c : C) (xs : List A) → fold f c (map g xs) ≡ fold (λ d x. f d (g x)) c xs
-fold-map f g c [] = refl
-fold-map f g c (x ∷ xs) = fold-map f g (f c (g x)) xs
-
--- a count over the values of a list
-pub count_by-map : {A B : Type 0} (g : A → B) (p : B → Bool) (xs : List A) → count_by p (map g xs) ≡ count_by (λ x. p (g x)) xs
-count_by-map g p xs = fold-map (λ n y. n + cond (p y) 1 0) g 0 xs
+-- one entry more is counted where its record passes
+pub count_by_more : {R : Type 0} (p : R → Bool) (es : List (ℕ × R)) (i : ℕ) (d : ℕ × R) (r : R) → i < length es → option_map (λ e. e.1) (slice_get es i) ≡ Some r → count_by (λ e. p e.1) (take (i + 1) es) ≡ count_by (λ e. p e.1) (take i es) + cond (p r) 1 0
+count_by_more p es i d r within there =
+    let whole = sym (ap (option_map (λ e. e.1)) (slice_get-get_or es i d within)) ∙ there in
+    let here : (get_or es i d).1 ≡ r = cc in
+    rw (← here) (
+    elim (p (get_or es i d).1) as (λ b. p (get_or es i d).1 ≡ b → count_by (λ e. p e.1) (take (i + 1) es) ≡ count_by (λ e. p e.1) (take i es) + cond b 1 0) [
+      | true ↦ λ e. count_by_more_yes (λ x. p x.1) es i d within e
+      | false ↦ λ e. count_by_more_no (λ x. p x.1) es i d within e ∙ sym (add-zero _)
+    ] refl
+    )

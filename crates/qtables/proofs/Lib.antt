@@ -1,5 +1,6 @@
 pub mod Counts
 pub mod Fresh
 pub mod LookUps
-pub mod Numbered
+pub mod Places
 pub mod Rosters
+pub mod Slots

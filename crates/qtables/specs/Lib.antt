@@ -1,3 +1,4 @@
 pub mod Entries
 pub mod Lending
 pub mod Members
+pub mod Slots

@@ -106,10 +106,13 @@ impl Connections {
     pub fn count(&self, process: ProcessNo, channel: ChannelId) -> usize
         ensures { result ≡ count_by (λ e. (e.1.process == process) && (e.1.channel == channel)) self.now }
     {
-        self.entries
-            .records()
-            .iter()
-            .filter(|c| c.process == process && c.channel == channel)
-            .count()
+        let mut count = 0;
+        for place in 0..self.entries.len() {
+            let connection = self.entries.at(place);
+            if connection.process == process && connection.channel == channel {
+                count += 1;
+            }
+        }
+        count
     }
 }

@@ -19,3 +19,5 @@ mod running;
 mod stepping;
 #[cfg(test)]
 mod tables;
+#[cfg(test)]
+mod turnover;

@@ -51,3 +51,14 @@ fn after_a_channel_or_the_kernel(rt: HostRuntime) -> Result<(), Fail> {
     }
     Ok(())
 }
+
+// An id that is gone stays gone: neither a channel nor a connection that comes in its place answers to it.
+#[test]
+fn an_old_id_names_nothing(rt: HostRuntime) -> Result<(), Fail> {
+    expect_after_prelude(
+        &rt,
+        rt.alloc(),
+        b"1 destroy 1\n1 create 0\n1 receive 1 -\n2 send 2 - -\n2 attach 1\n2 attach 4\n2 detach 2\n2 detach 2\n2 send 2 - -\n2 send 8 - -\n",
+        b"3 3 1 ok\n4 4 1 channel 4\n5 5 1 fail srch -\n6 6 2 fail badf -\n7 7 2 fail srch\n8 8 2 connection 8\n9 9 2 ok\n10 10 2 fail inval\n11 11 2 fail badf -\nopen 12 2 send 4\n",
+    )
+}

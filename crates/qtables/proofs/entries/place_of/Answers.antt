@@ -1,14 +1,17 @@
-use Rattle.std.proofs.Common.{Ok, Err}
-use Rattle.std.proofs.lemmas.List.Sorted.{searched}
-use Rattle.qtables.proofs.Numbered.{rise_weakly, place_at, place_none}
+use Rattle.std.proofs.Common.{rules}
+use Rattle.std.proofs.lemmas.List.Sorted.{answers_always}
+use Rattle.qtables.proofs.Places.{found, missed}
 use Rattle.qtables.proofs.entries.place_of.Goals as goal
 
-pub returns-in-Ok : goal.returns-in-Ok
-returns-in-Ok c =
-    let found = searched c.args.numbers.now c.args.number (Ok c.in-Ok.place) c.in-Ok.ensures.position (rise_weakly c.args.numbers.now c.requires) in
-    place_at c.args.numbers.now c.args.number c.in-Ok.place c.requires found.0 found.1
+-- the closure gives an entry's number
+pub returns-clause-there : goal.returns-clause-there
+returns-clause-there c =
+    let facts = c.binary_search_by_key.ensures in
+    let by_number = facts.position (λ e. e.0) (answers_always _ _ _ (λ f a r g called. search rules)) in
+    rw c.ok.ensures.value (found c.args.index.now c.requires c.args.number _ facts.bound by_number)
 
-pub returns-in-Err : goal.returns-in-Err
-returns-in-Err c =
-    let missed = searched c.args.numbers.now c.args.number (Err c.in-Err.field-0) c.in-Err.ensures.position (rise_weakly c.args.numbers.now c.requires) in
-    place_none c.args.numbers.now c.args.number c.in-Err.field-0 missed.1 missed.2
+pub returns-clause-absent : goal.returns-clause-absent
+returns-clause-absent c =
+    let facts = c.binary_search_by_key.ensures in
+    let by_number = facts.position (λ e. e.0) (answers_always _ _ _ (λ f a r g called. search rules)) in
+    rw c.ok.ensures.value (missed c.args.index.now c.requires c.args.number _ facts.bound by_number)

@@ -1,22 +1,32 @@
-use borrow.Follows.Closed.{read_of}
-use Rattle.std.proofs.Common.{sym, ap, ◌∙◌}
-use Rattle.std.specs.Prelude.{slice_get, slice_set}
-use Rattle.std.specs.List.{zip}
-use Rattle.std.specs.Option.{ghost_name_of}
-use Rattle.qtables.proofs.Numbered.{place, looked_up, entry_at-zip, with_record-zip}
+use base.Fml.{GName}
+use Rattle.std.proofs.Common.{◌≡◌, ◌⊎◌, sym, ap, inl, inr}
+use Rattle.qtables.proofs.Slots.{key_in_use, entry_known, entry_at_none, lent}
 use Rattle.qtables.proofs.entries.Entries.get_mut.Goals as goal
+
+same_lent : {D E : Type 0} (n : GName) (F G : E → D) → ((w : E) → F w ≡ G w) → ◌≡◌ {A = (GName × (E → D)) ⊎ D} (inl (n, F)) (inl (n, G))
+same_lent n F G same = λ t. inl (n, λ w. same w t)
+
+pub returns-in_err-key : goal.returns-in_err-key
+returns-in_err-key g c =
+    let absent = rw c.deref.ensures.value at (sym c.in_err-key.ensures) in
+    rw c.from_residual.ensures (ap inr c.self.view_is, record { writes_back = tt; value = rw (← c.self.view_is) (sym (entry_at_none c.self.inside.slots c.self.inside.index.items c.args.number c.self.invariant.held absent)) })
+
+pub index_mut-requires : goal.index_mut-requires
+index_mut-requires g c =
+    let there = rw c.deref.ensures.value at (sym c.in_ok-key.ensures) in
+    key_in_use c.self.inside.slots c.self.inside.index.items c.args.number c.in_ok-key.key c.self.invariant.held there
+
+pub invariant_of-self-lent : goal.invariant_of-self-lent
+invariant_of-self-lent g c w =
+    let there = rw c.deref.ensures.value at (sym c.in_ok-key.ensures) in
+    (lent c.self.inside.slots c.self.inside.index.items c.args.number c.in_ok-key.key c.index_mut.result.now c.self.invariant there c.index_mut.ensures.value w).1
 
 pub returns : goal.returns
 returns g c =
-    let numbers = c.self.inside.numbers.items in
-    let records = c.self.inside.records.items in
-    let at = c.place_of-place.ensures ∙ ap (λ l. place c.args.number l) c.deref.ensures.value in
+    let index = c.self.inside.index.items in
+    let there = rw c.deref.ensures.value at (sym c.in_ok-key.ensures) in
+    let found = entry_known c.self.inside.slots index c.args.number c.in_ok-key.key c.index_mut.result.now c.self.invariant.held there c.index_mut.ensures.value in
     rw (← c.self.view_is) (
-      λ t. read_of (ghost_name_of c.get_mut.result) (λ (w : g.row.Record.Denot). (ap (λ i. zip numbers (slice_set records i w)) at ∙ with_record-zip numbers records c.args.number w c.self.invariant.0 c.self.invariant.1) t) (zip numbers records),
-      record {
-        writes_back = tt;
-        value =
-            looked_up (λ x. x.now) c.get_mut.result records c.place_of-place.result c.get_mut.ensures.item.0 c.get_mut.ensures.item.1
-            ∙ ap (λ i. slice_get records i) at ∙ sym (entry_at-zip numbers records c.args.number c.self.invariant.1);
-      },
+      same_lent _ _ _ (λ w. (lent c.self.inside.slots index c.args.number c.in_ok-key.key c.index_mut.result.now c.self.invariant there c.index_mut.ensures.value w).0),
+      record { writes_back = tt; value = sym found.1 },
     )

@@ -1,10 +1,11 @@
-use Rattle.std.proofs.Common.{arith}
-use Rattle.qtables.proofs.Numbered.{length_entries, rising-zip}
+use Rattle.std.proofs.Common.{ap, length, arith}
+use Rattle.qtables.proofs.Slots.{length-entries_at, IsRising-entries_at}
 use Rattle.qtables.proofs.entries.Entries.len.Goals as goal
 
 pub returns-clause-value : goal.returns-clause-value
 returns-clause-value g c =
-    omega (arith, length_entries c.self.inside.numbers.items c.self.inside.records.items c.args.self.now c.self.view_is c.self.invariant.1, c.self.inside.numbers.ok.0)
+    omega (arith, length-entries_at c.self.inside.slots c.self.inside.index.items c.self.invariant.held, ap length c.self.view_is, c.self.inside.index.ok.0)
 
 pub returns-clause-rising : goal.returns-clause-rising
-returns-clause-rising g c = rw (← c.self.view_is) (rising-zip c.self.inside.numbers.items c.self.inside.records.items c.self.invariant.0)
+returns-clause-rising g c =
+    rw (← c.self.view_is) (IsRising-entries_at c.self.inside.slots c.self.inside.index.items c.self.invariant.held c.self.invariant.rising)

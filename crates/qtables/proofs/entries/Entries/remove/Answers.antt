@@ -1,58 +1,66 @@
-use Rattle.std.proofs.Common.{◌<◌, length, refl, sym, ap, ◌∙◌, arith}
-use Rattle.std.specs.Prelude.{slice_get}
-use Rattle.std.specs.List.{zip, remove}
-use Rattle.std.proofs.lemmas.List.Quantifiers.{all_pairs_remove}
+use Rattle.std.proofs.Common.{length, sym, ap, ◌∙◌, arith}
 use Rattle.std.proofs.lemmas.List.Edits.{length-remove}
-use Rattle.std.proofs.lemmas.Option.{slice_get_read, slice_get_past}
-use Rattle.qtables.proofs.Numbered.{place, entry_at-zip, without_entry-zip, length-remove_zip, without_entry_absent}
+use Rattle.qtables.proofs.Places.{place_within, key_at, remove_place}
+use Rattle.qtables.proofs.Slots.{length-entries_at, key_in_use, entry_known, entry_at_none, taken, without_none}
 use Rattle.qtables.proofs.entries.Entries.remove.Goals as goal
+
+pub returns-in_err-place-clause-value : goal.returns-in_err-place-clause-value
+returns-in_err-place-clause-value g c =
+    let absent = rw c.deref.ensures.value at c.in_err-place.ensures.absent in
+    c.from_residual.ensures ∙ rw (← c.self.view_is) (sym (entry_at_none c.self.inside.slots c.self.inside.index.items c.args.number c.self.invariant.held absent))
+
+pub returns-in_err-place-clause-after : goal.returns-in_err-place-clause-after
+returns-in_err-place-clause-after g c =
+    let absent = rw c.deref.ensures.value at c.in_err-place.ensures.absent in
+    rw (← c.self.view_is) (sym (without_none _ c.args.number (entry_at_none c.self.inside.slots c.self.inside.index.items c.args.number c.self.invariant.held absent)))
+
+pub remove-key-requires : goal.remove-key-requires
+remove-key-requires g c =
+    let there = rw c.deref.ensures.value at c.in_ok-place.ensures.there in
+    omega (arith, place_within c.self.inside.index.items c.args.number c.in_ok-place.place there, c.self.inside.index.ok.0)
+
+pub remove-record-requires : goal.remove-record-requires
+remove-record-requires g c =
+    let index = c.self.inside.index.items in
+    let there = rw c.deref.ensures.value at c.in_ok-place.ensures.there in
+    let key = key_at index c.args.number c.in_ok-place.place c.remove-key.result c.self.invariant.rising there c.remove-key.ensures.value in
+    key_in_use c.self.inside.slots index c.args.number c.remove-key.result.1 c.self.invariant.held key
 
 pub invariant_of-self : goal.invariant_of-self
 invariant_of-self g c =
-    let numbers = c.self.inside.numbers.items in
-    let records = c.self.inside.records.items in
-    let at = c.place_of-place.result in
-    let within : at < length numbers = omega (arith, c.self.inside.numbers.ok.0) in
-    rw (c.remove.ensures.items, c.remove-then-place-len.ensures.items) (
-      all_pairs_remove (λ m n. m < n) numbers at within c.self.invariant.0,
-      omega (arith, c.self.invariant.1, length-remove numbers at within, length-remove records at (omega arith)),
-    )
+    let index = c.self.inside.index.items in
+    let place = c.in_ok-place.place in
+    let there = rw c.deref.ensures.value at c.in_ok-place.ensures.there in
+    let key = key_at index c.args.number place c.remove-key.result c.self.invariant.rising there c.remove-key.ensures.value in
+    (taken c.self.inside.slots c.remove-record.new.self index c.remove-key.new.self.items c.args.number c.remove-key.result.1 c.self.invariant key c.remove-record.ensures.updates c.remove-record.ensures.len (c.remove-key.ensures.items ∙ remove_place index c.args.number place c.self.invariant.rising there) (rw c.remove-key.ensures.items (length-remove index place (place_within index c.args.number place there)))).1
 
-pub returns-then-place-len-clause-value : goal.returns-then-place-len-clause-value
-returns-then-place-len-clause-value g c =
-    let numbers = c.self.inside.numbers.items in
-    let records = c.self.inside.records.items in
-    let at = c.place_of-place.ensures ∙ ap (λ l. place c.args.number l) c.deref.ensures.value in
-    let found = slice_get_read records (length records) c.place_of-place.result c.remove-then-place-len.result refl (omega (arith, c.self.invariant.1, c.self.inside.numbers.ok.0)) c.remove-then-place-len.ensures.value in
-    rw (← c.self.view_is) (sym found ∙ ap (λ i. slice_get records i) at ∙ sym (entry_at-zip numbers records c.args.number c.self.invariant.1))
+pub returns-clause-value : goal.returns-clause-value
+returns-clause-value g c =
+    let index = c.self.inside.index.items in
+    let there = rw c.deref.ensures.value at c.in_ok-place.ensures.there in
+    let key = key_at index c.args.number c.in_ok-place.place c.remove-key.result c.self.invariant.rising there c.remove-key.ensures.value in
+    rw (← c.self.view_is) (sym (entry_known c.self.inside.slots index c.args.number c.remove-key.result.1 c.remove-record.result c.self.invariant.held key c.remove-record.ensures.value).1)
 
-pub returns-then-place-len-clause-after : goal.returns-then-place-len-clause-after
-returns-then-place-len-clause-after g c =
-    let numbers = c.self.inside.numbers.items in
-    let records = c.self.inside.records.items in
-    let at = c.place_of-place.ensures ∙ ap (λ l. place c.args.number l) c.deref.ensures.value in
-    rw (c.remove.ensures.items, c.remove-then-place-len.ensures.items, ← c.self.view_is) (ap (λ i. zip (remove numbers i) (remove records i)) at ∙ without_entry-zip numbers records c.args.number c.self.invariant.0 c.self.invariant.1)
+pub returns-clause-after : goal.returns-clause-after
+returns-clause-after g c =
+    let index = c.self.inside.index.items in
+    let place = c.in_ok-place.place in
+    let there = rw c.deref.ensures.value at c.in_ok-place.ensures.there in
+    let key = key_at index c.args.number place c.remove-key.result c.self.invariant.rising there c.remove-key.ensures.value in
+    rw (← c.self.view_is) (taken c.self.inside.slots c.remove-record.new.self index c.remove-key.new.self.items c.args.number c.remove-key.result.1 c.self.invariant key c.remove-record.ensures.updates c.remove-record.ensures.len (c.remove-key.ensures.items ∙ remove_place index c.args.number place c.self.invariant.rising there) (rw c.remove-key.ensures.items (length-remove index place (place_within index c.args.number place there)))).0
 
-pub returns-then-place-len-clause-fewer : goal.returns-then-place-len-clause-fewer
-returns-then-place-len-clause-fewer g c =
-    let fewer = length-remove_zip c.self.inside.numbers.items c.self.inside.records.items c.place_of-place.result c.self.invariant.1 (omega (arith, c.self.inside.numbers.ok.0)) in
-    rw (c.remove.ensures.items, c.remove-then-place-len.ensures.items, ← c.self.view_is) fewer
+pub returns-clause-fewer : goal.returns-clause-fewer
+returns-clause-fewer g c =
+    let index = c.self.inside.index.items in
+    let place = c.in_ok-place.place in
+    let there = rw c.deref.ensures.value at c.in_ok-place.ensures.there in
+    let kept = invariant_of-self g c in
+    omega (arith, length-entries_at c.self.inside.slots index c.self.invariant.held, ap length c.self.view_is, length-entries_at c.remove-record.new.self c.remove-key.new.self.items kept.held, ap length c.remove-key.ensures.items, length-remove index place (place_within index c.args.number place there))
 
-pub returns-then-place-len-clause-shorter : goal.returns-then-place-len-clause-shorter
-returns-then-place-len-clause-shorter g c =
-    let fewer = length-remove_zip c.self.inside.numbers.items c.self.inside.records.items c.place_of-place.result c.self.invariant.1 (omega (arith, c.self.inside.numbers.ok.0)) in
-    rw (c.remove.ensures.items, c.remove-then-place-len.ensures.items, ← c.self.view_is) (omega (arith, fewer))
-
-pub returns-else-place-len-clause-value : goal.returns-else-place-len-clause-value
-returns-else-place-len-clause-value g c =
-    let numbers = c.self.inside.numbers.items in
-    let records = c.self.inside.records.items in
-    let at = c.place_of-place.ensures ∙ ap (λ l. place c.args.number l) c.deref.ensures.value in
-    let past = slice_get_past records (place c.args.number numbers) (omega (arith, at, c.self.invariant.1, c.self.inside.numbers.ok.0)) in
-    rw (← c.self.view_is) (sym (entry_at-zip numbers records c.args.number c.self.invariant.1 ∙ past))
-
-pub returns-else-place-len-clause-after : goal.returns-else-place-len-clause-after
-returns-else-place-len-clause-after g c =
-    let numbers = c.self.inside.numbers.items in
-    let at = c.place_of-place.ensures ∙ ap (λ l. place c.args.number l) c.deref.ensures.value in
-    rw (← c.self.view_is) (sym (without_entry_absent numbers c.self.inside.records.items c.args.number (omega (arith, at, c.self.inside.numbers.ok.0))))
+pub returns-clause-shorter : goal.returns-clause-shorter
+returns-clause-shorter g c =
+    let index = c.self.inside.index.items in
+    let place = c.in_ok-place.place in
+    let there = rw c.deref.ensures.value at c.in_ok-place.ensures.there in
+    let kept = invariant_of-self g c in
+    omega (arith, length-entries_at c.self.inside.slots index c.self.invariant.held, ap length c.self.view_is, length-entries_at c.remove-record.new.self c.remove-key.new.self.items kept.held, ap length c.remove-key.ensures.items, length-remove index place (place_within index c.args.number place there))
