@@ -1,0 +1,157 @@
+#!/usr/bin/env python3
+"""Measures round trips between threads, by the kernel and by plain Rust that does the same, and prints one table.
+
+usage: bench/roundtrips.py [repeats]
+
+In a round trip a client sends 4 bytes with room for 8 in the reply, a server receives them into 16 bytes and replies
+with 4, and the client collects and checks them. The programs:
+
+  kernel      Send, Receive and Reply by the locked kernel, with a thread for each port, and its past in memory
+  unkept      the same by a kernel that keeps no past
+  rendezvous  a channel of Rust's `std` without room, with a reply channel for each client
+  condvar     a mutex over a queue, with condition variables
+  crossbeam   a channel of crossbeam without room, with a reply channel for each client
+
+The kernel also makes them in one thread that has the port of a client and that of a server and never waits: the row
+`alone`, which shows what its three calls and two looks cost by themselves.
+
+It wants them built, `crates/qroundtrips/out/qroundtrips` and `bench/peers/out/peers`. One that isn't is left out, and
+it says by which command it is built.
+
+Each repeat (7, if no other number is given) runs all programs in turn, case by case, so that what else runs on the
+machine meets all of them. The figures: microseconds a round trip, which is the time until all clients have ended by the
+number of all round trips, least and median; and the median of the sleeps a round trip, which are the voluntary context
+switches of all threads of the program, as the system tells them. At the end stands how many times a peer's median the
+kernel's is, with what is aimed at.
+"""
+
+import os
+import resource
+import statistics
+import subprocess
+import sys
+import time
+
+ROOT = os.path.dirname(os.path.dirname(os.path.abspath(__file__)))
+KERNEL = os.path.join(ROOT, "crates/qroundtrips/out/qroundtrips")
+PEERS = os.path.join(ROOT, "bench/peers/out/peers")
+
+PROGRAMS = {
+    "kernel": [KERNEL],
+    "unkept": [KERNEL],
+    "rendezvous": [PEERS, "rendezvous"],
+    "condvar": [PEERS, "condvar"],
+    "crossbeam": [PEERS, "crossbeam"],
+}
+# What follows the numbers in a program's words.
+LAST_WORDS = {"unkept": ["unkept"]}
+BUILT_BY = {
+    KERNEL: "(cd crates/qroundtrips && rt run -- 1 1 100)",
+    PEERS: "bench/peers/build",
+}
+
+# Clients and servers. Each run makes as many round trips, which takes about a second at most, and stays far below the
+# 1,048,576 events that a kernel can keep: a round trip is three.
+CASES = ((1, 1), (2, 1), (8, 4), (32, 16))
+# One thread in place of two, by the kernel alone, and at most so many microseconds where no past is kept.
+ALONE = ("alone",)
+OWN = ("kernel", "unkept")
+ALONE_AIM = 0.4
+ROUND_TRIPS = 60_000
+REPEATS = 7
+SECONDS = 60
+
+# At most so many times a peer's median, in all cases or in some.
+AIMS = {
+    "rendezvous": {case: 2 / 3 for case in CASES},
+    "condvar": {case: 2 / 3 for case in CASES},
+    "crossbeam": {(8, 4): 1.7},
+}
+
+
+def built():
+    """The programs that are built. Of the others it says how they are."""
+    for path, command in BUILT_BY.items():
+        if not os.access(path, os.X_OK):
+            print(f"not built: {os.path.relpath(path, ROOT)}; in {ROOT} build it by: {command}")
+    return [name for name, words in PROGRAMS.items() if os.access(words[0], os.X_OK)]
+
+
+def measured(name, case):
+    """The microseconds and the sleeps of a round trip, in one run."""
+    clients = 1 if case == ALONE else case[0]
+    rounds = ROUND_TRIPS // clients
+    words = [*PROGRAMS[name], *map(str, case), str(rounds), *LAST_WORDS.get(name, [])]
+    before = resource.getrusage(resource.RUSAGE_CHILDREN).ru_nvcsw
+    try:
+        out = subprocess.run(words, capture_output=True, text=True, timeout=SECONDS)
+    except subprocess.TimeoutExpired:
+        sys.exit(f"no end after {SECONDS} seconds: {' '.join(words)}")
+    slept = resource.getrusage(resource.RUSAGE_CHILDREN).ru_nvcsw - before
+    told = out.stdout.split()
+    if out.returncode != 0 or told[1:] != ["us"]:
+        sys.exit(f"status {out.returncode}: {' '.join(words)}\n{out.stdout}{out.stderr}")
+    return float(told[0]), slept / (clients * rounds)
+
+
+def named(case):
+    """A case in short."""
+    return "-".join(map(str, case))
+
+
+def rows(programs, runs):
+    """The table."""
+    print(f"{'clients-servers':<18}{'program':<12}{'least us':>10}{'median us':>11}{'sleeps':>8}")
+    for case in (*CASES, ALONE):
+        for name in programs:
+            if (case, name) not in runs:
+                continue
+            micros, sleeps = zip(*runs[case, name])
+            median = statistics.median(micros)
+            print(f"{named(case):<18}{name:<12}{min(micros):>10.2f}{median:>11.2f}{statistics.median(sleeps):>8.2f}")
+
+
+def ratios(programs, runs):
+    """How many times each peer's median the kernel's is."""
+
+    def median(case, name):
+        return statistics.median(micros for micros, _ in runs[case, name])
+
+    print(f"\n{'clients-servers':<18}{'to':<12}{'kernel':>10}{'unkept':>10}{'aim':>11}")
+    for case in CASES:
+        for name in programs:
+            if name not in AIMS:
+                continue
+            kept, unkept = (median(case, own) / median(case, name) for own in ("kernel", "unkept"))
+            aim = AIMS[name].get(case)
+            missed = "  missed" if aim and kept > aim else ""
+            print(f"{named(case):<18}{name:<12}{kept:>10.2f}{unkept:>10.2f}{f'{aim:.2f}' if aim else '':>11}{missed}")
+    alone = median(ALONE, "unkept")
+    missed = "  missed" if alone > ALONE_AIM else ""
+    print(f"\nin one thread, with no past kept: {alone:.2f} us, aim {ALONE_AIM:.2f}{missed}")
+
+
+def main():
+    words = sys.argv[1:]
+    if len(words) > 1 or not all(word.isdecimal() and int(word) > 0 for word in words):
+        sys.exit(__doc__)
+    repeats = int(words[0]) if words else REPEATS
+    programs = built()
+    if not programs:
+        sys.exit(1)
+    cores = len(os.sched_getaffinity(0))
+    date = time.strftime("%Y-%m-%d %H:%M")
+    load = os.getloadavg()[0]
+    print(f"{date}, {cores} cores, load {load:.1f}: {repeats} repeats of {ROUND_TRIPS:,} round trips\n")
+    runs = {(case, name): [] for case in CASES for name in programs}
+    runs |= {(ALONE, name): [] for name in programs if name in OWN}
+    for _ in range(repeats):
+        for case, name in runs:
+            runs[case, name].append(measured(name, case))
+    rows(programs, runs)
+    if "kernel" in programs:
+        ratios(programs, runs)
+
+
+if __name__ == "__main__":
+    main()

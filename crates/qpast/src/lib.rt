@@ -1,0 +1,4 @@
+//! A past that proofs alone have.
+#![tactic(auto)]
+
+pub mod past;

@@ -1,0 +1,38 @@
+//! A past that proofs alone have.
+
+ghost use Rattle.std.specs.Prelude.{◌≡◌, []};
+ghost use base.Fml.{ftrue};
+ghost use Rattle.qrules.specs.Trace.{Trace};
+ghost use Rattle.qrules.specs.Lawful.{with_event};
+
+use qbase::ids::ThreadNo;
+use qrecords::endings::Endings;
+use qrules::call::Call;
+use std::marker::Model;
+use std::snapshot::Snapshot;
+
+/// All events of a kernel, which only clauses read. It has no bytes, and its functions do nothing.
+#[derive(Drop)]
+pub struct Past {
+    pub ghost trace: { Trace },
+}
+
+impl Model for Past {
+    ghost also_owns = { λ _. ftrue };
+}
+
+impl Past {
+    /// Of a kernel that made no call.
+    pub fn none() -> Past
+        ensures { result.trace ≡ [] }
+    {
+        Past {}
+    }
+
+    /// With one event more: this call of the thread, with these endings.
+    pub fn with(&self, _thread: &ThreadNo, _call: &Snapshot<Call>, _endings: &Endings) -> Past
+        ensures { result.trace ≡ with_event _thread.now _call.now.value _endings.now.items self.now.trace }
+    {
+        Past {}
+    }
+}

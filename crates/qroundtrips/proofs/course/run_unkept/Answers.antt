@@ -1,0 +1,5 @@
+use Rattle.qroundtrips.proofs.course.run_unkept.Goals as goal
+
+-- src/course.rt:194:18
+pub finish-requires-clause-all : goal.finish-requires-clause-all
+finish-requires-clause-all g c = rw (← c.as_slice.ensures.value) (c.all.ensures.0 search)

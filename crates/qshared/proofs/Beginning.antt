@@ -1,0 +1,46 @@
+-- What lies under the lock at the beginning.
+use Rattle.std.proofs.Common.{◌≡◌, ℕ, ◌≤◌, List, [], length, get_or, refl, ap, sym, subst, ◌∙◌, arith}
+use Rattle.std.specs.Prelude.{replicate}
+use Rattle.std.proofs.lemmas.List.{length-map}
+use Rattle.qtables.specs.Members.{IsRoster}
+use Rattle.qtables.specs.declared.member.Member.{Member}
+use Rattle.qrules.specs.Facts.{threads_of}
+use Rattle.qrules.specs.declared.call.Completion.{Completion}
+use Rattle.qrules.proofs.Properties.All.{has_properties}
+use Rattle.qrecords.specs.Threads.{members_of}
+use Rattle.qkernel.specs.Stands.{StandsAt}
+use Rattle.qkernel.specs.State.{State, IsSound}
+use Rattle.qhandoff.specs.declared.view.Line.{Line}
+use Rattle.qhandoff.specs.Rule.{idle_line}
+use Rattle.qhandoff.specs.Steps.{seated_desk}
+use Rattle.qshared.specs.Held.{IsHeld}
+
+same_replicate : {A : Type 0} (n i : ℕ) (x : A) → get_or (replicate n x) i x ≡ x
+same_replicate Prim.Native.Nat.zero i x = refl
+same_replicate (Prim.Native.Nat.suc n) Prim.Native.Nat.zero x = refl
+same_replicate (Prim.Native.Nat.suc n) (Prim.Native.Nat.suc i) x = same_replicate n i x
+
+pub held_first : (roster : List Member) (slots : ℕ) (kernel : State) (threads : List ℕ) → IsSound kernel → members_of kernel.threads ≡ roster → StandsAt (members_of kernel.threads) kernel []
+    → threads ≡ threads_of (members_of kernel.threads) → length threads ≡ slots → IsHeld roster slots kernel (seated_desk slots slots) threads [] []
+held_first roster slots kernel threads sound same stands threads_are many =
+    let rises : IsRoster (members_of kernel.threads) = sound.roster in
+    let few : length kernel.threads ≤ 64 = sound.few in
+    let short : length (members_of kernel.threads) ≡ length kernel.threads = length-map kernel.threads (λ x. x.member) in
+    let whole : length threads ≡ length (threads_of (members_of kernel.threads)) = ap length threads_are in
+    let rises' : IsRoster roster = subst IsRoster same rises in
+    let stands' : StandsAt roster kernel [] = subst (λ r. StandsAt r kernel []) same stands in
+    let long : length (threads_of (members_of kernel.threads)) ≡ length (members_of kernel.threads) = length-map (members_of kernel.threads) (λ m. m.thread) in
+    record {
+      rises = rises';
+      sized = ap length (sym same) ∙ sym long ∙ ap length (sym threads_are) ∙ many;
+      few = omega (arith, few, short, long, whole, many);
+      threads_are = threads_are ∙ ap threads_of same;
+      told = record {
+        lawful = tt;
+        properties = has_properties roster [] rises' tt;
+        stands = stands';
+        tied = λ t i is. (ap (λ (l : Line Completion). l.put) (same_replicate slots i idle_line), ap (λ (l : Line Completion). l.opened) (same_replicate slots i idle_line));
+      };
+      numbered = omega arith;
+      emptied = refl;
+    }

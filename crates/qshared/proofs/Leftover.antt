@@ -1,0 +1,136 @@
+-- What is left in the cells, as completions alone.
+use Rattle.std.proofs.Common.{◌≡◌, ℕ, zero, suc, ◌+◌, ◌<◌, ◌≤◌, List, [], ◌∷◌, ◌++◌, length, map, get_or, refl, ap, sym, subst, ◌∙◌, cond, Bool, true, false, eqb, inl, inr, arith}
+use Rattle.std.specs.Prelude.{Some}
+use Rattle.std.specs.List.{AllByRecursion}
+use Rattle.std.proofs.lemmas.Bool.{cases_Bool, eqb-true, eqb-false, eq-eqb, ne_eqb, true≢false}
+use Rattle.std.proofs.lemmas.Option.{same_Some}
+use mathlib.Core.Option.{some, some-injective, some-ne-none}
+use lib.ListN.{get_elem?}
+use Rattle.qbase.proofs.Lists.{all_more}
+use Rattle.qrules.specs.declared.call.Completion.{Completion}
+use Rattle.qrules.specs.Laws.{RiseByThread}
+use Rattle.qrules.specs.Trace.{Trace}
+use Rattle.qrules.proofs.Rosters.{Rises, all_at}
+use Rattle.qhandoff.specs.Words.{AreBelow, left_for}
+use Rattle.qhandoff.specs.Words as cells
+use Rattle.qshared.specs.Due.{due, of_thread, place}
+use Rattle.qshared.proofs.Places.{IsAt, at_among, is_at, place_at, place_same}
+
+-- a completion with the number of its cell
+abbrev Left : Type 0
+Left = ℕ × Completion
+
+-- ---- of each, and in order
+
+each : {A : Type 0} (P : A → Type 0) (xs : List A) → ((k : ℕ) (x : A) → get_elem? xs k ≡ some x → P x) → AllByRecursion P xs
+each P [] of = tt
+each P (x ∷ xs) of = (of 0 x refl, each P xs (λ k y at. of (suc k) y at))
+
+-- the numbers rise
+abbrev AreRising : List Left → Type 0
+AreRising [] = Unit {0}
+AreRising (x ∷ xs) = AllByRecursion (λ y. x.0 < y.0) xs × AreRising xs
+
+rising : (xs : List Left) → cells.Rises xs → AreRising xs
+rising [] r = tt
+rising (x ∷ xs) r = (each (λ y. x.0 < y.0) xs (λ k y at. r 0 (suc k) x y refl at (omega arith)), rising xs (λ j k y z at at' less. r (suc j) (suc k) y z at at' (omega arith)))
+
+-- so many numbers are no more than there are from b on, below n
+many_rising : (b n : ℕ) (xs : List Left) → AllByRecursion (λ x. b ≤ x.0) xs → AllByRecursion (λ x. x.0 < n) xs → AreRising xs → b ≤ n → length xs + b ≤ n
+many_rising b n [] low below r less = omega (arith, less)
+many_rising b n (x ∷ xs) low below r less =
+    let here : b ≤ x.0 = low.0 in
+    let high : x.0 < n = below.0 in
+    let rest : length xs + (x.0 + 1) ≤ n = many_rising (x.0 + 1) n xs (all_more _ _ xs r.0 (λ y above. omega (arith, above))) below.1 r.1 (omega arith) in
+    omega arith
+
+pub few_left : (n : ℕ) (xs : List Left) → cells.Rises xs → AreBelow n xs → length xs ≤ n
+few_left n xs r below = let m = many_rising 0 n xs (each (λ x. 0 ≤ x.0) xs (λ k x at. omega arith)) (each (λ x. x.0 < n) xs below) (rising xs r) (omega arith) in omega (arith, m)
+
+-- ---- what is due goes to its own thread
+
+own_filtered : (t : ℕ) (X : List Completion) → AllByRecursion (λ x. x.thread ≡ t) (of_thread t X)
+own_filtered t [] = tt
+own_filtered t (x ∷ X) = elim (eqb x.thread t) as (λ b. eqb x.thread t ≡ b → AllByRecursion (λ y. y.thread ≡ t) (cond b (x ∷ of_thread t X) (of_thread t X))) [
+  | true ↦ λ e. (eqb-true x.thread t e, own_filtered t X)
+  | false ↦ λ e. own_filtered t X
+] refl
+
+all_append : {A : Type 0} (P : A → Type 0) (xs ys : List A) → AllByRecursion P xs → AllByRecursion P ys → AllByRecursion P (xs ++ ys)
+all_append P [] ys a b = b
+all_append P (x ∷ xs) ys a b = (a.0, all_append P xs ys a.1 b)
+
+all_behind : {A : Type 0} (P : A → Type 0) (xs ys : List A) → AllByRecursion P (xs ++ ys) → AllByRecursion P ys
+all_behind P [] ys a = a
+all_behind P (x ∷ xs) ys a = all_behind P xs ys a.1
+
+own_due : (past : Trace) (t : ℕ) → AllByRecursion (λ x. x.thread ≡ t) (due past t)
+own_due [] t = tt
+own_due (e ∷ past) t = all_append _ (due past t) (of_thread t e.endings) (own_due past t) (own_filtered t e.endings)
+
+-- ---- each is left for its own thread
+
+without_head : {A : Type 0} (P : A → Type 0) (b : Bool) (x : A) (xs : List A) → AllByRecursion P (cond b (x ∷ xs) xs) → AllByRecursion P xs
+without_head P true x xs a = a.1
+without_head P false x xs a = a
+
+with_head : {A : Type 0} (P : A → Type 0) (b : Bool) (x : A) (xs : List A) → b ≡ true → AllByRecursion P (cond b (x ∷ xs) xs) → P x
+with_head P true x xs e a = a.0
+with_head P false x xs e a = absurd (true≢false (sym e))
+
+-- what is so of all that is left for a cell, is so of each that is left for it
+left_one : (P : Completion → Type 0) (xs : List Left) (k : ℕ) (x : Left) → get_elem? xs k ≡ some x → AllByRecursion P (left_for x.0 xs) → P x.1
+left_one P [] k x at all = absurd (some-ne-none x (sym at))
+left_one P (y ∷ ys) zero x at all =
+    let same : y ≡ x = some-injective y x at in
+    subst (λ (z : Left). P z.1) same (with_head P (eqb y.0 x.0) y.1 (left_for x.0 ys) (eq-eqb y.0 x.0 (ap (λ (z : Left). z.0) same)) all)
+left_one P (y ∷ ys) (suc k) x at all = left_one P ys k x at (without_head P (eqb y.0 x.0) y.1 (left_for x.0 ys) all)
+
+-- ---- without the numbers of the cells
+
+-- its thread has this cell
+abbrev IsPlaced : List ℕ → Left → Type 0
+IsPlaced ts x = place ts x.1.thread ≡ Some x.0
+
+left_same : (ts : List ℕ) (t i : ℕ) → place ts t ≡ Some i → (xs : List Left) → AllByRecursion (IsPlaced ts) xs → of_thread t (map (λ x. x.1) xs) ≡ left_for i xs
+left_same ts t i at [] all = refl
+left_same ts t i at (x ∷ xs) all = elim (cases_Bool (eqb x.1.thread t)) [
+  | inl e ↦
+      let here : x.0 ≡ i = same_Some x.0 i (sym all.0 ∙ ap (place ts) (eqb-true x.1.thread t e) ∙ at) in
+      rw (e, eq-eqb x.0 i here) (ap (λ ys. x.1 ∷ ys) (left_same ts t i at xs all.1))
+  | inr e ↦
+      let other : eqb x.0 i ≡ false = ne_eqb x.0 i (λ s. eqb-false x.1.thread t e (place_same ts x.1.thread t i (all.0 ∙ ap Some s) at)) in
+      rw (e, other) (left_same ts t i at xs all.1)
+]
+
+-- the threads of rising places rise
+at_rises : (ts : List ℕ) (u v i j : ℕ) → Rises ts → IsAt ts u i → IsAt ts v j → i < j → u < v
+at_rises [] u v i j r a b less = absurd a
+at_rises (w ∷ ts) u v zero zero r a b less = absurd (omega arith)
+at_rises (w ∷ ts) u v zero (suc j) r a b less = subst (λ k. k < v) a (all_at w v ts r.0 (at_among ts v j b.1))
+at_rises (w ∷ ts) u v (suc i) zero r a b less = absurd (omega arith)
+at_rises (w ∷ ts) u v (suc i) (suc j) r a b less = at_rises ts u v i j r.1 a.1 b.1 (omega arith)
+
+left_rises : (ts : List ℕ) → Rises ts → (xs : List Left) → AllByRecursion (IsPlaced ts) xs → AreRising xs → RiseByThread (map (λ x. x.1) xs)
+left_rises ts r [] all up = tt
+left_rises ts r (x ∷ xs) all up = (above xs all.1 up.0, left_rises ts r xs all.1 up.1) where
+  above : (ys : List Left) → AllByRecursion (IsPlaced ts) ys → AllByRecursion (λ y. x.0 < y.0) ys → AllByRecursion (λ y. x.1.thread < y.thread) (map (λ y. y.1) ys)
+  above [] a b = tt
+  above (y ∷ ys) a b = (at_rises ts x.1.thread y.1.thread x.0 y.0 r (is_at ts x.1.thread x.0 all.0) (is_at ts y.1.thread y.0 a.0) b.0, above ys a.1 b.1)
+
+-- ---- where what was taken and what is left is what is due
+
+module _ (ts : List ℕ) (past : Trace) (xs : List Left) (rises : Rises ts) (up : cells.Rises xs) (below : AreBelow (length ts) xs)
+    (took : ℕ → List Completion) (told : (t i : ℕ) → place ts t ≡ Some i → took i ++ left_for i xs ≡ due past t) where
+  placed : AllByRecursion (IsPlaced ts) xs
+  placed = each (IsPlaced ts) xs (λ k x at.
+      let t = get_or ts x.0 0 in
+      let here : place ts t ≡ Some x.0 = place_at ts x.0 0 rises (below k x at) in
+      let own : AllByRecursion (λ y. y.thread ≡ t) (left_for x.0 xs) = all_behind _ (took x.0) (left_for x.0 xs) (subst (AllByRecursion (λ y. y.thread ≡ t)) (sym (told t x.0 here)) (own_due past t)) in
+      ap (place ts) (left_one (λ y. y.thread ≡ t) xs k x at own) ∙ here)
+
+  pub left_by_thread : RiseByThread (map (λ x. x.1) xs)
+  left_by_thread = left_rises ts rises xs placed (rising xs up)
+
+  pub left_due : (t i : ℕ) → place ts t ≡ Some i → took i ++ of_thread t (map (λ x. x.1) xs) ≡ due past t
+  left_due t i at = ap (λ ys. took i ++ ys) (left_same ts t i at xs placed) ∙ told t i at

@@ -1,0 +1,9 @@
+pub mod Beginning
+pub mod Copying
+pub mod Keeps
+pub mod KeptLog
+pub mod Leftover
+pub mod Places
+pub mod Puts
+pub mod Rows
+pub mod Telling

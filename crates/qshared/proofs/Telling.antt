@@ -1,0 +1,109 @@
+-- What the past, the kernel and the cells are after an event.
+use Rattle.std.proofs.Common.{◌≡◌, ◌≢◌, ℕ, zero, suc, ◌<◌, List, [], ◌∷◌, ◌++◌, length, set, refl, ap, sym, subst, ◌∙◌, cond, true, false, eqb, inl, inr}
+use Rattle.std.specs.Prelude.{Some}
+use Rattle.std.specs.List.{AllByRecursion}
+use Rattle.std.proofs.lemmas.Bool.{cases_Bool, eqb-true, eqb-false}
+use Rattle.std.proofs.lemmas.List.{set-get_or}
+use Rattle.std.proofs.lemmas.Option.{same_Some}
+use Rattle.qbase.proofs.Lists.{some_of}
+use Rattle.qtables.specs.Members.{IsRoster}
+use Rattle.qtables.specs.declared.member.Member.{Member}
+use Rattle.qrules.specs.declared.call.Call.{Call}
+use Rattle.qrules.specs.declared.call.Completion.{Completion}
+use Rattle.qrules.specs.Answer.{Answers}
+use Rattle.qrules.specs.Endings.{IsDue, gets, may_end}
+use Rattle.qrules.specs.Facts.{threads_of}
+use Rattle.qrules.specs.Lawful.{IsLawful, facts_of, with_event}
+use Rattle.qrules.specs.Trace.{Event, Trace}
+use Rattle.qrules.proofs.Properties.All.{has_properties}
+use Rattle.qrules.proofs.Rosters.{among_member, known}
+use Rattle.qrules.proofs.TraceLaws.Blocked.{blocked_unless_ended, endings_go_to_blocked}
+use Rattle.qkernel.specs.Stands.{StandsAt}
+use Rattle.qkernel.specs.State.{State}
+use Rattle.qhandoff.specs.declared.view.Desk.{Desk}
+use Rattle.qhandoff.specs.declared.view.Line.{Line}
+use Rattle.qhandoff.specs.Rule.{idle_line, line}
+use Rattle.qhandoff.specs.Steps.{opened_desk, cancelled_desk}
+use Rattle.qhandoff.proofs.Changes.{line_else, line_here}
+use Rattle.qshared.specs.Due.{place, of_thread}
+use Rattle.qshared.specs.Held.{IsTold}
+use Rattle.qshared.specs.Performing.{IsFree}
+use Rattle.qshared.specs.Putting.{MayPut, Handed}
+use Rattle.qshared.proofs.Places.{place_among, place_same, place_some}
+
+-- ---- an opened cell
+
+open_puts : (d : Desk Completion) (i j : ℕ) → i < length d.lines → (line (opened_desk d i) j).put ≡ (line d j).put
+open_puts d i j near =
+    let l' : Line Completion = record (line d i) { opened = true } in
+    elim (cases_Bool (eqb j i)) [
+      | inl e ↦ ap (λ z. z.put) (line_here d i l' j (eqb-true j i e) near) ∙ ap (λ k. (line d k).put) (sym (eqb-true j i e))
+      | inr e ↦ ap (λ z. z.put) (line_else d i l' j (eqb-false j i e))
+    ]
+
+open_here : (d : Desk Completion) (i : ℕ) → i < length d.lines → (line (opened_desk d i) i).opened ≡ true
+open_here d i near = ap (λ z. z.opened) (line_here d i (record (line d i) { opened = true }) i refl near)
+
+open_else : (d : Desk Completion) (i j : ℕ) → j ≢ i → (line (opened_desk d i) j).opened ≡ (line d j).opened
+open_else d i j other = ap (λ z. z.opened) (line_else d i (record (line d i) { opened = true }) j other)
+
+set_twice : {A : Type 0} (xs : List A) (i : ℕ) (a b : A) → set (set xs i a) i b ≡ set xs i b
+set_twice [] i a b = refl
+set_twice (x ∷ xs) zero a b = refl
+set_twice (x ∷ xs) (suc i) a b = ap (λ ys. x ∷ ys) (set_twice xs i a b)
+
+-- an opening that is cancelled leaves all as it was
+pub undone : (d : Desk Completion) (i : ℕ) → i < length d.lines → (line d i).opened ≡ false → cancelled_desk (opened_desk d i) i ≡ d
+undone d i near closed =
+    let other : Line Completion = record (line d i) { opened = true } in
+    let here : line (opened_desk d i) i ≡ other = line_here d i other i refl near in
+    let again : record (line (opened_desk d i) i) { opened = false } ≡ line d i = ap (λ (l : Line Completion). record l { opened = false }) here ∙ ap (λ b. record (line d i) { opened = b }) (sym closed) in
+    ap (λ (l : Line Completion). record d { lines = set (set d.lines i other) i l }) again
+    ∙ ap (λ ls. record d { lines = ls }) (set_twice d.lines i other (line d i) ∙ set-get_or d.lines i idle_line)
+
+module _ (roster : List Member) (kernel : State) (d : Desk Completion) (past : Trace) (t i : ℕ)
+    (told : IsTold roster kernel d past) (at : place (threads_of roster) t ≡ Some i) where
+  -- whose cell was idle is free
+  pub is_free : kernel.down ≡ false → (line d i).opened ≡ false → IsFree roster past t
+  is_free up closed = record {
+    heard = record { known = among_member roster t (place_among (threads_of roster) t i at); up = sym told.stands.down ∙ up };
+    idle = sym (told.tied t i at).1 ∙ closed;
+  }
+
+  module _ (near : i < length d.lines) (free : IsFree roster past t) where
+    -- a cell is opened where its thread's call may end
+    opened_may : (u j : ℕ) → place (threads_of roster) u ≡ Some j → (line (opened_desk d i) j).opened ≡ may_end roster past t u
+    opened_may u j is = elim (cases_Bool (eqb u t)) [
+      | inl e ↦
+          let same : j ≡ i = same_Some j i (sym is ∙ ap (place (threads_of roster)) (eqb-true u t e) ∙ at) in
+          ap (λ k. (line (opened_desk d i) k).opened) same ∙ open_here d i near ∙ rw e refl
+      | inr e ↦ open_else d i j (λ s. eqb-false u t e (place_same (threads_of roster) u t i (subst (λ k. place (threads_of roster) u ≡ Some k) s is) at)) ∙ (told.tied u j is).1 ∙ rw e refl
+    ]
+
+    module _ (c : Call) (X : List Completion) (answers : Answers (facts_of roster past) t c X) (rises : IsRoster roster) where
+      abbrev e : Event
+      e = record { thread = t; call = c; endings = X }
+
+      pub lawful_after : IsLawful roster (with_event t c X past)
+      lawful_after = (told.lawful, free.heard.known, answers)
+
+      pub all_may_put : AllByRecursion (MayPut (threads_of roster) (opened_desk d i)) X
+      all_may_put = each X (endings_go_to_blocked roster past e rises lawful_after) where
+        each : (Y : List Completion) → AllByRecursion (IsDue roster past t) Y → AllByRecursion (MayPut (threads_of roster) (opened_desk d i)) Y
+        each [] a = tt
+        each (x ∷ Y) a =
+            let s = some_of (place (threads_of roster) x.thread) (place_some (threads_of roster) x.thread (known roster x.thread a.0.known)) in
+            ((s.0, s.1, opened_may x.thread s.0 s.1 ∙ a.0.may), each Y a.1)
+
+      module _ (new : State) (d' : Desk Completion) (stands : StandsAt roster new (with_event t c X past))
+          (handed : Handed (threads_of roster) X (opened_desk d i) d') where
+        pub told_after : IsTold roster new d' (with_event t c X past)
+        told_after = record {
+          lawful = lawful_after;
+          properties = has_properties roster (with_event t c X past) rises lawful_after;
+          stands = stands;
+          tied = λ u j is. (
+            handed.put u j is ∙ ap (λ ys. ys ++ of_thread u X) (open_puts d i j near ∙ (told.tied u j is).0),
+            handed.opened u j is ∙ ap (λ b. cond (gets X u) false b) (opened_may u j is) ∙ sym (blocked_unless_ended roster past e rises lawful_after free.idle u),
+          );
+        }

@@ -1,0 +1,13 @@
+use Rattle.std.proofs.Common.{◌≡◌, length, reverse}
+use Rattle.qhandoff.specs.Words.{kernel_id, desk}
+use Rattle.qshared.proofs.Puts.{Handing}
+use Rattle.qshared.proofs.handing.hand_out.Given as goal
+
+abbrev pub invariant-loop-ending : goal.invariant-loop-ending
+invariant-loop-ending l = record {
+  cells : kernel_id l.seat ≡ kernel_id l.fn.seat;
+  handing : Handing l.threads l.fn.endings.items (desk l.fn.seat) (desk l.seat) l.thread l.own (reverse l.endings.items);
+}
+
+abbrev pub decreases-loop-ending : goal.decreases-loop-ending
+decreases-loop-ending l = length l.endings.items

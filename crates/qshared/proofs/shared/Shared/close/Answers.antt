@@ -1,0 +1,52 @@
+use Rattle.std.proofs.Common.{◌≡◌, ℕ, sym, subst, ap, ◌∙◌, map, length, ◌++◌, ◌<◌, arith}
+use Rattle.std.specs.Prelude.{Some}
+use Rattle.std.proofs.lemmas.List.{length-map}
+use lib.ListN.{get_elem?}
+use Rattle.qrules.specs.Facts.{threads_of}
+use Rattle.qrules.proofs.Rosters.{rises}
+use Rattle.qhandoff.specs.Words.{cells_id, count, took, left_for, AreBelow, IsRow}
+use Rattle.qrules.specs.Laws.{RiseByThread}
+use Rattle.qshared.specs.Due.{due, of_thread, place}
+use Rattle.qshared.proofs.Leftover.{few_left, left_by_thread, left_due}
+use Rattle.qshared.proofs.Places.{place_below}
+use Rattle.qshared.proofs.Rows.{seats_row}
+use Rattle.qshared.proofs.shared.Shared.close.Goals as goal
+
+pub close-left-requires-clause-threads : goal.close-left-requires-clause-threads
+close-left-requires-clause-threads g c =
+    let z = cells_id c.args.self.cells in (
+      ap length c.gather.ensures.seats ∙ length-map c.args.ports.items (λ p. p.seat) ∙ c.requires.all.0 ∙ ap (λ y. y.slots) (sym c.args.self.cells_are),
+      subst (IsRow z) (sym c.gather.ensures.seats) (seats_row (λ p. p.seat) z c.args.ports.items (λ p. p.seat_is ∙ sym c.args.self.cells_are) c.requires.all.1),
+    )
+
+pub without_places-requires : goal.without_places-requires
+without_places-requires g c =
+    let few = few_left (count c.args.self.cells) c.close-left.result.items c.close-left.ensures.rises c.close-left.ensures.within in
+    let roomy = c.into_inner-traced.result.roomy in
+    record { room = (roomy.4, omega (arith, few, roomy.5, ap (λ y. y.slots) c.args.self.cells_are)) }
+
+pub returns-clause-sum : goal.returns-clause-sum
+returns-clause-sum g c =
+    let whole : c.gather.new.spare.parts ≡ g.K.Ledger.parts = c.gather.ensures.spare.0 ∙ c.requires.all.0 ∙ sym c.requires.named in
+    sym c.gather.ensures.spare.1 ∙ c.audit.ensures.whole whole ∙ sym c.into_inner-traced.result.counted ∙ ap (λ z. length z.past) (sym c.traced.view_is)
+
+pub returns-clause-rises : goal.returns-clause-rises
+returns-clause-rises g c =
+    let h = c.traced.invariant.2 in
+    let ts = threads_of g.K.Tie.roster in
+    let long : count c.args.self.cells ≡ length ts = ap (λ y. y.slots) c.args.self.cells_are ∙ sym h.sized ∙ sym (length-map g.K.Tie.roster (λ m. m.thread)) in
+    let below : AreBelow (length ts) c.close-left.result.items = subst (λ n. AreBelow n c.close-left.result.items) long c.close-left.ensures.within in
+    let told : (t i : ℕ) → place ts t ≡ Some i → took (get_elem? (map (λ p. p.seat) c.args.ports.items) i) ++ left_for i c.close-left.result.items ≡ due (g.L.Log.past c.traced.inside.log) t =
+    λ t i at. ap (λ ss. took (get_elem? ss i) ++ left_for i c.close-left.result.items) (sym c.gather.ensures.seats) ∙ c.close-left.ensures.told i (subst (λ n. i < n) (sym long) (place_below ts t i at)) ∙ (h.told.tied t i at).0 in
+    subst RiseByThread (sym c.without_places.ensures) (left_by_thread ts (g.L.Log.past c.traced.inside.log) c.close-left.result.items (rises g.K.Tie.roster h.rises) c.close-left.ensures.rises below (λ i. took (get_elem? (map (λ p. p.seat) c.args.ports.items) i)) told)
+
+pub returns-clause-due : goal.returns-clause-due
+returns-clause-due g c =
+    let h = c.traced.invariant.2 in
+    let ts = threads_of g.K.Tie.roster in
+    let long : count c.args.self.cells ≡ length ts = ap (λ y. y.slots) c.args.self.cells_are ∙ sym h.sized ∙ sym (length-map g.K.Tie.roster (λ m. m.thread)) in
+    let below : AreBelow (length ts) c.close-left.result.items = subst (λ n. AreBelow n c.close-left.result.items) long c.close-left.ensures.within in
+    let told : (t i : ℕ) → place ts t ≡ Some i → took (get_elem? (map (λ p. p.seat) c.args.ports.items) i) ++ left_for i c.close-left.result.items ≡ due (g.L.Log.past c.traced.inside.log) t =
+    λ t i at. ap (λ ss. took (get_elem? ss i) ++ left_for i c.close-left.result.items) (sym c.gather.ensures.seats) ∙ c.close-left.ensures.told i (subst (λ n. i < n) (sym long) (place_below ts t i at)) ∙ (h.told.tied t i at).0 in
+    subst (λ left. (t i : ℕ) → place ts t ≡ Some i → took (get_elem? (map (λ p. p.seat) c.args.ports.items) i) ++ of_thread t left ≡ due (g.L.Log.past c.traced.inside.log) t) (sym c.without_places.ensures)
+    (left_due ts (g.L.Log.past c.traced.inside.log) c.close-left.result.items (rises g.K.Tie.roster h.rises) c.close-left.ensures.rises below (λ i. took (get_elem? (map (λ p. p.seat) c.args.ports.items) i)) told)

@@ -1,0 +1,53 @@
+use Rattle.std.proofs.Common.{◌≡◌, false, ◌++◌, ◌∷◌, [], arith, sym, ap, ◌∙◌, map, length, get_or, ◌<◌}
+use Rattle.std.proofs.lemmas.Grind.{common_steps}
+use Rattle.std.proofs.lemmas.Iterator.Adapters.{YieldsList-from_vec}
+use Rattle.std.proofs.lemmas.Iterator.Consumers.{YieldsList-turn, YieldsList-end}
+use lib.ListN.{get_elem?}
+use Rattle.std.specs.Prelude.{Some}
+use Rattle.qrules.specs.Facts.{threads_of}
+use Rattle.qrules.proofs.Rosters.{rises}
+use Rattle.atomic_table.proofs.Lists.{at_index}
+use Rattle.qshared.specs.Due.{place}
+use Rattle.qshared.proofs.Places.{place_at}
+use Rattle.qshared.proofs.Rows.{map_same, map_snoc, each_pushed, ports_fresh}
+use Rattle.qshared.proofs.shared.ports_for.Goals as goal
+
+pub bounds-threads-thread : goal.bounds-threads-thread
+bounds-threads-thread g c =
+    let t = YieldsList-turn (YieldsList-from_vec {s = c.into_iter-seat-iterator.result} c.args.seats.items c.into_iter-seat-iterator.ensures.into_iter_gives.0 (c.into_iter-seat-iterator.ensures.into_iter_gives.1 ∙ c.args.seats.ok.0)) c.loop-seat.yielded c.loop-seat.seat-iterator c.loop-seat.yielded_by c.next.result c.next.new.self c.in-Some.seat c.in-Some.is c.next.ensures.steps in
+    let row = c.requires.seats.1 (length c.loop-seat.yielded) c.in-Some.seat (at_index c.args.seats.items (length c.loop-seat.yielded) c.in-Some.seat t.0 t.1) in
+    omega (arith, c.thread.ensures.within, ap (λ z. z.slots) row.0, c.requires.sized)
+
+pub new-port-requires-clause-seat : goal.new-port-requires-clause-seat
+new-port-requires-clause-seat g c =
+    let t = YieldsList-turn (YieldsList-from_vec {s = c.into_iter-seat-iterator.result} c.args.seats.items c.into_iter-seat-iterator.ensures.into_iter_gives.0 (c.into_iter-seat-iterator.ensures.into_iter_gives.1 ∙ c.args.seats.ok.0)) c.loop-seat.yielded c.loop-seat.seat-iterator c.loop-seat.yielded_by c.next.result c.next.new.self c.in-Some.seat c.in-Some.is c.next.ensures.steps in
+    let row = c.requires.seats.1 (length c.loop-seat.yielded) c.in-Some.seat (at_index c.args.seats.items (length c.loop-seat.yielded) c.in-Some.seat t.0 t.1) in
+    let ts = threads_of g.K.Tie.roster in
+    let same : c.args.threads.now ≡ ts = c.requires.roster.1 in
+    let below : c.thread.result < length ts = omega (arith, c.thread.ensures.within, ap (λ z. z.slots) row.0, c.requires.sized, ap length same) in
+    let d = c.index-threads-thread.result in
+    (row.0, ap (place ts) (c.index-threads-thread.is ∙ ap (λ xs. get_or xs c.thread.result d) same) ∙ place_at ts c.thread.result d (rises g.K.Tie.roster c.requires.roster.0) below ∙ ap Some c.thread.ensures.number)
+
+pub loop-seat-preserved : goal.loop-seat-preserved
+loop-seat-preserved g c = let v = c.loop-seat.invariant in let e = c.push_reserved.ensures.items in let p = c.new-port.result in (
+  ap (map (λ q. q.seat)) e ∙ map_snoc (λ q. q.seat) c.loop-seat.ports.items p ∙ ap (λ ys. ys ++ p.seat ∷ []) v.0 ∙ ap (λ s. c.loop-seat.yielded ++ s ∷ []) c.new-port.ensures.0,
+  (λ k q at. each_pushed (λ r. (r.calls ≡ 0) × (r.pending ≡ false)) c.loop-seat.ports.items p v.1 (c.new-port.ensures.1, c.new-port.ensures.2) k q (ap (λ ys. get_elem? ys k) (sym e) ∙ at)),
+  grind (arith, common_steps),
+  grind (arith, common_steps),
+  grind (arith, common_steps),
+  grind (arith, common_steps),
+)
+
+pub returns-clause-ports : goal.returns-clause-ports
+returns-clause-ports g c =
+    let t = YieldsList-end (YieldsList-from_vec {s = c.into_iter-seat-iterator.result} c.args.seats.items c.into_iter-seat-iterator.ensures.into_iter_gives.0 (c.into_iter-seat-iterator.ensures.into_iter_gives.1 ∙ c.args.seats.ok.0)) c.loop-seat.yielded c.loop-seat.seat-iterator c.loop-seat.yielded_by c.next.result c.next.new.self c.in-None.is c.next.ensures.steps in
+    let v = c.loop-seat.invariant in let seats = c.requires.seats in (
+      v.4 ∙ t.1 ∙ seats.0 ∙ c.requires.sized,
+      λ k p at. (ports_fresh (λ q. q.seat) g.K.Tie.cells c.args.seats.items c.loop-seat.ports.items (v.0 ∙ sym (map_same c.loop-seat.yielded) ∙ t.0) seats.1 seats.2 k p at).0,
+    )
+
+pub returns-clause-new : goal.returns-clause-new
+returns-clause-new g c =
+    let t = YieldsList-end (YieldsList-from_vec {s = c.into_iter-seat-iterator.result} c.args.seats.items c.into_iter-seat-iterator.ensures.into_iter_gives.0 (c.into_iter-seat-iterator.ensures.into_iter_gives.1 ∙ c.args.seats.ok.0)) c.loop-seat.yielded c.loop-seat.seat-iterator c.loop-seat.yielded_by c.next.result c.next.new.self c.in-None.is c.next.ensures.steps in
+    let v = c.loop-seat.invariant in let seats = c.requires.seats in
+    λ k p at. ((v.1 k p at).0, (v.1 k p at).1, (ports_fresh (λ q. q.seat) g.K.Tie.cells c.args.seats.items c.loop-seat.ports.items (v.0 ∙ sym (map_same c.loop-seat.yielded) ∙ t.0) seats.1 seats.2 k p at).1)

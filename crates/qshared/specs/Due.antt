@@ -1,0 +1,26 @@
+-- What is due to each thread, and what the cells say of it.
+use Rattle.std.specs.Prelude.{◌≡◌, ℕ, ◌==◌, is_some, List, [], ◌∷◌, ◌++◌, filter, position, Option, Some}
+use Rattle.qtables.specs.declared.member.Member.{Member}
+use Rattle.qrules.specs.declared.call.Completion.{Completion}
+use Rattle.qrules.specs.Facts.{threads_of}
+use Rattle.qrules.specs.Past.{open_call}
+use Rattle.qrules.specs.Trace.{Trace}
+use Rattle.qhandoff.specs.declared.view.Desk.{Desk}
+use Rattle.qhandoff.specs.Rule.{line}
+
+-- the endings that thread t gets
+abbrev pub of_thread : ℕ → List Completion → List Completion
+of_thread t endings = filter (λ x. x.thread == t) endings
+
+-- all endings so far of the calls of thread t, in order
+abbrev pub due : Trace → ℕ → List Completion
+due [] t = []
+due (e ∷ past) t = due past t ++ of_thread t e.endings
+
+-- where thread t stands among these, which is the number of its cell
+abbrev pub place : List ℕ → ℕ → Option ℕ
+place threads t = position (λ u. u == t) threads
+
+-- of each thread of the roster, what was put into its cell is what is due to it, and its cell is opened just where it has an open call
+abbrev pub IsTied : List Member → Desk Completion → Trace → Type 0
+IsTied roster d past = (t i : ℕ) → place (threads_of roster) t ≡ Some i → ((line d i).put ≡ due past t) × ((line d i).opened ≡ is_some (open_call roster past t))

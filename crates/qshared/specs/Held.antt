@@ -1,0 +1,37 @@
+-- What lies under the lock: a kernel, the kernel's seat of the cells, and the past.
+use Rattle.std.specs.Prelude.{◌≡◌, ℕ, ◌≤◌, List, [], length, ◌^◌}
+use Rattle.qtables.specs.Members.{IsRoster}
+use Rattle.qtables.specs.declared.member.Member.{Member}
+use Rattle.qrules.specs.declared.call.Completion.{Completion}
+use Rattle.qrules.specs.Facts.{threads_of}
+use Rattle.qrules.specs.Lawful.{IsLawful}
+use Rattle.qrules.specs.Properties.{HasProperties}
+use Rattle.qrules.specs.Trace.{Trace}
+use Rattle.qkernel.specs.Stands.{StandsAt}
+use Rattle.qkernel.specs.State.{State}
+use Rattle.qhandoff.specs.declared.view.Desk.{Desk}
+use Rattle.qshared.specs.Due.{IsTied}
+
+-- what contracts see of it: the kernel, what its seat knows of the cells, the past, and how many events the past may have
+pub record Held : Type 0 where
+  pub kernel : State
+  pub desk : Desk Completion
+  pub past : Trace
+  pub limit : ℕ
+
+-- the past is lawful and has the six properties, the kernel stands at it, and the cells were given what is due
+pub record IsTold (roster : List Member) (kernel : State) (d : Desk Completion) (past : Trace) : Type 0 where
+  pub lawful : IsLawful roster past
+  pub properties : HasProperties roster past
+  pub stands : StandsAt roster kernel past
+  pub tied : IsTied roster d past
+
+-- what is so whenever the lock is free, of the kernel of this roster: beside that, the cells are as many as its threads, and no ending is left over
+pub record IsHeld (roster : List Member) (slots : ℕ) (kernel : State) (d : Desk Completion) (threads : List ℕ) (past : Trace) (endings : List Completion) : Type 0 where
+  pub rises : IsRoster roster
+  pub sized : length roster ≡ slots
+  pub few : slots ≤ 64
+  pub threads_are : threads ≡ threads_of roster
+  pub told : IsTold roster kernel d past
+  pub numbered : length past ≤ 2 ^ 40
+  pub emptied : endings ≡ []

@@ -1,0 +1,16 @@
+-- The endings of one event on their way into the cells.
+use Rattle.std.specs.Prelude.{◌≡◌, ℕ, true, false, if◌then◌else◌, List, ◌++◌, Some}
+use Rattle.qrules.specs.declared.call.Completion.{Completion}
+use Rattle.qrules.specs.Endings.{gets}
+use Rattle.qhandoff.specs.declared.view.Desk.{Desk}
+use Rattle.qhandoff.specs.Rule.{line}
+use Rattle.qshared.specs.Due.{of_thread, place}
+
+-- an ending may be put: its thread is one of these, and its cell is opened
+abbrev pub MayPut : List ℕ → Desk Completion → Completion → Type 0
+MayPut threads d x = (i : ℕ) × (place threads x.thread ≡ Some i) × ((line d i).opened ≡ true)
+
+-- these endings were put, each into its thread's cell, and all else is as it was
+pub record Handed (threads : List ℕ) (X : List Completion) (d d' : Desk Completion) : Type 0 where
+  pub put : (t i : ℕ) → place threads t ≡ Some i → (line d' i).put ≡ (line d i).put ++ of_thread t X
+  pub opened : (t i : ℕ) → place threads t ≡ Some i → (line d' i).opened ≡ (if gets X t then false else (line d i).opened)

@@ -1,0 +1,32 @@
+-- A past that is kept nowhere: why a call isn't noted, and that there is a past.
+use Rattle.std.specs.Prelude.{◌≡◌, ℕ, ◌<◌, ◌≤◌, ◌++◌, ◌^◌, List, length, sum, Some}
+use lib.ListN.{get_elem?}
+use Rattle.qbase.specs.declared.errno.Errno.{Errno}
+use Rattle.qbase.specs.declared.errno.Errno.TheVariants.{Exhausted}
+use Rattle.qtables.specs.declared.member.Member.{Member}
+use Rattle.qrules.specs.declared.call.Call.{Call}
+use Rattle.qrules.specs.declared.call.Completion.{Completion}
+use Rattle.qrules.specs.Facts.{threads_of}
+use Rattle.qrules.specs.Lawful.{IsLawful}
+use Rattle.qrules.specs.Properties.{HasProperties}
+use Rattle.qrules.specs.Trace.{Trace}
+use Rattle.qhandoff.specs.declared.seats.ThreadSeat.{ThreadSeat}
+use Rattle.qhandoff.specs.Words.{took}
+use Rattle.qshared.specs.Due.{due, of_thread, place}
+
+-- why a call may not be noted: the kernel has made as many as it makes
+abbrev pub refuses_unkept : ℕ → Trace → Call → Errno → Type 0
+refuses_unkept limit past c Exhausted = 2 ^ 40 ≤ length past
+refuses_unkept limit past c e = ⊥
+
+-- when a call is noted: the kernel makes one more
+abbrev pub admits_unkept : ℕ → Trace → Call → Type 0
+admits_unkept limit past c = length past < 2 ^ 40
+
+-- there is a past, lawful and with the six properties, of as many events as these counts sum to, by which each thread is due just what its seat took and what is left for it
+pub record WasMade (roster : List Member) (seats : List (ThreadSeat Completion)) (calls : List ℕ) (left : List Completion) : Type 0 where
+  pub past : Trace
+  pub many : sum calls ≡ length past
+  pub lawful : IsLawful roster past
+  pub properties : HasProperties roster past
+  pub due_is : (t i : ℕ) → place (threads_of roster) t ≡ Some i → took (get_elem? seats i) ++ of_thread t left ≡ due past t

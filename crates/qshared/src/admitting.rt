@@ -1,0 +1,51 @@
+//! What is needed to keep a call, before it is made.
+ghost use Rattle.std.specs.Prelude.{◌≡◌, ◌<◌, ◌≤◌, ◌+◌, ◌⊎◌, length, IfOk, IfErr, OnOk, ◌^◌};
+ghost use Rattle.qrules.specs.Buffers.{buffer_of};
+ghost use Rattle.qrules.specs.declared.call.Call.TheVariants.{Shutdown};
+ghost use Rattle.qshared.specs.Rooms.{HasRoomFor};
+
+use crate::room::Room;
+use qbase::errno::Errno;
+use qkernel::event_log::EventLog;
+use qrules::call::Call;
+use std::alloc::{AllocError, Global};
+
+/// How many endings an event has at most.
+const ENDINGS: usize = 64;
+
+/// A copy of the call, and room for a copy of its buffer.
+fn copies(alloc: Global, call: &Call) -> Result<(Call, Room), AllocError>
+    ensures { IfOk result (λ r. (r.0 ≡ call.now) × (length (buffer_of call.now) ≤ r.1)) }
+{
+    Ok((call.copied(alloc)?, Room::of(alloc, call.buffer_len())?))
+}
+
+/// A copy of the call, room for a copy of its buffer, and in the log room for its event and for one more. Where
+/// the limit leaves one event, or there is no memory, no call but a Shutdown is admitted: room for that is there.
+pub(crate) fn admit(
+    alloc: Global,
+    log: &mut EventLog,
+    limit: usize,
+    call: &Call,
+) -> Result<(Call, Room), Errno>
+    requires room { (length log.old.events < limit) × (limit ≤ 2 ^ 20) }
+    ensures same { log.new ≡ record log.old { call_room = log.new.call_room; ending_room = log.new.ending_room } }
+    ensures kept { (log.old.call_room ≤ log.new.call_room) × (log.old.ending_room ≤ log.new.ending_room) }
+    ensures copy { IfOk result (λ r. r.0 ≡ call.now) }
+    ensures grown { IfOk result (λ r. HasRoomFor limit log.new call.now r.1) }
+    ensures refused { IfErr result (λ e. ¬ (call.now ≡ Shutdown) × (((e ≡ Errno.TraceFull) × (length log.old.events + 1 ≡ limit)) ⊎ ((e ≡ Errno.NoMemory) × (length log.old.events + 1 < limit)))) }
+{
+    if matches!(call, Call::Shutdown) {
+        return Ok((Call::Shutdown, Room::none(alloc)));
+    }
+    if log.len() + 1 == limit {
+        return Err(Errno::TraceFull);
+    }
+    if log.reserve(2, 2 * ENDINGS).is_err() {
+        return Err(Errno::NoMemory);
+    }
+    match copies(alloc, call) {
+        Ok(copies) => Ok(copies),
+        Err(_) => Err(Errno::NoMemory),
+    }
+}

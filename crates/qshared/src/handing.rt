@@ -1,0 +1,78 @@
+//! Putting an event's endings into the cells.
+ghost use Rattle.std.specs.Prelude.{◌≡◌, ◌<◌, ◌≤◌, [], ◌∷◌, length, ◌||◌, ◌==◌};
+ghost use Rattle.std.specs.List.{AllByRecursion};
+ghost use Rattle.qhandoff.specs.Words.{cells_id, kernel_id, desk};
+ghost use Rattle.qrules.specs.Endings.{gets, AreApart};
+ghost use Rattle.qshared.specs.Due.{place};
+ghost use Rattle.qshared.specs.Putting.{MayPut, Handed};
+
+use qbase::ids::ThreadNo;
+use qhandoff::cells::Cells;
+use qhandoff::seats::KernelSeat;
+use qkernel::endings::Endings;
+use qrules::call::Completion;
+
+/// Where a thread stands among these.
+pub(crate) fn place_of(threads: &[ThreadNo], thread: ThreadNo) -> Option<usize>
+    ensures { result ≡ place threads.now thread }
+{
+    threads.iter().position(|t| *t == thread)
+}
+
+/// Puts one ending into its thread's cell.
+fn hand_one(
+    seat: &mut KernelSeat<Completion>,
+    cells: &Cells<Completion>,
+    threads: &[ThreadNo],
+    ending: Completion,
+) -> usize
+    requires cells { kernel_id seat.old ≡ cells_id cells.now }
+    requires sized { length threads.now ≡ (cells_id cells.now).slots }
+    requires may { MayPut threads.now (desk seat.old) ending }
+    ensures cells { kernel_id seat.new ≡ kernel_id seat.old }
+    ensures place { result < (cells_id cells.entry.now).slots }
+    ensures handed { Handed threads.now (ending ∷ []) (desk seat.old) (desk seat.new) }
+{
+    let Some(place) = place_of(threads, ending.thread) else {
+        unreachable!()
+    };
+    seat.put(cells, place, ending);
+    place
+}
+
+/// Whether this was so, or the ending goes to the thread.
+fn is_for(before: bool, ending: &Completion, thread: ThreadNo) -> bool
+    ensures { result ≡ (before || (ending.now.thread == thread)) }
+{
+    before || ending.thread == thread
+}
+
+/// Puts an event's endings into their threads' cells. Answers whether one goes to this thread, and sets the bit
+/// of each cell that is filled.
+pub(crate) fn hand_out(
+    seat: &mut KernelSeat<Completion>,
+    cells: &Cells<Completion>,
+    threads: &[ThreadNo],
+    endings: &mut Endings,
+    thread: ThreadNo,
+    woken: &mut u64,
+) -> bool
+    requires few { (cells_id cells.now).slots ≤ 64 }
+    requires cells { kernel_id seat.old ≡ cells_id cells.now }
+    requires sized { length threads.now ≡ (cells_id cells.now).slots }
+    requires apart { AreApart endings.old.items }
+    requires may { AllByRecursion (MayPut threads.now (desk seat.old)) endings.old.items }
+    ensures cells { kernel_id seat.new ≡ kernel_id seat.old }
+    ensures own { result ≡ gets endings.old.items thread }
+    ensures handed { Handed threads.now endings.old.items (desk seat.old) (desk seat.new) }
+    ensures emptied { endings.new.items ≡ [] }
+{
+    endings.as_mut_slice().reverse();
+    let mut own = false;
+    while let Some(ending) = endings.pop() {
+        own = is_for(own, &ending, thread);
+        let place = hand_one(seat, cells, threads, ending);
+        *woken |= 1u64 << place;
+    }
+    own
+}

@@ -1,0 +1,198 @@
+//! A past that is kept in memory.
+ghost use Rattle.std.specs.Prelude.{◌≡◌, ◌<◌, ◌≤◌, ◌-◌, ◌^◌, ◌++◌, [], ◌∷◌, length, IfOk};
+ghost use Rattle.std.specs.List.{AllByRecursion};
+ghost use Rattle.qtables.specs.Members.{IsRoster};
+ghost use Rattle.qrules.specs.Endings.{AreApart};
+ghost use Rattle.qrules.specs.Facts.{threads_of};
+ghost use Rattle.qrules.specs.Lawful.{followed_by};
+ghost use Rattle.qshared.specs.Rooms.{MayCopy, Copied};
+
+use crate::admitting::admit;
+use crate::handing::place_of;
+use crate::log::Log;
+use crate::room::Room;
+use crate::tie::Tie;
+use qbase::errno::Errno;
+use qbase::ids::ThreadNo;
+use qkernel::endings::Endings;
+use qkernel::event_log::EventLog;
+use qkernel::trace::Trace;
+use qrules::call::{Call, Completion};
+use std::alloc::{AllocError, Global};
+use std::marker::{Model, PhantomData};
+use std::mem;
+
+/// A past in memory, with a copy of each call and of each ending, and at most so many events.
+#[derive(Drop)]
+pub struct Kept<K: Tie> {
+    alloc: Global,
+    // The threads in rising number.
+    threads: Vec<ThreadNo>,
+    // For each of them room for a copy of its open call's buffer.
+    rooms: Vec<Room>,
+    log: EventLog,
+    limit: usize,
+    // The call that was noted, room for a copy of its buffer, and whether it isn't an event yet.
+    noted: Call,
+    room: Room,
+    ready: bool,
+    of: PhantomData<K>,
+}
+
+impl<K: Tie> Model for Kept<K> {
+    ghost use Rattle.std.specs.Prelude.{[]};
+    ghost use Rattle.qrules.specs.Lawful.{followed_by};
+    ghost use Rattle.qshared.specs.Rooms.{KeptPast, IsKept};
+
+    ghost Value = { KeptPast };
+
+    ghost view = { λ k. record { past = followed_by [] k.log.events; noted = k.noted; ready = k.ready; limit = k.limit } };
+
+    ghost invariant = { λ k. IsKept K.roster k.limit k.threads.items k.rooms.items k.log k.noted k.room k.ready };
+}
+
+/// So many rooms, each for nothing.
+fn no_rooms(alloc: Global, many: usize) -> Result<Vec<Room>, AllocError>
+    ensures { IfOk result (λ rooms. length rooms.items ≡ many) }
+{
+    let mut rooms = Vec::with_capacity(alloc, many)?;
+    for _ in 0..many {
+        rooms.push_reserved(Room::none(alloc));
+    }
+    Ok(rooms)
+}
+
+/// Copies an ending into its thread's room, behind the others of its event.
+fn copy_one(
+    alloc: Global,
+    threads: &[ThreadNo],
+    rooms: &mut Vec<Room>,
+    log: &mut EventLog,
+    ending: &Completion,
+)
+    requires sized { length rooms.old.items ≡ length threads.now }
+    requires may { MayCopy threads.now rooms.old.items ending.now }
+    requires room { 0 < log.old.ending_room }
+    ensures copied { Copied threads.now (ending.now ∷ []) rooms.old.items rooms.new.items }
+    ensures logged { log.new ≡ record log.old { endings = log.old.endings ++ ending.now ∷ []; ending_room = log.old.ending_room - 1 } }
+{
+    let Some(place) = place_of(threads, ending.thread) else {
+        unreachable!()
+    };
+    let room = mem::replace(&mut rooms[place], Room::none(alloc));
+    log.push_ending(Completion {
+        call: ending.call,
+        thread: ending.thread,
+        mark: ending.mark,
+        buffer: room.filled(ending.buffer.as_slice()),
+    });
+}
+
+/// Copies the endings of an event, each into its thread's room.
+fn copy_all(
+    alloc: Global,
+    threads: &[ThreadNo],
+    rooms: &mut Vec<Room>,
+    log: &mut EventLog,
+    endings: &[Completion],
+)
+    requires sized { length rooms.old.items ≡ length threads.now }
+    requires apart { AreApart endings.now }
+    requires may { AllByRecursion (MayCopy threads.now rooms.old.items) endings.now }
+    requires room { length endings.now ≤ log.old.ending_room }
+    ensures copied { Copied threads.now endings.now rooms.old.items rooms.new.items }
+    ensures logged { log.new ≡ record log.old { endings = log.old.endings ++ endings.now; ending_room = log.old.ending_room - length endings.now } }
+{
+    let mut i = 0;
+    while i < endings.len() {
+        copy_one(alloc, threads, rooms, log, &endings[i]);
+        i += 1;
+    }
+}
+
+impl<K: Tie> Kept<K> {
+    /// An empty past of the kernel of these threads, in rising number, for at most so many events.
+    pub(crate) fn new(
+        alloc: Global,
+        threads: Vec<ThreadNo>,
+        limit: usize,
+    ) -> Result<Kept<K>, AllocError>
+        requires roster { IsRoster K.roster × (threads.items ≡ threads_of K.roster) }
+        requires limit { (2 ≤ limit) × (limit ≤ 2 ^ 20) }
+        ensures empty { IfOk result (λ kept. kept.past ≡ []) }
+        ensures limit { IfOk result (λ kept. kept.limit ≡ limit) }
+    {
+        let rooms = no_rooms(alloc, threads.len())?;
+        let log = EventLog::with_room(alloc, 1, 64)?;
+        Ok(Kept {
+            alloc,
+            threads,
+            rooms,
+            log,
+            limit,
+            noted: Call::Shutdown,
+            room: Room::none(alloc),
+            ready: false,
+            of: PhantomData,
+        })
+    }
+
+    /// The trace of the past, whose first event has number 1.
+    pub(crate) fn into_trace(self) -> Trace
+        ensures first { result.first ≡ 1 }
+        ensures events { followed_by [] result.events ≡ self.past }
+        ensures within { length result.events ≤ self.limit }
+    {
+        let Kept { log, .. } = self;
+        log.into_trace(1)
+    }
+}
+
+impl<K: Tie> Log for Kept<K> {
+    ghost use Rattle.qshared.specs.Rooms.{admits_kept, refuses_kept};
+
+    ghost roster = { λ _. K.roster };
+
+    ghost past = { λ k. k.past };
+
+    ghost ready = { λ k. k.ready };
+
+    ghost noted = { λ k. k.noted };
+
+    ghost limit = { λ k. k.limit };
+
+    ghost refuses = { refuses_kept };
+
+    ghost admits = { admits_kept };
+
+    fn note(&mut self, _made: u64, call: &Call) -> Result<(), Errno> {
+        match admit(self.alloc, &mut self.log, self.limit, call) {
+            Err(errno) => Err(errno),
+            Ok(copies) => {
+                let (noted, room) = copies;
+                self.noted = noted;
+                self.room = room;
+                self.ready = true;
+                Ok(())
+            }
+        }
+    }
+
+    fn event(&mut self, thread: ThreadNo, endings: &Endings) {
+        let Some(place) = place_of(&self.threads, thread) else {
+            unreachable!()
+        };
+        self.ready = false;
+        self.rooms[place] = mem::replace(&mut self.room, Room::none(self.alloc));
+        let call = mem::replace(&mut self.noted, Call::Shutdown);
+        copy_all(
+            self.alloc,
+            &self.threads,
+            &mut self.rooms,
+            &mut self.log,
+            endings.as_slice(),
+        );
+        self.log.note(thread, call);
+        self.log.event();
+    }
+}

@@ -1,0 +1,19 @@
+//! The locked kernel for real threads: one lock round a kernel and its past, a port for each thread, and cells
+//! through which the endings of calls leave the lock.
+#![tactic(auto)]
+
+mod admitting;
+mod handing;
+pub mod kept;
+mod locked;
+pub mod log;
+pub mod parts;
+pub mod performed;
+pub mod port;
+pub mod report;
+mod room;
+pub mod shared;
+mod spinning;
+pub mod tie;
+pub mod traced;
+pub mod unkept;

@@ -1,0 +1,59 @@
+//! How the past of a locked kernel is kept.
+ghost use Rattle.std.specs.Prelude.{◌≡◌, ◌<◌, ◌^◌, ℕ, Bool, List, length, IfErr, OnOk, is_some, true, false};
+ghost use Rattle.qtables.specs.Members.{member_at};
+ghost use Rattle.qtables.specs.declared.member.Member.{Member};
+ghost use Rattle.qrules.specs.declared.call.Call.{Call};
+ghost use Rattle.qrules.specs.Answer.{Answers};
+ghost use Rattle.qrules.specs.Lawful.{facts_of, IsLawful, with_event};
+ghost use Rattle.qrules.specs.Past.{is_down, open_call};
+ghost use Rattle.qrules.specs.Trace.{Trace};
+ghost use Rattle.qshared.specs.Performing.{Admits, Refuses};
+
+use qbase::errno::Errno;
+use qbase::ids::ThreadNo;
+use qkernel::endings::Endings;
+use qrules::call::Call;
+
+/// How the past of a locked kernel is kept. A call is noted before it is made, which may be refused; then it is
+/// made, and is an event with its endings. `Kept` keeps the events in memory.
+pub trait Log: Drop {
+    /// The roster of the kernel.
+    ghost roster: { Self → List Member };
+
+    ghost past: { Self → Trace };
+
+    /// Whether a call was noted and isn't an event yet.
+    ghost ready: { Self → Bool };
+
+    /// The call that was noted last.
+    ghost noted: { Self → Call };
+
+    /// How many events the past may have.
+    ghost limit: { Self → ℕ };
+
+    /// Why a call may not be noted.
+    ghost refuses: { Refuses };
+
+    /// When a call is noted.
+    ghost admits: { Admits };
+
+    /// Notes a call, before it is made, where so many were made. A refusal changes nothing.
+    fn note(&mut self, made: u64, call: &Call) -> Result<(), Errno>
+        requires up { is_down (past self.old) ≡ false }
+        requires made { made ≡ length (past self.old) }
+        ensures same { (past self.new ≡ past self.old) × (roster self.new ≡ roster self.old) × (limit self.new ≡ limit self.old) }
+        ensures noted { OnOk result ((noted self.new ≡ call.now) × (ready self.new ≡ true)) }
+        ensures admitted { OnOk result (admits (limit self.old) (past self.old) call.now) }
+        ensures few { OnOk result (length (past self.old) < 2 ^ 40) }
+        ensures refused { IfErr result (λ e. refuses (limit self.old) (past self.old) call.now e) };
+
+    /// The call that was noted was made by a thread that wasn't blocked, and is an event with these endings.
+    fn event(&mut self, thread: ThreadNo, endings: &Endings)
+        requires ready { ready self.old ≡ true }
+        requires up { is_down (past self.old) ≡ false }
+        requires lawful { IsLawful (roster self.old) (past self.old) }
+        requires thread { (is_some (member_at (roster self.old) thread) ≡ true) × (is_some (open_call (roster self.old) (past self.old) thread) ≡ false) }
+        requires answers { Answers (facts_of (roster self.old) (past self.old)) thread (noted self.old) endings.now.items }
+        ensures event { past self.new ≡ with_event thread (noted self.old) endings.now.items (past self.old) }
+        ensures same { (roster self.new ≡ roster self.old) × (limit self.new ≡ limit self.old) };
+}

@@ -1,0 +1,100 @@
+//! What a shared kernel is made of.
+ghost use Rattle.std.specs.Prelude.{◌≡◌, ◌≤◌, ◌^◌, ◌⊎◌, ◌<◌, ℕ, [], length, IfOk, IfErr};
+ghost use lib.ListN.{get_elem?};
+ghost use Rattle.qrules.specs.Facts.{threads_of};
+ghost use Rattle.qrecords.specs.Threads.{members_of};
+ghost use Rattle.qkernel.specs.Stands.{StandsAt};
+ghost use Rattle.qhandoff.specs.Steps.{seated_desk};
+ghost use Rattle.qhandoff.specs.Words.{cells_id, kernel_id, count, desk, took, IsRow};
+
+use qbase::errno::Errno;
+use qbase::ids::ThreadNo;
+use qhandoff::cells::Cells;
+use qhandoff::seats::{KernelSeat, ThreadSeat};
+use qkernel::kernel::Kernel;
+use qrules::call::Completion;
+use qtables::member::Member;
+use qtables::roster::Roster;
+use std::alloc::{AllocError, Global};
+use std::sync::ledger::Blank;
+
+/// What a shared kernel is made of. A function over `K: Tie` takes them, whose condition is that K names them.
+#[derive(Drop)]
+pub struct Parts {
+    pub cells: Cells<Completion>,
+    pub seat: KernelSeat<Completion>,
+    pub seats: Vec<ThreadSeat<Completion>>,
+    pub blank: Blank,
+    pub kernel: Kernel,
+    pub threads: Vec<ThreadNo>,
+    pub limit: usize,
+    ghost fits: { (kernel_id seat ≡ cells_id cells) × (desk seat ≡ seated_desk (count cells) (count cells)) × (blank.parts ≡ count cells) },
+    ghost row: { (length seats.items ≡ count cells) × IsRow (cells_id cells) seats.items × ((k : ℕ) → took (get_elem? seats.items k) ≡ []) },
+    ghost stands: { StandsAt (members_of kernel.threads) kernel [] },
+    ghost threads_are: { (threads.items ≡ threads_of (members_of kernel.threads)) × (length threads.items ≡ count cells) },
+    ghost bounded: { (2 ≤ limit) × (limit ≤ 2 ^ 20) },
+}
+
+/// The threads of these members.
+fn threads_in(alloc: Global, members: &[Member]) -> Result<Vec<ThreadNo>, AllocError>
+    ensures { IfOk result (λ ts. ts.items ≡ threads_of members.now) }
+{
+    let mut threads = Vec::with_capacity(alloc, members.len())?;
+    for member in members {
+        threads.push(member.thread)?;
+    }
+    Ok(threads)
+}
+
+/// The parts of a kernel for these threads, with this limit.
+fn made(alloc: Global, roster: &Roster, limit: usize) -> Result<Parts, Errno>
+    requires limit { (2 ≤ limit) × (limit ≤ 2 ^ 20) }
+    ensures roster { IfOk result (λ p. members_of p.kernel.threads ≡ roster.now) }
+    ensures limit { IfOk result (λ p. p.limit ≡ limit) }
+    ensures error { IfErr result (λ e. e ≡ Errno.NoMemory) }
+{
+    let Ok(threads) = threads_in(alloc, roster.members()) else {
+        return Err(Errno::NoMemory);
+    };
+    let Ok((cells, seat, seats)) = Cells::new(alloc, threads.len()) else {
+        return Err(Errno::NoMemory);
+    };
+    let Ok(kernel) = Kernel::new(alloc, roster) else {
+        return Err(Errno::NoMemory);
+    };
+    Ok(Parts {
+        cells,
+        seat,
+        seats,
+        blank: Blank::new(threads.len() as u64),
+        kernel,
+        threads,
+        limit,
+    })
+}
+
+/// The most events that a past in memory may have.
+const TRACE_LIMIT: u32 = 1 << 20;
+
+impl Parts {
+    /// The parts of a kernel for these threads, whose trace has at most so many events: `Inval` unless that is 2 to
+    /// 1,048,576, and else `NoMemory` where one of them found no memory.
+    pub fn new(alloc: Global, roster: &Roster, trace_limit: u32) -> Result<Parts, Errno>
+        ensures roster { IfOk result (λ p. members_of p.kernel.threads ≡ roster.now) }
+        ensures limit { IfOk result (λ p. p.limit ≡ trace_limit) }
+        ensures error { IfErr result (λ e. ((e ≡ Errno.Inval) × ((trace_limit < 2) ⊎ (2 ^ 20 < trace_limit))) ⊎ ((e ≡ Errno.NoMemory) × (2 ≤ trace_limit) × (trace_limit ≤ 2 ^ 20))) }
+    {
+        if trace_limit < 2 || trace_limit > TRACE_LIMIT {
+            return Err(Errno::Inval);
+        }
+        made(alloc, roster, trace_limit as usize)
+    }
+
+    /// The parts of a kernel for these threads that keeps no past. `NoMemory` is the only error.
+    pub fn unkept(alloc: Global, roster: &Roster) -> Result<Parts, Errno>
+        ensures roster { IfOk result (λ p. members_of p.kernel.threads ≡ roster.now) }
+        ensures error { IfErr result (λ e. e ≡ Errno.NoMemory) }
+    {
+        made(alloc, roster, TRACE_LIMIT as usize)
+    }
+}

@@ -1,0 +1,178 @@
+//! One thread's way to a shared kernel.
+ghost use Rattle.std.specs.Prelude.{◌≡◌, ◌+◌, ◌++◌, [], ◌∷◌, true, false, MatchOption, if◌then◌else◌, Some};
+ghost use Rattle.qrules.specs.Facts.{threads_of};
+ghost use Rattle.qhandoff.specs.Words.{thread_id, thread_of, taken};
+ghost use Rattle.qshared.specs.Due.{place};
+ghost use Rattle.qshared.specs.Counting.{is_call, gives, pends, Came};
+
+use crate::log::Log;
+use crate::performed::Performed;
+use crate::shared::Shared;
+use crate::spinning;
+use crate::tie::Tie;
+use crossbeam_utils::Backoff;
+use crossbeam_utils::sync::Parker;
+use qbase::errno::Errno;
+use qbase::ids::ThreadNo;
+use qhandoff::seats::ThreadSeat;
+use qrules::call::{Call, Completion};
+use std::sync::Wait;
+use std::sync::ledger::Share;
+
+/// How often `wait` polls before it sleeps: some microseconds in all.
+const LOOKS: u32 = 30;
+
+/// What a port answers a call.
+#[derive(Debug, Drop)]
+pub enum Called {
+    /// It is an event and ended in it; the port took this ending.
+    Done(Completion),
+    /// It is an event, and its thread is blocked until an ending comes.
+    Blocked,
+    /// It is no event, and is given back whole.
+    Refused(Errno, Call),
+}
+
+/// One thread's way to the kernel. There is one for each thread, and it has no copy.
+#[derive(Drop)]
+pub struct Port<K: Tie> {
+    pub(crate) thread: ThreadNo,
+    pub(crate) seat: ThreadSeat<Completion>,
+    // What it adds to the sum of all events.
+    pub(crate) share: Share<K>,
+    pub(crate) calls: u64,
+    pub(crate) pending: bool,
+    pub(crate) parker: Parker,
+    ghost seat_is: { thread_id seat ≡ K.cells },
+    ghost thread_is: { place (threads_of K.roster) thread ≡ Some (thread_of seat) },
+    ghost counted: { share.amount ≡ calls },
+    ghost part: { share.parts ≡ 1 },
+}
+
+impl<K: Tie> Port<K> {
+    pub(crate) fn new(
+        thread: ThreadNo,
+        seat: ThreadSeat<Completion>,
+        share: Share<K>,
+        parker: Parker,
+    ) -> Port<K>
+        requires seat { (thread_id seat ≡ K.cells) × (place (threads_of K.roster) thread ≡ Some (thread_of seat)) }
+        requires share { (share.amount ≡ 0) × (share.parts ≡ 1) }
+        ensures { (result.seat ≡ seat) × (result.calls ≡ 0) × (result.pending ≡ false) × (result.thread ≡ thread) }
+    {
+        Port {
+            thread,
+            seat,
+            share,
+            calls: 0,
+            pending: false,
+            parker,
+        }
+    }
+
+    /// Makes a call, under the lock, for which it may wait. Where the call ends in its own event the port takes that
+    /// ending. Refused, in this order: `Down` after Shutdown, `Busy` where the thread has an open call or one that
+    /// isn't collected, `TraceFull` where one event of the limit is left and the call isn't Shutdown, and `NoMemory`
+    /// where there was none for the trace, which is never so for Shutdown. A thread that the roster lacks would get
+    /// `NoThread` before all these, but has no port.
+    pub fn call<L: Log, R: Wait>(&mut self, shared: &Shared<K, L>, rt: &R, call: Call) -> Called
+        ensures came { Came K.roster L.refuses self.old.thread call result }
+        ensures calls { self.new.calls ≡ self.old.calls + (if is_call result then 1 else 0) }
+        ensures pending { self.new.pending ≡ pends result self.old.pending }
+        ensures taken { taken self.new.seat ≡ taken self.old.seat ++ gives result }
+        ensures same { (self.new.thread ≡ self.old.thread) × (thread_of self.new.seat ≡ thread_of self.old.seat) }
+    {
+        let (performed, woken) = {
+            let mut locked = spinning::lock(&shared.lock, rt);
+            let performed = locked.call(&shared.cells, self.thread, &mut self.share, call);
+            (performed, locked.traced.woken)
+        };
+        shared.wake(woken, self.seat.thread());
+        match performed {
+            Performed::Refused(errno, call) => Called::Refused(errno, call),
+            Performed::Open => {
+                self.calls += 1;
+                self.pending = true;
+                Called::Blocked
+            }
+            Performed::Ended => {
+                self.calls += 1;
+                match self.seat.poll(&shared.cells) {
+                    Some(completion) => Called::Done(completion),
+                    None => {
+                        self.pending = true;
+                        Called::Blocked
+                    }
+                }
+            }
+        }
+    }
+
+    /// Takes what was put for the thread, if anything was. It takes no lock and no memory, and waits for nobody.
+    pub fn poll<L: Log>(&mut self, shared: &Shared<K, L>) -> Option<Completion>
+        ensures taken { MatchOption result (taken self.new.seat ≡ taken self.old.seat) (λ x. taken self.new.seat ≡ taken self.old.seat ++ x ∷ []) }
+        ensures pending { MatchOption result (self.new.pending ≡ self.old.pending) (λ x. self.new.pending ≡ false) }
+        ensures same { (self.new.thread ≡ self.old.thread) × (thread_of self.new.seat ≡ thread_of self.old.seat) × (self.new.calls ≡ self.old.calls) }
+    {
+        let completion = self.seat.poll(&shared.cells);
+        if completion.is_some() {
+            self.pending = false;
+        }
+        completion
+    }
+
+    /// The same, but polls for some microseconds until something is there.
+    fn look<L: Log>(&mut self, shared: &Shared<K, L>) -> Option<Completion>
+        ensures taken { MatchOption result (taken self.new.seat ≡ taken self.old.seat) (λ x. taken self.new.seat ≡ taken self.old.seat ++ x ∷ []) }
+        ensures pending { MatchOption result (self.new.pending ≡ self.old.pending) (λ x. self.new.pending ≡ false) }
+        ensures same { (self.new.thread ≡ self.old.thread) × (thread_of self.new.seat ≡ thread_of self.old.seat) × (self.new.calls ≡ self.old.calls) }
+    {
+        let backoff = Backoff::new();
+        for _ in 0..LOOKS {
+            let completion = self.poll(shared);
+            if completion.is_some() {
+                return completion;
+            }
+            backoff.snooze();
+        }
+        None
+    }
+
+    /// Takes what was put for the thread once it is put: polls for some microseconds, and then sleeps until it is
+    /// woken.
+    pub fn wait<L: Log, R: Wait>(&mut self, shared: &Shared<K, L>, rt: &R) -> Completion
+        requires { self.old.pending ≡ true }
+        ensures taken { taken self.new.seat ≡ taken self.old.seat ++ result ∷ [] }
+        ensures pending { self.new.pending ≡ false }
+        ensures same { (self.new.thread ≡ self.old.thread) × (thread_of self.new.seat ≡ thread_of self.old.seat) × (self.new.calls ≡ self.old.calls) }
+    {
+        for _ in rt.forever() {
+            if let Some(completion) = self.look(shared) {
+                return completion;
+            }
+            self.parker.park(rt);
+        }
+        unreachable!()
+    }
+
+    /// Whether a call was blocked and its ending isn't collected.
+    pub fn pending(&self) -> bool
+        ensures { result ≡ self.now.pending }
+    {
+        self.pending
+    }
+
+    /// Whose port it is.
+    pub fn thread(&self) -> ThreadNo
+        ensures { result ≡ self.now.thread }
+    {
+        self.thread
+    }
+
+    /// How many of its calls are events.
+    pub fn calls(&self) -> u64
+        ensures { result ≡ self.now.calls }
+    {
+        self.calls
+    }
+}

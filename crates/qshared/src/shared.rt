@@ -1,0 +1,304 @@
+//! The shared kernel: how it is opened and finished, and who is woken.
+ghost use Rattle.std.specs.Prelude.{◌≡◌, ◌≤◌, ◌++◌, ℕ, [], length, map, sum, IfOk, IfErr, OnOk, IsTrue, ◌↔◌, Some, false, vec_capacity};
+ghost use mathlib.Core.Option.{some};
+ghost use lib.ListN.{get_elem?};
+ghost use Rattle.qtables.specs.Members.{IsRoster};
+ghost use Rattle.qrules.specs.Facts.{threads_of};
+ghost use Rattle.qrules.specs.Lawful.{IsLawful, followed_by};
+ghost use Rattle.qrules.specs.Laws.{RiseByThread};
+ghost use Rattle.qrules.specs.Properties.{HasProperties};
+ghost use Rattle.qhandoff.specs.Words.{cells_id, thread_of, taken, took, IsRow};
+ghost use Rattle.qshared.specs.Due.{place, due, of_thread};
+ghost use Rattle.qshared.specs.Naming.{AreParts, AreAll};
+ghost use Rattle.qshared.specs.Unkept.{WasMade};
+
+use crate::kept::Kept;
+use crate::locked::Locked;
+use crate::log::Log;
+use crate::parts::Parts;
+use crate::port::Port;
+use crate::report::{Report, Tally};
+use crate::tie::Tie;
+use crate::traced::Traced;
+use crate::unkept::Unkept;
+use crossbeam_utils::sync::{Parker, Unparker};
+use qbase::errno::Errno;
+use qbase::ids::ThreadNo;
+use qhandoff::cells::Cells;
+use qhandoff::seats::ThreadSeat;
+use qrules::call::Completion;
+use std::alloc::{AllocError, Global};
+use std::sync::Mutex;
+use std::sync::ledger::Share;
+
+/// The kernel under its lock, and the cells that it fills.
+#[derive(Drop)]
+pub struct Shared<K: Tie, L: Log> {
+    pub(crate) cells: Cells<Completion>,
+    pub(crate) lock: Mutex<Locked<K, L>>,
+    pub(crate) unparkers: Vec<Unparker>,
+    ghost cells_are: { cells_id cells ≡ K.cells },
+}
+
+/// What a shared kernel comes to.
+#[derive(Drop)]
+struct Closed<L> {
+    log: L,
+    calls: Vec<u64>,
+    left: Vec<Completion>,
+}
+
+/// The completions alone.
+fn without_places(mut left: Vec<(usize, Completion)>, mut room: Vec<Completion>) -> Vec<Completion>
+    requires room { (room.items ≡ []) × (length left.items ≤ vec_capacity room) }
+    ensures { result.items ≡ map (λ x. x.1) left.items }
+{
+    left.reverse();
+    while let Some(next) = left.pop() {
+        let (_, completion) = next;
+        room.push_reserved(completion);
+    }
+    room
+}
+
+/// A port for each seat, with its part of the ledger, and what wakes its thread.
+fn ports_for<K: Tie>(
+    alloc: Global,
+    threads: &[ThreadNo],
+    seats: Vec<ThreadSeat<Completion>>,
+    spare: &mut Share<K>,
+) -> Result<(Vec<Port<K>>, Vec<Unparker>), AllocError>
+    requires roster { IsRoster K.roster × (threads.now ≡ threads_of K.roster) }
+    requires seats { (length seats.items ≡ length threads.now) × IsRow K.cells seats.items × ((k : ℕ) → took (get_elem? seats.items k) ≡ []) }
+    requires sized { length threads.now ≡ K.cells.slots }
+    requires spare { (spare.old.parts ≡ length seats.items) × (spare.old.amount ≡ 0) }
+    ensures spare { OnOk result ((spare.new.parts ≡ 0) × (spare.new.amount ≡ 0)) }
+    ensures ports { IfOk result (λ r. AreAll (λ p. thread_of p.seat) K.cells.slots r.0.items) }
+    ensures new { IfOk result (λ r. (k : ℕ) (p : _) → get_elem? r.0.items k ≡ some p → (p.calls ≡ 0) × (p.pending ≡ false) × (taken p.seat ≡ [])) }
+{
+    let mut ports = Vec::with_capacity(alloc, seats.len())?;
+    let mut unparkers = Vec::with_capacity(alloc, seats.len())?;
+    for seat in seats {
+        let parker = Parker::new(alloc)?;
+        unparkers.push(parker.unparker().clone()?)?;
+        let thread = threads[seat.thread()];
+        let port = Port::new(thread, seat, spare.split_off(1, 0), parker);
+        ports.push_reserved(port);
+    }
+    Ok((ports, unparkers))
+}
+
+/// Takes the ports apart: their seats, how many calls each counts, and all their shares in one.
+fn gather<K: Tie>(
+    ports: Vec<Port<K>>,
+    seats: &mut Vec<ThreadSeat<Completion>>,
+    calls: &mut Vec<u64>,
+    spare: &mut Share<K>,
+)
+    requires seats { (seats.old.items ≡ []) × (length ports.items ≤ vec_capacity seats.old) }
+    requires calls { (calls.old.items ≡ []) × (length ports.items ≤ vec_capacity calls.old) }
+    requires spare { (spare.old.parts ≡ 0) × (spare.old.amount ≡ 0) }
+    ensures seats { seats.new.items ≡ map (λ p. p.seat) ports.items }
+    ensures calls { calls.new.items ≡ map (λ p. p.calls) ports.items }
+    ensures spare { (spare.new.parts ≡ length ports.items) × (spare.new.amount ≡ sum calls.new.items) }
+{
+    for port in ports {
+        let Port {
+            seat,
+            share,
+            calls: made,
+            ..
+        } = port;
+        seats.push_reserved(seat);
+        calls.push_reserved(made);
+        spare.merge(share);
+    }
+}
+
+impl<K: Tie, L: Log> Shared<K, L> {
+    /// Opens a kernel of these parts whose past is kept by the log, with a port for each thread, in rising thread
+    /// number.
+    fn with_log(
+        alloc: Global,
+        parts: Parts,
+        log: L,
+    ) -> Result<(Shared<K, L>, Vec<Port<K>>), AllocError>
+        requires named { AreParts K.roster K.cells K.name K.parts parts }
+        requires log { (L.roster log ≡ K.roster) × (L.past log ≡ []) }
+        ensures ports { IfOk result (λ r. AreAll (λ p. thread_of p.seat) K.cells.slots r.1.items) }
+        ensures new { IfOk result (λ r. (k : ℕ) (p : _) → get_elem? r.1.items k ≡ some p → (p.calls ≡ 0) × (p.pending ≡ false) × (taken p.seat ≡ [])) }
+    {
+        let Parts {
+            cells,
+            seat,
+            seats,
+            blank,
+            kernel,
+            threads,
+            ..
+        } = parts;
+        let _made = kernel.made();
+        let many = seats.len();
+        let room = Vec::with_capacity(alloc, many)?;
+        let calls = Vec::with_capacity(alloc, many)?;
+        let left = Vec::with_capacity(alloc, many)?;
+        let (book, mut spare) = blank.open::<K>();
+        let (ports, unparkers) = ports_for(alloc, &threads, seats, &mut spare)?;
+        let traced = Traced::new(kernel, seat, threads, log);
+        let lock = Mutex::new(Locked::new(traced, book, spare, room, calls, left));
+        let shared = Shared {
+            cells,
+            lock,
+            unparkers,
+        };
+        Ok((shared, ports))
+    }
+
+    /// Whether these are all ports of the kernel, in rising thread number.
+    pub fn all(&self, ports: &[Port<K>]) -> bool
+        ensures { IsTrue result ↔ AreAll (λ p. thread_of p.seat) K.cells.slots ports.now }
+    {
+        if ports.len() != self.cells.threads() {
+            return false;
+        }
+        for k in 0..ports.len() {
+            if ports[k].seat.thread() != k {
+                return false;
+            }
+        }
+        true
+    }
+
+    /// Wakes the threads whose bits are set, but this one.
+    pub(crate) fn wake(&self, woken: u64, own: usize) {
+        if woken == 0 {
+            return;
+        }
+        for k in 0..self.unparkers.len() {
+            if k < 64 && k != own && (woken >> k) & 1 == 1 {
+                self.unparkers[k].unpark();
+            }
+        }
+    }
+
+    /// Takes the kernel apart, once all ports are handed in.
+    fn close(self, ports: Vec<Port<K>>) -> Closed<L>
+        requires named { K.parts ≡ K.cells.slots }
+        requires all { AreAll (λ p. thread_of p.seat) K.cells.slots ports.items }
+        ensures calls { result.calls.items ≡ map (λ p. p.calls) ports.items }
+        ensures sum { sum result.calls.items ≡ length (L.past result.log) }
+        ensures lawful { IsLawful K.roster (L.past result.log) × HasProperties K.roster (L.past result.log) }
+        ensures rises { RiseByThread result.left.items }
+        ensures due { (t i : ℕ) → place (threads_of K.roster) t ≡ Some i → took (get_elem? (map (λ p. p.seat) ports.items) i) ++ of_thread t result.left.items ≡ due (L.past result.log) t }
+    {
+        let Shared { cells, lock, .. } = self;
+        let Locked {
+            traced,
+            mut book,
+            mut spare,
+            mut seats,
+            mut calls,
+            left: room,
+        } = lock.into_inner();
+        let Traced { seat, log, .. } = traced;
+        gather(ports, &mut seats, &mut calls, &mut spare);
+        book.audit(&mut spare);
+        let left = cells.close(seat, seats);
+        Closed {
+            log,
+            calls,
+            left: without_places(left, room),
+        }
+    }
+}
+
+/// A kernel of these parts that keeps its past in memory.
+fn opened<K: Tie>(
+    alloc: Global,
+    parts: Parts,
+) -> Result<(Shared<K, Kept<K>>, Vec<Port<K>>), AllocError>
+    requires named { AreParts K.roster K.cells K.name K.parts parts }
+    ensures ports { IfOk result (λ r. AreAll (λ p. thread_of p.seat) K.cells.slots r.1.items) }
+    ensures new { IfOk result (λ r. (k : ℕ) (p : _) → get_elem? r.1.items k ≡ some p → (p.calls ≡ 0) × (p.pending ≡ false) × (taken p.seat ≡ [])) }
+{
+    let _made = parts.kernel.made();
+    let log = Kept::new(alloc, parts.threads.clone()?, parts.limit)?;
+    Shared::with_log(alloc, parts, log)
+}
+
+/// A kernel of these parts that keeps no past.
+fn opened_unkept<K: Tie>(
+    alloc: Global,
+    parts: Parts,
+) -> Result<(Shared<K, Unkept<K>>, Vec<Port<K>>), AllocError>
+    requires named { AreParts K.roster K.cells K.name K.parts parts }
+    ensures ports { IfOk result (λ r. AreAll (λ p. thread_of p.seat) K.cells.slots r.1.items) }
+    ensures new { IfOk result (λ r. (k : ℕ) (p : _) → get_elem? r.1.items k ≡ some p → (p.calls ≡ 0) × (p.pending ≡ false) × (taken p.seat ≡ [])) }
+{
+    Shared::with_log(alloc, parts, Unkept::new())
+}
+
+impl<K: Tie> Shared<K, Kept<K>> {
+    /// Opens a kernel of these parts that keeps its past in memory, with a port for each thread, in rising thread
+    /// number. `NoMemory` is the only error, and drops the parts.
+    pub fn open(alloc: Global, parts: Parts) -> Result<(Shared<K, Kept<K>>, Vec<Port<K>>), Errno>
+        requires named { AreParts K.roster K.cells K.name K.parts parts }
+        ensures ports { IfOk result (λ r. AreAll (λ p. thread_of p.seat) K.cells.slots r.1.items) }
+        ensures new { IfOk result (λ r. (k : ℕ) (p : _) → get_elem? r.1.items k ≡ some p → (p.calls ≡ 0) × (p.pending ≡ false) × (taken p.seat ≡ [])) }
+        ensures error { IfErr result (λ e. e ≡ Errno.NoMemory) }
+    {
+        match opened(alloc, parts) {
+            Ok(opened) => Ok(opened),
+            Err(_) => Err(Errno::NoMemory),
+        }
+    }
+
+    /// Closes the kernel, once all ports are handed in: its trace, how many events each port made, and the endings
+    /// that weren't collected. What a port took, followed by what is left for its thread, is what is due to it.
+    pub fn finish(self, ports: Vec<Port<K>>) -> Report
+        requires named { K.parts ≡ K.cells.slots }
+        requires all { AreAll (λ p. thread_of p.seat) K.cells.slots ports.items }
+        ensures calls { result.calls.items ≡ map (λ p. p.calls) ports.items }
+        ensures sum { sum result.calls.items ≡ length result.trace.events }
+        ensures lawful { (result.trace.first ≡ 1) × IsLawful K.roster (followed_by [] result.trace.events) × HasProperties K.roster (followed_by [] result.trace.events) }
+        ensures rises { RiseByThread result.left.items }
+        ensures due { (t i : ℕ) → place (threads_of K.roster) t ≡ Some i → took (get_elem? (map (λ p. p.seat) ports.items) i) ++ of_thread t result.left.items ≡ due (followed_by [] result.trace.events) t }
+    {
+        let Closed { log, calls, left } = self.close(ports);
+        Report {
+            trace: log.into_trace(),
+            calls,
+            left,
+        }
+    }
+}
+
+impl<K: Tie> Shared<K, Unkept<K>> {
+    /// Opens a kernel of these parts that keeps no past, with a port for each thread, in rising thread number. The
+    /// limit of the parts has no meaning for it. `NoMemory` is the only error, and drops the parts.
+    pub fn open(alloc: Global, parts: Parts) -> Result<(Shared<K, Unkept<K>>, Vec<Port<K>>), Errno>
+        requires named { AreParts K.roster K.cells K.name K.parts parts }
+        ensures ports { IfOk result (λ r. AreAll (λ p. thread_of p.seat) K.cells.slots r.1.items) }
+        ensures new { IfOk result (λ r. (k : ℕ) (p : _) → get_elem? r.1.items k ≡ some p → (p.calls ≡ 0) × (p.pending ≡ false) × (taken p.seat ≡ [])) }
+        ensures error { IfErr result (λ e. e ≡ Errno.NoMemory) }
+    {
+        match opened_unkept(alloc, parts) {
+            Ok(opened) => Ok(opened),
+            Err(_) => Err(Errno::NoMemory),
+        }
+    }
+
+    /// Closes the kernel, once all ports are handed in: how many events each port made, and the endings that weren't
+    /// collected. There is a past by which what a port took, followed by what is left for its thread, is what is due
+    /// to it.
+    pub fn finish(self, ports: Vec<Port<K>>) -> Tally
+        requires named { K.parts ≡ K.cells.slots }
+        requires all { AreAll (λ p. thread_of p.seat) K.cells.slots ports.items }
+        ensures calls { result.calls.items ≡ map (λ p. p.calls) ports.items }
+        ensures rises { RiseByThread result.left.items }
+        ensures past { WasMade K.roster (map (λ p. p.seat) ports.items) result.calls.items result.left.items }
+    {
+        let Closed { calls, left, .. } = self.close(ports);
+        Tally { calls, left }
+    }
+}

@@ -1,0 +1,134 @@
+//! A kernel with its past, and the kernel's seat of the cells.
+ghost use Rattle.std.specs.Prelude.{◌≡◌, ◌≤◌, ◌^◌, [], length, if◌then◌else◌};
+ghost use Rattle.qrules.specs.Facts.{threads_of};
+ghost use Rattle.qrecords.specs.Threads.{members_of};
+ghost use Rattle.qkernel.specs.Stands.{StandsAt};
+ghost use Rattle.qhandoff.specs.Steps.{seated_desk};
+ghost use Rattle.qhandoff.specs.Words.{cells_id, kernel_id, desk};
+ghost use Rattle.qshared.specs.Performing.{Performs};
+
+use crate::handing::{hand_out, place_of};
+use crate::log::Log;
+use crate::performed::Performed;
+use crate::tie::Tie;
+use arrayvec::ArrayVec;
+use qbase::errno::Errno;
+use qbase::ids::ThreadNo;
+use qhandoff::cells::Cells;
+use qhandoff::seats::KernelSeat;
+use qkernel::endings::Endings;
+use qkernel::kernel::Kernel;
+use qrules::call::{Call, Completion};
+use std::marker::{Model, PhantomData};
+
+/// A kernel with its past, and the kernel's seat of the cells: what lies under the lock, but for the count of the
+/// ports' calls.
+#[derive(Drop)]
+pub struct Traced<K: Tie, L: Log> {
+    pub(crate) kernel: Kernel,
+    pub(crate) seat: KernelSeat<Completion>,
+    // The threads in rising number; the place of each is the number of its cell.
+    pub(crate) threads: Vec<ThreadNo>,
+    // Lent to each step; empty between two.
+    pub(crate) endings: Endings,
+    // The bit of each thread whose cell the last call filled.
+    pub(crate) woken: u64,
+    pub(crate) log: L,
+    pub(crate) of: PhantomData<K>,
+}
+
+impl<K: Tie, L: Log> Model for Traced<K, L> {
+    ghost use Rattle.std.specs.Prelude.{◌≡◌};
+    ghost use Rattle.qhandoff.specs.Words.{kernel_id, desk};
+    ghost use Rattle.qshared.specs.Held.{Held, IsHeld};
+
+    ghost Value = { Held };
+
+    ghost view = { λ t. record { kernel = t.kernel; desk = desk t.seat; past = L.past t.log; limit = L.limit t.log } };
+
+    ghost invariant = { λ t. (kernel_id t.seat ≡ K.cells) × (L.roster t.log ≡ K.roster) × IsHeld K.roster K.cells.slots t.kernel (desk t.seat) t.threads.items (L.past t.log) t.endings.items };
+}
+
+// What a call came to that is an event.
+fn ended(own: bool) -> Performed
+    ensures { result ≡ (if own then Performed.Ended else Performed.Open) }
+{
+    if own {
+        Performed::Ended
+    } else {
+        Performed::Open
+    }
+}
+
+impl<K: Tie, L: Log> Traced<K, L> {
+    /// A kernel that made no call, with an empty past.
+    pub(crate) fn new(
+        kernel: Kernel,
+        seat: KernelSeat<Completion>,
+        threads: Vec<ThreadNo>,
+        log: L,
+    ) -> Traced<K, L>
+        requires log { (L.roster log ≡ K.roster) × (L.past log ≡ []) }
+        requires seat { (kernel_id seat ≡ K.cells) × (desk seat ≡ seated_desk K.cells.slots K.cells.slots) }
+        requires roster { (members_of kernel.threads ≡ K.roster) × StandsAt (members_of kernel.threads) kernel [] }
+        requires threads { (threads.items ≡ threads_of (members_of kernel.threads)) × (length threads.items ≡ K.cells.slots) }
+        ensures { result.past ≡ [] }
+    {
+        let _made = kernel.made();
+        let alloc = kernel.alloc();
+        Traced {
+            kernel,
+            seat,
+            threads,
+            endings: ArrayVec::new_in(alloc),
+            woken: 0,
+            log,
+            of: PhantomData,
+        }
+    }
+
+    /// How many events the past has.
+    pub fn len(&self) -> u64
+        ensures value { result ≡ length self.now.past }
+        ensures few { result ≤ 2 ^ 40 }
+    {
+        self.kernel.made()
+    }
+
+    /// Makes a call of a thread, as `Port::call` does while it holds the lock: opens the thread's cell, makes the
+    /// call, and puts every ending into its thread's cell. Refused, in this order: `NoThread` where the thread isn't
+    /// in the roster, `Down` after Shutdown, `Busy` where the thread has an open call or an ending that it didn't
+    /// take, and then what the log refuses.
+    pub fn perform(&mut self, cells: &Cells<Completion>, thread: ThreadNo, call: Call) -> Performed
+        requires { cells_id cells.now ≡ K.cells }
+        ensures performs { Performs K.roster L.refuses L.admits self.old thread call result self.new }
+        ensures limit { self.new.limit ≡ self.old.limit }
+    {
+        self.woken = 0;
+        let Some(place) = place_of(&self.threads, thread) else {
+            return Performed::Refused(Errno::NoThread, call);
+        };
+        if self.kernel.is_down() {
+            return Performed::Refused(Errno::Down, call);
+        }
+        if !self.seat.open(cells, place) {
+            return Performed::Refused(Errno::Busy, call);
+        }
+        let made = self.kernel.made();
+        if let Err(errno) = self.log.note(made, &call) {
+            self.seat.cancel(cells, place);
+            return Performed::Refused(errno, call);
+        }
+        self.kernel.step(thread, call, &mut self.endings);
+        self.log.event(thread, &self.endings);
+        let own = hand_out(
+            &mut self.seat,
+            cells,
+            &self.threads,
+            &mut self.endings,
+            thread,
+            &mut self.woken,
+        );
+        ended(own)
+    }
+}

@@ -1,0 +1,69 @@
+//! A past that is kept nowhere.
+
+ghost use Rattle.std.specs.Prelude.{◌≡◌, List, [], true};
+ghost use Rattle.qtables.specs.declared.member.Member.{Member};
+
+use crate::log::Log;
+use crate::tie::Tie;
+use qbase::errno::Errno;
+use qbase::ids::ThreadNo;
+use qkernel::endings::Endings;
+use qkernel::kernel::CALL_LIMIT;
+use qpast::past::Past;
+use qrules::call::Call;
+use std::marker::PhantomData;
+use std::snapshot::Snapshot;
+
+/// A past that proofs alone have: nothing is kept, nothing is copied, and there is no limit but the kernel's own of
+/// 2^40 calls. It has no bytes.
+#[derive(Drop)]
+pub struct Unkept<K: Tie> {
+    past: Past,
+    // The call that was noted.
+    call: Snapshot<Call>,
+    of: PhantomData<K>,
+}
+
+impl<K: Tie> Unkept<K> {
+    /// The past of a kernel that made no call.
+    pub(crate) fn new() -> Unkept<K>
+        ensures { result.past.trace ≡ [] }
+    {
+        Unkept {
+            past: Past::none(),
+            call: Snapshot::of(&Call::Shutdown),
+            of: PhantomData,
+        }
+    }
+}
+
+impl<K: Tie> Log for Unkept<K> {
+    ghost use Rattle.std.specs.Prelude.{◌^◌, true};
+    ghost use Rattle.qshared.specs.Unkept.{admits_unkept, refuses_unkept};
+
+    ghost roster = { λ _. K.roster };
+
+    ghost past = { λ l. l.past.trace };
+
+    ghost ready = { λ _. true };
+
+    ghost noted = { λ l. l.call.value };
+
+    ghost limit = { λ _. 2 ^ 40 };
+
+    ghost refuses = { refuses_unkept };
+
+    ghost admits = { admits_unkept };
+
+    fn note(&mut self, made: u64, call: &Call) -> Result<(), Errno> {
+        if made >= CALL_LIMIT {
+            return Err(Errno::Exhausted);
+        }
+        self.call = Snapshot::of(call);
+        Ok(())
+    }
+
+    fn event(&mut self, thread: ThreadNo, endings: &Endings) {
+        self.past = self.past.with(&thread, &self.call, endings);
+    }
+}
