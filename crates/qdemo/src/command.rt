@@ -1,6 +1,7 @@
 //! The command line.
 
-use clap::{Command, Error};
+use clap::{Arg, ArgAction, ArgMatches, Command, Error, value_parser};
+use qserve::settings::Settings;
 use std::alloc::{AllocError, Global};
 
 /// What the program is asked to do.
@@ -8,6 +9,8 @@ use std::alloc::{AllocError, Global};
 pub enum Action {
     /// To run the script on standard input.
     Script,
+    /// To run a server with its clients.
+    Serve(Settings),
 }
 
 const ABOUT: &str = "A kernel of synchronous messages, after QNX Neutrino's";
@@ -91,6 +94,95 @@ const SCRIPT_EXAMPLE: &str = "Example:
 Status: 0; 1 for a faulty script; 2 for a faulty command line; 3 where reading,
 writing or memory fails.";
 
+const SERVE_ABOUT: &str = "Runs a server and its clients on threads, and prints what they did";
+
+const SERVE_LONG: &str = "Runs a server and its clients on threads, and prints what they did.
+
+Each client makes its rounds: it sends a pulse, and then a message for the echo
+service or for the sum service, waits for the answer and checks it. The servers
+receive on one channel.
+
+With --hold the server keeps the first message until it has received a second, so
+that two clients are blocked at once.
+
+The output has five lines: how many messages the clients sent, how many the
+servers answered, how many pulses they counted, the sum of all that the sum
+service answered, and how many kernel calls were made.
+
+  sent S
+  answered A
+  pulses P
+  sum X
+  events E
+
+With --time five more follow: how many seconds the run took, how many round trips
+there were in a second, and how many nanoseconds the shortest of them took, half
+of them at most, and 99 of a hundred at most. A round trip is from the call of
+a client's send until its answer is collected.
+
+  seconds S
+  rate R
+  least L
+  median M
+  ninety-ninth N
+
+Where standard error is a terminal, a line on it shows how far a run is that takes
+more than half a second. It is gone at the end, and --quiet leaves it out.";
+
+const SERVE_EXAMPLE: &str = "Example:
+  $ qdemo serve --clients 2 --servers 1 --rounds 1
+  sent 2
+  answered 2
+  pulses 2
+  sum 8
+  events 20
+
+Status: 0; 2 for a faulty command line; 3 where writing or memory fails; 4 where
+a worker fails.";
+
+fn serve_command<'a>(alloc: Global) -> Result<Command<'a>, AllocError> {
+    let clients = Arg::new(alloc, "clients")
+        .long("clients")
+        .value_name("N")
+        .value_parser(value_parser!(u8).range(1..33))
+        .default_value("2")
+        .help("How many clients, 1 to 32");
+    let servers = Arg::new(alloc, "servers")
+        .long("servers")
+        .value_name("M")
+        .value_parser(value_parser!(u8).range(1..17))
+        .default_value("1")
+        .help("How many servers, 1 to 16");
+    let rounds = Arg::new(alloc, "rounds")
+        .long("rounds")
+        .value_name("K")
+        .value_parser(value_parser!(u16).range(1..1001))
+        .default_value("1")
+        .help("How many rounds each client makes, 1 to 1000");
+    let hold = Arg::new(alloc, "hold")
+        .long("hold")
+        .action(ArgAction::SetTrue)
+        .help("Keep the first message until there is a second");
+    let time = Arg::new(alloc, "time")
+        .long("time")
+        .action(ArgAction::SetTrue)
+        .help("Print how long the run and its round trips took");
+    let quiet = Arg::new(alloc, "quiet")
+        .long("quiet")
+        .action(ArgAction::SetTrue)
+        .help("Show no progress");
+    Command::new(alloc, "serve")
+        .about(SERVE_ABOUT)
+        .long_about(SERVE_LONG)
+        .after_help(SERVE_EXAMPLE)
+        .arg(clients)?
+        .arg(servers)?
+        .arg(rounds)?
+        .arg(hold)?
+        .arg(time)?
+        .arg(quiet)
+}
+
 fn command<'a>(alloc: Global) -> Result<Command<'a>, AllocError> {
     let script = Command::new(alloc, "script")
         .about(SCRIPT_ABOUT)
@@ -100,13 +192,29 @@ fn command<'a>(alloc: Global) -> Result<Command<'a>, AllocError> {
         .about(ABOUT)
         .after_help(EXAMPLE)
         .subcommand_required(true)
-        .subcommand(script)
+        .subcommand(script)?
+        .subcommand(serve_command(alloc)?)
+}
+
+/// How large a demonstration these words ask for. Each number has a default.
+fn settings_of(matches: &ArgMatches<'_>) -> Settings {
+    Settings {
+        clients: matches.get_one("clients").unwrap_or(0),
+        servers: matches.get_one("servers").unwrap_or(0),
+        rounds: matches.get_one("rounds").unwrap_or(0),
+        hold: matches.get_flag("hold"),
+        time: matches.get_flag("time"),
+        progress: !matches.get_flag("quiet"),
+    }
 }
 
 /// What the words of the command line ask for, the first of which is the program's name. The error may
 /// be a wanted help text.
 pub fn action_of(alloc: Global, words: &[String]) -> Result<Action, Error> {
     let command = command(alloc)?;
-    let _ = command.try_get_matches_from(words)?;
-    Ok(Action::Script)
+    let matches = command.try_get_matches_from(words)?;
+    match matches.subcommand_matches("serve") {
+        Some(serve) => Ok(Action::Serve(settings_of(serve))),
+        None => Ok(Action::Script),
+    }
 }

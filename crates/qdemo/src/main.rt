@@ -1,4 +1,4 @@
-//! A kernel of synchronous messages, run from a script.
+//! A kernel of synchronous messages: run from a script, and by a server and its clients on threads.
 #![tactic(auto)]
 
 mod command;
@@ -10,7 +10,13 @@ use clap::error::ErrorKind;
 use command::{Action, action_of};
 use qscript::script::script;
 use qscript::watched::Watched;
+use qserve::serve::serve;
+use qserve::settings::Settings;
+use std::io::IsTerminal;
 use std::process::ExitCode;
+use std::rt::Clock;
+use std::sync::Wait;
+use std::thread::Threads;
 use std::{env, io};
 
 fn main(rt: HostRuntime) -> ExitCode {
@@ -24,6 +30,7 @@ fn main(rt: HostRuntime) -> ExitCode {
     };
     match action_of(rt.alloc(), words.as_slice()) {
         Ok(Action::Script) => run_script(&rt),
+        Ok(Action::Serve(settings)) => run_serve(&rt, shown(settings, rt.stderr().is_terminal())),
         Err(error) => answered(&rt, &error),
     }
 }
@@ -46,6 +53,32 @@ fn run_script<R: Input + Print + Eprint + AllocGlobal>(rt: &R) -> ExitCode {
     let mut reader = Watched::new(rt.reader());
     let mut writer = Watched::new(io::writer(rt));
     match script(rt.alloc(), &mut reader, &mut writer) {
+        Ok(()) => ExitCode::SUCCESS,
+        Err(fault) => {
+            let _ = eprintln!(rt; "qdemo: {fault}");
+            ExitCode::from(fault.status())
+        }
+    }
+}
+
+/// The settings, with progress only where standard error is a terminal.
+fn shown(settings: Settings, terminal: bool) -> Settings {
+    Settings {
+        progress: settings.progress && terminal,
+        ..settings
+    }
+}
+
+/// Runs a server and its clients. The command line allows no other settings than those that fit.
+fn run_serve<R: Print + Eprint + AllocGlobal + Threads + Wait + Clock + Sync>(
+    rt: &R,
+    settings: Settings,
+) -> ExitCode {
+    if !settings.fit() {
+        return failed(rt, "worker failed");
+    }
+    let mut writer = Watched::new(io::writer(rt));
+    match serve(rt, rt.alloc(), settings, &mut writer) {
         Ok(()) => ExitCode::SUCCESS,
         Err(fault) => {
             let _ = eprintln!(rt; "qdemo: {fault}");

@@ -2,6 +2,7 @@
 
 use crate::command::{Action, action_of};
 use clap::Error;
+use qserve::settings::Settings;
 use std::alloc::Global;
 use std::process::Abort;
 
@@ -27,6 +28,81 @@ fn told(rt: &impl Abort, alloc: Global, words: &[&str]) -> (i32, String) {
 #[test]
 fn script_is_asked_for(rt: HostRuntime) {
     assert!(rt; answer(&rt, rt.alloc(), &["script"]).is_ok());
+}
+
+/// The settings that these words ask for.
+fn settings(rt: &impl Abort, alloc: Global, words: &[&str]) -> Settings {
+    let Ok(Action::Serve(settings)) = answer(rt, alloc, words) else {
+        panic!(rt; "another answer")
+    };
+    settings
+}
+
+#[test]
+fn a_server_is_asked_for(rt: HostRuntime) {
+    let usual = settings(&rt, rt.alloc(), &["serve"]);
+    let wanted = Settings {
+        clients: 2,
+        servers: 1,
+        rounds: 1,
+        hold: false,
+        time: false,
+        progress: true,
+    };
+    assert!(rt; usual == wanted);
+    let words = [
+        "serve",
+        "--hold",
+        "--time",
+        "--quiet",
+        "--clients",
+        "32",
+        "--servers",
+        "16",
+        "--rounds",
+        "1000",
+    ];
+    let most = settings(&rt, rt.alloc(), &words);
+    let wanted = Settings {
+        clients: 32,
+        servers: 16,
+        rounds: 1000,
+        hold: true,
+        time: true,
+        progress: false,
+    };
+    assert!(rt; most == wanted);
+}
+
+#[test]
+fn a_number_out_of_range_has_status_2(rt: HostRuntime) {
+    for option in ["--clients=0", "--clients=33", "--servers=0", "--servers=17"] {
+        let (status, _) = told(&rt, rt.alloc(), &["serve", option]);
+        assert_eq!(rt; status, 2);
+    }
+    for option in ["--rounds=0", "--rounds=1001", "--rounds=x", "--many"] {
+        let (status, _) = told(&rt, rt.alloc(), &["serve", option]);
+        assert_eq!(rt; status, 2);
+    }
+}
+
+#[test]
+fn help_of_the_server_has_its_options_and_an_example(rt: HostRuntime) {
+    let (status, text) = told(&rt, rt.alloc(), &["help", "serve"]);
+    assert_eq!(rt; status, 0);
+    for line in [
+        "--clients <N>",
+        "--servers <M>",
+        "--rounds <K>",
+        "--hold",
+        "--time",
+        "--quiet",
+        "events 20",
+        "ninety-ninth",
+        "4 where",
+    ] {
+        assert!(rt; text.as_str().contains(line));
+    }
 }
 
 #[test]

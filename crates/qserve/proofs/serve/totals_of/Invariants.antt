@@ -1,0 +1,9 @@
+use Rattle.qrecords.specs.Threads.{members_of}
+use Rattle.qhandoff.specs.Words.{cells_id}
+use Rattle.qserve.proofs.serve.totals_of.Given as goal
+
+abbrev pub ghosts-run-K-Ledger : goal.ghosts-run-K-Ledger
+ghosts-run-K-Ledger g a = record { name = a.parts.blank.name; parts = a.parts.blank.parts }
+
+abbrev pub ghosts-run-K-Tie : goal.ghosts-run-K-Tie
+ghosts-run-K-Tie g a = record { roster = members_of a.parts.kernel.threads; cells = cells_id a.parts.cells }

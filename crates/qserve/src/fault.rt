@@ -1,0 +1,92 @@
+//! What can go wrong with a demonstration.
+
+ghost use Rattle.std.specs.Prelude.{◌≡◌};
+ghost use Rattle.qserve.specs.Status.{status_of};
+ghost use Rattle.qserve.specs.declared.fault.ServeFault.TheVariants.{NoMemory};
+ghost use Rattle.qserve.specs.declared.fault.WorkerFault.TheVariants as worker_fault;
+
+use qbase::errno::Errno;
+use std::alloc::{AllocError, AllocFailed};
+use thiserror::Error;
+
+/// Why a worker ended before its work was done.
+#[derive(Clone, Copy, Debug, PartialEq, Eq)]
+pub enum WorkerFault {
+    /// There was no memory for one of its calls.
+    NoMemory,
+    /// A call was answered in a way that its work doesn't know, or was refused.
+    Unexpected,
+}
+
+impl From<AllocError> for WorkerFault {
+    ghost from_gives = { λ _ e. e ≡ worker_fault.NoMemory };
+
+    fn from(_e: AllocError) -> WorkerFault {
+        WorkerFault::NoMemory
+    }
+}
+
+impl<T: Drop> From<AllocFailed<T>> for WorkerFault {
+    ghost from_gives = { λ _ e. e ≡ worker_fault.NoMemory };
+
+    fn from(_e: AllocFailed<T>) -> WorkerFault {
+        WorkerFault::NoMemory
+    }
+}
+
+impl From<Errno> for WorkerFault {
+    fn from(errno: Errno) -> WorkerFault {
+        match errno {
+            Errno::NoMemory => WorkerFault::NoMemory,
+            _ => WorkerFault::Unexpected,
+        }
+    }
+}
+
+/// Why a demonstration failed. Where several things went wrong, the first of these is told.
+#[derive(Clone, Copy, Debug, PartialEq, Eq, Error)]
+pub enum ServeFault {
+    /// It was to hold a message, with fewer than two clients or more than one server.
+    #[error("hold needs two clients and one server")]
+    Hold,
+    /// There was no memory, for the kernel or for a worker.
+    #[error("out of memory")]
+    NoMemory,
+    /// A worker couldn't be started, or met an answer that it didn't expect.
+    #[error("worker failed")]
+    Worker,
+    /// The text could not be written.
+    #[error("write failed")]
+    Write,
+}
+
+impl From<AllocError> for ServeFault {
+    ghost from_gives = { λ _ e. e ≡ NoMemory };
+
+    fn from(_e: AllocError) -> ServeFault {
+        ServeFault::NoMemory
+    }
+}
+
+impl From<WorkerFault> for ServeFault {
+    fn from(fault: WorkerFault) -> ServeFault {
+        match fault {
+            WorkerFault::NoMemory => ServeFault::NoMemory,
+            WorkerFault::Unexpected => ServeFault::Worker,
+        }
+    }
+}
+
+impl ServeFault {
+    /// The status that the program ends with: 2 where what was asked for is at fault, 4 where a worker is, and 3
+    /// where memory or writing failed.
+    pub fn status(&self) -> u8
+        ensures { result ≡ status_of self.now }
+    {
+        match self {
+            ServeFault::Hold => 2,
+            ServeFault::NoMemory | ServeFault::Write => 3,
+            ServeFault::Worker => 4,
+        }
+    }
+}

@@ -1,0 +1,164 @@
+//! How far a run is, on a line that is written over twice a second.
+
+use crate::endpoint::Endpoint;
+use qrules::call::{Call, Completion};
+use qshared::port::Called;
+use std::alloc::{AllocError, Global};
+use std::rt::Clock;
+use std::sync::atomic::{AtomicU64, Ordering};
+use std::sync::{Condvar, Mutex, Wait};
+use std::time::{Duration, Instant};
+
+/// After how many milliseconds the line is written again.
+const PERIOD: u64 = 500;
+
+/// How far the clients are. They raise it, and main looks at it.
+#[derive(Drop)]
+pub struct Progress {
+    rounds: AtomicU64,
+    ended: Mutex<u64>,
+    changed: Condvar,
+}
+
+impl Progress {
+    /// Nothing is done yet.
+    pub fn new() -> Progress {
+        Progress {
+            rounds: AtomicU64::new(0),
+            ended: Mutex::new(0),
+            changed: Condvar::new(),
+        }
+    }
+
+    /// One more round is done.
+    fn round(&self) {
+        self.rounds.fetch_add(1, Ordering::SeqCst);
+    }
+
+    /// One more client has ended.
+    pub fn end<R: Wait>(&self, rt: &R) {
+        let mut ended = self.ended.lock(rt);
+        *ended = ended.saturating_add(1);
+        drop(ended);
+        self.changed.notify_one();
+    }
+
+    /// How many rounds are done.
+    pub fn rounds(&self) -> u64 {
+        self.rounds.load(Ordering::SeqCst)
+    }
+
+    /// Waits until a client ends, for so long at most, and says whether so many have.
+    pub fn wait<R: Wait + Clock>(&self, rt: &R, clients: u64, most: Duration) -> bool {
+        let ended = self.ended.lock(rt);
+        if *ended >= clients {
+            return true;
+        }
+        let (ended, _) = self.changed.wait_timeout(rt, ended, most);
+        *ended >= clients
+    }
+}
+
+/// Passes calls on, and counts a round for each Send whose ending was collected.
+#[derive(Drop)]
+pub struct Counted<'p, E> {
+    inner: E,
+    progress: &'p Progress,
+    sending: bool,
+}
+
+impl<'p, E> Counted<'p, E> {
+    /// An endpoint whose rounds are counted.
+    pub fn new(inner: E, progress: &'p Progress) -> Counted<'p, E> {
+        Counted {
+            inner,
+            progress,
+            sending: false,
+        }
+    }
+
+    /// The endpoint alone.
+    pub fn into_inner(self) -> E {
+        let Counted { inner, .. } = self;
+        inner
+    }
+}
+
+impl<'p, E: Endpoint> Endpoint for Counted<'p, E> {
+    ghost pending = { λ c. E.pending c.inner };
+
+    fn call<R: Wait>(&mut self, rt: &R, call: Call) -> Called {
+        self.sending = matches!(call, Call::Send { .. });
+        let called = self.inner.call(rt, call);
+        if self.sending && matches!(called, Called::Done(_)) {
+            self.progress.round();
+        }
+        called
+    }
+
+    fn poll(&mut self) -> Option<Completion> {
+        let completion = self.inner.poll()?;
+        if self.sending {
+            self.progress.round();
+        }
+        Some(completion)
+    }
+
+    fn wait<R: Wait>(&mut self, rt: &R) -> Completion {
+        let completion = self.inner.wait(rt);
+        if self.sending {
+            self.progress.round();
+        }
+        completion
+    }
+}
+
+/// Shows on standard error how far a run of so many rounds is, until so many clients have ended. What can't be shown
+/// is left out, and nothing stays there.
+pub fn show<R: Wait + Clock + Eprint>(
+    rt: &R,
+    alloc: Global,
+    progress: &Progress,
+    clients: u64,
+    rounds: u64,
+) {
+    let Ok(start) = Instant::now(rt) else {
+        return;
+    };
+    let period = Duration::from_millis(PERIOD);
+    let mut next = period;
+    for _ in rt.forever() {
+        let Ok(taken) = start.elapsed(rt) else {
+            break;
+        };
+        if taken >= next {
+            next = next.saturating_add(period);
+            show_line(rt, alloc, progress.rounds(), rounds, taken);
+        }
+        if progress.wait(rt, clients, next.saturating_sub(taken)) {
+            break;
+        }
+    }
+    if next > period {
+        let _ = eprint!(rt; "\r{:60}\r", "");
+    }
+}
+
+/// Writes the line over the one before.
+fn show_line<R: Eprint>(rt: &R, alloc: Global, done: u64, rounds: u64, taken: Duration) {
+    if let Ok(line) = line_of(alloc, done, rounds, taken) {
+        let _ = eprint!(rt; "\r{line}");
+    }
+}
+
+/// The line of a run of so many rounds of which some are done.
+pub fn line_of(
+    alloc: Global,
+    done: u64,
+    rounds: u64,
+    taken: Duration,
+) -> Result<String, AllocError> {
+    let thousandths = taken.as_millis().max(1);
+    let rate = u128::from(done) * 1_000 / thousandths;
+    format!(in alloc; "{done:>5} of {rounds} rounds, {rate:>7} a second")
+}

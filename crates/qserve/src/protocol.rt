@@ -1,0 +1,64 @@
+//! What clients and servers agree on.
+
+ghost use Rattle.std.specs.Prelude.{◌≤◌};
+
+use crate::calls::Pulse;
+use qbase::priority::Priority;
+
+/// The priority of servers.
+pub const SERVER_LEVEL: u8 = 10;
+
+/// The priority of clients, and of the pulses that they send.
+pub const CLIENT_LEVEL: u8 = 20;
+
+/// The priority of the thread that starts the others, and of its pulses.
+pub const MAIN_LEVEL: u8 = 1;
+
+/// The thread of the first server.
+pub const FIRST_SERVER: u8 = 1;
+
+/// The thread of the first client.
+pub const FIRST_CLIENT: u8 = 17;
+
+/// The code of the pulse that a server counts.
+pub const COUNT: i8 = 1;
+
+/// The code of the pulse that stops a server.
+pub const STOP: i8 = 127;
+
+/// How many bytes a client's message has.
+pub const MESSAGE_LENGTH: usize = 4;
+
+/// How many bytes a client's reply buffer has: as many as a sum.
+pub const REPLY_LENGTH: usize = 8;
+
+/// How many bytes a server's buffer has.
+pub const REQUEST_LENGTH: usize = 16;
+
+/// The priority of a level.
+pub fn priority(level: u8) -> Priority
+    requires { (1 ≤ level) × (level ≤ 63) }
+{
+    let Some(priority) = Priority::new(level) else {
+        unreachable!()
+    };
+    priority
+}
+
+/// The pulse that a client sends in a round, and a server counts.
+pub fn count_pulse(round: u16) -> Pulse {
+    Pulse {
+        priority: priority(CLIENT_LEVEL),
+        code: COUNT,
+        value: i32::from(round),
+    }
+}
+
+/// The pulse that stops a server.
+pub fn stop_pulse() -> Pulse {
+    Pulse {
+        priority: priority(MAIN_LEVEL),
+        code: STOP,
+        value: 0,
+    }
+}

@@ -1,0 +1,226 @@
+//! The thread that starts the workers, waits for them and stops the servers.
+
+ghost use Rattle.qshared.specs.Naming.{AreParts};
+
+use crate::calls::{channel_create, channel_destroy, connect_attach, msg_send_pulse, shutdown};
+use crate::endpoint::{Endpoint, KernelPort};
+use crate::fault::{ServeFault, WorkerFault};
+use crate::progress::Progress;
+use crate::protocol::stop_pulse;
+use crate::settings::{Settings, Stacks};
+use crate::stage::{Joined, Stage, Started};
+use crate::tally::{Tally, both};
+use crate::texts::Totals;
+use crate::timing::{start_of, timing_of};
+use qbase::flags::ChannelFlags;
+use qbase::ids::ConnectionId;
+use qshared::kept::Kept;
+use qshared::log::Log;
+use qshared::parts::Parts;
+use qshared::port::Port;
+use qshared::shared::Shared;
+use qshared::tie::Tie;
+use std::alloc::Global;
+use std::rt::Clock;
+use std::sync::Wait;
+use std::thread::Threads;
+use std::{mem, thread};
+
+/// The ports of a kernel but main's, by what their threads are.
+#[derive(Drop)]
+struct Crew<K: Tie> {
+    servers: Vec<Port<K>>,
+    clients: Vec<Port<K>>,
+    alarm: Port<K>,
+}
+
+/// What all workers did, what the clients' round trips took in nanoseconds, and all ports in rising thread number.
+#[derive(Drop)]
+struct Gathered<K: Tie> {
+    tally: Tally,
+    trips: Vec<u64>,
+    ports: Vec<Port<K>>,
+}
+
+/// Runs a demonstration on a kernel of these parts.
+pub fn run<K: Tie + Send + Sync, R: Threads + Wait + Clock + Eprint + Sync>(
+    rt: &R,
+    alloc: Global,
+    parts: Parts,
+    settings: Settings,
+    stacks: Stacks,
+) -> Result<Totals, ServeFault>
+    requires named { AreParts K.roster K.cells K.name K.parts parts }
+{
+    let Ok((shared, mut ports)) = Shared::<K, Kept<K>>::open(alloc, parts) else {
+        return Err(ServeFault::NoMemory);
+    };
+    let Some(main) = ports.pop() else {
+        return Err(ServeFault::Worker);
+    };
+    let crew = crew_of(ports, settings.servers)?;
+    let progress = Progress::new();
+    let start = start_of(rt, settings.time)?;
+    let Gathered {
+        tally,
+        trips,
+        ports,
+    } = gather(rt, alloc, &shared, &progress, main, crew, settings, stacks)?;
+    let timing = timing_of(rt, start, trips)?;
+    if !shared.all(ports.as_slice()) {
+        return Err(ServeFault::Worker);
+    }
+    let report = shared.finish(ports);
+    Ok(Totals {
+        tally,
+        events: report.trace.len(),
+        timing,
+    })
+}
+
+/// The ports but main's, which come in rising thread number: servers, clients, the alarm.
+fn crew_of<K: Tie>(mut ports: Vec<Port<K>>, servers: u8) -> Result<Crew<K>, WorkerFault> {
+    let servers = usize::from(servers);
+    let Some(alarm) = ports.pop() else {
+        return Err(WorkerFault::Unexpected);
+    };
+    if ports.len() < servers {
+        return Err(WorkerFault::Unexpected);
+    }
+    let clients = ports.split_off(servers)?;
+    Ok(Crew {
+        servers: ports,
+        clients,
+        alarm,
+    })
+}
+
+/// Starts the workers on threads of their own, and waits until all have ended.
+fn gather<K: Tie + Send + Sync, L: Log + Send, R: Threads + Wait + Clock + Eprint + Sync>(
+    rt: &R,
+    alloc: Global,
+    shared: &Shared<K, L>,
+    progress: &Progress,
+    main: Port<K>,
+    crew: Crew<K>,
+    settings: Settings,
+    stacks: Stacks,
+) -> Result<Gathered<K>, WorkerFault> {
+    thread::scope(thread::scope_env(), rt, move |scope| {
+        let stage = Stage {
+            rt,
+            alloc,
+            scope,
+            shared,
+            progress,
+            stacks,
+        };
+        direct(&stage, main, crew, settings)
+    })
+}
+
+/// All that main does. Where any of it fails, a Shutdown ends the workers.
+fn direct<'s, X, K: Tie + Send + Sync, L: Log + Send, R: Threads + Wait + Clock + Eprint + Sync>(
+    stage: &Stage<'s, X, K, L, R>,
+    main: Port<K>,
+    crew: Crew<K>,
+    settings: Settings,
+) -> Result<Gathered<K>, WorkerFault> {
+    let mut main = KernelPort::new(main, stage.shared);
+    let gathered = conduct(stage, &mut main, crew, settings);
+    if gathered.is_err() {
+        let _ = shutdown(stage.rt, &mut main);
+    }
+    let mut gathered = gathered?;
+    gathered.ports.push(main.into_port())?;
+    Ok(gathered)
+}
+
+/// Creates the channel, starts all workers at once, waits for the clients, stops the servers, waits for them, and
+/// shuts down.
+fn conduct<
+    's,
+    X,
+    K: Tie + Send + Sync,
+    L: Log + Send,
+    R: Threads + Wait + Clock + Eprint + Sync,
+    E: Endpoint,
+>(
+    stage: &Stage<'s, X, K, L, R>,
+    main: &mut E,
+    crew: Crew<K>,
+    settings: Settings,
+) -> Result<Gathered<K>, WorkerFault> {
+    let Crew {
+        servers,
+        clients,
+        alarm,
+    } = crew;
+    let (given, kept) = if settings.hold {
+        (Some(alarm), None)
+    } else {
+        (None, Some(alarm))
+    };
+    let many = servers.len();
+    let rt = stage.rt;
+    let chid = channel_create(rt, main, ChannelFlags::of(0))?;
+    let coid = connect_attach(rt, main, chid)?;
+    let servers = stage.start_servers(servers, given, chid)?;
+    let clients = stage.start_clients(clients, chid, settings)?;
+    let started = both(servers.all, clients.all);
+    if started.is_err() {
+        let _ = shutdown(rt, main);
+    }
+    if settings.progress {
+        stage.show(clients.threads.len() as u64, settings.all_rounds());
+    }
+    let mut clients = stage.join_all(clients.threads)?;
+    let stopped = stop_servers(rt, main, coid, many);
+    let servers = stage.join_all(servers.threads)?;
+    let tally = both(both(clients.done, servers.done), both(started, stopped))?;
+    channel_destroy(rt, main, chid)?;
+    shutdown(rt, main)?;
+    let trips = mem::replace(&mut clients.trips, Vec::new(stage.alloc));
+    let ports = ports_of(servers, clients, kept)?;
+    Ok(Gathered {
+        tally,
+        trips,
+        ports,
+    })
+}
+
+/// Sends as many pulses as there are servers, each of which stops one. Where that fails, a Shutdown does.
+fn stop_servers<E: Endpoint, R: Wait>(
+    rt: &R,
+    main: &mut E,
+    coid: ConnectionId,
+    servers: usize,
+) -> Result<Tally, WorkerFault> {
+    for _ in 0..servers {
+        if let Err(fault) = msg_send_pulse(rt, main, coid, stop_pulse()) {
+            let _ = shutdown(rt, main);
+            return Err(fault);
+        }
+    }
+    Ok(Tally::new())
+}
+
+/// The ports of all workers and of the alarm, which main kept or a server had.
+fn ports_of<K: Tie>(
+    servers: Joined<K>,
+    mut clients: Joined<K>,
+    kept: Option<Port<K>>,
+) -> Result<Vec<Port<K>>, WorkerFault> {
+    let Joined {
+        mut ports,
+        alarm,
+        ..
+    } = servers;
+    ports.append(&mut clients.ports)?;
+    for alarm in [kept, alarm] {
+        if let Some(alarm) = alarm {
+            ports.push(alarm)?;
+        }
+    }
+    Ok(ports)
+}

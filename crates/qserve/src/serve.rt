@@ -1,0 +1,98 @@
+//! The demonstration.
+
+ghost use Rattle.qserve.specs.Fit.{Fit};
+
+use crate::fault::ServeFault;
+use crate::protocol::{
+    CLIENT_LEVEL, FIRST_CLIENT, FIRST_SERVER, MAIN_LEVEL, SERVER_LEVEL, priority,
+};
+use crate::run::run;
+use crate::settings::{Settings, Stacks};
+use crate::texts::{Totals, text_of, write_all};
+use crate::timing::timing_text_of;
+use qbase::errno::Errno;
+use qbase::ids::{ProcessNo, ThreadNo};
+use qscript::watched::Watched;
+use qshared::parts::Parts;
+use qtables::roster::Roster;
+use std::alloc::Global;
+use std::io::Write;
+use std::marker::Brand;
+use std::rt::Clock;
+use std::sync::Wait;
+use std::thread::Threads;
+
+/// The process of the servers, of main and of its alarm.
+const SERVERS: ProcessNo = ProcessNo(1);
+
+/// The process of the clients.
+const CLIENTS: ProcessNo = ProcessNo(2);
+
+/// The thread that shuts down for a server whose own receive is open.
+const ALARM: ThreadNo = ThreadNo(63);
+
+/// The thread that starts and stops the others.
+const MAIN: ThreadNo = ThreadNo(64);
+
+/// How many events the kernel's trace may have.
+const TRACE_LIMIT: u32 = 1_048_576;
+
+/// The servers, the clients, the alarm and main.
+fn roster_of(alloc: Global, settings: &Settings) -> Result<Roster, Errno>
+    requires { Fit settings.now }
+{
+    let mut roster = Roster::new(alloc);
+    for server in 0..settings.servers {
+        let thread = ThreadNo(FIRST_SERVER + server);
+        roster.add(thread, SERVERS, priority(SERVER_LEVEL))?;
+    }
+    for client in 0..settings.clients {
+        let thread = ThreadNo(FIRST_CLIENT + client);
+        roster.add(thread, CLIENTS, priority(CLIENT_LEVEL))?;
+    }
+    roster.add(ALARM, SERVERS, priority(MAIN_LEVEL))?;
+    roster.add(MAIN, SERVERS, priority(MAIN_LEVEL))?;
+    Ok(roster)
+}
+
+/// Starts clients and servers on threads of their own, has each client send its messages and check their answers,
+/// stops the servers, and writes five lines of what was done, and five more of its times where they are wanted.
+/// Nothing is written before all threads have ended. A fault of one worker ends them all.
+pub fn serve<R: Threads + Wait + Clock + Eprint + Sync, W: Write>(
+    rt: &R,
+    alloc: Global,
+    settings: Settings,
+    writer: &mut Watched<W>,
+) -> Result<(), ServeFault>
+    requires { Fit settings }
+{
+    let totals = totals_of(rt, alloc, settings, Stacks::ample())?;
+    let text = text_of(alloc, &totals)?;
+    write_all(writer, text.as_bytes())?;
+    let Some(timing) = totals.timing else {
+        return Ok(());
+    };
+    let text = timing_text_of(alloc, &timing)?;
+    write_all(writer, text.as_bytes())
+}
+
+/// What a demonstration with such stacks comes to. A thread whose stack is too large can't be started.
+pub fn totals_of<R: Threads + Wait + Clock + Eprint + Sync>(
+    rt: &R,
+    alloc: Global,
+    settings: Settings,
+    stacks: Stacks,
+) -> Result<Totals, ServeFault>
+    requires { Fit settings }
+{
+    if settings.hold && (settings.clients < 2 || settings.servers > 1) {
+        return Err(ServeFault::Hold);
+    }
+    let Ok(roster) = roster_of(alloc, &settings) else {
+        return Err(ServeFault::Worker);
+    };
+    let Ok(parts) = Parts::new(alloc, &roster, TRACE_LIMIT) else {
+        return Err(ServeFault::NoMemory);
+    };
+    run::<Brand, R>(rt, alloc, parts, settings, stacks)
+}

@@ -1,0 +1,39 @@
+//! The services of the server. The first byte of a message names the service that it is for.
+
+/// Answers with the message itself.
+pub const ECHO: u8 = 1;
+
+/// Answers with the sum of the bytes after the first, as 8 bytes in big endian order.
+pub const SUM: u8 = 2;
+
+/// The code for a message whose service there isn't.
+pub const NO_SERVICE: i32 = 1;
+
+/// What a service answers a message.
+pub enum Outcome {
+    /// The message itself.
+    Same,
+    /// These bytes.
+    Bytes([u8; 8]),
+    /// An error, and no bytes.
+    Error(i32),
+}
+
+/// What the service that a message names answers it. The error service answers a message that names no other, and
+/// an empty one.
+pub fn serve_one(message: &[u8]) -> Outcome {
+    match message.split_first() {
+        Some((&ECHO, _)) => Outcome::Same,
+        Some((&SUM, rest)) => Outcome::Bytes(sum_of(rest).to_be_bytes()),
+        _ => Outcome::Error(NO_SERVICE),
+    }
+}
+
+/// The sum of bytes.
+pub fn sum_of(bytes: &[u8]) -> u64 {
+    let mut sum: u64 = 0;
+    for byte in bytes {
+        sum = sum.saturating_add(u64::from(*byte));
+    }
+    sum
+}

@@ -1,0 +1,210 @@
+//! Workers on threads of their own.
+
+use crate::client::client;
+use crate::endpoint::KernelPort;
+use crate::fault::WorkerFault;
+use crate::hold::holding_server;
+use crate::progress::{Counted, Progress, show};
+use crate::protocol::FIRST_CLIENT;
+use crate::server::server;
+use crate::settings::{Settings, Stacks};
+use crate::tally::{Tally, both};
+use crate::timed::{Stopwatch, Timed};
+use qbase::ids::ChannelId;
+use qshared::log::Log;
+use qshared::port::Port;
+use qshared::shared::Shared;
+use qshared::tie::Tie;
+use std::alloc::Global;
+use std::rt::Clock;
+use std::sync::Wait;
+use std::thread::{Builder, JoinHandle, Scope, Threads};
+
+/// How a worker ended, with the ports that it gives back.
+#[derive(Drop)]
+pub struct Ended<K: Tie> {
+    /// What it did, or its fault.
+    done: Result<Tally, WorkerFault>,
+    /// Its own port.
+    port: Port<K>,
+    /// The port of its alarm, if it had one.
+    alarm: Option<Port<K>>,
+    /// What its round trips took, in nanoseconds, if they were timed.
+    trips: Vec<u64>,
+}
+
+/// The threads of all workers of a kind.
+#[derive(Drop)]
+pub struct Started<K: Tie> {
+    /// Those that were started.
+    pub threads: Vec<JoinHandle<Ended<K>>>,
+    /// Whether all were.
+    pub all: Result<Tally, WorkerFault>,
+}
+
+/// How all workers of a kind ended.
+#[derive(Drop)]
+pub struct Joined<K: Tie> {
+    /// What they did together, or a fault.
+    pub done: Result<Tally, WorkerFault>,
+    /// Their ports, in the order in which they were started.
+    pub ports: Vec<Port<K>>,
+    /// The port of the alarm, if one of them had it.
+    pub alarm: Option<Port<K>>,
+    /// What the round trips of all took, in nanoseconds, if they were timed.
+    pub trips: Vec<u64>,
+}
+
+/// Where workers are started, and the kernel that they call.
+#[derive(Drop)]
+pub struct Stage<'s, X, K: Tie, L: Log, R> {
+    pub rt: &'s R,
+    pub alloc: Global,
+    pub scope: &'s Scope<'s, X>,
+    pub shared: &'s Shared<K, L>,
+    pub progress: &'s Progress,
+    pub stacks: Stacks,
+}
+
+impl<'s, X, K: Tie + Send + Sync, L: Log + Send, R: Threads + Wait + Clock + Eprint + Sync> Stage<
+    's,
+    X,
+    K,
+    L,
+    R,
+> {
+    /// Starts a client for each of these ports. Want of memory for a list of threads is an error before the first.
+    pub fn start_clients(
+        &self,
+        ports: Vec<Port<K>>,
+        chid: ChannelId,
+        settings: Settings,
+    ) -> Result<Started<K>, WorkerFault> {
+        let (rt, alloc, shared) = (self.rt, self.alloc, self.shared);
+        let progress = self.progress;
+        let mut threads = Vec::with_capacity(alloc, ports.len())?;
+        let mut all = Ok(Tally::new());
+        for port in ports {
+            let builder = Builder::new().stack_size(self.stacks.client);
+            let started = builder.spawn_scoped(self.scope, move || {
+                client_thread(rt, alloc, shared, progress, port, chid, settings)
+            });
+            match started {
+                Ok(thread) => threads.push(thread)?,
+                Err(_) => all = Err(WorkerFault::Unexpected),
+            }
+        }
+        Ok(Started { threads, all })
+    }
+
+    /// Starts a server for each of these ports. The first one that has an alarm holds a message.
+    pub fn start_servers(
+        &self,
+        ports: Vec<Port<K>>,
+        mut alarm: Option<Port<K>>,
+        chid: ChannelId,
+    ) -> Result<Started<K>, WorkerFault> {
+        let (rt, alloc, shared) = (self.rt, self.alloc, self.shared);
+        let mut threads = Vec::with_capacity(alloc, ports.len())?;
+        let mut all = Ok(Tally::new());
+        for port in ports {
+            let builder = Builder::new().stack_size(self.stacks.server);
+            let alarm = alarm.take();
+            let started = builder.spawn_scoped(self.scope, move || {
+                server_thread(rt, alloc, shared, port, alarm, chid)
+            });
+            match started {
+                Ok(thread) => threads.push(thread)?,
+                Err(_) => all = Err(WorkerFault::Unexpected),
+            }
+        }
+        Ok(Started { threads, all })
+    }
+
+    /// Shows how far a run of so many rounds is, until so many clients have ended.
+    pub fn show(&self, clients: u64, rounds: u64) {
+        show(self.rt, self.alloc, self.progress, clients, rounds);
+    }
+
+    /// Waits for all these threads to end. Where there is no memory for their ports, some may still run.
+    pub fn join_all(&self, threads: Vec<JoinHandle<Ended<K>>>) -> Result<Joined<K>, WorkerFault> {
+        let mut joined = Joined {
+            done: Ok(Tally::new()),
+            ports: Vec::with_capacity(self.alloc, threads.len())?,
+            alarm: None,
+            trips: Vec::new(self.alloc),
+        };
+        for thread in threads {
+            let Ended {
+                done,
+                port,
+                alarm,
+                mut trips,
+            } = thread.join(self.rt);
+            joined.done = both(joined.done, done);
+            joined.ports.push(port)?;
+            joined.trips.append(&mut trips)?;
+            if alarm.is_some() {
+                joined.alarm = alarm;
+            }
+        }
+        Ok(joined)
+    }
+}
+
+/// What a client's thread runs.
+fn client_thread<K: Tie, L: Log, R: Wait + Clock>(
+    rt: &R,
+    alloc: Global,
+    shared: &Shared<K, L>,
+    progress: &Progress,
+    port: Port<K>,
+    chid: ChannelId,
+    settings: Settings,
+) -> Ended<K> {
+    let number = port.thread().0.wrapping_sub(FIRST_CLIENT);
+    let port = Timed {
+        inner: KernelPort::new(port, shared),
+        stopwatch: Stopwatch::new(rt, alloc, settings.time),
+    };
+    let mut port = Counted::new(port, progress);
+    let done = client(rt, alloc, &mut port, chid, number, settings.rounds);
+    progress.end(rt);
+    let Timed { inner, stopwatch } = port.into_inner();
+    Ended {
+        done: both(done, stopwatch.all()),
+        port: inner.into_port(),
+        alarm: None,
+        trips: stopwatch.into_trips(),
+    }
+}
+
+/// What a server's thread runs, which holds a message where it has an alarm.
+fn server_thread<K: Tie, L: Log, R: Wait>(
+    rt: &R,
+    alloc: Global,
+    shared: &Shared<K, L>,
+    port: Port<K>,
+    alarm: Option<Port<K>>,
+    chid: ChannelId,
+) -> Ended<K> {
+    let mut port = KernelPort::new(port, shared);
+    let Some(alarm) = alarm else {
+        let done = server(rt, alloc, &mut port, chid);
+        let port = port.into_port();
+        return Ended {
+            done,
+            port,
+            alarm: None,
+            trips: Vec::new(alloc),
+        };
+    };
+    let mut alarm = KernelPort::new(alarm, shared);
+    let done = holding_server(rt, alloc, &mut port, &mut alarm, chid);
+    Ended {
+        done,
+        port: port.into_port(),
+        alarm: Some(alarm.into_port()),
+        trips: Vec::new(alloc),
+    }
+}

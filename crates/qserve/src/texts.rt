@@ -1,0 +1,46 @@
+//! What a demonstration prints.
+
+use crate::fault::ServeFault;
+use crate::tally::Tally;
+use crate::timing::Timing;
+use qscript::watched::Watched;
+use std::alloc::{AllocError, Global};
+use std::io::Write;
+
+/// What all workers did, how many events the kernel's trace has, and how long it took, if that was wanted.
+#[derive(Clone, Copy, Debug, PartialEq, Eq)]
+pub struct Totals {
+    pub tally: Tally,
+    pub events: usize,
+    pub timing: Option<Timing>,
+}
+
+/// The five lines.
+pub fn text_of(alloc: Global, totals: &Totals) -> Result<String, AllocError> {
+    let Tally {
+        sent,
+        answered,
+        pulses,
+        sum,
+    } = totals.tally;
+    let events = totals.events;
+    format!(in alloc;
+        "sent {sent}\nanswered {answered}\npulses {pulses}\nsum {sum}\nevents {events}\n"
+    )
+}
+
+/// Writes all the bytes. A write that takes none of some is a fault, or it would be tried for ever.
+pub fn write_all<W: Write>(writer: &mut Watched<W>, bytes: &[u8]) -> Result<(), ServeFault> {
+    let mut at = 0;
+    'writing: while at < bytes.len() {
+        let count = match writer.write(&bytes[at..]) {
+            Ok(count) => count,
+            Err(_) => return Err(ServeFault::Write),
+        };
+        if count == 0 {
+            return Err(ServeFault::Write);
+        }
+        at += count;
+    }
+    Ok(())
+}

@@ -1,0 +1,112 @@
+//! An endpoint that times what a client waits for.
+
+use crate::endpoint::Endpoint;
+use crate::fault::WorkerFault;
+use crate::tally::Tally;
+use qrules::call::{Call, Completion};
+use qshared::port::Called;
+use std::alloc::Global;
+use std::rt::Clock;
+use std::sync::Wait;
+use std::time::{Duration, Instant};
+
+/// What a thread's round trips took, by a clock. A round trip is from the call of a Send until its ending is collected.
+#[derive(Drop)]
+pub struct Stopwatch<'c, C> {
+    clock: &'c C,
+    /// Whether anything is timed.
+    on: bool,
+    /// When the Send was called that isn't collected.
+    start: Option<Instant>,
+    /// What each round trip took, in nanoseconds.
+    trips: Vec<u64>,
+    /// Whether there was memory for each, and the clock could be read.
+    all: Result<Tally, WorkerFault>,
+}
+
+impl<'c, C: Clock> Stopwatch<'c, C> {
+    /// A stopwatch that times nothing yet, and never does unless it is on.
+    pub fn new(clock: &'c C, alloc: Global, on: bool) -> Stopwatch<'c, C> {
+        Stopwatch {
+            clock,
+            on,
+            start: None,
+            trips: Vec::new(alloc),
+            all: Ok(Tally::new()),
+        }
+    }
+
+    /// A call is about to be made.
+    fn called(&mut self, call: &Call) {
+        self.start = None;
+        if !self.on || !matches!(call, Call::Send { .. }) {
+            return;
+        }
+        match Instant::now(self.clock) {
+            Ok(start) => self.start = Some(start),
+            Err(_) => self.all = Err(WorkerFault::Unexpected),
+        }
+    }
+
+    /// An ending was collected.
+    fn collected(&mut self) {
+        let Some(start) = self.start.take() else {
+            return;
+        };
+        let Ok(taken) = start.elapsed(self.clock) else {
+            self.all = Err(WorkerFault::Unexpected);
+            return;
+        };
+        if self.trips.push(nanoseconds_of(taken)).is_err() {
+            self.all = Err(WorkerFault::NoMemory);
+        }
+    }
+
+    /// Whether each round trip was timed.
+    pub fn all(&self) -> Result<Tally, WorkerFault> {
+        self.all
+    }
+
+    /// What each round trip took, in nanoseconds.
+    pub fn into_trips(self) -> Vec<u64> {
+        let Stopwatch { trips, .. } = self;
+        trips
+    }
+}
+
+/// The nanoseconds of a duration, of which 2^64 - 1 stand for more.
+pub fn nanoseconds_of(duration: Duration) -> u64 {
+    u64::try_from(duration.as_nanos()).unwrap_or(u64::MAX)
+}
+
+/// Passes calls on, and times each Send.
+#[derive(Drop)]
+pub struct Timed<'c, E, C> {
+    pub inner: E,
+    pub stopwatch: Stopwatch<'c, C>,
+}
+
+impl<'c, E: Endpoint, C: Clock> Endpoint for Timed<'c, E, C> {
+    ghost pending = { λ t. E.pending t.inner };
+
+    fn call<R: Wait>(&mut self, rt: &R, call: Call) -> Called {
+        self.stopwatch.called(&call);
+        let called = self.inner.call(rt, call);
+        if matches!(called, Called::Done(_)) {
+            self.stopwatch.collected();
+        }
+        called
+    }
+
+    fn poll(&mut self) -> Option<Completion> {
+        let completion = self.inner.poll()?;
+        self.stopwatch.collected();
+        Some(completion)
+    }
+
+    fn wait<R: Wait>(&mut self, rt: &R) -> Completion {
+        let completion = self.inner.wait(rt);
+        self.stopwatch.collected();
+        completion
+    }
+}

@@ -1,0 +1,95 @@
+//! How long a demonstration took, and each of its round trips.
+
+use crate::fault::WorkerFault;
+use crate::timed::nanoseconds_of;
+use std::alloc::{AllocError, Global};
+use std::rt::Clock;
+use std::time::Instant;
+
+/// How long a demonstration took, in nanoseconds.
+#[derive(Clone, Copy, Debug, PartialEq, Eq)]
+pub struct Timing {
+    /// From before the first worker is started until all have ended.
+    pub run: u64,
+    /// How many round trips were timed.
+    pub trips: u64,
+    /// What the shortest round trip took.
+    pub least: u64,
+    /// What half of them took at most.
+    pub median: u64,
+    /// What 99 of a hundred took at most.
+    pub ninety_ninth: u64,
+}
+
+impl Timing {
+    /// What a run comes to that took so long, with round trips that took so long.
+    pub fn of(run: u64, mut trips: Vec<u64>) -> Timing {
+        let trips = trips.as_mut_slice();
+        trips.sort_unstable();
+        Timing {
+            run,
+            trips: trips.len() as u64,
+            least: share(trips, 0),
+            median: share(trips, 50),
+            ninety_ninth: share(trips, 99),
+        }
+    }
+
+    /// How many round trips there were in a second.
+    pub fn rate(&self) -> u64 {
+        let run = u128::from(self.run.max(1));
+        let rate = u128::from(self.trips) * 1_000_000_000 / run;
+        u64::try_from(rate).unwrap_or(u64::MAX)
+    }
+}
+
+/// What so many of a hundred took at most, and at least one of them; 0 where there is none. The times rise.
+fn share(trips: &[u64], hundredths: usize) -> u64 {
+    let many = trips.len().saturating_mul(hundredths).div_ceil(100);
+    match trips.get(many.saturating_sub(1)) {
+        Some(nanoseconds) => *nanoseconds,
+        None => 0,
+    }
+}
+
+/// The time now, if the run is to be timed.
+pub fn start_of<C: Clock>(clock: &C, time: bool) -> Result<Option<Instant>, WorkerFault> {
+    if !time {
+        return Ok(None);
+    }
+    match Instant::now(clock) {
+        Ok(start) => Ok(Some(start)),
+        Err(_) => Err(WorkerFault::Unexpected),
+    }
+}
+
+/// How long a run took that has just ended, if it is timed.
+pub fn timing_of<C: Clock>(
+    clock: &C,
+    start: Option<Instant>,
+    trips: Vec<u64>,
+) -> Result<Option<Timing>, WorkerFault> {
+    let Some(start) = start else {
+        return Ok(None);
+    };
+    match start.elapsed(clock) {
+        Ok(taken) => Ok(Some(Timing::of(nanoseconds_of(taken), trips))),
+        Err(_) => Err(WorkerFault::Unexpected),
+    }
+}
+
+/// The five lines of `--time`.
+pub fn timing_text_of(alloc: Global, timing: &Timing) -> Result<String, AllocError> {
+    let (seconds, rest) = (timing.run / 1_000_000_000, timing.run % 1_000_000_000);
+    let micros = rest / 1_000;
+    let rate = timing.rate();
+    let Timing {
+        least,
+        median,
+        ninety_ninth,
+        ..
+    } = *timing;
+    format!(in alloc;
+        "seconds {seconds}.{micros:06}\nrate {rate}\nleast {least}\nmedian {median}\nninety-ninth {ninety_ninth}\n"
+    )
+}

@@ -1,0 +1,132 @@
+//! A server and clients on threads, over the kernel itself, where an ending is spoiled or the clients don't run at once.
+
+ghost use Rattle.qshared.specs.Naming.{AreParts};
+
+use crate::scripted::Spoiling;
+use qbase::errno::Errno;
+use qbase::flags::ChannelFlags;
+use qbase::ids::{ChannelId, ProcessNo, ThreadNo};
+use qbase::priority::Priority;
+use qserve::calls::channel_create;
+use qserve::client::client;
+use qserve::endpoint::KernelPort;
+use qserve::fault::WorkerFault;
+use qserve::hold::holding_server;
+use qserve::server::server;
+use qserve::tally::Tally;
+use qshared::kept::Kept;
+use qshared::parts::Parts;
+use qshared::port::Port;
+use qshared::shared::Shared;
+use qshared::tie::Tie;
+use qtables::roster::Roster;
+use std::alloc::Global;
+use std::marker::Brand;
+use std::sync::Wait;
+use std::thread::{Threads, join};
+
+/// How many events a trace may have here.
+const TRACE_LIMIT: u32 = 1 << 16;
+
+/// How many rounds a client makes here.
+const ROUNDS: u16 = 20;
+
+/// How a server and a client ended.
+#[derive(Drop)]
+pub struct Ends {
+    pub server: Result<Tally, WorkerFault>,
+    pub client: Result<Tally, WorkerFault>,
+}
+
+/// Threads 1, a server, 17 and 18, two clients, and 63, an alarm.
+fn parts(alloc: Global) -> Option<Parts> {
+    let mut roster = Roster::new(alloc);
+    for (thread, process) in [(1, 1), (17, 2), (18, 2), (63, 1)] {
+        let level = Priority::lowest();
+        roster
+            .add(ThreadNo(thread), ProcessNo(process), level)
+            .ok()?;
+    }
+    Parts::new(alloc, &roster, TRACE_LIMIT).ok()
+}
+
+/// A server and a client at once, each with an ending that is spoiled by this error, after so many calls.
+fn pair<K: Tie + Send + Sync, R: Threads + Wait + Sync>(
+    rt: &R,
+    alloc: Global,
+    parts: Parts,
+    server_left: u32,
+    client_left: u32,
+    errno: Errno,
+) -> Option<Ends>
+    requires named { AreParts K.roster K.cells K.name K.parts parts }
+{
+    let (shared, mut ports) = Shared::<K, Kept<K>>::open(alloc, parts).ok()?;
+    let mut alarm = KernelPort::new(ports.pop()?, &shared);
+    let chid = channel_create(rt, &mut alarm, ChannelFlags::of(0)).ok()?;
+    let _idle: Port<K> = ports.pop()?;
+    let mut client_port = Spoiling::new(KernelPort::new(ports.pop()?, &shared), client_left, errno);
+    let mut server_port = Spoiling::new(KernelPort::new(ports.pop()?, &shared), server_left, errno);
+    let (server, client) = join(
+        rt,
+        || -> Result<Tally, WorkerFault> { server(rt, alloc, &mut server_port, chid) },
+        || -> Result<Tally, WorkerFault> { client(rt, alloc, &mut client_port, chid, 0, ROUNDS) },
+    );
+    Some(Ends { server, client })
+}
+
+/// How a server and a client end, each with an ending that is spoiled by this error, after so many calls.
+pub fn ends_of<R: Threads + Wait + Sync>(
+    rt: &R,
+    alloc: Global,
+    server_left: u32,
+    client_left: u32,
+    errno: Errno,
+) -> Option<Ends> {
+    let parts = parts(alloc)?;
+    pair::<Brand, R>(rt, alloc, parts, server_left, client_left, errno)
+}
+
+/// One client after the other, each run to its end.
+fn in_turn<K: Tie, R: Wait>(
+    rt: &R,
+    alloc: Global,
+    shared: &Shared<K, Kept<K>>,
+    first: Port<K>,
+    second: Port<K>,
+    chid: ChannelId,
+) -> bool {
+    let mut first = KernelPort::new(first, shared);
+    let first = client(rt, alloc, &mut first, chid, 0, 1);
+    let mut second = KernelPort::new(second, shared);
+    let second = client(rt, alloc, &mut second, chid, 1, 1);
+    first.is_err() && second.is_err()
+}
+
+/// A server that holds a message, with clients in turn: whether all of them failed.
+fn held_in_turn<K: Tie + Send + Sync, R: Threads + Wait + Sync>(
+    rt: &R,
+    alloc: Global,
+    parts: Parts,
+) -> Option<bool>
+    requires named { AreParts K.roster K.cells K.name K.parts parts }
+{
+    let (shared, mut ports) = Shared::<K, Kept<K>>::open(alloc, parts).ok()?;
+    let mut alarm = KernelPort::new(ports.pop()?, &shared);
+    let chid = channel_create(rt, &mut alarm, ChannelFlags::of(0)).ok()?;
+    let second = ports.pop()?;
+    let first = ports.pop()?;
+    let mut port = KernelPort::new(ports.pop()?, &shared);
+    let (server, clients) = join(
+        rt,
+        || -> Result<Tally, WorkerFault> { holding_server(rt, alloc, &mut port, &mut alarm, chid) },
+        || -> bool { in_turn(rt, alloc, &shared, first, second, chid) },
+    );
+    Some(server == Err(WorkerFault::Unexpected) && clients)
+}
+
+/// Whether clients that run in turn fail where the server holds a message.
+pub fn fail_in_turn<R: Threads + Wait + Sync>(rt: &R, alloc: Global) -> Option<bool> {
+    let parts = parts(alloc)?;
+    held_in_turn::<Brand, R>(rt, alloc, parts)
+}
