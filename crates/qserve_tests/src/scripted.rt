@@ -1,6 +1,6 @@
 //! An endpoint whose answers are written down, and one that spoils an answer of the kernel.
 
-ghost use Rattle.std.specs.Prelude.{false};
+ghost use Rattle.std.specs.Option.{is_some};
 
 use qbase::errno::Errno;
 use qbase::ids::ThreadNo;
@@ -15,15 +15,19 @@ use std::sync::Wait;
 pub enum Told {
     /// It ends in its own event.
     Ends(Mark),
+    /// It is blocked, and ends so once it is waited for.
+    Later(Mark),
     /// It is no event.
     Refused(Errno),
 }
 
-/// Answers its calls as it was told to, and refuses those that come after. It blocks none.
+/// Answers its calls as it was told to, and refuses those that come after.
 #[derive(Drop)]
 pub struct Scripted<'a> {
     alloc: Global,
     told: &'a [Told],
+    /// How the call ends that is blocked.
+    later: Option<Completion>,
     /// Whether a Shutdown came.
     pub down: bool,
 }
@@ -33,13 +37,24 @@ impl<'a> Scripted<'a> {
         Scripted {
             alloc,
             told,
+            later: None,
             down: false,
+        }
+    }
+
+    /// The ending of a call with this mark.
+    fn ending(&self, call: Call, mark: Mark) -> Completion {
+        Completion {
+            call: 0,
+            thread: ThreadNo(0),
+            mark,
+            buffer: call.into_buffer(self.alloc),
         }
     }
 }
 
 impl<'a> Endpoint for Scripted<'a> {
-    ghost pending = { λ _. false };
+    ghost pending = { λ s. is_some s.later };
 
     fn call<R: Wait>(&mut self, _rt: &R, call: Call) -> Called {
         if let Call::Shutdown = &call {
@@ -48,12 +63,12 @@ impl<'a> Endpoint for Scripted<'a> {
         match self.told {
             [Told::Ends(mark), rest @ ..] => {
                 self.told = rest;
-                Called::Done(Completion {
-                    call: 0,
-                    thread: ThreadNo(0),
-                    mark: *mark,
-                    buffer: call.into_buffer(self.alloc),
-                })
+                Called::Done(self.ending(call, *mark))
+            }
+            [Told::Later(mark), rest @ ..] => {
+                self.told = rest;
+                self.later = Some(self.ending(call, *mark));
+                Called::Blocked
             }
             [Told::Refused(errno), rest @ ..] => {
                 self.told = rest;
@@ -64,11 +79,14 @@ impl<'a> Endpoint for Scripted<'a> {
     }
 
     fn poll(&mut self) -> Option<Completion> {
-        None
+        self.later.take()
     }
 
     fn wait<R: Wait>(&mut self, _rt: &R) -> Completion {
-        unreachable!()
+        match self.later.take() {
+            Some(completion) => completion,
+            None => unreachable!(),
+        }
     }
 }
 

@@ -17,6 +17,12 @@ const ATTACHED: Told = Told::Ends(Mark::Connection(ConnectionId(2)));
 
 const DONE: Told = Told::Ends(Mark::Ok);
 
+/// A message that comes once the Receive is waited for.
+const MESSAGE_LATER: Told = Told::Later(Mark::Message {
+    rcvid: ReceiveId(5),
+    copied: 4,
+});
+
 const NO_MEMORY: Told = Told::Ends(Mark::Failed(Errno::NoMemory));
 
 const REFUSED: Told = Told::Refused(Errno::NoMemory);
@@ -103,6 +109,7 @@ fn a_server_meets_an_unexpected_answer(rt: HostRuntime) {
     expect_server(&rt, alloc, &[other_code], fault);
     expect_server(&rt, alloc, &[disconnect], fault);
     expect_server(&rt, alloc, &[MESSAGE, GONE], fault);
+    expect_server(&rt, alloc, &[MESSAGE_LATER, GONE], fault);
     expect_server(&rt, alloc, &[MESSAGE, MESSAGE], fault);
     expect_server(&rt, alloc, &[MESSAGE, DONE, GONE], fault);
 }
@@ -127,7 +134,7 @@ fn user(code: i8, value: i32) -> Told {
 #[test]
 fn a_server_is_stopped(rt: HostRuntime) {
     let alloc = rt.alloc();
-    let told = [user(1, 9), MESSAGE, DONE, user(1, 8), user(127, 0)];
+    let told = [user(1, 9), MESSAGE_LATER, DONE, user(1, 8), user(127, 0)];
     let mut port = Scripted::new(alloc, &told);
     let done = server(&rt, alloc, &mut port, ChannelId(1));
     let Ok(tally) = done else {
