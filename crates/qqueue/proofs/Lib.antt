@@ -1,3 +1,4 @@
 pub mod BestLaws
+pub mod LevelLaws
 pub mod RisingLaws
 pub mod OrderLaws

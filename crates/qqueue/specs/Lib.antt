@@ -1,4 +1,5 @@
 pub mod Best
 pub mod Contents
+pub mod Levels
 pub mod Order
 pub mod Places

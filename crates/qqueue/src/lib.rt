@@ -3,5 +3,6 @@
 
 pub mod item;
 pub mod laws;
+mod levels;
 mod list;
 pub mod queue;

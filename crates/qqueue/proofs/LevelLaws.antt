@@ -1,0 +1,49 @@
+-- Words of bits: one bit of one word changed, and the greatest bit of a word.
+use Rattle.std.proofs.Common.{◌≡◌, ◌≢◌, ℕ, suc, ◌+◌, ◌-◌, ◌*◌, ◌/◌, ◌%◌, ◌^◌, ◌<◌, ◌≤◌, List, length, get_or, ap, ◌∙◌, arith, inl, inr}
+use Rattle.std.proofs.Math.ListN.{set}
+use Rattle.std.proofs.Math.Nat.{pow-suc}
+use Rattle.std.proofs.lemmas.Bool.{cases_eq}
+use Rattle.std.proofs.lemmas.List.{get_or-set_same, get_or-set_other}
+use Rattle.std.proofs.lemmas.Nat.{leading_top, div-mul-add}
+use Rattle.std.proofs.lemmas.Nat.Bits.{bit_at_above}
+use Rattle.std.specs.Int.{bit_at}
+use Rattle.std.specs.Int.Count.{count_leading_zeros}
+
+-- a word is written that differs from the old one at most in the bit of one level: the bits of all other levels stay
+pub other-kept : (words : List ℕ) (level other word : ℕ) → level / 64 < length words → other ≢ level → (other % 64 ≢ level % 64 → bit_at word (other % 64) ≡ bit_at (get_or words (level / 64) 0) (other % 64)) → bit_at (get_or (set words (level / 64) word) (other / 64) 0) (other % 64) ≡ bit_at (get_or words (other / 64) 0) (other % 64)
+other-kept words level other word within different same =
+    elim (cases_eq (other / 64) (level / 64)) [
+      | inl here ↦
+          let bits : other % 64 ≢ level % 64 = omega arith in
+          rw here (rw get_or-set_same (same bits))
+      | inr there ↦ rw get_or-set_other
+    ]
+
+-- the bit of a word that is written
+pub bit-written : (words : List ℕ) (level word : ℕ) → level / 64 < length words → bit_at (get_or (set words (level / 64) word) (level / 64) 0) (level % 64) ≡ bit_at word (level % 64)
+bit-written words level word within = rw get_or-set_same
+
+-- a number from a power of two up to the next has that bit
+top_bit : (word j : ℕ) → 2 ^ j ≤ word → word < 2 ^ suc j → bit_at word j ≡ 1
+top_bit word j low high =
+    let rest : ℕ = word - 2 ^ j in
+    let parts : word ≡ 1 * 2 ^ j + rest = omega arith in
+    let small : rest < 2 ^ j = omega (arith, pow-suc 2 j) in
+    let whole : word / 2 ^ j ≡ 1 = ap (λ n. n / 2 ^ j) parts ∙ div-mul-add 1 (2 ^ j) rest small in
+    ap (λ n. n % 2) whole
+
+-- the greatest bit of a word that isn't 0, by the zeros above it
+pub record IsGreatestBit (word bit : ℕ) : Type 0 where
+  pub within : bit < 64
+  pub here : bit_at word bit ≡ 1
+  pub above : (other : ℕ) → bit < other → bit_at word other ≡ 0
+
+pub greatest-bit : (word : ℕ) → 0 < word → word < 2 ^ 64 → IsGreatestBit word (63 - count_leading_zeros 64 word)
+greatest-bit word some fits =
+    let top = leading_top 64 word some fits in
+    let same : 63 - count_leading_zeros 64 word ≡ top.0 = omega (arith, top.1) in
+    rw same (record {
+      within = omega (arith, top.1);
+      here = top_bit word top.0 top.2 top.3;
+      above = λ other more. bit_at_above word (suc top.0) other top.3 (omega arith);
+    })
