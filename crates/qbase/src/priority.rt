@@ -5,7 +5,7 @@ ghost use Rattle.qbase.specs.Priority.{priority_of};
 
 use std::marker::Model;
 
-/// A priority from 1 to 63, the greater the more urgent; 0 is the idle thread's and is none here.
+/// A priority from 1 to 255, the greater the more urgent; 0 is the idle thread's and is none here.
 /// Contracts see its number.
 #[derive(Clone, Copy, Debug, PartialEq, Eq)]
 pub struct Priority {
@@ -17,17 +17,17 @@ impl Model for Priority {
 
     ghost view = { λ p. p.level };
 
-    ghost invariant = { λ p. (1 ≤ p.level) × (p.level ≤ 63) };
+    ghost invariant = { λ p. (1 ≤ p.level) × (p.level ≤ 255) };
 
     ghost inverse = { λ n. record { level = n } };
 }
 
 impl Priority {
-    /// The priority of a number; `None` outside 1 to 63.
+    /// The priority of a number; `None` for 0 alone.
     pub fn new(level: u8) -> Option<Priority>
         ensures { result ≡ priority_of level }
     {
-        if level >= 1 && level <= 63 {
+        if level >= 1 {
             Some(Priority { level })
         } else {
             None
@@ -45,7 +45,7 @@ impl Priority {
     pub fn get(self) -> u8
         ensures value { result ≡ self }
         ensures low { 1 ≤ result }
-        ensures high { result ≤ 63 }
+        ensures high { result ≤ 255 }
     {
         self.level
     }

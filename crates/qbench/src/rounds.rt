@@ -54,7 +54,7 @@ pub struct Course {
 
 /// The client's messages have the greatest priority.
 pub fn roster(alloc: Global) -> Result<Roster, Errno> {
-    let priority = Priority::new(63).ok_or(Errno::Inval)?;
+    let priority = Priority::new(255).ok_or(Errno::Inval)?;
     let mut roster = Roster::new(alloc);
     roster.add(SERVER, ProcessNo(1), priority)?;
     roster.add(CLIENT, ProcessNo(2), priority)?;

@@ -50,7 +50,7 @@ the call that made them.
   THREAD destroy CHANNEL
   THREAD shutdown
 
-A THREAD and a PROCESS are 0 to 255, a PRIORITY is 1 to 63, FLAGS are the sum
+A THREAD and a PROCESS are 0 to 255, a PRIORITY is 1 to 255, FLAGS are the sum
 of 1 (FIXED_PRIORITY), 2 (UNBLOCK) and 4 (DISCONNECT), and the CODE of a pulse
 is 0 to 127. Bytes are hexadecimal digits (0aff), so many equal ones (16x00), or
 - for none. Empty lines and lines whose first word begins with # are passed over.

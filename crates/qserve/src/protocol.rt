@@ -37,7 +37,7 @@ pub const REQUEST_LENGTH: usize = 16;
 
 /// The priority of a level.
 pub fn priority(level: u8) -> Priority
-    requires { (1 ≤ level) × (level ≤ 63) }
+    requires { 1 ≤ level }
 {
     let Some(priority) = Priority::new(level) else {
         unreachable!()

@@ -20,7 +20,7 @@ use std::alloc::Global;
 use std::process::Abort;
 use std::sync::Wait;
 
-/// A priority, which is 1 to 63.
+/// A priority, which is 1 to 255.
 pub fn priority(rt: &impl Abort, number: u8) -> Priority {
     Priority::new(number).expect(rt, "a priority")
 }
