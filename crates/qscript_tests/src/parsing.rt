@@ -35,13 +35,13 @@ fn expect_call(rt: &impl Abort, alloc: Global, line: &[u8]) -> Result<(), Fail> 
 
 #[test]
 fn reads_a_thread_of_the_roster(rt: HostRuntime) -> Result<(), Fail> {
-    let script = parse(rt.alloc(), b"thread 1 2 63")?;
+    let script = parse(rt.alloc(), b"thread 1 2 255")?;
     let [member] = script.roster.as_slice() else {
         return Err(Fail::from("one member"));
     };
     assert_eq!(rt; member.thread.0, 1);
     assert_eq!(rt; member.process.0, 2);
-    assert_eq!(rt; member.priority.get(), 63);
+    assert_eq!(rt; member.priority.get(), 255);
     Ok(())
 }
 
@@ -88,7 +88,7 @@ fn is_written(call: &Call) -> bool {
             priority,
             code,
             value,
-        } => coid.0 == 8 && priority.get() == 63 && *code == i8::MIN && *value == i32::MIN,
+        } => coid.0 == 8 && priority.get() == 255 && *code == i8::MIN && *value == i32::MIN,
         Call::PrioritySet { thread, priority } => thread.0 == 255 && priority.get() == 5,
         Call::State(thread) => thread.0 == 7,
         Call::Unblock(thread) => thread.0 == 7,
@@ -103,7 +103,7 @@ fn is_written(call: &Call) -> bool {
 #[test]
 fn reads_each_form(rt: HostRuntime) -> Result<(), Fail> {
     let text =
-        b"thread 1 2 63\n\n  # all forms\n1 create 4\r\n\t1  attach 7\n1 send 8 - 3xAb\n1 receive 7 00fF\n1 reply 9 -1 05\n1 error 9 -2\n1 read 9 3 2x01\n1 write 9 4 06\n1 info 9\n1 receivepulse 7\n1 pulse 8 63 -128 -2147483648\n1 setprio 255 5\n1 state 007\n1 destroy 7\n1 detach 8\n1 unblock 7\n1 shutdown".as_slice();
+        b"thread 1 2 64\n\n  # all forms\n1 create 4\r\n\t1  attach 7\n1 send 8 - 3xAb\n1 receive 7 00fF\n1 reply 9 -1 05\n1 error 9 -2\n1 read 9 3 2x01\n1 write 9 4 06\n1 info 9\n1 receivepulse 7\n1 pulse 8 255 -128 -2147483648\n1 setprio 255 5\n1 state 007\n1 destroy 7\n1 detach 8\n1 unblock 7\n1 shutdown".as_slice();
     let script = parse(rt.alloc(), text)?;
     assert_eq!(rt; script.calls.len(), 17);
     for (thread, call) in &script.calls {
@@ -136,8 +136,6 @@ fn names_the_fault_of_one_line(rt: HostRuntime) -> Result<(), Fail> {
         (b"thread 1 256 10", "line 1: bad number"),
         (b"thread 1 1 256", "line 1: bad number"),
         (b"thread 1 1 -1", "line 1: bad number"),
-        (b"thread 1 1 255", "line 1: bad priority"),
-        (b"thread 1 1 64", "line 1: bad priority"),
         (b"thread 1 1 0", "line 1: bad priority"),
         (b"1 create \x7f", "line 1: bad byte"),
         (b"1 create 0\r\r", "line 1: bad byte"),
@@ -189,7 +187,7 @@ word count: 1 pulse 1 1 0
 word count: 1 pulse 1 1 0 0 0
 bad number: 1 pulse x 0 0 0
 bad priority: 1 pulse 1 0 128 0
-bad priority: 1 pulse 1 64 0 0
+bad priority: 1 pulse 1 000 0 0
 bad number: 1 pulse 1 256 0 0
 bad number: 1 pulse 1 1 128 0
 bad number: 1 pulse 1 1 -129 0
@@ -199,7 +197,7 @@ word count: 1 setprio 1
 bad number: 1 setprio 256 1
 bad number: 1 setprio 1 256
 bad priority: 1 setprio 1 0
-bad priority: 1 setprio 1 64
+bad priority: 1 setprio 1 000
 word count: 1 state
 bad number: 1 state 256
 word count: 1 detach
@@ -249,6 +247,9 @@ fn takes_what_is_at_a_limit(rt: HostRuntime) -> Result<(), Fail> {
         b"001 create 00000000000000000000",
         b"1 attach 18446744073709551615",
         b"1 attach 00000000000000000001\r",
+        b"1 pulse 1 255 127 2147483647",
+        b"1 setprio 1 255",
+        b"1 setprio 1 00000000000000000064",
         b"1 reply 1 9223372036854775807 -",
         b"1 reply 1 -9223372036854775808 -",
         b"1 reply 1 -00000000000000000000 -",

@@ -57,6 +57,24 @@ fn a_fixed_priority_stays(rt: HostRuntime) -> Result<(), Fail> {
     )
 }
 
+// Priorities go up to 255, in a message, in a pulse, and in what is told of both and of threads.
+#[test]
+fn priorities_of_three_digits(rt: HostRuntime) -> Result<(), Fail> {
+    for (lines, text) in [
+        (
+            b"4 attach 1\n2 setprio 2 255\n3 setprio 3 64\n4 send 3 01 -\n3 send 2 02 -\n2 send 2 03 -\n1 receive 1 1x00\n1 state 1\n1 receive 1 1x00\n1 receive 1 1x00\n".as_slice(),
+            b"3 3 4 connection 3\n4 4 2 ok\n5 5 3 ok\n9 9 1 message 8 1 03\n10 10 1 state ready 255\n11 11 1 message 7 1 02\n12 12 1 message 6 1 01\nopen 8 2 reply 1\nopen 7 3 reply 1\nopen 6 4 reply 1\n".as_slice(),
+        ),
+        (
+            b"2 pulse 2 255 1 7\n2 setprio 2 128\n2 send 2 78 -\n1 receive 1 -\n1 state 1\n1 receive 1 1x00\n1 info 5\n3 state 2\n".as_slice(),
+            b"3 3 2 ok\n4 4 2 ok\n6 6 1 pulse 3 255 user 1 7 -\n7 7 1 state ready 255\n8 8 1 message 5 1 78\n9 9 1 info 2 2 2 1 1 0 128\n10 10 3 state reply 1 128\nopen 5 2 reply 1\n".as_slice(),
+        ),
+    ] {
+        expect_after_prelude(&rt, rt.alloc(), lines, text)?;
+    }
+    Ok(())
+}
+
 // A message has the priority that its sender had as it sent. Setting that later moves nothing that waits.
 #[test]
 fn a_message_keeps_its_priority(rt: HostRuntime) -> Result<(), Fail> {

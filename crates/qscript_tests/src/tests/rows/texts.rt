@@ -3,11 +3,12 @@
 use crate::tests::{expect_refusal, expect_text};
 use std::test::Fail;
 
-// No text, and threads alone.
+// No text, and threads alone: 64 is a priority.
 #[test]
 fn no_calls(rt: HostRuntime) {
     expect_text(&rt, rt.alloc(), b"", b"");
     expect_text(&rt, rt.alloc(), b"thread 1 1 10\nthread 2 2 20\n", b"");
+    expect_text(&rt, rt.alloc(), b"thread 1 1 64\n", b"");
 }
 
 // A faulty line is told, and nothing is run.
@@ -18,7 +19,7 @@ fn refused(rt: HostRuntime) -> Result<(), Fail> {
             b"thread 1 1 10\n1 create\n".as_slice(),
             "line 2: word count",
         ),
-        (b"thread 1 1 64\n".as_slice(), "line 1: bad priority"),
+        (b"thread 1 1 0\n".as_slice(), "line 1: bad priority"),
         (
             b"thread 1 1 10\n1 send 2 abc -\n".as_slice(),
             "line 2: bad bytes",
