@@ -47,10 +47,10 @@ REQUESTS = {
     "Kernel::new": 1,
     "ChannelCreate": 2,
     "ConnectAttach": 2,
-    "Send": 1,
-    "Pulse": 1,
-    "Unblock": 1,
-    "ConnectDetach": 1,
+    "Send": 3,
+    "Pulse": 3,
+    "Unblock": 3,
+    "ConnectDetach": 3,
 }
 
 

@@ -1,4 +1,10 @@
 pub mod BestLaws
+pub mod KeptLaws
+pub mod LaneLaws
 pub mod LevelLaws
-pub mod RisingLaws
 pub mod OrderLaws
+pub mod PadLaws
+pub mod PlaceLaws
+pub mod RingLaws
+pub mod RisingLaws
+pub mod TakenLaws

@@ -14,10 +14,10 @@ use Rattle.qqueue.specs.Order.{comes_before, BestIsFirst, NoBestIfNoneMayBeTaken
 use Rattle.qbase.proofs.Lists.{all_more}
 
 -- of greater priority, or of equal priority and made first
-before-from : (a b : Item) → (b.priority < a.priority) ⊎ ((a.priority ≡ b.priority) × (a.number < b.number)) → comes_before a b ≡ true
+pub before-from : (a b : Item) → (b.priority < a.priority) ⊎ ((a.priority ≡ b.priority) × (a.number < b.number)) → comes_before a b ≡ true
 before-from a b h = grind (arith, nat_tests)
 
-before-transitive : (a b c : Item) → comes_before a b ≡ true → comes_before b c ≡ true → comes_before a c ≡ true
+pub before-transitive : (a b c : Item) → comes_before a b ≡ true → comes_before b c ≡ true → comes_before a c ≡ true
 before-transitive a b c ab bc = grind (arith, nat_tests)
 
 -- of an item and the best behind it, the one that is received first
@@ -62,7 +62,7 @@ best-at P kind (y ∷ items) x all best =
     ]
 
 -- the best may be taken
-best-may : (kind : Kind) (items : List Item) (x : Item) → best_of kind items ≡ Some x → may_take kind x ≡ true
+pub best-may : (kind : Kind) (items : List Item) (x : Item) → best_of kind items ≡ Some x → may_take kind x ≡ true
 best-may kind [] x best = absurd (none-some x best)
 best-may kind (y ∷ items) x best =
     elim (chosen kind y items x best) [
@@ -86,7 +86,7 @@ none-may kind (y ∷ items) none =
     ] refl none
 
 -- where no item may be taken, there is no best
-may-none : (kind : Kind) (items : List Item) → AllByRecursion (λ w. may_take kind w ≡ false) items → best_of kind items ≡ None
+pub may-none : (kind : Kind) (items : List Item) → AllByRecursion (λ w. may_take kind w ≡ false) items → best_of kind items ≡ None
 may-none kind [] all = refl
 may-none kind (y ∷ items) all = rw all.0 (may-none kind items all.1)
 

@@ -1,5 +1,8 @@
 pub mod Best
 pub mod Contents
+pub mod Joins
+pub mod Kept
+pub mod Lanes
 pub mod Levels
 pub mod Order
-pub mod Places
+pub mod Rings

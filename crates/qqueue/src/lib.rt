@@ -2,7 +2,10 @@
 #![tactic(auto)]
 
 pub mod item;
+mod lane;
 pub mod laws;
 mod levels;
-mod list;
+mod links;
+mod lists;
+mod node;
 pub mod queue;

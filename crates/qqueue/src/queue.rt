@@ -1,13 +1,16 @@
 //! The queue of one channel.
 
-ghost use Rattle.std.specs.Prelude.{◌≡◌, ◌==◌, ◌+◌, ◌<◌, ◌≤◌, [], ◌∷◌, ◌++◌, length, count_by, IsOk, OnOk, OnErr, IfErr, IfSome, IfNone, option_copied};
+ghost use Rattle.std.specs.Prelude.{◌≡◌, ◌==◌, ◌+◌, ◌<◌, ◌≤◌, [], ◌∷◌, ◌++◌, length, count_by, IsOk, OnOk, OnErr, IfErr, IfSome, IfNone, IsSome, option_copied};
 ghost use Rattle.std.specs.List.{AllByRecursion};
 ghost use Rattle.qbase.specs.declared.errno.Errno.TheVariants.{NoMemory};
 ghost use Rattle.qqueue.specs.Best.{best_of, without, numbered, is_pulse};
 ghost use Rattle.qqueue.specs.Contents.{IsRising};
+ghost use Rattle.qqueue.specs.Kept.{IsKept};
+ghost use Rattle.qqueue.specs.Rings.{places_of, items_at, item_of, pulses_of};
 
 use crate::item::{Item, Kind};
-use crate::list::{append, place_of_best, place_of_number, take_at};
+use crate::links::key_of;
+use crate::lists::Lists;
 use qbase::errno::Errno;
 use std::alloc::Global;
 use std::marker::Model;
@@ -16,19 +19,40 @@ use std::marker::Model;
 /// were sent. Contracts see its items and the room that is reserved for more; how they are kept isn't seen.
 #[derive(Debug, Drop)]
 pub struct Queue {
-    items: Vec<Item>,
+    lists: Lists,
+    // How many of the items are pulses.
+    pulses: usize,
 }
 
 impl Model for Queue {
-    ghost use Rattle.std.specs.Prelude.{◌-◌};
-    ghost use Rattle.std.specs.Vec.{vec_len, vec_capacity};
-    ghost use Rattle.qqueue.specs.Contents.{Contents, IsRising};
+    ghost use Rattle.std.specs.Prelude.{◌≡◌};
+    ghost use Rattle.qqueue.specs.Contents.{Contents};
+    ghost use Rattle.qqueue.specs.Kept.{IsKept};
+    ghost use Rattle.qqueue.specs.Rings.{places_of, items_at, pulses_of};
 
     ghost Value = { Contents };
 
-    ghost view = { λ q. record { items = q.items.items; room = vec_capacity q.items - vec_len q.items } };
+    ghost view = { λ q. record { items = items_at (places_of q.lists.nodes); room = q.lists.room } };
 
-    ghost invariant = { λ q. IsRising q.items.items };
+    ghost invariant = { λ q. IsKept q.lists × (q.pulses ≡ pulses_of (items_at (places_of q.lists.nodes))) };
+}
+
+/// Takes out the item under a key, and counts the pulses that are left.
+fn take_out(lists: &mut Lists, pulses: &mut usize, key: usize) -> Item
+    requires kept { IsKept lists.old }
+    requires there { IsSome (item_of lists.old.nodes key) }
+    requires counted { pulses.old ≡ pulses_of (items_at (places_of lists.old.nodes)) }
+    ensures item { item_of lists.old.nodes key ≡ Some result }
+    ensures rest { items_at (places_of lists.new.nodes) ≡ without result.number (items_at (places_of lists.old.nodes)) }
+    ensures kept { IsKept lists.new }
+    ensures room { lists.old.room ≤ lists.new.room }
+    ensures counted { pulses.new ≡ pulses_of (items_at (places_of lists.new.nodes)) }
+{
+    let item = lists.take_out(key);
+    if item.what.is_pulse() {
+        *pulses -= 1;
+    }
+    item
 }
 
 impl Queue {
@@ -37,7 +61,8 @@ impl Queue {
         ensures { result ≡ record { items = []; room = 0 } }
     {
         Queue {
-            items: Vec::new(alloc),
+            lists: Lists::new(alloc),
+            pulses: 0,
         }
     }
 
@@ -52,7 +77,7 @@ impl Queue {
         ensures error { IfErr result (λ e. e ≡ NoMemory) }
         ensures err { OnErr result (self.new ≡ self.old) }
     {
-        self.items.reserve(n).map_err(|_| Errno::NoMemory)
+        self.lists.reserve(n).map_err(|_| Errno::NoMemory)
     }
 
     /// Puts an item behind all others, into the room that was reserved; takes no memory: just one place of the
@@ -63,15 +88,20 @@ impl Queue {
         ensures items { self.new.items ≡ self.old.items ++ item ∷ [] }
         ensures room { self.new.room + 1 ≡ self.old.room }
     {
-        append(&mut self.items, item);
+        self.lists.append(item);
+        if item.what.is_pulse() {
+            let counted = self.pulses < self.lists.nodes.len();
+            prove!(counted);
+            self.pulses += 1;
+        }
     }
 
     /// The item that `take` would give.
     pub fn best(&self, kind: Kind) -> Option<&Item>
         ensures { option_copied result ≡ best_of kind self.now.items }
     {
-        let place = place_of_best(&self.items, kind)?;
-        Some(&self.items[place])
+        let key = self.lists.best(kind)?;
+        Some(&self.lists.nodes[key].item)
     }
 
     /// Takes out the item of greatest priority that a receive of this kind may take; among equals the one
@@ -82,8 +112,8 @@ impl Queue {
         ensures unchanged { IfNone result (self.new ≡ self.old) }
         ensures room { self.old.room ≤ self.new.room }
     {
-        let best = place_of_best(&self.items, kind)?;
-        Some(take_at(&mut self.items, best))
+        let best = self.lists.best(kind)?;
+        Some(take_out(&mut self.lists, &mut self.pulses, best))
     }
 
     /// Takes out the item of this number, whatever its priority.
@@ -93,8 +123,8 @@ impl Queue {
         ensures unchanged { IfNone result (self.new ≡ self.old) }
         ensures room { self.old.room ≤ self.new.room }
     {
-        let place = place_of_number(&self.items, number)?;
-        Some(take_at(&mut self.items, place))
+        let key = key_of(&self.lists.nodes, number)?;
+        Some(take_out(&mut self.lists, &mut self.pulses, key))
     }
 
     /// How many items wait.
@@ -102,23 +132,20 @@ impl Queue {
         ensures count { result ≡ length self.now.items }
         ensures rising { IsRising self.now.items }
     {
-        self.items.len()
+        self.lists.nodes.len()
     }
 
     /// Whether none waits.
     pub fn is_empty(&self) -> bool
         ensures { result ≡ (length self.now.items == 0) }
     {
-        self.items.is_empty()
+        self.lists.nodes.is_empty()
     }
 
     /// How many of the items are pulses, the kernel's own among them.
     pub fn pulses(&self) -> usize
         ensures { result ≡ count_by (λ x. is_pulse x.what) self.now.items }
     {
-        self.items
-            .iter()
-            .filter(|item| item.what.is_pulse())
-            .count()
+        self.pulses
     }
 }

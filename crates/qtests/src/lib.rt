@@ -12,6 +12,8 @@ mod logging;
 #[cfg(test)]
 mod making;
 #[cfg(test)]
+mod pending;
+#[cfg(test)]
 mod queue;
 #[cfg(test)]
 mod running;

@@ -1,28 +1,29 @@
-use Rattle.std.proofs.Common.{◌≡◌, ap, sym, ◌∙◌}
-use Rattle.std.specs.Prelude.{None, Some, slice_get}
+use Rattle.std.proofs.Common.{◌≡◌, ◌≢◌, ap, sym, ◌∙◌}
+use Rattle.std.specs.List.{AllByRecursion}
 use Rattle.qqueue.specs.Best.{numbered, without}
-use Rattle.qqueue.proofs.RisingLaws.{numbered-position, numbered-number, without-none}
+use Rattle.qqueue.specs.Rings.{places_of, items_at}
+use Rattle.qqueue.proofs.PlaceLaws.{all_places, numbered_in, numbered_nowhere}
+use Rattle.qqueue.proofs.KeptLaws.{placed}
 use Rattle.qqueue.proofs.queue.Queue.remove.Goals as goal
 
-nowhere : (c : goal.After-from_residual) → numbered c.args.number c.args.self.now.items ≡ None
+nowhere : (c : goal.After-from_residual) → AllByRecursion (λ p. p.0.number ≢ c.args.number) (places_of c.self.inside.lists.nodes)
 nowhere c =
-    sym (numbered-position c.args.number c.args.self.now.items c.deref.result.now None (c.deref.ensures.value ∙ ap (λ s. s.items) c.self.view_is) c.in_err-place.ensures.first)
+    all_places (λ p. p.0.number ≢ c.args.number) 0 c.self.inside.lists.nodes.slots (λ k item there. rw there at (c.in_err-key.ensures.absent k))
 
-found : (c : goal.After-take_at) → Some c.take_at.result ≡ numbered c.args.number c.args.self.now.items
-found c =
-    sym c.take_at.ensures.item ∙ ap (λ items. slice_get items c.in_ok-place.place) (sym c.deref.ensures.value)
-    ∙ numbered-position c.args.number c.args.self.now.items c.deref.result.now (Some c.in_ok-place.place) (c.deref.ensures.value ∙ ap (λ s. s.items) c.self.view_is) c.in_ok-place.ensures.first
+pub returns-in_err-key-clause-found : goal.returns-in_err-key-clause-found
+returns-in_err-key-clause-found c =
+    c.from_residual.ensures ∙ sym (numbered_nowhere c.args.number (places_of c.self.inside.lists.nodes) (nowhere c)).0 ∙ ap (λ q. numbered c.args.number q.items) c.self.view_is
 
-pub returns-in_err-place-clause-found : goal.returns-in_err-place-clause-found
-returns-in_err-place-clause-found c = c.from_residual.ensures ∙ sym (nowhere c)
-
-pub returns-in_err-place-clause-rest : goal.returns-in_err-place-clause-rest
-returns-in_err-place-clause-rest c = sym (without-none c.args.number c.args.self.now.items (nowhere c))
+pub returns-in_err-key-clause-rest : goal.returns-in_err-key-clause-rest
+returns-in_err-key-clause-rest c =
+    ap (λ q. q.items) (sym c.self.view_is) ∙ sym (numbered_nowhere c.args.number (places_of c.self.inside.lists.nodes) (nowhere c)).1 ∙ ap (λ q. without c.args.number q.items) c.self.view_is
 
 pub returns-clause-found : goal.returns-clause-found
-returns-clause-found c = found c
-
-pub returns-clause-rest : goal.returns-clause-rest
-returns-clause-rest c =
-    c.take_at.ensures.rest ∙ ap (λ s. without c.take_at.result.number s.items) c.self.view_is
-    ∙ ap (λ n. without n c.args.self.now.items) (numbered-number c.args.number c.args.self.now.items c.take_at.result (sym (found c)))
+returns-clause-found c =
+    let nodes = c.self.inside.lists.nodes in
+    let key = c.in_ok-key.key in
+    let item = c.take_out.result in
+    let number : item.number ≡ c.args.number = rw c.take_out.ensures.item at c.in_ok-key.ensures.found in
+    sym (ap (λ q. numbered c.args.number q.items) (sym c.self.view_is)
+    ∙ ap (λ n. numbered n (items_at (places_of nodes))) (sym number)
+    ∙ numbered_in (item, key) (places_of nodes) c.self.invariant.0.rises (placed nodes key item c.take_out.ensures.item))

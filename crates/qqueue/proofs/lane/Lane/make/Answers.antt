@@ -1,0 +1,13 @@
+use Rattle.std.proofs.Common.{◌-◌, ◌≤◌, length, Some, None, cond, ap, arith}
+use Rattle.std.specs.Result.{is_ok}
+use Rattle.std.specs.Vec.{vec_len}
+use Rattle.qqueue.specs.Levels.{has}
+use Rattle.qqueue.proofs.PadLaws.{resized}
+use Rattle.qqueue.proofs.lane.Lane.make.Goals as goal
+
+pub returns-clause-kept : goal.returns-clause-kept
+returns-clause-kept c level =
+    let old = c.args.self.now.firsts in
+    let short : length old.items ≤ 256 = omega (arith, c.requires, old.ok.0) in
+    ap (λ key. cond (has c.args.self.now.levels level) (Some key) None)
+    (resized (is_ok c.resize.result) old.items c.resize.new.self.items 256 (256 - vec_len old) short c.resize.ensures.items level)

@@ -1,0 +1,12 @@
+use Rattle.std.proofs.Common.{◌≡◌, ◌≢◌, ◌⊎◌, ℕ, Some, Contains}
+use Rattle.slab.specs.Slab.{get}
+use Rattle.qqueue.specs.declared.node.Node.{Node}
+use Rattle.qqueue.proofs.links.key_of.Given as goal
+
+-- what is left are nodes of the slab, and each other node of the slab has another number
+abbrev pub invariant-loop-key : goal.invariant-loop-key
+invariant-loop-key l =
+    (goal.iterator-loop-key).can_next l.key-iterator ×
+    (goal.iterator-loop-key).is_finite l.key-iterator ×
+    ((key : ℕ) (node : Node) → get l.nodes key ≡ Some node → Contains l.key-iterator (key, node) ⊎ (node.item.number ≢ l.number)) ×
+    ((key : ℕ) (node : Node) → Contains l.key-iterator (key, node) → get l.nodes key ≡ Some node)

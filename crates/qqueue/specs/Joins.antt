@@ -1,0 +1,31 @@
+-- What one node more on a ring, and one less, makes of the nodes and the first keys.
+use Rattle.std.specs.Prelude.{◌≡◌, ◌≢◌, ℕ, Option, None, Some}
+use Rattle.slab.specs.Slab.{Slab}
+use Rattle.qqueue.specs.declared.node.Node.{Node}
+use Rattle.qqueue.specs.Rings.{item_of, after_of, before_of, Linked}
+
+-- all links are as they were, but that after u, that before v, and those of p
+pub record Relinked (old new : Slab Node) (u v p : ℕ) : Type 0 where
+  pub after : (x : ℕ) → x ≢ u → x ≢ p → after_of new x ≡ after_of old x
+  pub before : (x : ℕ) → x ≢ v → x ≢ p → before_of new x ≡ before_of old x
+
+-- every link is as it was
+pub record SameLinks (old new : Slab Node) : Type 0 where
+  pub after : (x : ℕ) → after_of new x ≡ after_of old x
+  pub before : (x : ℕ) → before_of new x ≡ before_of old x
+
+-- the node stands behind the last of the level's ring, or alone where there was none
+pub record Extended (first after_first : ℕ → Option ℕ) (old new : Slab Node) (level key : ℕ) : Type 0 where
+  pub items : (x : ℕ) → item_of new x ≡ item_of old x
+  pub others : (other : ℕ) → other ≢ level → after_first other ≡ first other
+  pub alone : first level ≡ None → (after_first level ≡ Some key) × SameLinks old new
+  pub behind : (head last : ℕ) → first level ≡ Some head → before_of old head ≡ Some last → (after_first level ≡ Some head) × Linked new last key × Linked new key head × Relinked old new last head key
+
+-- the neighbours of a node that was taken out stand beside one another; the level has none where it stood alone
+pub record ClosedUp (first after_first : ℕ → Option ℕ) (old new : Slab Node) (key : ℕ) (node : Node) : Type 0 where
+  pub items : (x : ℕ) → item_of new x ≡ item_of old x
+  pub others : (other : ℕ) → other ≢ node.item.priority → after_first other ≡ first other
+  pub alone : node.after ≡ key → (after_first node.item.priority ≡ None) × SameLinks old new
+  pub closed : node.after ≢ key → Linked new node.before node.after × Relinked old new node.before node.after key
+  pub from_first : node.after ≢ key → first node.item.priority ≡ Some key → after_first node.item.priority ≡ Some node.after
+  pub from_other : node.after ≢ key → first node.item.priority ≢ Some key → after_first node.item.priority ≡ first node.item.priority

@@ -1,0 +1,87 @@
+//! The first nodes of the rings of one kind of items, a ring for each level.
+
+ghost use Rattle.std.specs.Prelude.{◌≡◌, ◌≢◌, ◌≤◌, ℕ, None, Some, IfSome, IfNone, OnOk, OnErr};
+ghost use Rattle.std.specs.Vec.{vec_len, vec_capacity};
+ghost use Rattle.qqueue.specs.Lanes.{first_in, IsForemost};
+
+use crate::levels::Levels;
+use std::alloc::{AllocError, Global};
+
+/// How many levels there are.
+const LEVELS: usize = 256;
+
+/// Which levels have nodes, and the key of each one's first node. A key means something only where its level
+/// is in the set.
+#[derive(Debug, Drop)]
+pub struct Lane {
+    /// The levels that have a node.
+    pub levels: Levels,
+    /// The keys of the first nodes, by level; none until room is made.
+    pub firsts: Vec<usize>,
+}
+
+impl Lane {
+    /// No level has a node; takes no memory.
+    pub fn new(alloc: Global) -> Lane
+        ensures none { (level : ℕ) → first_in result level ≡ None }
+        ensures empty { vec_len result.firsts ≡ 0 }
+        ensures capacity { vec_capacity result.firsts ≡ 0 }
+    {
+        Lane {
+            levels: Levels::new(),
+            firsts: Vec::new(alloc),
+        }
+    }
+
+    /// Makes room for the keys, if there is none.
+    pub fn make(&mut self) -> Result<(), AllocError>
+        requires { vec_len self.old.firsts ≤ 256 }
+        ensures made { OnOk result (vec_len self.new.firsts ≡ 256) }
+        ensures err { OnErr result (vec_len self.new.firsts ≡ vec_len self.old.firsts) }
+        ensures kept { (level : ℕ) → first_in self.new level ≡ first_in self.old level }
+    {
+        self.firsts.resize(LEVELS, 0)
+    }
+
+    /// The key of a level's first node.
+    pub fn first(&self, level: u8) -> Option<usize>
+        requires { vec_len self.now.firsts ≡ 256 }
+        ensures { result ≡ first_in self.now level }
+    {
+        if self.levels.has(level) {
+            Some(self.firsts[level as usize])
+        } else {
+            None
+        }
+    }
+
+    /// Lets a level begin with a node.
+    pub fn set(&mut self, level: u8, key: usize)
+        requires { vec_len self.old.firsts ≡ 256 }
+        ensures set { first_in self.new level ≡ Some key }
+        ensures others { (other : ℕ) → other ≢ level → first_in self.new other ≡ first_in self.old other }
+        ensures len { vec_len self.new.firsts ≡ vec_len self.old.firsts }
+    {
+        self.firsts[level as usize] = key;
+        self.levels.add(level);
+    }
+
+    /// Lets a level have no node.
+    pub fn clear(&mut self, level: u8)
+        ensures cleared { first_in self.new level ≡ None }
+        ensures others { (other : ℕ) → other ≢ level → first_in self.new other ≡ first_in self.old other }
+        ensures len { vec_len self.new.firsts ≡ vec_len self.old.firsts }
+    {
+        self.levels.remove(level);
+    }
+
+    /// The greatest level that has a node, and the key of its first node.
+    pub fn foremost(&self) -> Option<(u8, usize)>
+        requires { (level key : ℕ) → first_in self.now level ≡ Some key → vec_len self.now.firsts ≡ 256 }
+        ensures some { IfSome result (λ found. IsForemost (first_in self.now) found) }
+        ensures none { IfNone result ((level : ℕ) → first_in self.now level ≡ None) }
+    {
+        let level = self.levels.greatest()?;
+        Some((level, self.firsts[level as usize]))
+    }
+}

@@ -1,0 +1,84 @@
+//! Links between nodes.
+
+ghost use Rattle.std.specs.Prelude.{◌≡◌, ◌≢◌, ◌+◌, ◌==◌, ℕ, None, Some, IfSome, IfNone, IsSome};
+ghost use Rattle.slab.specs.Slab.{get, slab_len, HasRoomFor};
+ghost use Rattle.qqueue.specs.Rings.{after_of, before_of, item_of, Linked};
+
+use crate::item::Item;
+use crate::node::Node;
+use slab::Slab;
+
+/// Writes which node stands after one.
+fn set_after(nodes: &mut Slab<Node>, key: usize, after: usize)
+    requires { IsSome (item_of nodes.old key) }
+    ensures set { after_of nodes.new key ≡ Some after }
+    ensures others { (x : ℕ) → x ≢ key → after_of nodes.new x ≡ after_of nodes.old x }
+    ensures before { (x : ℕ) → before_of nodes.new x ≡ before_of nodes.old x }
+    ensures items { (x : ℕ) → item_of nodes.new x ≡ item_of nodes.old x }
+    ensures len { slab_len nodes.new ≡ slab_len nodes.old }
+    ensures capacity { nodes.new.capacity ≡ nodes.old.capacity }
+{
+    nodes[key].after = after;
+}
+
+/// Writes which node stands before one.
+fn set_before(nodes: &mut Slab<Node>, key: usize, before: usize)
+    requires { IsSome (item_of nodes.old key) }
+    ensures set { before_of nodes.new key ≡ Some before }
+    ensures others { (x : ℕ) → x ≢ key → before_of nodes.new x ≡ before_of nodes.old x }
+    ensures after { (x : ℕ) → after_of nodes.new x ≡ after_of nodes.old x }
+    ensures items { (x : ℕ) → item_of nodes.new x ≡ item_of nodes.old x }
+    ensures len { slab_len nodes.new ≡ slab_len nodes.old }
+    ensures capacity { nodes.new.capacity ≡ nodes.old.capacity }
+{
+    nodes[key].before = before;
+}
+
+/// Lets the second node stand after the first, and the first before the second.
+pub fn link(nodes: &mut Slab<Node>, first: usize, second: usize)
+    requires first_there { IsSome (item_of nodes.old first) }
+    requires second_there { IsSome (item_of nodes.old second) }
+    ensures linked { Linked nodes.new first second }
+    ensures after { (x : ℕ) → x ≢ first → after_of nodes.new x ≡ after_of nodes.old x }
+    ensures before { (x : ℕ) → x ≢ second → before_of nodes.new x ≡ before_of nodes.old x }
+    ensures items { (x : ℕ) → item_of nodes.new x ≡ item_of nodes.old x }
+    ensures len { slab_len nodes.new ≡ slab_len nodes.old }
+    ensures capacity { nodes.new.capacity ≡ nodes.old.capacity }
+{
+    set_after(nodes, first, second);
+    set_before(nodes, second, first);
+}
+
+/// Adds a node that is a ring of its own, into the room that there is.
+pub fn add(nodes: &mut Slab<Node>, item: Item) -> usize
+    requires { HasRoomFor nodes.old 1 }
+    ensures free { item_of nodes.old result ≡ None }
+    ensures item { item_of nodes.new result ≡ Some item }
+    ensures alone { Linked nodes.new result result }
+    ensures items { (x : ℕ) → x ≢ result → item_of nodes.new x ≡ item_of nodes.old x }
+    ensures after { (x : ℕ) → x ≢ result → after_of nodes.new x ≡ after_of nodes.old x }
+    ensures before { (x : ℕ) → x ≢ result → before_of nodes.new x ≡ before_of nodes.old x }
+    ensures len { slab_len nodes.new ≡ slab_len nodes.old + 1 }
+    ensures capacity { nodes.new.capacity ≡ nodes.old.capacity }
+{
+    let key = nodes.vacant_key();
+    nodes.insert_reserved(Node {
+        item,
+        before: key,
+        after: key,
+    })
+}
+
+/// The key of the item of a number, by a look at each node.
+pub fn key_of(nodes: &Slab<Node>, number: u64) -> Option<usize>
+    ensures found { IfSome result (λ key. IfSome (item_of nodes.now key) (λ item. item.number ≡ number)) }
+    ensures there { IfSome result (λ key. IsSome (item_of nodes.now key)) }
+    ensures absent { IfNone result ((key : ℕ) → IfSome (item_of nodes.now key) (λ item. item.number ≢ number)) }
+{
+    for (key, node) in nodes.iter() {
+        if node.item.number == number {
+            return Some(key);
+        }
+    }
+    None
+}

@@ -1,0 +1,214 @@
+//! The nodes of a queue and its rings: one more item, one taken out, the best.
+
+ghost use Rattle.std.specs.Prelude.{◌≡◌, ◌≢◌, ◌+◌, ◌<◌, ◌≤◌, ℕ, [], ◌∷◌, ◌++◌, None, Some, IfSome, IfNone, IsSome, OnOk, OnErr, IsOk, if◌then◌else◌};
+ghost use Rattle.std.specs.List.{AllByRecursion};
+ghost use Rattle.std.specs.Vec.{vec_len, vec_capacity};
+ghost use Rattle.slab.specs.Slab.{slab_len};
+ghost use Rattle.qqueue.specs.Best.{best_of, is_pulse, without};
+ghost use Rattle.qqueue.specs.Lanes.{first_in, IsEarlier, IsForemost};
+ghost use Rattle.qqueue.specs.Rings.{places_of, items_at, pulses_of, after_of, before_of, item_of, item_at, Linked};
+ghost use Rattle.qqueue.specs.Joins.{Extended, ClosedUp};
+
+use crate::item::{Item, Kind};
+use crate::lane::Lane;
+use crate::links::{add, link};
+use crate::node::Node;
+use slab::Slab;
+use std::alloc::{AllocError, Global};
+
+/// Nodes, and for each level a ring of messages and a ring of pulses, each in rising number.
+#[derive(Debug, Drop)]
+pub struct Lists {
+    /// The rings of messages.
+    pub messages: Lane,
+    /// The rings of pulses.
+    pub pulses: Lane,
+    /// The nodes of both.
+    pub nodes: Slab<Node>,
+    /// For how many more nodes there is room.
+    pub room: usize,
+}
+
+/// How many more nodes fit without memory.
+fn room_of(nodes: &Slab<Node>) -> usize
+    ensures { slab_len nodes.now + result ≡ nodes.now.capacity }
+{
+    nodes.capacity() - nodes.len()
+}
+
+/// Puts a node that is a ring of its own behind all others of a level.
+fn extend(lane: &mut Lane, nodes: &mut Slab<Node>, level: u8, key: usize)
+    requires made { vec_len lane.old.firsts ≡ 256 }
+    requires there { IsSome (item_of nodes.old key) }
+    requires first_there { (first : ℕ) → first_in lane.old level ≡ Some first → IsSome (item_of nodes.old first) × (first ≢ key) }
+    requires last_there { (first last : ℕ) → first_in lane.old level ≡ Some first → before_of nodes.old first ≡ Some last → IsSome (item_of nodes.old last) × (last ≢ key) }
+    ensures extended { Extended (first_in lane.old) (first_in lane.new) nodes.old nodes.new level key }
+    ensures firsts { vec_len lane.new.firsts ≡ vec_len lane.old.firsts }
+    ensures len { slab_len nodes.new ≡ slab_len nodes.old }
+    ensures capacity { nodes.new.capacity ≡ nodes.old.capacity }
+{
+    match lane.first(level) {
+        None => lane.set(level, key),
+        Some(first) => {
+            let last = nodes[first].before;
+            link(nodes, last, key);
+            link(nodes, key, first);
+        }
+    }
+}
+
+/// Closes a level's ring where a node was taken out, whose neighbours these were.
+fn close_up(lane: &mut Lane, nodes: &mut Slab<Node>, key: usize, node: Node)
+    requires made { vec_len lane.old.firsts ≡ 256 }
+    requires before_there { node.after ≢ key → IsSome (item_of nodes.old node.before) }
+    requires after_there { node.after ≢ key → IsSome (item_of nodes.old node.after) }
+    ensures closed { ClosedUp (first_in lane.old) (first_in lane.new) nodes.old nodes.new key node }
+    ensures firsts { vec_len lane.new.firsts ≡ vec_len lane.old.firsts }
+    ensures len { slab_len nodes.new ≡ slab_len nodes.old }
+    ensures capacity { nodes.new.capacity ≡ nodes.old.capacity }
+{
+    let level = node.item.priority.get();
+    if node.after == key {
+        lane.clear(level);
+        return;
+    }
+    link(nodes, node.before, node.after);
+    if let Some(first) = lane.first(level) {
+        if first == key {
+            lane.set(level, node.after);
+        }
+    }
+}
+
+/// Of the foremost message and the foremost pulse, each with its level, the one that is received first: of
+/// one level the one of lesser number.
+fn earlier(nodes: &Slab<Node>, message: (u8, usize), pulse: (u8, usize)) -> usize
+    requires message_there { IsSome (item_of nodes.now message.1) }
+    requires pulse_there { IsSome (item_of nodes.now pulse.1) }
+    ensures there { IsSome (item_of nodes.now result) }
+    ensures first { IfSome (item_of nodes.now message.1) (λ m. IfSome (item_of nodes.now pulse.1) (λ p. IsEarlier message m pulse p result)) }
+{
+    if message.0 != pulse.0 {
+        return if message.0 > pulse.0 {
+            message.1
+        } else {
+            pulse.1
+        };
+    }
+    if nodes[message.1].item.number < nodes[pulse.1].item.number {
+        message.1
+    } else {
+        pulse.1
+    }
+}
+
+impl Lists {
+    ghost use Rattle.qqueue.specs.Kept.{IsKept};
+
+    /// No items, and no memory.
+    pub fn new(alloc: Global) -> Lists
+        ensures kept { IsKept result }
+        ensures empty { result.nodes.slots ≡ [] }
+        ensures room { result.room ≡ 0 }
+        ensures nodes { result.nodes.capacity ≡ 0 }
+        ensures messages { vec_capacity result.messages.firsts ≡ 0 }
+        ensures pulses { vec_capacity result.pulses.firsts ≡ 0 }
+    {
+        Lists {
+            messages: Lane::new(alloc),
+            pulses: Lane::new(alloc),
+            nodes: Slab::new(alloc),
+            room: 0,
+        }
+    }
+
+    /// Makes room for `n` more nodes and, the first time, for the keys of the first ones.
+    pub fn reserve(&mut self, n: usize) -> Result<(), AllocError>
+        requires { IsKept self.old }
+        ensures kept { IsKept self.new }
+        ensures room { OnOk result (n ≤ self.new.room) }
+        ensures more { self.old.room ≤ self.new.room }
+        ensures slots { self.new.nodes.slots ≡ self.old.nodes.slots }
+        ensures succeeds { n ≤ self.old.room → IsOk result }
+        ensures err { OnErr result (self.new.room ≡ self.old.room) }
+    {
+        if n <= self.room {
+            return Ok(());
+        }
+        self.messages.make()?;
+        self.pulses.make()?;
+        self.nodes.reserve(n)?;
+        self.room = room_of(&self.nodes);
+        Ok(())
+    }
+
+    /// Puts an item behind all others, into the room that there is.
+    pub fn append(&mut self, item: Item)
+        requires kept { IsKept self.old }
+        requires room { 0 < self.old.room }
+        requires newest { AllByRecursion (λ place. place.0.number < item.number) (places_of self.old.nodes) }
+        ensures kept { IsKept self.new }
+        ensures items { items_at (places_of self.new.nodes) ≡ items_at (places_of self.old.nodes) ++ item ∷ [] }
+        ensures len { slab_len self.new.nodes ≡ slab_len self.old.nodes + 1 }
+        ensures room { self.new.room + 1 ≡ self.old.room }
+    {
+        self.room -= 1;
+        let key = add(&mut self.nodes, item);
+        let level = item.priority.get();
+        if item.what.is_pulse() {
+            extend(&mut self.pulses, &mut self.nodes, level, key);
+        } else {
+            extend(&mut self.messages, &mut self.nodes, level, key);
+        }
+    }
+
+    /// Takes out the item under a key.
+    pub fn take_out(&mut self, key: usize) -> Item
+        requires kept { IsKept self.old }
+        requires there { IsSome (item_of self.old.nodes key) }
+        ensures item { item_of self.old.nodes key ≡ Some result }
+        ensures rest { items_at (places_of self.new.nodes) ≡ without result.number (items_at (places_of self.old.nodes)) }
+        ensures counts { pulses_of (items_at (places_of self.old.nodes)) ≡ pulses_of (items_at (places_of self.new.nodes)) + (if is_pulse result.what then 1 else 0) }
+        ensures kept { IsKept self.new }
+        ensures room { self.old.room ≤ self.new.room }
+    {
+        let node = self.nodes.remove(key);
+        self.room = room_of(&self.nodes);
+        if node.item.what.is_pulse() {
+            close_up(&mut self.pulses, &mut self.nodes, key, node);
+        } else {
+            close_up(&mut self.messages, &mut self.nodes, key, node);
+        }
+        node.item
+    }
+
+    /// The key of the item that a receive of this kind takes: the first of the greatest level, found by the
+    /// sets of levels alone.
+    pub fn best(&self, kind: Kind) -> Option<usize>
+        requires { IsKept self.now }
+        ensures best { item_at self.now.nodes result ≡ best_of kind (items_at (places_of self.now.nodes)) }
+        ensures there { IfSome result (λ key. IsSome (item_of self.now.nodes key)) }
+    {
+        let pulse = self.pulses.foremost();
+        match kind {
+            Kind::PulseOnly => Some(pulse?.1),
+            Kind::Any => self.best_with(pulse),
+        }
+    }
+
+    /// The key of the best of all items, where this is the foremost pulse.
+    fn best_with(&self, pulse: Option<(u8, usize)>) -> Option<usize>
+        requires kept { IsKept self.now }
+        requires some { IfSome pulse (λ found. IsForemost (first_in self.now.pulses) found) }
+        requires none { IfNone pulse ((level : ℕ) → first_in self.now.pulses level ≡ None) }
+        ensures best { item_at self.now.nodes result ≡ best_of Kind.Any (items_at (places_of self.now.nodes)) }
+        ensures there { IfSome result (λ key. IsSome (item_of self.now.nodes key)) }
+    {
+        match (self.messages.foremost(), pulse) {
+            (Some(message), Some(pulse)) => Some(earlier(&self.nodes, message, pulse)),
+            (Some(message), None) => Some(message.1),
+            (None, Some(pulse)) => Some(pulse.1),
+            (None, None) => None,
+        }
+    }
+}
