@@ -6,7 +6,7 @@ use Rattle.qhandoff.specs.declared.view.Line.{Line}
 use Rattle.qhandoff.specs.declared.view.Desk.{Desk}
 use Rattle.qhandoff.specs.declared.view.Hand.{Hand}
 use Rattle.qhandoff.specs.declared.view.View.TheVariants.{Kernel, Thread}
-use Rattle.qhandoff.specs.Rule.{Fits, KeepsRule, Slot, line}
+use Rattle.qhandoff.specs.Rule.{Fits, KeepsRule, Slot, line, word_of}
 use Rattle.qhandoff.proofs.Changes.{St}
 
 module _ {T : Type 0} where
@@ -29,5 +29,5 @@ module _ {T : Type 0} where
   fits_near (suc (suc (suc (suc (suc w))))) l h o f = absurd f
 
   pub taken_is_near : (n : ℕ) (s : St T) (d : Desk T) (h : Hand T) (i j : ℕ) → KeepsRule n s → get_elem? s.views i ≡ some (Kernel d) → get_elem? s.views j ≡ some (Thread h) → h.thread < n → Near h.taken (line d h.thread).put
-  taken_is_near n s d h i j k at at' near = let near' = fits_near (get_or s.words h.thread 0) (line k.desk h.thread) (k.hand h.thread) (get_elem? s.homes h.thread) (k.each_cell h.thread near).0 in
+  taken_is_near n s d h i j k at at' near = let near' = fits_near (get_or s.words (word_of h.thread) 0) (line k.desk h.thread) (k.hand h.thread) (get_elem? s.homes h.thread) (k.each_cell h.thread near).0 in
       subst (λ (z : Desk T × Hand T). Near z.1.taken (line z.0 h.thread).put) (λ e. (sym (k.each_seat i (Kernel d) at).1 e, sym (k.each_seat j (Thread h) at').1 e)) near'

@@ -1,6 +1,7 @@
 -- One cell changes, and the rule holds again.
 use Rattle.std.proofs.Common.{◌≡◌, ◌≢◌, ℕ, zero, suc, ◌<◌, eqb, Bool, true, false, if◌then◌else◌, List, [], ◌∷◌, ◌++◌, length, get_or, set, sym, refl, ap, ◌∙◌, subst, ⊎_elim, inl, inr, arith, Option, Some, None, length-set, length-append, get_or-set_other, get_or-set_same, eq-eqb, ne_eqb}
 use Rattle.std.proofs.lemmas.Bool.{false≢true}
+use Rattle.std.proofs.Math.Nat.{mul-div_cancel}
 use mathlib.Core.Logic.{dite}
 use mathlib.Core.Option.{none, some, some-ne-none}
 use mathlib.Core.Option as maybe
@@ -13,7 +14,7 @@ use Rattle.qhandoff.specs.declared.view.Desk.{Desk}
 use Rattle.qhandoff.specs.declared.view.Hand.{Hand}
 use Rattle.qhandoff.specs.declared.view.View.{View}
 use Rattle.qhandoff.specs.declared.view.View.TheVariants.{Kernel, Thread, Joined}
-use Rattle.qhandoff.specs.Rule.{KeepsRule, Fits, Settled, Knows, line, with_line, idle_line}
+use Rattle.qhandoff.specs.Rule.{KeepsRule, Fits, Settled, Knows, line, with_line, idle_line, word_of, cell_of}
 use Rattle.qhandoff.specs.Steps.{IsBusy}
 
 pub hand_at : {H : Type 0} → (ℕ → H) → ℕ → H → ℕ → H
@@ -41,6 +42,14 @@ St T = State (Option T) (View T)
 clash : (b : Bool) → b ≡ false → b ≡ true → ⊥
 clash b e g = false≢true (sym e ∙ g)
 
+-- the words of two cells are two
+other_word : (words : List ℕ) (t u w : ℕ) → u ≢ t → get_or (set words (word_of t) w) (word_of u) 0 ≡ get_or words (word_of u) 0
+other_word words t u w n = get_or-set_other words (word_of t) (word_of u) w 0 (λ e. n (omega (arith, e)))
+
+-- the word of a cell is that of this cell
+pub cell_of_word : (t : ℕ) → cell_of (word_of t) ≡ t
+cell_of_word t = mul-div_cancel t (omega arith)
+
 module _ {T : Type 0} where
   pub line_else : (d : Desk T) (t : ℕ) (l : Line T) (u : ℕ) → u ≢ t → line (with_line d t l) u ≡ line d u
   line_else d t l u n = get_or-set_other d.lines t u l idle_line n
@@ -61,31 +70,31 @@ module _ {T : Type 0} where
 
   -- every cell but t is as it was
   pub cells_stay : (n t : ℕ) (words words' : List ℕ) (lines lines' : ℕ → Line T) (hand hand' : ℕ → Hand T) (homes homes' : Homes T)
-      → ((u : ℕ) → u ≢ t → get_or words' u 0 ≡ get_or words u 0) → ((u : ℕ) → u ≢ t → lines' u ≡ lines u) → ((u : ℕ) → u ≢ t → hand' u ≡ hand u) → ((u : ℕ) → u ≢ t → get_elem? homes' u ≡ get_elem? homes u)
-      → ((u : ℕ) → u < n → CellOk (get_or words u 0) (lines u) (hand u) (get_elem? homes u))
-      → CellOk (get_or words' t 0) (lines' t) (hand' t) (get_elem? homes' t)
-      → (u : ℕ) → u < n → CellOk (get_or words' u 0) (lines' u) (hand' u) (get_elem? homes' u)
+      → ((u : ℕ) → u ≢ t → get_or words' (word_of u) 0 ≡ get_or words (word_of u) 0) → ((u : ℕ) → u ≢ t → lines' u ≡ lines u) → ((u : ℕ) → u ≢ t → hand' u ≡ hand u) → ((u : ℕ) → u ≢ t → get_elem? homes' u ≡ get_elem? homes u)
+      → ((u : ℕ) → u < n → CellOk (get_or words (word_of u) 0) (lines u) (hand u) (get_elem? homes u))
+      → CellOk (get_or words' (word_of t) 0) (lines' t) (hand' t) (get_elem? homes' t)
+      → (u : ℕ) → u < n → CellOk (get_or words' (word_of u) 0) (lines' u) (hand' u) (get_elem? homes' u)
   cells_stay n t words words' lines lines' hand hand' homes homes' ws ls hs os old now u h = dite (ℕ_discrete u t)
-      (λ e. subst (λ v. CellOk (get_or words' v 0) (lines' v) (hand' v) (get_elem? homes' v)) (sym e) now)
+      (λ e. subst (λ v. CellOk (get_or words' (word_of v) 0) (lines' v) (hand' v) (get_elem? homes' v)) (sym e) now)
       (λ ne. subst (λ (z : ℕ × Line T × Hand T × maybe.Option (maybe.Option (Option T))). CellOk z.0 z.1 z.2 z.3) (λ i. (sym (ws u ne) i, sym (ls u ne) i, sym (hs u ne) i, sym (os u ne) i)) (old u h))
 
   -- the kernel seat changes the cell t
   kernel_step : (n t : ℕ) (s : St T) (k : KeepsRule n s) → t < n → (w : ℕ) (l : Line T) (homes : Homes T)
       → length homes ≡ n → ((u : ℕ) → u ≢ t → get_elem? homes u ≡ get_elem? s.homes u) → l.taken ≡ (line k.desk t).taken → Fits w l (k.hand t) (get_elem? homes t)
-      → KeepsRule n record { words = set s.words t w; homes = homes; views = set s.views 0 (Kernel (with_line k.desk t l)) }
+      → KeepsRule n record { words = set s.words (word_of t) w; homes = homes; views = set s.views 0 (Kernel (with_line k.desk t l)) }
   kernel_step n t s k h w l homes long others same fits =
       let d : Desk T = with_line k.desk t l in let near : t < length k.desk.lines = omega (arith, k.lines) in let stays = taken_stays k.desk t l near same in
       record {
         desk = d;
         hand = k.hand;
-        words = length-set s.words t w ∙ k.words;
+        words = length-set s.words (word_of t) w ∙ k.words;
         slots = long;
         lines = length-set k.desk.lines t l ∙ k.lines;
         kernel = set_here s.views 0 (Kernel d) (there s.views 0 _ k.kernel);
         seats = length-set s.views 0 (Kernel d) ∙ k.seats;
         unmade = λ u e. ((k.unmade u e).0, stays u ∙ (k.unmade u e).1);
-        each_cell = cells_stay n t s.words (set s.words t w) (line k.desk) (line d) k.hand k.hand s.homes homes (λ u ne. get_or-set_other s.words t u w 0 ne) (λ u ne. line_else k.desk t l u ne) (λ u ne. refl) others k.each_cell
-            (subst (λ (z : ℕ × Line T). CellOk z.0 z.1 (k.hand t) (get_elem? homes t)) (λ i. (sym (get_or-set_same s.words t w 0 (omega (arith, k.words))) i, sym (line_here k.desk t l t refl near) i))
+        each_cell = cells_stay n t s.words (set s.words (word_of t) w) (line k.desk) (line d) k.hand k.hand s.homes homes (λ u ne. other_word s.words t u w ne) (λ u ne. line_else k.desk t l u ne) (λ u ne. refl) others k.each_cell
+            (subst (λ (z : ℕ × Line T). CellOk z.0 z.1 (k.hand t) (get_elem? homes t)) (λ i. (sym (get_or-set_same s.words (word_of t) w 0 (omega (arith, k.words, h))) i, sym (line_here k.desk t l t refl near) i))
             (fits, subst (λ o. Settled o (k.hand t)) (sym same) (k.each_cell t h).1));
         each_seat = λ j v e. ⊎_elim (λ (q : (j ≡ 0) × (Kernel d ≡ v)). subst (Knows d k.hand j) q.1 (q.0, refl)) (λ (q : (j ≢ 0) × (get_elem? s.views j ≡ some v)). knows_kernel k.desk d k.hand j v q.0 stays (k.each_seat j v q.1)) (at_set s.views 0 j (Kernel d) v e);
       }
@@ -93,14 +102,14 @@ module _ {T : Type 0} where
   -- the same, for a seat that knows a desk
   pub kernel_changes : (n id t : ℕ) (s : St T) (k : KeepsRule n s) (d : Desk T) → get_elem? s.views id ≡ some (Kernel d) → t < n → (w : ℕ) (l : Line T) (homes : Homes T)
       → length homes ≡ n → ((u : ℕ) → u ≢ t → get_elem? homes u ≡ get_elem? s.homes u) → l.taken ≡ (line d t).taken → Fits w l (k.hand t) (get_elem? homes t)
-      → KeepsRule n record { words = set s.words t w; homes = homes; views = set s.views id (Kernel (with_line d t l)) }
+      → KeepsRule n record { words = set s.words (word_of t) w; homes = homes; views = set s.views id (Kernel (with_line d t l)) }
   kernel_changes n id t s k d at h w l homes long others same fits = let q = k.each_seat id (Kernel d) at in
-      subst (λ (z : ℕ × Desk T). KeepsRule n record { words = set s.words t w; homes = homes; views = set s.views z.0 (Kernel (with_line z.1 t l)) }) (λ i. (sym q.0 i, sym q.1 i))
+      subst (λ (z : ℕ × Desk T). KeepsRule n record { words = set s.words (word_of t) w; homes = homes; views = set s.views z.0 (Kernel (with_line z.1 t l)) }) (λ i. (sym q.0 i, sym q.1 i))
       (kernel_step n t s k h w l homes long others (same ∙ ap (λ z. (line z t).taken) q.1) fits)
 
   -- what the rule says of the cell t, to the kernel seat
-  pub kernel_sees : (n id t : ℕ) (s : St T) (k : KeepsRule n s) (d : Desk T) → get_elem? s.views id ≡ some (Kernel d) → t < n → Fits (get_or s.words t 0) (line d t) (k.hand t) (get_elem? s.homes t)
-  kernel_sees n id t s k d at h = subst (λ z. Fits (get_or s.words t 0) (line z t) (k.hand t) (get_elem? s.homes t)) (sym (k.each_seat id (Kernel d) at).1) (k.each_cell t h).0
+  pub kernel_sees : (n id t : ℕ) (s : St T) (k : KeepsRule n s) (d : Desk T) → get_elem? s.views id ≡ some (Kernel d) → t < n → Fits (get_or s.words (word_of t) 0) (line d t) (k.hand t) (get_elem? s.homes t)
+  kernel_sees n id t s k d at h = subst (λ z. Fits (get_or s.words (word_of t) 0) (line z t) (k.hand t) (get_elem? s.homes t)) (sym (k.each_seat id (Kernel d) at).1) (k.each_cell t h).0
 
   knows_thread : (d : Desk T) (hand : ℕ → Hand T) (t : ℕ) (h' : Hand T) (j : ℕ) (v : View T) → j ≢ suc t → Knows d hand j v → Knows d (hand_at hand t h') j v
   knows_thread d hand t h' j (Kernel e) n k = k
@@ -110,28 +119,28 @@ module _ {T : Type 0} where
   -- the seat of the thread t changes its cell
   pub thread_changes : (n id t : ℕ) (s : St T) (k : KeepsRule n s) (h : Hand T) → get_elem? s.views id ≡ some (Thread h) → h.thread ≡ t → t < n → (w : ℕ) (h' : Hand T) (homes : Homes T)
       → length homes ≡ n → ((u : ℕ) → u ≢ t → get_elem? homes u ≡ get_elem? s.homes u) → h'.thread ≡ t → Fits w (line k.desk t) h' (get_elem? homes t)
-      → KeepsRule n record { words = set s.words t w; homes = homes; views = set s.views id (Thread h') }
+      → KeepsRule n record { words = set s.words (word_of t) w; homes = homes; views = set s.views id (Thread h') }
   thread_changes n id t s k h at is near w h' homes long others is' fits =
       let q = k.each_seat id (Thread h) at in let seat : id ≡ suc t = q.0 ∙ ap suc is in let within = there s.views id _ at in let open_ : (line k.desk t).taken ≡ None = ap (λ u. (line k.desk u).taken) (sym is) ∙ q.2 in
       record {
         desk = k.desk;
         hand = hand_at k.hand t h';
-        words = length-set s.words t w ∙ k.words;
+        words = length-set s.words (word_of t) w ∙ k.words;
         slots = long;
         lines = k.lines;
         kernel = set_else s.views id 0 (Thread h') (λ e. omega (arith, seat)) ∙ k.kernel;
         seats = length-set s.views id (Thread h') ∙ k.seats;
         unmade = λ u e. (hand_else k.hand t h' u (λ x. omega (arith, k.seats)) ∙ (k.unmade u e).0, (k.unmade u e).1);
-        each_cell = cells_stay n t s.words (set s.words t w) (line k.desk) (line k.desk) k.hand (hand_at k.hand t h') s.homes homes (λ u ne. get_or-set_other s.words t u w 0 ne) (λ u ne. refl) (λ u ne. hand_else k.hand t h' u ne) others k.each_cell
-            (subst (λ (z : ℕ × Hand T). CellOk z.0 (line k.desk t) z.1 (get_elem? homes t)) (λ i. (sym (get_or-set_same s.words t w 0 (omega (arith, k.words))) i, sym (hand_here k.hand t h' t refl) i))
+        each_cell = cells_stay n t s.words (set s.words (word_of t) w) (line k.desk) (line k.desk) k.hand (hand_at k.hand t h') s.homes homes (λ u ne. other_word s.words t u w ne) (λ u ne. refl) (λ u ne. hand_else k.hand t h' u ne) others k.each_cell
+            (subst (λ (z : ℕ × Hand T). CellOk z.0 (line k.desk t) z.1 (get_elem? homes t)) (λ i. (sym (get_or-set_same s.words (word_of t) w 0 (omega (arith, k.words, near))) i, sym (hand_here k.hand t h' t refl) i))
             (fits, subst (λ o. Settled o h') (sym open_) tt));
         each_seat = λ j v e. ⊎_elim (λ (z : (j ≡ id) × (Thread h' ≡ v)). subst (Knows k.desk (hand_at k.hand t h') j) z.1 (z.0 ∙ seat ∙ ap suc (sym is'), sym (hand_here k.hand t h' h'.thread is'), ap (λ u. (line k.desk u).taken) is' ∙ open_))
             (λ (z : (j ≢ id) × (get_elem? s.views j ≡ some v)). knows_thread k.desk k.hand t h' j v (λ x. z.0 (x ∙ sym seat)) (k.each_seat j v z.1)) (at_set s.views id j (Thread h') v e);
       }
 
   -- what the rule says of its cell, to the seat of the thread t
-  pub thread_sees : (n id t : ℕ) (s : St T) (k : KeepsRule n s) (h : Hand T) → get_elem? s.views id ≡ some (Thread h) → h.thread ≡ t → t < n → Fits (get_or s.words t 0) (line k.desk t) h (get_elem? s.homes t)
-  thread_sees n id t s k h at is near = subst (λ z. Fits (get_or s.words t 0) (line k.desk t) z (get_elem? s.homes t)) (ap k.hand (sym is) ∙ sym (k.each_seat id (Thread h) at).1) (k.each_cell t near).0
+  pub thread_sees : (n id t : ℕ) (s : St T) (k : KeepsRule n s) (h : Hand T) → get_elem? s.views id ≡ some (Thread h) → h.thread ≡ t → t < n → Fits (get_or s.words (word_of t) 0) (line k.desk t) h (get_elem? s.homes t)
+  thread_sees n id t s k h at is near = subst (λ z. Fits (get_or s.words (word_of t) 0) (line k.desk t) z (get_elem? s.homes t)) (ap k.hand (sym is) ∙ sym (k.each_seat id (Thread h) at).1) (k.each_cell t near).0
 
   -- what each step makes of a cell
   pub fits_open : (w : ℕ) (l : Line T) (h : Hand T) (o : maybe.Option (maybe.Option (Option T))) → Fits w l h o → w ≡ 0 → Fits 1 (record l { opened = true }) h o

@@ -42,17 +42,18 @@ module _ {T : Type 0} where
       (λ n. ap (λ z. z.putting) (get_or-set_other d.lines t u q idle_line n) ∙ old u)
 
   -- a seat between the two steps of a put
-  pub in_put : (m m1 m2 : Sat T) (d : Desk T) (t : ℕ) (o o' : Option T) → m ≡ (Kernel d, []) → m1 ≡ (Kernel (putting_desk d t), (t, o) ∷ m.1) → m2 ≡ (m1.0, (t, o') ∷ rest m1.1) → m2 ≡ (Kernel (putting_desk d t), (t, o') ∷ [])
-  in_put m m1 m2 d t o o' e f g = g ∙ ap (λ (z : Sat T). (z.0, (t, o') ∷ rest z.1)) f ∙ ap (λ (z : Sat T). (Kernel (putting_desk d t), (t, o') ∷ z.1)) e
+  pub in_put : (m m1 m2 : Sat T) (d : Desk T) (t u : ℕ) (o o' : Option T) → u ≡ t → m ≡ (Kernel d, []) → m1 ≡ (Kernel (putting_desk d u), (u, o) ∷ m.1) → m2 ≡ (m1.0, (t, o') ∷ rest m1.1) → m2 ≡ (Kernel (putting_desk d t), (t, o') ∷ [])
+  in_put m m1 m2 d t u o o' at e f g = g ∙ ap (λ (z : Sat T). (z.0, (t, o') ∷ rest z.1)) f ∙ ap (λ (z : Sat T). (Kernel (putting_desk d u), (t, o') ∷ z.1)) e ∙ ap (λ v. (Kernel (putting_desk d v), (t, o') ∷ [])) at
 
-  pub after_put : (m2 m3 : Sat T) (d : Desk T) (t : ℕ) (x : T) → t < length d.lines → m2 ≡ (Kernel (putting_desk d t), (t, Some x) ∷ [])
-      → ((y : T) → m2.1 ≡ (t, Some y) ∷ [] → m3 ≡ (Kernel (put_desk (desk_in m2.0) t y), [])) → m3 ≡ (Kernel (put_desk d t x), [])
-  after_put m2 m3 d t x h e go = go x (ap (λ (z : Sat T). z.1) e) ∙ ap (λ (z : Sat T). (Kernel (put_desk (desk_in z.0) t x), [])) e ∙ ap (λ z. (Kernel z, [])) (puts_whole d t x h)
+  pub after_put : (m2 m3 : Sat T) (d : Desk T) (t u : ℕ) (x : T) → u ≡ t → t < length d.lines → m2 ≡ (Kernel (putting_desk d t), (t, Some x) ∷ [])
+      → ((y : T) → m2.1 ≡ (u, Some y) ∷ [] → m3 ≡ (Kernel (put_desk (desk_in m2.0) u y), [])) → m3 ≡ (Kernel (put_desk d t x), [])
+  after_put m2 m3 d t u x at h e go = go x (ap (λ (z : Sat T). z.1) e ∙ ap (λ v. (v, Some x) ∷ []) (sym at)) ∙ ap (λ (z : Sat T). (Kernel (put_desk (desk_in z.0) u x), [])) e
+      ∙ ap (λ v. (Kernel (put_desk (putting_desk d t) v x), [])) at ∙ ap (λ z. (Kernel z, [])) (puts_whole d t x h)
 
   -- the two steps of a poll
-  pub in_poll : (m m1 m2 : Sat T) (h : Hand T) (t : ℕ) (x : T) → m ≡ (Thread h, []) → m1 ≡ (Thread (record (hand_in m.0) { taking = Some x }), (t, Some x) ∷ m.1) → m2 ≡ (m1.0, (t, None) ∷ rest m1.1)
+  pub in_poll : (m m1 m2 : Sat T) (h : Hand T) (t u : ℕ) (x : T) → m ≡ (Thread h, []) → m1 ≡ (Thread (record (hand_in m.0) { taking = Some x }), (u, Some x) ∷ m.1) → m2 ≡ (m1.0, (t, None) ∷ rest m1.1)
       → m2 ≡ (Thread (record h { taking = Some x }), (t, None) ∷ [])
-  in_poll m m1 m2 h t x e f g = g ∙ ap (λ (z : Sat T). (z.0, (t, None) ∷ rest z.1)) f ∙ ap (λ (z : Sat T). (Thread (record (hand_in z.0) { taking = Some x }), (t, None) ∷ z.1)) e
+  in_poll m m1 m2 h t u x e f g = g ∙ ap (λ (z : Sat T). (z.0, (t, None) ∷ rest z.1)) f ∙ ap (λ (z : Sat T). (Thread (record (hand_in z.0) { taking = Some x }), (t, None) ∷ z.1)) e
 
   pub after_poll : (m2 m3 : Sat T) (h : Hand T) (t : ℕ) (x : T) → m2 ≡ (Thread (record h { taking = Some x }), (t, None) ∷ [])
       → ((y : T) → (hand_in m2.0).taking ≡ Some y → m3 ≡ (Thread (record (hand_in m2.0) { taken = (hand_in m2.0).taken ++ y ∷ []; taking = None }), []))
@@ -68,5 +69,5 @@ module _ {T : Type 0} where
   unfolding held
   got m m1 h t x o e f = sym (ap (held x) f) ∙ ap (λ (z : Sat T). held x z.1) e
 
-  pub carries : (m : Sat T) (v : View T) (t : ℕ) (o : Option T) (c : List (ℕ × Option T)) → m ≡ (v, (t, o) ∷ c) → m.1 ≡ (t, o) ∷ rest m.1
-  carries m v t o c e = ap (λ (z : Sat T). z.1) e ∙ ap (λ (z : Sat T). (t, o) ∷ rest z.1) (sym e)
+  pub carries : (m : Sat T) (v : View T) (t u : ℕ) (o : Option T) (c : List (ℕ × Option T)) → u ≡ t → m ≡ (v, (u, o) ∷ c) → m.1 ≡ (t, o) ∷ rest m.1
+  carries m v t u o c at e = ap (λ (z : Sat T). z.1) e ∙ ap (λ k. (k, o) ∷ c) at ∙ ap (λ (z : Sat T). (t, o) ∷ rest z.1) (sym e)

@@ -11,7 +11,7 @@ use Rattle.qhandoff.specs.declared.view.Desk.{Desk}
 use Rattle.qhandoff.specs.declared.view.Hand.{Hand}
 use Rattle.qhandoff.specs.declared.view.View.{View}
 use Rattle.qhandoff.specs.declared.view.View.TheVariants.{Kernel, Thread, Joined}
-use Rattle.qhandoff.specs.Rule.{KeepsRule, Fits, Settled, Knows, line, with_line}
+use Rattle.qhandoff.specs.Rule.{KeepsRule, Fits, Settled, Knows, line, with_line, word_of}
 use Rattle.qhandoff.specs.Steps.{joined_views, joined_desk}
 use Rattle.qhandoff.specs.Words.{one}
 use Rattle.qhandoff.proofs.Changes.{St, there, line_else, line_here, cells_stay, CellOk}
@@ -44,7 +44,7 @@ module _ {T : Type 0} where
         seats = length-set vs other Joined ∙ length-set s.views 0 (Kernel d') ∙ k.seats;
         unmade = λ u e. ((k.unmade u e).0, ap (λ z. z.taken) (line_else k.desk t l' u (λ x. omega (arith, q.0, k.seats))) ∙ (k.unmade u e).1);
         each_cell = cells_stay n t s.words s.words (line k.desk) (line d') k.hand k.hand s.homes s.homes (λ u ne. refl) (λ u ne. line_else k.desk t l' u ne) (λ u ne. refl) (λ u ne. refl) k.each_cell
-            (subst (λ z. CellOk (get_or s.words t 0) z (k.hand t) (get_elem? s.homes t)) (sym (line_here k.desk t l' t refl long))
+            (subst (λ z. CellOk (get_or s.words (word_of t) 0) z (k.hand t) (get_elem? s.homes t)) (sym (line_here k.desk t l' t refl long))
             (refits _ l (k.hand t) _ (Some h.taken) (k.each_cell t near).0, (ap (λ z. z.taken) q.1, ap (λ z. z.taking) (sym q.1) ∙ idle)));
         each_seat = λ j v e. ⊎_elim (λ (z : (j ≡ other) × (Joined ≡ v)). subst (Knows d' k.hand j) z.1 tt)
             (λ (z : (j ≢ other) × (get_elem? vs j ≡ some v)). ⊎_elim (λ (y : (j ≡ 0) × (Kernel d' ≡ v)). subst (Knows d' k.hand j) y.1 (y.0, refl))
@@ -85,6 +85,6 @@ module _ {T : Type 0} where
       → (t : ℕ) (ts : List T) → t < n → (line d t).putting ≡ false → (line d t).taken ≡ Some ts → (o : Option T) × (get_elem? xs t ≡ some o) × (ts ++ one o ≡ (line d t).put)
   closed_cell n id m d ws xs is fin t ts near quiet was =
       let s : St T = fin.0 in let k : KeepsRule n s = fin.1.0 in let q = k.each_seat id (Kernel d) (fin.1.1 ∙ ap (λ (z : Sat T). some z.0) is) in
-      let cell : CellOk (get_or s.words t 0) (line d t) (k.hand t) (get_elem? s.homes t) = subst (λ z. CellOk (get_or s.words t 0) (line z t) (k.hand t) (get_elem? s.homes t)) (sym q.1) (k.each_cell t near) in
+      let cell : CellOk (get_or s.words (word_of t) 0) (line d t) (k.hand t) (get_elem? s.homes t) = subst (λ z. CellOk (get_or s.words (word_of t) 0) (line z t) (k.hand t) (get_elem? s.homes t)) (sym q.1) (k.each_cell t near) in
       let now = settled (line d t).taken (k.hand t) ts was cell.1 in
-      closes (get_or s.words t 0) (line d t) (k.hand t) (get_elem? s.homes t) (get_elem? xs t) ts cell.0 quiet now.0 now.1 (λ y e. fin.4 t y e)
+      closes (get_or s.words (word_of t) 0) (line d t) (k.hand t) (get_elem? s.homes t) (get_elem? xs t) ts cell.0 quiet now.0 now.1 (λ y e. fin.4 t y e)

@@ -1,5 +1,5 @@
 -- The cells are made, their seats are split off and joined, and they are closed.
-use Rattle.std.proofs.Common.{◌≡◌, ◌≢◌, ℕ, zero, suc, ◌<◌, List, [], ◌∷◌, ◌++◌, length, replicate, map, get_or, set, sym, refl, ap, ◌∙◌, subst, ⊎_elim, ◌⊎◌, inl, inr, arith, Option, None, length-set, length-append}
+use Rattle.std.proofs.Common.{◌≡◌, ◌≢◌, ℕ, zero, suc, ◌*◌, ◌<◌, List, [], ◌∷◌, ◌++◌, length, replicate, map, get_or, set, sym, refl, ap, ◌∙◌, subst, ⊎_elim, ◌⊎◌, inl, inr, arith, Option, None, length-set, length-append}
 use mathlib.Core.Option.{none, some, some-injective, some-ne-none}
 use mathlib.Core.Option as maybe
 use lib.ListN.{get_elem?, length-replicate}
@@ -10,7 +10,7 @@ use Rattle.qhandoff.specs.declared.view.Desk.{Desk}
 use Rattle.qhandoff.specs.declared.view.Hand.{Hand}
 use Rattle.qhandoff.specs.declared.view.View.{View}
 use Rattle.qhandoff.specs.declared.view.View.TheVariants.{Kernel, Thread, Joined}
-use Rattle.qhandoff.specs.Rule.{KeepsRule, Fits, Settled, Knows, idle_line, new_hand}
+use Rattle.qhandoff.specs.Rule.{KeepsRule, Fits, Settled, Knows, idle_line, new_hand, word_of}
 use Rattle.qhandoff.specs.Steps.{first_view, seated_desk, seats_one_more, next_hand}
 use Rattle.qhandoff.proofs.Changes.{St, there}
 use Rattle.qhandoff.proofs.Allowed.{Sat}
@@ -40,22 +40,22 @@ module _ {T : Type 0} where
   knows_first n zero v e = subst (Knows (seated_desk 0 n) new_hand 0) (some-injective _ v e) (refl, refl)
   knows_first n (suc j) v e = absurd (some-ne-none v (sym e))
 
-  starts_here : (n : ℕ) → KeepsRule {T = T} n (opening (replicate n 0) (replicate n None) (first_view n))
+  starts_here : (n : ℕ) → KeepsRule {T = T} n (opening (replicate (n * 8) 0) (replicate n None) (first_view n))
   starts_here n = record {
     desk = seated_desk 0 n;
     hand = new_hand;
-    words = length-replicate n 0;
+    words = length-replicate (n * 8) 0;
     slots = full_shelf n None;
     lines = length-replicate n idle_line;
     kernel = refl;
     seats = refl;
     unmade = λ t h. (refl, ap (λ l. l.taken) (line_at_first n t idle_line));
     each_cell = λ t h. subst (λ (z : ℕ × Line T × maybe.Option (maybe.Option (Option T))). Fits z.0 z.1 (new_hand t) z.2 × Settled z.1.taken (new_hand t))
-        (λ i. (sym (line_at_first n t 0) i, sym (line_at_first n t idle_line) i, sym (all_at_home n t None h) i)) ((refl, refl, refl, refl, refl), tt);
+        (λ i. (sym (line_at_first (n * 8) (word_of t) 0) i, sym (line_at_first n t idle_line) i, sym (all_at_home n t None h) i)) ((refl, refl, refl, refl, refl), tt);
     each_seat = knows_first n;
   }
 
-  pub starts : (n : ℕ) (words : List ℕ) → words ≡ replicate n 0 → KeepsRule {T = T} n (opening words (replicate n None) (first_view n))
+  pub starts : (n : ℕ) (words : List ℕ) → words ≡ replicate (n * 8) 0 → KeepsRule {T = T} n (opening words (replicate n None) (first_view n))
   starts n words e = subst (λ ws. KeepsRule {T = T} n (opening ws (replicate n None) (first_view n))) (sym e) (starts_here n)
 
   knows_more : (d : Desk T) (hand : ℕ → Hand T) (k j : ℕ) (v : View T) → j ≢ 0 → Knows d hand j v → Knows (record d { seats = k }) hand j v

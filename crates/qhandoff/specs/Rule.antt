@@ -1,6 +1,6 @@
 -- The rule of the cells: what holds between any two steps of any seats.
 -- A cell is a word and a slot. The word is 0 idle, 1 opened, 2 putting, 3 full or 4 taking.
-use Rattle.std.specs.Prelude.{◌≡◌, ℕ, zero, suc, ◌<◌, ◌≤◌, true, false, List, [], ◌∷◌, ◌++◌, length, Option, Some, None, slice_index, slice_index_or, slice_set}
+use Rattle.std.specs.Prelude.{◌≡◌, ℕ, zero, suc, ◌*◌, ◌/◌, ◌<◌, ◌≤◌, true, false, List, [], ◌∷◌, ◌++◌, length, Option, Some, None, slice_index, slice_index_or, slice_set}
 use mathlib.Core.Option.{some, none}
 use mathlib.Core.Option as maybe
 use lib.ListN.{get_elem?}
@@ -14,6 +14,14 @@ use Rattle.qhandoff.specs.declared.view.View.TheVariants.{Kernel, Thread, Joined
 -- what a cell's slot is: at home with what it has, or held by a seat
 abbrev pub Slot : Type 0 → Type 0
 Slot T = maybe.Option (maybe.Option (Option T))
+
+-- which of the table's words is that of the cell t: one in eight, so that each has a cache line of its own; the words between aren't used
+abbrev pub word_of : ℕ → ℕ
+word_of t = t * 8
+
+-- the cell that such a word is of
+abbrev pub cell_of : ℕ → ℕ
+cell_of w = w / 8
 
 module _ {T : Type 0} where
   -- nothing was opened or put
@@ -76,11 +84,11 @@ module _ {T : Type 0} where
   pub record KeepsRule (n : ℕ) (s : State (Option T) (View T)) : Type 0 where
     pub desk : Desk T
     pub hand : ℕ → Hand T
-    pub words : length s.words ≡ n
+    pub words : length s.words ≡ n * 8
     pub slots : length s.homes ≡ n
     pub lines : length desk.lines ≡ n
     pub kernel : get_elem? s.views 0 ≡ some (Kernel desk)
     pub seats : length s.views ≡ suc desk.seats
     pub unmade : (t : ℕ) → desk.seats ≤ t → (hand t ≡ new_hand t) × ((line desk t).taken ≡ None)
-    pub each_cell : (t : ℕ) → t < n → Fits (slice_index s.words t) (line desk t) (hand t) (get_elem? s.homes t) × Settled (line desk t).taken (hand t)
+    pub each_cell : (t : ℕ) → t < n → Fits (slice_index s.words (word_of t)) (line desk t) (hand t) (get_elem? s.homes t) × Settled (line desk t).taken (hand t)
     pub each_seat : (j : ℕ) (v : View T) → get_elem? s.views j ≡ some v → Knows desk hand j v

@@ -1,5 +1,5 @@
 -- The kinds of step, each with what it tells its seat: what the seat knows and holds afterwards.
--- In each, `st.word` is the cell, `m` the seat before, `r` the word that was found there, and `m'` the seat after.
+-- In each, `st.word` says which word, and so which cell, `m` is the seat before, `r` what was found in the word, and `m'` the seat after.
 use Rattle.std.specs.Prelude.{◌≡◌, ◌⊎◌, ℕ, suc, true, false, List, [], ◌∷◌, ◌++◌, replicate, Option, Some, None}
 use Rattle.atomic_table.specs.Table.{Me, Step}
 use Rattle.qhandoff.specs.declared.view.Line.{Line}
@@ -7,7 +7,7 @@ use Rattle.qhandoff.specs.declared.view.Desk.{Desk}
 use Rattle.qhandoff.specs.declared.view.Hand.{Hand}
 use Rattle.qhandoff.specs.declared.view.View.{View}
 use Rattle.qhandoff.specs.declared.view.View.TheVariants.{Kernel, Thread, Joined}
-use Rattle.qhandoff.specs.Rule.{idle_line, new_hand, line, with_line}
+use Rattle.qhandoff.specs.Rule.{cell_of, idle_line, new_hand, line, with_line}
 
 -- what a step tells: of the step, the seat before, the word that was found, and the seat after
 abbrev pub Tells : Type 0 → Type 1
@@ -77,23 +77,23 @@ module _ {T : Type 0} where
 
   -- open, by the kernel's seat, 0 to 1: where it found 0 the cell is opened, which it wasn't; else nothing changes, and the cell is opened or something was put
   abbrev pub OpenTells : Tells T
-  OpenTells st m r m' = (r ≡ 0 → (m' ≡ (Kernel (opened_desk (desk_in m.0) st.word), m.1)) × ((line (desk_in m.0) st.word).opened ≡ false)) × (¬ (r ≡ 0) → (m' ≡ m) × IsBusy (line (desk_in m.0) st.word))
+  OpenTells st m r m' = (r ≡ 0 → (m' ≡ (Kernel (opened_desk (desk_in m.0) (cell_of st.word)), m.1)) × ((line (desk_in m.0) (cell_of st.word)).opened ≡ false)) × (¬ (r ≡ 0) → (m' ≡ m) × IsBusy (line (desk_in m.0) (cell_of st.word)))
 
   -- cancel, by the kernel's seat, 0 over 1: the cell isn't opened any more
   abbrev pub CancelTells : Tells T
-  CancelTells st m r m' = m' ≡ (Kernel (cancelled_desk (desk_in m.0) st.word), m.1)
+  CancelTells st m r m' = m' ≡ (Kernel (cancelled_desk (desk_in m.0) (cell_of st.word)), m.1)
 
   -- begin put, by the kernel's seat, 2 over 1: it holds the slot, which is empty
   abbrev pub BeginPutTells : Tells T
-  BeginPutTells st m r m' = m' ≡ (Kernel (putting_desk (desk_in m.0) st.word), (st.word, None) ∷ m.1)
+  BeginPutTells st m r m' = m' ≡ (Kernel (putting_desk (desk_in m.0) (cell_of st.word)), (cell_of st.word, None) ∷ m.1)
 
   -- end put, by the kernel's seat, 3 over 2: what the slot has by then was put, and the slot is let go
   abbrev pub EndPutTells : Tells T
-  EndPutTells st m r m' = (x : T) → m.1 ≡ (st.word, Some x) ∷ [] → m' ≡ (Kernel (put_desk (desk_in m.0) st.word x), [])
+  EndPutTells st m r m' = (x : T) → m.1 ≡ (cell_of st.word, Some x) ∷ [] → m' ≡ (Kernel (put_desk (desk_in m.0) (cell_of st.word) x), [])
 
   -- take, by the thread's seat, 3 to 4: where it found 3 it holds the slot and what is in it; else nothing changes
   abbrev pub TakeTells : Tells T
-  TakeTells st m r m' = (r ≡ 3 → (x : T) × (m' ≡ (Thread (taking_hand (hand_in m.0) x), (st.word, Some x) ∷ m.1))) × (¬ (r ≡ 3) → m' ≡ m)
+  TakeTells st m r m' = (r ≡ 3 → (x : T) × (m' ≡ (Thread (taking_hand (hand_in m.0) x), (cell_of st.word, Some x) ∷ m.1))) × (¬ (r ≡ 3) → m' ≡ m)
 
   -- give back, by the thread's seat, 0 over 4: what it was taking it took, and the slot is let go
   abbrev pub GiveBackTells : Tells T

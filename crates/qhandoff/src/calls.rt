@@ -7,7 +7,7 @@ ghost use Rattle.qhandoff.specs.Rule.{line};
 ghost use Rattle.qhandoff.specs.Steps.{opened_desk, cancelled_desk, put_desk, IsBusy};
 ghost use Rattle.qhandoff.specs.Words.{count, desk, taken, kernel_id, thread_id, thread_of, IsKernelOf, IsThreadOf};
 
-use crate::cells::Cells;
+use crate::cells::{Cells, word_of};
 use crate::seats::{KernelSeat, ThreadSeat};
 use crate::steps::{BeginPut, Cancel, EndPut, GiveBack, Open, Take};
 
@@ -40,7 +40,7 @@ impl<T: Drop> KernelSeat<T> {
         let found = cells
             .table
             .shared
-            .compare_exchange::<Open>(&mut self.seat, thread, IDLE, OPENED);
+            .compare_exchange::<Open>(&mut self.seat, word_of(thread), IDLE, OPENED);
         found == IDLE
     }
 
@@ -56,7 +56,7 @@ impl<T: Drop> KernelSeat<T> {
         cells
             .table
             .shared
-            .store::<Cancel>(&mut self.seat, thread, IDLE)
+            .store::<Cancel>(&mut self.seat, word_of(thread), IDLE)
     }
 
     /// Fills an opened cell.
@@ -68,12 +68,13 @@ impl<T: Drop> KernelSeat<T> {
         ensures desk { desk self.new ≡ put_desk (desk self.old) thread completion }
     {
         let shared = &cells.table.shared;
+        let word = word_of(thread);
         // SeqCst. Relaxed is enough: it marks what only this seat does, and the thread does the same at 2 as at 1.
-        shared.store::<BeginPut>(&mut self.seat, thread, PUTTING);
+        shared.store::<BeginPut>(&mut self.seat, word, PUTTING);
         // No atomic step: this seat holds the slot, so this is a plain read and a plain write.
         drop(shared.exchange(&mut self.seat, thread, Some(completion)));
         // SeqCst. Release is enough: who finds 3 by an acquire sees the whole completion in the slot.
-        shared.store::<EndPut>(&mut self.seat, thread, FULL);
+        shared.store::<EndPut>(&mut self.seat, word, FULL);
     }
 }
 
@@ -95,18 +96,19 @@ impl<T: Drop> ThreadSeat<T> {
     {
         let shared = &cells.table.shared;
         let thread = self.thread;
+        let word = word_of(thread);
         // SeqCst. Relaxed is enough: it only spares an exchange that would fail, and the exchange finds out by itself.
-        if shared.peek(thread) != FULL {
+        if shared.peek(word) != FULL {
             return None;
         }
         // SeqCst. Acquire is enough: it meets the release of end put, so the whole completion is seen.
-        if shared.compare_exchange::<Take>(&mut self.seat, thread, FULL, TAKING) != FULL {
+        if shared.compare_exchange::<Take>(&mut self.seat, word, FULL, TAKING) != FULL {
             return None;
         }
         // No atomic step: this seat holds the slot, so this is a plain read and a plain write.
         let completion = shared.exchange(&mut self.seat, thread, None);
         // SeqCst. Release is enough: who finds 0 by an acquire sees the slot as it was left.
-        shared.store::<GiveBack>(&mut self.seat, thread, IDLE);
+        shared.store::<GiveBack>(&mut self.seat, word, IDLE);
         completion
     }
 }

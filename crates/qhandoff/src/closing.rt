@@ -1,6 +1,6 @@
 //! How the cells are closed: the seats are joined, and what is left is taken out.
 
-ghost use Rattle.std.specs.Prelude.{◌≡◌, ◌<◌, ◌≤◌, ◌++◌, ℕ, [], Some, length, vec_capacity};
+ghost use Rattle.std.specs.Prelude.{◌≡◌, ◌<◌, ◌≤◌, ◌*◌, ◌++◌, ℕ, [], Some, length, vec_capacity};
 ghost use Rattle.std.specs.Mem.Slots.{slots_items, slots_len, IsFull};
 ghost use mathlib.Core.Option.{some};
 ghost use lib.ListN.{get_elem?};
@@ -22,7 +22,7 @@ fn join_one<T: Drop>(
     seat: &mut Seat<Option<T>, View<T>>,
     other: ThreadSeat<T>,
 )
-    requires sized { (shared.now.key ≡ shared.now.table_id.slots) × (shared.now.table_id.words ≡ shared.now.table_id.slots) }
+    requires sized { (shared.now.key ≡ shared.now.table_id.slots) × (shared.now.table_id.words ≡ shared.now.table_id.slots * 8) }
     requires seat { (seat.old.table_id ≡ shared.now.table_id) × (seat.old.me ≡ (Kernel (desk_in seat.old.me.0), [])) }
     requires other { thread_id other ≡ shared.now.table_id }
     ensures { (seat.new.table_id ≡ seat.old.table_id) × (seat.new.me ≡ (Kernel (joined_at (desk_in seat.old.me.0) (thread_of other) (taken other)), [])) }
@@ -42,7 +42,7 @@ fn join_all<T: Drop>(
     seat: &mut Seat<Option<T>, View<T>>,
     mut threads: Vec<ThreadSeat<T>>,
 )
-    requires sized { (shared.now.key ≡ shared.now.table_id.slots) × (shared.now.table_id.words ≡ shared.now.table_id.slots) }
+    requires sized { (shared.now.key ≡ shared.now.table_id.slots) × (shared.now.table_id.words ≡ shared.now.table_id.slots * 8) }
     requires seat { (seat.old.table_id ≡ shared.now.table_id) × (seat.old.me ≡ (Kernel (desk_in seat.old.me.0), [])) × (length (desk_in seat.old.me.0).lines ≡ shared.now.table_id.slots) }
     requires threads { (length threads.items ≡ shared.now.table_id.slots) × IsRow shared.now.table_id threads.items }
     ensures seat { (seat.new.table_id ≡ seat.old.table_id) × (seat.new.me ≡ (Kernel (desk_in seat.new.me.0), [])) }

@@ -1,13 +1,13 @@
 //! How the cells and their seats are made.
 
-ghost use Rattle.std.specs.Prelude.{◌≡◌, ◌<◌, ◌≤◌, ◌+◌, ℕ, [], IfOk, IfErr, length};
+ghost use Rattle.std.specs.Prelude.{◌≡◌, ◌<◌, ◌≤◌, ◌+◌, ℕ, ◌*◌, [], IfOk, IfErr, length};
 ghost use lib.ListN.{get_elem?};
 ghost use Rattle.qbase.specs.declared.errno.Errno.TheVariants.{Inval, NoMemory};
 ghost use Rattle.qhandoff.specs.declared.view.View.TheVariants.{Kernel};
 ghost use Rattle.qhandoff.specs.Steps.{seated_desk};
 ghost use Rattle.qhandoff.specs.Words.{cells_id, count, desk, taken, took, thread_id, thread_of, IsKernelOf, IsRow};
 
-use crate::cells::Cells;
+use crate::cells::{Cells, STRIDE};
 use crate::seats::{KernelSeat, ThreadSeat};
 use crate::steps::{HandOff, SeatOne};
 use crate::view::View;
@@ -27,7 +27,7 @@ fn next_seat<T: Drop>(
     seat: &mut Seat<Option<T>, View<T>>,
     thread: usize,
 ) -> ThreadSeat<T>
-    requires sized { (shared.now.key ≡ shared.now.table_id.slots) × (shared.now.table_id.words ≡ shared.now.table_id.slots) × (thread < shared.now.table_id.slots) }
+    requires sized { (shared.now.key ≡ shared.now.table_id.slots) × (shared.now.table_id.words ≡ shared.now.table_id.slots * 8) × (thread < shared.now.table_id.slots) }
     requires seat { (seat.old.table_id ≡ shared.now.table_id) × (seat.old.me ≡ (Kernel (seated_desk thread shared.now.table_id.slots), [])) }
     ensures seat { (seat.new.table_id ≡ seat.old.table_id) × (seat.new.me ≡ (Kernel (seated_desk (thread + 1) shared.now.table_id.slots), [])) }
     ensures next { (thread_id result ≡ seat.old.table_id) × (thread_of result ≡ thread) × (taken result ≡ []) }
@@ -39,10 +39,11 @@ fn next_seat<T: Drop>(
 
 /// So many idle cells, with the room for `close`.
 fn made<T: Drop>(alloc: Global, threads: usize) -> Result<Made<T>, AllocError>
+    requires { threads ≤ 64 }
     ensures cells { IfOk result (λ r. (count r.0 ≡ threads) × IsKernelOf r.0 r.1 × (desk r.1 ≡ seated_desk threads threads)) }
     ensures seats { IfOk result (λ r. (length r.2.items ≡ threads) × IsRow (cells_id r.0) r.2.items × ((k : ℕ) → took (get_elem? r.2.items k) ≡ [])) }
 {
-    let words = Vec::from_elem(alloc, 0u64, threads)?;
+    let words = Vec::from_elem(alloc, 0u64, threads * STRIDE)?;
     let room = Vec::with_capacity(alloc, threads)?;
     let mut seats = Vec::with_capacity(alloc, threads)?;
     let (table, mut seat) = Table::vacant(alloc, words.as_slice(), threads, &threads)?;
