@@ -1,4 +1,5 @@
-//! A past that proofs alone have.
+//! A past that proofs alone have, and what was asked for by whom.
 #![tactic(auto)]
 
+pub mod asking;
 pub mod past;

@@ -1,0 +1,18 @@
+-- What the two halves of a list of calls own: one name that tracks the list.
+use Rattle.std.specs.Prelude.{ℕ, List}
+use base.Stored.{Coded, coded_list}
+use base.Fml.{Fml, fobs, fauth}
+use Rattle.qrules.specs.declared.call.Call.{Call}
+use Rattle.qrules.specs.contracts.call.Call as row
+
+-- a list of calls as a ghost value
+abbrev pub calls_coded : Coded (List Call)
+calls_coded = coded_list (row.the_row).coded
+
+-- the thread's half
+abbrev pub asked_owns : ℕ → List Call → Fml
+asked_owns name calls = fobs name (calls_coded.code calls)
+
+-- the half beside the past
+abbrev pub heard_owns : ℕ → List Call → Fml
+heard_owns name calls = fauth name (calls_coded.code calls)

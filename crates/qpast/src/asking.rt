@@ -1,0 +1,64 @@
+//! What one thread asked for, in two halves, which proofs alone have.
+
+ghost use Rattle.std.specs.Prelude.{◌≡◌, ◌++◌, [], ◌∷◌, ℕ, List};
+ghost use Rattle.qrules.specs.declared.call.Call.{Call as Asking};
+ghost use Rattle.qpast.specs.Halves.{asked_owns, heard_owns};
+
+use qrules::call::Call;
+use std::marker::{Model, Send};
+use std::snapshot::Snapshot;
+
+/// The half that goes with the thread. It has no bytes, and its functions do nothing.
+#[derive(Drop)]
+pub struct Asked {
+    pub ghost name: { ℕ },
+    pub ghost calls: { List Asking },
+}
+
+impl Model for Asked {
+    ghost also_owns = { λ a. asked_owns a.name a.calls };
+}
+
+unsafe impl Send for Asked {}
+
+/// The half that lies beside the past. It has no bytes.
+#[derive(Drop)]
+pub struct Heard {
+    pub ghost name: { ℕ },
+    pub ghost calls: { List Asking },
+}
+
+impl Model for Heard {
+    ghost also_owns = { λ h. heard_owns h.name h.calls };
+}
+
+unsafe impl Send for Heard {}
+
+/// The two halves of an empty list.
+pub fn halves() -> (Asked, Heard)
+    ensures name { result.0.name ≡ result.1.name }
+    ensures asked { result.0.calls ≡ [] }
+    ensures heard { result.1.calls ≡ [] }
+{
+    (Asked {}, Heard {})
+}
+
+impl Asked {
+    /// Both halves of a list get this call as their last.
+    pub fn ask(&mut self, heard: &mut Heard, _call: &Snapshot<Call>)
+        requires { self.old.name ≡ heard.old.name }
+        ensures name { self.new.name ≡ self.old.name }
+        ensures heard_name { heard.new.name ≡ heard.old.name }
+        ensures agreed { self.old.calls ≡ heard.old.calls }
+        ensures calls { self.new.calls ≡ self.old.calls ++ _call.now.value ∷ [] }
+        ensures heard { heard.new.calls ≡ heard.old.calls ++ _call.now.value ∷ [] }
+    {}
+
+    /// Both halves of a list are the same.
+    pub fn agree(&mut self, heard: &mut Heard)
+        requires { self.old.name ≡ heard.old.name }
+        ensures same { self.new ≡ self.old }
+        ensures heard { heard.new ≡ heard.old }
+        ensures agreed { self.old.calls ≡ heard.old.calls }
+    {}
+}
