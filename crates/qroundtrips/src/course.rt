@@ -215,7 +215,7 @@ fn run<K: Tie + Send + Sync, R: Threads + Wait + Clock + Sync>(
     parts: Parts,
     case: Case,
 ) -> Result<Outcome, Stopped>
-    requires named { AreParts K.roster K.cells K.name K.parts parts }
+    requires named { AreParts K.roster K.cells K.lists K.name K.parts parts }
 {
     let (shared, ports) = Shared::<K, Kept<K>>::open(alloc, parts)?;
     let (ports, outcome) = course(rt, alloc, &shared, ports, case)?;
@@ -236,7 +236,7 @@ fn run_unkept<K: Tie + Send + Sync, R: Threads + Wait + Clock + Sync>(
     parts: Parts,
     case: Case,
 ) -> Result<Outcome, Stopped>
-    requires named { AreParts K.roster K.cells K.name K.parts parts }
+    requires named { AreParts K.roster K.cells K.lists K.name K.parts parts }
 {
     let (shared, ports) = Shared::<K, Unkept<K>>::open(alloc, parts)?;
     let (ports, outcome) = course(rt, alloc, &shared, ports, case)?;

@@ -50,7 +50,7 @@ pub fn run<K: Tie + Send + Sync, R: Threads + Wait + Clock + Eprint + Sync>(
     settings: Settings,
     stacks: Stacks,
 ) -> Result<Totals, ServeFault>
-    requires named { AreParts K.roster K.cells K.name K.parts parts }
+    requires named { AreParts K.roster K.cells K.lists K.name K.parts parts }
 {
     let Ok((shared, mut ports)) = Shared::<K, Kept<K>>::open(alloc, parts) else {
         return Err(ServeFault::NoMemory);

@@ -59,7 +59,7 @@ fn pair<K: Tie + Send + Sync, R: Threads + Wait + Sync>(
     client_left: u32,
     errno: Errno,
 ) -> Option<Ends>
-    requires named { AreParts K.roster K.cells K.name K.parts parts }
+    requires named { AreParts K.roster K.cells K.lists K.name K.parts parts }
 {
     let (shared, mut ports) = Shared::<K, Kept<K>>::open(alloc, parts).ok()?;
     let mut alarm = KernelPort::new(ports.pop()?, &shared);
@@ -109,7 +109,7 @@ fn held_in_turn<K: Tie + Send + Sync, R: Threads + Wait + Sync>(
     alloc: Global,
     parts: Parts,
 ) -> Option<bool>
-    requires named { AreParts K.roster K.cells K.name K.parts parts }
+    requires named { AreParts K.roster K.cells K.lists K.name K.parts parts }
 {
     let (shared, mut ports) = Shared::<K, Kept<K>>::open(alloc, parts).ok()?;
     let mut alarm = KernelPort::new(ports.pop()?, &shared);

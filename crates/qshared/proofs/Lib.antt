@@ -3,6 +3,7 @@ pub mod Copying
 pub mod Keeps
 pub mod KeptLog
 pub mod Leftover
+pub mod Lists
 pub mod Places
 pub mod Puts
 pub mod Rows

@@ -1,3 +1,4 @@
+pub mod Asking
 pub mod Counting
 pub mod Due
 pub mod Held

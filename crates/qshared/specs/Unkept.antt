@@ -12,6 +12,7 @@ use Rattle.qrules.specs.Properties.{HasProperties}
 use Rattle.qrules.specs.Trace.{Trace}
 use Rattle.qhandoff.specs.declared.seats.ThreadSeat.{ThreadSeat}
 use Rattle.qhandoff.specs.Words.{took}
+use Rattle.qshared.specs.Asking.{AreCallsOf}
 use Rattle.qshared.specs.Due.{due, of_thread, place}
 
 -- why a call may not be noted: the kernel has made as many as it makes
@@ -23,10 +24,11 @@ refuses_unkept limit past c e = ⊥
 abbrev pub admits_unkept : ℕ → Trace → Call → Type 0
 admits_unkept limit past c = length past < 2 ^ 40
 
--- there is a past, lawful and with the six properties, of as many events as these counts sum to, by which each thread is due just what its seat took and what is left for it
-pub record WasMade (roster : List Member) (seats : List (ThreadSeat Completion)) (calls : List ℕ) (left : List Completion) : Type 0 where
+-- there is a past, lawful and with the six properties, of as many events as these counts sum to, in which each thread's calls are just those of its list, and by which it is due just what its seat took and what is left for it
+pub record WasMade (roster : List Member) (seats : List (ThreadSeat Completion)) (asked : List (List Call)) (calls : List ℕ) (left : List Completion) : Type 0 where
   pub past : Trace
   pub many : sum calls ≡ length past
+  pub asked_is : AreCallsOf roster asked past
   pub lawful : IsLawful roster past
   pub properties : HasProperties roster past
   pub due_is : (t i : ℕ) → place (threads_of roster) t ≡ Some i → took (get_elem? seats i) ++ of_thread t left ≡ due past t

@@ -1,17 +1,19 @@
 //! What a shared kernel is made of.
-ghost use Rattle.std.specs.Prelude.{◌≡◌, ◌≤◌, ◌^◌, ◌⊎◌, ◌<◌, ℕ, [], length, IfOk, IfErr};
+ghost use Rattle.std.specs.Prelude.{◌≡◌, ◌≤◌, ◌^◌, ◌⊎◌, ◌<◌, ℕ, [], length, map, IfOk, IfErr};
 ghost use lib.ListN.{get_elem?};
 ghost use Rattle.qrules.specs.Facts.{threads_of};
 ghost use Rattle.qrecords.specs.Threads.{members_of};
 ghost use Rattle.qkernel.specs.Stands.{StandsAt};
 ghost use Rattle.qhandoff.specs.Steps.{seated_desk};
 ghost use Rattle.qhandoff.specs.Words.{cells_id, kernel_id, count, desk, took, IsRow};
+ghost use Rattle.qshared.specs.Asking.{asked_in, heard_in};
 
 use qbase::errno::Errno;
 use qbase::ids::ThreadNo;
 use qhandoff::cells::Cells;
 use qhandoff::seats::{KernelSeat, ThreadSeat};
 use qkernel::kernel::Kernel;
+use qpast::asking::{Asked, Heard, halves};
 use qrules::call::Completion;
 use qtables::member::Member;
 use qtables::roster::Roster;
@@ -28,11 +30,15 @@ pub struct Parts {
     pub kernel: Kernel,
     pub threads: Vec<ThreadNo>,
     pub limit: usize,
+    pub asked: Vec<Asked>,
+    pub heard: Vec<Heard>,
     ghost fits: { (kernel_id seat ≡ cells_id cells) × (desk seat ≡ seated_desk (count cells) (count cells)) × (blank.parts ≡ count cells) },
     ghost row: { (length seats.items ≡ count cells) × IsRow (cells_id cells) seats.items × ((k : ℕ) → took (get_elem? seats.items k) ≡ []) },
     ghost stands: { StandsAt (members_of kernel.threads) kernel [] },
     ghost threads_are: { (threads.items ≡ threads_of (members_of kernel.threads)) × (length threads.items ≡ count cells) },
     ghost bounded: { (2 ≤ limit) × (limit ≤ 2 ^ 20) },
+    ghost halves: { (map (λ a. a.name) asked.items ≡ map (λ h. h.name) heard.items) × (length asked.items ≡ count cells) × (length heard.items ≡ count cells) },
+    ghost empty: { ((k : ℕ) → asked_in (get_elem? asked.items k) ≡ []) × ((k : ℕ) → heard_in (get_elem? heard.items k) ≡ []) },
 }
 
 /// The threads of these members.
@@ -44,6 +50,22 @@ fn threads_in(alloc: Global, members: &[Member]) -> Result<Vec<ThreadNo>, AllocE
         threads.push(member.thread)?;
     }
     Ok(threads)
+}
+
+/// So many lists of calls, each in two halves.
+fn lists(alloc: Global, many: usize) -> Result<(Vec<Asked>, Vec<Heard>), AllocError>
+    ensures names { IfOk result (λ r. map (λ a. a.name) r.0.items ≡ map (λ h. h.name) r.1.items) }
+    ensures many { IfOk result (λ r. (length r.0.items ≡ many) × (length r.1.items ≡ many)) }
+    ensures empty { IfOk result (λ r. ((k : ℕ) → asked_in (get_elem? r.0.items k) ≡ []) × ((k : ℕ) → heard_in (get_elem? r.1.items k) ≡ [])) }
+{
+    let mut asked = Vec::with_capacity(alloc, many)?;
+    let mut heard = Vec::with_capacity(alloc, many)?;
+    for _ in 0..many {
+        let (one, other) = halves();
+        asked.push_reserved(one);
+        heard.push_reserved(other);
+    }
+    Ok((asked, heard))
 }
 
 /// The parts of a kernel for these threads, with this limit.
@@ -62,6 +84,9 @@ fn made(alloc: Global, roster: &Roster, limit: usize) -> Result<Parts, Errno>
     let Ok(kernel) = Kernel::new(alloc, roster) else {
         return Err(Errno::NoMemory);
     };
+    let Ok((asked, heard)) = lists(alloc, threads.len()) else {
+        return Err(Errno::NoMemory);
+    };
     Ok(Parts {
         cells,
         seat,
@@ -70,6 +95,8 @@ fn made(alloc: Global, roster: &Roster, limit: usize) -> Result<Parts, Errno>
         kernel,
         threads,
         limit,
+        asked,
+        heard,
     })
 }
 

@@ -1,5 +1,5 @@
 //! One thread's way to a shared kernel.
-ghost use Rattle.std.specs.Prelude.{◌≡◌, ◌+◌, ◌++◌, [], ◌∷◌, true, false, MatchOption, if◌then◌else◌, Some};
+ghost use Rattle.std.specs.Prelude.{◌≡◌, ◌+◌, ◌++◌, [], ◌∷◌, true, false, MatchOption, if◌then◌else◌, slice_index_or, Some};
 ghost use Rattle.qrules.specs.Facts.{threads_of};
 ghost use Rattle.qhandoff.specs.Words.{thread_id, thread_of, taken};
 ghost use Rattle.qshared.specs.Due.{place};
@@ -15,6 +15,7 @@ use crossbeam_utils::sync::Parker;
 use qbase::errno::Errno;
 use qbase::ids::ThreadNo;
 use qhandoff::seats::ThreadSeat;
+use qpast::asking::Asked;
 use qrules::call::{Call, Completion};
 use std::sync::Wait;
 use std::sync::ledger::Share;
@@ -43,10 +44,13 @@ pub struct Port<K: Tie> {
     pub(crate) calls: u64,
     pub(crate) pending: bool,
     pub(crate) parker: Parker,
+    // Its calls that are events, for clauses alone.
+    pub(crate) asked: Asked,
     ghost seat_is: { thread_id seat ≡ K.cells },
     ghost thread_is: { place (threads_of K.roster) thread ≡ Some (thread_of seat) },
     ghost counted: { share.amount ≡ calls },
     ghost part: { share.parts ≡ 1 },
+    ghost asked_is: { slice_index_or K.lists (thread_of seat) 0 ≡ asked.name },
 }
 
 impl<K: Tie> Port<K> {
@@ -55,10 +59,12 @@ impl<K: Tie> Port<K> {
         seat: ThreadSeat<Completion>,
         share: Share<K>,
         parker: Parker,
+        asked: Asked,
     ) -> Port<K>
         requires seat { (thread_id seat ≡ K.cells) × (place (threads_of K.roster) thread ≡ Some (thread_of seat)) }
         requires share { (share.amount ≡ 0) × (share.parts ≡ 1) }
-        ensures { (result.seat ≡ seat) × (result.calls ≡ 0) × (result.pending ≡ false) × (result.thread ≡ thread) }
+        requires asked { slice_index_or K.lists (thread_of seat) 0 ≡ asked.name }
+        ensures { (result.seat ≡ seat) × (result.calls ≡ 0) × (result.pending ≡ false) × (result.thread ≡ thread) × (result.asked ≡ asked) }
     {
         Port {
             thread,
@@ -67,6 +73,7 @@ impl<K: Tie> Port<K> {
             calls: 0,
             pending: false,
             parker,
+            asked,
         }
     }
 
@@ -78,16 +85,25 @@ impl<K: Tie> Port<K> {
     pub fn call<L: Log, R: Wait>(&mut self, shared: &Shared<K, L>, rt: &R, call: Call) -> Called
         ensures came { Came K.roster L.refuses self.old.thread call result }
         ensures calls { self.new.calls ≡ self.old.calls + (if is_call result then 1 else 0) }
+        ensures asked { self.new.asked.calls ≡ self.old.asked.calls ++ (if is_call result then call ∷ [] else []) }
         ensures pending { self.new.pending ≡ pends result self.old.pending }
         ensures taken { taken self.new.seat ≡ taken self.old.seat ++ gives result }
         ensures same { (self.new.thread ≡ self.old.thread) × (thread_of self.new.seat ≡ thread_of self.old.seat) }
     {
+        let place = self.seat.thread();
         let (performed, woken) = {
             let mut locked = spinning::lock(&shared.lock, rt);
-            let performed = locked.call(&shared.cells, self.thread, &mut self.share, call);
+            let performed = locked.call(
+                &shared.cells,
+                self.thread,
+                place,
+                &mut self.share,
+                &mut self.asked,
+                call,
+            );
             (performed, locked.traced.woken)
         };
-        shared.wake(woken, self.seat.thread());
+        shared.wake(woken, place);
         match performed {
             Performed::Refused(errno, call) => Called::Refused(errno, call),
             Performed::Open => {
@@ -112,7 +128,7 @@ impl<K: Tie> Port<K> {
     pub fn poll<L: Log>(&mut self, shared: &Shared<K, L>) -> Option<Completion>
         ensures taken { MatchOption result (taken self.new.seat ≡ taken self.old.seat) (λ x. taken self.new.seat ≡ taken self.old.seat ++ x ∷ []) }
         ensures pending { MatchOption result (self.new.pending ≡ self.old.pending) (λ x. self.new.pending ≡ false) }
-        ensures same { (self.new.thread ≡ self.old.thread) × (thread_of self.new.seat ≡ thread_of self.old.seat) × (self.new.calls ≡ self.old.calls) }
+        ensures same { (self.new.thread ≡ self.old.thread) × (thread_of self.new.seat ≡ thread_of self.old.seat) × (self.new.calls ≡ self.old.calls) × (self.new.asked ≡ self.old.asked) }
     {
         let completion = self.seat.poll(&shared.cells);
         if completion.is_some() {
@@ -125,7 +141,7 @@ impl<K: Tie> Port<K> {
     fn look<L: Log>(&mut self, shared: &Shared<K, L>) -> Option<Completion>
         ensures taken { MatchOption result (taken self.new.seat ≡ taken self.old.seat) (λ x. taken self.new.seat ≡ taken self.old.seat ++ x ∷ []) }
         ensures pending { MatchOption result (self.new.pending ≡ self.old.pending) (λ x. self.new.pending ≡ false) }
-        ensures same { (self.new.thread ≡ self.old.thread) × (thread_of self.new.seat ≡ thread_of self.old.seat) × (self.new.calls ≡ self.old.calls) }
+        ensures same { (self.new.thread ≡ self.old.thread) × (thread_of self.new.seat ≡ thread_of self.old.seat) × (self.new.calls ≡ self.old.calls) × (self.new.asked ≡ self.old.asked) }
     {
         let backoff = Backoff::new();
         for _ in 0..LOOKS {
@@ -144,7 +160,7 @@ impl<K: Tie> Port<K> {
         requires { self.old.pending ≡ true }
         ensures taken { taken self.new.seat ≡ taken self.old.seat ++ result ∷ [] }
         ensures pending { self.new.pending ≡ false }
-        ensures same { (self.new.thread ≡ self.old.thread) × (thread_of self.new.seat ≡ thread_of self.old.seat) × (self.new.calls ≡ self.old.calls) }
+        ensures same { (self.new.thread ≡ self.old.thread) × (thread_of self.new.seat ≡ thread_of self.old.seat) × (self.new.calls ≡ self.old.calls) × (self.new.asked ≡ self.old.asked) }
     {
         for _ in rt.forever() {
             if let Some(completion) = self.look(shared) {

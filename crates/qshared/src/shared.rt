@@ -8,6 +8,7 @@ ghost use Rattle.qrules.specs.Lawful.{IsLawful, followed_by};
 ghost use Rattle.qrules.specs.Laws.{RiseByThread};
 ghost use Rattle.qrules.specs.Properties.{HasProperties};
 ghost use Rattle.qhandoff.specs.Words.{cells_id, thread_of, taken, took, IsRow};
+ghost use Rattle.qshared.specs.Asking.{AreCallsOf, asked_in};
 ghost use Rattle.qshared.specs.Due.{place, due, of_thread};
 ghost use Rattle.qshared.specs.Naming.{AreParts, AreAll};
 ghost use Rattle.qshared.specs.Unkept.{WasMade};
@@ -26,6 +27,7 @@ use qbase::errno::Errno;
 use qbase::ids::ThreadNo;
 use qhandoff::cells::Cells;
 use qhandoff::seats::ThreadSeat;
+use qpast::asking::{Asked, Heard};
 use qrules::call::Completion;
 use std::alloc::{AllocError, Global};
 use std::sync::Mutex;
@@ -66,40 +68,49 @@ fn ports_for<K: Tie>(
     alloc: Global,
     threads: &[ThreadNo],
     seats: Vec<ThreadSeat<Completion>>,
+    mut asked: Vec<Asked>,
     spare: &mut Share<K>,
 ) -> Result<(Vec<Port<K>>, Vec<Unparker>), AllocError>
     requires roster { IsRoster K.roster × (threads.now ≡ threads_of K.roster) }
     requires seats { (length seats.items ≡ length threads.now) × IsRow K.cells seats.items × ((k : ℕ) → took (get_elem? seats.items k) ≡ []) }
+    requires asked { (map (λ a. a.name) asked.items ≡ K.lists) × (length asked.items ≡ K.cells.slots) × ((k : ℕ) → asked_in (get_elem? asked.items k) ≡ []) }
     requires sized { length threads.now ≡ K.cells.slots }
     requires spare { (spare.old.parts ≡ length seats.items) × (spare.old.amount ≡ 0) }
     ensures spare { OnOk result ((spare.new.parts ≡ 0) × (spare.new.amount ≡ 0)) }
     ensures ports { IfOk result (λ r. AreAll (λ p. thread_of p.seat) K.cells.slots r.0.items) }
-    ensures new { IfOk result (λ r. (k : ℕ) (p : _) → get_elem? r.0.items k ≡ some p → (p.calls ≡ 0) × (p.pending ≡ false) × (taken p.seat ≡ [])) }
+    ensures new { IfOk result (λ r. (k : ℕ) (p : _) → get_elem? r.0.items k ≡ some p → (p.calls ≡ 0) × (p.pending ≡ false) × (taken p.seat ≡ []) × (p.asked.calls ≡ [])) }
 {
     let mut ports = Vec::with_capacity(alloc, seats.len())?;
     let mut unparkers = Vec::with_capacity(alloc, seats.len())?;
+    asked.reverse();
     for seat in seats {
         let parker = Parker::new(alloc)?;
         unparkers.push(parker.unparker().clone()?)?;
         let thread = threads[seat.thread()];
-        let port = Port::new(thread, seat, spare.split_off(1, 0), parker);
+        let Some(own) = asked.pop() else {
+            unreachable!()
+        };
+        let port = Port::new(thread, seat, spare.split_off(1, 0), parker, own);
         ports.push_reserved(port);
     }
     Ok((ports, unparkers))
 }
 
-/// Takes the ports apart: their seats, how many calls each counts, and all their shares in one.
+/// Takes the ports apart: their seats, how many calls each counts, what each asked for, and all their shares in one.
 fn gather<K: Tie>(
     ports: Vec<Port<K>>,
     seats: &mut Vec<ThreadSeat<Completion>>,
     calls: &mut Vec<u64>,
+    asked: &mut Vec<Asked>,
     spare: &mut Share<K>,
 )
     requires seats { (seats.old.items ≡ []) × (length ports.items ≤ vec_capacity seats.old) }
     requires calls { (calls.old.items ≡ []) × (length ports.items ≤ vec_capacity calls.old) }
+    requires asked { (asked.old.items ≡ []) × (length ports.items ≤ vec_capacity asked.old) }
     requires spare { (spare.old.parts ≡ 0) × (spare.old.amount ≡ 0) }
     ensures seats { seats.new.items ≡ map (λ p. p.seat) ports.items }
     ensures calls { calls.new.items ≡ map (λ p. p.calls) ports.items }
+    ensures asked { asked.new.items ≡ map (λ p. p.asked) ports.items }
     ensures spare { (spare.new.parts ≡ length ports.items) × (spare.new.amount ≡ sum calls.new.items) }
 {
     for port in ports {
@@ -107,11 +118,26 @@ fn gather<K: Tie>(
             seat,
             share,
             calls: made,
+            asked: own,
             ..
         } = port;
         seats.push_reserved(seat);
         calls.push_reserved(made);
+        asked.push_reserved(own);
         spare.merge(share);
+    }
+}
+
+/// Both halves of each of these lists are the same.
+fn agree(mut asked: Vec<Asked>, mut heard: Vec<Heard>)
+    requires { map (λ a. a.name) asked.items ≡ map (λ h. h.name) heard.items }
+    ensures { map (λ a. a.calls) asked.items ≡ map (λ h. h.calls) heard.items }
+{
+    while let Some(mut one) = asked.pop() {
+        let Some(mut other) = heard.pop() else {
+            unreachable!()
+        };
+        one.agree(&mut other);
     }
 }
 
@@ -123,10 +149,10 @@ impl<K: Tie, L: Log> Shared<K, L> {
         parts: Parts,
         log: L,
     ) -> Result<(Shared<K, L>, Vec<Port<K>>), AllocError>
-        requires named { AreParts K.roster K.cells K.name K.parts parts }
+        requires named { AreParts K.roster K.cells K.lists K.name K.parts parts }
         requires log { (L.roster log ≡ K.roster) × (L.past log ≡ []) }
         ensures ports { IfOk result (λ r. AreAll (λ p. thread_of p.seat) K.cells.slots r.1.items) }
-        ensures new { IfOk result (λ r. (k : ℕ) (p : _) → get_elem? r.1.items k ≡ some p → (p.calls ≡ 0) × (p.pending ≡ false) × (taken p.seat ≡ [])) }
+        ensures new { IfOk result (λ r. (k : ℕ) (p : _) → get_elem? r.1.items k ≡ some p → (p.calls ≡ 0) × (p.pending ≡ false) × (taken p.seat ≡ []) × (p.asked.calls ≡ [])) }
     {
         let Parts {
             cells,
@@ -135,6 +161,8 @@ impl<K: Tie, L: Log> Shared<K, L> {
             blank,
             kernel,
             threads,
+            asked,
+            heard,
             ..
         } = parts;
         let _made = kernel.made();
@@ -142,10 +170,11 @@ impl<K: Tie, L: Log> Shared<K, L> {
         let room = Vec::with_capacity(alloc, many)?;
         let calls = Vec::with_capacity(alloc, many)?;
         let left = Vec::with_capacity(alloc, many)?;
+        let halves = Vec::with_capacity(alloc, many)?;
         let (book, mut spare) = blank.open::<K>();
-        let (ports, unparkers) = ports_for(alloc, &threads, seats, &mut spare)?;
+        let (ports, unparkers) = ports_for(alloc, &threads, seats, asked, &mut spare)?;
         let traced = Traced::new(kernel, seat, threads, log);
-        let lock = Mutex::new(Locked::new(traced, book, spare, room, calls, left));
+        let lock = Mutex::new(Locked::new(traced, book, spare, room, calls, left, halves, heard));
         let shared = Shared {
             cells,
             lock,
@@ -187,6 +216,7 @@ impl<K: Tie, L: Log> Shared<K, L> {
         requires all { AreAll (λ p. thread_of p.seat) K.cells.slots ports.items }
         ensures calls { result.calls.items ≡ map (λ p. p.calls) ports.items }
         ensures sum { sum result.calls.items ≡ length (L.past result.log) }
+        ensures asked { AreCallsOf K.roster (map (λ p. p.asked.calls) ports.items) (L.past result.log) }
         ensures lawful { IsLawful K.roster (L.past result.log) × HasProperties K.roster (L.past result.log) }
         ensures rises { RiseByThread result.left.items }
         ensures due { (t i : ℕ) → place (threads_of K.roster) t ≡ Some i → took (get_elem? (map (λ p. p.seat) ports.items) i) ++ of_thread t result.left.items ≡ due (L.past result.log) t }
@@ -199,9 +229,12 @@ impl<K: Tie, L: Log> Shared<K, L> {
             mut seats,
             mut calls,
             left: room,
+            mut asked,
+            heard,
         } = lock.into_inner();
         let Traced { seat, log, .. } = traced;
-        gather(ports, &mut seats, &mut calls, &mut spare);
+        gather(ports, &mut seats, &mut calls, &mut asked, &mut spare);
+        agree(asked, heard);
         book.audit(&mut spare);
         let left = cells.close(seat, seats);
         Closed {
@@ -217,9 +250,9 @@ fn opened<K: Tie>(
     alloc: Global,
     parts: Parts,
 ) -> Result<(Shared<K, Kept<K>>, Vec<Port<K>>), AllocError>
-    requires named { AreParts K.roster K.cells K.name K.parts parts }
+    requires named { AreParts K.roster K.cells K.lists K.name K.parts parts }
     ensures ports { IfOk result (λ r. AreAll (λ p. thread_of p.seat) K.cells.slots r.1.items) }
-    ensures new { IfOk result (λ r. (k : ℕ) (p : _) → get_elem? r.1.items k ≡ some p → (p.calls ≡ 0) × (p.pending ≡ false) × (taken p.seat ≡ [])) }
+    ensures new { IfOk result (λ r. (k : ℕ) (p : _) → get_elem? r.1.items k ≡ some p → (p.calls ≡ 0) × (p.pending ≡ false) × (taken p.seat ≡ []) × (p.asked.calls ≡ [])) }
 {
     let _made = parts.kernel.made();
     let log = Kept::new(alloc, parts.threads.clone()?, parts.limit)?;
@@ -231,9 +264,9 @@ fn opened_unkept<K: Tie>(
     alloc: Global,
     parts: Parts,
 ) -> Result<(Shared<K, Unkept<K>>, Vec<Port<K>>), AllocError>
-    requires named { AreParts K.roster K.cells K.name K.parts parts }
+    requires named { AreParts K.roster K.cells K.lists K.name K.parts parts }
     ensures ports { IfOk result (λ r. AreAll (λ p. thread_of p.seat) K.cells.slots r.1.items) }
-    ensures new { IfOk result (λ r. (k : ℕ) (p : _) → get_elem? r.1.items k ≡ some p → (p.calls ≡ 0) × (p.pending ≡ false) × (taken p.seat ≡ [])) }
+    ensures new { IfOk result (λ r. (k : ℕ) (p : _) → get_elem? r.1.items k ≡ some p → (p.calls ≡ 0) × (p.pending ≡ false) × (taken p.seat ≡ []) × (p.asked.calls ≡ [])) }
 {
     Shared::with_log(alloc, parts, Unkept::new())
 }
@@ -242,9 +275,9 @@ impl<K: Tie> Shared<K, Kept<K>> {
     /// Opens a kernel of these parts that keeps its past in memory, with a port for each thread, in rising thread
     /// number. `NoMemory` is the only error, and drops the parts.
     pub fn open(alloc: Global, parts: Parts) -> Result<(Shared<K, Kept<K>>, Vec<Port<K>>), Errno>
-        requires named { AreParts K.roster K.cells K.name K.parts parts }
+        requires named { AreParts K.roster K.cells K.lists K.name K.parts parts }
         ensures ports { IfOk result (λ r. AreAll (λ p. thread_of p.seat) K.cells.slots r.1.items) }
-        ensures new { IfOk result (λ r. (k : ℕ) (p : _) → get_elem? r.1.items k ≡ some p → (p.calls ≡ 0) × (p.pending ≡ false) × (taken p.seat ≡ [])) }
+        ensures new { IfOk result (λ r. (k : ℕ) (p : _) → get_elem? r.1.items k ≡ some p → (p.calls ≡ 0) × (p.pending ≡ false) × (taken p.seat ≡ []) × (p.asked.calls ≡ [])) }
         ensures error { IfErr result (λ e. e ≡ Errno.NoMemory) }
     {
         match opened(alloc, parts) {
@@ -260,6 +293,7 @@ impl<K: Tie> Shared<K, Kept<K>> {
         requires all { AreAll (λ p. thread_of p.seat) K.cells.slots ports.items }
         ensures calls { result.calls.items ≡ map (λ p. p.calls) ports.items }
         ensures sum { sum result.calls.items ≡ length result.trace.events }
+        ensures asked { AreCallsOf K.roster (map (λ p. p.asked.calls) ports.items) (followed_by [] result.trace.events) }
         ensures lawful { (result.trace.first ≡ 1) × IsLawful K.roster (followed_by [] result.trace.events) × HasProperties K.roster (followed_by [] result.trace.events) }
         ensures rises { RiseByThread result.left.items }
         ensures due { (t i : ℕ) → place (threads_of K.roster) t ≡ Some i → took (get_elem? (map (λ p. p.seat) ports.items) i) ++ of_thread t result.left.items ≡ due (followed_by [] result.trace.events) t }
@@ -277,9 +311,9 @@ impl<K: Tie> Shared<K, Unkept<K>> {
     /// Opens a kernel of these parts that keeps no past, with a port for each thread, in rising thread number. The
     /// limit of the parts has no meaning for it. `NoMemory` is the only error, and drops the parts.
     pub fn open(alloc: Global, parts: Parts) -> Result<(Shared<K, Unkept<K>>, Vec<Port<K>>), Errno>
-        requires named { AreParts K.roster K.cells K.name K.parts parts }
+        requires named { AreParts K.roster K.cells K.lists K.name K.parts parts }
         ensures ports { IfOk result (λ r. AreAll (λ p. thread_of p.seat) K.cells.slots r.1.items) }
-        ensures new { IfOk result (λ r. (k : ℕ) (p : _) → get_elem? r.1.items k ≡ some p → (p.calls ≡ 0) × (p.pending ≡ false) × (taken p.seat ≡ [])) }
+        ensures new { IfOk result (λ r. (k : ℕ) (p : _) → get_elem? r.1.items k ≡ some p → (p.calls ≡ 0) × (p.pending ≡ false) × (taken p.seat ≡ []) × (p.asked.calls ≡ [])) }
         ensures error { IfErr result (λ e. e ≡ Errno.NoMemory) }
     {
         match opened_unkept(alloc, parts) {
@@ -296,7 +330,7 @@ impl<K: Tie> Shared<K, Unkept<K>> {
         requires all { AreAll (λ p. thread_of p.seat) K.cells.slots ports.items }
         ensures calls { result.calls.items ≡ map (λ p. p.calls) ports.items }
         ensures rises { RiseByThread result.left.items }
-        ensures past { WasMade K.roster (map (λ p. p.seat) ports.items) result.calls.items result.left.items }
+        ensures past { WasMade K.roster (map (λ p. p.seat) ports.items) (map (λ p. p.asked.calls) ports.items) result.calls.items result.left.items }
     {
         let Closed { calls, left, .. } = self.close(ports);
         Tally { calls, left }

@@ -155,7 +155,7 @@ fn many<K: Tie + Send + Sync, R: Threads + Wait + Abort + Sync>(
     parts: Parts,
     size: Size,
 ) -> Report
-    requires named { AreParts K.roster K.cells K.name K.parts parts }
+    requires named { AreParts K.roster K.cells K.lists K.name K.parts parts }
 {
     let (shared, ports) = Shared::<K, Kept<K>>::open(alloc, parts).expect(rt, "a kernel");
     let ports = all_threads(rt, alloc, &shared, ports, size);
@@ -169,7 +169,7 @@ fn many_and_no_past<K: Tie + Send + Sync, R: Threads + Wait + Abort + Sync>(
     parts: Parts,
     size: Size,
 ) -> Tally
-    requires named { AreParts K.roster K.cells K.name K.parts parts }
+    requires named { AreParts K.roster K.cells K.lists K.name K.parts parts }
 {
     let (shared, ports) = Shared::<K, Unkept<K>>::open(alloc, parts).expect(rt, "a kernel");
     let ports = all_threads(rt, alloc, &shared, ports, size);

@@ -142,7 +142,7 @@ fn one_thread_with_both_ports<K: Tie>(
     alloc: Global,
     parts: Parts,
 ) -> Report
-    requires named { AreParts K.roster K.cells K.name K.parts parts }
+    requires named { AreParts K.roster K.cells K.lists K.name K.parts parts }
 {
     let (shared, mut ports) = Shared::<K, Kept<K>>::open(alloc, parts).expect(rt, "a kernel");
     let mut client = ports.pop().expect(rt, "a client");
@@ -192,7 +192,7 @@ fn both_ports_in_one_thread(rt: HostRuntime) {
 
 /// A server that is blocked in a Receive and doesn't collect what the client's Shutdown ends it with.
 fn left_uncollected<K: Tie>(rt: &(impl Wait + Abort), alloc: Global, parts: Parts) -> Report
-    requires named { AreParts K.roster K.cells K.name K.parts parts }
+    requires named { AreParts K.roster K.cells K.lists K.name K.parts parts }
 {
     let (shared, mut ports) = Shared::<K, Kept<K>>::open(alloc, parts).expect(rt, "a kernel");
     let mut client = ports.pop().expect(rt, "a client");
@@ -232,7 +232,7 @@ fn the_trace_limit_is_two_to_a_million(rt: HostRuntime) {
 
 /// The same on a kernel that keeps no past, up to a Shutdown.
 fn both_ports_and_no_past<K: Tie>(rt: &(impl Wait + Abort), alloc: Global, parts: Parts) -> Tally
-    requires named { AreParts K.roster K.cells K.name K.parts parts }
+    requires named { AreParts K.roster K.cells K.lists K.name K.parts parts }
 {
     let (shared, mut ports) = Shared::<K, Unkept<K>>::open(alloc, parts).expect(rt, "a kernel");
     let mut client = ports.pop().expect(rt, "a client");
@@ -264,7 +264,7 @@ fn both_ports_of_a_kernel_that_keeps_no_past(rt: HostRuntime) {
 
 /// Ports in another order, or not all of them, aren't all.
 fn not_all<K: Tie>(rt: &impl Abort, alloc: Global, parts: Parts)
-    requires named { AreParts K.roster K.cells K.name K.parts parts }
+    requires named { AreParts K.roster K.cells K.lists K.name K.parts parts }
 {
     let (shared, mut ports) = Shared::<K, Kept<K>>::open(alloc, parts).expect(rt, "a kernel");
     assert!(rt; shared.all(&ports));

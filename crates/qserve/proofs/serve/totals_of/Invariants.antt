@@ -1,3 +1,4 @@
+use Rattle.std.specs.Prelude.{map}
 use Rattle.qrecords.specs.Threads.{members_of}
 use Rattle.qhandoff.specs.Words.{cells_id}
 use Rattle.qserve.proofs.serve.totals_of.Given as goal
@@ -6,4 +7,4 @@ abbrev pub ghosts-run-K-Ledger : goal.ghosts-run-K-Ledger
 ghosts-run-K-Ledger g a = record { name = a.parts.blank.name; parts = a.parts.blank.parts }
 
 abbrev pub ghosts-run-K-Tie : goal.ghosts-run-K-Tie
-ghosts-run-K-Tie g a = record { roster = members_of a.parts.kernel.threads; cells = cells_id a.parts.cells }
+ghosts-run-K-Tie g a = record { roster = members_of a.parts.kernel.threads; cells = cells_id a.parts.cells; lists = map (λ h. h.name) a.parts.heard.items }

@@ -5,7 +5,8 @@ abbrev pub invariant-loop-port : goal.invariant-loop-port
 invariant-loop-port g l = record {
   seats : l.seats.items ≡ map (λ p. p.seat) l.yielded;
   calls : l.calls.items ≡ map (λ p. p.calls) l.yielded;
+  asked : l.asked.items ≡ map (λ p. p.asked) l.yielded;
   parts : l.spare.parts ≡ length l.yielded;
   amount : l.spare.amount ≡ sum l.calls.items;
-  room : (length l.seats.items ≡ length l.yielded) × (length l.calls.items ≡ length l.yielded) × (length l.fn.ports.items ≤ vec_capacity l.seats) × (length l.fn.ports.items ≤ vec_capacity l.calls);
+  room : (length l.seats.items ≡ length l.yielded) × (length l.calls.items ≡ length l.yielded) × (length l.fn.ports.items ≤ vec_capacity l.seats) × (length l.fn.ports.items ≤ vec_capacity l.calls) × (length l.asked.items ≡ length l.yielded) × (length l.fn.ports.items ≤ vec_capacity l.asked);
 }

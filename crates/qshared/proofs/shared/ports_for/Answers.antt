@@ -1,12 +1,17 @@
-use Rattle.std.proofs.Common.{◌≡◌, false, ◌++◌, ◌∷◌, [], arith, sym, ap, ◌∙◌, map, length, get_or, ◌<◌}
+use Rattle.std.proofs.Common.{◌≡◌, false, ◌+◌, ◌++◌, ◌∷◌, [], suc, arith, sym, ap, subst, ◌∙◌, map, reverse, length, length-append, append_assoc, get_or, ◌<◌}
 use Rattle.std.proofs.lemmas.Grind.{common_steps}
 use Rattle.std.proofs.lemmas.Iterator.Adapters.{YieldsList-from_vec}
 use Rattle.std.proofs.lemmas.Iterator.Consumers.{YieldsList-turn, YieldsList-end}
+use Rattle.std.proofs.lemmas.List.{length-map}
 use lib.ListN.{get_elem?}
+use lib.Seq.{get_or-append_seam}
 use Rattle.std.specs.Prelude.{Some}
 use Rattle.qrules.specs.Facts.{threads_of}
 use Rattle.qrules.proofs.Rosters.{rises}
 use Rattle.atomic_table.proofs.Lists.{at_index}
+use Rattle.qhandoff.specs.Words.{thread_of}
+use Rattle.qkernel.proofs.Running.{popped}
+use Rattle.qshared.specs.Asking.{asked_in}
 use Rattle.qshared.specs.Due.{place}
 use Rattle.qshared.proofs.Places.{place_at}
 use Rattle.qshared.proofs.Rows.{map_same, map_snoc, each_pushed, ports_fresh}
@@ -28,15 +33,36 @@ new-port-requires-clause-seat g c =
     let d = c.index-threads-thread.result in
     (row.0, ap (place ts) (c.index-threads-thread.is ∙ ap (λ xs. get_or xs c.thread.result d) same) ∙ place_at ts c.thread.result d (rises g.K.Tie.roster c.requires.roster.0) below ∙ ap Some c.thread.ensures.number)
 
+pub new-port-requires-clause-asked : goal.new-port-requires-clause-asked
+new-port-requires-clause-asked g c =
+    let t = YieldsList-turn (YieldsList-from_vec {s = c.into_iter-seat-iterator.result} c.args.seats.items c.into_iter-seat-iterator.ensures.into_iter_gives.0 (c.into_iter-seat-iterator.ensures.into_iter_gives.1 ∙ c.args.seats.ok.0)) c.loop-seat.yielded c.loop-seat.seat-iterator c.loop-seat.yielded_by c.next.result c.next.new.self c.in-Some.seat c.in-Some.is c.next.ensures.steps in
+    let row = c.requires.seats.1 (length c.loop-seat.yielded) c.in-Some.seat (at_index c.args.seats.items (length c.loop-seat.yielded) c.in-Some.seat t.0 t.1) in
+    let v = c.loop-seat.invariant in
+    let own = c.in-Some-pop.own in
+    let turn : reverse c.loop-seat.asked.items ≡ own ∷ reverse c.pop.new.self.items = popped c.loop-seat.asked.items c.pop.new.self.items own c.in-Some-pop.ensures.items in
+    let R = map (λ a. a.name) (reverse c.pop.new.self.items) in
+    let N = map (λ q. q.asked.name) c.loop-seat.ports.items in
+    ap (λ ns. get_or ns (thread_of c.in-Some.seat) 0) (sym v.6 ∙ ap (λ ys. N ++ map (λ a. a.name) ys) turn) ∙ ap (λ k. get_or (N ++ own.name ∷ R) k 0) (row.1 ∙ sym v.4 ∙ sym (length-map c.loop-seat.ports.items (λ q. q.asked.name))) ∙ get_or-append_seam N own.name R 0
+
 pub loop-seat-preserved : goal.loop-seat-preserved
-loop-seat-preserved g c = let v = c.loop-seat.invariant in let e = c.push_reserved.ensures.items in let p = c.new-port.result in (
-  ap (map (λ q. q.seat)) e ∙ map_snoc (λ q. q.seat) c.loop-seat.ports.items p ∙ ap (λ ys. ys ++ p.seat ∷ []) v.0 ∙ ap (λ s. c.loop-seat.yielded ++ s ∷ []) c.new-port.ensures.0,
-  (λ k q at. each_pushed (λ r. (r.calls ≡ 0) × (r.pending ≡ false)) c.loop-seat.ports.items p v.1 (c.new-port.ensures.1, c.new-port.ensures.2) k q (ap (λ ys. get_elem? ys k) (sym e) ∙ at)),
-  grind (arith, common_steps),
-  grind (arith, common_steps),
-  grind (arith, common_steps),
-  grind (arith, common_steps),
-)
+loop-seat-preserved g c =
+    let v = c.loop-seat.invariant in let e = c.push_reserved.ensures.items in let p = c.new-port.result in
+    let own = c.in-Some-pop.own in
+    let turn : reverse c.loop-seat.asked.items ≡ own ∷ reverse c.pop.new.self.items = popped c.loop-seat.asked.items c.pop.new.self.items own c.in-Some-pop.ensures.items in
+    let R = map (λ a. a.name) (reverse c.pop.new.self.items) in
+    let N = map (λ q. q.asked.name) c.loop-seat.ports.items in
+    let more : length c.push_reserved.new.self.items ≡ length c.loop-seat.ports.items + 1 = ap length e ∙ length-append c.loop-seat.ports.items (p ∷ []) in
+    let less : length c.loop-seat.asked.items ≡ length c.pop.new.self.items + 1 = ap length c.in-Some-pop.ensures.items ∙ length-append c.pop.new.self.items (own ∷ []) in (
+      ap (map (λ q. q.seat)) e ∙ map_snoc (λ q. q.seat) c.loop-seat.ports.items p ∙ ap (λ ys. ys ++ p.seat ∷ []) v.0 ∙ ap (λ s. c.loop-seat.yielded ++ s ∷ []) c.new-port.ensures.0,
+      (λ k q at. each_pushed (λ r. (r.calls ≡ 0) × (r.pending ≡ false) × (r.asked.calls ≡ [])) c.loop-seat.ports.items p v.1 (c.new-port.ensures.1, c.new-port.ensures.2, ap (λ a. a.calls) c.new-port.ensures.4 ∙ subst (λ xs. asked_in (get_elem? xs 0) ≡ []) turn (v.7 0)) k q (ap (λ ys. get_elem? ys k) (sym e) ∙ at)),
+      grind (arith, common_steps),
+      grind (arith, common_steps),
+      grind (arith, common_steps),
+      grind (arith, common_steps),
+      ap (λ ys. map (λ q. q.asked.name) ys ++ R) e ∙ ap (λ ys. ys ++ R) (map_snoc (λ q. q.asked.name) c.loop-seat.ports.items p) ∙ append_assoc N (p.asked.name ∷ []) R ∙ ap (λ n. N ++ n ∷ R) (ap (λ a. a.name) c.new-port.ensures.4) ∙ ap (λ ys. N ++ map (λ a. a.name) ys) (sym turn) ∙ v.6,
+      (λ k. subst (λ xs. asked_in (get_elem? xs (suc k)) ≡ []) turn (v.7 (suc k))),
+      omega (arith, more, less, v.8),
+    )
 
 pub returns-clause-ports : goal.returns-clause-ports
 returns-clause-ports g c =
@@ -50,4 +76,4 @@ pub returns-clause-new : goal.returns-clause-new
 returns-clause-new g c =
     let t = YieldsList-end (YieldsList-from_vec {s = c.into_iter-seat-iterator.result} c.args.seats.items c.into_iter-seat-iterator.ensures.into_iter_gives.0 (c.into_iter-seat-iterator.ensures.into_iter_gives.1 ∙ c.args.seats.ok.0)) c.loop-seat.yielded c.loop-seat.seat-iterator c.loop-seat.yielded_by c.next.result c.next.new.self c.in-None.is c.next.ensures.steps in
     let v = c.loop-seat.invariant in let seats = c.requires.seats in
-    λ k p at. ((v.1 k p at).0, (v.1 k p at).1, (ports_fresh (λ q. q.seat) g.K.Tie.cells c.args.seats.items c.loop-seat.ports.items (v.0 ∙ sym (map_same c.loop-seat.yielded) ∙ t.0) seats.1 seats.2 k p at).1)
+    λ k p at. ((v.1 k p at).0, (v.1 k p at).1, (ports_fresh (λ q. q.seat) g.K.Tie.cells c.args.seats.items c.loop-seat.ports.items (v.0 ∙ sym (map_same c.loop-seat.yielded) ∙ t.0) seats.1 seats.2 k p at).1, (v.1 k p at).2)

@@ -1,4 +1,4 @@
-use Rattle.std.proofs.Common.{◌≡◌, ℕ, sym, subst, ap, ◌∙◌, map, length, ◌++◌, ◌<◌, arith}
+use Rattle.std.proofs.Common.{◌≡◌, ℕ, [], sym, subst, ap, ◌∙◌, map, length, get_or, ◌++◌, ◌<◌, arith}
 use Rattle.std.specs.Prelude.{Some}
 use Rattle.std.proofs.lemmas.List.{length-map}
 use lib.ListN.{get_elem?}
@@ -6,8 +6,10 @@ use Rattle.qrules.specs.Facts.{threads_of}
 use Rattle.qrules.proofs.Rosters.{rises}
 use Rattle.qhandoff.specs.Words.{cells_id, count, took, left_for, AreBelow, IsRow}
 use Rattle.qrules.specs.Laws.{RiseByThread}
+use Rattle.qshared.specs.Asking.{calls_of}
 use Rattle.qshared.specs.Due.{due, of_thread, place}
 use Rattle.qshared.proofs.Leftover.{few_left, left_by_thread, left_due}
+use Rattle.qshared.proofs.Lists.{map_both, names_of}
 use Rattle.qshared.proofs.Places.{place_below}
 use Rattle.qshared.proofs.Rows.{seats_row}
 use Rattle.qshared.proofs.shared.Shared.close.Goals as goal
@@ -24,6 +26,19 @@ without_places-requires g c =
     let few = few_left (count c.args.self.cells) c.close-left.result.items c.close-left.ensures.rises c.close-left.ensures.within in
     let roomy = c.into_inner-traced.result.roomy in
     record { room = (roomy.4, omega (arith, few, roomy.5, ap (λ y. y.slots) c.args.self.cells_are)) }
+
+pub agree-requires : goal.agree-requires
+agree-requires g c =
+    let under = c.into_inner-traced.result in
+    let ports = c.args.ports.items in
+    let named = names_of (λ p. p.asked.name) ports g.K.Tie.lists (c.requires.all.0 ∙ sym under.named.1 ∙ sym (length-map under.heard.items (λ h. h.name)) ∙ ap length under.named.0)
+    (λ k p at. ap (λ j. get_or g.K.Tie.lists j 0) (sym (c.requires.all.1 k p at)) ∙ p.asked_is) in
+    ap (map (λ a. a.name)) c.gather.ensures.asked ∙ map_both (λ a. a.name) (λ p. p.asked) ports ∙ named ∙ sym under.named.0
+
+pub returns-clause-asked : goal.returns-clause-asked
+returns-clause-asked g c = λ t i at.
+    ap (λ ls. get_or ls i []) (sym (map_both (λ a. a.calls) (λ p. p.asked) c.args.ports.items) ∙ ap (map (λ a. a.calls)) (sym c.gather.ensures.asked) ∙ c.agree.ensures)
+    ∙ c.into_inner-traced.result.heard_all t i at ∙ ap (λ z. calls_of z.past t) (sym c.traced.view_is)
 
 pub returns-clause-sum : goal.returns-clause-sum
 returns-clause-sum g c =

@@ -1,0 +1,85 @@
+-- The lists of what the threads asked for.
+use Rattle.std.proofs.Common.{◌≡◌, ℕ, zero, suc, ◌<◌, List, [], ◌∷◌, ◌++◌, map, set, length, get_or, refl, ap, sym, subst, ◌∙◌, arith, true, false, eqb, inl, inr, append-nil, get_or-set_other}
+use Rattle.std.specs.Prelude.{Some}
+use Rattle.std.proofs.lemmas.Bool.{cases_Bool, eqb-true, eqb-false, true≢false}
+use Rattle.std.proofs.lemmas.List.{get_or-set_same, get_or-map, map-set, set-get_or}
+use Rattle.std.proofs.lemmas.Option.{same_Some}
+use mathlib.Core.Option.{none, some}
+use mathlib.Core.Option as maybe
+use lib.ListN.{get_elem?}
+use Rattle.qtables.specs.declared.member.Member.{Member}
+use Rattle.qrules.specs.declared.call.Call.{Call}
+use Rattle.qrules.specs.declared.call.Completion.{Completion}
+use Rattle.qrules.specs.Facts.{threads_of}
+use Rattle.qrules.specs.Lawful.{with_event}
+use Rattle.qrules.specs.Trace.{Trace}
+use Rattle.qpast.specs.declared.asking.Heard.{Heard}
+use Rattle.qshared.specs.Asking.{AreCallsOf, calls_of, heard_in}
+use Rattle.qshared.specs.Counting.{is_event}
+use Rattle.qshared.specs.Due.{place}
+use Rattle.qshared.specs.Held.{Held}
+use Rattle.qshared.specs.Performing.{Admits, Performs, Refuses}
+use Rattle.qshared.specs.declared.performed.Performed.{Performed}
+use Rattle.qshared.specs.declared.performed.Performed.TheVariants.{Ended, Open, Refused}
+use Rattle.qshared.proofs.Places.{place_same}
+
+-- ---- rows
+
+-- what is so of each, of one more, and where there is none
+pub each_more : {P : Type 0} (Q : maybe.Option P → Type 0) (xs : List P) (x : P) → ((k : ℕ) → Q (get_elem? xs k)) → Q (some x) → Q none → (k : ℕ) → Q (get_elem? (xs ++ x ∷ []) k)
+each_more Q [] x old now absent zero = now
+each_more Q [] x old now absent (suc k) = absent
+each_more Q (y ∷ ys) x old now absent zero = old zero
+each_more Q (y ∷ ys) x old now absent (suc k) = each_more Q ys x (λ j. old (suc j)) now absent k
+
+pub map_both : {A B C : Type 0} (f : B → C) (g : A → B) (xs : List A) → map f (map g xs) ≡ map (λ x. f (g x)) xs
+map_both f g [] = refl
+map_both f g (x ∷ xs) = ap (λ ys. f (g x) ∷ ys) (map_both f g xs)
+
+-- the names of a row of ports, each of which has the name of its number, are all the names
+pub names_of : {P : Type 0} (name : P → ℕ) (ports : List P) (names : List ℕ) → length ports ≡ length names → ((k : ℕ) (p : P) → get_elem? ports k ≡ some p → get_or names k 0 ≡ name p) → map name ports ≡ names
+names_of name [] [] many is = refl
+names_of name [] (n ∷ ns) many is = absurd (omega (arith, many))
+names_of name (p ∷ ps) [] many is = absurd (omega (arith, many))
+names_of name (p ∷ ps) (n ∷ ns) many is = ap (λ m. m ∷ map name ps) (sym (is 0 p refl)) ∙ ap (λ ms. n ∷ ms) (names_of name ps ns (omega (arith, many)) (λ k q e. is (suc k) q e))
+
+-- a row of halves after one of them was changed and kept its name
+pub kept_names : (hs : List Heard) (i : ℕ) (h h' : Heard) → i < length hs → h ≡ get_or hs i h → h'.name ≡ h.name → map (λ x. x.name) (set hs i h') ≡ map (λ x. x.name) hs
+kept_names hs i h h' near is same = map-set (λ x. x.name) hs i h' ∙ ap (set (map (λ x. x.name) hs) i) (same ∙ ap (λ x. x.name) is ∙ sym (get_or-map (λ x. x.name) hs i h 0 near)) ∙ set-get_or (map (λ x. x.name) hs) i 0
+
+-- the list of one that was told of a call
+pub told_list : (hs : List Heard) (i : ℕ) (h h' : Heard) (c : Call) → i < length hs → h ≡ get_or hs i h → h'.calls ≡ h.calls ++ c ∷ [] → h'.calls ≡ get_or (map (λ x. x.calls) hs) i [] ++ c ∷ []
+told_list hs i h h' c near is told = told ∙ ap (λ xs. xs ++ c ∷ []) (ap (λ x. x.calls) is ∙ sym (get_or-map (λ x. x.calls) hs i h [] near))
+
+-- ---- the calls of the threads
+
+pub nothing_heard : (hs : List Heard) → ((k : ℕ) → heard_in (get_elem? hs k) ≡ []) → (i : ℕ) → get_or (map (λ h. h.calls) hs) i [] ≡ []
+nothing_heard [] empty zero = refl
+nothing_heard [] empty (suc i) = refl
+nothing_heard (h ∷ hs) empty zero = empty 0
+nothing_heard (h ∷ hs) empty (suc i) = nothing_heard hs (λ k. empty (suc k)) i
+
+-- a call that is an event is its thread's last, and no other thread's
+pub heard_after : (roster : List Member) (lists : List (List Call)) (past : Trace) (t i : ℕ) (c : Call) (X : List Completion) (more : List Call) → place (threads_of roster) t ≡ Some i → i < length lists
+    → more ≡ get_or lists i [] ++ c ∷ [] → AreCallsOf roster lists past → AreCallsOf roster (set lists i more) (with_event t c X past)
+heard_after roster lists past t i c X more at near is are u j there =
+    let ts = threads_of roster in
+    elim (cases_Bool (eqb t u)) [
+      | inl e ↦
+          let same : j ≡ i = same_Some j i (sym there ∙ ap (place ts) (sym (eqb-true t u e)) ∙ at) in
+          ap (λ k. get_or (set lists i more) k []) same ∙ get_or-set_same lists i more [] near ∙ is ∙ ap (λ xs. xs ++ c ∷ []) (ap (λ k. get_or lists k []) (sym same) ∙ are u j there) ∙ rw e refl
+      | inr e ↦
+          get_or-set_other lists i j more [] (λ s. eqb-false t u e (place_same ts t u i at (subst (λ k. place ts u ≡ Some k) s there))) ∙ are u j there ∙ sym (append-nil (calls_of past u)) ∙ rw e refl
+    ]
+
+module _ (roster : List Member) (refuses : Refuses) (admits : Admits) (lists : List (List Call)) (t i : ℕ) (c : Call) (old new : Held) (at : place (threads_of roster) t ≡ Some i) where
+  pub heard_event : (p : Performed) → Performs roster refuses admits old t c p new → is_event p ≡ true → i < length lists → (more : List Call) → more ≡ get_or lists i [] ++ c ∷ []
+      → AreCallsOf roster lists old.past → AreCallsOf roster (set lists i more) new.past
+  heard_event Ended p e near more is are = subst (AreCallsOf roster (set lists i more)) (sym p.1.after_is) (heard_after roster lists old.past t i c p.0 more at near is are)
+  heard_event Open p e near more is are = subst (AreCallsOf roster (set lists i more)) (sym p.1.after_is) (heard_after roster lists old.past t i c p.0 more at near is are)
+  heard_event (Refused errno given) p e near more is are = absurd (true≢false (sym e))
+
+  pub heard_refused : (p : Performed) → Performs roster refuses admits old t c p new → is_event p ≡ false → AreCallsOf roster lists old.past → AreCallsOf roster lists new.past
+  heard_refused Ended p e are = absurd (true≢false e)
+  heard_refused Open p e are = absurd (true≢false e)
+  heard_refused (Refused errno given) p e are = subst (λ h. AreCallsOf roster lists h.past) (sym p.0) are
