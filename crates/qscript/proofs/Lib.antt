@@ -3,3 +3,4 @@ pub mod Output
 pub mod Joining
 pub mod Runnable
 pub mod OneText
+pub mod Written

@@ -1,11 +1,13 @@
-//! Scripts of kernel calls: what their text means, their run on a new kernel, and what is printed of it.
+//! Scripts of kernel calls: what their text means, their run on a new kernel, what is printed of it, and the script of a
+//! run that was made elsewhere.
 #![tactic(auto)]
 
 pub mod fault;
-mod printing;
+pub mod printing;
 mod reading;
 pub mod script;
 mod transfer;
 pub mod watched;
+pub mod writing;
 
 pub use reading::script::{MOST_TEXT, Script, parse};

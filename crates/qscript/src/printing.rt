@@ -5,7 +5,7 @@ ghost use Rattle.std.specs.List.{flat_map};
 ghost use Rattle.qscript.specs.Printing.Printed.{texts_from, printed};
 ghost use Rattle.qscript.specs.Printing.OpenLine.{open_text};
 
-mod buffer;
+pub(crate) mod buffer;
 mod ended_line;
 mod laws;
 mod marks;

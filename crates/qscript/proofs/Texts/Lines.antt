@@ -44,7 +44,7 @@ pub end_alone : (y : ℕ) → is_newline y ≡ true → without_last_end (y ∷ 
 end_alone y e = rw e
 
 -- a line before its end, and those behind it
-lines_at : (front : List ℕ) (y : ℕ) (back : List ℕ) → All (λ x. is_newline x ≡ false) front → is_newline y ≡ true
+pub lines_at : (front : List ℕ) (y : ℕ) (back : List ℕ) → All (λ x. is_newline x ≡ false) front → is_newline y ≡ true
     → lines_of (front ++ y ∷ back) ≡ without_return front ∷ lines_of back
 lines_at front y [] clear e =
     let some : 0 < length (front ++ y ∷ []) = simp length-append (omega arith) in

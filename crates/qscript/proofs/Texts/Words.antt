@@ -61,7 +61,7 @@ unfolding words_of
 words_none [] h = refl
 words_none (x ∷ xs) h = absurd (omega arith)
 
-word_kept : (w : List ℕ) (others : List (List ℕ)) → 0 < length w → filter (λ word. not (is_empty word)) (w ∷ others) ≡ w ∷ filter (λ word. not (is_empty word)) others
+pub word_kept : (w : List ℕ) (others : List (List ℕ)) → 0 < length w → filter (λ word. not (is_empty word)) (w ∷ others) ≡ w ∷ filter (λ word. not (is_empty word)) others
 word_kept [] others h = absurd (omega arith)
 word_kept (x ∷ xs) others h = grind (arith, common_steps)
 

@@ -3,5 +3,9 @@ use Rattle.std.specs.Prelude.{ℕ, ◌==◌, List, [], ◌∷◌, length, if◌t
 use Rattle.hex.specs.Hex.{encode_lower}
 
 -- small hexadecimal digits, or `-` for no bytes
+abbrev pub buffer_word : List ℕ → List ℕ
+buffer_word bytes = if length bytes == 0 then codes "-" else encode_lower bytes
+
+-- the one word of a buffer
 abbrev pub buffer_words : List ℕ → List (List ℕ)
-buffer_words bytes = (if length bytes == 0 then codes "-" else encode_lower bytes) ∷ []
+buffer_words bytes = buffer_word bytes ∷ []

@@ -1,0 +1,4 @@
+-- The text of a script, written.
+pub mod Line
+pub mod Text
+pub mod Laws

@@ -1,0 +1,74 @@
+//! Calls in words, by what operands they have.
+
+ghost use Rattle.std.specs.Prelude.{◌≡◌, [], ◌∷◌, ◌++◌, OnOk, decimal, string_bytes};
+ghost use Rattle.std.specs.Fmt.{signed_decimal};
+ghost use Rattle.qscript.specs.Printing.Buffer.{buffer_word};
+ghost use Rattle.qscript.specs.Printing.Words.{spaced};
+
+use crate::printing::buffer::push_buffer;
+use std::alloc::{AllocError, Global};
+
+/// `NAME NUMBER`
+pub fn number(out: &mut String, name: &str, number: u64) -> Result<(), AllocError>
+    ensures { OnOk result (string_bytes out.new ≡ string_bytes out.old ++ spaced (name.now ∷ decimal number ∷ [])) }
+{
+    write!(out, " {name} {number}")
+}
+
+/// `NAME NUMBER NUMBER`
+pub fn numbers(out: &mut String, name: &str, first: u64, second: u64) -> Result<(), AllocError>
+    ensures { OnOk result (string_bytes out.new ≡ string_bytes out.old ++ spaced (name.now ∷ decimal first ∷ decimal second ∷ [])) }
+{
+    write!(out, " {name} {first} {second}")
+}
+
+/// `NAME NUMBER BYTES`
+pub fn bytes(
+    alloc: Global,
+    out: &mut String,
+    name: &str,
+    first: u64,
+    bytes: &[u8],
+) -> Result<(), AllocError>
+    ensures { OnOk result (string_bytes out.new ≡ string_bytes out.old ++ spaced (name.now ∷ decimal first ∷ buffer_word bytes.now ∷ [])) }
+{
+    number(out, name, first)?;
+    push_buffer(alloc, out, bytes)
+}
+
+/// `NAME NUMBER NUMBER BYTES`
+pub fn numbers_and_bytes(
+    alloc: Global,
+    out: &mut String,
+    name: &str,
+    first: u64,
+    second: u64,
+    bytes: &[u8],
+) -> Result<(), AllocError>
+    ensures { OnOk result (string_bytes out.new ≡ string_bytes out.old ++ spaced (name.now ∷ decimal first ∷ decimal second ∷ buffer_word bytes.now ∷ [])) }
+{
+    numbers(out, name, first, second)?;
+    push_buffer(alloc, out, bytes)
+}
+
+/// `NAME NUMBER INTEGER`
+pub fn signed(out: &mut String, name: &str, number: u64, signed: i64) -> Result<(), AllocError>
+    ensures { OnOk result (string_bytes out.new ≡ string_bytes out.old ++ spaced (name.now ∷ decimal number ∷ signed_decimal signed ∷ [])) }
+{
+    write!(out, " {name} {number} {signed}")
+}
+
+/// `NAME NUMBER INTEGER BYTES`
+pub fn signed_and_bytes(
+    alloc: Global,
+    out: &mut String,
+    name: &str,
+    number: u64,
+    integer: i64,
+    bytes: &[u8],
+) -> Result<(), AllocError>
+    ensures { OnOk result (string_bytes out.new ≡ string_bytes out.old ++ spaced (name.now ∷ decimal number ∷ signed_decimal integer ∷ buffer_word bytes.now ∷ [])) }
+{
+    signed(out, name, number, integer)?;
+    push_buffer(alloc, out, bytes)
+}
