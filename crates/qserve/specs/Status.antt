@@ -1,11 +1,13 @@
 -- The statuses that a demonstration's fault ends the program with.
 use Rattle.std.specs.Prelude.{ℕ}
 use Rattle.qserve.specs.declared.fault.ServeFault.{ServeFault}
-use Rattle.qserve.specs.declared.fault.ServeFault.TheVariants.{Hold, NoMemory, Worker, Write}
+use Rattle.qserve.specs.declared.fault.ServeFault.TheVariants.{Hold, NoMemory, Worker, LongRecord, Record, Write}
 
 -- 2 where what was asked for is at fault, 4 where a worker is, and else 3
 abbrev pub status_of : ServeFault → ℕ
 status_of Hold = 2
 status_of NoMemory = 3
 status_of Worker = 4
+status_of LongRecord = 2
+status_of Record = 3
 status_of Write = 3

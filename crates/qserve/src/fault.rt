@@ -55,6 +55,12 @@ pub enum ServeFault {
     /// A worker couldn't be started, or met an answer that it didn't expect.
     #[error("worker failed")]
     Worker,
+    /// What the kernel did would be a script of over 4,194,304 bytes.
+    #[error("record too long")]
+    LongRecord,
+    /// What the kernel did could not be stored.
+    #[error("record failed")]
+    Record,
     /// The text could not be written.
     #[error("write failed")]
     Write,
@@ -79,13 +85,13 @@ impl From<WorkerFault> for ServeFault {
 
 impl ServeFault {
     /// The status that the program ends with: 2 where what was asked for is at fault, 4 where a worker is, and 3
-    /// where memory or writing failed.
+    /// where memory, storing or writing failed.
     pub fn status(&self) -> u8
         ensures { result ≡ status_of self.now }
     {
         match self {
-            ServeFault::Hold => 2,
-            ServeFault::NoMemory | ServeFault::Write => 3,
+            ServeFault::Hold | ServeFault::LongRecord => 2,
+            ServeFault::NoMemory | ServeFault::Record | ServeFault::Write => 3,
             ServeFault::Worker => 4,
         }
     }

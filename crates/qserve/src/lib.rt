@@ -9,6 +9,7 @@ pub mod fault;
 pub mod hold;
 pub mod progress;
 mod protocol;
+pub mod recording;
 mod run;
 pub mod serve;
 pub mod server;

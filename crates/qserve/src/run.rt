@@ -1,6 +1,8 @@
 //! The thread that starts the workers, waits for them and stops the servers.
 
+ghost use Rattle.std.specs.Prelude.{IfOk, IfSome};
 ghost use Rattle.qshared.specs.Naming.{AreParts};
+ghost use Rattle.qserve.specs.Recording.{IsRun};
 
 use crate::calls::{channel_create, channel_destroy, connect_attach, msg_send_pulse, shutdown};
 use crate::endpoint::{Endpoint, KernelPort};
@@ -14,10 +16,12 @@ use crate::texts::Totals;
 use crate::timing::{start_of, timing_of};
 use qbase::flags::ChannelFlags;
 use qbase::ids::ConnectionId;
+use qkernel::trace::Trace;
 use qshared::kept::Kept;
 use qshared::log::Log;
 use qshared::parts::Parts;
 use qshared::port::Port;
+use qshared::report::Report;
 use qshared::shared::Shared;
 use qshared::tie::Tie;
 use std::alloc::Global;
@@ -42,6 +46,14 @@ struct Gathered<K: Tie> {
     ports: Vec<Port<K>>,
 }
 
+/// What a run came to.
+#[derive(Drop)]
+pub struct Finished {
+    pub totals: Totals,
+    /// All events, if they were to be recorded.
+    pub trace: Option<Trace>,
+}
+
 /// Runs a demonstration on a kernel of these parts.
 pub fn run<K: Tie + Send + Sync, R: Threads + Wait + Clock + Eprint + Sync>(
     rt: &R,
@@ -49,8 +61,9 @@ pub fn run<K: Tie + Send + Sync, R: Threads + Wait + Clock + Eprint + Sync>(
     parts: Parts,
     settings: Settings,
     stacks: Stacks,
-) -> Result<Totals, ServeFault>
+) -> Result<Finished, ServeFault>
     requires named { AreParts K.roster K.cells K.lists K.name K.parts parts }
+    ensures run { IfOk result (λ f. IfSome f.trace (λ t. IsRun K.roster t)) }
 {
     let Ok((shared, mut ports)) = Shared::<K, Kept<K>>::open(alloc, parts) else {
         return Err(ServeFault::NoMemory);
@@ -70,12 +83,14 @@ pub fn run<K: Tie + Send + Sync, R: Threads + Wait + Clock + Eprint + Sync>(
     if !shared.all(ports.as_slice()) {
         return Err(ServeFault::Worker);
     }
-    let report = shared.finish(ports);
-    Ok(Totals {
+    let Report { trace, .. } = shared.finish(ports);
+    let totals = Totals {
         tally,
-        events: report.trace.len(),
+        events: trace.len(),
         timing,
-    })
+    };
+    let trace = if settings.record { Some(trace) } else { None };
+    Ok(Finished { totals, trace })
 }
 
 /// The ports but main's, which come in rising thread number: servers, clients, the alarm.

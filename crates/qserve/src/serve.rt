@@ -1,12 +1,15 @@
 //! The demonstration.
 
+ghost use Rattle.std.specs.Prelude.{IfOk, IfSome, string_bytes};
 ghost use Rattle.qserve.specs.Fit.{Fit};
+ghost use Rattle.qserve.specs.Recording.{IsRecording};
 
 use crate::fault::ServeFault;
 use crate::protocol::{
     CLIENT_LEVEL, FIRST_CLIENT, FIRST_SERVER, MAIN_LEVEL, SERVER_LEVEL, priority,
 };
-use crate::run::run;
+use crate::recording::{Recording, Store, recording_of};
+use crate::run::{Finished, run};
 use crate::settings::{Settings, Stacks};
 use crate::texts::{Totals, text_of, write_all};
 use crate::timing::timing_text_of;
@@ -55,19 +58,41 @@ fn roster_of(alloc: Global, settings: &Settings) -> Result<Roster, Errno>
     Ok(roster)
 }
 
+/// What a demonstration comes to.
+#[derive(Drop)]
+pub struct Outcome {
+    pub totals: Totals,
+    /// What the kernel did, if that was wanted.
+    pub recording: Option<Recording>,
+}
+
 /// Starts clients and servers on threads of their own, has each client send its messages and check their answers,
-/// stops the servers, and writes five lines of what was done, and five more of its times where they are wanted.
-/// Nothing is written before all threads have ended. A fault of one worker ends them all.
-pub fn serve<R: Threads + Wait + Clock + Eprint + Sync, W: Write>(
+/// stops the servers, stores what the kernel did where that is wanted, and writes five lines of what was done, and five
+/// more of its times where they are wanted. Nothing is stored before all threads have ended, and nothing written before
+/// that. A fault of one worker ends them all.
+pub fn serve<R: Threads + Wait + Clock + Eprint + Sync, S: Store, W: Write>(
     rt: &R,
     alloc: Global,
     settings: Settings,
+    store: &mut S,
     writer: &mut Watched<W>,
 ) -> Result<(), ServeFault>
     requires { Fit settings }
 {
-    let totals = totals_of(rt, alloc, settings, Stacks::ample())?;
-    let text = text_of(alloc, &totals)?;
+    let outcome = outcome_of(rt, alloc, settings, Stacks::ample())?;
+    if let Some(recording) = &outcome.recording {
+        store.store(recording)?;
+    }
+    tell(alloc, &outcome.totals, writer)
+}
+
+/// Writes the five lines, and five more of the times where they were taken.
+fn tell<W: Write>(
+    alloc: Global,
+    totals: &Totals,
+    writer: &mut Watched<W>,
+) -> Result<(), ServeFault> {
+    let text = text_of(alloc, totals)?;
     write_all(writer, text.as_bytes())?;
     let Some(timing) = totals.timing else {
         return Ok(());
@@ -77,13 +102,14 @@ pub fn serve<R: Threads + Wait + Clock + Eprint + Sync, W: Write>(
 }
 
 /// What a demonstration with such stacks comes to. A thread whose stack is too large can't be started.
-pub fn totals_of<R: Threads + Wait + Clock + Eprint + Sync>(
+pub fn outcome_of<R: Threads + Wait + Clock + Eprint + Sync>(
     rt: &R,
     alloc: Global,
     settings: Settings,
     stacks: Stacks,
-) -> Result<Totals, ServeFault>
+) -> Result<Outcome, ServeFault>
     requires { Fit settings }
+    ensures { IfOk result (λ o. IfSome o.recording (λ r. IsRecording (string_bytes r.script) (string_bytes r.trace))) }
 {
     if settings.hold && (settings.clients < 2 || settings.servers > 1) {
         return Err(ServeFault::Hold);
@@ -94,5 +120,10 @@ pub fn totals_of<R: Threads + Wait + Clock + Eprint + Sync>(
     let Ok(parts) = Parts::new(alloc, &roster, TRACE_LIMIT) else {
         return Err(ServeFault::NoMemory);
     };
-    run::<Brand, R>(rt, alloc, parts, settings, stacks)
+    let Finished { totals, trace } = run::<Brand, R>(rt, alloc, parts, settings, stacks)?;
+    let recording = match trace {
+        Some(trace) => Some(recording_of(alloc, roster.members(), &trace)?),
+        None => None,
+    };
+    Ok(Outcome { totals, recording })
 }

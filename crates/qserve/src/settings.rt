@@ -28,6 +28,8 @@ pub struct Settings {
     pub time: bool,
     /// Whether standard error shows how far a long run is.
     pub progress: bool,
+    /// Whether what the kernel did is recorded, as a script and its trace.
+    pub record: bool,
 }
 
 impl Settings {

@@ -9,6 +9,8 @@ mod pairs;
 #[cfg(test)]
 mod progress;
 #[cfg(test)]
+mod recording;
+#[cfg(test)]
 mod rows;
 #[cfg(test)]
 mod scripted;

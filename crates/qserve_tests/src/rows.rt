@@ -2,7 +2,8 @@
 
 use qscript::watched::Watched;
 use qserve::fault::ServeFault;
-use qserve::serve::{serve, totals_of};
+use qserve::recording::Forget;
+use qserve::serve::{outcome_of, serve};
 use qserve::settings::{Settings, Stacks};
 use std::test::Fail;
 
@@ -20,10 +21,11 @@ fn two_clients_are_blocked_at_once(rt: HostRuntime) {
         hold: true,
         time: false,
         progress: false,
+        record: false,
     };
     let mut text = Vec::new(rt.alloc());
     let mut writer = Watched::new(&mut text);
-    let done = serve(&rt, rt.alloc(), settings, &mut writer);
+    let done = serve(&rt, rt.alloc(), settings, &mut Forget, &mut writer);
     assert!(rt; done.is_ok());
     assert_eq!(rt; text.as_slice(), ONE_ROUND);
 }
@@ -38,10 +40,11 @@ fn two_clients_and_one_server(rt: HostRuntime) {
         hold: false,
         time: false,
         progress: false,
+        record: false,
     };
     let mut text = Vec::new(rt.alloc());
     let mut writer = Watched::new(&mut text);
-    let done = serve(&rt, rt.alloc(), settings, &mut writer);
+    let done = serve(&rt, rt.alloc(), settings, &mut Forget, &mut writer);
     assert!(rt; done.is_ok());
     assert_eq!(rt; text.as_slice(), ONE_ROUND);
 }
@@ -56,10 +59,11 @@ fn many_clients_and_servers(rt: HostRuntime) {
         hold: false,
         time: false,
         progress: false,
+        record: false,
     };
     let mut text = Vec::new(rt.alloc());
     let mut writer = Watched::new(&mut text);
-    let done = serve(&rt, rt.alloc(), settings, &mut writer);
+    let done = serve(&rt, rt.alloc(), settings, &mut Forget, &mut writer);
     assert!(rt; done.is_ok());
     assert_eq!(rt; text.as_slice(), MANY_ROUNDS);
 }
@@ -74,6 +78,7 @@ fn holding_wants_two_clients_and_one_server(rt: HostRuntime) -> Result<(), Fail>
         hold: true,
         time: false,
         progress: false,
+        record: false,
     };
     let two_servers = Settings {
         clients: 2,
@@ -82,10 +87,11 @@ fn holding_wants_two_clients_and_one_server(rt: HostRuntime) -> Result<(), Fail>
         hold: true,
         time: false,
         progress: false,
+        record: false,
     };
-    let first = totals_of(&rt, rt.alloc(), one_client, Stacks::ample());
-    let second = totals_of(&rt, rt.alloc(), two_servers, Stacks::ample());
-    assert!(rt; first == Err(ServeFault::Hold) && second == Err(ServeFault::Hold));
+    let first = outcome_of(&rt, rt.alloc(), one_client, Stacks::ample());
+    let second = outcome_of(&rt, rt.alloc(), two_servers, Stacks::ample());
+    assert!(rt; first.err() == Some(ServeFault::Hold) && second.err() == Some(ServeFault::Hold));
     let words = format!(in rt.alloc(); "{}", ServeFault::Hold)?;
     assert_eq!(rt; words.as_str(), "hold needs two clients and one server");
     assert_eq!(rt; ServeFault::Hold.status(), 2);
@@ -102,6 +108,7 @@ fn a_thread_that_cannot_be_started(rt: HostRuntime) -> Result<(), Fail> {
         hold: false,
         time: false,
         progress: false,
+        record: false,
     };
     let servers = Stacks {
         server: usize::MAX,
@@ -111,9 +118,11 @@ fn a_thread_that_cannot_be_started(rt: HostRuntime) -> Result<(), Fail> {
         server: Stacks::ample().server,
         client: usize::MAX,
     };
-    let first = totals_of(&rt, rt.alloc(), settings, servers);
-    let second = totals_of(&rt, rt.alloc(), settings, clients);
-    assert!(rt; first == Err(ServeFault::Worker) && second == Err(ServeFault::Worker));
+    let first = outcome_of(&rt, rt.alloc(), settings, servers);
+    let second = outcome_of(&rt, rt.alloc(), settings, clients);
+    assert!(rt;
+        first.err() == Some(ServeFault::Worker) && second.err() == Some(ServeFault::Worker)
+    );
     let words = format!(in rt.alloc(); "{}", ServeFault::Worker)?;
     assert_eq!(rt; words.as_str(), "worker failed");
     assert_eq!(rt; ServeFault::Worker.status(), 4);

@@ -6,7 +6,8 @@ use qrules::call::Mark;
 use qscript::watched::Watched;
 use qserve::client::client;
 use qserve::fault::WorkerFault;
-use qserve::serve::{serve, totals_of};
+use qserve::recording::Forget;
+use qserve::serve::{outcome_of, serve};
 use qserve::settings::{Settings, Stacks};
 use qserve::timed::{Stopwatch, Timed};
 use qserve::timing::{Timing, timing_text_of};
@@ -126,17 +127,18 @@ fn a_run_is_timed(rt: HostRuntime) -> Result<(), Fail> {
         hold: false,
         time: true,
         progress: false,
+        record: false,
     };
-    let Ok(totals) = totals_of(&rt, rt.alloc(), settings, Stacks::ample()) else {
+    let Ok(outcome) = outcome_of(&rt, rt.alloc(), settings, Stacks::ample()) else {
         panic!(rt; "a fault")
     };
-    let timing = totals.timing.expect(&rt, "times");
+    let timing = outcome.totals.timing.expect(&rt, "times");
     assert_eq!(rt; timing.trips, 15);
     assert!(rt; timing.least <= timing.median && timing.median <= timing.ninety_ninth);
     assert!(rt; timing.ninety_ninth <= timing.run);
     let mut text = Vec::new(rt.alloc());
     let mut writer = Watched::new(&mut text);
-    let done = serve(&rt, rt.alloc(), settings, &mut writer);
+    let done = serve(&rt, rt.alloc(), settings, &mut Forget, &mut writer);
     assert!(rt; done.is_ok());
     let lines = text.iter().filter(|byte| **byte == 10).count();
     assert_eq!(rt; lines, 10);

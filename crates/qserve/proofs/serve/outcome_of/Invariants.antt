@@ -1,7 +1,7 @@
 use Rattle.std.specs.Prelude.{map}
 use Rattle.qrecords.specs.Threads.{members_of}
 use Rattle.qhandoff.specs.Words.{cells_id}
-use Rattle.qserve.proofs.serve.totals_of.Given as goal
+use Rattle.qserve.proofs.serve.outcome_of.Given as goal
 
 abbrev pub ghosts-run-K-Ledger : goal.ghosts-run-K-Ledger
 ghosts-run-K-Ledger g a = record { name = a.parts.blank.name; parts = a.parts.blank.parts }

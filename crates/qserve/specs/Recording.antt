@@ -1,0 +1,26 @@
+-- What a run's recording says.
+use Rattle.std.specs.Prelude.{◌≡◌, ℕ, ◌≤◌, List, [], length}
+use Rattle.qtables.specs.declared.member.Member.{Member}
+use Rattle.qrules.specs.Lawful.{IsLawful, followed_by}
+use Rattle.qrules.specs.Properties.{HasProperties}
+use Rattle.qrules.specs.Trace.{Run}
+use Rattle.qscript.specs.Printing.Printed.{printed}
+use Rattle.qscript.specs.TextLimit.{most_text}
+use Rattle.qscript.specs.Writing.Text.{script_text}
+
+-- the run begins with the first call, is lawful and has the six properties
+abbrev pub IsRun : List Member → Run → Type 0
+IsRun roster run = (run.first ≡ 1) × IsLawful roster (followed_by [] run.events) × HasProperties roster (followed_by [] run.events)
+
+-- the script is that of the roster and the run's calls, and no longer than a script may be; the trace is what is printed of the run, with nobody blocked after it
+pub record Records (roster : List Member) (run : Run) (script trace : List ℕ) : Type 0 where
+  pub script_is : script ≡ script_text roster run.events
+  pub short : length script ≤ most_text
+  pub trace_is : trace ≡ printed run []
+
+-- it records some such run of some roster
+pub record IsRecording (script trace : List ℕ) : Type 0 where
+  pub roster : List Member
+  pub run : Run
+  pub is_run : IsRun roster run
+  pub records : Records roster run script trace
