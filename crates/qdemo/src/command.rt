@@ -5,12 +5,12 @@ use qserve::settings::Settings;
 use std::alloc::{AllocError, Global};
 
 /// What the program is asked to do.
-#[derive(Clone, Copy)]
+#[derive(Drop)]
 pub enum Action {
     /// To run the script on standard input.
     Script,
-    /// To run a server with its clients.
-    Serve(Settings),
+    /// To run a server with its clients, and to record what the kernel did in files of this name, if there is one.
+    Serve(Settings, Option<String>),
 }
 
 const ABOUT: &str = "A kernel of synchronous messages, after QNX Neutrino's";
@@ -126,6 +126,12 @@ a client's send until its answer is collected.
   median M
   ninety-ninth N
 
+With --record what the kernel did is written into two files before the lines are
+printed: NAME.txt, a script that makes the same calls in the same order, and
+NAME.trace, what each call was answered. 'qdemo script < NAME.txt' prints
+NAME.trace byte for byte, in one thread. A script has at most 4,194,304 bytes; of a
+run that would be longer no file is written.
+
 Where standard error is a terminal, a line on it shows how far a run is that takes
 more than half a second. It is gone at the end, and --quiet leaves it out.";
 
@@ -137,8 +143,8 @@ const SERVE_EXAMPLE: &str = "Example:
   sum 8
   events 20
 
-Status: 0; 2 for a faulty command line; 3 where writing or memory fails; 4 where
-a worker fails.";
+Status: 0; 2 for a faulty command line, or a run that is too long to be recorded; 3
+where writing or memory fails; 4 where a worker fails.";
 
 fn serve_command<'a>(alloc: Global) -> Result<Command<'a>, AllocError> {
     let clients = Arg::new(alloc, "clients")
@@ -171,6 +177,10 @@ fn serve_command<'a>(alloc: Global) -> Result<Command<'a>, AllocError> {
         .long("quiet")
         .action(ArgAction::SetTrue)
         .help("Show no progress");
+    let record = Arg::new(alloc, "record")
+        .long("record")
+        .value_name("NAME")
+        .help("Write NAME.txt, a script of the kernel's calls, and NAME.trace");
     Command::new(alloc, "serve")
         .about(SERVE_ABOUT)
         .long_about(SERVE_LONG)
@@ -180,7 +190,8 @@ fn serve_command<'a>(alloc: Global) -> Result<Command<'a>, AllocError> {
         .arg(rounds)?
         .arg(hold)?
         .arg(time)?
-        .arg(quiet)
+        .arg(quiet)?
+        .arg(record)
 }
 
 fn command<'a>(alloc: Global) -> Result<Command<'a>, AllocError> {
@@ -205,6 +216,15 @@ fn settings_of(matches: &ArgMatches<'_>) -> Settings {
         hold: matches.get_flag("hold"),
         time: matches.get_flag("time"),
         progress: !matches.get_flag("quiet"),
+        record: matches.get_str("record").is_some(),
+    }
+}
+
+/// The name of the files that these words ask for a recording in.
+fn record_of(alloc: Global, matches: &ArgMatches<'_>) -> Result<Option<String>, AllocError> {
+    match matches.get_str("record") {
+        Some(name) => Ok(Some(String::from_str(alloc, name)?)),
+        None => Ok(None),
     }
 }
 
@@ -214,7 +234,7 @@ pub fn action_of(alloc: Global, words: &[String]) -> Result<Action, Error> {
     let command = command(alloc)?;
     let matches = command.try_get_matches_from(words)?;
     match matches.subcommand_matches("serve") {
-        Some(serve) => Ok(Action::Serve(settings_of(serve))),
+        Some(serve) => Ok(Action::Serve(settings_of(serve), record_of(alloc, serve)?)),
         None => Ok(Action::Script),
     }
 }

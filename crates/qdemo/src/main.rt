@@ -2,19 +2,22 @@
 #![tactic(auto)]
 
 mod command;
+mod files;
 #[cfg(test)]
 mod tests;
 
 use clap::Error;
 use clap::error::ErrorKind;
 use command::{Action, action_of};
+use files::RecordFiles;
 use qscript::script::script;
 use qscript::watched::Watched;
+use qserve::recording::{Forget, Store};
 use qserve::serve::serve;
 use qserve::settings::Settings;
 use std::io::IsTerminal;
 use std::process::ExitCode;
-use std::rt::Clock;
+use std::rt::{Clock, Files};
 use std::sync::Wait;
 use std::thread::Threads;
 use std::{env, io};
@@ -30,7 +33,9 @@ fn main(rt: HostRuntime) -> ExitCode {
     };
     match action_of(rt.alloc(), words.as_slice()) {
         Ok(Action::Script) => run_script(&rt),
-        Ok(Action::Serve(settings)) => run_serve(&rt, shown(settings, rt.stderr().is_terminal())),
+        Ok(Action::Serve(settings, record)) => {
+            run_serve(&rt, shown(settings, rt.stderr().is_terminal()), record)
+        }
         Err(error) => answered(&rt, &error),
     }
 }
@@ -69,16 +74,30 @@ fn shown(settings: Settings, terminal: bool) -> Settings {
     }
 }
 
-/// Runs a server and its clients. The command line allows no other settings than those that fit.
-fn run_serve<R: Print + Eprint + AllocGlobal + Threads + Wait + Clock + Sync>(
+/// Runs a server and its clients, and records what the kernel did where there is a name for it.
+fn run_serve<R: Files + Print + Eprint + AllocGlobal + Threads + Wait + Clock + Sync>(
     rt: &R,
     settings: Settings,
+    record: Option<String>,
+) -> ExitCode {
+    match record {
+        Some(name) => serve_with(rt, settings, &mut RecordFiles::new(rt, name.as_str())),
+        None => serve_with(rt, settings, &mut Forget),
+    }
+}
+
+/// Runs a server and its clients, and stores their recording. The command line allows no other settings than those that
+/// fit.
+fn serve_with<R: Print + Eprint + AllocGlobal + Threads + Wait + Clock + Sync, S: Store>(
+    rt: &R,
+    settings: Settings,
+    store: &mut S,
 ) -> ExitCode {
     if !settings.fit() {
         return failed(rt, "worker failed");
     }
     let mut writer = Watched::new(io::writer(rt));
-    match serve(rt, rt.alloc(), settings, &mut writer) {
+    match serve(rt, rt.alloc(), settings, store, &mut writer) {
         Ok(()) => ExitCode::SUCCESS,
         Err(fault) => {
             let _ = eprintln!(rt; "qdemo: {fault}");

@@ -32,7 +32,7 @@ fn script_is_asked_for(rt: HostRuntime) {
 
 /// The settings that these words ask for.
 fn settings(rt: &impl Abort, alloc: Global, words: &[&str]) -> Settings {
-    let Ok(Action::Serve(settings)) = answer(rt, alloc, words) else {
+    let Ok(Action::Serve(settings, _)) = answer(rt, alloc, words) else {
         panic!(rt; "another answer")
     };
     settings
@@ -48,6 +48,7 @@ fn a_server_is_asked_for(rt: HostRuntime) {
         hold: false,
         time: false,
         progress: true,
+        record: false,
     };
     assert!(rt; usual == wanted);
     let words = [
@@ -70,8 +71,25 @@ fn a_server_is_asked_for(rt: HostRuntime) {
         hold: true,
         time: true,
         progress: false,
+        record: false,
     };
     assert!(rt; most == wanted);
+}
+
+#[test]
+fn a_recording_is_asked_for(rt: HostRuntime) {
+    let Ok(Action::Serve(settings, None)) = answer(&rt, rt.alloc(), &["serve"]) else {
+        panic!(rt; "another answer")
+    };
+    assert!(rt; !settings.record);
+    let words = ["serve", "--record", "a/run"];
+    let Ok(Action::Serve(settings, Some(name))) = answer(&rt, rt.alloc(), &words) else {
+        panic!(rt; "another answer")
+    };
+    assert!(rt; settings.record);
+    assert_eq!(rt; name.as_str(), "a/run");
+    let (status, _) = told(&rt, rt.alloc(), &["serve", "--record"]);
+    assert_eq!(rt; status, 2);
 }
 
 #[test]
@@ -97,6 +115,8 @@ fn help_of_the_server_has_its_options_and_an_example(rt: HostRuntime) {
         "--hold",
         "--time",
         "--quiet",
+        "--record <NAME>",
+        "'qdemo script < NAME.txt' prints",
         "events 20",
         "ninety-ninth",
         "4 where",
