@@ -8,6 +8,8 @@ mod copying;
 #[cfg(test)]
 mod dispatching;
 #[cfg(test)]
+mod hostile;
+#[cfg(test)]
 mod logging;
 #[cfg(test)]
 mod making;
