@@ -1,0 +1,10 @@
+use Rattle.std.specs.Prelude.{map}
+use Rattle.qrecords.specs.Threads.{members_of}
+use Rattle.qhandoff.specs.Words.{cells_id}
+use Rattle.qserve_tests.proofs.crossing.crossing.Given as goal
+
+abbrev pub ghosts-cross_at_once-K-Ledger : goal.ghosts-cross_at_once-K-Ledger
+ghosts-cross_at_once-K-Ledger g a = record { name = a.parts.blank.name; parts = a.parts.blank.parts }
+
+abbrev pub ghosts-cross_at_once-K-Tie : goal.ghosts-cross_at_once-K-Tie
+ghosts-cross_at_once-K-Tie g a = record { roster = members_of a.parts.kernel.threads; cells = cells_id a.parts.cells; lists = map (λ h. h.name) a.parts.heard.items }

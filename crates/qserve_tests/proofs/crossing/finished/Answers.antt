@@ -1,0 +1,7 @@
+use Rattle.std.proofs.Common.{refl, subst}
+use Rattle.qhandoff.specs.Words.{thread_of}
+use Rattle.qshared.specs.Naming.{AreAll}
+use Rattle.qserve_tests.proofs.crossing.finished.Goals as goal
+
+pub finish-requires-clause-all : goal.finish-requires-clause-all
+finish-requires-clause-all g c = subst (AreAll (λ p. thread_of p.seat) g.K.Tie.cells.slots) c.deref.ensures.value (c.if-not-all.ensures.0 refl)
