@@ -209,6 +209,8 @@ bad number: 1 unblock 256
 word count: 1 destroy
 word count: 1 destroy 1 1
 bad number: 1 destroy -1
+bad number: 1 destroy 18446744073709551616
+bad number: 1 destroy 000000000000000000001
 word count: 1 shutdown 1
 bad number: 1 attach 18446744073709551616
 bad number: 1 attach 000000000000000000001";
@@ -302,5 +304,17 @@ fn takes_at_most_4_mib(rt: HostRuntime) -> Result<(), Fail> {
     let script = parse(rt.alloc(), text.as_slice())?;
     assert!(rt; script.calls.is_empty());
     text.push(b'x')?;
+    expect_fault(&rt, rt.alloc(), text.as_slice(), "script too long")
+}
+
+// A faulty first line is the fault of a text that isn't too long, and not of one that is.
+#[test]
+fn a_text_is_too_long_whatever_its_lines(rt: HostRuntime) -> Result<(), Fail> {
+    let mut text = vec![in rt.alloc(); b'\n'; MOST_TEXT]?;
+    if let Some(first) = text.first_mut() {
+        *first = b'x';
+    }
+    expect_fault(&rt, rt.alloc(), text.as_slice(), "line 1: bad number")?;
+    text.push(b'\n')?;
     expect_fault(&rt, rt.alloc(), text.as_slice(), "script too long")
 }

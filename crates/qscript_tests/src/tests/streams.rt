@@ -4,8 +4,10 @@ use crate::tests::{PRELUDE, PRELUDE_TEXT};
 use qscript::fault::ScriptFault;
 use qscript::script::script;
 use qscript::watched::Watched;
+use std::alloc::Global;
 use std::io;
 use std::io::{ErrorKind, Read, Write};
+use std::process::Abort;
 use std::test::Fail;
 
 /// Gives a byte at a time, and fails after so many.
@@ -67,38 +69,63 @@ impl Write for Narrow {
     }
 }
 
+/// A message, a part of it that is read, and its answer: each with other bytes.
+const LINES: &[u8] =
+    b"2 send 2 00010203040506070809 4x00\n1 receive 1 4xff\n1 read 3 4 10xee\n1 reply 3 0 0102030405\n";
+
+const LINES_TEXT: &[u8] =
+    b"4 4 1 message 3 4 00010203\n5 5 1 count 6 040506070809eeeeeeee\n6 6 1 ok\n6 3 2 reply 0 4 01020304\n";
+
+/// The script of these lines, and what it writes.
+fn row(alloc: Global) -> Result<(Vec<u8>, Vec<u8>), Fail> {
+    let input = [PRELUDE, LINES].concat(alloc)?;
+    let text = [PRELUDE_TEXT, LINES_TEXT].concat(alloc)?;
+    Ok((input, text))
+}
+
 #[test]
 fn a_byte_at_a_time(rt: HostRuntime) -> Result<(), Fail> {
+    let (input, text) = row(rt.alloc())?;
     let mut narrow = Narrow {
         taken: Vec::new(rt.alloc()),
         most: usize::MAX,
         full: Full::Error,
     };
     let mut reader = Watched::new(Drip {
-        bytes: PRELUDE,
+        bytes: input.as_slice(),
         left: usize::MAX,
     });
     let mut writer = Watched::new(&mut narrow);
     script(rt.alloc(), &mut reader, &mut writer)?;
     assert!(rt; !reader.faulted());
     assert!(rt; !writer.faulted());
-    assert_eq!(rt; narrow.taken.as_slice(), PRELUDE_TEXT);
+    assert_eq!(rt; narrow.taken.as_slice(), text.as_slice());
     Ok(())
 }
 
-#[test]
-fn a_read_that_fails(rt: HostRuntime) {
-    let mut text = Vec::new(rt.alloc());
-    let mut reader = Watched::new(Drip {
-        bytes: PRELUDE,
-        left: 40,
-    });
+/// A reader that fails after so many bytes.
+fn expect_read_fault(rt: &impl Abort, alloc: Global, input: &[u8], left: usize) {
+    let mut text = Vec::new(alloc);
+    let mut reader = Watched::new(Drip { bytes: input, left });
     let mut writer = Watched::new(&mut text);
-    let result = script(rt.alloc(), &mut reader, &mut writer);
-    assert!(rt; matches!(&result, Err(ScriptFault::Read)));
+    let result = script(alloc, &mut reader, &mut writer);
+    assert!(rt;
+        matches!(&result, Err(ScriptFault::Read)),
+        "after {left} bytes"
+    );
     assert!(rt; reader.faulted());
     assert!(rt; !writer.faulted());
     assert!(rt; text.is_empty());
+}
+
+// At each place of the script, and at its end.
+#[test]
+fn a_read_that_fails(rt: HostRuntime) -> Result<(), Fail> {
+    let (input, _) = row(rt.alloc())?;
+    for left in 0..=input.len() {
+        expect_read_fault(&rt, rt.alloc(), input.as_slice(), left);
+    }
+    Ok(())
 }
 
 // Of a read that fails and a text that is too long, what comes first is told. A text may have 4,194,304 bytes.
@@ -121,20 +148,40 @@ fn a_read_that_fails_at_the_limit(rt: HostRuntime) -> Result<(), Fail> {
     Ok(())
 }
 
+/// A writer that takes no more after so many bytes: these are the first of the text.
+fn expect_write_fault(
+    rt: &impl Abort,
+    alloc: Global,
+    (input, text): (&[u8], &[u8]),
+    most: usize,
+    full: Full,
+) {
+    let mut narrow = Narrow {
+        taken: Vec::new(alloc),
+        most,
+        full,
+    };
+    let mut reader = Watched::new(input);
+    let mut writer = Watched::new(&mut narrow);
+    let result = script(alloc, &mut reader, &mut writer);
+    assert!(rt;
+        matches!(&result, Err(ScriptFault::Write)),
+        "after {most} bytes"
+    );
+    assert!(rt; !reader.faulted());
+    assert!(rt; writer.faulted());
+    assert_eq!(rt; narrow.taken.len(), most);
+    assert!(rt; text.starts_with(narrow.taken.as_slice()));
+}
+
+// At each place of the text.
 #[test]
-fn a_write_that_fails(rt: HostRuntime) {
-    for full in [Full::Nothing, Full::Error] {
-        let mut narrow = Narrow {
-            taken: Vec::new(rt.alloc()),
-            most: 20,
-            full,
-        };
-        let mut reader = Watched::new(PRELUDE);
-        let mut writer = Watched::new(&mut narrow);
-        let result = script(rt.alloc(), &mut reader, &mut writer);
-        assert!(rt; matches!(&result, Err(ScriptFault::Write)));
-        assert!(rt; !reader.faulted());
-        assert!(rt; writer.faulted());
-        assert_eq!(rt; narrow.taken.as_slice(), &PRELUDE_TEXT[..20]);
+fn a_write_that_fails(rt: HostRuntime) -> Result<(), Fail> {
+    let (input, text) = row(rt.alloc())?;
+    let both = (input.as_slice(), text.as_slice());
+    for most in 0..text.len() {
+        expect_write_fault(&rt, rt.alloc(), both, most, Full::Nothing);
+        expect_write_fault(&rt, rt.alloc(), both, most, Full::Error);
     }
+    Ok(())
 }
