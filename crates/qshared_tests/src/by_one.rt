@@ -3,7 +3,7 @@
 ghost use Rattle.qshared.specs.Naming.{AreParts};
 
 use crate::making::{
-    bytes, finished, parts, priority, tallied, two_threads, was_blocked, was_done, was_ended,
+    bytes, done, finished, parts, priority, tallied, two_threads, was_blocked, was_done, was_ended,
     was_refused,
 };
 use qbase::bytes::Bytes;
@@ -201,6 +201,11 @@ fn left_uncollected<K: Tie>(rt: &(impl Wait + Abort), alloc: Global, parts: Part
     was_done(rt, created, 1, Mark::Channel(ChannelId(1)));
     was_blocked(rt, server.call(&shared, rt, receive(alloc)));
     was_done(rt, client.call(&shared, rt, Call::Shutdown), 3, Mark::Ok);
+    was_refused(
+        rt,
+        server.call(&shared, rt, Call::State(ThreadNo(1))),
+        Errno::Down,
+    );
     assert!(rt; ports.push(server).is_ok());
     assert!(rt; ports.push(client).is_ok());
     finished(rt, shared, ports)
@@ -215,6 +220,41 @@ fn what_is_not_collected_is_left(rt: HostRuntime) {
     assert!(rt; report.calls.as_slice() == [2, 1].as_slice());
     assert!(rt; report.left.len() == 1);
     was_ended(&rt, report.left.pop(), 2, Mark::Failed(Errno::Srch), &[]);
+}
+
+/// Two events fill a trace for two: one, and the Shutdown for which room is kept.
+fn filled<K: Tie>(rt: &(impl Wait + Abort), alloc: Global, parts: Parts) -> Report
+    requires named { AreParts K.roster K.cells K.lists K.name K.parts parts }
+{
+    let (shared, mut ports) = Shared::<K, Kept<K>>::open(alloc, parts).expect(rt, "a kernel");
+    let mut client = ports.pop().expect(rt, "a client");
+    let state = done(rt, client.call(&shared, rt, Call::State(ThreadNo(2))));
+    assert!(rt; state.call == 1);
+    was_refused(
+        rt,
+        client.call(&shared, rt, Call::State(ThreadNo(2))),
+        Errno::TraceFull,
+    );
+    was_done(rt, client.call(&shared, rt, Call::Shutdown), 2, Mark::Ok);
+    was_refused(
+        rt,
+        client.call(&shared, rt, Call::State(ThreadNo(2))),
+        Errno::Down,
+    );
+    assert!(rt; ports.push(client).is_ok());
+    finished(rt, shared, ports)
+}
+
+#[test]
+fn a_trace_of_two_events_fills(rt: HostRuntime) {
+    let alloc = rt.alloc();
+    let roster = two_threads(&rt, alloc);
+    let parts = parts(&rt, alloc, &roster, 2);
+    let report = filled::<Brand>(&rt, alloc, parts);
+    made_by(&rt, &report, &[2, 2], &[1, 1]);
+    assert!(rt; report.trace.len() == 2);
+    assert!(rt; report.calls.as_slice() == [0, 2].as_slice());
+    assert!(rt; report.left.is_empty());
 }
 
 #[test]
