@@ -1,10 +1,11 @@
 #!/usr/bin/env python3
 """Runs a kernel that keeps no past for longer and longer, and shows that its memory stays as it is.
 
-usage: bench/endurance.py [MILLIONS]
+usage: bench/endurance.py [MILLIONS [CLIENTS SERVERS]]
 
-Eight clients and four servers make round trips, in ten runs of which each is longer than the one before, up to so many
-millions (10). Of each run it prints the round trips, the seconds, the microseconds of a round trip, and the peak of the
+So many clients and servers (8 and 4) make round trips, in ten runs of which each is longer than the one before, up to
+so many millions (10). The program itself looks that all were answered, and that the sum of the calls of all ports is
+three for each at least. Of each run it prints the round trips, the seconds, the microseconds of a round trip, and the peak of the
 memory in KiB. Before them comes a run of 1,000 round trips. The last line is 'flat' where no run took more memory than
 the first of the ten by a fifth, and else 'not flat', with status 1. It wants GNU time.
 """
@@ -16,15 +17,15 @@ import time
 
 TOP = os.path.dirname(os.path.dirname(os.path.abspath(__file__)))
 PROGRAM = os.path.join(TOP, "crates/qroundtrips/out/qroundtrips")
-CLIENTS, SERVERS, RUNS = 8, 4, 10
+RUNS = 10
 
 # It starts the program: the system counts a program's peak from that of the process that starts it.
 GNU_TIME = "/usr/bin/time"
 
 
-def run(rounds):
+def run(clients, servers, rounds):
     """The seconds and the peak memory of a run of so many rounds of each client."""
-    words = [GNU_TIME, "-f", "%M", PROGRAM, str(CLIENTS), str(SERVERS), str(rounds), "unkept"]
+    words = [GNU_TIME, "-f", "%M", PROGRAM, str(clients), str(servers), str(rounds), "unkept"]
     start = time.monotonic()
     ran = subprocess.run(words, capture_output=True, text=True)
     seconds = time.monotonic() - start
@@ -36,13 +37,15 @@ def run(rounds):
 def main():
     if not os.path.exists(PROGRAM):
         sys.exit("build the program first: (cd crates/qroundtrips && rt run)")
-    millions = int(sys.argv[1]) if len(sys.argv) > 1 else 10
-    print(f"{CLIENTS} clients and {SERVERS} servers, {len(os.sched_getaffinity(0))} cores")
+    numbers = [int(word) for word in sys.argv[1:]]
+    millions, clients, servers = numbers if len(numbers) == 3 else [*(numbers or [10]), 8, 4]
+    print(f"{clients} clients and {servers} servers, {len(os.sched_getaffinity(0))} cores")
     print(f"{'round trips':>12} {'seconds':>9} {'us each':>9} {'peak KiB':>9}")
     peaks = []
-    for rounds in [125] + [millions * 1_000_000 * k // RUNS // CLIENTS for k in range(1, RUNS + 1)]:
-        seconds, peak = run(rounds)
-        many = rounds * CLIENTS
+    for trips in [1000] + [millions * 1_000_000 * k // RUNS for k in range(1, RUNS + 1)]:
+        rounds = trips // clients
+        seconds, peak = run(clients, servers, rounds)
+        many = rounds * clients
         peaks.append(peak)
         print(f"{many:>12,} {seconds:>9.2f} {seconds * 1e6 / many:>9.2f} {peak:>9,}", flush=True)
     if max(peaks[1:]) > peaks[1] * 1.2:

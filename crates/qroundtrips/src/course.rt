@@ -200,6 +200,15 @@ fn course<K: Tie + Send + Sync, L: Log + Send, R: Threads + Wait + Clock + Sync>
     Ok((ports, outcome))
 }
 
+/// The sum of counts.
+fn sum_of(counts: &[u64]) -> u64 {
+    let mut sum: u64 = 0;
+    for count in counts {
+        sum = sum.saturating_add(*count);
+    }
+    sum
+}
+
 /// Each round was answered.
 fn answered(outcome: Outcome, case: Case) -> Result<Outcome, Stopped> {
     if outcome.round_trips != case.clients as u64 * case.rounds as u64 {
@@ -243,7 +252,10 @@ fn run_unkept<K: Tie + Send + Sync, R: Threads + Wait + Clock + Sync>(
     if !shared.all(ports.as_slice()) {
         return Err(Stopped::Unready);
     }
-    shared.finish(ports);
+    let tally = shared.finish(ports);
+    if sum_of(tally.calls.as_slice()) / 3 < outcome.round_trips {
+        return Err(Stopped::Unanswered);
+    }
     answered(outcome, case)
 }
 

@@ -210,14 +210,24 @@ fn sixty_four_threads(rt: HostRuntime) {
     assert!(rt; events > 70_000);
 }
 
-/// Two servers and four clients, with 50,000 messages of each client, on a kernel that keeps no past.
+/// The sum of counts.
+fn sum_of(counts: &[u64]) -> u64 {
+    let mut sum: u64 = 0;
+    for count in counts {
+        sum = sum.saturating_add(*count);
+    }
+    sum
+}
+
+/// Two servers and four clients, with 250,000 messages of each client, on a kernel that keeps no past. Each message is
+/// three calls at least: a Send, a Receive and an answer.
 #[test]
 fn no_past_is_kept(rt: HostRuntime) {
     let alloc = rt.alloc();
     let size = Size {
         servers: 2,
         clients: 4,
-        rounds: 50_000,
+        rounds: 250_000,
     };
     let roster = roster(&rt, alloc, size);
     let parts = Parts::unkept(alloc, &roster).expect(&rt, "parts");
@@ -225,4 +235,5 @@ fn no_past_is_kept(rt: HostRuntime) {
     assert!(rt; tally.left.is_empty());
     assert!(rt; tally.calls.len() == 7);
     assert!(rt; tally.calls.iter().all(|calls| *calls > 3));
+    assert!(rt; sum_of(tally.calls.as_slice()) > 3_000_000);
 }

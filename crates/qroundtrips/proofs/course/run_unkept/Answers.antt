@@ -1,5 +1,5 @@
 use Rattle.qroundtrips.proofs.course.run_unkept.Goals as goal
 
 -- src/course.rt:194:18
-pub finish-requires-clause-all : goal.finish-requires-clause-all
-finish-requires-clause-all g c = rw (← c.as_slice.ensures.value) (c.all.ensures.0 search)
+pub finish-tally-requires-clause-all : goal.finish-tally-requires-clause-all
+finish-tally-requires-clause-all g c = rw (← c.as_slice.ensures.value) (c.all.ensures.0 search)
