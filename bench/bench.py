@@ -1,9 +1,9 @@
 #!/usr/bin/env python3
 """Measures the kernel and its program, and prints one table with what is aimed at.
 
-usage: bench/bench.py [core] [tables] [cells] [allocations] [scripts]
+usage: bench/bench.py [core] [tables] [pulses] [cells] [allocations] [scripts]
 
-With no word it measures all five. It wants the built programs `crates/qbench/out/qbench` and
+With no word it measures all six. It wants the built programs `crates/qbench/out/qbench` and
 `crates/qdemo/out/qdemo`, which `rt run` leaves in each of the two crates.
 
   core         nanoseconds a call in rounds of Send, Receive and Reply, with 1, 64 and 1,024
@@ -11,6 +11,8 @@ With no word it measures all five. It wants the built programs `crates/qbench/ou
   tables       nanoseconds an attach and a detach of the oldest with 1 and 1,023 live connections, and
                a create and a destroy of the oldest with 1 and 63 open channels: the least and the
                median of 21 times
+  pulses       nanoseconds a pulse and its receipt by a receive of pulses alone, with no message and
+               with 62 messages of greater priority that wait on the channel
   cells        nanoseconds a completion that goes through a cell, put and taken by one thread in
                turn, and put by one thread and taken by another
   allocations  requests to the allocator by each call, as `valgrind --trace-malloc=yes` counts
@@ -38,6 +40,7 @@ PRELUDE = "thread 1 1 10\nthread 2 2 20\n1 create 0\n2 attach 1\n"
 
 NANOSECONDS = 200
 GROWTH = 1.5
+PENDING = 1.2
 # Twice what plain Rust took for a script of 4 MiB, with 276,000 lines without bytes and 150,000 with bytes, on another
 # machine: seconds for each MiB, and megabytes.
 SCRIPT_SECONDS = {"empty": 2 * 0.13 / 4, "bytes": 2 * 0.09 / 4}
@@ -71,11 +74,15 @@ def core():
     """Nanoseconds a call."""
     out = subprocess.run([program(QBENCH), "measure"], capture_output=True, text=True, check=True)
     lines = [line.split() for line in out.stdout.splitlines()[1:]]
-    alone = {pulses: float(ns) for connections, pulses, ns in lines if connections == "1"}
-    for connections, pulses, ns in lines:
-        aim = NANOSECONDS if connections == "1" else GROWTH * min(NANOSECONDS, alone[pulses])
+    times = {(connections, pulses): float(ns) for connections, pulses, ns in lines}
+    for (connections, pulses), ns in times.items():
+        aim = NANOSECONDS
+        if connections != "1":
+            aim = GROWTH * min(NANOSECONDS, times["1", pulses])
+        if pulses != "1":
+            aim = min(aim, PENDING * times[connections, "1"])
         name = f"a call, with {connections} connections and {pulses} pulses that wait"
-        row(name, f"{ns} ns", f"{aim:.1f} ns", float(ns) <= aim)
+        row(name, f"{ns} ns", f"{aim:.1f} ns", ns <= aim)
 
 
 ROUNDS = {
@@ -92,6 +99,16 @@ def tables():
         name = ROUNDS[call].format(live=live)
         row(f"{name}: least", f"{least} ns")
         row(f"{name}: median", f"{median} ns")
+
+
+def pulses():
+    """Nanoseconds a pulse and its receipt beneath messages."""
+    out = subprocess.run([program(QBENCH), "pulses"], capture_output=True, text=True, check=True)
+    lines = [line.split() for line in out.stdout.splitlines()[1:]]
+    alone = float(lines[0][1])
+    for messages, ns in lines:
+        aim = PENDING * alone
+        row(f"a pulse and its receipt, beneath {messages} messages", f"{ns} ns", f"{aim:.1f} ns", float(ns) <= aim)
 
 
 def cells():
@@ -208,7 +225,14 @@ def scripts():
                 script(kind, mebibytes, folder)
 
 
-PARTS = {"core": core, "tables": tables, "cells": cells, "allocations": allocations, "scripts": scripts}
+PARTS = {
+    "core": core,
+    "tables": tables,
+    "pulses": pulses,
+    "cells": cells,
+    "allocations": allocations,
+    "scripts": scripts,
+}
 
 
 def main():

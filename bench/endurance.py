@@ -5,9 +5,9 @@ usage: bench/endurance.py [MILLIONS [CLIENTS SERVERS]]
 
 So many clients and servers (8 and 4) make round trips, in ten runs of which each is longer than the one before, up to
 so many millions (10). The program itself looks that all were answered, and that the sum of the calls of all ports is
-three for each at least. Of each run it prints the round trips, the seconds, the microseconds of a round trip, and the peak of the
-memory in KiB. Before them comes a run of 1,000 round trips. The last line is 'flat' where no run took more memory than
-the first of the ten by a fifth, and else 'not flat', with status 1. It wants GNU time.
+three for each at least. Of each run this prints the round trips, the seconds, the microseconds of a round trip, and the
+peak of the memory in KiB. Before them comes a run of 1,000 round trips. The last line is 'flat' where no run took more
+memory than the first of the ten by a fifth, and else 'not flat', with status 1. It wants GNU time.
 """
 
 import os

@@ -1,9 +1,11 @@
 //! Times the kernel's calls. With no argument it makes a few calls and says how many; with `measure` it
 //! prints a table of nanoseconds a call; with `tour` it makes each call once or more often, and prints each
 //! before it is made; with `cells` it prints nanoseconds a completion that goes through a cell; with `tables`
-//! nanoseconds an attach and a detach, and a create and a destroy. Any other word is a fault, with status 2.
+//! nanoseconds an attach and a detach, and a create and a destroy; with `pulses` nanoseconds a pulse and its receipt
+//! beneath messages that wait. Any other word is a fault, with status 2.
 #![tactic(auto)]
 
+mod beneath;
 mod handover;
 mod rounds;
 mod table;
@@ -22,6 +24,7 @@ enum Task {
     Tour,
     Cells,
     Tables,
+    Pulses,
 }
 
 /// The task that a word names, if it names one.
@@ -31,6 +34,7 @@ fn task_of(word: &str) -> Option<Task> {
         "tour" => Some(Task::Tour),
         "cells" => Some(Task::Cells),
         "tables" => Some(Task::Tables),
+        "pulses" => Some(Task::Pulses),
         _ => None,
     }
 }
@@ -40,7 +44,7 @@ fn main(rt: HostRuntime) -> Result<ExitCode, Fail> {
     for word in env::args(&rt)?.skip(1) {
         let Some(named) = task_of(word.as_str()) else {
             let _ = eprintln!(rt;
-                "qbench: no task is called {word}; there are measure, tour, cells and tables"
+                "qbench: no task is called {word}; there are measure, tour, cells, tables and pulses"
             );
             return Ok(ExitCode::from(2));
         };
@@ -52,6 +56,7 @@ fn main(rt: HostRuntime) -> Result<ExitCode, Fail> {
         Task::Tour => tour::walk(&rt)?,
         Task::Cells => handover::measure(&rt)?,
         Task::Tables => turnover::measure(&rt)?,
+        Task::Pulses => beneath::measure(&rt)?,
     }
     Ok(ExitCode::SUCCESS)
 }

@@ -6,7 +6,7 @@ use qbase::errno::Errno;
 use qbase::flags::ChannelFlags;
 use qbase::ids::{ChannelId, ConnectionId, ProcessNo, ReceiveId, ThreadNo};
 use qbase::priority::Priority;
-use qkernel::call::Call;
+use qkernel::call::{Call, Mark};
 use qkernel::endings::Endings;
 use qkernel::kernel::{CALL_LIMIT, Kernel};
 use qtables::roster::Roster;
@@ -68,6 +68,25 @@ fn repeat(kernel: &mut Kernel, thread: ThreadNo, call: &Call, count: u64) -> Res
         kernel.dispatch(thread, call).map_err(|refused| refused.0)?;
     }
     Ok(())
+}
+
+/// Makes a call that ends at once, and is to do what it says.
+pub fn make(
+    kernel: &mut Kernel,
+    endings: &mut Endings,
+    thread: ThreadNo,
+    call: Call,
+) -> Result<(), Stopped> {
+    if kernel.made() >= CALL_LIMIT || !kernel.knows(thread) {
+        return Err(Stopped::Unready);
+    }
+    endings.clear();
+    kernel.step(thread, call, endings);
+    let ending = endings.first().ok_or(Stopped::Unanswered)?;
+    match ending.mark {
+        Mark::Failed(errno) => Err(Stopped::Refused(errno)),
+        _ => Ok(()),
+    }
 }
 
 impl Course {

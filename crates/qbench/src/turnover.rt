@@ -1,13 +1,13 @@
 //! Ids that come and go: a connection is attached and the oldest one detached, or a channel created and the
 //! oldest one destroyed, while the others stay and nothing is pending.
 
-use crate::rounds::{CLIENT, SERVER, Stopped, roster};
+use crate::rounds::{CLIENT, SERVER, Stopped, make, roster};
 use arrayvec::ArrayVec;
 use qbase::flags::ChannelFlags;
 use qbase::ids::{ChannelId, ConnectionId, ThreadNo};
-use qkernel::call::{Call, Mark};
+use qkernel::call::Call;
 use qkernel::endings::Endings;
-use qkernel::kernel::{CALL_LIMIT, Kernel};
+use qkernel::kernel::Kernel;
 use std::alloc::Global;
 use std::mem;
 use std::rt::Clock;
@@ -106,17 +106,12 @@ impl Turnover {
 
     /// Makes a call, which is to do what it says.
     fn call(&mut self, call: Call) -> Result<(), Stopped> {
-        let thread = self.kind.thread();
-        if self.kernel.made() >= CALL_LIMIT || !self.kernel.knows(thread) {
-            return Err(Stopped::Unready);
-        }
-        self.endings.clear();
-        self.kernel.step(thread, call, &mut self.endings);
-        let ending = self.endings.first().ok_or(Stopped::Unanswered)?;
-        match ending.mark {
-            Mark::Failed(errno) => Err(Stopped::Refused(errno)),
-            _ => Ok(()),
-        }
+        make(
+            &mut self.kernel,
+            &mut self.endings,
+            self.kind.thread(),
+            call,
+        )
     }
 
     /// One is made, and the oldest one ended.
