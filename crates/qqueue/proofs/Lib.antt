@@ -2,9 +2,11 @@ pub mod BestLaws
 pub mod KeptLaws
 pub mod LaneLaws
 pub mod LevelLaws
+pub mod NextLaws
 pub mod OrderLaws
 pub mod PadLaws
 pub mod PlaceLaws
+pub mod PutLaws
 pub mod RingLaws
 pub mod RisingLaws
 pub mod TakenLaws

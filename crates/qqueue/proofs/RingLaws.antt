@@ -1,5 +1,5 @@
 -- Rings of nodes: where one begins, one node more, one less.
-use Rattle.std.proofs.Common.{◌≡◌, ◌≢◌, ℕ, ◌<◌, List, [], ◌∷◌, ◌++◌, map, Bool, true, false, cond, refl, ap, sym, subst, ◌∙◌, arith, append-nil}
+use Rattle.std.proofs.Common.{◌≡◌, ◌≢◌, ℕ, ◌<◌, List, [], ◌∷◌, ◌++◌, map, Bool, true, false, cond, refl, ap, sym, subst, ◌∙◌, arith, append-nil, append_assoc}
 use Rattle.std.specs.Prelude.{Some, filter}
 use Rattle.std.specs.List.{AllByRecursion}
 use Rattle.std.proofs.lemmas.List.{map-append}
@@ -7,9 +7,9 @@ use Rattle.std.proofs.lemmas.List.Elements.{filter-append}
 use Rattle.slab.specs.Slab.{Slab}
 use Rattle.qqueue.specs.declared.item.Item.{Item}
 use Rattle.qqueue.specs.declared.node.Node.{Node}
-use Rattle.qqueue.specs.Rings.{put_place, Rises, is_on, keys_on, item_of, after_of, before_of, Linked, Path, Ring}
+use Rattle.qqueue.specs.Rings.{put_place, places_after, Rises, is_on, keys_on, item_of, after_of, before_of, Linked, Path, Ring}
 use Rattle.qqueue.specs.Joins.{Relinked, SameLinks}
-use Rattle.qqueue.proofs.PlaceLaws.{split_put}
+use Rattle.qqueue.proofs.PlaceLaws.{split_put, split_after}
 
 -- ---- keys of their own
 
@@ -18,7 +18,7 @@ abbrev pub Apart : List ℕ → Type 0
 Apart [] = Unit {0}
 Apart (key ∷ keys) = AllByRecursion (λ k. k ≢ key) keys × Apart keys
 
-pub all_split : (P : ℕ → Type 0) (xs ys : List ℕ) → AllByRecursion P (xs ++ ys) → AllByRecursion P xs × AllByRecursion P ys
+pub all_split : {X : Type 0} (P : X → Type 0) (xs ys : List X) → AllByRecursion P (xs ++ ys) → AllByRecursion P xs × AllByRecursion P ys
 all_split P [] ys all = (tt, all)
 all_split P (x ∷ xs) ys all = let r = all_split P xs ys all.1 in ((all.0, r.0), r.1)
 
@@ -40,10 +40,6 @@ apart_turn (x ∷ xs) ys apart =
     let grouped : Apart (xs ++ (ys ++ x ∷ [])) = subst Apart (append_assoc xs ys (x ∷ [])) moved in
     let turned : Apart ((ys ++ x ∷ []) ++ xs) = apart_turn xs (ys ++ x ∷ []) grouped in
     subst Apart (append_assoc ys (x ∷ []) xs) turned
-  where
-    append_assoc : (a b c : List ℕ) → (a ++ b) ++ c ≡ a ++ (b ++ c)
-    append_assoc [] b c = refl
-    append_assoc (x ∷ a) b c = ap (λ l. x ∷ l) (append_assoc a b c)
 
 -- ---- paths
 
@@ -111,6 +107,14 @@ module _ (s t : Slab Node) where
   ring_behind p c keys ring apart not_p changed linked closed =
       path_join t c keys p [] c (walk (last_from c keys) c p changed c keys c p ring refl apart apart.0 not_p.0 not_p.1 linked) closed
 
+  -- one node more between two parts of a ring, where the ring from the second part on is that of c
+  pub ring_between : (p c : ℕ) (keys front back : List ℕ) → back ++ front ≡ c ∷ keys → Ring s (c ∷ keys) → Apart (c ∷ keys) → AllByRecursion (λ k. k ≢ p) (c ∷ keys) → Relinked s t (last_from c keys) c p → Linked t (last_from c keys) p → Linked t p c → Ring t (front ++ p ∷ back)
+  ring_between p c keys front back is ring apart not_p changed linked closed =
+      let whole : Ring t ((c ∷ keys) ++ p ∷ []) = ring_behind p c keys ring apart not_p changed linked closed in
+      let parts : Ring t ((back ++ front) ++ p ∷ []) = subst (λ l. Ring t (l ++ p ∷ [])) (sym is) whole in
+      let grouped : Ring t (back ++ (front ++ p ∷ [])) = subst (Ring t) (append_assoc back front (p ∷ [])) parts in
+      subst (Ring t) (append_assoc front (p ∷ []) back) (ring_turn t back (front ++ p ∷ []) grouped)
+
   -- the first node taken out
   pub ring_but_first : (p c : ℕ) (keys : List ℕ) → Ring s (p ∷ c ∷ keys) → Apart (p ∷ c ∷ keys) → Relinked s t (last_from c keys) c p → Linked t (last_from c keys) c → Ring t (c ∷ keys)
   ring_but_first p c keys ring apart changed linked =
@@ -155,6 +159,19 @@ keys_put pulse level p places on =
       back,
       ap (keys_on pulse level) split.2 ∙ keys_on-append pulse level split.0 split.1,
       ap (keys_on pulse level) split.3 ∙ keys_on-append pulse level split.0 (p ∷ split.1) ∙ ap (λ l. front ++ l) one,
+    )
+
+-- where the numbers rise, it stands before the first of those of greater numbers
+pub keys_put_after : (pulse : Bool) (level : ℕ) (p : Item × ℕ) (places : List (Item × ℕ)) → Rises places → is_on pulse level p ≡ true
+    → (front : List ℕ) × (keys_on pulse level places ≡ front ++ keys_on pulse level (places_after p.0.number places)) × (keys_on pulse level (put_place p places) ≡ front ++ p.1 ∷ keys_on pulse level (places_after p.0.number places))
+keys_put_after pulse level p places up on =
+    let split = split_after p places up in
+    let later = places_after p.0.number places in
+    let front = keys_on pulse level split.0 in
+    let one : keys_on pulse level (p ∷ later) ≡ p.1 ∷ keys_on pulse level later = rw on refl in (
+      front,
+      ap (keys_on pulse level) split.1 ∙ keys_on-append pulse level split.0 later,
+      ap (keys_on pulse level) split.2 ∙ keys_on-append pulse level split.0 (p ∷ later) ∙ ap (λ l. front ++ l) one,
     )
 
 -- any other leaves them

@@ -128,6 +128,9 @@ module _ (first after_first : Bool → ℕ → Option ℕ) (s removed t : Slab N
     pub taken_rises : Rises (places_of t)
     taken_rises = subst Rises (sym same_places) (removed_rises first s removed key node own h)
 
+    pub taken_places : places_of s ≡ put_place (node.item, key) (places_of t)
+    taken_places = removed_put first s removed key node own h ∙ ap (put_place (node.item, key)) (sym same_places)
+
     pub taken_items : items_at (places_of t) ≡ without node.item.number (items_at (places_of s))
     taken_items = ap items_at same_places ∙ removed_items first s removed key node own h
 

@@ -1,5 +1,5 @@
 -- Which of the items that wait is received first.
-use Rattle.std.specs.Prelude.{ℕ, ◌==◌, not, nat_lt, Bool, true, false, List, [], ◌∷◌, filter, Option, None, Some, if◌then◌else◌}
+use Rattle.std.specs.Prelude.{ℕ, ◌==◌, not, nat_lt, Bool, true, false, List, [], ◌∷◌, filter, map, Option, None, Some, if◌then◌else◌}
 use Rattle.qqueue.specs.declared.item.What.{What}
 use Rattle.qqueue.specs.declared.item.What.TheVariants.{Message, User, Unblock, Disconnect}
 use Rattle.qqueue.specs.declared.item.Item.{Item}
@@ -36,3 +36,11 @@ without number items = filter (λ item. not (item.number == number)) items
 abbrev pub numbered : ℕ → List Item → Option Item
 numbered number [] = None
 numbered number (x ∷ items) = if x.number == number then Some x else numbered number items
+
+-- the item, of another priority
+abbrev pub with_priority : ℕ → Item → Item
+with_priority priority item = record { number = item.number; priority = priority; what = item.what }
+
+-- the items, where the one of this number has another priority
+abbrev pub requeued : ℕ → ℕ → List Item → List Item
+requeued number priority items = map (λ item. if item.number == number then with_priority priority item else item) items

@@ -1,5 +1,5 @@
 -- What one node more on a ring, and one less, makes of the nodes and the first keys.
-use Rattle.std.specs.Prelude.{◌≡◌, ◌≢◌, ℕ, Option, None, Some}
+use Rattle.std.specs.Prelude.{◌≡◌, ◌≢◌, ℕ, Option, None, Some, unwrap_or}
 use Rattle.slab.specs.Slab.{Slab}
 use Rattle.qqueue.specs.declared.node.Node.{Node}
 use Rattle.qqueue.specs.Rings.{item_of, after_of, before_of, Linked}
@@ -14,12 +14,14 @@ pub record SameLinks (old new : Slab Node) : Type 0 where
   pub after : (x : ℕ) → after_of new x ≡ after_of old x
   pub before : (x : ℕ) → before_of new x ≡ before_of old x
 
--- the node stands behind the last of the level's ring, or alone where there was none
-pub record Extended (first after_first : ℕ → Option ℕ) (old new : Slab Node) (level key : ℕ) : Type 0 where
+-- the node stands before the next one, or behind the last of the level's ring where there is no next; alone where there was no ring
+pub record Joined (first after_first : ℕ → Option ℕ) (old new : Slab Node) (level key : ℕ) (next : Option ℕ) : Type 0 where
   pub items : (x : ℕ) → item_of new x ≡ item_of old x
   pub others : (other : ℕ) → other ≢ level → after_first other ≡ first other
   pub alone : first level ≡ None → (after_first level ≡ Some key) × SameLinks old new
-  pub behind : (head last : ℕ) → first level ≡ Some head → before_of old head ≡ Some last → (after_first level ≡ Some head) × Linked new last key × Linked new key head × Relinked old new last head key
+  pub among : (head prior : ℕ) → first level ≡ Some head → before_of old (unwrap_or next head) ≡ Some prior → Linked new prior key × Linked new key (unwrap_or next head) × Relinked old new prior (unwrap_or next head) key
+  pub in_front : (head : ℕ) → first level ≡ Some head → next ≡ Some head → after_first level ≡ Some key
+  pub behind : (head : ℕ) → first level ≡ Some head → next ≢ Some head → after_first level ≡ Some head
 
 -- the neighbours of a node that was taken out stand beside one another; the level has none where it stood alone
 pub record ClosedUp (first after_first : ℕ → Option ℕ) (old new : Slab Node) (key : ℕ) (node : Node) : Type 0 where

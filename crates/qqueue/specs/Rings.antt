@@ -12,6 +12,10 @@ abbrev pub put_place : Item × ℕ → List (Item × ℕ) → List (Item × ℕ)
 put_place place [] = place ∷ []
 put_place place (first ∷ places) = if nat_lt place.0.number first.0.number then place ∷ first ∷ places else first ∷ put_place place places
 
+-- the places whose items have greater numbers
+abbrev pub places_after : ℕ → List (Item × ℕ) → List (Item × ℕ)
+places_after number places = filter (λ place. nat_lt number place.0.number) places
+
 -- the items of these slots with their keys, in rising number, where the first slot has this key
 abbrev pub places_from : ℕ → List (Option Node) → List (Item × ℕ)
 places_from key [] = []

@@ -1,18 +1,19 @@
-//! The nodes of a queue and its rings: one more item, one taken out, the best.
+//! The nodes of a queue and its rings: one more item, one taken out, one of another priority, the best.
 
-ghost use Rattle.std.specs.Prelude.{◌≡◌, ◌≢◌, ◌+◌, ◌<◌, ◌≤◌, ℕ, [], ◌∷◌, ◌++◌, None, Some, IfSome, IfNone, IsSome, OnOk, OnErr, IsOk, if◌then◌else◌};
+ghost use Rattle.std.specs.Prelude.{◌≡◌, ◌≢◌, ◌+◌, ◌<◌, ◌≤◌, ℕ, [], ◌∷◌, ◌++◌, None, Some, IfSome, IfNone, IsSome, OnOk, OnErr, IsOk, if◌then◌else◌, unwrap_or};
 ghost use Rattle.std.specs.List.{AllByRecursion};
 ghost use Rattle.std.specs.Vec.{vec_len, vec_capacity};
 ghost use Rattle.slab.specs.Slab.{slab_len};
-ghost use Rattle.qqueue.specs.Best.{best_of, is_pulse, without};
+ghost use Rattle.qqueue.specs.Best.{best_of, is_pulse, without, requeued};
 ghost use Rattle.qqueue.specs.Lanes.{first_in, IsEarlier, IsForemost};
-ghost use Rattle.qqueue.specs.Rings.{places_of, items_at, pulses_of, after_of, before_of, item_of, item_at, Linked};
-ghost use Rattle.qqueue.specs.Joins.{Extended, ClosedUp};
+ghost use Rattle.qqueue.specs.Rings.{put_place, places_after, places_of, items_at, pulses_of, Rises, keys_on, Ring, first_of, after_of, before_of, item_of, item_at, Linked};
+ghost use Rattle.qqueue.specs.Joins.{Joined, ClosedUp};
 
 use crate::item::{Item, Kind};
 use crate::lane::Lane;
 use crate::links::{add, link};
 use crate::node::Node;
+use qbase::priority::Priority;
 use slab::Slab;
 use std::alloc::{AllocError, Global};
 
@@ -36,13 +37,14 @@ fn room_of(nodes: &Slab<Node>) -> usize
     nodes.capacity() - nodes.len()
 }
 
-/// Puts a node that is a ring of its own behind all others of a level.
-fn extend(lane: &mut Lane, nodes: &mut Slab<Node>, level: u8, key: usize)
+/// Puts a node that is a ring of its own on a level's ring: before the next node, or behind all others where
+/// there is no next.
+fn join(lane: &mut Lane, nodes: &mut Slab<Node>, level: u8, key: usize, next: Option<usize>)
     requires made { vec_len lane.old.firsts ≡ 256 }
     requires there { IsSome (item_of nodes.old key) }
-    requires first_there { (first : ℕ) → first_in lane.old level ≡ Some first → IsSome (item_of nodes.old first) × (first ≢ key) }
-    requires last_there { (first last : ℕ) → first_in lane.old level ≡ Some first → before_of nodes.old first ≡ Some last → IsSome (item_of nodes.old last) × (last ≢ key) }
-    ensures extended { Extended (first_in lane.old) (first_in lane.new) nodes.old nodes.new level key }
+    requires next_there { (first : ℕ) → first_in lane.old level ≡ Some first → IsSome (item_of nodes.old (unwrap_or next first)) × (unwrap_or next first ≢ key) }
+    requires prior_there { (first prior : ℕ) → first_in lane.old level ≡ Some first → before_of nodes.old (unwrap_or next first) ≡ Some prior → IsSome (item_of nodes.old prior) × (prior ≢ key) }
+    ensures joined { Joined (first_in lane.old) (first_in lane.new) nodes.old nodes.new level key next }
     ensures firsts { vec_len lane.new.firsts ≡ vec_len lane.old.firsts }
     ensures len { slab_len nodes.new ≡ slab_len nodes.old }
     ensures capacity { nodes.new.capacity ≡ nodes.old.capacity }
@@ -50,9 +52,13 @@ fn extend(lane: &mut Lane, nodes: &mut Slab<Node>, level: u8, key: usize)
     match lane.first(level) {
         None => lane.set(level, key),
         Some(first) => {
-            let last = nodes[first].before;
-            link(nodes, last, key);
-            link(nodes, key, first);
+            let after = next.unwrap_or(first);
+            let prior = nodes[after].before;
+            link(nodes, prior, key);
+            link(nodes, key, after);
+            if next == Some(first) {
+                lane.set(level, key);
+            }
         }
     }
 }
@@ -78,6 +84,24 @@ fn close_up(lane: &mut Lane, nodes: &mut Slab<Node>, key: usize, node: Node)
             lane.set(level, node.after);
         }
     }
+}
+
+/// The key of the first node of the ring of an item's kind and level whose number is greater than the item's,
+/// where the ring begins at this key.
+fn next_from(nodes: &Slab<Node>, first: usize, item: &Item) -> Option<usize>
+    requires rises { Rises (places_of nodes.now) }
+    requires first { first_of (keys_on (is_pulse item.now.what) item.now.priority (places_of nodes.now)) ≡ Some first }
+    requires ring { Ring nodes.now (keys_on (is_pulse item.now.what) item.now.priority (places_of nodes.now)) }
+    ensures { result ≡ first_of (keys_on (is_pulse item.now.what) item.now.priority (places_after item.now.number (places_of nodes.now))) }
+{
+    let mut key = first;
+    while nodes[key].item.number <= item.number {
+        key = nodes[key].after;
+        if key == first {
+            return None;
+        }
+    }
+    Some(key)
 }
 
 /// Of the foremost message and the foremost pulse, each with its level, the one that is received first: of
@@ -152,14 +176,56 @@ impl Lists {
         ensures len { slab_len self.new.nodes ≡ slab_len self.old.nodes + 1 }
         ensures room { self.new.room + 1 ≡ self.old.room }
     {
+        self.put(item, None);
+    }
+
+    /// Puts an item at its place by number, into the room that there is.
+    fn insert(&mut self, item: Item)
+        requires kept { IsKept self.old }
+        requires room { 0 < self.old.room }
+        requires apart { AllByRecursion (λ place. place.0.number ≢ item.number) (places_of self.old.nodes) }
+        ensures kept { IsKept self.new }
+        ensures places { (key : ℕ) × (places_of self.new.nodes ≡ put_place (item, key) (places_of self.old.nodes)) }
+        ensures room { self.new.room + 1 ≡ self.old.room }
+    {
+        let next = self.next_of(&item);
+        self.put(item, next);
+    }
+
+    /// Puts an item before the next one of its kind and level, into the room that there is.
+    fn put(&mut self, item: Item, next: Option<usize>)
+        requires kept { IsKept self.old }
+        requires room { 0 < self.old.room }
+        requires apart { AllByRecursion (λ place. place.0.number ≢ item.number) (places_of self.old.nodes) }
+        requires next { next ≡ first_of (keys_on (is_pulse item.what) item.priority (places_after item.number (places_of self.old.nodes))) }
+        ensures kept { IsKept self.new }
+        ensures places { (key : ℕ) × (places_of self.new.nodes ≡ put_place (item, key) (places_of self.old.nodes)) }
+        ensures len { slab_len self.new.nodes ≡ slab_len self.old.nodes + 1 }
+        ensures room { self.new.room + 1 ≡ self.old.room }
+    {
         self.room -= 1;
         let key = add(&mut self.nodes, item);
         let level = item.priority.get();
         if item.what.is_pulse() {
-            extend(&mut self.pulses, &mut self.nodes, level, key);
+            join(&mut self.pulses, &mut self.nodes, level, key, next);
         } else {
-            extend(&mut self.messages, &mut self.nodes, level, key);
+            join(&mut self.messages, &mut self.nodes, level, key, next);
         }
+    }
+
+    /// The key of the first of the items of an item's kind and level whose number is greater.
+    fn next_of(&self, item: &Item) -> Option<usize>
+        requires kept { IsKept self.now }
+        requires room { 0 < self.now.room }
+        ensures { result ≡ first_of (keys_on (is_pulse item.now.what) item.now.priority (places_after item.now.number (places_of self.now.nodes))) }
+    {
+        let level = item.priority.get();
+        let first = if item.what.is_pulse() {
+            self.pulses.first(level)
+        } else {
+            self.messages.first(level)
+        };
+        next_from(&self.nodes, first?, item)
     }
 
     /// Takes out the item under a key.
@@ -167,10 +233,11 @@ impl Lists {
         requires kept { IsKept self.old }
         requires there { IsSome (item_of self.old.nodes key) }
         ensures item { item_of self.old.nodes key ≡ Some result }
+        ensures places { places_of self.old.nodes ≡ put_place (result, key) (places_of self.new.nodes) }
         ensures rest { items_at (places_of self.new.nodes) ≡ without result.number (items_at (places_of self.old.nodes)) }
         ensures counts { pulses_of (items_at (places_of self.old.nodes)) ≡ pulses_of (items_at (places_of self.new.nodes)) + (if is_pulse result.what then 1 else 0) }
         ensures kept { IsKept self.new }
-        ensures room { self.old.room ≤ self.new.room }
+        ensures room { self.old.room < self.new.room }
     {
         let node = self.nodes.remove(key);
         self.room = room_of(&self.nodes);
@@ -180,6 +247,23 @@ impl Lists {
             close_up(&mut self.messages, &mut self.nodes, key, node);
         }
         node.item
+    }
+
+    /// Gives the item under a key another priority: it then stands at its place by number among the items of
+    /// that priority.
+    pub fn requeue(&mut self, key: usize, priority: Priority)
+        requires kept { IsKept self.old }
+        requires there { IsSome (item_of self.old.nodes key) }
+        ensures items { IfSome (item_of self.old.nodes key) (λ item. items_at (places_of self.new.nodes) ≡ requeued item.number priority (items_at (places_of self.old.nodes))) }
+        ensures counts { pulses_of (items_at (places_of self.new.nodes)) ≡ pulses_of (items_at (places_of self.old.nodes)) }
+        ensures kept { IsKept self.new }
+        ensures room { self.new.room ≡ self.old.room }
+    {
+        let room = self.room;
+        let item = self.take_out(key);
+        self.insert(Item { priority, ..item });
+        // What was taken out left room for what came: the room that was promised is the same.
+        self.room = room;
     }
 
     /// The key of the item that a receive of this kind takes: the first of the greatest level, found by the

@@ -1,9 +1,9 @@
 //! The queue of one channel.
 
-ghost use Rattle.std.specs.Prelude.{◌≡◌, ◌==◌, ◌+◌, ◌<◌, ◌≤◌, [], ◌∷◌, ◌++◌, length, count_by, IsOk, OnOk, OnErr, IfErr, IfSome, IfNone, IsSome, option_copied};
+ghost use Rattle.std.specs.Prelude.{◌≡◌, ◌==◌, ◌+◌, ◌<◌, ◌≤◌, [], ◌∷◌, ◌++◌, length, count_by, IsOk, OnOk, OnErr, IfErr, IfSome, IfNone, IsSome, IsFalse, is_some, option_copied};
 ghost use Rattle.std.specs.List.{AllByRecursion};
 ghost use Rattle.qbase.specs.declared.errno.Errno.TheVariants.{NoMemory};
-ghost use Rattle.qqueue.specs.Best.{best_of, without, numbered, is_pulse};
+ghost use Rattle.qqueue.specs.Best.{best_of, without, requeued, numbered, is_pulse};
 ghost use Rattle.qqueue.specs.Contents.{IsRising};
 ghost use Rattle.qqueue.specs.Kept.{IsKept};
 ghost use Rattle.qqueue.specs.Rings.{places_of, items_at, item_of, pulses_of};
@@ -12,6 +12,7 @@ use crate::item::{Item, Kind};
 use crate::links::key_of;
 use crate::lists::Lists;
 use qbase::errno::Errno;
+use qbase::priority::Priority;
 use std::alloc::Global;
 use std::marker::Model;
 
@@ -125,6 +126,23 @@ impl Queue {
     {
         let key = key_of(&self.lists.nodes, number)?;
         Some(take_out(&mut self.lists, &mut self.pulses, key))
+    }
+
+    /// Gives the item of this number another priority, and says whether there is one; takes no memory. It then
+    /// stands among the items of its new priority at its place by number, not behind them.
+    pub fn requeue(&mut self, number: u64, priority: Priority) -> bool
+        ensures found { result ≡ is_some (numbered number self.old.items) }
+        ensures items { self.new.items ≡ requeued number priority self.old.items }
+        ensures unchanged { IsFalse result → self.new ≡ self.old }
+        ensures room { self.new.room ≡ self.old.room }
+    {
+        match key_of(&self.lists.nodes, number) {
+            Some(key) => {
+                self.lists.requeue(key, priority);
+                true
+            }
+            None => false,
+        }
     }
 
     /// How many items wait.

@@ -1,12 +1,12 @@
-use Rattle.std.proofs.Common.{◌≡◌, ◌+◌, ◌<◌, true, false, cond, sym, ◌∙◌, subst, arith}
+use Rattle.std.proofs.Common.{◌≡◌, ℕ, ◌+◌, ◌<◌, true, false, cond, sym, ◌∙◌, subst, arith}
 use Rattle.slab.specs.Slab.{slab_len}
 use Rattle.qqueue.specs.declared.item.Item.{Item}
 use Rattle.qqueue.specs.declared.lists.Lists.{Lists}
 use Rattle.qqueue.specs.Best.{is_pulse, without}
 use Rattle.qqueue.specs.Kept.{first_at, IsKept}
-use Rattle.qqueue.specs.Rings.{places_of, items_at, pulses_of}
+use Rattle.qqueue.specs.Rings.{put_place, places_of, items_at, pulses_of}
 use Rattle.qqueue.proofs.LaneLaws.{pulse_others, message_others}
-use Rattle.qqueue.proofs.TakenLaws.{IsRemoved, neighbours_there, IsClosed, taken_rises, taken_items, taken_pulses, taken_rings}
+use Rattle.qqueue.proofs.TakenLaws.{IsRemoved, neighbours_there, IsClosed, taken_rises, taken_places, taken_items, taken_pulses, taken_rings}
 use Rattle.qqueue.proofs.lists.Lists.take_out.Goals as goal
 use Rattle.qqueue.proofs.lists.Lists.take_out.Goals.{then-is_pulse, else-is_pulse}
 
@@ -45,12 +45,13 @@ close_up-requires-else-is_pulse-clause-after_there c among =
     (neighbours_there (first_at c.args.self.now.messages c.args.self.now.pulses) c.args.self.now.nodes c.remove-node.new.self c.args.key c.remove-node.result false (removed_message c) among).1
 
 -- what is left is kept, without the item
-record Left (old : Lists) (item : Item) (new : Lists) : Type 0 where
+record Left (old : Lists) (key : ℕ) (item : Item) (new : Lists) : Type 0 where
   kept : IsKept new
+  places : places_of old.nodes ≡ put_place (item, key) (places_of new.nodes)
   rest : items_at (places_of new.nodes) ≡ without item.number (items_at (places_of old.nodes))
   counts : pulses_of (items_at (places_of old.nodes)) ≡ pulses_of (items_at (places_of new.nodes)) + cond (is_pulse item.what) 1 0
 
-left : (c : goal.After-result-1) → Left c.args.self.now c.remove-node.result.item c.if-is_pulse.self
+left : (c : goal.After-result-1) → Left c.args.self.now c.args.key c.remove-node.result.item c.if-is_pulse.self
 left c =
     let l = c.args.self.now in
     let key = c.args.key in
@@ -74,7 +75,7 @@ left c =
             closed = closed;
             others = pulse_others l.messages l.pulses lane node.item.priority closed.others;
           } in
-          subst (Left l node.item) (sym w.self-is) (record {
+          subst (Left l key node.item) (sym w.self-is) (record {
             kept = record {
               rises = taken_rises first (first_at l.messages lane) l.nodes removed t key node true h done;
               rings = taken_rings first (first_at l.messages lane) l.nodes removed t key node true h done;
@@ -82,6 +83,7 @@ left c =
               within = omega (arith, c.room_of-self.ensures, w.close_up.ensures.len, w.close_up.ensures.capacity);
               made = λ _. (made.0, w.close_up.ensures.firsts ∙ made.1);
             };
+            places = taken_places first (first_at l.messages lane) l.nodes removed t key node true h done;
             rest = taken_items first (first_at l.messages lane) l.nodes removed t key node true h done;
             counts = taken_pulses first (first_at l.messages lane) l.nodes removed t key node true h done;
           })
@@ -100,7 +102,7 @@ left c =
             closed = closed;
             others = message_others l.messages l.pulses lane node.item.priority closed.others;
           } in
-          subst (Left l node.item) (sym w.self-is) (record {
+          subst (Left l key node.item) (sym w.self-is) (record {
             kept = record {
               rises = taken_rises first (first_at lane l.pulses) l.nodes removed t key node false h done;
               rings = taken_rings first (first_at lane l.pulses) l.nodes removed t key node false h done;
@@ -108,6 +110,7 @@ left c =
               within = omega (arith, c.room_of-self.ensures, w.close_up-else-is_pulse.ensures.len, w.close_up-else-is_pulse.ensures.capacity);
               made = λ _. (w.close_up-else-is_pulse.ensures.firsts ∙ made.0, made.1);
             };
+            places = taken_places first (first_at lane l.pulses) l.nodes removed t key node false h done;
             rest = taken_items first (first_at lane l.pulses) l.nodes removed t key node false h done;
             counts = taken_pulses first (first_at lane l.pulses) l.nodes removed t key node false h done;
           })
@@ -115,6 +118,9 @@ left c =
 
 pub returns-clause-rest : goal.returns-clause-rest
 returns-clause-rest c = (left c).rest
+
+pub returns-clause-places : goal.returns-clause-places
+returns-clause-places c = (left c).places
 
 pub returns-clause-kept : goal.returns-clause-kept
 returns-clause-kept c = (left c).kept

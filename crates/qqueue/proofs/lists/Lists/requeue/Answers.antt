@@ -1,0 +1,30 @@
+use Rattle.std.proofs.Common.{◌≡◌, ◌≢◌, ap, sym, ◌∙◌, subst}
+use Rattle.std.specs.List.{AllByRecursion}
+use Rattle.qqueue.specs.Best.{requeued}
+use Rattle.qqueue.specs.Rings.{places_of, items_at, pulses_of}
+use Rattle.qqueue.proofs.PlaceLaws.{all_of_items, without_other, requeued_put, pulses_requeued}
+use Rattle.qqueue.proofs.lists.Lists.requeue.Goals as goal
+
+pub insert-requires-clause-apart : goal.insert-requires-clause-apart
+insert-requires-clause-apart c =
+    let number = c.take_out-item.result.number in
+    all_of_items (λ x. x.number ≢ number) (places_of c.take_out-item.new.self.nodes)
+    (subst (AllByRecursion (λ x. x.number ≢ number)) (sym c.take_out-item.ensures.rest) (without_other number (items_at (places_of c.args.self.now.nodes))))
+
+-- the item that is put back is the one that was taken out, of another priority
+requeued_items : (c : goal.After-self-1) → items_at (places_of c.insert.new.self.nodes) ≡ requeued c.take_out-item.result.number c.args.priority (items_at (places_of c.args.self.now.nodes))
+requeued_items c =
+    let x = c.take_out-item.result in
+    let left = places_of c.take_out-item.new.self.nodes in
+    let others = all_of_items (λ y. y.number ≢ x.number) left
+    (subst (AllByRecursion (λ y. y.number ≢ x.number)) (sym c.take_out-item.ensures.rest) (without_other x.number (items_at (places_of c.args.self.now.nodes)))) in
+    ap items_at c.insert.ensures.places.1
+    ∙ requeued_put x c.args.key c.insert.ensures.places.0 c.args.priority left others
+    ∙ ap (λ places. requeued x.number c.args.priority (items_at places)) (sym c.take_out-item.ensures.places)
+
+pub returns-clause-items : goal.returns-clause-items
+returns-clause-items c = rw c.take_out-item.ensures.item (requeued_items c)
+
+pub returns-clause-counts : goal.returns-clause-counts
+returns-clause-counts c =
+    ap pulses_of (requeued_items c) ∙ pulses_requeued c.take_out-item.result.number c.args.priority (items_at (places_of c.args.self.now.nodes))
