@@ -3,4 +3,5 @@ pub mod Senders
 pub mod Receivers
 pub mod Inserting
 pub mod ChannelWrites
+pub mod Moving
 pub mod Cuts

@@ -1,6 +1,7 @@
 pub mod Threads
 pub mod Channels
 pub mod HeldIn
+pub mod Unread
 pub mod Pulses
 pub mod Endings
 pub mod Cuts

@@ -2,7 +2,7 @@
 
 ghost use Rattle.std.specs.Prelude.{◌≡◌, ◌==◌, ◌+◌, ◌≤◌, ◌<◌, ◌++◌, ◌∷◌, ◌&&◌, [], count_by, is_some, true, None, Some, if◌then◌else◌, IsOk, OnOk, OnErr, IfErr, IfSome, IfNone};
 ghost use Rattle.std.specs.List.{AllByRecursion};
-ghost use Rattle.qqueue.specs.Best.{best_of, without};
+ghost use Rattle.qqueue.specs.Best.{best_of, requeued, without};
 ghost use Rattle.qrules.specs.Pulses.{pulses_among};
 ghost use Rattle.qrules.specs.Facts.{is_fixed, tells_disconnect, tells_unblock};
 ghost use Rattle.qrecords.specs.Channels.{channel_in, own_channel_in, pending_in, is_of, room_in, way_in, ClosesIn, SetsItems};
@@ -155,6 +155,20 @@ pub fn enqueue(channels: &mut Channels<Channel>, chid: ChannelId, item: Item) ->
     channel.queue.reserve(1)?;
     channel.queue.push(item);
     Ok(())
+}
+
+/// Gives the item of this number on a channel another priority, if it waits there; takes no memory.
+pub fn requeue(
+    channels: &mut Channels<Channel>,
+    chid: ChannelId,
+    number: u64,
+    priority: Priority,
+)
+    ensures { SetsItems chid (requeued number priority (pending_in channels.old chid)) channels.old channels.new }
+{
+    if let Some(channel) = channels.get_mut(chid) {
+        let _ = channel.queue.requeue(number, priority);
+    }
 }
 
 /// Removes an open channel with all that waits on it.

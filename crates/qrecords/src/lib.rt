@@ -9,3 +9,4 @@ pub mod held;
 pub mod pulses;
 pub mod thread;
 pub mod thread_state;
+pub mod unread;

@@ -2,6 +2,8 @@
 pub mod Sent
 pub mod Unended
 pub mod Pending
+pub mod Order
+pub mod Setting
 pub mod Ending
 pub mod Limits
 pub mod Waiting

@@ -1,16 +1,18 @@
 -- What the definitions of the past mean, as laws of all lawful traces.
-use Rattle.std.specs.Prelude.{◌≡◌, ◌↔◌, ℕ, ◌+◌, ◌<◌, ◌≤◌, ◌==◌, ◌&&◌, Bool, true, false, is_some, length, List, [], ◌∷◌, Option, None, Some, if◌then◌else◌}
+use Rattle.std.specs.Prelude.{◌≡◌, ◌↔◌, ℕ, ◌+◌, ◌<◌, ◌≤◌, ◌==◌, ◌&&◌, Bool, true, false, is_some, filter, length, List, [], ◌∷◌, ◌++◌, map, not, Option, None, Some, if◌then◌else◌}
 use Rattle.std.specs.List.{AllByRecursion, list_any}
 use Rattle.std.specs.Option.{option_map}
 use Rattle.qbase.specs.declared.errno.Errno.TheVariants.{Down}
-use Rattle.qqueue.specs.Best.{is_pulse, may_take}
+use Rattle.qqueue.specs.Best.{is_pulse, may_take, with_priority}
 use Rattle.qqueue.specs.Contents.{IsRising}
+use Rattle.qqueue.specs.Order.{comes_before}
 use Rattle.qqueue.specs.declared.item.Item.{Item}
 use Rattle.qqueue.specs.declared.item.Kind.{Kind}
 use Rattle.qtables.specs.Members.{IsRoster}
 use Rattle.qtables.specs.declared.connection.Connection.{Connection}
 use Rattle.qtables.specs.declared.member.Member.{Member}
 use Rattle.qrules.specs.declared.call.Call.{Call}
+use Rattle.qrules.specs.declared.call.Call.TheVariants.{PrioritySet}
 use Rattle.qrules.specs.declared.call.Completion.{Completion}
 use Rattle.qrules.specs.declared.call.Mark.TheVariants as mark
 use Rattle.qrules.specs.declared.open_call.OpenCall.{OpenCall}
@@ -19,7 +21,7 @@ use Rattle.qrules.specs.declared.open_call.Wait.{Wait}
 use Rattle.qrules.specs.declared.open_call.Wait.TheVariants.{Answer, Item as ForItem}
 use Rattle.qrules.specs.Buffers.{buffer_of}
 use Rattle.qrules.specs.Facts.{Facts, is_for_receipt, sender}
-use Rattle.qrules.specs.Headline.AnsweredToSender.{is_held, sender_of}
+use Rattle.qrules.specs.Headline.AnsweredToSender.{is_held}
 use Rattle.qrules.specs.Headline.BestFirst.{receives_on}
 use Rattle.qrules.specs.Headline.CopiedExactly.{call_at}
 use Rattle.qrules.specs.Headline.ReceivedOnce.{item_received}
@@ -27,9 +29,9 @@ use Rattle.qrules.specs.Headline.SentOrder.{connection_of}
 use Rattle.qrules.specs.Headline.ShutForGood.{NoneReceivedFrom}
 use Rattle.qrules.specs.Lawful.{IsLawful, facts_of}
 use Rattle.qrules.specs.Pulses.{pulses_among}
-use Rattle.qrules.specs.Past.{attached, channel_at, connection_at, made_at, is_accepted, is_closed, is_down, is_ended, items, open_call, pending}
+use Rattle.qrules.specs.Past.{attached, channel_at, connection_at, made_at, is_accepted, is_closed, is_down, is_ended, is_gone, items, open_call, pending, priority_of_item, sender_of}
 use Rattle.qrules.specs.Receivers.{newest, wait_on}
-use Rattle.qrules.specs.Rows.{asks}
+use Rattle.qrules.specs.Rows.{asks, names}
 use Rattle.qrules.specs.Trace.{Event, Trace}
 
 -- ---- receipts
@@ -150,6 +152,52 @@ pub record IsOpenSend (roster : List Member) (past : Trace) (i : ℕ) : Type 0 w
 abbrev pub PendingIsOpen : Type 0
 PendingIsOpen = (roster : List Member) (past : Trace) → IsRoster roster → IsLawful roster past
     → (h : ℕ) → AllByRecursion (λ item. is_pulse item.what ≡ false → IsOpenSend roster past item.number) (pending roster past h)
+
+-- ---- the order of receipt
+
+-- item i is received by a call that receives on channel h and may take item x
+pub record TakesBeside (past : Trace) (z : Completion) (i h : ℕ) (x : Item) : Type 0 where
+  pub call : Call
+  pub kind : Kind
+  pub is_call : call_at past z.call ≡ Some call
+  pub receives : receives_on call ≡ Some (h, kind)
+  pub may : may_take kind x ≡ true
+  pub item : item_received z ≡ Some i
+
+-- item x has the priority that its number has by now
+abbrev pub HasPriority : List Member → Trace → Item → Type 0
+HasPriority roster past x = priority_of_item roster past x.number ≡ x.priority
+
+-- of two items that were pending on a channel, of which x comes before y, and that have their priorities still, y isn't received by a call that may take x
+-- before x is gone
+abbrev pub FirstGoesFirst : Type 0
+FirstGoesFirst = (roster : List Member) (past later : Trace) (e : Event) → IsRoster roster → IsLawful roster (e ∷ later ++ past) → (h : ℕ)
+    → AllByRecursion (λ x. AllByRecursion (λ y. comes_before x y ≡ true → HasPriority roster (later ++ past) x → HasPriority roster (later ++ past) y
+        → AllByRecursion (λ z. TakesBeside (e ∷ later ++ past) z y.number h x → is_gone (later ++ past) x ≡ true) e.endings) (pending roster past h)) (pending roster past h)
+
+-- ---- setting a priority
+
+-- the item is a message of thread t
+abbrev pub is_message_of : Trace → ℕ → Item → Bool
+is_message_of past t item = not (is_pulse item.what) && names (sender_of past item.number) t
+
+-- the items, where each message of thread t has this priority
+abbrev pub with_messages_at : Trace → ℕ → ℕ → List Item → List Item
+with_messages_at past t priority items = map (λ item. if is_message_of past t item then with_priority priority item else item) items
+
+-- an accepted PrioritySet gives its thread's pending message that priority, and changes nothing else that is pending
+abbrev pub SettingMovesItsOwn : Type 0
+SettingMovesItsOwn = (roster : List Member) (past : Trace) (e : Event) → IsRoster roster → IsLawful roster (e ∷ past) → is_accepted e past ≡ true
+    → (t priority : ℕ) → e.call ≡ PrioritySet t priority → (h : ℕ) → pending roster (e ∷ past) h ≡ with_messages_at past t priority (pending roster past h)
+
+-- the items but the messages of thread t
+abbrev pub others_than : Trace → ℕ → List Item → List Item
+others_than past t items = filter (λ item. not (is_message_of past t item)) items
+
+-- so the others are what they were, in their order
+abbrev pub OthersKeepTheirOrder : Type 0
+OthersKeepTheirOrder = (roster : List Member) (past : Trace) (e : Event) → IsRoster roster → IsLawful roster (e ∷ past) → is_accepted e past ≡ true
+    → (t priority : ℕ) → e.call ≡ PrioritySet t priority → (h : ℕ) → others_than past t (pending roster (e ∷ past) h) ≡ others_than past t (pending roster past h)
 
 -- ---- held messages
 

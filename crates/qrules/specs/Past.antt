@@ -2,7 +2,7 @@
 use Rattle.std.specs.Prelude.{ℕ, ◌+◌, ◌==◌, ◌&&◌, ◌||◌, not, Bool, true, false, is_some, List, [], ◌∷◌, ◌++◌, length, map, filter, Option, None, Some, if◌then◌else◌, option_and_then, unwrap_or}
 use Rattle.std.specs.List.{list_any}
 use Rattle.std.specs.Option.{option_map, option_to_list, option_or}
-use Rattle.qqueue.specs.Best.{is_pulse}
+use Rattle.qqueue.specs.Best.{is_pulse, with_priority}
 use Rattle.qqueue.specs.declared.item.Item.{Item}
 use Rattle.qqueue.specs.declared.item.What.{What}
 use Rattle.qqueue.specs.declared.item.What.TheVariants as what
@@ -191,10 +191,53 @@ is_taken past i = is_some (receipt_of past i)
 abbrev pub is_gone : Trace → Item → Bool
 is_gone past item = is_taken past item.number || (not (is_pulse item.what) && is_ended past item.number)
 
--- the items of channel h that are not gone, of all items made so far, in rising number; none where it is destroyed
+-- the items of channel h that are not gone, of these items, in rising number; none where it is destroyed
 abbrev pub pending_by : Trace → List Made → ℕ → List Item
 pending_by past made h =
     if is_closed past h then [] else filter (λ item. not (is_gone past item)) (map (λ m. m.item) (filter (λ m. m.channel == h) made))
+
+-- ---- what a message is worth by now
+
+-- the thread of a Send
+abbrev pub thread_of_send : ℕ → Call → Option ℕ
+thread_of_send t (Send coid message reply_buffer) = Some t
+thread_of_send t (ChannelCreate flags) = None
+thread_of_send t (ConnectAttach chid) = None
+thread_of_send t (Receive chid buffer) = None
+thread_of_send t (Reply rcvid status bytes) = None
+thread_of_send t (Error rcvid code) = None
+thread_of_send t (Read rcvid offset buffer) = None
+thread_of_send t (Write rcvid offset bytes) = None
+thread_of_send t (Info rcvid) = None
+thread_of_send t (ReceivePulse chid) = None
+thread_of_send t (Pulse coid priority code value) = None
+thread_of_send t (PrioritySet thread priority) = None
+thread_of_send t (State thread) = None
+thread_of_send t (ChannelDestroy chid) = None
+thread_of_send t Shutdown = None
+thread_of_send t (Unblock thread) = None
+thread_of_send t (ConnectDetach coid) = None
+
+-- the thread that sent message i
+abbrev pub sender_of : Trace → ℕ → Option ℕ
+sender_of past i = made_at (λ e. thread_of_send e.thread e.call) past i
+
+-- the priority that event e sets for thread t, where it is an accepted PrioritySet
+abbrev pub set_by : Event → Trace → ℕ → Option ℕ
+set_by e past t = if is_accepted e past then set_for (sets e.call) t else None
+
+-- the priority that was set last for thread t since message i was sent and before it was received
+abbrev pub set_since : Trace → ℕ → ℕ → Option ℕ
+set_since [] i t = None
+set_since (e ∷ past) i t = if i == length past + 1 then None else option_or (if is_taken past i then None else set_by e past t) (set_since past i t)
+
+-- the priority of an item by now: a message has what was set last for its thread while it was pending, and else, as each pulse, what it was made with
+abbrev pub worth : Trace → Item → ℕ
+worth past item = if is_pulse item.what then item.priority else unwrap_or (option_and_then (set_since past item.number) (sender_of past item.number)) item.priority
+
+-- these items as they are by now
+abbrev pub by_now : Trace → List Made → List Made
+by_now past made = map (λ m. record { item = with_priority (worth past m.item) m.item; channel = m.channel }) made
 
 -- ---- open calls
 
@@ -239,14 +282,14 @@ is_unblock_for i (what.Disconnect process) = false
 abbrev pub unblocked_among : List Made → ℕ → Bool
 unblocked_among made i = list_any (λ m. is_unblock_for i m.item.what) made
 
--- the open call of thread t, of all items made so far
+-- the open call of thread t, of all items as they are by now
 abbrev pub open_call_by : Trace → List Made → ℕ → Option OpenCall
 open_call_by past made t =
     option_map (λ o. with_receipt (priority_made (made_among made o.number)) (unblocked_among made o.number) (receipt_of past o.number) (filled past o)) (unless_ended past (newest_block past t))
 
 -- ---- all that a row may read
 
--- searched for in the past, of all items made so far and of each thread's priority
+-- searched for in the past, of all that was made so far and of each thread's priority
 abbrev pub facts_by : List Member → Trace → List Made → (ℕ → ℕ) → Facts
 facts_by roster past made priority = record {
   roster = roster;
@@ -256,8 +299,8 @@ facts_by roster past made priority = record {
   open_channels = open_channels roster past;
   connection = λ k. connection_at roster past k;
   live_connections = live_connections roster past;
-  open_call = λ t. open_call_by past made t;
-  pending = λ h. pending_by past made h;
+  open_call = λ t. open_call_by past (by_now past made) t;
+  pending = λ h. pending_by past (by_now past made) h;
   priority = priority;
 }
 
@@ -276,13 +319,13 @@ carried channel (Some m) = if is_fixed (channel m.channel) then None else Some m
 abbrev pub given_by : (ℕ → Option ℕ) → ℕ → Completion → Option ℕ
 given_by priority t x = if x.thread == t then option_and_then (λ r. priority r.0) (received x.mark) else None
 
--- the priority that event e gives thread t, of all that was made by then: an accepted PrioritySet sets it, or the thread receives an item
+-- the priority that event e gives thread t, of all that was made by then: an accepted PrioritySet sets it, or the thread receives an item, as that was before the event
 abbrev pub given : List Member → Event → Trace → List Made → ℕ → Option ℕ
 given roster e past made t =
-    option_or (if is_accepted e past then set_for (sets e.call) t else None) (first_among (given_by (λ i. carried (channel_at roster past) (made_among made i)) t) e.endings)
+    option_or (set_by e past t) (first_among (given_by (λ i. carried (channel_at roster past) (made_among (by_now past made) i)) t) e.endings)
 
 abbrev mutual
-  -- all items made so far, in rising number
+  -- all items made so far, each as it was made, in rising number
   pub items : List Member → Trace → List Made
   items roster [] = []
   items roster (e ∷ past) = items roster past ++ option_to_list (item_by (facts_by roster past (items roster past) (λ t. priority_of_thread roster past t)) e past)
@@ -304,14 +347,18 @@ made_on h (Some m) = if m.channel == h then m.item ∷ [] else []
 abbrev pub item_of : List Member → Event → Trace → Option Made
 item_of roster e past = item_by (facts_by roster past (items roster past) (λ t. priority_of_thread roster past t)) e past
 
--- the priority that item i was made with
+-- the priority of item i by now
 abbrev pub priority_of_item : List Member → Trace → ℕ → ℕ
-priority_of_item roster past i = priority_made (made_among (items roster past) i)
+priority_of_item roster past i = priority_made (made_among (by_now past (items roster past)) i)
+
+-- the priority of item i before event e, or as the event makes it
+abbrev pub priority_before : List Member → Event → Trace → ℕ → ℕ
+priority_before roster e past i = priority_made (made_among (by_now past (items roster (e ∷ past))) i)
 
 -- what is pending on channel h, in rising number
 abbrev pub pending : List Member → Trace → ℕ → List Item
-pending roster past h = pending_by past (items roster past) h
+pending roster past h = pending_by past (by_now past (items roster past)) h
 
 -- the open call of thread t
 abbrev pub open_call : List Member → Trace → ℕ → Option OpenCall
-open_call roster past t = open_call_by past (items roster past) t
+open_call roster past t = open_call_by past (by_now past (items roster past)) t

@@ -1,9 +1,9 @@
 -- One call by its facts: what they are after it.
-use Rattle.std.specs.Prelude.{◌≡◌, ℕ, ◌+◌, ◌==◌, ◌&&◌, ◌||◌, not, filter, Bool, true, false, is_some, List, [], ◌++◌, Option, None, Some, if◌then◌else◌, unwrap_or}
+use Rattle.std.specs.Prelude.{◌≡◌, ℕ, ◌+◌, ◌==◌, ◌&&◌, ◌||◌, not, filter, Bool, true, false, is_some, List, [], ◌++◌, map, Option, None, Some, if◌then◌else◌, unwrap_or}
 use Rattle.std.specs.List.{list_any}
 use Rattle.std.specs.Option.{option_map, option_or}
 use Rattle.qbase.specs.Laying.{lay_over}
-use Rattle.qqueue.specs.Best.{without}
+use Rattle.qqueue.specs.Best.{with_priority, without}
 use Rattle.qqueue.specs.declared.item.Item.{Item}
 use Rattle.qtables.specs.Members.{member_at}
 use Rattle.qtables.specs.declared.connection.Connection.{Connection}
@@ -14,7 +14,7 @@ use Rattle.qrules.specs.declared.open_call.Wait.{Wait}
 use Rattle.qrules.specs.declared.open_call.Wait.TheVariants.{Answer, Item as ForItem}
 use Rattle.qrules.specs.Cutting.{is_unread_send}
 use Rattle.qrules.specs.Facts.{Facts, OpenChannel, sender, is_fixed, threads_of}
-use Rattle.qrules.specs.Rows.{Made, Received, Written, asks, closes, detaches, names, shuts_down, unblocks, writes, with_buffer, set_for, sets}
+use Rattle.qrules.specs.Rows.{Made, Received, Setting, Written, asks, closes, detaches, names, shuts_down, unblocks, writes, with_buffer, set_for, sets}
 use Rattle.qrules.specs.Answer.{row_of}
 use Rattle.qrules.specs.Items.{makes}
 use Rattle.qrules.specs.Past.{creates, attaches, held_with, made_on}
@@ -100,11 +100,16 @@ is_cut f t c h i = list_any (λ s. is_unread_send f.connection h i (f.open_call 
 abbrev pub left_by : Facts → ℕ → Call → ℕ → List Item → List Item
 left_by f t c h items = filter (λ item. not (is_cut f t c h item.number)) items
 
--- nothing is left of a channel that is destroyed; to any other the item joins that the call makes, a message goes whose Send ends, and the
--- one that is received goes
+-- the items of channel h, where the message of the thread that the priority is set for has it, if it waits there
+abbrev pub moved : Facts → ℕ → Option Setting → List Item → List Item
+moved f h None items = items
+moved f h (Some s) items = map (λ item. if is_unread_send f.connection h item.number (f.open_call s.thread) then with_priority s.priority item else item) items
+
+-- nothing is left of a channel that is destroyed; to any other the item joins that the call makes, a message goes whose Send ends, the
+-- one that is received goes, and a message has the priority that is set for its thread
 abbrev pub pending_after : Facts → ℕ → Call → ℕ → List Item
 pending_after f t c h =
-    if names (closes c) h then [] else taken_out (row_of f t c).receipt h (left_by f t c h (f.pending h ++ made_on h (makes f t c)))
+    if names (closes c) h then [] else moved f h (sets c) (taken_out (row_of f t c).receipt h (left_by f t c h (f.pending h ++ made_on h (makes f t c))))
 
 -- the priority that thread u takes by a receipt: the item's, unless its channel leaves priorities as they are
 abbrev pub taken_by : Facts → Option Received → ℕ → Option ℕ

@@ -2,7 +2,7 @@
 //! all lawful traces.
 
 ghost use Rattle.qrules.specs.Endings.{BlockedUnlessEnded, CallerGetsItsOwn, EndingsAreApart, EndingsGoToBlocked, EndingsKeepLength, EndsOrWaits, OpenCallsKeepLength};
-ghost use Rattle.qrules.specs.Laws.{AtMostOneOpen, EndingsNameOwnCalls, EndingsRiseByThread, HeldIsHeldSend, NewestIsGreatest, NoneIsNewest, NonePendingIsHeld, NothingFromDestroyed, NothingPendingForWaiting, OnlyRefusedWhenDown, OpenIsUnended, OpenSendsAreLive, PendingIsOpen, PendingRises, PulsesAreLimited, ReceivedWasSent, RefusedChangesNothing};
+ghost use Rattle.qrules.specs.Laws.{AtMostOneOpen, EndingsNameOwnCalls, EndingsRiseByThread, FirstGoesFirst, HeldIsHeldSend, NewestIsGreatest, NoneIsNewest, NonePendingIsHeld, NothingFromDestroyed, NothingPendingForWaiting, OnlyRefusedWhenDown, OthersKeepTheirOrder, OpenIsUnended, OpenSendsAreLive, PendingIsOpen, PendingRises, PulsesAreLimited, ReceivedWasSent, RefusedChangesNothing, SettingMovesItsOwn};
 
 /// An item that is received was made before or by the same event, for the channel on which it is received; and
 /// what was sent over a connection was sent to the channel that this leads to.
@@ -39,6 +39,20 @@ pub fn pending_is_sent()
     ensures rising { PendingRises }
     ensures unheld { NonePendingIsHeld }
     ensures waiting { PendingIsOpen }
+{}
+
+/// Of two items that are pending on a channel the one that comes before the other is received first, or is gone
+/// otherwise, as long as both keep their priorities: so a message that is raised is received before all that it
+/// is then best of. A ReceivePulse passes messages over.
+pub fn first_goes_first()
+    ensures { FirstGoesFirst }
+{}
+
+/// An accepted PrioritySet gives its thread's pending message that priority, and changes nothing else that is
+/// pending: the order of no two others.
+pub fn setting_moves_its_own()
+    ensures moved { SettingMovesItsOwn }
+    ensures others { OthersKeepTheirOrder }
 {}
 
 /// A message is held as the past has it, received and not answered, exactly where its Send is open and has a

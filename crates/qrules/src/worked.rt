@@ -6,6 +6,7 @@
 pub mod broken;
 pub mod ending;
 pub mod messages;
+pub mod moving;
 pub mod priorities;
 pub mod pulses;
 pub mod refusals;

@@ -96,7 +96,7 @@ module _ (s : State) (t : ℕ) (flags : ChannelFlags) (m : Member) (q : Contents
         connection = λ k. rw known refl;
         live_connections = rw known (omega arith);
         open_call = λ u. stays_free s.threads t u free;
-        pending = λ h. uncut s t (ChannelCreate flags) (rw (up, free, is_known, room) refl) refl refl h (pending_there h ∙ sym (append-nil (pending_in s.channels h)));
+        pending = λ h. uncut s t (ChannelCreate flags) (rw (up, free, is_known, room) refl) refl refl refl h (pending_there h ∙ sym (append-nil (pending_in s.channels h)));
         priority = λ u. refl;
       };
     },

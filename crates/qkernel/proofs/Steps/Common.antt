@@ -16,8 +16,8 @@ use Rattle.qbase.specs.declared.errno.Errno.{Errno}
 use Rattle.qqueue.specs.declared.item.Item.{Item}
 use Rattle.qrules.specs.Answer.{MayRefuse, failed, refusal, row_of}
 use Rattle.qrules.specs.Items.{makes}
-use Rattle.qrules.specs.Rows.{closes, names}
-use Rattle.qrules.specs.Step.{left_by, pending_after, taken_out}
+use Rattle.qrules.specs.Rows.{closes, names, sets}
+use Rattle.qrules.specs.Step.{left_by, moved, pending_after, taken_out}
 use Rattle.qrules.specs.Past.{made_on}
 use Rattle.qrules.proofs.Past.Cuts.{EndsSettled, none_cut}
 use Rattle.qrules.proofs.Past.Ends.{row_passes}
@@ -79,19 +79,20 @@ step_refused_alone s t c e X may is = step_refused s t c e X _ may is (counted_a
 -- ---- accepted calls
 
 -- what is pending after a call that neither destroys a channel nor ends a Send which isn't received
-pub uncut_by : (s : State) (t : ℕ) (c : Call) → EndsSettled (facts_in s) t c → closes c ≡ None → (h : ℕ) {x : List Item}
+pub uncut_by : (s : State) (t : ℕ) (c : Call) → EndsSettled (facts_in s) t c → closes c ≡ None → sets c ≡ None → (h : ℕ) {x : List Item}
     → x ≡ taken_out (row_of (facts_in s) t c).receipt h (pending_in s.channels h ++ made_on h (makes (facts_in s) t c)) → x ≡ pending_after (facts_in s) t c h
-uncut_by s t c settled closes_none h {x} is =
+uncut_by s t c settled closes_none sets_none h {x} is =
     let f = facts_in s in
     let items = pending_in s.channels h ++ made_on h (makes f t c) in
     is
     ∙ ap (taken_out (row_of f t c).receipt h) (sym (none_cut f t c settled h items))
     ∙ ap (λ o. cond (names o h) [] (taken_out (row_of f t c).receipt h (left_by f t c h items))) (sym closes_none)
+    ∙ ap (λ o. cond (names (closes c) h) [] (moved f h o (taken_out (row_of f t c).receipt h (left_by f t c h items)))) (sym sets_none)
 
 -- the same of a call that is accepted and ends no other by force
-pub uncut : (s : State) (t : ℕ) (c : Call) → refusal (facts_in s) t c ≡ None → is_forceful c ≡ false → closes c ≡ None → (h : ℕ) {x : List Item}
+pub uncut : (s : State) (t : ℕ) (c : Call) → refusal (facts_in s) t c ≡ None → is_forceful c ≡ false → closes c ≡ None → sets c ≡ None → (h : ℕ) {x : List Item}
     → x ≡ taken_out (row_of (facts_in s) t c).receipt h (pending_in s.channels h ++ made_on h (makes (facts_in s) t c)) → x ≡ pending_after (facts_in s) t c h
-uncut s t c passed mild closes_none h is = uncut_by s t c ((row_laws (facts_in s) t c (row_passes (facts_in s) t c passed)).ends_settled mild) closes_none h is
+uncut s t c passed mild closes_none sets_none h is = uncut_by s t c ((row_laws (facts_in s) t c (row_passes (facts_in s) t c passed)).ends_settled mild) closes_none sets_none h is
 
 -- ---- soundness
 

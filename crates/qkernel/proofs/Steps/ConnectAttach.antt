@@ -68,7 +68,7 @@ module _ (s : State) (t chid : ℕ) (m : Member) (sound : IsSound s) where
             ∙ ap (λ o. put_at (attaches o (ConnectAttach chid)) (s.made + 1) (entry_at s.connections) k) (sym known);
         live_connections = add-zero _ ∙ length-push s.connections _ ∙ ap (λ o. length s.connections + one_for (attaches o (ConnectAttach chid))) (sym known);
         open_call = λ u. stays_free s.threads t u free;
-        pending = λ h. uncut s t (ConnectAttach chid) (rw (up, free, opens, room) refl) refl refl h (sym (append-nil _));
+        pending = λ h. uncut s t (ConnectAttach chid) (rw (up, free, opens, room) refl) refl refl refl h (sym (append-nil _));
         priority = λ u. refl;
       };
     },

@@ -34,7 +34,7 @@ step_errored s t m i sound known code u y up free held is_sender ended threads X
       connection = λ k. rw known refl;
       live_connections = rw known (omega arith);
       open_call = answered_calls s t m i sound known (errored code) u y up free is_sender ended threads takes;
-      pending = λ k. uncut s t (Error i code) (rw (up, free, is_held s t m i sound known, held) refl) refl refl k (sym (append-nil _));
+      pending = λ k. uncut s t (Error i code) (rw (up, free, is_held s t m i sound known, held) refl) refl refl refl k (sym (append-nil _));
       priority = takes.priority;
     };
   },

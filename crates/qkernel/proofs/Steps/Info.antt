@@ -71,7 +71,7 @@ module _ (s : State) (t : ℕ) (m : Member) (i : ℕ) (sound : IsSound s) (known
         connection = λ k. rw known refl;
         live_connections = rw known (omega arith);
         open_call = λ u. rw says (stays_free s.threads t u free);
-        pending = λ k. uncut s t (Info i) (rw (up, free, is_held s t m i sound known, held) refl) refl refl k (sym (append-nil _));
+        pending = λ k. uncut s t (Info i) (rw (up, free, is_held s t m i sound known, held) refl) refl refl refl k (sym (append-nil _));
         priority = λ u. refl;
       };
     },

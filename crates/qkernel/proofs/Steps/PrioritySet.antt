@@ -1,22 +1,35 @@
 -- PrioritySet as a step of the kernel.
-use Rattle.std.proofs.Common.{◌≡◌, ℕ, ◌+◌, List, [], ◌∷◌, refl, sym, ◌∙◌, cond, arith, true, false, eqb, inl}
+use Rattle.std.proofs.Common.{◌≡◌, ℕ, ◌+◌, ◌≤◌, List, [], ◌∷◌, ◌++◌, length, refl, ap, sym, subst, ◌∙◌, cond, arith, true, false, eqb, inl}
 use Rattle.std.specs.Prelude.{None, Some, unwrap_or}
 use Rattle.std.proofs.lemmas.List.{append-nil}
+use Rattle.std.proofs.lemmas.Option.{none-some}
+use Rattle.std.specs.List.{AllByRecursion}
 use Rattle.std.specs.Option.{option_or}
 use Rattle.qbase.specs.declared.errno.Errno.TheVariants.{Srch}
+use Rattle.qqueue.specs.Best.{with_priority}
+use Rattle.qqueue.specs.declared.item.Item.{Item}
+use Rattle.qtables.specs.Entries.{entry_at}
 use Rattle.qtables.specs.Members.{member_at}
 use Rattle.qtables.specs.declared.member.Member.{Member}
 use Rattle.qrules.specs.Answer.{failed}
+use Rattle.qrules.specs.Cutting.{is_unread_send}
 use Rattle.qrules.specs.Facts.{is_in_process}
 use Rattle.qrules.specs.declared.call.Call.TheVariants.{PrioritySet}
 use Rattle.qrules.specs.declared.call.Completion.{Completion}
 use Rattle.qrules.specs.declared.call.Mark.TheVariants as mark
+use Rattle.qrecords.specs.declared.channel.Channel.{Channel}
 use Rattle.qrecords.specs.declared.thread.Thread.{Thread}
 use Rattle.qkernel.specs.State.{State, IsSound, facts_in}
 use Rattle.qkernel.specs.Stands.{Steps}
+use Rattle.qrecords.specs.Channels.{channel_in, ids_of, pending_in}
 use Rattle.qrecords.specs.Threads.{level_in, members_of, open_in, SetsLevel}
+use Rattle.qrecords.specs.Unread.{MovesUnread}
+use Rattle.qrules.specs.Step.{moved}
+use Rattle.qrules.proofs.Past.Cuts.{none_cut}
 use Rattle.qrules.proofs.Rosters.{among, only_own, rises}
-use Rattle.qkernel.proofs.Steps.Common.{uncut, counted, stays_free, step_refused_alone}
+use Rattle.qbase.proofs.Lists.{all_map, all_more}
+use Rattle.qkernel.proofs.Steps.Delivering.{sound_threads}
+use Rattle.qkernel.proofs.Steps.Common.{count_same, counted, stays_free, step_refused_alone}
 
 module _ (s : State) (t thread priority : ℕ) (m : Member) (known : member_at (members_of s.threads) t ≡ Some m) (up : s.down ≡ false) (free : open_in s.threads t ≡ None) where
   pub step_set_refused : (X : List Completion) → is_in_process m.process (member_at (members_of s.threads) thread) ≡ false → X ≡ failed (facts_in s) t (PrioritySet thread priority) Srch ∷ []
@@ -27,9 +40,10 @@ module _ (s : State) (t thread priority : ℕ) (m : Member) (known : member_at (
   abbrev mine : Completion
   mine = record { call = s.made + 1; thread = t; mark = mark.Ok; buffer = [] }
 
-  pub step_set : (threads : List Thread) (X : List Completion) → IsSound s → is_in_process m.process (member_at (members_of s.threads) thread) ≡ true → SetsLevel thread (Some priority) s.threads threads → X ≡ mine ∷ []
-      → Steps s t (PrioritySet thread priority) X (record { made = s.made + 1; down = s.down; threads = threads; channels = s.channels; connections = s.connections })
-  step_set threads X sound own sets is = (
+  pub step_set : (threads : List Thread) (channels : List (ℕ × Channel)) (X : List Completion) → IsSound s → is_in_process m.process (member_at (members_of s.threads) thread) ≡ true
+      → MovesUnread (open_in s.threads thread) s.connections priority s.channels channels → SetsLevel thread (Some priority) s.threads threads → X ≡ mine ∷ []
+      → Steps s t (PrioritySet thread priority) X (record { made = s.made + 1; down = s.down; threads = threads; channels = channels; connections = s.connections })
+  step_set threads channels X sound own moves sets is = (
     true,
     record {
       answer = (
@@ -40,13 +54,30 @@ module _ (s : State) (t thread priority : ℕ) (m : Member) (known : member_at (
         roster = sets.members;
         number = refl;
         down = refl;
-        channel = λ k. rw known refl;
-        open_channels = rw known (omega arith);
+        channel = λ k. rw known (moves.channel k);
+        open_channels = let same : length channels ≡ length s.channels = count_same s.channels channels moves.ids in rw known (omega (arith, same));
         connection = λ k. rw known refl;
         live_connections = rw known (omega arith);
         open_call = λ u. sets.open_call u ∙ stays_free s.threads t u free;
-        pending = λ k. uncut s t (PrioritySet thread priority) (rw (up, free, known, own) refl) refl refl k (sym (append-nil _));
+        pending = λ k. moves.pending k ∙ ap (moved (facts_in s) k (Some (record { thread = thread; priority = priority })))
+            (sym (none_cut (facts_in s) t (PrioritySet thread priority) (λ u y e. absurd (none-some y e)) k (pending_in s.channels k ++ []) ∙ append-nil (pending_in s.channels k)));
         priority = λ u. sets.priority u ∙ (elim (eqb thread u) as (λ b. unwrap_or (cond b (Some priority) None) (level_in s.threads u) ≡ unwrap_or (option_or (cond b (Some priority) None) None) (level_in s.threads u)) [ true ↦ refl | false ↦ refl ]);
       };
     },
   )
+
+-- the kernel is sound afterwards
+pub sound_set : (s : State) (thread priority : ℕ) (threads : List Thread) (channels : List (ℕ × Channel)) → IsSound s → MovesUnread (open_in s.threads thread) s.connections priority s.channels channels
+    → members_of threads ≡ members_of s.threads → IsSound (record { made = s.made + 1; down = s.down; threads = threads; channels = channels; connections = s.connections })
+sound_set s thread priority threads channels sound moves members =
+    let k = sound_threads s threads sound members in
+    record {
+      few = k.few;
+      roster = k.roster;
+      channel_ids = subst (AllByRecursion (λ id. id ≤ s.made + 1)) (sym moves.ids) k.channel_ids;
+      connection_ids = k.connection_ids;
+      connections = k.connections;
+      items = λ h. subst (AllByRecursion (λ (item : Item). item.number ≤ s.made + 1)) (sym (moves.pending h))
+          (all_map (λ (item : Item). item.number ≤ s.made + 1) _ (pending_in s.channels h) (all_more (λ (item : Item). item.number ≤ s.made + 1) _ (pending_in s.channels h) (k.items h) (λ item below.
+          elim (is_unread_send (λ c. entry_at s.connections c) h item.number (open_in s.threads thread)) as (λ b. (cond b (with_priority priority item) item).number ≤ s.made + 1) [ true ↦ below | false ↦ below ])));
+    }

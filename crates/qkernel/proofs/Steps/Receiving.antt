@@ -92,7 +92,7 @@ step_of s t chid Any buffer m o X threads channels none known up free owned best
       connection = λ k. rw known refl;
       live_connections = rw known (omega arith);
       open_call = λ u. rw best (r.open_call u);
-      pending = λ k. uncut s t (Receive chid buffer) (rw (up, free, owned) refl) refl refl k (rw best (r.items k));
+      pending = λ k. uncut s t (Receive chid buffer) (rw (up, free, owned) refl) refl refl refl k (rw best (r.items k));
       priority = λ u. rw best (r.priority u);
     };
   },
@@ -115,7 +115,7 @@ step_of s t chid PulseOnly buffer m o X threads channels none known up free owne
         connection = λ k. rw known refl;
         live_connections = rw known (omega arith);
         open_call = λ u. rw best (q.open_call u);
-        pending = λ k. uncut s t (ReceivePulse chid) (rw (up, free, owned) refl) refl refl k (rw best (q.items k));
+        pending = λ k. uncut s t (ReceivePulse chid) (rw (up, free, owned) refl) refl refl refl k (rw best (q.items k));
         priority = λ u. rw best (q.priority u);
       };
     },

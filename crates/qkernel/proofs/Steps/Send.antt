@@ -87,7 +87,7 @@ module _ (s : State) (t coid : ℕ) (message reply_buffer : List ℕ) (m : Membe
             connection = λ k. rw known refl;
             live_connections = rw known (omega arith);
             open_call = λ u. opens.open_call u ∙ rw (over_way, none) (elim (eqb u t) as (λ b. cond b (Some (waiting None)) (open_in s.threads u) ≡ cond b (Some (waiting None)) (open_in s.threads u)) [ true ↦ refl | false ↦ refl ]);
-            pending = λ k. uncut s t (Send coid message reply_buffer) (rw (up, free, over_way) refl) refl refl k (sets.pending k ∙ rw (over_way, none) (with_item s h item sound refl k ∙ ap (λ o. pending_in s.channels k ++ made_on k o) (sym over_sent)));
+            pending = λ k. uncut s t (Send coid message reply_buffer) (rw (up, free, over_way) refl) refl refl refl k (sets.pending k ∙ rw (over_way, none) (with_item s h item sound refl k ∙ ap (λ o. pending_in s.channels k ++ made_on k o) (sym over_sent)));
             priority = λ u. opens.priority u ∙ rw (over_way, none) refl;
           };
         },
@@ -139,7 +139,7 @@ module _ (s : State) (t coid : ℕ) (message reply_buffer : List ℕ) (m : Membe
           connection = λ k. rw known refl;
           live_connections = rw known (omega arith);
           open_call = λ u. sets_t.open_call u ∙ rw (over_way, newest_is_r, ended, is_receipt) (calls_after threads_1 takes_r u);
-          pending = λ k. uncut s t (Send coid message reply_buffer) (rw (up, free, over_way) refl) refl refl k (rw (over_way, newest_is_r, ended, is_receipt) (items_after s h item sound refl k ∙ ap (λ o. cond (eqb h k) (without (s.made + 1) (pending_in s.channels k ++ made_on k o)) (pending_in s.channels k ++ made_on k o)) (sym over_sent)));
+          pending = λ k. uncut s t (Send coid message reply_buffer) (rw (up, free, over_way) refl) refl refl refl k (rw (over_way, newest_is_r, ended, is_receipt) (items_after s h item sound refl k ∙ ap (λ o. cond (eqb h k) (without (s.made + 1) (pending_in s.channels k ++ made_on k o)) (pending_in s.channels k ++ made_on k o)) (sym over_sent)));
           priority = λ u. sets_t.priority u ∙ takes_r.priority u ∙ rw (over_way, newest_is_r, ended, is_receipt, ended_thread item message r (open_in s.threads r) y ended) refl;
         };
       },

@@ -42,7 +42,7 @@ module _ (s : State) (t target : ℕ) (m : Member) (known : member_at (members_o
         connection = λ k. rw known refl;
         live_connections = rw known (omega arith);
         open_call = λ u. stays_free s.threads t u free;
-        pending = λ k. uncut s t (Ask target) (rw (up, free, there) refl) refl refl k (sym (append-nil _));
+        pending = λ k. uncut s t (Ask target) (rw (up, free, there) refl) refl refl refl k (sym (append-nil _));
         priority = λ u. refl;
       };
     },

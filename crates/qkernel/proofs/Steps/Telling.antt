@@ -115,7 +115,7 @@ module _ (s : State) (t : ℕ) (c : Call) (m : Member) (o : Option Made) (sound 
             connection = λ k. rw (q.attaches_none, q.detaches_none) refl;
             live_connections = rw (q.attaches_none, q.detaches_none) (omega arith);
             open_call = λ u. marked.open_call u ∙ open_after u ∙ rw (tells.own, tells.ends u, tells.receipt, tells.made, q.writes_none, is.senderless u (open_in s.threads u)) refl;
-            pending = λ k. uncut_by s t c settled q.closes_none k (is.pending k ∙ rw (tells.receipt, tells.made) refl);
+            pending = λ k. uncut_by s t c settled q.closes_none q.sets_none k (is.pending k ∙ rw (tells.receipt, tells.made) refl);
             priority = λ u. marked.priority u ∙ is.priority u ∙ rw (q.sets_none, tells.receipt) refl;
           };
         },

@@ -186,7 +186,7 @@ module _ (s : State) (t thread : ℕ) (m : Member) (sound : IsSound s) (known : 
               connection = λ h. rw known refl;
               live_connections = rw known (omega arith);
               open_call = λ u. stays_free s.threads t u free ∙ rw (ends_none u, none_due, and-false (eqb u thread)) refl;
-              pending = λ h. uncut_by s t (Unblock thread) (λ u y e. absurd (none-some y (sym (ends_none u) ∙ e))) refl h (rw none_due (sym (append-nil _)));
+              pending = λ h. uncut_by s t (Unblock thread) (λ u y e. absurd (none-some y (sym (ends_none u) ∙ e))) refl refl h (rw none_due (sym (append-nil _)));
               priority = λ u. rw none_due refl;
             };
           },

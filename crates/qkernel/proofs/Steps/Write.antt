@@ -48,7 +48,7 @@ module _ (s : State) (t : ℕ) (m : Member) (i : ℕ) (sound : IsSound s) (known
         connection = λ k. rw known refl;
         live_connections = rw known (omega arith);
         open_call = λ u. changes.open_call u ∙ calls_after offset bytes u;
-        pending = λ k. uncut s t (Write i offset bytes) (rw (up, free, is_held s t m i sound known, held) refl) refl refl k (sym (append-nil _));
+        pending = λ k. uncut s t (Write i offset bytes) (rw (up, free, is_held s t m i sound known, held) refl) refl refl refl k (sym (append-nil _));
         priority = changes.priority;
       };
     },

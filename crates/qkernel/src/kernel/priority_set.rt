@@ -10,13 +10,14 @@ use qbase::ids::ThreadNo;
 use qbase::priority::Priority;
 use qrecords::endings::{Endings, end_own, refuse};
 use qrecords::thread::{member_of, seat_in_process, set_level};
+use qrecords::unread::requeue_unread;
 use qrules::call::{Call, Mark};
 
 impl Kernel {
     ghost use Rattle.qkernel.specs.Stands.{Steps};
 
-    /// Gives a thread of the caller's process another priority, which moves nothing that waits. Never
-    /// blocks, and takes no memory.
+    /// Gives a thread of the caller's process another priority, and with it the message that it is SEND-blocked
+    /// with. Never blocks, and takes no memory.
     pub(super) fn priority_set(
         &mut self,
         seat: usize,
@@ -39,6 +40,14 @@ impl Kernel {
         let Some(there) = seat_in_process(&self.threads, process, target) else {
             return refuse(endings, number, thread, Errno::Srch, Bytes::new(alloc));
         };
+        requeue_unread(
+            &self.threads,
+            &self.connections,
+            &mut self.channels,
+            there,
+            target,
+            priority,
+        );
         set_level(&mut self.threads, there, target, Some(priority));
         end_own(endings, alloc, number, thread, Mark::Ok);
     }

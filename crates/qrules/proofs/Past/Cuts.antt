@@ -1,7 +1,7 @@
 -- Which of the messages that are pending a call ends by force.
 use Rattle.std.proofs.Common.{◌≡◌, ℕ, List, refl, ap, sym, subst, ◌∙◌, true, false, eqb}
 use Rattle.std.specs.Prelude.{Option, None, Some, is_some, not, ◌&&◌, ◌||◌}
-use Rattle.std.proofs.lemmas.Bool.{eqb-true, eqb-false, eq-eqb, ne_eqb, true≢false, and_parts, or_parts}
+use Rattle.std.proofs.lemmas.Bool.{eqb-true, eqb-false, eq-eqb, ne_eqb, true≢false, and_parts, or_parts, false_from_ne_true}
 use Rattle.std.proofs.lemmas.Option.{same_Some, none-some}
 use Rattle.std.proofs.Math.Bool.{and-false}
 use Rattle.qqueue.specs.Best.{is_pulse}
@@ -11,9 +11,8 @@ use Rattle.qtables.specs.declared.member.Member.{Member}
 use Rattle.qrules.specs.Answer.{row_of, Outcome}
 use Rattle.qrules.specs.Cutting.{is_on, is_unread_send}
 use Rattle.qrules.specs.Facts.{Facts, is_for_answer, is_for_receipt, threads_of}
-use Rattle.qrules.specs.Headline.AnsweredToSender.{sender_of}
 use Rattle.qrules.specs.Lawful.{facts_of, IsLawful, with_event}
-use Rattle.qrules.specs.Past.{connection_at, ends, filled, is_ended, is_taken, open_call, priority_of_item, receipt_of, with_receipt, attached}
+use Rattle.qrules.specs.Past.{connection_at, ends, filled, is_ended, is_taken, open_call, priority_of_item, receipt_of, sender_of, with_receipt, attached}
 use Rattle.qrules.specs.Step.{is_cut, left_by}
 use Rattle.qrules.specs.Trace.{Trace}
 use Rattle.qrules.specs.declared.call.Call.{Call}
@@ -99,11 +98,11 @@ on_over connection h (ForItem chid kind buffer) c e is at = absurd (true≢false
 pub sent_by : (roster : List Member) (past : Trace) (h : ℕ) (item : Item) → IsLawful roster past → IsPending roster past h item → is_pulse item.what ≡ false → IsSentBy roster past h item.number
 sent_by roster past h item l p message =
     let going : is_ended past item.number ≡ false = pending_going roster past h item p message in
-    let w = item_waits roster past item.number (record { item = item; channel = h }) l p.made message going in
+    let w = item_waits roster past item.number (record { item = p.first; channel = h }) l p.made (ap is_pulse p.what ∙ message) going in
     let unread : is_taken past item.number ≡ false = (or_parts _ _ p.stays).0 in
     let none : receipt_of past w.block.number ≡ None = none_of (receipt_of past w.block.number) (subst (λ i. is_taken past i ≡ false) (sym w.number) unread) in
     let k = block_over roster past w.thread w.block l w.is w.answer in
-    let same = same_Some k.made (record { item = item; channel = h }) (sym k.is_made ∙ ap (item_at roster past) w.number ∙ p.made) in
+    let same = same_Some k.made (record { item = p.first; channel = h }) (sym k.is_made ∙ ap (item_at roster past) w.number ∙ p.made) in
     let answer : is_for_answer (filled past w.block).wait ≡ true = filled_answer past w.block ∙ w.answer in
     let is_open : open_call roster past w.thread ≡ Some (filled past w.block) =
     open_from roster past w.thread w.block w.is (subst (λ i. is_ended past i ≡ false) (sym w.number) going) ∙ ap (λ r. Some (with_receipt (priority_of_item roster past w.block.number) (is_unblocked roster past w.block.number) r (filled past w.block))) none in
@@ -119,6 +118,13 @@ sent_by roster past h item l p message =
 
 -- ---- what an accepted call ends
 
+-- no other thread's open call is the Send of that number
+pub unread_elsewhere : (roster : List Member) (past : Trace) (h i s : ℕ) (waiting : OpenCall) (v : ℕ) → open_call roster past s ≡ Some waiting → waiting.number ≡ i → eqb v s ≡ false
+    → is_unread_send (λ j. connection_at roster past j) h i (open_call roster past v) ≡ false
+unread_elsewhere roster past h i s waiting v is number differs = false_from_ne_true _ (λ e.
+    let n = unread_number (λ j. connection_at roster past j) h i (open_call roster past v) e in
+    eqb-false v s differs (open_thread roster past v s n.waiting waiting n.is is (n.number ∙ sym number)))
+
 -- the Send of a pending message exactly where it is cut
 ends_sent : (roster : List Member) (past : Trace) (t : ℕ) (c : Call) (X : List Completion) (h : ℕ) (item : Item) → IsLawful roster past → Outcome true (facts_of roster past) t c X → IsPending roster past h item → is_pulse item.what ≡ false
     → ends X item.number ≡ is_cut (facts_of roster past) t c h item.number
@@ -130,28 +136,24 @@ ends_sent roster past t c X h item l a p message =
     let number : eqb s.waiting.number item.number ≡ true = eq-eqb _ _ s.number in
     let cut : is_cut f t c h item.number ≡ is_some ((row_of f t c).ends s.sender) =
     any_only (λ v. is_unread_send f.connection h item.number (f.open_call v) && is_some ((row_of f t c).ends v)) (threads_of roster) s.sender (known roster s.sender (open_known roster past s.sender s.waiting l s.is_open)) (λ v differs.
-    elim (is_unread_send f.connection h item.number (f.open_call v)) as (λ b. is_unread_send f.connection h item.number (f.open_call v) ≡ b → (b && is_some ((row_of f t c).ends v)) ≡ false) [
-      | true ↦ λ e.
-          let n = unread_number f.connection h item.number (f.open_call v) e in
-          absurd (eqb-false v s.sender differs (open_thread roster past v s.sender n.waiting s.waiting n.is s.is_open (n.number ∙ sym s.number)))
-      | false ↦ λ e. refl
-    ] refl)
+    ap (λ b. b && is_some ((row_of f t c).ends v)) (unread_elsewhere roster past h item.number s.sender s.waiting v s.is_open s.number differs))
     ∙ rw (s.is_open, number, s.unread, s.on) refl in
     ap (ends X) (sym s.number) ∙ ended ∙ sym cut
 
 -- no open call has the number of a pulse
+pub pulse_unread : (roster : List Member) (past : Trace) (h : ℕ) (item : Item) (v : ℕ) → IsPending roster past h item → is_pulse item.what ≡ true
+    → is_unread_send (λ j. connection_at roster past j) h item.number (open_call roster past v) ≡ false
+pulse_unread roster past h item v p pulse = false_from_ne_true _ (λ e.
+    let n = unread_number (λ j. connection_at roster past j) h item.number (open_call roster past v) e in
+    let k = open_parts roster past v n.waiting n.is in
+    let made = subst (λ i. item_at roster past i ≡ Some (record { item = p.first; channel = h })) (sym n.number ∙ k.number) p.made in
+    true≢false (sym pulse ∙ sym (ap is_pulse p.what) ∙ item_message roster past v (record { item = p.first; channel = h }) k.block made k.is))
+
 no_pulse_is_cut : (roster : List Member) (past : Trace) (t : ℕ) (c : Call) (h : ℕ) (item : Item) → IsPending roster past h item → is_pulse item.what ≡ true → is_cut (facts_of roster past) t c h item.number ≡ false
 no_pulse_is_cut roster past t c h item p pulse =
     let f = facts_of roster past in
     any_never (λ v. is_unread_send f.connection h item.number (f.open_call v) && is_some ((row_of f t c).ends v)) (threads_of roster) (λ v.
-    elim (is_unread_send f.connection h item.number (f.open_call v)) as (λ b. is_unread_send f.connection h item.number (f.open_call v) ≡ b → (b && is_some ((row_of f t c).ends v)) ≡ false) [
-      | true ↦ λ e.
-          let n = unread_number f.connection h item.number (f.open_call v) e in
-          let k = open_parts roster past v n.waiting n.is in
-          let made = subst (λ i. item_at roster past i ≡ Some (record { item = item; channel = h })) (sym n.number ∙ k.number) p.made in
-          absurd (true≢false (sym pulse ∙ item_message roster past v (record { item = item; channel = h }) k.block made k.is))
-      | false ↦ λ e. refl
-    ] refl)
+    ap (λ b. b && is_some ((row_of f t c).ends v)) (pulse_unread roster past h item v p pulse))
 
 -- a pending item goes by an ending exactly where it is cut
 pub ended_is_cut : (roster : List Member) (past : Trace) (t : ℕ) (c : Call) (X : List Completion) (h : ℕ) (item : Item) → IsLawful roster past → Outcome true (facts_of roster past) t c X → IsPending roster past h item

@@ -2,7 +2,7 @@
 use Rattle.std.proofs.Common.{◌≡◌, ◌≢◌, ℕ, ◌+◌, ◌≤◌, List, [], ◌∷◌, ◌++◌, map, length, refl, ap, sym, subst, ◌∙◌, cond, arith, true, false, eqb}
 use Rattle.std.specs.Prelude.{Option, None, Some, not, filter}
 use Rattle.std.specs.List.{AllByRecursion}
-use Rattle.std.specs.Option.{option_to_list}
+use Rattle.std.specs.Option.{option_map, option_to_list}
 use Rattle.std.proofs.lemmas.Bool.{eqb-true, eq-eqb, ne_eqb, not-true}
 use Rattle.std.proofs.lemmas.Option.{same_Some, none-some}
 use Rattle.qqueue.specs.declared.item.Item.{Item}
@@ -11,7 +11,7 @@ use Rattle.qtables.specs.declared.member.Member.{Member}
 use Rattle.qrules.specs.Facts.{is_for_answer}
 use Rattle.qrules.specs.Headline.CopiedExactly.{call_at}
 use Rattle.qrules.specs.Lawful.{facts_of}
-use Rattle.qrules.specs.Past.{is_accepted, item_of, items, made_among, priority_made, priority_of_item, is_closed, is_gone, pending, newest_block}
+use Rattle.qrules.specs.Past.{by_now, is_accepted, item_of, items, made_among, priority_before, priority_made, priority_of_item, is_closed, is_gone, pending, newest_block, worth}
 use Rattle.qrules.specs.Items.{makes}
 use Rattle.qrules.specs.Rows.{Made, asks}
 use Rattle.qrules.specs.Trace.{Event, Trace}
@@ -21,6 +21,7 @@ use Rattle.qbase.proofs.Lists.{eqb_same, all_append, all_map, all_more, all_pass
 use Rattle.qrules.proofs.Past.Laws.{MakesItem}
 use Rattle.qrules.proofs.Past.RowLaws.{call_laws}
 use Rattle.qrules.proofs.Past.Numbers.{call_below, call_earlier, call_newest, block_asked}
+use Rattle.qrules.proofs.Past.Worth.{SetsNone, among_now, channel_now, now, staying_now, worth_beyond, worth_newest, worth_stays}
 
 -- ---- the item of a number
 
@@ -110,6 +111,15 @@ among_last : (xs : List Made) (m : Made) (i : ℕ) → AllByRecursion (λ x. x.i
 among_last [] m i h same = rw (eq-eqb m.item.number i same) refl
 among_last (x ∷ xs) m i h same = rw (ne_eqb x.item.number i h.0) (among_last xs m i h.1 same)
 
+-- what is found has that number
+found_number : (made : List Made) (i : ℕ) (m : Made) → made_among made i ≡ Some m → m.item.number ≡ i
+found_number [] i m is = absurd (none-some m is)
+found_number (x ∷ made) i m is =
+    elim (eqb x.item.number i) as (λ b. eqb x.item.number i ≡ b → cond b (Some x) (made_among made i) ≡ Some m → m.item.number ≡ i) [
+      | true ↦ λ same at. ap (λ (y : Made). y.item.number) (sym (same_Some x m at)) ∙ eqb-true _ _ same
+      | false ↦ λ other at. found_number made i m at
+    ] refl is
+
 -- a new event changes no earlier item
 pub found_earlier : (roster : List Member) (e : Event) (past : Trace) (i : ℕ) → i ≤ length past → made_among (items roster (e ∷ past)) i ≡ made_among (items roster past) i
 found_earlier roster e past i l = among_other (items roster past) (option_to_list (item_of roster e past)) i (
@@ -132,22 +142,48 @@ item_found roster (e ∷ past) i m is =
 
 -- ---- priorities
 
-pub priority_earlier : (roster : List Member) (e : Event) (past : Trace) (i : ℕ) → i ≤ length past → priority_of_item roster (e ∷ past) i ≡ priority_of_item roster past i
-priority_earlier roster e past i l = ap priority_made (found_earlier roster e past i l)
+-- an item as it is by now, where it is known as it was made
+found_now : (past : Trace) (made : List Made) (i : ℕ) (m : Made) → made_among made i ≡ Some m → priority_made (made_among (by_now past made) i) ≡ worth past m.item
+found_now past made i m is = ap priority_made (among_now past made i ∙ ap (option_map (λ (m : Made). record { item = now past m.item; channel = m.channel })) is)
 
+pub item_priority : (roster : List Member) (past : Trace) (i : ℕ) (m : Made) → item_at roster past i ≡ Some m → priority_of_item roster past i ≡ worth past m.item
+item_priority roster past i m is = found_now past (items roster past) i m (item_found roster past i m is)
+
+-- the item that an event makes
 pub priority_newest : (roster : List Member) (e : Event) (past : Trace) (m : Made) → item_of roster e past ≡ Some m → priority_of_item roster (e ∷ past) (length past + 1) ≡ m.item.priority
-priority_newest roster e past m is = ap priority_made (found_newest roster e past m is)
+priority_newest roster e past m is = found_now (e ∷ past) (items roster (e ∷ past)) (length past + 1) m (found_newest roster e past m is) ∙ worth_newest e past m.item (made_by roster e past m is).number
 
-pub item_priority : (roster : List Member) (past : Trace) (i : ℕ) (m : Made) → item_at roster past i ≡ Some m → priority_of_item roster past i ≡ m.item.priority
-item_priority roster past i m is = ap priority_made (item_found roster past i m is)
+-- an earlier item, where the event sets nothing for its sender
+pub priority_earlier : (roster : List Member) (e : Event) (past : Trace) (i : ℕ) → i ≤ length past → SetsNone e past i → priority_of_item roster (e ∷ past) i ≡ priority_of_item roster past i
+priority_earlier roster e past i l none =
+    ap priority_made (among_now (e ∷ past) (items roster (e ∷ past)) i ∙ ap (option_map (λ (m : Made). record { item = now (e ∷ past) m.item; channel = m.channel })) (found_earlier roster e past i l))
+    ∙ stays (made_among (items roster past) i) refl
+    ∙ ap priority_made (sym (among_now past (items roster past) i))
+  where
+    stays : (o : Option Made) → made_among (items roster past) i ≡ o
+        → priority_made (option_map (λ (m : Made). record { item = now (e ∷ past) m.item; channel = m.channel }) o) ≡ priority_made (option_map (λ (m : Made). record { item = now past m.item; channel = m.channel }) o)
+    stays None is = refl
+    stays (Some m) is =
+        let number : m.item.number ≡ i = found_number (items roster past) i m is in
+        worth_stays e past m.item (let below : m.item.number ≤ length past = omega (arith, number, l) in below) (subst (SetsNone e past) (sym number) none)
+
+-- the priority of an item before the event
+pub before_earlier : (roster : List Member) (e : Event) (past : Trace) (i : ℕ) → i ≤ length past → priority_before roster e past i ≡ priority_of_item roster past i
+before_earlier roster e past i l =
+    ap priority_made (among_now past (items roster (e ∷ past)) i ∙ ap (option_map (λ (m : Made). record { item = now past m.item; channel = m.channel })) (found_earlier roster e past i l) ∙ sym (among_now past (items roster past) i))
+
+pub before_newest : (roster : List Member) (e : Event) (past : Trace) (m : Made) → item_of roster e past ≡ Some m → priority_before roster e past m.item.number ≡ m.item.priority
+before_newest roster e past m is =
+    let number : m.item.number ≡ length past + 1 = (made_by roster e past m is).number in
+    ap (priority_before roster e past) number ∙ found_now past (items roster (e ∷ past)) (length past + 1) m (found_newest roster e past m is) ∙ worth_beyond past m.item (omega (arith, number))
 
 -- ---- the items of a channel, and those that are pending
 
--- all items of channel h
+-- all items of channel h, each as it was made
 abbrev pub items_on : List Member → Trace → ℕ → List Item
 items_on roster past h = map (λ m. m.item) (filter (λ m. eqb m.channel h) (items roster past))
 
--- the item stands on channel h
+-- the item was made so for channel h
 abbrev pub Stands : List Member → Trace → ℕ → Item → Type 0
 Stands roster past h item = item_at roster past item.number ≡ Some (record { item = item; channel = h })
 
@@ -158,20 +194,43 @@ stands_all roster past h =
     (all_passing (λ (m : Made). item_at roster past m.item.number ≡ Some m) (λ m. eqb m.channel h) (items roster past) (items_at roster past))
     (λ m k. k.0 ∙ ap (λ n. Some (record { item = m.item; channel = n })) (eqb-true m.channel h k.1)))
 
--- an item of channel h that is not gone
+-- an item of channel h that is not gone, whatever its priority by now
 pub record IsPending (roster : List Member) (past : Trace) (h : ℕ) (item : Item) : Type 0 where
-  pub made : Stands roster past h item
+  pub first : Item
+  pub made : item_at roster past item.number ≡ Some (record { item = first; channel = h })
+  pub what : first.what ≡ item.what
   pub stays : is_gone past item ≡ false
 
--- those of a channel's items that are not gone
+-- those of a channel's items that are not gone, each as it was made
 abbrev pub staying : List Member → Trace → ℕ → List Item
 staying roster past h = filter (λ item. not (is_gone past item)) (items_on roster past h)
 
-pub staying_all : (roster : List Member) (past : Trace) (h : ℕ) → AllByRecursion (IsPending roster past h) (staying roster past h)
+-- what is pending is those, each as it is by now
+pub pending_is : (roster : List Member) (past : Trace) (h : ℕ) → pending roster past h ≡ cond (is_closed past h) [] (map (now past) (staying roster past h))
+pending_is roster past h = ap (cond (is_closed past h) []) (ap (filter (λ item. not (is_gone past item))) (channel_now past h (items roster past)) ∙ staying_now past (items_on roster past h))
+
+-- one that was made so
+pub standing_is : (roster : List Member) (past : Trace) (h : ℕ) (item : Item) → Stands roster past h item → is_gone past item ≡ false → IsPending roster past h item
+standing_is roster past h item at stays = record { first = item; made = at; what = refl; stays = stays }
+
+pub staying_all : (roster : List Member) (past : Trace) (h : ℕ) → AllByRecursion (λ item. Stands roster past h item × (is_gone past item ≡ false)) (staying roster past h)
 staying_all roster past h =
-    all_more (λ item. Stands roster past h item × (not (is_gone past item) ≡ true)) (IsPending roster past h) (staying roster past h)
+    all_more (λ item. Stands roster past h item × (not (is_gone past item) ≡ true)) (λ item. Stands roster past h item × (is_gone past item ≡ false)) (staying roster past h)
     (all_passing (Stands roster past h) (λ item. not (is_gone past item)) (items_on roster past h) (stands_all roster past h))
-    (λ item k. record { made = k.0; stays = not-true (is_gone past item) k.1 })
+    (λ item k. (k.0, not-true (is_gone past item) k.1))
+
+-- what is so of each as it is by now is so of all that is pending
+pub pending_each : (P : Item → Type 0) (roster : List Member) (past : Trace) (h : ℕ) → ((item : Item) → Stands roster past h item → is_gone past item ≡ false → P (now past item)) → AllByRecursion P (pending roster past h)
+pending_each P roster past h each =
+    subst (AllByRecursion P) (sym (pending_is roster past h)) (
+    elim (is_closed past h) as (λ b. AllByRecursion P (cond b [] (map (now past) (staying roster past h)))) [
+      | true ↦ tt
+      | false ↦ all_map P (now past) (staying roster past h) (all_more (λ item. Stands roster past h item × (is_gone past item ≡ false)) (λ item. P (now past item)) (staying roster past h) (staying_all roster past h) (λ item k. each item k.0 k.1))
+    ])
 
 pub pending_all : (roster : List Member) (past : Trace) (h : ℕ) → AllByRecursion (IsPending roster past h) (pending roster past h)
-pending_all roster past h = elim (is_closed past h) as (λ b. AllByRecursion (IsPending roster past h) (cond b [] (staying roster past h))) [ true ↦ tt | false ↦ staying_all roster past h ]
+pending_all roster past h = pending_each (IsPending roster past h) roster past h (λ item at stays. record { first = item; made = at; what = refl; stays = stays })
+
+-- each has the priority that its number has by now
+pub pending_priorities : (roster : List Member) (past : Trace) (h : ℕ) → AllByRecursion (λ item. priority_of_item roster past item.number ≡ item.priority) (pending roster past h)
+pending_priorities roster past h = pending_each (λ item. priority_of_item roster past item.number ≡ item.priority) roster past h (λ item at stays. item_priority roster past item.number _ at)

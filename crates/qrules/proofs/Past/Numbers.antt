@@ -7,7 +7,7 @@ use Rattle.std.proofs.lemmas.Option.{same_Some, none-some}
 use Rattle.qtables.specs.declared.member.Member.{Member}
 use Rattle.qrules.specs.Facts.{is_for_answer}
 use Rattle.qrules.specs.Headline.CopiedExactly.{call_at}
-use Rattle.qrules.specs.Past.{filled, is_accepted, is_ended, made_at, newest_block, unless_ended, with_receipt, held_with, open_call, receipt_of, priority_of_item, unblocked_among, items}
+use Rattle.qrules.specs.Past.{by_now, filled, is_accepted, is_ended, made_at, newest_block, unless_ended, with_receipt, held_with, open_call, receipt_of, priority_of_item, unblocked_among, items}
 use Rattle.qrules.specs.Rows.{asks, with_buffer}
 use Rattle.qrules.specs.Trace.{Event, Trace}
 use Rattle.qrules.specs.declared.call.Call.{Call}
@@ -151,7 +151,7 @@ filled_settled past b = buffer_settled _ b.wait
 
 -- an unblock pulse was made for message i
 abbrev pub is_unblocked : List Member → Trace → ℕ → Bool
-is_unblocked roster past i = unblocked_among (items roster past) i
+is_unblocked roster past i = unblocked_among (by_now past (items roster past)) i
 
 -- an open call is the newest blocking call of its thread, and isn't ended
 pub record IsOpen (roster : List Member) (past : Trace) (u : ℕ) (o : OpenCall) : Type 0 where

@@ -1,8 +1,8 @@
 -- The open calls after one more event.
 use Rattle.std.proofs.Common.{◌≡◌, ◌≢◌, ℕ, ◌+◌, ◌≤◌, List, ◌∷◌, length, refl, ap, sym, subst, ◌∙◌, cond, arith, Bool, true, false, eqb, ◌⊎◌, inl, inr}
-use Rattle.std.specs.Prelude.{Option, None, Some, is_some, ◌||◌, ◌&&◌}
+use Rattle.std.specs.Prelude.{Option, None, Some, is_some, not, ◌||◌, ◌&&◌}
 use Rattle.std.specs.Option.{option_map, option_to_list, option_or}
-use Rattle.std.proofs.lemmas.Bool.{cases_Bool, eqb-true, eqb-false, eq-eqb, ne_eqb, or_parts}
+use Rattle.std.proofs.lemmas.Bool.{cases_Bool, eqb-true, eqb-false, eq-eqb, ne_eqb, or_parts, true≢false}
 use Rattle.std.proofs.lemmas.Option.{none-some, same_Some}
 use Rattle.std.proofs.Math.Bool.{and-false, or-true, or-false}
 use Rattle.qqueue.specs.Best.{is_pulse}
@@ -22,14 +22,16 @@ use Rattle.qrules.specs.declared.call.Call.{Call}
 use Rattle.qrules.specs.declared.call.Completion.{Completion}
 use Rattle.qrules.specs.declared.open_call.OpenCall.{OpenCall}
 use Rattle.qbase.proofs.Lists.{eqb_same, none_of}
+use Rattle.qrules.proofs.Calls.PrioritySet.{sets_alone}
 use Rattle.qrules.proofs.Past.Laws.{IsReceived}
 use Rattle.qrules.proofs.Past.RowLaws.{call_laws}
 use Rattle.qrules.proofs.Past.Numbers.{block_below, filled_answer, open_from, open_thread, receipt_number, receipt_for_answer, is_unblocked}
 use Rattle.qrules.proofs.Past.Ends.{laws_of, passes_of, accepted, refused, refused_ends, ended_below, ends_other, ends_own, block_known}
-use Rattle.qrules.proofs.Past.Items.{item_at, item_answer, item_message, item_below, item_priority, priority_earlier, priority_newest}
-use Rattle.qrules.proofs.Past.Receipts.{copied_by, accepted_receipts, refused_receipts, best_pending, receipt_beyond}
+use Rattle.qrules.proofs.Past.Items.{item_at, item_answer, item_message, item_below, priority_earlier, priority_newest}
+use Rattle.qrules.proofs.Past.Receipts.{copied_by, accepted_receipts, refused_receipts, best_pending, best_priority, receipt_beyond}
 use Rattle.qrules.proofs.Past.Senders.{send_parts, send_from, sender_sends, sender_found}
 use Rattle.qrules.proofs.Past.Unblocked.{fresh_unblocked, marks, marks_it, none_unblocked, unblocked_after, unblocked_beyond, unblocked_by, unblocked_now}
+use Rattle.qrules.proofs.Past.Worth.{refused_sets_none, sets_none, taken_sets_none}
 use Rattle.qrules.proofs.Past.Writes.{changed, filled_accepted, filled_fresh, filled_refused, receipt_written, written_sender}
 use Rattle.qrules.proofs.Rosters.{known}
 
@@ -97,17 +99,17 @@ other_holds roster past t c u b r l other is going k =
           elim (cases_Bool (eqb r.item b.number)) [
             | inl same ↦
                 let number : k.item.number ≡ b.number = k.number ∙ eqb-true _ _ same in
-                let made = subst (λ i. item_at roster past i ≡ Some (record { item = k.item; channel = r.channel })) number place.made in
+                let made = subst (λ i. item_at roster past i ≡ Some (record { item = place.first; channel = r.channel })) number place.made in
                 let sends = send_from r.item (with_receipt (priority_of_item roster past b.number) (is_unblocked roster past b.number) (receipt_of past b.number) (filled past b)) (receipt_number _ _ _ (filled past b) ∙ sym (eqb-true _ _ same)) (receipt_for_answer _ _ _ (filled past b) ∙ filled_answer past b ∙ item_answer roster past u _ b made is) in
                 let found : sender f r.item ≡ Some u = sender_found f.open_call r.item (threads_of roster) u (known roster u (block_known roster past u b l is)) (rw waits sends)
                 (λ v e. let w = send_parts r.item (f.open_call v) e in open_thread roster past v u w.waiting _ w.is waits (w.number ∙ eqb-true _ _ same ∙ sym (receipt_number _ _ _ (filled past b)))) in
-                let message = item_message roster past u _ b made is in
+                let message = sym (ap is_pulse place.what) ∙ item_message roster past u _ b made is in
                 let untaken = none_of (receipt_of past b.number) (subst (λ i. is_taken past i ≡ false) number (or_parts _ _ place.stays).0) in
                 inl (record {
                   item = same;
                   sender = rw (old.sender_is ∙ message_sender f k.item message ∙ ap (sender f) k.number ∙ found) (eqb_same u);
                   first = untaken;
-                  priority_is = sym k.priority ∙ sym (item_priority roster past b.number _ made);
+                  priority_is = sym k.priority ∙ sym (best_priority roster past r.channel old.kind k.item old.best) ∙ ap (priority_of_item roster past) number;
                   unblocked_is = k.fresh ∙ sym (none_unblocked roster past b.number untaken);
                 })
             | inr differs ↦ inr (record {
@@ -166,7 +168,8 @@ open_refused roster past t c X u a =
       | None ↦ λ e. refl
       | Some b ↦ λ e.
           let below : b.number ≤ length past = block_below past u b e in
-          let priority : priority_of_item roster (with_event t c X past) b.number ≡ priority_of_item roster past b.number = priority_earlier roster (record { thread = t; call = c; endings = X }) past b.number below in
+          let priority : priority_of_item roster (with_event t c X past) b.number ≡ priority_of_item roster past b.number =
+          priority_earlier roster (record { thread = t; call = c; endings = X }) past b.number below (refused_sets_none (record { thread = t; call = c; endings = X }) past b.number (ap not (refused roster past t c X a))) in
           let receipt : receipt_of (with_event t c X past) b.number ≡ receipt_of past b.number = rw (refused_receipts (facts_of roster past) t c X b.number a) refl in
           let ended : is_ended (with_event t c X past) b.number ≡ is_ended past b.number = rw (refused_ends roster past t c X b.number a (λ s. omega arith)) refl in
           let written : filled (with_event t c X past) b ≡ filled past b = filled_refused (record { thread = t; call = c; endings = X }) past b (refused roster past t c X a) in
@@ -212,6 +215,31 @@ some_later : (x y : Option ℕ) → is_some y ≡ true → is_some (option_or x 
 some_later None y e = e
 some_later (Some x) y e = refl
 
+-- the priority counts only where the message was received
+receipt_priority : (p q : ℕ) (unblocked : Bool) (r : Option ℕ) (b : OpenCall) → ((copied : ℕ) → r ≡ Some copied → p ≡ q) → with_receipt p unblocked r b ≡ with_receipt q unblocked r b
+receipt_priority p q unblocked None b same = refl
+receipt_priority p q unblocked (Some copied) b same = ap (λ i. with_receipt i unblocked (Some copied) b) (same copied refl)
+
+-- a message that is received by now was so before, or the call receives it
+received_before : (roster : List Member) (past : Trace) (t : ℕ) (c : Call) (i copied : ℕ) → option_or (copied_by (row_of (facts_of roster past) t c).receipt i) (receipt_of past i) ≡ Some copied
+    → (is_taken past i ≡ true) ⊎ (is_some (row_of (facts_of roster past) t c).receipt ≡ true)
+received_before roster past t c i copied is =
+    elim ((row_of (facts_of roster past) t c).receipt) as (λ o. option_or (copied_by o i) (receipt_of past i) ≡ Some copied → (is_taken past i ≡ true) ⊎ (is_some o ≡ true)) [
+      | None ↦ λ s. inl (ap is_some s)
+      | Some r ↦ λ s. inr refl
+    ] is
+
+-- then no priority that is set is the message's
+held_priority : (roster : List Member) (past : Trace) (t : ℕ) (c : Call) (X : List Completion) (i : ℕ) → i ≤ length past → (is_taken past i ≡ true) ⊎ (is_some (row_of (facts_of roster past) t c).receipt ≡ true)
+    → priority_of_item roster (with_event t c X past) i ≡ priority_of_item roster past i
+held_priority roster past t c X i below received = priority_earlier roster (record { thread = t; call = c; endings = X }) past i below (elim received [
+  | inl taken ↦ taken_sets_none (record { thread = t; call = c; endings = X }) past i taken
+  | inr some ↦ elim (sets_alone c) [
+    | inl none ↦ sets_none (record { thread = t; call = c; endings = X }) past i none
+    | inr alone ↦ absurd (true≢false (sym some ∙ ap is_some (alone.receives_none (facts_of roster past) t)))
+  ]
+])
+
 -- of another thread
 open_other : (roster : List Member) (past : Trace) (t : ℕ) (c : Call) (X : List Completion) (u : ℕ) → IsLawful roster past → is_some (member_at roster t) ≡ true → Outcome true (facts_of roster past) t c X → eqb u t ≡ false
     → option_map (kept roster (with_event t c X past)) (unless_ended (with_event t c X past) (newest_block past u))
@@ -231,7 +259,6 @@ open_other roster past t c X u l member a other =
                 let below : b.number ≤ length past = block_below past u b e in
                 let ended : ends X b.number ≡ is_some (R.ends u) =
                 ap (ends X) (sym (receipt_number _ _ _ (filled past b))) ∙ ends_other roster past t c X u (kept roster past b) l a other (open_from roster past u b e going) in
-                let priority : priority_of_item roster (with_event t c X past) b.number ≡ priority_of_item roster past b.number = priority_earlier roster (record { thread = t; call = c; endings = X }) past b.number below in
                 let receipt : receipt_of (with_event t c X past) b.number ≡ option_or (copied_by R.receipt b.number) (receipt_of past b.number) = rw (accepted_receipts roster past t c X b.number l member a) refl in
                 let waits = open_from roster past u b e going in
                 let old : Bool = is_unblocked roster past b.number in
@@ -239,7 +266,8 @@ open_other roster past t c X u l member a other =
                 let unblocked : is_unblocked roster (with_event t c X past) b.number ≡ (old || new) = unblocked_by roster (record { thread = t; call = c; endings = X }) past b.number ∙ rw (accepted roster past t c X a) refl in
                 let marked : new ≡ marks M (unblocks c) u = ap (unblocked_among (option_to_list M)) (sym (receipt_number _ _ _ (filled past b))) ∙ marks_it roster past t c u (kept roster past b) waits in
                 let now : Some (kept roster (with_event t c X past) b) ≡ other_after (facts_of roster past) t c u (Some (kept roster past b)) =
-                ap (λ p. Some (with_receipt p (is_unblocked roster (with_event t c X past) b.number) (receipt_of (with_event t c X past) b.number) (filled (with_event t c X past) b))) priority
+                ap Some (receipt_priority (priority_of_item roster (with_event t c X past) b.number) (priority_of_item roster past b.number) (is_unblocked roster (with_event t c X past) b.number) (receipt_of (with_event t c X past) b.number) (filled (with_event t c X past) b)
+                (λ copied some. held_priority roster past t c X b.number below (received_before roster past t c b.number copied (sym receipt ∙ some))))
                 ∙ ap (λ x. Some (with_receipt (priority_of_item roster past b.number) x (receipt_of (with_event t c X past) b.number) (filled (with_event t c X past) b))) unblocked
                 ∙ ap (λ r. Some (with_receipt (priority_of_item roster past b.number) (old || new) r (filled (with_event t c X past) b))) receipt
                 ∙ ap (λ w. Some (with_receipt (priority_of_item roster past b.number) (old || new) (option_or (copied_by R.receipt b.number) (receipt_of past b.number)) w)) (filled_accepted (record { thread = t; call = c; endings = X }) past b (accepted roster past t c X a))

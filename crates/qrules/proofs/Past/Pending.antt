@@ -7,7 +7,7 @@ use Rattle.std.proofs.lemmas.Bool.{eqb-true, eqb-false, ne_eqb, true≢false, or
 use Rattle.std.proofs.lemmas.List.{map-append, append-nil}
 use Rattle.std.proofs.lemmas.List.Elements.{filter-append, filter_agree}
 use Rattle.std.proofs.lemmas.Option.{same_Some}
-use Rattle.qqueue.specs.Best.{is_pulse, without}
+use Rattle.qqueue.specs.Best.{is_pulse, with_priority, without}
 use Rattle.qqueue.specs.declared.item.Item.{Item}
 use Rattle.qtables.specs.Members.{member_at}
 use Rattle.qtables.specs.declared.member.Member.{Member}
@@ -15,8 +15,8 @@ use Rattle.qrules.specs.Answer.{row_of, Outcome}
 use Rattle.qrules.specs.Lawful.{facts_of, IsLawful, with_event}
 use Rattle.qrules.specs.Past.{channel_at, ends, is_closed, is_ended, is_taken, is_gone, items, item_of, pending, receipt_among, receipt_of, open_call, made_on}
 use Rattle.qrules.specs.Items.{makes}
-use Rattle.qrules.specs.Rows.{Made, Received, closes, names}
-use Rattle.qrules.specs.Step.{is_cut, left_by, taken_out, pending_after}
+use Rattle.qrules.specs.Rows.{Made, Received, closes, names, sets}
+use Rattle.qrules.specs.Step.{is_cut, left_by, moved, taken_out, pending_after}
 use Rattle.qrules.specs.Trace.{Event, Trace}
 use Rattle.qrules.specs.declared.call.Call.{Call}
 use Rattle.qrules.specs.declared.call.Completion.{Completion}
@@ -26,7 +26,9 @@ use Rattle.qrules.proofs.Past.Channels.{closed_accepted, closed_refused}
 use Rattle.qrules.proofs.Past.Cuts.{ended_is_cut}
 use Rattle.qrules.proofs.Past.RowLaws.{call_laws}
 use Rattle.qrules.proofs.Past.Ends.{laws_of, accepted, refused, refused_ends, ended_below, ends_own}
-use Rattle.qrules.proofs.Past.Items.{IsPending, Stands, items_on, stands_all, staying, staying_all, item_at, item_below}
+use Rattle.qrules.proofs.Past.Items.{IsPending, Stands, items_on, pending_is, stands_all, standing_is, staying, staying_all, item_at, item_below}
+use Rattle.qrules.proofs.Past.Moves.{left_map, moved_append, moved_left, moved_made, moved_nothing, moved_now, moved_out, out_map, same_now}
+use Rattle.qrules.proofs.Past.Worth.{now, refused_sets_none, worth_newest, worth_stays}
 use Rattle.qrules.proofs.Past.Receipts.{copied_by, accepted_receipts, refused_receipts, best_pending, receipt_beyond}
 use Rattle.qrules.proofs.Past.Numbers.{open_below}
 use Rattle.qrules.specs.Cutting.{is_unread_send}
@@ -69,7 +71,13 @@ pending_refused roster past t c X h a =
     let below : item.number ≤ length past = item_below roster past item.number _ at in
     rw (refused_receipts (facts_of roster past) t c X item.number a, refused_ends roster past t c X item.number a (λ s. omega arith)) refl)) in
     let closed : is_closed (e ∷ past) h ≡ is_closed past h = closed_refused roster e past h (refused roster past t c X a) in
-    ap (λ b. cond b [] (staying roster (e ∷ past) h)) closed ∙ ap (cond (is_closed past h) []) left
+    let as_before : map (now (e ∷ past)) (staying roster past h) ≡ map (now past) (staying roster past h) =
+    same_now roster e past h (staying roster past h) (staying_all roster past h) (λ item at. worth_stays e past item (item_below roster past item.number _ at) (refused_sets_none e past item.number (ap not (refused roster past t c X a)))) in
+    pending_is roster (e ∷ past) h
+    ∙ ap (λ b. cond b [] (map (now (e ∷ past)) (staying roster (e ∷ past) h))) closed
+    ∙ ap (λ l. cond (is_closed past h) [] (map (now (e ∷ past)) l)) left
+    ∙ ap (cond (is_closed past h) []) as_before
+    ∙ sym (pending_is roster past h)
 
 -- ---- after an accepted call
 
@@ -129,7 +137,7 @@ pending_old roster past t c X h l member a =
       | false ↦ λ e.
           let p = or_parts (is_taken past item.number) (not (is_pulse item.what) && is_ended past item.number) e in
           gone_now roster past t c X item (is_cut f t c h item.number) l member a (none_of (receipt_of past item.number) p.0)
-          (ended_is_cut roster past t c X h item l a (record { made = at; stays = e }))
+          (ended_is_cut roster past t c X h item l a (standing_is roster past h item at e))
     ] refl))
     ∙ sym (filter_twice (λ item. not (is_gone past item)) stays_on (items_on roster past h))
     ∙ sym (filter_twice goes_on (leaves R.receipt) (staying roster past h))
@@ -250,8 +258,38 @@ staying_accepted roster past t c X h l member a =
     ∙ ap (λ xs. filter (leaves R.receipt) L ++ xs) (pending_new roster past t c X h l member a)
     ∙ sym (filter-append (leaves R.receipt) L M)
     ∙ sym (taken_from R.receipt h (L ++ M) (λ r is.
-    elsewhere roster past t c X h r L (all_filter (IsPending roster past h) (λ item. not (is_cut f t c h item.number)) (staying roster past h) (staying_all roster past h)) a ((laws_of f t c X a).receives r is)))
+    elsewhere roster past t c X h r L (all_filter (IsPending roster past h) (λ item. not (is_cut f t c h item.number)) (staying roster past h)
+    (all_more (λ item. Stands roster past h item × (is_gone past item ≡ false)) (IsPending roster past h) (staying roster past h) (staying_all roster past h) (λ item k. standing_is roster past h item k.0 k.1))) a ((laws_of f t c X a).receives r is)))
     ∙ ap (taken_out R.receipt h) (sym (left_made roster past t c h (staying roster past h)))
+
+-- what stays, each item as it is after the event
+now_accepted : (roster : List Member) (past : Trace) (t : ℕ) (c : Call) (X : List Completion) (h : ℕ) → IsLawful roster past → is_some (member_at roster t) ≡ true → Outcome true (facts_of roster past) t c X
+    → map (now (with_event t c X past)) (staying roster (with_event t c X past) h)
+    ≡ moved (facts_of roster past) h (sets c) (taken_out (row_of (facts_of roster past) t c).receipt h (left_by (facts_of roster past) t c h (map (now past) (staying roster past h) ++ made_on h (makes (facts_of roster past) t c))))
+now_accepted roster past t c X h l member a =
+    let f = facts_of roster past in
+    let e : Event = record { thread = t; call = c; endings = X } in
+    let r = (row_of (facts_of roster past) t c).receipt in
+    let M = made_on h (makes (facts_of roster past) t c) in
+    let S = staying roster past h in
+    let after = now (e ∷ past) in
+    let made_so : item_of roster e past ≡ makes f t c = rw (accepted roster past t c X a) refl in
+    let fresh : map after M ≡ M = unchanged after M (made_all (λ item. after item ≡ item) h (makes f t c) (λ m is on.
+    ap (λ q. with_priority q m.item) (worth_newest e past m.item ((call_laws c).makes_one f t m is).number))) in
+    ap (map after) (staying_accepted roster past t c X h l member a)
+    ∙ sym (out_map r h after (left_by f t c h (S ++ M)) (λ x. refl))
+    ∙ ap (taken_out r h) (sym (left_map f t c h after (S ++ M) (λ x. refl)))
+    ∙ ap (λ l. taken_out r h (left_by f t c h l)) (
+    map-append after S M
+    ∙ ap (λ l. l ++ map after M) (moved_now roster past t c X h S l a (staying_all roster past h))
+    ∙ ap (λ l. moved f h (sets c) (map (now past) S) ++ l) (fresh ∙ sym (moved_made f t c h))
+    ∙ sym (moved_append f h (sets c) (map (now past) S) M))
+    ∙ ap (taken_out r h) (moved_left f t c h (sets c) (map (now past) S ++ M))
+    ∙ moved_out f r h (sets c) (left_by f t c h (map (now past) S ++ M))
+  where
+    unchanged : (g : Item → Item) (items : List Item) → AllByRecursion (λ x. g x ≡ x) items → map g items ≡ items
+    unchanged g [] same = refl
+    unchanged g (x ∷ items) same = ap (λ y. y ∷ map g items) same.0 ∙ ap (λ l. x ∷ l) (unchanged g items same.1)
 
 pub pending_accepted : (roster : List Member) (past : Trace) (t : ℕ) (c : Call) (X : List Completion) (h : ℕ) → IsLawful roster past → is_some (member_at roster t) ≡ true → Outcome true (facts_of roster past) t c X
     → pending roster (with_event t c X past) h ≡ pending_after (facts_of roster past) t c h
@@ -260,13 +298,18 @@ pending_accepted roster past t c X h l member a =
     let e : Event = record { thread = t; call = c; endings = X } in
     let R = row_of (facts_of roster past) t c in
     let M = made_on h (makes f t c) in
-    let after = λ (items : List Item). taken_out R.receipt h (left_by f t c h (items ++ M)) in
-    ap (λ b. cond b [] (staying roster (e ∷ past) h)) (closed_accepted roster e past h (accepted roster past t c X a)) ∙ (
-    elim (names (closes c) h) as (λ d. cond (d || is_closed past h) [] (staying roster (e ∷ past) h) ≡ cond d [] (after (pending roster past h))) [
+    let S = map (now past) (staying roster past h) in
+    let after = λ (items : List Item). moved f h (sets c) (taken_out R.receipt h (left_by f t c h (items ++ M))) in
+    pending_is roster (e ∷ past) h
+    ∙ ap (λ b. cond b [] (map (now (e ∷ past)) (staying roster (e ∷ past) h))) (closed_accepted roster e past h (accepted roster past t c X a)) ∙ (
+    elim (names (closes c) h) as (λ d. cond (d || is_closed past h) [] (map (now (e ∷ past)) (staying roster (e ∷ past) h)) ≡ cond d [] (after (cond (is_closed past h) [] S))) [
       | true ↦ refl
       | false ↦
-          elim (is_closed past h) as (λ b. is_closed past h ≡ b → cond b [] (staying roster (e ∷ past) h) ≡ after (cond b [] (staying roster past h))) [
-            | true ↦ λ closed. sym (ap (λ l. taken_out R.receipt h (left_by f t c h l)) (closed_makes roster past t c X h a closed) ∙ none_out R.receipt h)
-            | false ↦ λ standing. staying_accepted roster past t c X h l member a
+          elim (is_closed past h) as (λ b. is_closed past h ≡ b → cond b [] (map (now (e ∷ past)) (staying roster (e ∷ past) h)) ≡ after (cond b [] S)) [
+            | true ↦ λ closed. sym (
+                ap (λ l. moved f h (sets c) (taken_out R.receipt h (left_by f t c h l))) (closed_makes roster past t c X h a closed)
+                ∙ ap (moved f h (sets c)) (none_out R.receipt h) ∙ moved_nothing f h (sets c))
+            | false ↦ λ standing. now_accepted roster past t c X h l member a
           ] refl
     ])
+    ∙ ap (λ l. cond (names (closes c) h) [] (after l)) (sym (pending_is roster past h))

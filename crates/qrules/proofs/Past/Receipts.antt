@@ -12,7 +12,7 @@ use Rattle.qtables.specs.declared.member.Member.{Member}
 use Rattle.qrules.specs.Answer.{row_of, ending, Outcome, Answers}
 use Rattle.qrules.specs.Facts.{Facts, threads_of}
 use Rattle.qrules.specs.Lawful.{facts_of, IsLawful}
-use Rattle.qrules.specs.Past.{copied_of, first_among, receipt_among, receipt_of}
+use Rattle.qrules.specs.Past.{copied_of, first_among, priority_of_item, receipt_among, receipt_of}
 use Rattle.qrules.specs.Rows.{Received, received}
 use Rattle.qrules.specs.Trace.{Trace}
 use Rattle.qrules.specs.declared.call.Call.{Call}
@@ -21,7 +21,7 @@ use Rattle.qbase.proofs.Lists.{is_among}
 use Rattle.qrules.proofs.Past.Laws.{RowLaws, IsReceipt, IsReceived}
 use Rattle.qrules.proofs.Past.RowLaws.{call_laws}
 use Rattle.qrules.proofs.Past.Ends.{laws_of, ending_names, open_known}
-use Rattle.qrules.proofs.Past.Items.{IsPending, pending_all, item_below}
+use Rattle.qrules.proofs.Past.Items.{IsPending, pending_all, pending_priorities, item_below}
 use Rattle.qrules.proofs.Rosters.{known}
 
 -- ---- what is told of one among the endings that some threads get
@@ -113,6 +113,10 @@ refused_receipts f t c X i a = rw (a.2) refl
 
 pub best_pending : (roster : List Member) (past : Trace) (h : ℕ) (kind : Kind) (item : Item) → best_of kind ((facts_of roster past).pending h) ≡ Some item → IsPending roster past h item
 best_pending roster past h kind item best = best-at (IsPending roster past h) kind ((facts_of roster past).pending h) item (pending_all roster past h) best
+
+-- it has the priority that its number has by now
+pub best_priority : (roster : List Member) (past : Trace) (h : ℕ) (kind : Kind) (item : Item) → best_of kind ((facts_of roster past).pending h) ≡ Some item → priority_of_item roster past item.number ≡ item.priority
+best_priority roster past h kind item best = best-at (λ (x : Item). priority_of_item roster past x.number ≡ x.priority) kind ((facts_of roster past).pending h) item (pending_priorities roster past h) best
 
 pub received_below : (roster : List Member) (past : Trace) (t : ℕ) (c : Call) (r : Received) → IsReceived (facts_of roster past) t c r → r.item ≤ length past + 1
 received_below roster past t c r k = elim (k.source) [

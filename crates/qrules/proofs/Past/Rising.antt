@@ -1,5 +1,5 @@
 -- The items of a channel stand in rising number.
-use Rattle.std.proofs.Common.{◌≡◌, ℕ, ◌+◌, ◌<◌, ◌≤◌, List, [], ◌∷◌, ◌++◌, length, refl, sym, subst, cond, arith, true, false, eqb}
+use Rattle.std.proofs.Common.{◌≡◌, ℕ, ◌+◌, ◌<◌, ◌≤◌, List, [], ◌∷◌, ◌++◌, map, length, refl, sym, subst, cond, arith, true, false, eqb}
 use Rattle.std.specs.Prelude.{Option, None, Some, not}
 use Rattle.std.specs.List.{AllByRecursion}
 use Rattle.std.proofs.lemmas.List.{append-nil}
@@ -10,8 +10,9 @@ use Rattle.qtables.specs.declared.member.Member.{Member}
 use Rattle.qrules.specs.Past.{is_closed, is_gone, item_of, pending, made_on}
 use Rattle.qrules.specs.Rows.{Made}
 use Rattle.qrules.specs.Trace.{Event, Trace}
-use Rattle.qbase.proofs.Lists.{all_more}
-use Rattle.qrules.proofs.Past.Items.{IsPending, Stands, items_on, stands_all, staying, pending_all, item_below, made_by}
+use Rattle.qbase.proofs.Lists.{all_map, all_more}
+use Rattle.qrules.proofs.Past.Items.{IsPending, Stands, items_on, stands_all, staying, pending_all, pending_is, item_below, made_by}
+use Rattle.qrules.proofs.Past.Worth.{now}
 use Rattle.qrules.proofs.Past.Pending.{items_more}
 
 -- rising items, and one that is made after them
@@ -30,12 +31,17 @@ items_rise roster (e ∷ past) h = subst IsRising (sym (items_more roster e past
     all_more (Stands roster past h) (λ y. y.number < m.item.number) (items_on roster past h) (stands_all roster past h) (λ y at.
     let below : y.number ≤ length past = item_below roster past y.number _ at in omega arith)))
 
+-- whatever their priorities are by now
+now_rises : (past : Trace) (items : List Item) → IsRising items → IsRising (map (now past) items)
+now_rises past [] rising = tt
+now_rises past (x ∷ items) rising = (all_map (λ y. x.number < y.number) (now past) items rising.0, now_rises past items rising.1)
+
 -- what is pending rises
 pub pending_rises : (roster : List Member) (past : Trace) (h : ℕ) → IsRising (pending roster past h)
-pending_rises roster past h = elim (is_closed past h) as (λ b. IsRising (cond b [] (staying roster past h))) [
+pending_rises roster past h = subst IsRising (sym (pending_is roster past h)) (elim (is_closed past h) as (λ b. IsRising (cond b [] (map (now past) (staying roster past h)))) [
   | true ↦ tt
-  | false ↦ IsRising-filter (λ item. not (is_gone past item)) (items_on roster past h) (items_rise roster past h)
-]
+  | false ↦ now_rises past (staying roster past h) (IsRising-filter (λ item. not (is_gone past item)) (items_on roster past h) (items_rise roster past h))
+])
 
 -- and so it does with the item that the next event makes
 pub takeable_rises : (roster : List Member) (e : Event) (past : Trace) (h : ℕ) → IsRising (pending roster past h ++ made_on h (item_of roster e past))

@@ -24,6 +24,7 @@ use Rattle.qrules.proofs.Past.Laws.{is_settled}
 use Rattle.qrules.proofs.Past.RowLaws.{call_laws}
 use Rattle.qrules.proofs.Past.Numbers.{IsOpen, block_fresh, filled_answer, filled_settled, open_below, open_parts, open_thread, is_unblocked}
 use Rattle.qrules.proofs.Past.Items.{item_accepted}
+use Rattle.qrules.proofs.Past.Worth.{unblocked_among_now}
 
 -- ---- what is held is taken
 
@@ -76,7 +77,10 @@ unblocked_now roster past t c i e =
 
 -- with one more event, what that makes
 pub unblocked_by : (roster : List Member) (e : Event) (past : Trace) (i : ℕ) → is_unblocked roster (e ∷ past) i ≡ (is_unblocked roster past i || unblocked_among (option_to_list (item_of roster e past)) i)
-unblocked_by roster e past i = list_any-append (λ m. is_unblock_for i m.item.what) (items roster past) (option_to_list (item_of roster e past))
+unblocked_by roster e past i =
+    unblocked_among_now (e ∷ past) (items roster (e ∷ past)) i
+    ∙ list_any-append (λ m. is_unblock_for i m.item.what) (items roster past) (option_to_list (item_of roster e past))
+    ∙ ap (λ b. b || unblocked_among (option_to_list (item_of roster e past)) i) (sym (unblocked_among_now past (items roster past) i))
 
 -- what was received stays so
 received_stays : (e : Event) (past : Trace) (i : ℕ) → WasReceived past i → WasReceived (e ∷ past) i

@@ -11,9 +11,9 @@ use Rattle.qtables.specs.Members.{IsRoster}
 use Rattle.qrules.specs.Answer.{ending, Outcome, Answers}
 use Rattle.qrules.specs.Held.{owns_end}
 use Rattle.qrules.specs.Facts.{Facts, is_for_answer, owns, threads_of}
-use Rattle.qrules.specs.Headline.AnsweredToSender.{AnsweredToSender, AnswersIts, AnswersOnce, EachAnswersIts, is_answer, is_held, owns_channel_of, owns_that, sender_of}
+use Rattle.qrules.specs.Headline.AnsweredToSender.{AnsweredToSender, AnswersIts, AnswersOnce, EachAnswersIts, is_answer, is_held, owns_channel_of, owns_that}
 use Rattle.qrules.specs.Lawful.{facts_of, IsLawful}
-use Rattle.qrules.specs.Past.{connection_at, is_taken}
+use Rattle.qrules.specs.Past.{connection_at, is_taken, sender_of}
 use Rattle.qrules.specs.Trace.{Event, Trace}
 use Rattle.qrules.specs.declared.call.Completion.{Completion}
 use Rattle.qrules.proofs.Past.Ends.{open_known, passes_of}

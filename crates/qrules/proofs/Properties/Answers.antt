@@ -20,7 +20,8 @@ use Rattle.qrules.specs.declared.call.Info.{Info as Told}
 use Rattle.qrules.specs.declared.call.Mark.TheVariants as mark
 use Rattle.qrules.specs.Cutting.{is_on}
 use Rattle.qrules.specs.Facts.{Facts, is_for_answer, message, sender, threads_of, way}
-use Rattle.qrules.specs.Headline.AnsweredToSender.{answered_by, is_answer, thread_of_send}
+use Rattle.qrules.specs.Headline.AnsweredToSender.{answered_by, is_answer}
+use Rattle.qrules.specs.Past.{thread_of_send}
 use Rattle.qrules.specs.Items.{makes}
 use Rattle.qrules.specs.Rows.{Made, asks, given, pulse_item, sent_over}
 use Rattle.qrules.specs.declared.call.Call.{Call}

@@ -10,13 +10,13 @@ use Rattle.qtables.specs.declared.member.Member.{Member}
 use Rattle.qrules.specs.Headline.BestFirst.{takeable}
 use Rattle.qrules.specs.Headline.CopiedExactly.{call_at}
 use Rattle.qrules.specs.Headline.SentOrder.{connection_of, sends_over}
-use Rattle.qrules.specs.Past.{item_of, pending, attached, made_on}
+use Rattle.qrules.specs.Past.{item_of, pending, priority_before, attached, made_on}
 use Rattle.qrules.specs.Items.{makes}
 use Rattle.qrules.specs.Rows.{message_item, pulse_item, Made, sent_over}
 use Rattle.qrules.specs.Trace.{Event, Trace}
 use Rattle.qrules.specs.declared.call.Call.{Call}
 use Rattle.qrules.specs.declared.call.Call.TheVariants.{ChannelCreate, ConnectAttach, Send, Receive, Reply, Error, Read, Write, Info, ReceivePulse, Pulse, PrioritySet, State, ChannelDestroy, Shutdown, Unblock, ConnectDetach}
-use Rattle.qrules.proofs.Past.Items.{item_accepted, IsPending, item_at, item_below, item_earlier, item_newest, made_by, pending_all}
+use Rattle.qrules.proofs.Past.Items.{before_earlier, before_newest, item_accepted, IsPending, item_at, item_below, item_earlier, item_newest, item_priority, made_by, pending_all, pending_each}
 use Rattle.qbase.proofs.Lists.{all_append, all_more}
 use Rattle.qrules.proofs.Past.Pending.{made_all}
 use Rattle.qrules.proofs.Properties.Sends.{made_stays}
@@ -26,14 +26,26 @@ use Rattle.qrules.proofs.Past.Connections.{live_attached}
 
 -- ---- each is an item of the channel
 
-pub takeable_made : (roster : List Member) (past : Trace) (e : Event) (h : ℕ) → AllByRecursion (λ w. item_at roster (e ∷ past) w.number ≡ Some (record { item = w; channel = h })) (takeable roster past e h)
+-- an item of its number was made for the channel
+abbrev pub IsMadeFor : List Member → Trace → ℕ → Item → Type 0
+IsMadeFor roster past h w = (first : Item) × (item_at roster past w.number ≡ Some (record { item = first; channel = h }))
+
+pub takeable_made : (roster : List Member) (past : Trace) (e : Event) (h : ℕ) → AllByRecursion (IsMadeFor roster (e ∷ past) h) (takeable roster past e h)
 takeable_made roster past e h =
-    let P = λ (w : Item). item_at roster (e ∷ past) w.number ≡ Some (record { item = w; channel = h }) in
+    let P = IsMadeFor roster (e ∷ past) h in
     all_append P (pending roster past h) (made_on h (item_of roster e past))
-    (all_more (IsPending roster past h) P (pending roster past h) (pending_all roster past h) (λ w at. item_earlier roster e past w.number (item_below roster past w.number _ at.made) ∙ at.made))
-    (made_all P h (item_of roster e past) (λ m is on.
+    (all_more (IsPending roster past h) P (pending roster past h) (pending_all roster past h) (λ w at. (at.first, item_earlier roster e past w.number (item_below roster past w.number _ at.made) ∙ at.made)))
+    (made_all P h (item_of roster e past) (λ m is on. (m.item,
     subst (λ i. item_at roster (e ∷ past) i ≡ Some (record { item = m.item; channel = h })) (sym (made_by roster e past m is).number)
-    (item_newest roster e past ∙ is ∙ ap (λ k. Some (record { item = m.item; channel = k })) on)))
+    (item_newest roster e past ∙ is ∙ ap (λ k. Some (record { item = m.item; channel = k })) on))))
+
+-- each has the priority that its number had before the event
+pub takeable_priorities : (roster : List Member) (past : Trace) (e : Event) (h : ℕ) → AllByRecursion (λ w. priority_before roster e past w.number ≡ w.priority) (takeable roster past e h)
+takeable_priorities roster past e h =
+    let P = λ (w : Item). priority_before roster e past w.number ≡ w.priority in
+    all_append P (pending roster past h) (made_on h (item_of roster e past))
+    (pending_each P roster past h (λ item at stays. before_earlier roster e past item.number (item_below roster past item.number _ at) ∙ item_priority roster past item.number _ at))
+    (made_all P h (item_of roster e past) (λ m is on. before_newest roster e past m is))
 
 -- ---- what was sent over a connection is on its channel
 

@@ -172,7 +172,7 @@ pending_going roster past h item p message = subst (λ b. (not b && is_ended pas
 pub pending_message : (roster : List Member) (past : Trace) (h : ℕ) (item : Item) → IsLawful roster past → IsPending roster past h item → is_pulse item.what ≡ false → message (facts_of roster past) item.number ≡ message_at past item.number
 pending_message roster past h item l p sent =
     let going : is_ended past item.number ≡ false = pending_going roster past h item p sent in
-    let w = item_waits roster past item.number (record { item = item; channel = h }) l p.made sent going in
+    let w = item_waits roster past item.number (record { item = p.first; channel = h }) l p.made (ap is_pulse p.what ∙ sent) going in
     let o = with_receipt (priority_of_item roster past w.block.number) (is_unblocked roster past w.block.number) (receipt_of past w.block.number) (filled past w.block) in
     let is : open_call roster past w.thread ≡ Some o = open_from roster past w.thread w.block w.is (subst (λ j. is_ended past j ≡ false) (sym w.number) going) in
     let number : o.number ≡ item.number = receipt_number (priority_of_item roster past w.block.number) (is_unblocked roster past w.block.number) (receipt_of past w.block.number) (filled past w.block) ∙ w.number in

@@ -189,8 +189,8 @@ none_early roster (e ∷ past) l = (
         | inl k ↦
             let b = pending_taken roster past e.thread e.call u y i k in
             subst (λ j. is_made roster (e ∷ past) j ≡ true) k.number
-            (is_made_at roster (e ∷ past) k.item.number (record { item = k.item; channel = k.channel })
-            (item_earlier roster e past k.item.number (item_below roster past k.item.number (record { item = k.item; channel = k.channel }) b.made) ∙ b.made))
+            (is_made_at roster (e ∷ past) k.item.number (record { item = b.first; channel = k.channel })
+            (item_earlier roster e past k.item.number (item_below roster past k.item.number (record { item = b.first; channel = k.channel }) b.made) ∙ b.made))
         | inr k ↦
             subst (λ j. is_made roster (e ∷ past) j ≡ true) (sym (made_number (facts_of roster past) e.thread e.call u y i k))
             (is_made_at roster (e ∷ past) (length past + 1) k.made (item_newest roster e past ∙ made_now roster e past k.made a k.is_made))

@@ -1,4 +1,4 @@
--- What was sent over one connection with one priority is received in the order in which it was sent.
+-- Of what was sent over one connection and has one priority as it is received, what was sent first is received first.
 use Rattle.std.proofs.Common.{◌≡◌, ◌∙◌, ℕ, ◌≤◌, List, [], ◌∷◌, refl, ap, sym, subst, arith, true, inl, inr}
 use Rattle.std.specs.Prelude.{Option, None, Some}
 use Rattle.std.specs.List.{AllByRecursion}
@@ -17,17 +17,16 @@ use Rattle.qrules.specs.Headline.BestFirst.{BestFirst, TakesBest, receives_on, t
 use Rattle.qrules.specs.Headline.ReceivedOnce.{item_received}
 use Rattle.qrules.specs.Headline.SentOrder.{IsPlainReceive, NoneSentEarlier, SentOrder, connection_of}
 use Rattle.qrules.specs.Lawful.{IsLawful}
-use Rattle.qrules.specs.Past.{priority_of_item}
+use Rattle.qrules.specs.Past.{priority_before}
 use Rattle.qrules.specs.Trace.{Event, Trace}
 use Rattle.qrules.specs.declared.call.Call.{Call}
 use Rattle.qrules.specs.declared.call.Call.TheVariants.{Receive}
 use Rattle.qrules.specs.declared.call.Completion.{Completion}
 use Rattle.qrules.proofs.Past.Best.{best_earliest}
-use Rattle.qrules.proofs.Past.Items.{item_at, item_priority}
 use Rattle.qbase.proofs.Lists.{all_more}
 use Rattle.qrules.proofs.Past.Rising.{takeable_rises}
 use Rattle.qrules.proofs.Properties.BestFirst.{best_first}
-use Rattle.qrules.proofs.Properties.Connections.{item_over, takeable_made}
+use Rattle.qrules.proofs.Properties.Connections.{IsMadeFor, item_over, takeable_made, takeable_priorities}
 
 -- a Receive may take any item
 plain_takes : (c : Call) (chid : ℕ) (buffer : List ℕ) (p : ℕ × Kind) (item : Item) → c ≡ Receive chid buffer → receives_on c ≡ Some p → may_take p.1 item ≡ true
@@ -48,23 +47,23 @@ some_number (Some x) i e = (x, refl, same_Some x.number i e)
 none_sent_earlier : (roster : List Member) (past : Trace) (e : Event) (y : Completion) (j k h : ℕ) → IsPlainReceive (e ∷ past) y → TakesBest roster past e y j → connection_of (e ∷ past) j ≡ Some k → NoneSentEarlier roster past e k j h
 none_sent_earlier roster past e y j k h plain b over =
     let x = some_number (best_of b.kind (takeable roster past e b.channel)) j b.best in
-    let At = λ (c : ℕ) (w : Item). item_at roster (e ∷ past) w.number ≡ Some (record { item = w; channel = c }) in
-    let at : item_at roster (e ∷ past) x.0.number ≡ Some (record { item = x.0; channel = b.channel }) =
-    best-at (λ (w : Item). item_at roster (e ∷ past) w.number ≡ Some (record { item = w; channel = b.channel })) b.kind (takeable roster past e b.channel) x.0 (takeable_made roster past e b.channel) x.1 in
-    let from = item_over roster (e ∷ past) x.0.number k (record { item = x.0; channel = b.channel }) at (ap (connection_of (e ∷ past)) x.2 ∙ over) in
-    let priority : priority_of_item roster (e ∷ past) j ≡ x.0.priority = ap (priority_of_item roster (e ∷ past)) (sym x.2) ∙ item_priority roster (e ∷ past) x.0.number _ at in
+    let at : IsMadeFor roster (e ∷ past) b.channel x.0 = best-at (IsMadeFor roster (e ∷ past) b.channel) b.kind (takeable roster past e b.channel) x.0 (takeable_made roster past e b.channel) x.1 in
+    let from = item_over roster (e ∷ past) x.0.number k (record { item = at.0; channel = b.channel }) at.1 (ap (connection_of (e ∷ past)) x.2 ∙ over) in
+    let priority : priority_before roster e past j ≡ x.0.priority =
+    ap (priority_before roster e past) (sym x.2)
+    ∙ best-at (λ (w : Item). priority_before roster e past w.number ≡ w.priority) b.kind (takeable roster past e b.channel) x.0 (takeable_priorities roster past e b.channel) x.1 in
     elim (cases_eq h b.channel) as (λ _. NoneSentEarlier roster past e k j h) [
       | inl same ↦
           subst (NoneSentEarlier roster past e k j) (sym same)
-          (all_more (λ w. w.priority ≡ x.0.priority → x.0.number ≤ w.number) (λ w. connection_of (e ∷ past) w.number ≡ Some k → w.priority ≡ priority_of_item roster (e ∷ past) j → j ≤ w.number)
+          (all_more (λ w. w.priority ≡ x.0.priority → x.0.number ≤ w.number) (λ w. connection_of (e ∷ past) w.number ≡ Some k → w.priority ≡ priority_before roster e past j → j ≤ w.number)
           (takeable roster past e b.channel)
           (first_of_equals b.kind (takeable roster past e b.channel) x.0 (takeable_rises roster e past b.channel) x.1 (λ w. plain_takes b.call plain.0 plain.1 (b.channel, b.kind) w (same_Some b.call (Receive plain.0 plain.1) (sym b.is_call ∙ plain.2)) b.receives))
           (λ w first _ equal. let no_earlier : x.0.number ≤ w.number = first (equal ∙ priority) in omega (arith, x.2)))
       | inr other ↦
-          all_more (λ w. item_at roster (e ∷ past) w.number ≡ Some (record { item = w; channel = h })) (λ w. connection_of (e ∷ past) w.number ≡ Some k → w.priority ≡ priority_of_item roster (e ∷ past) j → j ≤ w.number)
+          all_more (IsMadeFor roster (e ∷ past) h) (λ w. connection_of (e ∷ past) w.number ≡ Some k → w.priority ≡ priority_before roster e past j → j ≤ w.number)
           (takeable roster past e h) (takeable_made roster past e h)
           (λ w made along _.
-          let to = item_over roster (e ∷ past) w.number k (record { item = w; channel = h }) made along in
+          let to = item_over roster (e ∷ past) w.number k (record { item = made.0; channel = h }) made.1 along in
           absurd (other (to.channel ∙ ap (λ c. c.channel) (same_Some to.over from.over (sym to.is ∙ from.is)) ∙ sym from.channel)))
     ]
 

@@ -241,7 +241,7 @@ taken_is_open roster e past u i h y a k is closed =
     elim k [
       | inl p ↦
           let b = best_pending roster past p.channel p.kind p.item p.best in
-          let made = subst (λ j. item_at roster past j ≡ Some (record { item = p.item; channel = p.channel })) p.number b.made in
+          let made = subst (λ j. item_at roster past j ≡ Some (record { item = b.first; channel = p.channel })) p.number b.made in
           let at : p.channel ≡ h = same_Some p.channel h (sym (item_channel roster (e ∷ past) i _ (item_earlier roster e past i (item_below roster past i _ made) ∙ made)) ∙ is) in
           elim (or_cases (names (closes e.call) h) (is_closed past h) closed) [
             | inl now ↦ none-some (p.channel, p.kind) (sym (destroys_alone e.call h now).receives_none ∙ p.receives)

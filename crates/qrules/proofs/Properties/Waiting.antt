@@ -4,7 +4,7 @@ use Rattle.std.specs.Prelude.{Option, None, Some, is_some, not, filter}
 use Rattle.std.specs.List.{AllByRecursion}
 use Rattle.std.proofs.lemmas.Bool.{eqb-true, eqb-false, not-true}
 use Rattle.std.proofs.lemmas.Option.{none-some, same_Some, some_pair_parts}
-use Rattle.qqueue.specs.Best.{best_of, may_take, without}
+use Rattle.qqueue.specs.Best.{best_of, may_take, with_priority, without}
 use Rattle.qqueue.specs.declared.item.Item.{Item}
 use Rattle.qqueue.specs.declared.item.Kind.{Kind}
 use Rattle.qqueue.specs.declared.item.Kind.TheVariants.{Any, PulseOnly}
@@ -21,8 +21,8 @@ use Rattle.qrules.specs.Lawful.{facts_of, IsLawful}
 use Rattle.qrules.specs.Past.{held_with, made_on}
 use Rattle.qrules.specs.Receivers.{newest}
 use Rattle.qrules.specs.Items.{makes}
-use Rattle.qrules.specs.Rows.{Made, Received, asks, closes, names, pulse_item, sent_over, takes, taking, with_buffer, writes, unblocks}
-use Rattle.qrules.specs.Step.{after_receipt, after_write, is_cut, left_by, open_call_after, pending_after, taken_out, unless, after_unblock, unblocked_wait}
+use Rattle.qrules.specs.Rows.{Made, Received, asks, closes, names, pulse_item, sent_over, sets, takes, taking, with_buffer, writes, unblocks}
+use Rattle.qrules.specs.Step.{after_receipt, after_write, is_cut, left_by, moved, open_call_after, pending_after, taken_out, unless, after_unblock, unblocked_wait}
 use Rattle.qrules.specs.Trace.{Trace}
 use Rattle.qrules.specs.declared.call.Call.{Call}
 use Rattle.qrules.specs.declared.call.Call.TheVariants.{ChannelCreate, ConnectAttach, Send, Receive, Reply, Error, Read, Write, Info, ReceivePulse, Pulse, PrioritySet, State, ChannelDestroy, Shutdown, Unblock, ConnectDetach}
@@ -34,6 +34,7 @@ use Rattle.qrules.proofs.Calls.Taking.{given_received, receipt_from, receipt_in_
 use Rattle.qrules.proofs.Past.Ends.{open_known, passes_of}
 use Rattle.qrules.proofs.Past.Follows.{past_follows}
 use Rattle.qrules.proofs.Past.Laws.{Passes}
+use Rattle.qrules.proofs.Past.Moves.{all_moved}
 use Rattle.qbase.proofs.Lists.{all_append, all_filter, all_more, is_among, none_of, some_of}
 use Rattle.qrules.proofs.Properties.Receipts.{waits_for}
 use Rattle.qrules.proofs.Past.Before.{Lasts, before_other, before_receipt, unless_is}
@@ -203,9 +204,19 @@ abbrev pub NothingFor : Facts → Type 0
 NothingFor f = (u : ℕ) (o : OpenCall) (h : ℕ) (kind : Kind) → f.open_call u ≡ Some o → waits_for o.wait ≡ Some (h, kind) → AllByRecursion (λ w. may_take kind w ≡ false) (f.pending h)
 
 -- what is so of all that isn't destroyed is so of what is pending afterwards
-all_after : (P : Item → Type 0) (f : Facts) (t : ℕ) (c : Call) (h : ℕ) → AllByRecursion P (taken_out (row_of f t c).receipt h (left_by f t c h (f.pending h ++ made_on h (makes f t c)))) → AllByRecursion P (pending_after f t c h)
-all_after P f t c h all =
-    elim (names (closes c) h) as (λ b. AllByRecursion P (cond b [] (taken_out (row_of f t c).receipt h (left_by f t c h (f.pending h ++ made_on h (makes f t c)))))) [ true ↦ tt | false ↦ all ]
+all_after : (kind : Kind) (f : Facts) (t : ℕ) (c : Call) (h : ℕ) → AllByRecursion (λ w. may_take kind w ≡ false) (taken_out (row_of f t c).receipt h (left_by f t c h (f.pending h ++ made_on h (makes f t c))))
+    → AllByRecursion (λ w. may_take kind w ≡ false) (pending_after f t c h)
+all_after kind f t c h all =
+    let P = λ (w : Item). may_take kind w ≡ false in
+    let L = taken_out (row_of f t c).receipt h (left_by f t c h (f.pending h ++ made_on h (makes f t c))) in
+    elim (names (closes c) h) as (λ b. AllByRecursion P (cond b [] (moved f h (sets c) L))) [
+      | true ↦ tt
+      | false ↦ all_moved P f h (sets c) L (λ priority x none. same_kind kind priority x ∙ none) all
+    ]
+  where
+    same_kind : (kind : Kind) (priority : ℕ) (x : Item) → may_take kind (with_priority priority x) ≡ may_take kind x
+    same_kind Any priority x = refl
+    same_kind PulseOnly priority x = refl
 
 -- the caller begins to wait: nothing was pending, and nothing is made
 caller_finds_none : (f : Facts) (t : ℕ) (c : Call) (o : OpenCall) (h : ℕ) (kind : Kind) → unless (is_some (row_of f t c).own) (after_receipt (row_of f t c).receipt t (asks f.number c)) ≡ Some o
@@ -218,7 +229,7 @@ caller_finds_none f t c o h kind is waits =
     let none : AllByRecursion (λ (w : Item). may_take kind w ≡ false) (f.pending h) = none-may kind (f.pending h) k.0 in
     let Q = λ (w : Item). ((r : Received) → (row_of f t c).receipt ≡ Some r → r.channel ≡ h → eqb w.number r.item ≡ false) → may_take kind w ≡ false in
     let left = λ (w : Item). not (is_cut f t c h w.number) in
-    all_after P f t c h (rw (k.1) (all_left P (row_of f t c).receipt h (left_by f t c h (f.pending h ++ []))
+    all_after kind f t c h (rw (k.1) (all_left P (row_of f t c).receipt h (left_by f t c h (f.pending h ++ []))
     (all_filter Q left (f.pending h ++ []) (all_append Q (f.pending h) [] (all_more P Q (f.pending h) none (λ w m _. m)) tt))))
 
 -- another thread that waits on: what it may take is received at once
@@ -228,7 +239,7 @@ other_finds_none f t c u o h kind p nothing among is waits =
     let P = λ (w : Item). may_take kind w ≡ false in
     let Q = λ (w : Item). ((r : Received) → (row_of f t c).receipt ≡ Some r → r.channel ≡ h → eqb w.number r.item ≡ false) → may_take kind w ≡ false in
     let left = λ (w : Item). not (is_cut f t c h w.number) in
-    all_after P f t c h (all_left P (row_of f t c).receipt h (left_by f t c h (f.pending h ++ made_on h (makes f t c)))
+    all_after kind f t c h (all_left P (row_of f t c).receipt h (left_by f t c h (f.pending h ++ made_on h (makes f t c)))
     (all_filter Q left (f.pending h ++ made_on h (makes f t c)) (all_append Q (f.pending h) (made_on h (makes f t c))
     (all_more P Q (f.pending h) (nothing u o h kind is waits) (λ w m _. m))
     (elim (makes f t c) as (λ x. makes f t c ≡ x → AllByRecursion Q (made_on h x)) [

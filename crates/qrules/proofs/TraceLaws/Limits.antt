@@ -1,5 +1,5 @@
 -- No more than 1,024 pulses are pending on a channel.
-use Rattle.std.proofs.Common.{◌≡◌, ◌∙◌, ℕ, ◌+◌, ◌≤◌, ◌<◌, List, [], ◌∷◌, ◌++◌, refl, sym, subst, cond, arith, eqb, Bool, true, false, inl, inr}
+use Rattle.std.proofs.Common.{◌≡◌, ◌∙◌, ℕ, ◌+◌, ◌≤◌, ◌<◌, List, [], ◌∷◌, ◌++◌, refl, ap, sym, subst, cond, arith, eqb, Bool, true, false, inl, inr}
 use Rattle.std.specs.Prelude.{ℤ, Option, None, Some, filter, nat_lt, not}
 use Rattle.std.proofs.lemmas.Bool.{eqb-true, ltb-true}
 use Rattle.std.proofs.lemmas.List.{append-nil}
@@ -18,14 +18,15 @@ use Rattle.qrules.specs.Laws.{PulsesAreLimited}
 use Rattle.qrules.specs.Lawful.{facts_of}
 use Rattle.qrules.specs.Past.{pending, made_on}
 use Rattle.qrules.specs.Items.{makes}
-use Rattle.qrules.specs.Rows.{Received, closes, message_item, names, pulse_item, sent_over, Made}
-use Rattle.qrules.specs.Step.{is_cut, left_by, pending_after, taken_out}
+use Rattle.qrules.specs.Rows.{Received, Setting, closes, message_item, names, pulse_item, sent_over, sets, Made}
+use Rattle.qrules.specs.Step.{is_cut, left_by, moved, pending_after, taken_out}
 use Rattle.qrules.specs.Answer.{row_of}
 use Rattle.qrules.specs.declared.call.Call.{Call}
 use Rattle.qrules.specs.declared.call.Call.TheVariants.{ChannelCreate, ConnectAttach, Send, Receive, Reply, Error, Read, Write, Info, ReceivePulse, Pulse, PrioritySet, State, ChannelDestroy, Shutdown, Unblock, ConnectDetach}
 use Rattle.qrules.proofs.Past.Ends.{passes_of}
 use Rattle.qrules.proofs.Past.Follows.{past_follows}
 use Rattle.qrules.proofs.Past.Laws.{Passes}
+use Rattle.qrules.proofs.Past.Moves.{mover, mover_what}
 use Rattle.qrules.proofs.Calls.Delivering.{sent_way}
 use Rattle.qrules.proofs.Calls.ConnectDetach as detaching
 use Rattle.qrules.proofs.Calls.Unblock as unblocking
@@ -60,6 +61,16 @@ fewer_out : (o : Option Received) (h : ℕ) (items : List Item) → pulses_among
 fewer_out None h items = omega arith
 fewer_out (Some r) h items =
     elim (eqb r.channel h) as (λ b. pulses_among (cond b (without r.item items) items) ≤ pulses_among items) [ true ↦ fewer_left (λ item. not (eqb item.number r.item)) items | false ↦ omega arith ]
+
+-- a message that moves is none
+same_moved : (f : Facts) (h : ℕ) (s : Option Setting) (items : List Item) → pulses_among (moved f h s items) ≡ pulses_among items
+same_moved f h None items = refl
+same_moved f h (Some s) [] = refl
+same_moved f h (Some s) (x ∷ items) =
+    count_first (mover f h s x) (moved f h (Some s) items)
+    ∙ ap (λ w. cond (is_pulse w) 1 0 + pulses_among (moved f h (Some s) items)) (mover_what f h s x)
+    ∙ ap (λ n. cond (is_pulse x.what) 1 0 + n) (same_moved f h (Some s) items)
+    ∙ sym (count_first x items)
 
 -- a message more is no pulse more
 more_message : (items : List Item) (x : Item) → is_pulse x.what ≡ false → pulses_among (items ++ x ∷ []) ≡ pulses_among items
@@ -148,7 +159,8 @@ limited_after f t c h p few =
     let made : pulses_among (f.pending h ++ M) ≤ 1024 = limited f t c h p (f.pending h) (omega arith) few in
     let less : pulses_among L ≤ pulses_among (f.pending h ++ M) = fewer_left (λ item. not (is_cut f t c h item.number)) (f.pending h ++ M) in
     let out : pulses_among (taken_out (row_of f t c).receipt h L) ≤ pulses_among L = fewer_out (row_of f t c).receipt h L in
-    elim (names (closes c) h) as (λ b. pulses_among (cond b [] (taken_out (row_of f t c).receipt h L)) ≤ 1024) [ true ↦ omega arith | false ↦ omega (arith, made, less, out) ]
+    let same : pulses_among (moved f h (sets c) (taken_out (row_of f t c).receipt h L)) ≡ pulses_among (taken_out (row_of f t c).receipt h L) = same_moved f h (sets c) (taken_out (row_of f t c).receipt h L) in
+    elim (names (closes c) h) as (λ b. pulses_among (cond b [] (moved f h (sets c) (taken_out (row_of f t c).receipt h L))) ≤ 1024) [ true ↦ omega arith | false ↦ omega (arith, made, less, out, same) ]
 
 pub pulses_are_limited : PulsesAreLimited
 pulses_are_limited roster [] r l h = omega arith

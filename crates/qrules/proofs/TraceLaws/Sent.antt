@@ -16,10 +16,10 @@ use Rattle.qrules.specs.Past.{item_of, items}
 use Rattle.qrules.specs.Rows.{Made}
 use Rattle.qrules.specs.Trace.{Event, Trace}
 use Rattle.qrules.specs.declared.call.Completion.{Completion}
-use Rattle.qrules.proofs.Past.Items.{Stands, item_at}
+use Rattle.qrules.proofs.Past.Items.{item_at, item_made}
 use Rattle.qbase.proofs.Lists.{all_more}
 use Rattle.qrules.proofs.Properties.BestFirst.{best_first}
-use Rattle.qrules.proofs.Properties.Connections.{item_over, takeable_made}
+use Rattle.qrules.proofs.Properties.Connections.{IsMadeFor, item_over, takeable_made}
 use Rattle.qrules.proofs.Properties.ReceivedOnce.{any_first, any_last}
 
 -- ---- an item that was sent over a connection
@@ -45,9 +45,10 @@ taken_stands roster past e x i k =
     → (m : Made) × (item_at roster (e ∷ past) i ≡ Some m) × (m.item.number ≡ i) × (m.channel ≡ k.channel)) [
       | None ↦ λ is at. absurd (none-some i at)
       | Some item ↦ λ is at.
-          let stands = best-at (Stands roster (e ∷ past) k.channel) k.kind (takeable roster past e k.channel) item (takeable_made roster past e k.channel) is in
+          let made = best-at (IsMadeFor roster (e ∷ past) k.channel) k.kind (takeable roster past e k.channel) item (takeable_made roster past e k.channel) is in
           let number : item.number ≡ i = same_Some item.number i at in
-          (record { item = item; channel = k.channel }, subst (λ j. item_at roster (e ∷ past) j ≡ Some (record { item = item; channel = k.channel })) number stands, number, refl)
+          let stands = subst (λ j. item_at roster (e ∷ past) j ≡ Some (record { item = made.0; channel = k.channel })) number made.1 in
+          (record { item = made.0; channel = k.channel }, stands, (item_made roster (e ∷ past) i _ stands).makes_it.number, refl)
     ] refl k.best
 
 -- ---- the law

@@ -1,4 +1,4 @@
--- PrioritySet: another priority for a thread of the caller's process.
+-- PrioritySet: another priority for a thread of the caller's process, and for the message that it waits with to be received.
 use Rattle.std.specs.Prelude.{ℕ, false, [], Option, None, Some, if◌then◌else◌}
 use Rattle.qbase.specs.declared.errno.Errno.{Errno}
 use Rattle.qbase.specs.declared.errno.Errno.TheVariants.{Srch}
@@ -10,7 +10,7 @@ use Rattle.qrules.specs.Rows.{Row, ends_none}
 abbrev pub refusal : Facts → ℕ → ℕ → Option Errno
 refusal f t thread = if is_fellow f t thread then None else Some Srch
 
--- that the priority is set is read off the past calls
+-- that the priority is set, of the thread and of its pending message, is read off the past calls
 abbrev pub row : Facts → ℕ → ℕ → Row
 row f t thread = record {
   refusal = refusal f t thread;

@@ -9,7 +9,7 @@ use Rattle.qrules.specs.declared.call.Mark.{Mark}
 use Rattle.qrules.specs.declared.call.Mark.TheVariants as mark
 use Rattle.qrules.specs.Facts.{owns}
 use Rattle.qrules.specs.Lawful.{facts_of}
-use Rattle.qrules.specs.Past.{is_accepted, is_ended, is_taken, items, made_at}
+use Rattle.qrules.specs.Past.{is_accepted, is_ended, is_taken, items, sender_of}
 use Rattle.qrules.specs.Rows.{Made}
 use Rattle.qrules.specs.Trace.{Event, Trace}
 
@@ -30,30 +30,6 @@ owns_that roster past t (Some h) = owns (facts_of roster past) t h
 -- the thread's process owns the channel of message i
 abbrev pub owns_channel_of : List Member → Trace → ℕ → ℕ → Bool
 owns_channel_of roster past t i = owns_that roster past t (channel_among (items roster past) i)
-
--- the thread of a Send
-abbrev pub thread_of_send : ℕ → Call → Option ℕ
-thread_of_send t (Send coid message reply_buffer) = Some t
-thread_of_send t (ChannelCreate flags) = None
-thread_of_send t (ConnectAttach chid) = None
-thread_of_send t (Receive chid buffer) = None
-thread_of_send t (Reply rcvid status bytes) = None
-thread_of_send t (Error rcvid code) = None
-thread_of_send t (Read rcvid offset buffer) = None
-thread_of_send t (Write rcvid offset bytes) = None
-thread_of_send t (Info rcvid) = None
-thread_of_send t (ReceivePulse chid) = None
-thread_of_send t (Pulse coid priority code value) = None
-thread_of_send t (PrioritySet thread priority) = None
-thread_of_send t (State thread) = None
-thread_of_send t (ChannelDestroy chid) = None
-thread_of_send t Shutdown = None
-thread_of_send t (Unblock thread) = None
-thread_of_send t (ConnectDetach coid) = None
-
--- the thread that sent message i
-abbrev pub sender_of : Trace → ℕ → Option ℕ
-sender_of past i = made_at (λ e. thread_of_send e.thread e.call) past i
 
 -- the message that a call answers
 abbrev pub answered_by : Call → Option ℕ

@@ -1,4 +1,4 @@
--- What was sent over one connection with one priority is received in the order in which it was sent.
+-- Of what was sent over one connection and has one priority as it is received, what was sent first is received first.
 use Rattle.std.specs.Prelude.{◌≡◌, ℕ, ◌≤◌, List, [], ◌∷◌, Option, None, Some}
 use Rattle.std.specs.List.{AllByRecursion}
 use Rattle.std.specs.Option.{option_and_then}
@@ -9,7 +9,7 @@ use Rattle.qrules.specs.declared.call.Completion.{Completion}
 use Rattle.qrules.specs.Headline.BestFirst.{takeable}
 use Rattle.qrules.specs.Headline.CopiedExactly.{call_at}
 use Rattle.qrules.specs.Headline.ReceivedOnce.{item_received}
-use Rattle.qrules.specs.Past.{priority_of_item}
+use Rattle.qrules.specs.Past.{priority_before}
 use Rattle.qrules.specs.Trace.{Event, Trace}
 
 -- the connection that a call sends over
@@ -36,10 +36,10 @@ sends_over (ConnectDetach coid) = None
 abbrev pub connection_of : Trace → ℕ → Option ℕ
 connection_of past i = option_and_then sends_over (call_at past i)
 
--- of all that could be taken from channel h, what was sent over connection k with the priority of item j isn't earlier than j
+-- of all that could be taken from channel h, what was sent over connection k and had the priority of item j before the event isn't earlier than j
 abbrev pub NoneSentEarlier : List Member → Trace → Event → ℕ → ℕ → ℕ → Type 0
 NoneSentEarlier roster past e k j h = AllByRecursion
-    (λ item. connection_of (e ∷ past) item.number ≡ Some k → item.priority ≡ priority_of_item roster (e ∷ past) j → j ≤ item.number)
+    (λ item. connection_of (e ∷ past) item.number ≡ Some k → item.priority ≡ priority_before roster e past j → j ≤ item.number)
     (takeable roster past e h)
 
 -- the ending is one of a Receive, which takes messages and pulses
