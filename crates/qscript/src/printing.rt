@@ -10,6 +10,7 @@ mod ended_line;
 mod laws;
 mod marks;
 mod open_line;
+pub(crate) mod operands;
 
 use ended_line::push_event;
 use open_line::push_open;

@@ -7,7 +7,6 @@ ghost use Rattle.qscript.specs.Writing.Text.{member_text, call_text, script_text
 
 mod call_line;
 mod laws;
-mod operands;
 
 use call_line::push_call;
 use qkernel::trace::Trace;

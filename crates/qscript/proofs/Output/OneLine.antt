@@ -13,13 +13,12 @@ use Rattle.qbase.specs.declared.state.ThreadState.TheVariants.{Ready, SendBlocke
 use Rattle.qrules.specs.declared.call.Completion.{Completion}
 use Rattle.qqueue.specs.declared.item.What.{What}
 use Rattle.qqueue.specs.declared.item.What.TheVariants.{Message, User, Unblock, Disconnect}
-use Rattle.qscript.specs.Printing.Marks.Pulse.{pulse_words}
 use Rattle.qrules.specs.declared.call.Mark.{Mark}
 use Rattle.qrules.specs.declared.call.Mark.TheVariants as marks
 use Rattle.qrules.specs.declared.open_call.Blocked.{Blocked}
 use Rattle.qrules.specs.Trace.{Event, Run}
 use Rattle.qscript.specs.Printing.Words.{spaced}
-use Rattle.qscript.specs.Printing.Marks.{mark_words}
+use Rattle.qscript.specs.Printing.Marks.{mark_words, pulse_words}
 use Rattle.qscript.specs.Printing.Buffer.{buffer_words}
 use Rattle.qscript.specs.Printing.OpenLine.{open_text}
 use Rattle.qscript.specs.Printing.State.{state_words}

@@ -1,40 +1,44 @@
 -- How a call ended, in words.
-pub mod Done
-pub mod Failed
-pub mod Channel
-pub mod Connection
-pub mod Replied
-pub mod Message
-pub mod Errored
-pub mod Count
-pub mod Info
-pub mod Pulse
-pub mod State
-use Rattle.std.specs.Prelude.{ℕ, List}
+use Rattle.std.specs.Prelude.{ℕ, List, [], ◌∷◌, ◌++◌, codes, decimal}
+use Rattle.std.specs.Fmt.{signed_decimal}
+use Rattle.qbase.specs.Errno.{word_of}
+use Rattle.qbase.specs.declared.state.ThreadState.{ThreadState}
+use Rattle.qqueue.specs.declared.item.What.{What}
+use Rattle.qqueue.specs.declared.item.What.TheVariants.{Message, User, Unblock, Disconnect}
+use Rattle.qrules.specs.declared.call.Info.{Info}
 use Rattle.qrules.specs.declared.call.Mark.{Mark}
 use Rattle.qrules.specs.declared.call.Mark.TheVariants as marks
-use Rattle.qscript.specs.Printing.Marks.Done.{done_words}
-use Rattle.qscript.specs.Printing.Marks.Failed.{failed_words}
-use Rattle.qscript.specs.Printing.Marks.Channel.{channel_words}
-use Rattle.qscript.specs.Printing.Marks.Connection.{connection_words}
-use Rattle.qscript.specs.Printing.Marks.Replied.{replied_words}
-use Rattle.qscript.specs.Printing.Marks.Message.{message_words}
-use Rattle.qscript.specs.Printing.Marks.Errored.{errored_words}
-use Rattle.qscript.specs.Printing.Marks.Count.{count_words}
-use Rattle.qscript.specs.Printing.Marks.Info.{info_words}
-use Rattle.qscript.specs.Printing.Marks.Pulse.{pulse_words}
-use Rattle.qscript.specs.Printing.Marks.State.{told_words}
+use Rattle.qscript.specs.Printing.State.{state_words}
+
+-- what is told of a held message: the sender's process and thread, the connection, the three lengths and the priority
+abbrev pub info_words : Info → List (List ℕ)
+info_words i = codes "info" ∷ decimal i.process ∷ decimal i.thread ∷ decimal i.connection ∷ decimal i.msglen ∷ decimal i.srcmsglen ∷ decimal i.dstmsglen ∷ decimal i.priority ∷ []
+
+-- what a pulse brings: a code and a value, the message whose sender wants to be unblocked, or the process that detached
+abbrev pub brought_words : What → List (List ℕ)
+brought_words Message = []
+brought_words (User code value) = codes "user" ∷ signed_decimal code ∷ signed_decimal value ∷ []
+brought_words (Unblock message) = codes "unblock" ∷ decimal message ∷ []
+brought_words (Disconnect process) = codes "disconnect" ∷ decimal process ∷ []
+
+-- a pulse that was received: the number of the call that made it, its priority, and what it brings
+abbrev pub pulse_words : ℕ → ℕ → What → List (List ℕ)
+pulse_words item priority what = codes "pulse" ∷ decimal item ∷ decimal priority ∷ brought_words what
+
+-- what is told of a thread: the words of its state, and its priority
+abbrev pub told_words : ThreadState → ℕ → List (List ℕ)
+told_words state priority = codes "state" ∷ state_words state ++ decimal priority ∷ []
 
 -- the words of a mark
 unfoldable pub mark_words : Mark → List (List ℕ)
-mark_words marks.Ok = done_words
-mark_words (marks.Failed errno) = failed_words errno
-mark_words (marks.Channel chid) = channel_words chid
-mark_words (marks.Connection coid) = connection_words coid
-mark_words (marks.Replied status copied) = replied_words status copied
-mark_words (marks.Message rcvid copied) = message_words rcvid copied
-mark_words (marks.Errored code) = errored_words code
-mark_words (marks.Count copied) = count_words copied
+mark_words marks.Ok = codes "ok" ∷ []
+mark_words (marks.Failed errno) = codes "fail" ∷ word_of errno ∷ []
+mark_words (marks.Channel chid) = codes "channel" ∷ decimal chid ∷ []
+mark_words (marks.Connection coid) = codes "connection" ∷ decimal coid ∷ []
+mark_words (marks.Replied status copied) = codes "reply" ∷ signed_decimal status ∷ decimal copied ∷ []
+mark_words (marks.Message rcvid copied) = codes "message" ∷ decimal rcvid ∷ decimal copied ∷ []
+mark_words (marks.Errored code) = codes "error" ∷ signed_decimal code ∷ []
+mark_words (marks.Count copied) = codes "count" ∷ decimal copied ∷ []
 mark_words (marks.Info info) = info_words info
 mark_words (marks.Pulse item priority what) = pulse_words item priority what
 mark_words (marks.State state priority) = told_words state priority

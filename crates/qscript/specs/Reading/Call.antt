@@ -1,29 +1,15 @@
 -- The call that a word and its operands name.
-use Rattle.std.specs.Prelude.{ℕ, List, Option, Some, None, Result, Err, if◌then◌else◌, codes}
+use Rattle.std.specs.Prelude.{ℕ, List, Option, Some, None, Result, Ok, Err, if◌then◌else◌, codes}
 use Rattle.std.specs.Str.{bytes_eq}
 use Rattle.std.specs.Option.{option_or}
 use Rattle.qrules.specs.declared.call.Call.{Call}
+use Rattle.qrules.specs.declared.call.Call.TheVariants as calls
 use Rattle.qscript.specs.declared.reading.verb.Verb.{Verb}
 use Rattle.qscript.specs.declared.reading.verb.Verb.TheVariants as verbs
 use Rattle.qscript.specs.declared.fault.LineFault.{LineFault}
 use Rattle.qscript.specs.declared.fault.LineFault.TheVariants.{UnknownWord}
-use Rattle.qscript.specs.Reading.Forms.Attach.{attach_of}
-use Rattle.qscript.specs.Reading.Forms.Create.{create_of}
-use Rattle.qscript.specs.Reading.Forms.Receive.{receive_of}
-use Rattle.qscript.specs.Reading.Forms.Reply.{reply_of}
-use Rattle.qscript.specs.Reading.Forms.Send.{send_of}
-use Rattle.qscript.specs.Reading.Forms.Error.{error_of}
-use Rattle.qscript.specs.Reading.Forms.Read.{read_of}
-use Rattle.qscript.specs.Reading.Forms.Write.{write_of}
-use Rattle.qscript.specs.Reading.Forms.Info.{info_of}
-use Rattle.qscript.specs.Reading.Forms.ReceivePulse.{receivepulse_of}
-use Rattle.qscript.specs.Reading.Forms.Pulse.{pulse_of}
-use Rattle.qscript.specs.Reading.Forms.SetPrio.{setprio_of}
-use Rattle.qscript.specs.Reading.Forms.State.{state_of}
-use Rattle.qscript.specs.Reading.Forms.Destroy.{destroy_of}
-use Rattle.qscript.specs.Reading.Forms.Shutdown.{shutdown_of}
-use Rattle.qscript.specs.Reading.Forms.Unblock.{unblock_of}
-use Rattle.qscript.specs.Reading.Forms.Detach.{detach_of}
+use Rattle.qscript.specs.Reading.Steps.{◌>>=◌}
+use Rattle.qscript.specs.Reading.Forms.{id_of, small_of, shutdown_of, setprio_of, error_of, pulse_of, receive_of, send_of, reply_of, read_of, write_of}
 
 -- the verb that a word is, of a call on channels and connections
 unfoldable pub channel_verb : List ℕ → Option Verb
@@ -63,23 +49,23 @@ verb_of word = option_or (channel_verb word) (option_or (message_verb word) (thr
 
 -- the call of a verb and its operands
 abbrev pub call_by : Option Verb → List (List ℕ) → Result Call LineFault
-call_by (Some verbs.Create) operands = create_of operands
-call_by (Some verbs.Attach) operands = attach_of operands
+call_by (Some verbs.Create) operands = small_of operands >>= (λ flags. Ok (calls.ChannelCreate (record { 0 = flags })))
+call_by (Some verbs.Attach) operands = id_of operands >>= (λ channel. Ok (calls.ConnectAttach channel))
 call_by (Some verbs.Send) operands = send_of operands
 call_by (Some verbs.Receive) operands = receive_of operands
 call_by (Some verbs.Reply) operands = reply_of operands
 call_by (Some verbs.Error) operands = error_of operands
 call_by (Some verbs.Read) operands = read_of operands
 call_by (Some verbs.Write) operands = write_of operands
-call_by (Some verbs.Info) operands = info_of operands
-call_by (Some verbs.ReceivePulse) operands = receivepulse_of operands
+call_by (Some verbs.Info) operands = id_of operands >>= (λ message. Ok (calls.Info message))
+call_by (Some verbs.ReceivePulse) operands = id_of operands >>= (λ channel. Ok (calls.ReceivePulse channel))
 call_by (Some verbs.Pulse) operands = pulse_of operands
 call_by (Some verbs.SetPrio) operands = setprio_of operands
-call_by (Some verbs.State) operands = state_of operands
-call_by (Some verbs.Destroy) operands = destroy_of operands
+call_by (Some verbs.State) operands = small_of operands >>= (λ thread. Ok (calls.State thread))
+call_by (Some verbs.Destroy) operands = id_of operands >>= (λ channel. Ok (calls.ChannelDestroy channel))
 call_by (Some verbs.Shutdown) operands = shutdown_of operands
-call_by (Some verbs.Unblock) operands = unblock_of operands
-call_by (Some verbs.Detach) operands = detach_of operands
+call_by (Some verbs.Unblock) operands = small_of operands >>= (λ thread. Ok (calls.Unblock thread))
+call_by (Some verbs.Detach) operands = id_of operands >>= (λ connection. Ok (calls.ConnectDetach connection))
 call_by None operands = Err UnknownWord
 
 -- the call of a word and its operands

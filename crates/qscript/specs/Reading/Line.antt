@@ -9,7 +9,7 @@ use Rattle.qscript.specs.declared.fault.LineFault.TheVariants.{LongLine, BadByte
 use Rattle.qscript.specs.Reading.Steps.{◌>>=◌}
 use Rattle.qscript.specs.Reading.Number.{number_of}
 use Rattle.qscript.specs.Reading.Counts.{first_of}
-use Rattle.qscript.specs.Reading.Forms.Thread.{member_of}
+use Rattle.qscript.specs.Reading.Forms.{member_of}
 use Rattle.qscript.specs.Reading.Call.{call_of}
 use Rattle.qscript.specs.Reading.Words.{words_of}
 

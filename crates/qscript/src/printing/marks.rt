@@ -1,22 +1,17 @@
-//! How a call ended, in words. Each mark has a file of its own.
+//! How a call ended, in words.
 
-ghost use Rattle.std.specs.Prelude.{◌≡◌, ◌++◌, OnOk, string_bytes};
+ghost use Rattle.std.specs.Prelude.{◌≡◌, [], ◌∷◌, ◌++◌, OnOk, codes, decimal, string_bytes};
+ghost use Rattle.std.specs.Fmt.{signed_decimal};
+ghost use Rattle.qbase.specs.Errno.{word_of};
 ghost use Rattle.qscript.specs.Printing.Words.{spaced};
-ghost use Rattle.qscript.specs.Printing.Marks.{mark_words};
+ghost use Rattle.qscript.specs.Printing.Marks.{info_words, brought_words, pulse_words, told_words, mark_words};
 
-mod channel;
-mod connection;
-mod count;
-mod errored;
-mod failed;
-mod info;
-mod message;
-mod ok;
-mod pulse;
-mod replied;
-mod state;
-
-use qkernel::call::Mark;
+use crate::printing::operands::{number, numbers};
+use qbase::errno::{Errno, word};
+use qbase::priority::Priority;
+use qbase::state::ThreadState;
+use qkernel::call::{Info, Mark};
+use qqueue::item::What;
 use std::alloc::AllocError;
 
 /// The mark's words, each with a space before it.
@@ -25,20 +20,103 @@ pub fn push_mark(out: &mut String, mark: Mark) -> Result<(), AllocError>
     ensures { OnOk result (string_bytes out.new ≡ string_bytes out.old ++ spaced (mark_words mark)) }
 {
     match mark {
-        Mark::Ok => ok::push(out),
-        Mark::Failed(errno) => failed::push(out, errno),
-        Mark::Channel(chid) => channel::push(out, chid),
-        Mark::Connection(coid) => connection::push(out, coid),
-        Mark::Replied { status, copied } => replied::push(out, status, copied),
-        Mark::Message { rcvid, copied } => message::push(out, rcvid, copied),
-        Mark::Errored(code) => errored::push(out, code),
-        Mark::Count(copied) => count::push(out, copied),
-        Mark::Info(info) => info::push(out, info),
+        Mark::Ok => write!(out, " ok"),
+        Mark::Failed(errno) => push_failed(out, errno),
+        Mark::Channel(chid) => number(out, "channel", chid.0),
+        Mark::Connection(coid) => number(out, "connection", coid.0),
+        Mark::Replied { status, copied } => push_replied(out, status, copied),
+        Mark::Message { rcvid, copied } => numbers(out, "message", rcvid.0, copied as u64),
+        Mark::Errored(code) => push_errored(out, code),
+        Mark::Count(copied) => number(out, "count", copied as u64),
+        Mark::Info(info) => push_info(out, info),
         Mark::Pulse {
             item,
             priority,
             what,
-        } => pulse::push(out, item, priority, what),
-        Mark::State { state, priority } => state::push(out, state, priority),
+        } => push_pulse(out, item, priority, what),
+        Mark::State { state, priority } => push_told(out, state, priority),
+    }
+}
+
+/// `fail ERROR`
+fn push_failed(out: &mut String, errno: Errno) -> Result<(), AllocError>
+    ensures { OnOk result (string_bytes out.new ≡ string_bytes out.old ++ spaced (codes "fail" ∷ word_of errno ∷ [])) }
+{
+    let word = word(errno);
+    write!(out, " fail {word}")
+}
+
+/// `reply STATUS COPIED`
+fn push_replied(out: &mut String, status: i64, copied: usize) -> Result<(), AllocError>
+    ensures { OnOk result (string_bytes out.new ≡ string_bytes out.old ++ spaced (codes "reply" ∷ signed_decimal status ∷ decimal copied ∷ [])) }
+{
+    write!(out, " reply {status} {copied}")
+}
+
+/// `error CODE`
+fn push_errored(out: &mut String, code: i32) -> Result<(), AllocError>
+    ensures { OnOk result (string_bytes out.new ≡ string_bytes out.old ++ spaced (codes "error" ∷ signed_decimal code ∷ [])) }
+{
+    write!(out, " error {code}")
+}
+
+/// `info PROCESS THREAD CONNECTION MSGLEN SRCMSGLEN DSTMSGLEN PRIORITY`
+fn push_info(out: &mut String, info: Info) -> Result<(), AllocError>
+    ensures { OnOk result (string_bytes out.new ≡ string_bytes out.old ++ spaced (info_words info)) }
+{
+    let process = info.process.0;
+    let thread = info.thread.0;
+    let connection = info.connection.0;
+    let received = info.msglen;
+    let sent = info.srcmsglen;
+    let room = info.dstmsglen;
+    let level = info.priority.get();
+    write!(
+        out,
+        " info {process} {thread} {connection} {received} {sent} {room} {level}"
+    )
+}
+
+/// `pulse ITEM PRIORITY` and what it brings.
+fn push_pulse(out: &mut String, item: u64, priority: Priority, what: What) -> Result<(), AllocError>
+    ensures { OnOk result (string_bytes out.new ≡ string_bytes out.old ++ spaced (pulse_words item priority what)) }
+{
+    let level = priority.get();
+    write!(out, " pulse {item} {level}")?;
+    push_brought(out, what)
+}
+
+/// `user CODE VALUE`, `unblock RECEIVE_ID` or `disconnect PROCESS`. A message is none of these, and no
+/// pulse.
+fn push_brought(out: &mut String, what: What) -> Result<(), AllocError>
+    ensures { OnOk result (string_bytes out.new ≡ string_bytes out.old ++ spaced (brought_words what)) }
+{
+    match what {
+        What::Message => Ok(()),
+        What::User { code, value } => write!(out, " user {code} {value}"),
+        What::Unblock(rcvid) => number(out, "unblock", rcvid.0),
+        What::Disconnect(process) => number(out, "disconnect", u64::from(process.0)),
+    }
+}
+
+/// `state ready PRIORITY`, or `state STATE CHANNEL PRIORITY` where STATE is `send`, `receive` or `reply`.
+fn push_told(out: &mut String, state: ThreadState, priority: Priority) -> Result<(), AllocError>
+    ensures { OnOk result (string_bytes out.new ≡ string_bytes out.old ++ spaced (told_words state priority)) }
+{
+    let level = priority.get();
+    match state {
+        ThreadState::Ready => write!(out, " state ready {level}"),
+        ThreadState::SendBlocked(chid) => {
+            let chid = chid.0;
+            write!(out, " state send {chid} {level}")
+        }
+        ThreadState::ReceiveBlocked(chid) => {
+            let chid = chid.0;
+            write!(out, " state receive {chid} {level}")
+        }
+        ThreadState::ReplyBlocked(chid) => {
+            let chid = chid.0;
+            write!(out, " state reply {chid} {level}")
+        }
     }
 }

@@ -6,10 +6,11 @@ ghost use Rattle.qscript.specs.Reading.Words.{words_of};
 
 use crate::fault::{LineFault, ParseError};
 use crate::reading::forms::{
-    attach, create, destroy, detach, error, info, pulse, read, receive, receivepulse, reply, send,
-    setprio, shutdown, state, unblock, write,
+    error, one_id, one_small, pulse, read, receive, reply, send, setprio, shutdown, write,
 };
 use crate::reading::verb::{Verb, verb_named};
+use qbase::flags::ChannelFlags;
+use qbase::ids::{ChannelId, ConnectionId, ReceiveId, ThreadNo};
 use qkernel::call::Call;
 use std::alloc::Global;
 
@@ -19,23 +20,23 @@ pub fn call_named(alloc: Global, word: &[u8], operands: &[u8]) -> Result<Call, P
     ensures { Gives result (call_of word.now (words_of operands.now)) }
 {
     match verb_named(word) {
-        Some(Verb::Create) => create::call(operands),
-        Some(Verb::Attach) => attach::call(operands),
-        Some(Verb::Send) => send::call(alloc, operands),
-        Some(Verb::Receive) => receive::call(alloc, operands),
-        Some(Verb::Reply) => reply::call(alloc, operands),
-        Some(Verb::Error) => error::call(operands),
-        Some(Verb::Read) => read::call(alloc, operands),
-        Some(Verb::Write) => write::call(alloc, operands),
-        Some(Verb::Info) => info::call(operands),
-        Some(Verb::ReceivePulse) => receivepulse::call(operands),
-        Some(Verb::Pulse) => pulse::call(operands),
-        Some(Verb::SetPrio) => setprio::call(operands),
-        Some(Verb::State) => state::call(operands),
-        Some(Verb::Destroy) => destroy::call(operands),
-        Some(Verb::Shutdown) => shutdown::call(operands),
-        Some(Verb::Unblock) => unblock::call(operands),
-        Some(Verb::Detach) => detach::call(operands),
+        Some(Verb::Create) => Ok(Call::ChannelCreate(ChannelFlags::of(one_small(operands)?))),
+        Some(Verb::Attach) => Ok(Call::ConnectAttach(ChannelId(one_id(operands)?))),
+        Some(Verb::Send) => send(alloc, operands),
+        Some(Verb::Receive) => receive(alloc, operands),
+        Some(Verb::Reply) => reply(alloc, operands),
+        Some(Verb::Error) => error(operands),
+        Some(Verb::Read) => read(alloc, operands),
+        Some(Verb::Write) => write(alloc, operands),
+        Some(Verb::Info) => Ok(Call::Info(ReceiveId(one_id(operands)?))),
+        Some(Verb::ReceivePulse) => Ok(Call::ReceivePulse(ChannelId(one_id(operands)?))),
+        Some(Verb::Pulse) => pulse(operands),
+        Some(Verb::SetPrio) => setprio(operands),
+        Some(Verb::State) => Ok(Call::State(ThreadNo(one_small(operands)?))),
+        Some(Verb::Destroy) => Ok(Call::ChannelDestroy(ChannelId(one_id(operands)?))),
+        Some(Verb::Shutdown) => shutdown(operands),
+        Some(Verb::Unblock) => Ok(Call::Unblock(ThreadNo(one_small(operands)?))),
+        Some(Verb::Detach) => Ok(Call::ConnectDetach(ConnectionId(one_id(operands)?))),
         None => Err(ParseError::Fault(LineFault::UnknownWord)),
     }
 }

@@ -8,7 +8,7 @@ ghost use Rattle.qscript.specs.Reading.Words.{words_of};
 
 use crate::fault::{LineFault, ParseError};
 use crate::reading::call::call_named;
-use crate::reading::forms::thread;
+use crate::reading::forms::member;
 use crate::reading::number::small;
 use crate::reading::verb::is;
 use crate::reading::words::{first, next_word};
@@ -49,7 +49,7 @@ fn roster_line(is_late: bool, operands: &[u8]) -> Result<Line, LineFault>
     if is_late {
         return Err(LineFault::LateThread);
     }
-    let member = thread::member(operands)?;
+    let member = member(operands)?;
     Ok(Line::Roster(member))
 }
 

@@ -1,4 +1,4 @@
-//! Calls in words, by what operands they have.
+//! A name and what stands after it, each with a space before it.
 
 ghost use Rattle.std.specs.Prelude.{◌≡◌, [], ◌∷◌, ◌++◌, OnOk, decimal, string_bytes};
 ghost use Rattle.std.specs.Fmt.{signed_decimal};
