@@ -2,5 +2,6 @@ pub mod Texts
 pub mod Output
 pub mod Joining
 pub mod Runnable
+pub mod Making
 pub mod OneText
 pub mod Written

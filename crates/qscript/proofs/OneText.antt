@@ -1,5 +1,6 @@
 -- The text of a run on a new kernel.
-use Rattle.std.proofs.Common.{◌≡◌, ℕ, List, [], map, refl, ap, sym, ◌∙◌}
+use Rattle.std.proofs.Common.{◌≡◌, ℕ, ◌+◌, List, [], map, refl, ap, sym, ◌∙◌}
+use Rattle.qtables.specs.Members.{IsRoster}
 use Rattle.qtables.specs.declared.member.Member.{Member}
 use Rattle.qrules.specs.declared.call.Call.{Call}
 use Rattle.qrules.specs.declared.open_call.Blocked.{Blocked}
@@ -7,10 +8,15 @@ use Rattle.qrules.specs.Blocked.{blocked_at}
 use Rattle.qrules.specs.Lawful.{followed_by}
 use Rattle.qrules.specs.OnlyRun.{event_call}
 use Rattle.qkernel.specs.Runs.{IsWellRun}
+use Rattle.qkernel.specs.Stands.{StandsAt}
 use Rattle.qkernel.specs.State.{State}
-use Rattle.qrules.specs.Trace.{Event, Run}
+use Rattle.qkernel.proofs.Running.{headline_of}
+use Rattle.qrecords.specs.Threads.{members_of}
+use Rattle.qrules.specs.Trace.{Event, Run, Trace}
 use Rattle.qscript.specs.Enrolled.{enrolled}
 use Rattle.qscript.specs.Printing.Printed.{printed}
+use Rattle.qscript.specs.Printing.Printer.{HasPrinted, HasRun}
+use Rattle.qscript.specs.declared.printing.printer.Printer.{Printer}
 use Rattle.qscript.specs.Script.{IsTextOfRun}
 
 made_same : (n m : ℕ) (xs ys : List Event) → n ≡ m → xs ≡ ys → (let r : Run = record { first = n; events = xs } in r) ≡ record { first = m; events = ys }
@@ -33,3 +39,13 @@ text_of_run roster calls new run blocked text well told left is = record {
       let same : others ≡ blocked = ran.left ∙ ap (λ es. blocked_at (enrolled [] roster) (followed_by [] es)) events ∙ sym left in
       rw (same, is) (ap (λ r. printed r blocked) (same_run other run first events));
 }
+
+-- the same of calls that were made one after another, each printed at once
+pub text_of_calls : (roster : List Member) (calls : List (ℕ × Call)) (old new : State) (p : Printer) (blocked : List Blocked) (text : List ℕ)
+    → StandsAt (enrolled [] roster) old [] → IsRoster (members_of old.threads) → HasRun old calls new p
+    → ((members : List Member) (past : Trace) → StandsAt members new past → blocked ≡ blocked_at members past)
+    → ((run : Run) → HasPrinted run p → text ≡ printed run blocked) → IsTextOfRun roster calls text
+text_of_calls roster calls old new p blocked text stands rises made left is =
+    let run : Run = record { first = old.made + 1; events = made.events } in
+    let well = headline_of old new run.first run.events rises refl made.ran (enrolled [] roster) [] tt stands in
+    text_of_run roster calls new run blocked text well made.made (left (enrolled [] roster) (followed_by [] run.events) well.stands) (is run made.text)

@@ -5,4 +5,5 @@ pub mod Marks
 pub mod Buffer
 pub mod OpenLine
 pub mod Printed
+pub mod Printer
 pub mod Laws

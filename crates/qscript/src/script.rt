@@ -1,22 +1,27 @@
 //! A script, from a reader to a writer.
 
-ghost use Rattle.std.specs.Prelude.{◌≡◌, ℕ, [], IfOk, IfErr, OnOk, IsErrOf, false, string_bytes};
+ghost use Rattle.std.specs.Prelude.{◌≡◌, ℕ, ◌+◌, ◌≤◌, ◌^◌, [], length, IfOk, IfErr, OnOk, IsErrOf, false, string_bytes};
+ghost use Rattle.qkernel.specs.Runs.{AllKnown};
+ghost use Rattle.qrecords.specs.Threads.{members_of};
+ghost use Rattle.qscript.specs.Printing.Printer.{HasRun};
 ghost use Rattle.qscript.specs.Enrolled.{enrolled, AllJoin};
 ghost use Rattle.qscript.specs.Script.{CanRun, IsTextOfRun, IsRun, IsUnread, IsTooLong, IsFaulty, IsCut};
 ghost use Rattle.qscript.specs.Watched.{inner_of, has_faulted};
 ghost use Rattle.qscript.specs.declared.fault.LineFault.{LineFault};
 
 use crate::fault::ScriptFault;
-use crate::printing::text_of;
+use crate::printing::ended_line::shows;
+use crate::printing::printer::Printer;
 use crate::reading::script::{Script, parse};
 use crate::transfer::{read_all, write_all};
 use crate::watched::Watched;
-use qbase::errno::Errno;
+use qbase::ids::ThreadNo;
+use qkernel::call::Call;
+use qkernel::endings::Endings;
 use qkernel::kernel::Kernel;
-use qkernel::run::run;
 use qtables::member::Member;
 use qtables::roster::Roster;
-use std::alloc::Global;
+use std::alloc::{AllocError, Global};
 use std::io::{Read, Write};
 
 /// The roster of these threads.
@@ -35,15 +40,26 @@ fn roster_of(alloc: Global, members: &[Member]) -> Roster
     roster
 }
 
-/// Why a run on a new kernel fails: each caller is in the roster, and the calls are few.
-fn run_fault(errno: Errno) -> ScriptFault
-    requires { errno ≡ Errno.NoMemory }
-    ensures { result ≡ ScriptFault.NoMemory }
+/// Makes the calls in order. What each of them ends is printed at once.
+fn run_calls(
+    alloc: Global,
+    kernel: &mut Kernel,
+    printer: &mut Printer,
+    calls: Vec<(ThreadNo, Call)>,
+) -> Result<(), AllocError>
+    requires known { AllKnown (members_of kernel.old.threads) calls.items }
+    requires limit { kernel.old.made + length calls.items ≤ 2 ^ 40 }
+    requires begun { HasRun kernel.old [] kernel.old printer.old }
+    ensures { OnOk result (HasRun kernel.old calls.items kernel.new printer.new) }
 {
-    match errno {
-        Errno::NoMemory => ScriptFault::NoMemory,
-        _ => unreachable!(),
+    let mut endings: Endings = Endings::new_in(alloc);
+    'calls: for (thread, call) in calls {
+        let shows = shows(&call);
+        kernel.step(thread, call, &mut endings);
+        printer.push_event(shows, endings.as_slice())?;
+        endings.clear();
     }
+    Ok(())
 }
 
 /// The text of the run of a script on a new kernel.
@@ -55,18 +71,16 @@ fn run_text(alloc: Global, script: Script) -> Result<String, ScriptFault>
     let roster = roster_of(alloc, script.roster.as_slice());
     let mut kernel = match Kernel::new(alloc, &roster) {
         Ok(kernel) => kernel,
-        Err(errno) => return Err(run_fault(errno)),
+        Err(_) => return Err(ScriptFault::NoMemory),
     };
-    let trace = match run(&mut kernel, script.calls) {
-        Ok(trace) => trace,
-        Err(errno) => return Err(run_fault(errno)),
-    };
+    let mut printer = Printer::new(alloc, kernel.made() + 1, script.calls.len())?;
+    run_calls(alloc, &mut kernel, &mut printer, script.calls)?;
     let blocked = kernel.blocked(alloc)?;
-    let text = text_of(alloc, &trace, blocked.as_slice())?;
+    let text = printer.finish(blocked.as_slice())?;
     Ok(text)
 }
 
-/// Reads a script to its end, runs its calls on a new kernel, and writes what each of them was answered
+/// Reads a script to its end, makes its calls on a new kernel, and writes what each of them was answered
 /// and who is blocked at the end. Nothing is written before the whole text is made. Of a reader that fails
 /// and a text that is too long, the fault is what comes first.
 pub fn script<R: Read, W: Write>(

@@ -24,7 +24,7 @@ pub fn script_of(alloc: Global, roster: &[Member], run: &Trace) -> Result<String
 {
     let mut out = String::with_capacity(alloc, run.len().saturating_mul(LINE))?;
     push_roster(&mut out, roster)?;
-    push_calls(alloc, &mut out, run)?;
+    push_calls(&mut out, run)?;
     Ok(out)
 }
 
@@ -47,22 +47,22 @@ fn push_member(out: &mut String, member: Member) -> Result<(), AllocError>
     write!(out, "thread {thread} {process} {level}\n")
 }
 
-fn push_calls(alloc: Global, out: &mut String, run: &Trace) -> Result<(), AllocError>
+fn push_calls(out: &mut String, run: &Trace) -> Result<(), AllocError>
     ensures { OnOk result (string_bytes out.new ≡ string_bytes out.old ++ flat_map call_text run.now.events) }
 {
     'events: for k in 0..run.len() {
-        push_call_at(alloc, out, run, k)?;
+        push_call_at(out, run, k)?;
     }
     Ok(())
 }
 
 /// The line of the call at a place of the run, which counts from 0.
-fn push_call_at(alloc: Global, out: &mut String, run: &Trace, k: usize) -> Result<(), AllocError>
+fn push_call_at(out: &mut String, run: &Trace, k: usize) -> Result<(), AllocError>
     requires { k < length run.now.events }
     ensures { OnOk result (option_map (λ e. string_bytes out.old ++ call_text e) (slice_get run.now.events k) ≡ Some (string_bytes out.new)) }
 {
     let thread = run.thread(k).0;
     write!(out, "{thread}")?;
-    push_call(alloc, out, run.call(k))?;
+    push_call(out, run.call(k))?;
     write!(out, "\n")
 }

@@ -38,11 +38,11 @@ same_event : (run : Run) (more : List Event) (event : ℕ) (xs : List Completion
 same_event run more event [] h = refl
 same_event run more event (x ∷ xs) h = rw (same_ending run more event x h, same_event run more event xs h) refl
 
-same_texts : (run : Run) (more : List Event) (n : ℕ) (es : List Event) → n + length es ≤ run.first + length run.events → texts_from (with_more run more) n es ≡ texts_from run n es
+pub same_texts : (run : Run) (more : List Event) (n : ℕ) (es : List Event) → n + length es ≤ run.first + length run.events → texts_from (with_more run more) n es ≡ texts_from run n es
 same_texts run more n [] h = refl
 same_texts run more n (e ∷ es) h = rw (same_event run more n e.endings (omega arith), same_texts run more (n + 1) es (omega arith)) refl
 
-texts_both : (run : Run) (n : ℕ) (es more : List Event) → texts_from run n (es ++ more) ≡ texts_from run n es ++ texts_from run (n + length es) more
+pub texts_both : (run : Run) (n : ℕ) (es more : List Event) → texts_from run n (es ++ more) ≡ texts_from run n es ++ texts_from run (n + length es) more
 texts_both run n [] more = ap (λ m. texts_from run m more) (omega arith)
 texts_both run n (e ∷ es) more =
     let place : n + 1 + length es ≡ n + length (e ∷ es) = omega arith in

@@ -139,11 +139,9 @@ buffer_row bytes = elim (length bytes == 0) as (λ b. IsOneLine (cond b (codes "
   | false ↦ (hexadecimal bytes, tt)
 ]
 
-ended_row : (run : Run) (event : ℕ) (e : Completion) → AllByRecursion IsOneLine (ended_words run event e)
-ended_row run event e = elim (is_shown (call_by run event e.call)) as (λ b. AllByRecursion IsOneLine (cond b (buffer_words e.buffer) [])) [
-  | true ↦ buffer_row e.buffer
-  | false ↦ tt
-]
+ended_row : (e : Completion) (shows : Bool) → AllByRecursion IsOneLine (ended_words e shows)
+ended_row e true = buffer_row e.buffer
+ended_row e false = tt
 
 -- ---- lines
 
@@ -166,16 +164,16 @@ lines_both a b n m k e first then_more = record {
   text_is = rw (first.text_is, then_more.text_is) (sym (flat_map-append with_newline first.lines then_more.lines));
 }
 
-ending_line : (run : Run) (event : ℕ) (e : Completion) → IsOneLine (decimal event ++ spaced (decimal e.call ∷ decimal e.thread ∷ []) ++ spaced (mark_words e.mark) ++ spaced (ended_words run event e))
-ending_line run event e =
+ended_line : (event : ℕ) (e : Completion) (shows : Bool) → IsOneLine (decimal event ++ spaced (decimal e.call ∷ decimal e.thread ∷ []) ++ spaced (mark_words e.mark) ++ spaced (ended_words e shows))
+ended_line event e shows =
     let who = in_row (decimal e.call ∷ decimal e.thread ∷ []) (number e.call, (number e.thread, tt)) in
     let front = both (decimal event) (spaced (decimal e.call ∷ decimal e.thread ∷ [])) (number event) who in
     let marked = both (decimal event ++ spaced (decimal e.call ∷ decimal e.thread ∷ [])) (spaced (mark_words e.mark)) front (in_row (mark_words e.mark) (mark_row e.mark)) in
-    both (decimal event ++ spaced (decimal e.call ∷ decimal e.thread ∷ []) ++ spaced (mark_words e.mark)) (spaced (ended_words run event e)) marked (in_row (ended_words run event e) (ended_row run event e))
+    both (decimal event ++ spaced (decimal e.call ∷ decimal e.thread ∷ []) ++ spaced (mark_words e.mark)) (spaced (ended_words e shows)) marked (in_row (ended_words e shows) (ended_row e shows))
 
 event_lines : (run : Run) (event : ℕ) (xs : List Completion) → IsLines (event_text run event xs) (length xs)
 event_lines run event [] = no_lines
-event_lines run event (x ∷ xs) = one_more _ _ (length xs) _ (omega arith) (ending_line run event x) (event_lines run event xs)
+event_lines run event (x ∷ xs) = one_more _ _ (length xs) _ (omega arith) (ended_line event x (is_shown (call_by run event x.call))) (event_lines run event xs)
 
 texts_lines : (run : Run) (n : ℕ) (es : List Event) → IsLines (texts_from run n es) (endings_in es)
 texts_lines run n [] = no_lines

@@ -41,14 +41,18 @@ abbrev pub is_shown : Option Call → Bool
 is_shown None = false
 is_shown (Some call) = shows_buffer call
 
--- the words of an ended call's buffer
-abbrev pub ended_words : Run → ℕ → Completion → List (List ℕ)
-ended_words run event e = if is_shown (call_by run event e.call) then buffer_words e.buffer else []
+-- the words of an ended call's buffer, if it is printed
+abbrev pub ended_words : Completion → Bool → List (List ℕ)
+ended_words e shows = if shows then buffer_words e.buffer else []
 
--- one line: the event, the ended call, its thread, its mark and its buffer
+-- one line: the event, the ended call, its thread, its mark, and its buffer if it is printed
+abbrev pub ended_text : ℕ → Completion → Bool → List ℕ
+ended_text event e shows =
+    decimal event ++ spaced (decimal e.call ∷ decimal e.thread ∷ []) ++ spaced (mark_words e.mark) ++ spaced (ended_words e shows) ++ 10 ∷ []
+
+-- the line of an ending in a run
 abbrev pub ending_text : Run → ℕ → Completion → List ℕ
-ending_text run event e =
-    decimal event ++ spaced (decimal e.call ∷ decimal e.thread ∷ []) ++ spaced (mark_words e.mark) ++ spaced (ended_words run event e) ++ 10 ∷ []
+ending_text run event e = ended_text event e (is_shown (call_by run event e.call))
 
 -- a line for each ending of an event
 abbrev pub event_text : Run → ℕ → List Completion → List ℕ

@@ -1,18 +1,41 @@
 //! A buffer in hexadecimal digits.
 
-ghost use Rattle.std.specs.Prelude.{◌≡◌, ◌++◌, OnOk, string_bytes};
+ghost use Rattle.std.specs.Prelude.{◌≡◌, ◌++◌, ◌∷◌, [], ◌<◌, OnOk, slice_index, string_bytes};
+ghost use Rattle.std.specs.Char.{encode_utf8};
+ghost use Rattle.hex.specs.Hex.{lower_digits, encode_lower};
 ghost use Rattle.qscript.specs.Printing.Words.{spaced};
 ghost use Rattle.qscript.specs.Printing.Buffer.{buffer_words};
 
-use std::alloc::{AllocError, Global};
+use std::alloc::AllocError;
+
+const DIGITS: &[u8; 16] = b"0123456789abcdef";
+
+/// The small hexadecimal digit of a value.
+fn digit(value: u8) -> char
+    requires { value < 16 }
+    ensures { encode_utf8 result ≡ slice_index lower_digits value ∷ [] }
+{
+    char::from(DIGITS[value as usize])
+}
+
+/// Two small hexadecimal digits for each byte.
+fn push_digits(out: &mut String, bytes: &[u8]) -> Result<(), AllocError>
+    ensures { OnOk result (string_bytes out.new ≡ string_bytes out.old ++ encode_lower bytes.now) }
+{
+    'bytes: for byte in bytes {
+        out.push(digit(*byte / 16))?;
+        out.push(digit(*byte % 16))?;
+    }
+    Ok(())
+}
 
 /// The bytes in small hexadecimal digits, or `-` where there are none, with a space before them.
-pub fn push_buffer(alloc: Global, out: &mut String, bytes: &[u8]) -> Result<(), AllocError>
+pub fn push_buffer(out: &mut String, bytes: &[u8]) -> Result<(), AllocError>
     ensures { OnOk result (string_bytes out.new ≡ string_bytes out.old ++ spaced (buffer_words bytes.now)) }
 {
     if bytes.is_empty() {
         return write!(out, " -");
     }
-    let digits = hex::encode(alloc, bytes)?;
-    write!(out, " {digits}")
+    write!(out, " ")?;
+    push_digits(out, bytes)
 }

@@ -1,18 +1,18 @@
 //! The lines of an event: one for each call that ended in it.
 
-ghost use Rattle.std.specs.Prelude.{◌≡◌, ◌+◌, ◌^◌, ◌<◌, ◌≤◌, ◌++◌, length, OnOk, Some, string_bytes, slice_get};
-ghost use Rattle.std.specs.Option.{option_map};
+ghost use Rattle.std.specs.Prelude.{◌≡◌, ◌++◌, OnOk, string_bytes};
+ghost use Rattle.std.specs.List.{flat_map};
 ghost use Rattle.qscript.specs.Printing.Words.{spaced};
-ghost use Rattle.qscript.specs.Printing.Printed.{shows_buffer, call_by, is_shown, ended_words, ending_text, event_text};
+ghost use Rattle.qscript.specs.Printing.Printed.{shows_buffer, ended_words, ended_text};
+ghost use Rattle.qscript.specs.Printing.Printer.{shows_at};
 
 use crate::printing::buffer::push_buffer;
 use crate::printing::marks::push_mark;
 use qkernel::call::{Call, Completion};
-use qkernel::trace::Trace;
-use std::alloc::{AllocError, Global};
+use std::alloc::AllocError;
 
 /// Whether the call's buffer is printed when it ends.
-fn shows(call: &Call) -> bool
+pub fn shows(call: &Call) -> bool
     ensures { result ≡ shows_buffer call.now }
 {
     match call {
@@ -36,62 +36,58 @@ fn shows(call: &Call) -> bool
     }
 }
 
-/// Whether the buffer of the call of this number is printed, where it ends in an event of the run.
-fn ended_shows(run: &Trace, event: u64, number: u64) -> bool
-    requires { event < run.now.first + length run.now.events }
-    ensures { result ≡ is_shown (call_by run.now event number) }
+/// Whether the buffer of the call of this number is printed, where it is told which are from the first call on.
+fn is_shown(first: u64, shown: &[bool], number: u64) -> bool
+    ensures { result ≡ shows_at first shown.now number }
 {
-    let first = run.first();
-    if number < first || number > event {
+    if number < first {
         return false;
     }
-    shows(run.call((number - first) as usize))
+    match shown.get((number - first) as usize) {
+        Some(shows) => *shows,
+        None => false,
+    }
 }
 
-fn push_ended_buffer(
-    alloc: Global,
-    out: &mut String,
-    run: &Trace,
-    event: u64,
-    ending: &Completion,
-) -> Result<(), AllocError>
-    requires { event < run.now.first + length run.now.events }
-    ensures { OnOk result (string_bytes out.new ≡ string_bytes out.old ++ spaced (ended_words run.now event ending.now)) }
+fn push_ended_buffer(out: &mut String, ending: &Completion, shows: bool) -> Result<(), AllocError>
+    ensures { OnOk result (string_bytes out.new ≡ string_bytes out.old ++ spaced (ended_words ending.now shows)) }
 {
-    if ended_shows(run, event, ending.call) {
-        return push_buffer(alloc, out, ending.buffer.as_slice());
+    if shows {
+        return push_buffer(out, ending.buffer.as_slice());
     }
     Ok(())
 }
 
-/// `EVENT CALL THREAD MARK`, the call's buffer where it has one, and a newline.
+/// `EVENT CALL THREAD MARK`, the call's buffer if it is printed, and a newline.
 fn push_ending(
-    alloc: Global,
     out: &mut String,
-    run: &Trace,
     event: u64,
     ending: &Completion,
+    shows: bool,
 ) -> Result<(), AllocError>
-    requires { event < run.now.first + length run.now.events }
-    ensures { OnOk result (string_bytes out.new ≡ string_bytes out.old ++ ending_text run.now event ending.now) }
+    ensures { OnOk result (string_bytes out.new ≡ string_bytes out.old ++ ended_text event ending.now shows) }
 {
     let call = ending.call;
     let thread = ending.thread.0;
     write!(out, "{event} {call} {thread}")?;
     push_mark(out, ending.mark)?;
-    push_ended_buffer(alloc, out, run, event, ending)?;
+    push_ended_buffer(out, ending, shows)?;
     write!(out, "\n")
 }
 
-/// The lines of the event at a place of the run, which counts from 0.
-pub fn push_event(alloc: Global, out: &mut String, run: &Trace, k: usize) -> Result<(), AllocError>
-    requires place { k < length run.now.events }
-    requires numbers { run.now.first + length run.now.events ≤ 2 ^ 64 }
-    ensures { OnOk result (option_map (λ e. string_bytes out.old ++ event_text run.now (run.now.first + k) e.endings) (slice_get run.now.events k) ≡ Some (string_bytes out.new)) }
+/// The lines of the event of this number. Whether a buffer is printed is told for each call from the first one on.
+pub fn push_endings(
+    out: &mut String,
+    first: u64,
+    shown: &[bool],
+    event: u64,
+    endings: &[Completion],
+) -> Result<(), AllocError>
+    ensures { OnOk result (string_bytes out.new ≡ string_bytes out.old ++ flat_map (λ e. ended_text event e (shows_at first shown.now e.call)) endings.now) }
 {
-    let event = run.first() + k as u64;
-    'endings: for ending in run.endings(k) {
-        push_ending(alloc, out, run, event, ending)?;
+    'endings: for ending in endings {
+        let shows = is_shown(first, shown, ending.call);
+        push_ending(out, event, ending, shows)?;
     }
     Ok(())
 }

@@ -6,7 +6,7 @@ ghost use Rattle.qscript.specs.Printing.Buffer.{buffer_word};
 ghost use Rattle.qscript.specs.Printing.Words.{spaced};
 
 use crate::printing::buffer::push_buffer;
-use std::alloc::{AllocError, Global};
+use std::alloc::AllocError;
 
 /// `NAME NUMBER`
 pub fn number(out: &mut String, name: &str, number: u64) -> Result<(), AllocError>
@@ -23,22 +23,15 @@ pub fn numbers(out: &mut String, name: &str, first: u64, second: u64) -> Result<
 }
 
 /// `NAME NUMBER BYTES`
-pub fn bytes(
-    alloc: Global,
-    out: &mut String,
-    name: &str,
-    first: u64,
-    bytes: &[u8],
-) -> Result<(), AllocError>
+pub fn bytes(out: &mut String, name: &str, first: u64, bytes: &[u8]) -> Result<(), AllocError>
     ensures { OnOk result (string_bytes out.new ≡ string_bytes out.old ++ spaced (name.now ∷ decimal first ∷ buffer_word bytes.now ∷ [])) }
 {
     number(out, name, first)?;
-    push_buffer(alloc, out, bytes)
+    push_buffer(out, bytes)
 }
 
 /// `NAME NUMBER NUMBER BYTES`
 pub fn numbers_and_bytes(
-    alloc: Global,
     out: &mut String,
     name: &str,
     first: u64,
@@ -48,7 +41,7 @@ pub fn numbers_and_bytes(
     ensures { OnOk result (string_bytes out.new ≡ string_bytes out.old ++ spaced (name.now ∷ decimal first ∷ decimal second ∷ buffer_word bytes.now ∷ [])) }
 {
     numbers(out, name, first, second)?;
-    push_buffer(alloc, out, bytes)
+    push_buffer(out, bytes)
 }
 
 /// `NAME NUMBER INTEGER`
@@ -60,7 +53,6 @@ pub fn signed(out: &mut String, name: &str, number: u64, signed: i64) -> Result<
 
 /// `NAME NUMBER INTEGER BYTES`
 pub fn signed_and_bytes(
-    alloc: Global,
     out: &mut String,
     name: &str,
     number: u64,
@@ -70,5 +62,5 @@ pub fn signed_and_bytes(
     ensures { OnOk result (string_bytes out.new ≡ string_bytes out.old ++ spaced (name.now ∷ decimal number ∷ signed_decimal integer ∷ buffer_word bytes.now ∷ [])) }
 {
     signed(out, name, number, integer)?;
-    push_buffer(alloc, out, bytes)
+    push_buffer(out, bytes)
 }

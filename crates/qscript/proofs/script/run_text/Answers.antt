@@ -1,24 +1,29 @@
-use Rattle.std.proofs.Common.{◌≡◌, [], length, sym, ap, ◌∙◌, arith}
-use Rattle.std.proofs.lemmas.List.{length-map}
-use Rattle.qrules.specs.OnlyRun.{event_call}
+use Rattle.std.proofs.Common.{[], refl, ap, ◌∙◌, arith}
 use Rattle.qkernel.specs.Stands.{StandsAt}
 use Rattle.qscript.specs.Enrolled.{enrolled}
 use Rattle.qscript.specs.Printing.Printed.{printed}
-use Rattle.qscript.proofs.OneText.{text_of_run}
+use Rattle.qscript.proofs.OneText.{text_of_calls}
 use Rattle.qscript.proofs.script.run_text.Goals as goal
 
-pub text_of-requires : goal.text_of-requires
-text_of-requires c =
+pub run_calls-requires-clause-known : goal.run_calls-requires-clause-known
+run_calls-requires-clause-known c =
     let roster = c.roster_of-roster.ensures ∙ ap (enrolled []) c.as_slice.ensures.value in
-    let stands : StandsAt (enrolled [] c.args.script.roster.items) c.in-Ok.kernel [] = rw (← roster) c.in-Ok.ensures.stands in
-    let well = c.in-Ok-run.ensures.headline (enrolled [] c.args.script.roster.items) [] tt stands in
-    let many : length c.in-Ok-run.trace.events ≡ length c.args.script.calls.items = sym (length-map c.in-Ok-run.trace.events event_call) ∙ ap length c.in-Ok-run.ensures.told in
-    omega (arith, many, well.first, c.requires.few)
+    rw (c.in-Ok.ensures.stands.roster_is, roster) c.requires.callers
+
+pub run_calls-requires-clause-limit : goal.run_calls-requires-clause-limit
+run_calls-requires-clause-limit c = omega (arith, c.in-Ok.ensures.stands.made, c.requires.few)
+
+pub run_calls-requires-clause-begun : goal.run_calls-requires-clause-begun
+run_calls-requires-clause-begun c = record {
+  events = [];
+  ran = λ roster past lawful stands. (lawful, stands);
+  made = refl;
+  text = rw (← c.made.ensures.value) c.in_ok-printer.ensures;
+}
 
 pub returns-clause-ok : goal.returns-clause-ok
 returns-clause-ok c =
     let roster = c.roster_of-roster.ensures ∙ ap (enrolled []) c.as_slice.ensures.value in
     let stands : StandsAt (enrolled [] c.args.script.roster.items) c.in-Ok.kernel [] = rw (← roster) c.in-Ok.ensures.stands in
-    let well = c.in-Ok-run.ensures.headline (enrolled [] c.args.script.roster.items) [] tt stands in
-    let left = c.in_ok-blocked.ensures (enrolled [] c.args.script.roster.items) _ well.stands in
-    text_of_run c.args.script.roster.items c.args.script.calls.items c.run.new.kernel c.in-Ok-run.trace c.in_ok-blocked.blocked.items _ well c.in-Ok-run.ensures.told left (c.in_ok-text.ensures ∙ ap (λ b. printed c.in-Ok-run.trace b) c.as_slice-2.ensures.value)
+    text_of_calls c.args.script.roster.items c.args.script.calls.items c.in-Ok.kernel c.run_calls.new.kernel c.run_calls.new.printer c.in_ok-blocked.blocked.items _ stands c.made.ensures.sound.roster
+    c.in_ok-run_calls.ensures c.in_ok-blocked.ensures (λ run so_far. c.in_ok-text.ensures run so_far ∙ ap (λ b. printed run b) c.as_slice-2.ensures.value)

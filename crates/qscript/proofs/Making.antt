@@ -1,0 +1,70 @@
+-- Calls that are made one after another, and printed at once.
+use Rattle.std.proofs.Common.{◌≡◌, ℕ, ◌+◌, List, [], ◌∷◌, ◌++◌, length, length-append, true, refl, ap, sym, subst, ◌∙◌, arith}
+use Rattle.std.specs.Prelude.{is_some}
+use Rattle.std.proofs.lemmas.List.{length-map, map-append}
+use Rattle.qtables.specs.Members.{member_at}
+use Rattle.qtables.specs.declared.member.Member.{Member}
+use Rattle.qrules.specs.declared.call.Call.{Call}
+use Rattle.qrules.specs.declared.call.Completion.{Completion}
+use Rattle.qrules.specs.Lawful.{followed_by}
+use Rattle.qrules.specs.OnlyRun.{event_call}
+use Rattle.qrules.specs.Trace.{Event, Run}
+use Rattle.qrules.proofs.Following.{followed_push}
+use Rattle.qrecords.specs.Threads.{members_of}
+use Rattle.qkernel.specs.Runs.{RunsAtTraces, AllKnown}
+use Rattle.qkernel.specs.Stands.{AnswersAtTraces}
+use Rattle.qkernel.specs.State.{State}
+use Rattle.qscript.specs.Printing.Laws.{with_more}
+use Rattle.qscript.specs.Printing.Printed.{shows_buffer}
+use Rattle.qscript.specs.Printing.Printer.{HasPrinted, HasRun}
+use Rattle.qscript.specs.declared.printing.printer.Printer.{Printer}
+
+runs_more : (old mid new : State) (events : List Event) (e : Event) → RunsAtTraces old events mid → is_some (member_at (members_of mid.threads) e.thread) ≡ true → AnswersAtTraces mid e.thread e.call e.endings new
+    → RunsAtTraces old (events ++ e ∷ []) new
+runs_more old mid new events e run known step = λ roster past l st.
+    let now = run roster past l st in
+    let next = step roster (followed_by past events) now.0 now.1 in
+    let among : is_some (member_at roster e.thread) ≡ true = subst (λ r. is_some (member_at r e.thread) ≡ true) now.1.roster_is known in
+    rw (followed_push past events e) ((now.0, among, next.0), next.1)
+
+-- the run so far: these calls were made
+pub record Going (old : State) (calls : List (ℕ × Call)) (now : State) (p : Printer) : Type 0 where
+  pub run : HasRun old calls now p
+  pub members : members_of now.threads ≡ members_of old.threads
+  pub made : now.made ≡ old.made + length calls
+
+pub going_at_start : (old : State) (p : Printer) → HasRun old [] old p → Going old [] old p
+going_at_start old p run = record { run = run; members = refl; made = omega arith }
+
+-- how many calls the printer has noted
+pub noted_calls : (old : State) (calls : List (ℕ × Call)) (now : State) (p : Printer) → Going old calls now p → p.first + length p.shown.items ≡ old.made + 1 + length calls
+noted_calls old calls now p g =
+    let shown : length p.shown.items ≡ length g.run.events = rw (g.run.text.shown) (length-map g.run.events _) in
+    let made : length g.run.events ≡ length calls = sym (length-map g.run.events event_call) ∙ ap length g.run.made in
+    omega (arith, shown, made, g.run.text.first)
+
+-- the next call is of a thread of the roster
+pub next_known : (roster : List Member) (done todo all : List (ℕ × Call)) (q : ℕ × Call) → done ++ q ∷ todo ≡ all → AllKnown roster all → is_some (member_at roster q.0) ≡ true
+next_known roster done todo all q is known = of_part done (rw (← is) at known)
+  where
+    of_part : (before : List (ℕ × Call)) → AllKnown roster (before ++ q ∷ todo) → is_some (member_at roster q.0) ≡ true
+    of_part [] h = h.0
+    of_part (x ∷ before) h = of_part before h.1
+
+-- one call more
+pub going_more : (old : State) (calls : List (ℕ × Call)) (mid new : State) (p q : Printer) (t : ℕ) (c : Call) (X : List Completion) → Going old calls mid p
+    → is_some (member_at (members_of mid.threads) t) ≡ true → AnswersAtTraces mid t c X new → members_of new.threads ≡ members_of mid.threads → new.made ≡ mid.made + 1
+    → ((run : Run) (e : Event) → HasPrinted run p → shows_buffer e.call ≡ shows_buffer c → e.endings ≡ X → HasPrinted (with_more run (e ∷ [])) q)
+    → Going old (calls ++ (t, c) ∷ []) new q
+going_more old calls mid new p q t c X g known step members made more =
+    let e : Event = record { thread = t; call = c; endings = X } in
+    record {
+      run = record {
+        events = g.run.events ++ e ∷ [];
+        ran = runs_more old mid new g.run.events e g.run.ran known step;
+        made = map-append event_call g.run.events (e ∷ []) ∙ ap (λ cs. cs ++ (t, c) ∷ []) g.run.made;
+        text = more (record { first = old.made + 1; events = g.run.events }) e g.run.text refl refl;
+      };
+      members = members ∙ g.members;
+      made = omega (arith, made, g.made, length-append calls ((t, c) ∷ []));
+    }

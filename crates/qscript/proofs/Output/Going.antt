@@ -1,0 +1,88 @@
+-- The lines of one event more.
+use Rattle.std.proofs.Common.{◌≡◌, ℕ, zero, suc, ◌+◌, ◌-◌, ◌≤◌, ◌&&◌, Bool, true, false, cond, List, [], ◌∷◌, ◌++◌, length, length-append, map, take, length-take, nat_le, get_or, slice_get, Some, None, refl, sym, ap, ◌∙◌, append-nil, add-one, arith, string_bytes}
+use Rattle.std.proofs.lemmas.Bool.{leb-true, leb-false}
+use Rattle.std.proofs.lemmas.List.{length-map, map-append, get_or_past}
+use Rattle.std.specs.List.{flat_map}
+use Rattle.std.specs.Option.{option_map}
+use Rattle.qrules.specs.declared.call.Call.{Call}
+use Rattle.qrules.specs.declared.call.Completion.{Completion}
+use Rattle.qrules.specs.Trace.{Event, Run}
+use Rattle.qscript.specs.Printing.Laws.{with_more}
+use Rattle.qscript.specs.Printing.Printed.{shows_buffer, call_by, is_shown, ended_text, event_text, texts_from}
+use Rattle.qscript.specs.Printing.Printer.{shows_own, shows_at, HasPrinted}
+use Rattle.qscript.specs.declared.printing.printer.Printer.{Printer}
+use Rattle.qscript.proofs.Output.Extended.{same_texts, texts_both}
+
+-- ---- whether a buffer is printed
+
+shown_same : (es : List Event) (k : ℕ) → is_shown (option_map (λ (e : Event). e.call) (slice_get es k)) ≡ get_or (map shows_own es) k false
+shown_same [] k = refl
+shown_same (e ∷ es) zero = refl
+shown_same (e ∷ es) (suc k) = shown_same es k
+
+past_all : (es : List Event) (k : ℕ) → length es ≤ k → get_or (map shows_own es) k false ≡ false
+past_all es k h = get_or_past (map shows_own es) k false (omega (arith, h, length-map es shows_own))
+
+-- up to the newest event it is the list that tells it
+shows_same : (run : Run) (event number : ℕ) → event + 1 ≡ run.first + length run.events → is_shown (call_by run event number) ≡ shows_at run.first (map shows_own run.events) number
+shows_same run event number h =
+    elim (nat_le run.first number) as (λ a. nat_le run.first number ≡ a
+    → is_shown (cond (a && nat_le number event) (option_map (λ (e : Event). e.call) (slice_get run.events (number - run.first))) None)
+    ≡ (a && get_or (map shows_own run.events) (number - run.first) false)) [
+      | false ↦ λ low. refl
+      | true ↦ λ low. elim (nat_le number event) as (λ b. nat_le number event ≡ b
+          → is_shown (cond b (option_map (λ (e : Event). e.call) (slice_get run.events (number - run.first))) None)
+          ≡ get_or (map shows_own run.events) (number - run.first) false) [
+            | false ↦ λ high. sym (past_all run.events (number - run.first) (omega (arith, h, leb-true run.first number low, leb-false number event high)))
+            | true ↦ λ high. shown_same run.events (number - run.first)
+          ] refl
+    ] refl
+
+-- ---- one event more
+
+event_same : (run : Run) (event : ℕ) (xs : List Completion) → event + 1 ≡ run.first + length run.events
+    → event_text run event xs ≡ flat_map (λ x. ended_text event x (shows_at run.first (map shows_own run.events) x.call)) xs
+event_same run event [] h = refl
+event_same run event (x ∷ xs) h = rw (shows_same run event x.call h, event_same run event xs h) refl
+
+-- a run's lines with those of one event more
+texts_next : (run : Run) (e : Event)
+    → texts_from (with_more run (e ∷ [])) run.first (run.events ++ e ∷ []) ≡ texts_from run run.first run.events ++ event_text (with_more run (e ∷ [])) (run.first + length run.events) e.endings
+texts_next run e =
+    rw (texts_both (with_more run (e ∷ [])) run.first run.events (e ∷ []), same_texts run (e ∷ []) run.first run.events (omega arith), append-nil) refl
+
+pub printed_more : (run : Run) (e : Event) (p q : Printer) (shows : Bool) (endings : List Completion) (event : ℕ) (told : List Bool) → HasPrinted run p → shows_buffer e.call ≡ shows → e.endings ≡ endings
+    → q.first ≡ p.first → q.shown.items ≡ p.shown.items ++ shows ∷ [] → event ≡ p.first + length p.shown.items → told ≡ q.shown.items
+    → string_bytes q.text ≡ string_bytes p.text ++ flat_map (λ x. ended_text event x (shows_at p.first told x.call)) endings
+    → HasPrinted (with_more run (e ∷ [])) q
+printed_more run e p q shows endings event told h own ended first shown place all text =
+    let more = with_more run (e ∷ []) in
+    let here : map shows_own (run.events ++ e ∷ []) ≡ q.shown.items = map-append shows_own run.events (e ∷ []) ∙ sym (rw (shown, h.shown, own) refl) in
+    let number : event ≡ run.first + length run.events = place ∙ rw (h.first, h.shown) (omega (arith, length-map run.events shows_own)) in
+    let newest : (run.first + length run.events) + 1 ≡ run.first + length (run.events ++ e ∷ []) = omega (arith, length-append run.events (e ∷ [])) in
+    let line : event_text more (run.first + length run.events) e.endings ≡ flat_map (λ x. ended_text event x (shows_at p.first told x.call)) endings =
+    event_same more (run.first + length run.events) e.endings newest ∙ rw (here, number, h.first, ended, all) refl in
+    record {
+      first = first ∙ h.first;
+      shown = sym here;
+      text = text ∙ rw (h.text, ← line) (sym (texts_next run e));
+    }
+
+-- ---- the events of a trace
+
+-- the event at a place, with its call and its endings
+next_at : (es : List Event) (k : ℕ) (call : Call) (endings : List Completion) → option_map (λ (e : Event). e.call) (slice_get es k) ≡ Some call → option_map (λ (e : Event). e.endings) (slice_get es k) ≡ Some endings
+    → (e : Event) × (take (suc k) es ≡ take k es ++ e ∷ []) × (e.call ≡ call) × (e.endings ≡ endings)
+next_at [] k call endings h i = cc
+next_at (e ∷ es) zero call endings h i = (e, refl, (cc), (cc))
+next_at (e ∷ es) (suc k) call endings h i =
+    let more = next_at es k call endings h i in
+    (more.0, ap (λ xs. e ∷ xs) more.1, more.2, more.3)
+
+pub next_taken : (es : List Event) (k : ℕ) (call : Call) (endings : List Completion) → option_map (λ (e : Event). e.call) (slice_get es k) ≡ Some call → option_map (λ (e : Event). e.endings) (slice_get es k) ≡ Some endings
+    → (e : Event) × (take (k + 1) es ≡ take k es ++ e ∷ []) × (e.call ≡ call) × (e.endings ≡ endings)
+next_taken es k call endings h i = rw add-one (next_at es k call endings h i)
+
+-- how many calls are noted
+pub noted_so_far : (run : Run) (k : ℕ) (p : Printer) → k ≤ length run.events → HasPrinted (record { first = run.first; events = take k run.events }) p → p.first + length p.shown.items ≡ run.first + k
+noted_so_far run k p h printed = rw (printed.first, printed.shown) (omega (arith, h, length-map (take k run.events) shows_own, length-take k run.events))

@@ -1,0 +1,30 @@
+-- The text of a run, made as the run goes.
+use Rattle.std.specs.Prelude.{◌≡◌, ℕ, ◌+◌, ◌-◌, ◌&&◌, nat_le, Bool, false, List, map, slice_index_or, string_bytes}
+use Rattle.qrules.specs.OnlyRun.{event_call}
+use Rattle.qrules.specs.Trace.{Event, Run}
+use Rattle.qrules.specs.declared.call.Call.{Call}
+use Rattle.qkernel.specs.Runs.{RunsAtTraces}
+use Rattle.qkernel.specs.State.{State}
+use Rattle.qscript.specs.Printing.Printed.{shows_buffer, texts_from}
+use Rattle.qscript.specs.declared.printing.printer.Printer.{Printer}
+
+-- whether the buffer of an event's call is printed when it ends
+abbrev pub shows_own : Event → Bool
+shows_own e = shows_buffer e.call
+
+-- whether the buffer of the call of a number is printed, where it is told which are from the first number on
+abbrev pub shows_at : ℕ → List Bool → ℕ → Bool
+shows_at first shown number = nat_le first number && slice_index_or shown (number - first) false
+
+-- all lines of a run's events are printed, and of each of its calls it is known whether its buffer is printed
+pub record HasPrinted (run : Run) (p : Printer) : Type 0 where
+  pub first : p.first ≡ run.first
+  pub shown : p.shown.items ≡ map shows_own run.events
+  pub text : string_bytes p.text ≡ texts_from run run.first run.events
+
+-- these calls were made by a kernel that was in the one state and is in the other, and the lines of their events are printed
+pub record HasRun (old : State) (calls : List (ℕ × Call)) (new : State) (p : Printer) : Type 0 where
+  pub events : List Event
+  pub ran : RunsAtTraces old events new
+  pub made : map event_call events ≡ calls
+  pub text : HasPrinted (record { first = old.made + 1; events = events }) p

@@ -1,0 +1,76 @@
+//! The text of a run, made as the run goes.
+
+ghost use Rattle.std.specs.Prelude.{◌≡◌, ◌+◌, ◌^◌, ◌<◌, [], ◌∷◌, ◌++◌, length, IfOk, OnOk, string_bytes};
+ghost use Rattle.std.specs.List.{flat_map};
+ghost use Rattle.qrules.specs.Trace.{Event, Run};
+ghost use Rattle.qscript.specs.Printing.Laws.{with_more};
+ghost use Rattle.qscript.specs.Printing.OpenLine.{open_text};
+ghost use Rattle.qscript.specs.Printing.Printed.{shows_buffer, printed};
+ghost use Rattle.qscript.specs.Printing.Printer.{HasPrinted};
+
+use crate::printing::ended_line::push_endings;
+use crate::printing::open_line::push_open;
+use qkernel::call::Completion;
+use qkernel::open_call::Blocked;
+use std::alloc::{AllocError, Global};
+
+/// How many bytes are reserved for the lines of an event: as many as most have without bytes, and some more.
+const LINE: usize = 32;
+
+/// The lines of the events so far, and of which of their calls the buffer is printed when it ends. The calls
+/// themselves aren't kept.
+#[derive(Drop)]
+pub struct Printer {
+    first: u64,
+    shown: Vec<bool>,
+    text: String,
+}
+
+impl Printer {
+    /// A printer of a run whose first event has this number, with room for the lines of so many.
+    pub fn new(alloc: Global, first: u64, events: usize) -> Result<Printer, AllocError>
+        ensures { IfOk result (HasPrinted (record { first = first; events = [] })) }
+    {
+        Ok(Printer {
+            first,
+            shown: Vec::with_capacity(alloc, events)?,
+            text: String::with_capacity(alloc, events.saturating_mul(LINE))?,
+        })
+    }
+
+    /// The lines of the next event: what its call ended, where that call's own buffer is printed when it ends, or
+    /// isn't.
+    pub fn push_event(&mut self, shows: bool, endings: &[Completion]) -> Result<(), AllocError>
+        requires { self.old.first + length self.old.shown.items < 2 ^ 64 }
+        ensures { OnOk result ((run : Run) (e : Event) → HasPrinted run self.old → shows_buffer e.call ≡ shows → e.endings ≡ endings.now → HasPrinted (with_more run (e ∷ [])) self.new) }
+    {
+        let event = self.first + self.shown.len() as u64;
+        self.shown.push(shows)?;
+        push_endings(
+            &mut self.text,
+            self.first,
+            self.shown.as_slice(),
+            event,
+            endings,
+        )?;
+        Ok(())
+    }
+
+    /// The text of the whole run: its events' lines, and one for each thread that is blocked after it.
+    pub fn finish(self, blocked: &[Blocked]) -> Result<String, AllocError>
+        ensures { IfOk result (λ text. (run : Run) → HasPrinted run self → string_bytes text ≡ printed run blocked.now) }
+    {
+        let mut text = self.text;
+        push_open_lines(&mut text, blocked)?;
+        Ok(text)
+    }
+}
+
+fn push_open_lines(out: &mut String, blocked: &[Blocked]) -> Result<(), AllocError>
+    ensures { OnOk result (string_bytes out.new ≡ string_bytes out.old ++ flat_map open_text blocked.now) }
+{
+    'threads: for thread in blocked {
+        push_open(out, *thread)?;
+    }
+    Ok(())
+}
