@@ -1,4 +1,5 @@
 pub mod Tables
+pub mod Turns
 pub mod Steps
 pub mod Standing
 pub mod Room

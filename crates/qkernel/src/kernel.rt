@@ -20,6 +20,7 @@ mod reply;
 mod send;
 mod shutdown;
 mod state;
+mod turn;
 mod unblock;
 mod write;
 
@@ -28,13 +29,14 @@ use qbase::errno::Errno;
 use qbase::ids::ThreadNo;
 use qrecords::channel::Channel;
 use qrecords::endings::{Endings, refuse};
-use qrecords::thread::{Thread, is_blocked, seat_of, threads_for};
+use qrecords::thread::{Thread, is_blocked, level_of, member_of, seat_of, threads_for};
 use qrules::call::Call;
 use qtables::channels::Channels;
 use qtables::connections::Connections;
 use qtables::roster::Roster;
 use std::alloc::Global;
 use std::marker::Model;
+use turn::Turn;
 
 /// How many calls a kernel makes.
 pub const CALL_LIMIT: u64 = 1 << 40;
@@ -64,6 +66,7 @@ impl Model for Kernel {
 impl Kernel {
     ghost use Rattle.qkernel.specs.Stands.{Steps, StandsAt, AnswersAtTraces, DispatchError, LeavesIfRefused};
     ghost use Rattle.qkernel.specs.State.{IsSound};
+    ghost use Rattle.qkernel.specs.Turns.{IsTurnIn, MayCall, Makes};
 
     /// A kernel without channels, all threads of the roster ready at the priority that they begin with. The
     /// room for thread records and open calls is made here; `NoMemory` is the only error.
@@ -99,62 +102,74 @@ impl Kernel {
         }
     }
 
-    /// Makes a call of the thread at a seat that nothing refuses whichever call it is, by the call's own method.
-    fn make(&mut self, seat: usize, thread: ThreadNo, call: Call, endings: &mut Endings)
-        requires limit { self.old.made < 2 ^ 40 }
-        requires seat { seat_in self.old.threads thread ≡ Some seat }
-        requires up { self.old.down ≡ false }
-        requires free { open_in self.old.threads thread ≡ None }
-        requires none { endings.old.items ≡ [] }
-        ensures { Steps self.old thread call endings.new.items self.new }
+    /// The turn of the thread at a seat, after the calls that were made.
+    fn turn_of(&self, seat: usize, thread: ThreadNo) -> Turn
+        requires limit { self.now.made < 2 ^ 40 }
+        requires seat { seat_in self.now.threads thread ≡ Some seat }
+        ensures made { result.made ≡ self.now.made }
+        ensures thread { result.thread ≡ thread }
+        ensures caller { IsTurnIn self.now.threads result }
+    {
+        Turn {
+            made: self.made,
+            seat,
+            thread,
+            process: member_of(&self.threads, seat, thread).process,
+            priority: level_of(&self.threads, seat, thread),
+        }
+    }
+
+    /// Makes a counted call that nothing refuses whichever call it is, by the call's own method.
+    fn make(&mut self, turn: &Turn, call: Call, endings: &mut Endings)
+        requires { MayCall self.old turn.now endings.old.items }
+        ensures { Makes self.old turn.now call endings.new.items self.new }
     {
         match call {
-            Call::ChannelCreate(flags) => self.channel_create(seat, thread, flags, endings),
-            Call::ConnectAttach(chid) => self.connect_attach(seat, thread, chid, endings),
+            Call::ChannelCreate(flags) => self.channel_create(turn, flags, endings),
+            Call::ConnectAttach(chid) => self.connect_attach(turn, chid, endings),
             Call::Send {
                 coid,
                 message,
                 reply_buffer,
-            } => self.send(seat, thread, coid, message, reply_buffer, endings),
-            Call::Receive { chid, buffer } => self.receive(seat, thread, chid, buffer, endings),
+            } => self.send(turn, coid, message, reply_buffer, endings),
+            Call::Receive { chid, buffer } => self.receive(turn, chid, buffer, endings),
             Call::Reply {
                 rcvid,
                 status,
                 bytes,
-            } => self.reply(seat, thread, rcvid, status, bytes, endings),
-            Call::Error { rcvid, code } => self.error(seat, thread, rcvid, code, endings),
+            } => self.reply(turn, rcvid, status, bytes, endings),
+            Call::Error { rcvid, code } => self.error(turn, rcvid, code, endings),
             Call::Read {
                 rcvid,
                 offset,
                 buffer,
-            } => self.read(seat, thread, rcvid, offset, buffer, endings),
+            } => self.read(turn, rcvid, offset, buffer, endings),
             Call::Write {
                 rcvid,
                 offset,
                 bytes,
-            } => self.write(seat, thread, rcvid, offset, bytes, endings),
-            Call::Info(rcvid) => self.info(seat, thread, rcvid, endings),
-            Call::ReceivePulse(chid) => self.receive_pulse(seat, thread, chid, endings),
+            } => self.write(turn, rcvid, offset, bytes, endings),
+            Call::Info(rcvid) => self.info(turn, rcvid, endings),
+            Call::ReceivePulse(chid) => self.receive_pulse(turn, chid, endings),
             Call::Pulse {
                 coid,
                 priority,
                 code,
                 value,
-            } => self.pulse(seat, thread, coid, priority, code, value, endings),
+            } => self.pulse(turn, coid, priority, code, value, endings),
             Call::PrioritySet {
                 thread: target,
                 priority,
-            } => self.priority_set(seat, thread, target, priority, endings),
-            Call::State(target) => self.state(thread, target, endings),
-            Call::ChannelDestroy(chid) => self.channel_destroy(seat, thread, chid, endings),
-            Call::Shutdown => self.shutdown(thread, endings),
-            Call::Unblock(target) => self.unblock(seat, thread, target, endings),
-            Call::ConnectDetach(coid) => self.connect_detach(seat, thread, coid, endings),
+            } => self.priority_set(turn, target, priority, endings),
+            Call::State(target) => self.state(turn, target, endings),
+            Call::ChannelDestroy(chid) => self.channel_destroy(turn, chid, endings),
+            Call::Shutdown => self.shutdown(turn, endings),
+            Call::Unblock(target) => self.unblock(turn, target, endings),
+            Call::ConnectDetach(coid) => self.connect_detach(turn, coid, endings),
         }
     }
 
-    /// Makes one call of the thread at a seat: its refusals before those of the call itself, and then the
-    /// call.
+    /// Makes one call of the thread at a seat: it is counted, and then refused whichever call it is, or made.
     fn perform(&mut self, seat: usize, thread: ThreadNo, call: Call, endings: &mut Endings)
         requires limit { self.old.made < 2 ^ 40 }
         requires seat { seat_in self.old.threads thread ≡ Some seat }
@@ -162,12 +177,13 @@ impl Kernel {
         ensures { Steps self.old thread call endings.new.items self.new }
     {
         let refusal = self.refusal(seat, thread);
+        let turn = self.turn_of(seat, thread);
+        self.made += 1;
         if let Some(errno) = refusal {
-            self.made += 1;
             let buffer = call.into_buffer(self.alloc);
             refuse(endings, self.made, thread, errno, buffer);
         } else {
-            self.make(seat, thread, call, endings);
+            self.make(&turn, call, endings);
         }
     }
 

@@ -1,45 +1,37 @@
 //! ChannelCreate.
 
-ghost use Rattle.std.specs.Prelude.{◌≡◌, ◌<◌, ◌^◌, [], None, Some, false};
-ghost use Rattle.qrecords.specs.Threads.{open_in, seat_in};
-
 use super::Kernel;
+use super::turn::Turn;
 use qbase::bytes::Bytes;
 use qbase::errno::Errno;
 use qbase::flags::ChannelFlags;
-use qbase::ids::{ChannelId, ThreadNo};
+use qbase::ids::ChannelId;
 use qqueue::queue::Queue;
 use qrecords::channel::Channel;
 use qrecords::endings::{Endings, end_own, refuse};
-use qrecords::thread::member_of;
 use qrules::call::{Call, Mark};
 
 impl Kernel {
-    ghost use Rattle.qkernel.specs.Stands.{Steps};
+    ghost use Rattle.qkernel.specs.Turns.{MayCall, Makes};
 
     /// Creates a channel of the caller's process. The channel's record is all that takes memory.
-    pub(super) fn channel_create(
-        &mut self,
-        seat: usize,
-        thread: ThreadNo,
-        flags: ChannelFlags,
-        endings: &mut Endings,
-    )
-        requires limit { self.old.made < 2 ^ 40 }
-        requires seat { seat_in self.old.threads thread ≡ Some seat }
-        requires up { self.old.down ≡ false }
-        requires free { open_in self.old.threads thread ≡ None }
-        requires none { endings.old.items ≡ [] }
-        ensures { Steps self.old thread (Call.ChannelCreate flags) endings.new.items self.new }
+    pub(super) fn channel_create(&mut self, turn: &Turn, flags: ChannelFlags, endings: &mut Endings)
+        requires { MayCall self.old turn.now endings.old.items }
+        ensures { Makes self.old turn.now (Call.ChannelCreate flags) endings.new.items self.new }
     {
-        self.made += 1;
-        let number = self.made;
+        let number = turn.made + 1;
         let alloc = self.alloc;
         if !flags.is_known() {
-            return refuse(endings, number, thread, Errno::Inval, Bytes::new(alloc));
+            return refuse(
+                endings,
+                number,
+                turn.thread,
+                Errno::Inval,
+                Bytes::new(alloc),
+            );
         }
         let channel = Channel {
-            owner: member_of(&self.threads, seat, thread).process,
+            owner: turn.process,
             flags,
             queue: Queue::new(alloc),
         };
@@ -48,10 +40,10 @@ impl Kernel {
                 endings,
                 alloc,
                 number,
-                thread,
+                turn.thread,
                 Mark::Channel(ChannelId(number)),
             ),
-            Err((errno, _)) => refuse(endings, number, thread, errno, Bytes::new(alloc)),
+            Err((errno, _)) => refuse(endings, number, turn.thread, errno, Bytes::new(alloc)),
         }
     }
 }

@@ -1,44 +1,30 @@
 //! ConnectAttach.
 
-ghost use Rattle.std.specs.Prelude.{◌≡◌, ◌<◌, ◌^◌, [], None, Some, false};
-ghost use Rattle.qrecords.specs.Threads.{open_in, seat_in};
-
 use super::Kernel;
+use super::turn::Turn;
 use qbase::bytes::Bytes;
 use qbase::errno::Errno;
-use qbase::ids::{ChannelId, ConnectionId, ThreadNo};
+use qbase::ids::{ChannelId, ConnectionId};
 use qrecords::channel::is_open;
 use qrecords::endings::{Endings, end_own, refuse};
-use qrecords::thread::member_of;
 use qrules::call::{Call, Mark};
 use qtables::connection::Connection;
 
 impl Kernel {
-    ghost use Rattle.qkernel.specs.Stands.{Steps};
+    ghost use Rattle.qkernel.specs.Turns.{MayCall, Makes};
 
     /// Attaches the caller's process to an open channel. The connection's record is all that takes memory.
-    pub(super) fn connect_attach(
-        &mut self,
-        seat: usize,
-        thread: ThreadNo,
-        chid: ChannelId,
-        endings: &mut Endings,
-    )
-        requires limit { self.old.made < 2 ^ 40 }
-        requires seat { seat_in self.old.threads thread ≡ Some seat }
-        requires up { self.old.down ≡ false }
-        requires free { open_in self.old.threads thread ≡ None }
-        requires none { endings.old.items ≡ [] }
-        ensures { Steps self.old thread (Call.ConnectAttach chid) endings.new.items self.new }
+    pub(super) fn connect_attach(&mut self, turn: &Turn, chid: ChannelId, endings: &mut Endings)
+        requires { MayCall self.old turn.now endings.old.items }
+        ensures { Makes self.old turn.now (Call.ConnectAttach chid) endings.new.items self.new }
     {
-        self.made += 1;
-        let number = self.made;
+        let number = turn.made + 1;
         let alloc = self.alloc;
         if !is_open(&self.channels, chid) {
-            return refuse(endings, number, thread, Errno::Srch, Bytes::new(alloc));
+            return refuse(endings, number, turn.thread, Errno::Srch, Bytes::new(alloc));
         }
         let connection = Connection {
-            process: member_of(&self.threads, seat, thread).process,
+            process: turn.process,
             channel: chid,
         };
         match self.connections.create(ConnectionId(number), connection) {
@@ -46,10 +32,10 @@ impl Kernel {
                 endings,
                 alloc,
                 number,
-                thread,
+                turn.thread,
                 Mark::Connection(ConnectionId(number)),
             ),
-            Err((errno, _)) => refuse(endings, number, thread, errno, Bytes::new(alloc)),
+            Err((errno, _)) => refuse(endings, number, turn.thread, errno, Bytes::new(alloc)),
         }
     }
 }

@@ -1,17 +1,16 @@
 //! Error.
 
-ghost use Rattle.std.specs.Prelude.{◌≡◌, ◌<◌, ◌^◌, [], None, Some, false};
+ghost use Rattle.std.specs.Prelude.{◌≡◌};
 ghost use Rattle.qrules.specs.Calls.Error.{errored, mark_of};
 ghost use Rattle.qrules.specs.Held.{finished};
-ghost use Rattle.qrecords.specs.Threads.{open_in, seat_in};
 
 use super::Kernel;
+use super::turn::Turn;
 use qbase::bytes::Bytes;
 use qbase::errno::Errno;
 use qbase::ids::{ReceiveId, ThreadNo};
 use qrecords::endings::{Endings, end_two, own_ending, refuse};
 use qrecords::held::{held_seat, take_sent};
-use qrecords::thread::member_of;
 use qrules::call::{Call, Completion, Mark};
 use qrules::open_call::{OpenCall, Wait};
 
@@ -46,43 +45,30 @@ fn errored_to(call: Option<OpenCall>, thread: ThreadNo, code: i32) -> Option<Com
 }
 
 impl Kernel {
-    ghost use Rattle.qkernel.specs.Stands.{Steps};
+    ghost use Rattle.qkernel.specs.Turns.{MayCall, Makes};
 
     /// Answers a held message with a code and no bytes: its sender's call ends. Never blocks, and takes no
     /// memory.
-    pub(super) fn error(
-        &mut self,
-        seat: usize,
-        thread: ThreadNo,
-        rcvid: ReceiveId,
-        code: i32,
-        endings: &mut Endings,
-    )
-        requires limit { self.old.made < 2 ^ 40 }
-        requires seat { seat_in self.old.threads thread ≡ Some seat }
-        requires up { self.old.down ≡ false }
-        requires free { open_in self.old.threads thread ≡ None }
-        requires none { endings.old.items ≡ [] }
-        ensures { Steps self.old thread (Call.Error rcvid code) endings.new.items self.new }
+    pub(super) fn error(&mut self, turn: &Turn, rcvid: ReceiveId, code: i32, endings: &mut Endings)
+        requires { MayCall self.old turn.now endings.old.items }
+        ensures { Makes self.old turn.now (Call.Error rcvid code) endings.new.items self.new }
     {
-        self.made += 1;
-        let number = self.made;
+        let number = turn.made + 1;
         let alloc = self.alloc;
-        let process = member_of(&self.threads, seat, thread).process;
         let Some(held) = held_seat(
             &self.threads,
             &self.connections,
             &self.channels,
-            process,
+            turn.process,
             rcvid,
         ) else {
-            return refuse(endings, number, thread, Errno::Srch, Bytes::new(alloc));
+            return refuse(endings, number, turn.thread, Errno::Srch, Bytes::new(alloc));
         };
         let (client, call) = take_sent(&mut self.threads, held, rcvid.0);
         let Some(ended) = errored_to(call, client, code) else {
             unreachable!();
         };
-        let mine = own_ending(alloc, number, thread, Mark::Ok);
+        let mine = own_ending(alloc, number, turn.thread, Mark::Ok);
         end_two(endings, mine, ended);
     }
 }

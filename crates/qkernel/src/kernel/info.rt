@@ -1,51 +1,36 @@
 //! Info.
 
-ghost use Rattle.std.specs.Prelude.{◌≡◌, ◌<◌, ◌^◌, [], None, Some, false};
-ghost use Rattle.qrecords.specs.Threads.{open_in, seat_in};
-
 use super::Kernel;
+use super::turn::Turn;
 use qbase::bytes::Bytes;
 use qbase::errno::Errno;
-use qbase::ids::{ReceiveId, ThreadNo};
+use qbase::ids::ReceiveId;
 use qrecords::endings::{Endings, end_own, refuse};
 use qrecords::held::held_seat;
-use qrecords::thread::member_of;
 use qrules::call::{Call, Mark};
 
 impl Kernel {
-    ghost use Rattle.qkernel.specs.Stands.{Steps};
+    ghost use Rattle.qkernel.specs.Turns.{MayCall, Makes};
 
     /// Tells of a held message. Changes nothing, never blocks, and takes no memory.
-    pub(super) fn info(
-        &mut self,
-        seat: usize,
-        thread: ThreadNo,
-        rcvid: ReceiveId,
-        endings: &mut Endings,
-    )
-        requires limit { self.old.made < 2 ^ 40 }
-        requires seat { seat_in self.old.threads thread ≡ Some seat }
-        requires up { self.old.down ≡ false }
-        requires free { open_in self.old.threads thread ≡ None }
-        requires none { endings.old.items ≡ [] }
-        ensures { Steps self.old thread (Call.Info rcvid) endings.new.items self.new }
+    pub(super) fn info(&mut self, turn: &Turn, rcvid: ReceiveId, endings: &mut Endings)
+        requires { MayCall self.old turn.now endings.old.items }
+        ensures { Makes self.old turn.now (Call.Info rcvid) endings.new.items self.new }
     {
-        self.made += 1;
-        let number = self.made;
+        let number = turn.made + 1;
         let alloc = self.alloc;
-        let process = member_of(&self.threads, seat, thread).process;
         let Some(held) = held_seat(
             &self.threads,
             &self.connections,
             &self.channels,
-            process,
+            turn.process,
             rcvid,
         ) else {
-            return refuse(endings, number, thread, Errno::Srch, Bytes::new(alloc));
+            return refuse(endings, number, turn.thread, Errno::Srch, Bytes::new(alloc));
         };
         let Some(info) = self.threads[held].info() else {
             unreachable!();
         };
-        end_own(endings, alloc, number, thread, Mark::Info(info));
+        end_own(endings, alloc, number, turn.thread, Mark::Info(info));
     }
 }

@@ -1,44 +1,35 @@
 //! PrioritySet.
 
-ghost use Rattle.std.specs.Prelude.{◌≡◌, ◌<◌, ◌^◌, [], None, Some, false};
-ghost use Rattle.qrecords.specs.Threads.{open_in, seat_in};
-
 use super::Kernel;
+use super::turn::Turn;
 use qbase::bytes::Bytes;
 use qbase::errno::Errno;
 use qbase::ids::ThreadNo;
 use qbase::priority::Priority;
 use qrecords::endings::{Endings, end_own, refuse};
-use qrecords::thread::{member_of, seat_in_process, set_level};
+use qrecords::thread::{seat_in_process, set_level};
 use qrecords::unread::requeue_unread;
 use qrules::call::{Call, Mark};
 
 impl Kernel {
-    ghost use Rattle.qkernel.specs.Stands.{Steps};
+    ghost use Rattle.qkernel.specs.Turns.{MayCall, Makes};
 
     /// Gives a thread of the caller's process another priority, and with it the message that it is SEND-blocked
     /// with. Never blocks, and takes no memory.
     pub(super) fn priority_set(
         &mut self,
-        seat: usize,
-        thread: ThreadNo,
+        turn: &Turn,
         target: ThreadNo,
         priority: Priority,
         endings: &mut Endings,
     )
-        requires limit { self.old.made < 2 ^ 40 }
-        requires seat { seat_in self.old.threads thread ≡ Some seat }
-        requires up { self.old.down ≡ false }
-        requires free { open_in self.old.threads thread ≡ None }
-        requires none { endings.old.items ≡ [] }
-        ensures { Steps self.old thread (Call.PrioritySet target priority) endings.new.items self.new }
+        requires { MayCall self.old turn.now endings.old.items }
+        ensures { Makes self.old turn.now (Call.PrioritySet target priority) endings.new.items self.new }
     {
-        self.made += 1;
-        let number = self.made;
+        let number = turn.made + 1;
         let alloc = self.alloc;
-        let process = member_of(&self.threads, seat, thread).process;
-        let Some(there) = seat_in_process(&self.threads, process, target) else {
-            return refuse(endings, number, thread, Errno::Srch, Bytes::new(alloc));
+        let Some(there) = seat_in_process(&self.threads, turn.process, target) else {
+            return refuse(endings, number, turn.thread, Errno::Srch, Bytes::new(alloc));
         };
         requeue_unread(
             &self.threads,
@@ -49,6 +40,6 @@ impl Kernel {
             priority,
         );
         set_level(&mut self.threads, there, target, Some(priority));
-        end_own(endings, alloc, number, thread, Mark::Ok);
+        end_own(endings, alloc, number, turn.thread, Mark::Ok);
     }
 }

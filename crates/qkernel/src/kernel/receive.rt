@@ -1,81 +1,74 @@
 //! Receive, and what it shares with ReceivePulse.
 
-ghost use Rattle.std.specs.Prelude.{◌≡◌, ◌<◌, ◌^◌, [], None, Some, false};
+ghost use Rattle.std.specs.Prelude.{◌≡◌, []};
 ghost use Rattle.qrules.specs.Receiving.{receive_of};
-ghost use Rattle.qrecords.specs.Threads.{open_in, seat_in};
 
 use super::Kernel;
+use super::turn::Turn;
 use qbase::bytes::Bytes;
 use qbase::errno::Errno;
-use qbase::ids::{ChannelId, ThreadNo};
+use qbase::ids::ChannelId;
 use qqueue::item::Kind;
 use qrecords::channel::{carried, owns, take_best};
 use qrecords::endings::{Endings, end_one, refuse};
-use qrecords::thread::{block, hand_item, member_of, set_level};
+use qrecords::thread::{block, hand_item, set_level};
 use qrules::call::{Call, Completion};
 use qrules::open_call::{OpenCall, Wait};
 
 impl Kernel {
-    ghost use Rattle.qkernel.specs.Stands.{Steps};
+    ghost use Rattle.qkernel.specs.Turns.{MayCall, Makes};
 
     /// Takes the best message or pulse of a channel, or blocks until one comes; takes no memory.
     pub(super) fn receive(
         &mut self,
-        seat: usize,
-        thread: ThreadNo,
+        turn: &Turn,
         chid: ChannelId,
         buffer: Bytes,
         endings: &mut Endings,
     )
-        requires limit { self.old.made < 2 ^ 40 }
-        requires seat { seat_in self.old.threads thread ≡ Some seat }
-        requires up { self.old.down ≡ false }
-        requires free { open_in self.old.threads thread ≡ None }
-        requires none { endings.old.items ≡ [] }
-        ensures { Steps self.old thread (Call.Receive chid buffer) endings.new.items self.new }
+        requires may { MayCall self.old turn.now endings.old.items }
+        ensures { Makes self.old turn.now (Call.Receive chid buffer) endings.new.items self.new }
     {
-        self.receive_kind(seat, thread, chid, Kind::Any, buffer, endings);
+        self.receive_kind(turn, chid, Kind::Any, buffer, endings);
     }
 
     /// Takes the best item that a kind may take, or blocks until one comes; takes no memory.
     pub(super) fn receive_kind(
         &mut self,
-        seat: usize,
-        thread: ThreadNo,
+        turn: &Turn,
         chid: ChannelId,
         kind: Kind,
         buffer: Bytes,
         endings: &mut Endings,
     )
-        requires limit { self.old.made < 2 ^ 40 }
-        requires seat { seat_in self.old.threads thread ≡ Some seat }
-        requires up { self.old.down ≡ false }
-        requires free { open_in self.old.threads thread ≡ None }
-        requires none { endings.old.items ≡ [] }
+        requires may { MayCall self.old turn.now endings.old.items }
         requires buffer { kind ≡ Kind.PulseOnly → buffer ≡ [] }
-        ensures { Steps self.old thread (receive_of kind chid buffer) endings.new.items self.new }
+        ensures { Makes self.old turn.now (receive_of kind chid buffer) endings.new.items self.new }
     {
-        self.made += 1;
-        let number = self.made;
-        let process = member_of(&self.threads, seat, thread).process;
-        if !owns(&self.channels, process, chid) {
-            return refuse(endings, number, thread, Errno::Srch, buffer);
+        let number = turn.made + 1;
+        if !owns(&self.channels, turn.process, chid) {
+            return refuse(endings, number, turn.thread, Errno::Srch, buffer);
         }
         match take_best(&mut self.channels, chid, kind) {
             None => {
                 let wait = Wait::Item { chid, kind, buffer };
-                block(&mut self.threads, seat, thread, OpenCall { number, wait });
+                block(
+                    &mut self.threads,
+                    turn.seat,
+                    turn.thread,
+                    OpenCall { number, wait },
+                );
             }
             Some(item) => {
                 let mut buffer = buffer;
                 let level = carried(&self.channels, chid, item.priority);
                 let mark = hand_item(&mut self.threads, item, &mut buffer);
-                set_level(&mut self.threads, seat, thread, level);
+                set_level(&mut self.threads, turn.seat, turn.thread, level);
                 end_one(
                     endings,
                     Completion {
                         call: number,
-                        thread,
+                        thread: turn.thread,
                         mark,
                         buffer,
                     },

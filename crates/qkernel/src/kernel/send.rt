@@ -1,18 +1,18 @@
 //! Send.
 
-ghost use Rattle.std.specs.Prelude.{◌≡◌, ◌<◌, ◌^◌, [], None, Some, false, option_map, IfSome};
+ghost use Rattle.std.specs.Prelude.{◌≡◌, Some, false, option_map, IfSome};
 ghost use Rattle.qqueue.specs.Best.{is_pulse};
 ghost use Rattle.qrules.specs.Rows.{takes, received};
-ghost use Rattle.qrecords.specs.Threads.{open_in, seat_in};
 
 use super::Kernel;
+use super::turn::Turn;
 use qbase::bytes::Bytes;
 use qbase::errno::Errno;
 use qbase::ids::{ConnectionId, ReceiveId, ThreadNo};
 use qqueue::item::{Item, What};
 use qrecords::channel::{carried, enqueue, way};
 use qrecords::endings::{Endings, end_one, refuse};
-use qrecords::thread::{block, level_of, member_of, newest_receiver, wake};
+use qrecords::thread::{block, newest_receiver, wake};
 use qrules::call::{Call, Completion, Mark};
 use qrules::open_call::{OpenCall, Receipt, Wait};
 
@@ -52,47 +52,39 @@ fn taken(
 }
 
 impl Kernel {
-    ghost use Rattle.qkernel.specs.Stands.{Steps};
+    ghost use Rattle.qkernel.specs.Turns.{MayCall, Makes};
 
     /// Sends a message: to the receiver that began to wait last, or into the channel's queue, whose room is
     /// all that takes memory. The caller stays blocked until it is answered.
     pub(super) fn send(
         &mut self,
-        seat: usize,
-        thread: ThreadNo,
+        turn: &Turn,
         coid: ConnectionId,
         message: Bytes,
         reply_buffer: Bytes,
         endings: &mut Endings,
     )
-        requires limit { self.old.made < 2 ^ 40 }
-        requires seat { seat_in self.old.threads thread ≡ Some seat }
-        requires up { self.old.down ≡ false }
-        requires free { open_in self.old.threads thread ≡ None }
-        requires none { endings.old.items ≡ [] }
-        ensures { Steps self.old thread (Call.Send coid message reply_buffer) endings.new.items self.new }
+        requires { MayCall self.old turn.now endings.old.items }
+        ensures { Makes self.old turn.now (Call.Send coid message reply_buffer) endings.new.items self.new }
     {
-        self.made += 1;
-        let number = self.made;
-        let process = member_of(&self.threads, seat, thread).process;
-        let Some(chid) = way(&self.connections, &self.channels, process, coid) else {
-            return refuse(endings, number, thread, Errno::Badf, reply_buffer);
+        let number = turn.made + 1;
+        let Some(chid) = way(&self.connections, &self.channels, turn.process, coid) else {
+            return refuse(endings, number, turn.thread, Errno::Badf, reply_buffer);
         };
-        let priority = level_of(&self.threads, seat, thread);
         let item = Item {
             number,
-            priority,
+            priority: turn.priority,
             what: What::Message,
         };
         let receipt = match newest_receiver(&self.threads, chid, &item) {
             None => {
                 if let Err(errno) = enqueue(&mut self.channels, chid, item) {
-                    return refuse(endings, number, thread, errno, reply_buffer);
+                    return refuse(endings, number, turn.thread, errno, reply_buffer);
                 }
                 None
             }
             Some(receiver) => {
-                let level = carried(&self.channels, chid, priority);
+                let level = carried(&self.channels, chid, turn.priority);
                 let call = wake(&mut self.threads, receiver, level);
                 let Some(met) = taken(call, receiver, &item, &message) else {
                     unreachable!();
@@ -100,7 +92,7 @@ impl Kernel {
                 let (completion, copied) = met;
                 end_one(endings, completion);
                 Some(Receipt {
-                    priority,
+                    priority: turn.priority,
                     copied,
                     unblocked: false,
                 })
@@ -112,6 +104,11 @@ impl Kernel {
             reply_buffer,
             receipt,
         };
-        block(&mut self.threads, seat, thread, OpenCall { number, wait });
+        block(
+            &mut self.threads,
+            turn.seat,
+            turn.thread,
+            OpenCall { number, wait },
+        );
     }
 }

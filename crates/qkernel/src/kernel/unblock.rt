@@ -1,10 +1,10 @@
 //! Unblock.
 
-ghost use Rattle.std.specs.Prelude.{◌≡◌, ◌<◌, ◌^◌, [], None, Some, false};
+ghost use Rattle.std.specs.Prelude.{◌≡◌};
 ghost use Rattle.qrules.specs.Rows.{unblock_item};
-ghost use Rattle.qrecords.specs.Threads.{open_in, seat_in};
 
 use super::Kernel;
+use super::turn::Turn;
 use qbase::bytes::Bytes;
 use qbase::errno::Errno;
 use qbase::ids::ThreadNo;
@@ -13,7 +13,7 @@ use qrecords::cutting::{Cut, cut_calls};
 use qrecords::endings::{Endings, end_one, end_with, own_ending, refuse};
 use qrecords::held::{Held, guarded, mark_unblocked};
 use qrecords::pulses::send_pulse;
-use qrecords::thread::{member_of, seat_in_process};
+use qrecords::thread::seat_in_process;
 use qrules::call::{Call, Mark};
 
 /// The pulse that tells of a held message whose sender is to be unblocked.
@@ -28,34 +28,22 @@ fn pulse_for(number: u64, held: &Held) -> Item
 }
 
 impl Kernel {
-    ghost use Rattle.qkernel.specs.Stands.{Steps};
+    ghost use Rattle.qkernel.specs.Turns.{MayCall, Makes};
 
     /// Ends what a thread of the caller's process is blocked in, with `Intr`; but a message that is held on a
     /// channel with the unblock flag stays, and its server gets a pulse, once. Of a thread that isn't blocked
     /// nothing changes. It stands for a signal or a timeout: our own profile. Never blocks, and takes memory
     /// for a pulse that waits alone.
-    pub(super) fn unblock(
-        &mut self,
-        seat: usize,
-        thread: ThreadNo,
-        target: ThreadNo,
-        endings: &mut Endings,
-    )
-        requires limit { self.old.made < 2 ^ 40 }
-        requires seat { seat_in self.old.threads thread ≡ Some seat }
-        requires up { self.old.down ≡ false }
-        requires free { open_in self.old.threads thread ≡ None }
-        requires none { endings.old.items ≡ [] }
-        ensures { Steps self.old thread (Call.Unblock target) endings.new.items self.new }
+    pub(super) fn unblock(&mut self, turn: &Turn, target: ThreadNo, endings: &mut Endings)
+        requires { MayCall self.old turn.now endings.old.items }
+        ensures { Makes self.old turn.now (Call.Unblock target) endings.new.items self.new }
     {
-        self.made += 1;
-        let number = self.made;
+        let number = turn.made + 1;
         let alloc = self.alloc;
-        let process = member_of(&self.threads, seat, thread).process;
-        let Some(there) = seat_in_process(&self.threads, process, target) else {
-            return refuse(endings, number, thread, Errno::Srch, Bytes::new(alloc));
+        let Some(there) = seat_in_process(&self.threads, turn.process, target) else {
+            return refuse(endings, number, turn.thread, Errno::Srch, Bytes::new(alloc));
         };
-        let own = own_ending(alloc, number, thread, Mark::Ok);
+        let own = own_ending(alloc, number, turn.thread, Mark::Ok);
         let Some(guarded) = guarded(
             &self.threads,
             &self.connections,
@@ -83,7 +71,7 @@ impl Kernel {
                 mark_unblocked(&mut self.threads, there, target);
                 end_with(endings, own, met);
             }
-            Err(errno) => refuse(endings, number, thread, errno, Bytes::new(alloc)),
+            Err(errno) => refuse(endings, number, turn.thread, errno, Bytes::new(alloc)),
         }
     }
 }

@@ -11,81 +11,71 @@ use Rattle.qkernel.proofs.Steps.Told.{is_told, made_for, newest_due}
 
 pub cut_calls-requires-clause-few : goal.cut_calls-requires-clause-few
 cut_calls-requires-clause-few c =
-    let new = new_pulse (c.self.inside.made + 1) c.level_of-priority.result c.member_of-process.result.process c.tells_detached-last.result c.pulse_for-due.result c.pulse_for-due.ensures in
-    (sound_due _ c.in-Some.chid c.pulse_for-due.result _ _ c.in-Ok.met c.self.invariant new c.in-Ok.ensures.ok).few
+    let may = rw (← c.self.view_is) at c.requires in
+    let new = new_pulse (c.args.turn.now.made + 1) c.args.turn.now.priority c.args.turn.now.process c.tells_detached-last.result c.pulse_for-due.result c.pulse_for-due.ensures in
+    (sound_due _ c.in-Some.chid c.pulse_for-due.result _ _ c.in-Ok.met may.sound new c.in-Ok.ensures.ok).few
 
 pub end_also-requires : goal.end_also-requires
 end_also-requires c =
-    let up = rw (← c.self.view_is) at c.requires.up in
-    let free = rw (← c.self.view_is) at c.requires.free in
-    let known = rw c.deref.ensures.value at c.member_of-process.ensures in
-    let of = own_parts c.member_of-process.result.process c.in-Some.chid _ (sym c.own_connection.ensures ∙ c.in-Some.is) in
-    let priority = rw c.deref-2.ensures.value at c.level_of-priority.ensures in
+    let may = rw (← c.self.view_is) at c.requires in
+    let of = own_parts c.args.turn.now.process c.in-Some.chid _ (sym c.own_connection.ensures ∙ c.in-Some.is) in
     let d = c.pulse_for-due.result in
-    let pulsed = c.pulse_for-due.ensures ∙ ap (λ p. cond c.tells_detached-last.result (Some (disconnect_item (c.self.inside.made + 1) p c.member_of-process.result.process)) None) priority in
-    let due = due_is _ c.args.thread c.args.coid c.member_of-process.result known up free c.in-Some.chid of c.tells_detached-last.result c.self.invariant c.tells_detached-last.ensures ∙ ap (made_for c.in-Some.chid) (sym pulsed) in
-    let new = new_pulse (c.self.inside.made + 1) c.level_of-priority.result c.member_of-process.result.process c.tells_detached-last.result d c.pulse_for-due.ensures in
-    let told = is_told _ c.args.thread c.in-Some.chid d _ _ c.in-Ok.met c.self.invariant free new c.in-Ok.ensures.ok in
-    rw (rw c.own_ending.ensures at c.cut_calls.ensures.endings) (room_for_one _ c.args.thread c.args.coid c.member_of-process.result known up free c.in-Some.chid of d due c.self.invariant _ _ c.in-Ok.met told c.self.invariant.few)
+    let pulsed = c.pulse_for-due.ensures ∙ ap (λ p. cond c.tells_detached-last.result (Some (disconnect_item (c.args.turn.now.made + 1) p c.args.turn.now.process)) None) may.caller.priority in
+    let due = due_is _ c.args.turn.now.thread c.args.coid _ may.caller.known may.up may.free c.in-Some.chid of c.tells_detached-last.result may.sound c.tells_detached-last.ensures ∙ ap (made_for c.in-Some.chid) (sym pulsed) in
+    let new = new_pulse (c.args.turn.now.made + 1) c.args.turn.now.priority c.args.turn.now.process c.tells_detached-last.result d c.pulse_for-due.ensures in
+    let told = is_told _ c.args.turn.now.thread c.in-Some.chid d _ _ c.in-Ok.met may.sound may.free new c.in-Ok.ensures.ok in
+    rw (rw c.own_ending.ensures at c.cut_calls.ensures.endings) (room_for_one _ c.args.turn.now.thread c.args.coid _ may.caller.known may.up may.free c.in-Some.chid of d due may.sound _ _ c.in-Ok.met told may.sound.few)
 
 pub invariant_of-self-2 : goal.invariant_of-self-2
 invariant_of-self-2 c =
-    let up = rw (← c.self.view_is) at c.requires.up in
-    let free = rw (← c.self.view_is) at c.requires.free in
-    let known = rw c.deref.ensures.value at c.member_of-process.ensures in
-    let of = own_parts c.member_of-process.result.process c.in-Some.chid _ (sym c.own_connection.ensures ∙ c.in-Some.is) in
-    let priority = rw c.deref-2.ensures.value at c.level_of-priority.ensures in
+    let may = rw (← c.self.view_is) at c.requires in
+    let of = own_parts c.args.turn.now.process c.in-Some.chid _ (sym c.own_connection.ensures ∙ c.in-Some.is) in
     let d = c.pulse_for-due.result in
-    let pulsed = c.pulse_for-due.ensures ∙ ap (λ p. cond c.tells_detached-last.result (Some (disconnect_item (c.self.inside.made + 1) p c.member_of-process.result.process)) None) priority in
-    let due = due_is _ c.args.thread c.args.coid c.member_of-process.result known up free c.in-Some.chid of c.tells_detached-last.result c.self.invariant c.tells_detached-last.ensures ∙ ap (made_for c.in-Some.chid) (sym pulsed) in
-    let new = new_pulse (c.self.inside.made + 1) c.level_of-priority.result c.member_of-process.result.process c.tells_detached-last.result d c.pulse_for-due.ensures in
-    let told = is_told _ c.args.thread c.in-Some.chid d _ _ c.in-Ok.met c.self.invariant free new c.in-Ok.ensures.ok in
-    rw (c.remove.ensures.after) (sound_detached _ c.args.thread c.args.coid c.member_of-process.result known up free c.in-Some.chid of d due c.self.invariant _ _ c.in-Ok.met told _ _ c.cut_calls.ensures.threads c.cut_calls.ensures.channels
-    (sound_due _ c.in-Some.chid d _ _ c.in-Ok.met c.self.invariant new c.in-Ok.ensures.ok))
+    let pulsed = c.pulse_for-due.ensures ∙ ap (λ p. cond c.tells_detached-last.result (Some (disconnect_item (c.args.turn.now.made + 1) p c.args.turn.now.process)) None) may.caller.priority in
+    let due = due_is _ c.args.turn.now.thread c.args.coid _ may.caller.known may.up may.free c.in-Some.chid of c.tells_detached-last.result may.sound c.tells_detached-last.ensures ∙ ap (made_for c.in-Some.chid) (sym pulsed) in
+    let new = new_pulse (c.args.turn.now.made + 1) c.args.turn.now.priority c.args.turn.now.process c.tells_detached-last.result d c.pulse_for-due.ensures in
+    let told = is_told _ c.args.turn.now.thread c.in-Some.chid d _ _ c.in-Ok.met may.sound may.free new c.in-Ok.ensures.ok in
+    rw (may.counted, c.remove.ensures.after) (sound_detached _ c.args.turn.now.thread c.args.coid _ may.caller.known may.up may.free c.in-Some.chid of d due may.sound _ _ c.in-Ok.met told _ _ c.cut_calls.ensures.threads c.cut_calls.ensures.channels
+    (sound_due _ c.in-Some.chid d _ _ c.in-Ok.met may.sound new c.in-Ok.ensures.ok))
 
 pub returns : goal.returns
 returns c =
-    let up = rw (← c.self.view_is) at c.requires.up in
-    let free = rw (← c.self.view_is) at c.requires.free in
-    let known = rw c.deref.ensures.value at c.member_of-process.ensures in
-    let of = own_parts c.member_of-process.result.process c.in-Some.chid _ (sym c.own_connection.ensures ∙ c.in-Some.is) in
-    let priority = rw c.deref-2.ensures.value at c.level_of-priority.ensures in
+    let may = rw (← c.self.view_is) at c.requires in
+    let of = own_parts c.args.turn.now.process c.in-Some.chid _ (sym c.own_connection.ensures ∙ c.in-Some.is) in
     let d = c.pulse_for-due.result in
-    let pulsed = c.pulse_for-due.ensures ∙ ap (λ p. cond c.tells_detached-last.result (Some (disconnect_item (c.self.inside.made + 1) p c.member_of-process.result.process)) None) priority in
-    let due = due_is _ c.args.thread c.args.coid c.member_of-process.result known up free c.in-Some.chid of c.tells_detached-last.result c.self.invariant c.tells_detached-last.ensures ∙ ap (made_for c.in-Some.chid) (sym pulsed) in
-    let new = new_pulse (c.self.inside.made + 1) c.level_of-priority.result c.member_of-process.result.process c.tells_detached-last.result d c.pulse_for-due.ensures in
-    let told = is_told _ c.args.thread c.in-Some.chid d _ _ c.in-Ok.met c.self.invariant free new c.in-Ok.ensures.ok in
+    let pulsed = c.pulse_for-due.ensures ∙ ap (λ p. cond c.tells_detached-last.result (Some (disconnect_item (c.args.turn.now.made + 1) p c.args.turn.now.process)) None) may.caller.priority in
+    let due = due_is _ c.args.turn.now.thread c.args.coid _ may.caller.known may.up may.free c.in-Some.chid of c.tells_detached-last.result may.sound c.tells_detached-last.ensures ∙ ap (made_for c.in-Some.chid) (sym pulsed) in
+    let new = new_pulse (c.args.turn.now.made + 1) c.args.turn.now.priority c.args.turn.now.process c.tells_detached-last.result d c.pulse_for-due.ensures in
+    let told = is_told _ c.args.turn.now.thread c.in-Some.chid d _ _ c.in-Ok.met may.sound may.free new c.in-Ok.ensures.ok in
     let there = c.remove.ensures.value ∙ of.is in
     let fewer = rw there at c.remove.ensures.fewer in
-    rw (← c.self.view_is, c.remove.ensures.after) (step_detached _ c.args.thread c.args.coid c.member_of-process.result known up free c.in-Some.chid of d due c.self.invariant _ _ c.in-Ok.met told _ _ c.cut_calls.ensures.threads c.cut_calls.ensures.channels
+    rw (← c.self.view_is, may.counted, c.remove.ensures.after) (step_detached _ c.args.turn.now.thread c.args.coid _ may.caller.known may.up may.free c.in-Some.chid of d due may.sound _ _ c.in-Ok.met told _ _ c.cut_calls.ensures.threads c.cut_calls.ensures.channels
     _ (rw c.remove.ensures.after at fewer) (c.end_also.ensures ∙ ap (inserted_if c.in-Ok.met) (rw c.own_ending.ensures at c.cut_calls.ensures.endings)))
 
 pub returns-in-Err : goal.returns-in-Err
 returns-in-Err c =
-    let up = rw (← c.self.view_is) at c.requires.up in
-    let free = rw (← c.self.view_is) at c.requires.free in
-    let known = rw c.deref.ensures.value at c.member_of-process.ensures in
-    let of = own_parts c.member_of-process.result.process c.in-Some.chid _ (sym c.own_connection.ensures ∙ c.in-Some.is) in
-    let priority = rw c.deref-2.ensures.value at c.level_of-priority.ensures in
+    let may = rw (← c.self.view_is) at c.requires in
+    let of = own_parts c.args.turn.now.process c.in-Some.chid _ (sym c.own_connection.ensures ∙ c.in-Some.is) in
     let d = c.pulse_for-due.result in
-    let pulsed = c.pulse_for-due.ensures ∙ ap (λ p. cond c.tells_detached-last.result (Some (disconnect_item (c.self.inside.made + 1) p c.member_of-process.result.process)) None) priority in
-    let due = due_is _ c.args.thread c.args.coid c.member_of-process.result known up free c.in-Some.chid of c.tells_detached-last.result c.self.invariant c.tells_detached-last.ensures ∙ ap (made_for c.in-Some.chid) (sym pulsed) in
+    let pulsed = c.pulse_for-due.ensures ∙ ap (λ p. cond c.tells_detached-last.result (Some (disconnect_item (c.args.turn.now.made + 1) p c.args.turn.now.process)) None) may.caller.priority in
+    let due = due_is _ c.args.turn.now.thread c.args.coid _ may.caller.known may.up may.free c.in-Some.chid of c.tells_detached-last.result may.sound c.tells_detached-last.ensures ∙ ap (made_for c.in-Some.chid) (sym pulsed) in
     let away = c.in-Err.ensures.err in
-    rw (← c.self.view_is) (step_turned_away _ c.args.thread (ConnectDetach c.args.coid) c.in-Some.chid away.item c.in-Err.errno _ _ away.away _
-    (detach_full _ c.args.thread c.args.coid c.member_of-process.result known up free c.in-Some.chid of d due (ap is_some away.is_due))
-    (detach_memory _ c.args.thread c.args.coid c.member_of-process.result known up free c.in-Some.chid of d due away.item away.is_due) (rw c.new-in-Err.ensures at c.refuse-in-Err.ensures))
+    rw (← c.self.view_is, may.counted) (step_turned_away _ c.args.turn.now.thread (ConnectDetach c.args.coid) c.in-Some.chid away.item c.in-Err.errno _ _ away.away _
+    (detach_full _ c.args.turn.now.thread c.args.coid _ may.caller.known may.up may.free c.in-Some.chid of d due (ap is_some away.is_due))
+    (detach_memory _ c.args.turn.now.thread c.args.coid _ may.caller.known may.up may.free c.in-Some.chid of d due away.item away.is_due) (rw c.new-in-Err.ensures at c.refuse-in-Err.ensures))
 
 pub returns-in_default : goal.returns-in_default
 returns-in_default c =
-    let up = rw (← c.self.view_is) at c.requires.up in
-    let free = rw (← c.self.view_is) at c.requires.free in
-    let known = rw c.deref.ensures.value at c.member_of-process.ensures in
-    rw (← c.self.view_is) (step_detach_refused _ c.args.thread c.args.coid c.member_of-process.result known up free _ (sym c.own_connection.ensures ∙ c.in_default.is) (rw c.new.ensures at c.refuse.ensures))
+    let may = rw (← c.self.view_is) at c.requires in
+    rw (← c.self.view_is, may.counted) (step_detach_refused _ c.args.turn.now.thread c.args.coid _ may.caller.known may.up may.free _ (sym c.own_connection.ensures ∙ c.in_default.is) (rw c.new.ensures at c.refuse.ensures))
 
-pub invariant_of-self-in-Err : goal.invariant_of-self-in-Err
-invariant_of-self-in-Err c = sound_turned_away _ c.args.thread (ConnectDetach c.args.coid) c.in-Some.chid c.in-Err.ensures.err.item c.in-Err.errno _ _ c.in-Err.ensures.err.away c.self.invariant
+pub invariant_of-self : goal.invariant_of-self
+invariant_of-self c =
+    let may = rw (← c.self.view_is) at c.requires in
+    rw (may.counted) (sound_turned_away _ c.args.turn.now.thread (ConnectDetach c.args.coid) c.in-Some.chid c.in-Err.ensures.err.item c.in-Err.errno _ _ c.in-Err.ensures.err.away may.sound)
 
 pub send_due-requires-clause-newest : goal.send_due-requires-clause-newest
 send_due-requires-clause-newest c =
-    let new = new_pulse (c.self.inside.made + 1) c.level_of-priority.result c.member_of-process.result.process c.tells_detached-last.result c.pulse_for-due.result c.pulse_for-due.ensures in
-    newest_due (c.self.inside.made + 1) c.pulse_for-due.result _ new (up_to_below (λ x. x.number) c.self.inside.made _ (c.self.invariant.items c.in-Some.chid))
+    let may = rw (← c.self.view_is) at c.requires in
+    let new = new_pulse (c.args.turn.now.made + 1) c.args.turn.now.priority c.args.turn.now.process c.tells_detached-last.result c.pulse_for-due.result c.pulse_for-due.ensures in
+    newest_due (c.args.turn.now.made + 1) c.pulse_for-due.result _ new (up_to_below (λ x. x.number) c.args.turn.now.made _ (may.sound.items c.in-Some.chid))

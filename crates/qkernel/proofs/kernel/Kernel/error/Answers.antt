@@ -10,11 +10,9 @@ use Rattle.qkernel.proofs.kernel.Kernel.error.Goals as goal
 
 pub returns-in_default : goal.returns-in_default
 returns-in_default c =
-    let up = rw (← c.self.view_is) at c.requires.up in
-    let free = rw (← c.self.view_is) at c.requires.free in
-    let known = rw c.deref.ensures.value at c.member_of-process.ensures in
-    let none = rw c.deref-2.ensures.value at (sym c.in_default.ensures.held) in
-    rw (← c.self.view_is) (step_unheld _ c.args.thread c.member_of-process.result c.args.rcvid c.self.invariant known (Error c.args.rcvid c.args.code) _ refl up free none (rw c.new.ensures at c.refuse.ensures))
+    let may = rw (← c.self.view_is) at c.requires in
+    let none = rw c.deref.ensures.value at (sym c.in_default.ensures.held) in
+    rw (← c.self.view_is, may.counted) (step_unheld _ c.args.turn.now.thread _ c.args.rcvid may.sound may.caller.known (Error c.args.rcvid c.args.code) _ refl may.up may.free none (rw c.new.ensures at c.refuse.ensures))
 
 pub unreachable-requires : goal.unreachable-requires
 unreachable-requires c =
@@ -22,16 +20,16 @@ unreachable-requires c =
     finished_there _ c.args.rcvid c.take_sent-client.result.0 (errored c.args.code) c.take_sent-client.result.1 is_sender c.take_sent-client.ensures.had
     (rw (to_z-of_z w32 c.args.code c.ranges.code) at (sym c.errored_to.ensures ∙ c.in_default-errored_to.is))
 
-pub invariant_of-self-2 : goal.invariant_of-self-2
-invariant_of-self-2 c = sound_threads _ _ c.self.invariant c.take_sent-client.ensures.after.members
+pub invariant_of-self : goal.invariant_of-self
+invariant_of-self c =
+    let may = rw (← c.self.view_is) at c.requires in
+    rw (may.counted) (sound_threads _ _ may.sound c.take_sent-client.ensures.after.members)
 
 pub returns : goal.returns
 returns c =
-    let up = rw (← c.self.view_is) at c.requires.up in
-    let free = rw (← c.self.view_is) at c.requires.free in
-    let known = rw c.deref.ensures.value at c.member_of-process.ensures in
-    let held = rw c.deref-2.ensures.value at (sym c.in-Some.ensures.held) in
+    let may = rw (← c.self.view_is) at c.requires in
+    let held = rw c.deref.ensures.value at (sym c.in-Some.ensures.held) in
     let is_sender = rw c.rcvid.view_is at c.take_sent-client.ensures.thread in
     let ended = ap (finished (errored c.args.code) c.take_sent-client.result.0) (sym c.take_sent-client.ensures.had) ∙ rw (to_z-of_z w32 c.args.code c.ranges.code) at (sym c.errored_to.ensures ∙ c.in-Some-errored_to.is) in
-    rw (← c.self.view_is) (step_errored _ c.args.thread c.member_of-process.result c.args.rcvid c.self.invariant known c.args.code c.take_sent-client.result.0 c.in-Some-errored_to.ended up free held is_sender ended _ _
+    rw (← c.self.view_is, may.counted) (step_errored _ c.args.turn.now.thread _ c.args.rcvid may.sound may.caller.known c.args.code c.take_sent-client.result.0 c.in-Some-errored_to.ended may.up may.free held is_sender ended _ _
     c.take_sent-client.ensures.after (rw c.own_ending-mine.ensures at c.end_two.ensures))

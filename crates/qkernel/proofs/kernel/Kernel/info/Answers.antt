@@ -9,25 +9,22 @@ use Rattle.qkernel.proofs.kernel.Kernel.info.Goals as goal
 
 pub returns-in_default : goal.returns-in_default
 returns-in_default c =
-    let up = rw (← c.self.view_is) at c.requires.up in
-    let free = rw (← c.self.view_is) at c.requires.free in
-    let known = rw c.deref.ensures.value at c.member_of-process.ensures in
-    let none = rw c.deref-2.ensures.value at (sym c.in_default.ensures.held) in
-    rw (← c.self.view_is) (step_unheld _ c.args.thread c.member_of-process.result c.args.rcvid c.self.invariant known (Info c.args.rcvid) _ refl up free none (rw c.new.ensures at c.refuse.ensures))
+    let may = rw (← c.self.view_is) at c.requires in
+    let none = rw c.deref.ensures.value at (sym c.in_default.ensures.held) in
+    rw (← c.self.view_is, may.counted) (step_unheld _ c.args.turn.now.thread _ c.args.rcvid may.sound may.caller.known (Info c.args.rcvid) _ refl may.up may.free none (rw c.new.ensures at c.refuse.ensures))
 
 pub unreachable-requires : goal.unreachable-requires
 unreachable-requires c =
-    let at : position (λ t. is_send c.args.rcvid t.open_call) c.self.inside.threads.items ≡ Some c.in-Some.held = rw c.deref-2.ensures.value at c.in-Some.ensures.seat in
-    let held = rw c.deref-2.ensures.value at (sym c.in-Some.ensures.held) in
-    told_there c.self.inside.connections c.self.inside.channels c.member_of-process.result.process c.args.rcvid c.self.inside.threads.items c.in-Some.held c.index.result.now c.self.invariant.roster at held
+    let may = rw (← c.self.view_is) at c.requires in
+    let at : position (λ t. is_send c.args.rcvid t.open_call) c.self.inside.threads.items ≡ Some c.in-Some.held = rw c.deref.ensures.value at c.in-Some.ensures.seat in
+    let held = rw c.deref.ensures.value at (sym c.in-Some.ensures.held) in
+    told_there c.self.inside.connections c.self.inside.channels c.args.turn.now.process c.args.rcvid c.self.inside.threads.items c.in-Some.held c.index.result.now may.sound.roster at held
     (ap (λ t. told_of t.member t.open_call) (sym c.index.ensures) ∙ sym c.info.ensures ∙ c.in_default-info.is)
 
 pub returns : goal.returns
 returns c =
-    let up = rw (← c.self.view_is) at c.requires.up in
-    let free = rw (← c.self.view_is) at c.requires.free in
-    let known = rw c.deref.ensures.value at c.member_of-process.ensures in
-    let held = rw c.deref-2.ensures.value at (sym c.in-Some.ensures.held) in
-    let at : position (λ t. is_send c.args.rcvid t.open_call) c.self.inside.threads.items ≡ Some c.in-Some.held = rw c.deref-2.ensures.value at c.in-Some.ensures.seat in
-    let told = info_there (record { made = c.self.inside.made; down = c.self.inside.down; threads = c.self.inside.threads.items; channels = c.self.inside.channels; connections = c.self.inside.connections }) c.args.rcvid c.in-Some.held c.index.result.now c.self.invariant.roster at ∙ ap (λ t. told_of t.member t.open_call) (sym c.index.ensures) ∙ sym c.info.ensures ∙ c.in-Some-info.is in
-    rw (← c.self.view_is) (step_info _ c.args.thread c.member_of-process.result c.args.rcvid c.self.invariant known up free held c.in-Some-info.info _ told c.end_own.ensures)
+    let may = rw (← c.self.view_is) at c.requires in
+    let held = rw c.deref.ensures.value at (sym c.in-Some.ensures.held) in
+    let at : position (λ t. is_send c.args.rcvid t.open_call) c.self.inside.threads.items ≡ Some c.in-Some.held = rw c.deref.ensures.value at c.in-Some.ensures.seat in
+    let told = info_there (record { made = c.args.turn.now.made; down = c.self.inside.down; threads = c.self.inside.threads.items; channels = c.self.inside.channels; connections = c.self.inside.connections }) c.args.rcvid c.in-Some.held c.index.result.now may.sound.roster at ∙ ap (λ t. told_of t.member t.open_call) (sym c.index.ensures) ∙ sym c.info.ensures ∙ c.in-Some-info.is in
+    rw (← c.self.view_is, may.counted) (step_info _ c.args.turn.now.thread _ c.args.rcvid may.sound may.caller.known may.up may.free held c.in-Some-info.info _ told c.end_own.ensures)

@@ -5,14 +5,13 @@ use Rattle.qkernel.proofs.kernel.Kernel.priority_set.Goals as goal
 
 pub returns : goal.returns
 returns c =
-    let up = rw (← c.self.view_is) at c.requires.up in
-    let free = rw (← c.self.view_is) at c.requires.free in
-    let known = rw c.deref.ensures.value at c.member_of-process.ensures in
-    let own = rw c.deref-2.ensures.value at (sym c.seat_in_process.ensures.own ∙ ap is_some c.in-Some.is) in
-    let moves = rw c.deref-3.ensures.value at c.requeue_unread.ensures in
-    rw (← c.self.view_is) (step_set _ c.args.thread c.args.target c.args.priority c.member_of-process.result known up free _ _ _ c.self.invariant own moves c.set_level.ensures c.end_own.ensures)
+    let may = rw (← c.self.view_is) at c.requires in
+    let own = rw c.deref.ensures.value at (sym c.seat_in_process.ensures.own ∙ ap is_some c.in-Some.is) in
+    let moves = rw c.deref-2.ensures.value at c.requeue_unread.ensures in
+    rw (← c.self.view_is, may.counted) (step_set _ c.args.turn.now.thread c.args.target c.args.priority _ may.caller.known may.up may.free _ _ _ may.sound own moves c.set_level.ensures c.end_own.ensures)
 
-pub invariant_of-self-2 : goal.invariant_of-self-2
-invariant_of-self-2 c =
-    let moves = rw c.deref-3.ensures.value at c.requeue_unread.ensures in
-    sound_set _ c.args.target c.args.priority _ _ c.self.invariant moves c.set_level.ensures.members
+pub invariant_of-self : goal.invariant_of-self
+invariant_of-self c =
+    let may = rw (← c.self.view_is) at c.requires in
+    let moves = rw c.deref-2.ensures.value at c.requeue_unread.ensures in
+    rw (may.counted) (sound_set _ c.args.target c.args.priority _ _ may.sound moves c.set_level.ensures.members)

@@ -10,32 +10,32 @@ use Rattle.qkernel.proofs.kernel.Kernel.pulse.Goals as goal
 use Rattle.qkernel.proofs.kernel.Kernel.pulse.Goals.{in-Ok, in-Err}
 use Rattle.qkernel.proofs.Steps.Told.{is_told, made_for}
 
-pub invariant_of-self-2 : goal.invariant_of-self-2
-invariant_of-self-2 c = elim c.match-send_pulse.branch [
-  | in-Ok w ↦ sound_due _ c.in-Some.chid (Some _) _ _ w.in-Ok.met c.self.invariant (refl, refl) w.in-Ok.ensures.ok
-  | in-Err w ↦ sound_turned_away _ c.args.thread (Pulse c.args.coid c.args.priority c.args.code c.args.value) c.in-Some.chid _ w.in-Err.errno _ _ w.in-Err.ensures.err c.self.invariant
-]
+pub invariant_of-self : goal.invariant_of-self
+invariant_of-self c =
+    let may = rw (← c.self.view_is) at c.requires in
+    elim c.match-send_pulse.branch [
+      | in-Ok w ↦ rw (may.counted) (sound_due _ c.in-Some.chid (Some _) _ _ w.in-Ok.met may.sound (refl, refl) w.in-Ok.ensures.ok)
+      | in-Err w ↦ rw (may.counted) (sound_turned_away _ c.args.turn.now.thread (Pulse c.args.coid c.args.priority c.args.code c.args.value) c.in-Some.chid _ w.in-Err.errno _ _ w.in-Err.ensures.err may.sound)
+    ]
 
 pub returns : goal.returns
 returns c =
-    let up = rw (← c.self.view_is) at c.requires.up in
-    let free = rw (← c.self.view_is) at c.requires.free in
-    let known = rw c.deref.ensures.value at c.member_of-process.ensures in
+    let may = rw (← c.self.view_is) at c.requires in
     let found = sym c.way.ensures ∙ c.in-Some.is in
     let positive = natural c.args.code (rw (to_z-of_z w8 c.args.code c.ranges.code) at c.if-code-lt0.false) in
-    let old : State = record { made = c.self.inside.made; down = c.self.inside.down; threads = c.self.inside.threads.items; channels = c.self.inside.channels; connections = c.self.inside.connections } in
-    let item = pulse_item (c.self.inside.made + 1) c.args.priority c.args.code c.args.value in
+    let old : State = record { made = c.args.turn.now.made; down = c.self.inside.down; threads = c.self.inside.threads.items; channels = c.self.inside.channels; connections = c.self.inside.connections } in
+    let item = pulse_item (c.args.turn.now.made + 1) c.args.priority c.args.code c.args.value in
     elim c.match-send_pulse.branch [
       | in-Ok w ↦
           let sent = rw (to_z-of_z w8 c.args.code c.ranges.code, to_z-of_z w32 c.args.value c.ranges.value) at w.in-Ok.ensures.ok in
-          let told = is_told _ c.args.thread c.in-Some.chid (Some item) _ _ w.in-Ok.met c.self.invariant free (refl, refl) sent in
-          rw (w.endings-is, ← c.self.view_is) (step_told _ c.args.thread (Pulse c.args.coid c.args.priority c.args.code c.args.value) c.member_of-process.result (made_for c.in-Some.chid (Some item)) c.self.invariant known free
-          (tells_pulse _ c.args.thread c.args.coid c.args.priority c.args.code c.args.value c.member_of-process.result c.in-Some.chid known up free found positive told.room) _ _ w.in-Ok.met told _ _
+          let told = is_told _ c.args.turn.now.thread c.in-Some.chid (Some item) _ _ w.in-Ok.met may.sound may.free (refl, refl) sent in
+          rw (w.endings-is, ← c.self.view_is, may.counted) (step_told _ c.args.turn.now.thread (Pulse c.args.coid c.args.priority c.args.code c.args.value) _ (made_for c.in-Some.chid (Some item)) may.sound may.caller.known may.free
+          (tells_pulse _ c.args.turn.now.thread c.args.coid c.args.priority c.args.code c.args.value _ c.in-Some.chid may.caller.known may.up may.free found positive told.room) _ _ w.in-Ok.met told _ _
           (none_marked (Pulse c.args.coid c.args.priority c.args.code c.args.value) (made_for c.in-Some.chid (Some item)) _ refl) (rw w.own_ending-own.ensures at w.end_with.ensures))
       | in-Err w ↦
           let away = rw (to_z-of_z w8 c.args.code c.ranges.code, to_z-of_z w32 c.args.value c.ranges.value) at w.in-Err.ensures.err in
-          rw (w.endings-is, ← c.self.view_is) (step_turned_away _ c.args.thread (Pulse c.args.coid c.args.priority c.args.code c.args.value) c.in-Some.chid item w.in-Err.errno _ _ away _
-          (pulse_full old c.args.thread c.args.coid c.args.priority c.args.code c.args.value c.member_of-process.result known up free c.in-Some.chid found positive)
-          (pulse_memory old c.args.thread c.args.coid c.args.priority c.args.code c.args.value c.member_of-process.result known up free c.in-Some.chid found positive)
+          rw (w.endings-is, ← c.self.view_is, may.counted) (step_turned_away _ c.args.turn.now.thread (Pulse c.args.coid c.args.priority c.args.code c.args.value) c.in-Some.chid item w.in-Err.errno _ _ away _
+          (pulse_full old c.args.turn.now.thread c.args.coid c.args.priority c.args.code c.args.value _ may.caller.known may.up may.free c.in-Some.chid found positive)
+          (pulse_memory old c.args.turn.now.thread c.args.coid c.args.priority c.args.code c.args.value _ may.caller.known may.up may.free c.in-Some.chid found positive)
           (rw w.new-in-Err.ensures at w.refuse-in-Err.ensures))
     ]

@@ -10,20 +10,16 @@ use Rattle.qkernel.proofs.kernel.Kernel.read.Goals as goal
 
 pub returns-in_default : goal.returns-in_default
 returns-in_default c =
-    let up = rw (← c.self.view_is) at c.requires.up in
-    let free = rw (← c.self.view_is) at c.requires.free in
-    let known = rw c.deref.ensures.value at c.member_of-process.ensures in
-    let none = rw c.deref-2.ensures.value at (sym c.in_default.ensures.held) in
-    rw (← c.self.view_is) (step_unheld _ c.args.thread c.member_of-process.result c.args.rcvid c.self.invariant known (Read c.args.rcvid c.args.offset c.args.buffer) _ refl up free none c.refuse.ensures)
+    let may = rw (← c.self.view_is) at c.requires in
+    let none = rw c.deref.ensures.value at (sym c.in_default.ensures.held) in
+    rw (← c.self.view_is, may.counted) (step_unheld _ c.args.turn.now.thread _ c.args.rcvid may.sound may.caller.known (Read c.args.rcvid c.args.offset c.args.buffer) _ refl may.up may.free none c.refuse.ensures)
 
 pub returns : goal.returns
 returns c =
-    let up = rw (← c.self.view_is) at c.requires.up in
-    let free = rw (← c.self.view_is) at c.requires.free in
-    let known = rw c.deref.ensures.value at c.member_of-process.ensures in
-    let held = rw c.deref-2.ensures.value at (sym c.in-Some.ensures.held) in
-    let at : position (λ t. is_send c.args.rcvid t.open_call) c.self.inside.threads.items ≡ Some c.in-Some.held = rw c.deref-2.ensures.value at c.in-Some.ensures.seat in
+    let may = rw (← c.self.view_is) at c.requires in
+    let held = rw c.deref.ensures.value at (sym c.in-Some.ensures.held) in
+    let at : position (λ t. is_send c.args.rcvid t.open_call) c.self.inside.threads.items ≡ Some c.in-Some.held = rw c.deref.ensures.value at c.in-Some.ensures.seat in
     let message : c.message.result.now ≡ message_from c.self.inside.threads.items c.args.rcvid =
-    c.message.ensures ∙ ap (λ t. message_in t.open_call) c.index.ensures ∙ sym (message_there c.args.rcvid c.self.inside.threads.items c.in-Some.held c.index.result.now c.self.invariant.roster at) in
+    c.message.ensures ∙ ap (λ t. message_in t.open_call) c.index.ensures ∙ sym (message_there c.args.rcvid c.self.inside.threads.items c.in-Some.held c.index.result.now may.sound.roster at) in
     let ended = rw (c.take-copied.ensures.count, c.take-copied.ensures.after, message) at c.end_one.ensures in
-    rw (← c.self.view_is) (step_read _ c.args.thread c.member_of-process.result c.args.rcvid c.self.invariant known up free held c.args.offset c.args.buffer _ ended)
+    rw (← c.self.view_is, may.counted) (step_read _ c.args.turn.now.thread _ c.args.rcvid may.sound may.caller.known may.up may.free held c.args.offset c.args.buffer _ ended)

@@ -4,38 +4,36 @@ use Rattle.qqueue.specs.Best.{is_pulse}
 use Rattle.qkernel.proofs.Steps.Receiving.{hands_members, step_receive_refused, step_receive_waits, step_receive_takes, sound_taken, sound_kept}
 use Rattle.qkernel.proofs.kernel.Kernel.receive_kind.Goals as goal
 
-pub invariant_of-self-in-None : goal.invariant_of-self-in-None
-invariant_of-self-in-None c = sound_kept _ _ _ c.args.chid c.self.invariant c.block.ensures.members c.in-None.ensures.none
+pub invariant_of-self : goal.invariant_of-self
+invariant_of-self c =
+    let may = rw (← c.self.view_is) at c.requires.may in
+    rw (may.counted) (sound_kept _ _ _ c.args.chid may.sound c.block.ensures.members c.in-None.ensures.none)
 
 pub invariant_of-self-in-Some : goal.invariant_of-self-in-Some
 invariant_of-self-in-Some c =
-    sound_taken _ _ _ c.args.chid c.in-Some.item.number c.self.invariant (c.set_level.ensures.members ∙ hands_members (is_pulse c.in-Some.item.what) _ _ _ _ c.hand_item-mark.ensures.kept) c.in-Some.ensures.taken
+    let may = rw (← c.self.view_is) at c.requires.may in
+    rw (may.counted) (sound_taken _ _ _ c.args.chid c.in-Some.item.number may.sound (c.set_level.ensures.members ∙ hands_members (is_pulse c.in-Some.item.what) _ _ _ _ c.hand_item-mark.ensures.kept) c.in-Some.ensures.taken)
 
 pub set_level-requires : goal.set_level-requires
 set_level-requires c =
-    let at = rw (← c.self.view_is) at c.requires.seat in
-    seat_kept c.args.thread _ _ (hands_members (is_pulse c.in-Some.item.what) _ _ _ _ c.hand_item-mark.ensures.kept) ∙ at
+    let may = rw (← c.self.view_is) at c.requires.may in
+    let at = may.caller.seat in
+    seat_kept c.args.turn.now.thread _ _ (hands_members (is_pulse c.in-Some.item.what) _ _ _ _ c.hand_item-mark.ensures.kept) ∙ at
 
 pub returns-then-not-owns : goal.returns-then-not-owns
 returns-then-not-owns c =
-    let up = rw (← c.self.view_is) at c.requires.up in
-    let free = rw (← c.self.view_is) at c.requires.free in
-    let known = rw c.deref.ensures.value at c.member_of.ensures in
-    rw (← c.self.view_is) (step_receive_refused _ c.args.thread c.args.chid c.args.kind c.args.buffer c.member_of.result _ c.requires.buffer known up free (sym c.if-not-owns.ensures) c.refuse.ensures)
+    let may = rw (← c.self.view_is) at c.requires.may in
+    rw (← c.self.view_is, may.counted) (step_receive_refused _ c.args.turn.now.thread c.args.chid c.args.kind c.args.buffer _ _ c.requires.buffer may.caller.known may.up may.free (sym c.if-not-owns.ensures) c.refuse.ensures)
 
 pub returns-in-None : goal.returns-in-None
 returns-in-None c =
-    let up = rw (← c.self.view_is) at c.requires.up in
-    let free = rw (← c.self.view_is) at c.requires.free in
-    let known = rw c.deref.ensures.value at c.member_of.ensures in
-    rw (← c.self.view_is) (step_receive_waits _ c.args.thread c.args.chid c.args.kind c.args.buffer c.member_of.result c.self.invariant known up free (sym c.if-not-owns.ensures) c.requires.buffer _ _ _
-    (sym c.in-None.ensures.best) c.block.ensures c.in-None.ensures.none c.requires.none)
+    let may = rw (← c.self.view_is) at c.requires.may in
+    rw (← c.self.view_is, may.counted) (step_receive_waits _ c.args.turn.now.thread c.args.chid c.args.kind c.args.buffer _ may.sound may.caller.known may.up may.free (sym c.if-not-owns.ensures) c.requires.buffer _ _ _
+    (sym c.in-None.ensures.best) c.block.ensures c.in-None.ensures.none may.none)
 
 pub returns-in-Some : goal.returns-in-Some
 returns-in-Some c =
-    let up = rw (← c.self.view_is) at c.requires.up in
-    let free = rw (← c.self.view_is) at c.requires.free in
-    let known = rw c.deref.ensures.value at c.member_of.ensures in
+    let may = rw (← c.self.view_is) at c.requires.may in
     let ended = rw (c.hand_item-mark.ensures.mark, c.hand_item-mark.ensures.buffer) at c.end_one.ensures in
-    rw (← c.self.view_is) (step_receive_takes _ c.args.thread c.args.chid c.args.kind c.args.buffer c.member_of.result c.self.invariant known up free (sym c.if-not-owns.ensures) c.requires.buffer c.in-Some.item (sym c.in-Some.ensures.best) _ _ _ _
+    rw (← c.self.view_is, may.counted) (step_receive_takes _ c.args.turn.now.thread c.args.chid c.args.kind c.args.buffer _ may.sound may.caller.known may.up may.free (sym c.if-not-owns.ensures) c.requires.buffer c.in-Some.item (sym c.in-Some.ensures.best) _ _ _ _
     c.hand_item-mark.ensures.kept (rw c.carried-level.ensures at c.set_level.ensures) c.in-Some.ensures.taken ended)

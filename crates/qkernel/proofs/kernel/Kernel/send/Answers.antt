@@ -11,81 +11,78 @@ use Rattle.qkernel.proofs.kernel.Kernel.send.Goals.{in-None+in_default-enqueue, 
 
 pub wake-call-requires : goal.wake-call-requires
 wake-call-requires c =
-    let roster : IsRoster (members_of c.deref-3.result.now) = rw (c.deref-3.ensures.value) c.self.invariant.roster in
-    let newest = rw c.deref-3.ensures.value at (sym (c.newest_receiver.ensures roster) ∙ c.in-Some-newest_receiver.is) in
+    let may = rw (← c.self.view_is) at c.requires in
+    let roster : IsRoster (members_of c.deref.result.now) = rw (c.deref.ensures.value) may.sound.roster in
+    let newest = rw c.deref.ensures.value at (sym (c.newest_receiver.ensures roster) ∙ c.in-Some-newest_receiver.is) in
     let waits = newest_receives _ c.in-Some.chid _ c.in-Some-newest_receiver.receiver newest in
     waits_open c.in-Some.chid waits.0 _ _ waits.1
 
 pub unreachable-requires : goal.unreachable-requires
 unreachable-requires c =
-    let roster : IsRoster (members_of c.deref-3.result.now) = rw (c.deref-3.ensures.value) c.self.invariant.roster in
-    let newest = rw c.deref-3.ensures.value at (sym (c.newest_receiver.ensures roster) ∙ c.in-Some-newest_receiver.is) in
+    let may = rw (← c.self.view_is) at c.requires in
+    let roster : IsRoster (members_of c.deref.result.now) = rw (c.deref.ensures.value) may.sound.roster in
+    let newest = rw c.deref.ensures.value at (sym (c.newest_receiver.ensures roster) ∙ c.in-Some-newest_receiver.is) in
     let waits = newest_receives _ c.in-Some.chid _ c.in-Some-newest_receiver.receiver newest in
     taken_there c.in-Some.chid waits.0 _ _ _ _ c.wake-call.result c.taken.result waits.1 c.wake-call.ensures.had c.taken.ensures.ended c.in_default-taken.is
 
 pub block-requires : goal.block-requires
 block-requires c =
-    let at = rw (← c.self.view_is) at c.requires.seat in
+    let may = rw (← c.self.view_is) at c.requires in
+    let at = may.caller.seat in
     elim c.match-newest_receiver.branch [
       | in-None+in_default-enqueue w ↦ rw (w.self-inside-is) at
-      | in-Some-newest_receiver+in-Some-taken w ↦ rw (w.self-inside-is) (seat_kept c.args.thread _ _ w.wake-call.ensures.after.members ∙ at)
+      | in-Some-newest_receiver+in-Some-taken w ↦ rw (w.self-inside-is) (seat_kept c.args.turn.now.thread _ _ w.wake-call.ensures.after.members ∙ at)
     ]
 
 pub invariant_of-self-2 : goal.invariant_of-self-2
-invariant_of-self-2 c = elim c.match-newest_receiver.branch [
-  | in-None+in_default-enqueue w ↦
-      let members = rw (w.self-inside-is) at c.block.ensures.members in
-      rw (w.self-inside-is) (sound_with_item _ _ _ c.in-Some.chid _ c.self.invariant members w.in_default-enqueue.ensures.ok refl)
-  | in-Some-newest_receiver+in-Some-taken w ↦
-      let members = rw (w.self-inside-is) at c.block.ensures.members in
-      rw (w.self-inside-is) (sound_threads _ _ c.self.invariant (members ∙ w.wake-call.ensures.after.members))
-]
+invariant_of-self-2 c =
+    let may = rw (← c.self.view_is) at c.requires in
+    elim c.match-newest_receiver.branch [
+      | in-None+in_default-enqueue w ↦
+          let members = rw (w.self-inside-is) at c.block.ensures.members in
+          rw (w.self-inside-is, may.counted) (sound_with_item _ _ _ c.in-Some.chid _ may.sound members w.in_default-enqueue.ensures.ok refl)
+      | in-Some-newest_receiver+in-Some-taken w ↦
+          let members = rw (w.self-inside-is) at c.block.ensures.members in
+          rw (w.self-inside-is, may.counted) (sound_threads _ _ may.sound (members ∙ w.wake-call.ensures.after.members))
+    ]
 
 pub returns-in_default : goal.returns-in_default
 returns-in_default c =
-    let up = rw (← c.self.view_is) at c.requires.up in
-    let free = rw (← c.self.view_is) at c.requires.free in
-    let known = rw c.deref.ensures.value at c.member_of-process.ensures in
+    let may = rw (← c.self.view_is) at c.requires in
     let found = sym c.way.ensures ∙ c.in_default.is in
-    rw (← c.self.view_is) (step_send_nowhere _ c.args.thread c.args.coid c.args.message c.args.reply_buffer c.member_of-process.result _ known up free found c.refuse.ensures)
+    rw (← c.self.view_is, may.counted) (step_send_nowhere _ c.args.turn.now.thread c.args.coid c.args.message c.args.reply_buffer _ _ may.caller.known may.up may.free found c.refuse.ensures)
 
 pub returns-in-Err : goal.returns-in-Err
 returns-in-Err c =
-    let up = rw (← c.self.view_is) at c.requires.up in
-    let free = rw (← c.self.view_is) at c.requires.free in
-    let known = rw c.deref.ensures.value at c.member_of-process.ensures in
+    let may = rw (← c.self.view_is) at c.requires in
     let found = sym c.way.ensures ∙ c.in-Some.is in
-    let priority = rw c.deref-2.ensures.value at c.level_of-priority.ensures in
-    let roster : IsRoster (members_of c.deref-3.result.now) = rw (c.deref-3.ensures.value) c.self.invariant.roster in
-    let nobody = rw (c.deref-3.ensures.value, priority) at (sym (c.newest_receiver.ensures roster) ∙ c.in-None.is) in
-    rw (← c.self.view_is)
-    (step_send_no_memory _ c.args.thread c.args.coid c.args.message c.args.reply_buffer c.member_of-process.result c.in-Some.chid _ c.in-Err.errno _ known up free found c.in-Err.ensures.error nobody c.in-Err.ensures.err c.refuse-in-Err.ensures)
+    let roster : IsRoster (members_of c.deref.result.now) = rw (c.deref.ensures.value) may.sound.roster in
+    let nobody = rw (c.deref.ensures.value, may.caller.priority) at (sym (c.newest_receiver.ensures roster) ∙ c.in-None.is) in
+    rw (← c.self.view_is, may.counted)
+    (step_send_no_memory _ c.args.turn.now.thread c.args.coid c.args.message c.args.reply_buffer _ c.in-Some.chid _ c.in-Err.errno _ may.caller.known may.up may.free found c.in-Err.ensures.error nobody c.in-Err.ensures.err c.refuse-in-Err.ensures)
 
 pub returns : goal.returns
 returns c =
-    let up = rw (← c.self.view_is) at c.requires.up in
-    let free = rw (← c.self.view_is) at c.requires.free in
-    let known = rw c.deref.ensures.value at c.member_of-process.ensures in
+    let may = rw (← c.self.view_is) at c.requires in
     let found = sym c.way.ensures ∙ c.in-Some.is in
-    let priority = rw c.deref-2.ensures.value at c.level_of-priority.ensures in
-    let roster : IsRoster (members_of c.deref-3.result.now) = rw (c.deref-3.ensures.value) c.self.invariant.roster in
+    let roster : IsRoster (members_of c.deref.result.now) = rw (c.deref.ensures.value) may.sound.roster in
     elim c.match-newest_receiver.branch [
       | in-None+in_default-enqueue w ↦
-          let nobody = rw (c.deref-3.ensures.value, priority) at (sym (c.newest_receiver.ensures roster) ∙ w.in-None.is) in
+          let nobody = rw (c.deref.ensures.value, may.caller.priority) at (sym (c.newest_receiver.ensures roster) ∙ w.in-None.is) in
           let opens = rw (w.receipt-is, w.self-inside-is) at c.block.ensures in
-          let sets = rw priority at w.in_default-enqueue.ensures.ok in
-          rw (w.self-inside-is, w.endings-is, ← c.self.view_is)
-          (step_send_waits _ c.args.thread c.args.coid c.args.message c.args.reply_buffer c.member_of-process.result c.in-Some.chid c.self.invariant known up free found _ _ _ nobody opens sets c.requires.none)
+          let sets = rw may.caller.priority at w.in_default-enqueue.ensures.ok in
+          rw (w.self-inside-is, w.endings-is, ← c.self.view_is, may.counted)
+          (step_send_waits _ c.args.turn.now.thread c.args.coid c.args.message c.args.reply_buffer _ c.in-Some.chid may.sound may.caller.known may.up may.free found _ _ _ nobody opens sets c.requires.none)
       | in-Some-newest_receiver+in-Some-taken w ↦
           let opens = rw (w.receipt-is, w.self-inside-is) at c.block.ensures in
-          let newest = rw (c.deref-3.ensures.value, priority) at (sym (c.newest_receiver.ensures roster) ∙ w.in-Some-newest_receiver.is) in
+          let newest = rw (c.deref.ensures.value, may.caller.priority) at (sym (c.newest_receiver.ensures roster) ∙ w.in-Some-newest_receiver.is) in
           let receiver = w.in-Some-newest_receiver.receiver in
           let waits = newest_receives _ c.in-Some.chid _ receiver newest in
-          let ended = rw priority at w.in-Some-taken.ensures.ended ∙ ap (takes (item _ c.args.thread c.args.coid c.args.message c.args.reply_buffer c.member_of-process.result c.in-Some.chid c.self.invariant known up free found) c.args.message receiver) w.wake-call.ensures.had in
-          let sets = rw priority at opens in
-          let wakes = rw (w.carried-level.ensures, priority) at w.wake-call.ensures.after in
-          rw (w.self-inside-is, w.endings-is, ← c.self.view_is)
-          (step_send_met _ c.args.thread c.args.coid c.args.message c.args.reply_buffer c.member_of-process.result c.in-Some.chid c.self.invariant known up free found
+          let ended = rw may.caller.priority at w.in-Some-taken.ensures.ended ∙ ap (takes (item _ c.args.turn.now.thread c.args.coid c.args.message c.args.reply_buffer _ c.in-Some.chid may.sound may.caller.known may.up may.free found) c.args.message receiver) w.wake-call.ensures.had in
+          let sets = rw may.caller.priority at opens in
+          let wakes = rw (w.carried-level.ensures, may.caller.priority) at w.wake-call.ensures.after in
+          rw (w.self-inside-is, w.endings-is, ← c.self.view_is, may.counted)
+          (step_send_met _ c.args.turn.now.thread c.args.coid c.args.message c.args.reply_buffer _ c.in-Some.chid may.sound may.caller.known may.up may.free found
           receiver w.in-Some-taken.met.0 w.in-Some-taken.met.1 newest (waits_among c.in-Some.chid _ waits.0 _ receiver waits.1) (sym ended) w.in-Some-taken.ensures.copied
           w.wake-call.new.threads.items _ _ wakes sets w.end_one.ensures)
     ]

@@ -1,0 +1,35 @@
+-- A call's turn: whose it is, and that nothing refuses it.
+use Rattle.std.proofs.Common.{◌≡◌, ℕ, List, [], ◌∷◌, refl, ap, sym, ◌∙◌, cond, Bool, true, false, eqb}
+use Rattle.std.specs.Prelude.{Option, None, Some, is_some}
+use Rattle.std.proofs.lemmas.Bool.{eqb-true}
+use Rattle.std.proofs.lemmas.Option.{same_Some, none-some}
+use Rattle.qbase.specs.declared.errno.Errno.TheVariants.{Busy, Down}
+use Rattle.qtables.specs.Members.{member_at}
+use Rattle.qtables.specs.declared.member.Member.{Member}
+use Rattle.qrules.specs.declared.open_call.OpenCall.{OpenCall}
+use Rattle.qkernel.specs.declared.kernel.turn.Turn.{Turn}
+
+-- the caller's entry of the roster
+abbrev pub caller_of : Turn → ℕ → Member
+caller_of turn began = record { thread = turn.thread; process = turn.process; priority = began }
+
+-- a member is found under its number
+named : (t : ℕ) (ms : List Member) (m : Member) → member_at ms t ≡ Some m → m.thread ≡ t
+named t [] m e = absurd (none-some m e)
+named t (x ∷ ms) m e = elim (eqb x.thread t) as (λ b. eqb x.thread t ≡ b → cond b (Some x) (member_at ms t) ≡ Some m → m.thread ≡ t) [
+  | true ↦ λ same is. ap (λ y. y.thread) (sym (same_Some x m is)) ∙ eqb-true x.thread t same
+  | false ↦ λ other is. named t ms m is
+] refl e
+
+pub caller_known : (t : ℕ) (ms : List Member) (m : Member) → member_at ms t ≡ Some m → member_at ms t ≡ Some (record { thread = t; process = m.process; priority = m.priority })
+caller_known t ms m e = e ∙ ap (λ u. Some (record { thread = u; process = m.process; priority = m.priority })) (named t ms m e)
+
+-- the kernel isn't shut down, and the caller isn't blocked
+pub record IsFree (down : Bool) (call : Option OpenCall) : Type 0 where
+  pub up : down ≡ false
+  pub free : call ≡ None
+
+pub unrefused : (down : Bool) (call : Option OpenCall) → cond down (Some Down) (cond (is_some call) (Some Busy) None) ≡ None → IsFree down call
+unrefused true call e = absurd (none-some _ (sym e))
+unrefused false None e = record { up = refl; free = refl }
+unrefused false (Some call) e = absurd (none-some _ (sym e))

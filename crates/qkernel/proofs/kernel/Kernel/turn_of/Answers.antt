@@ -1,0 +1,10 @@
+use Rattle.qkernel.proofs.Turns.{caller_known}
+use Rattle.qkernel.proofs.kernel.Kernel.turn_of.Goals as goal
+
+pub returns-clause-caller : goal.returns-clause-caller
+returns-clause-caller c = record {
+  seat = c.requires.seat;
+  began = c.member_of.result.priority;
+  known = rw (← c.self.view_is) (caller_known c.args.thread _ c.member_of.result (rw c.deref.ensures.value at c.member_of.ensures));
+  priority = rw (← c.self.view_is) (rw c.deref-2.ensures.value at c.level_of.ensures);
+}

@@ -1,0 +1,34 @@
+-- A call's turn, and what its own method makes of the kernel.
+use Rattle.std.specs.Prelude.{◌≡◌, ℕ, ◌+◌, false, List, [], None, Some}
+use Rattle.qtables.specs.Members.{member_at}
+use Rattle.qrules.specs.declared.call.Call.{Call}
+use Rattle.qrules.specs.declared.call.Completion.{Completion}
+use Rattle.qrecords.specs.Threads.{members_of, open_in, level_in, seat_in}
+use Rattle.qrecords.specs.declared.thread.Thread.{Thread}
+use Rattle.qkernel.specs.State.{State, IsSound}
+use Rattle.qkernel.specs.Stands.{Steps}
+use Rattle.qkernel.specs.declared.kernel.turn.Turn.{Turn}
+
+-- the kernel's content before the call of this turn was counted
+abbrev pub before : Turn → State → State
+before turn s = record { made = turn.made; down = s.down; threads = s.threads; channels = s.channels; connections = s.connections }
+
+-- the turn is that of the thread at its seat among these, of its process and with its priority
+pub record IsTurnIn (threads : List Thread) (turn : Turn) : Type 0 where
+  pub seat : seat_in threads turn.thread ≡ Some turn.seat
+  pub began : ℕ
+  pub known : member_at (members_of threads) turn.thread ≡ Some (record { thread = turn.thread; process = turn.process; priority = began })
+  pub priority : turn.priority ≡ level_in threads turn.thread
+
+-- the call of this turn may be made: it is counted and nothing else is done yet, no call has ended, the kernel isn't shut down, and the caller isn't blocked
+pub record MayCall (s : State) (turn : Turn) (endings : List Completion) : Type 0 where
+  pub counted : s.made ≡ turn.made + 1
+  pub sound : IsSound (before turn s)
+  pub caller : IsTurnIn s.threads turn
+  pub up : s.down ≡ false
+  pub free : open_in s.threads turn.thread ≡ None
+  pub none : endings ≡ []
+
+-- the call of this turn, from the content before it was counted
+abbrev pub Makes : State → Turn → Call → List Completion → State → Type 0
+Makes old turn c endings new = Steps (before turn old) turn.thread c endings new
