@@ -11,7 +11,8 @@ use Rattle.qrules.specs.declared.open_call.OpenCall.{OpenCall}
 use Rattle.qrecords.specs.declared.thread.Thread.{Thread}
 use Rattle.qrules.specs.Answer.{row_of, ending, Outcome}
 use Rattle.qrules.specs.Facts.{Facts, sender, threads_of}
-use Rattle.qrules.specs.Rows.{Received, Written, writes, unblocks, Made}
+use Rattle.qrules.specs.Effects.{makes, unblocks, writes}
+use Rattle.qrules.specs.Rows.{Received, Written, Made}
 use Rattle.qkernel.specs.State.{State, facts_in}
 use Rattle.qkernel.specs.Stands.{Step, Steps}
 use Rattle.qrules.specs.Step.{Follows, unless, after_receipt, after_write, is_thread, held_call, written_call, after_unblock, unblocked_call}
@@ -22,7 +23,6 @@ use Rattle.qrules.proofs.Past.RowLaws.{row_laws}
 use Rattle.qbase.proofs.Lists.{is_among}
 use Rattle.qrules.proofs.Rosters.{Rises, rises, not_among}
 use Rattle.qrecords.proofs.Senders.{own_open}
-use Rattle.qrules.specs.Items.{makes}
 
 -- one where there is something
 abbrev one : {A : Type 0} → Option A → ℕ

@@ -7,7 +7,7 @@ use Rattle.qrules.specs.declared.call.Call.{Call}
 use Rattle.qrules.specs.declared.call.Call.TheVariants.{ChannelCreate, ConnectAttach, Send, Receive, Reply, Error, Read, Write, Info, ReceivePulse, Pulse, PrioritySet, State, ChannelDestroy, Shutdown, Unblock, ConnectDetach}
 use Rattle.qrules.specs.declared.call.Completion.{Completion}
 use Rattle.qrules.specs.declared.call.Mark.TheVariants as mark
-use Rattle.qrules.specs.Buffers.{buffer_of}
+use Rattle.qrules.specs.Effects.{buffer_of}
 use Rattle.qrules.specs.Facts.{Facts, threads_of}
 use Rattle.qrules.specs.Rows.{Row}
 use Rattle.qrules.specs.Calls.ChannelCreate as channel_create

@@ -19,10 +19,9 @@ use Rattle.qrules.specs.declared.open_call.OpenCall.{OpenCall}
 use Rattle.qrules.specs.declared.open_call.Receipt.{Receipt}
 use Rattle.qrules.specs.declared.open_call.Wait.{Wait}
 use Rattle.qrules.specs.declared.open_call.Wait.TheVariants.{Answer, Item as ForItem}
-use Rattle.qrules.specs.Buffers.{buffer_of}
+use Rattle.qrules.specs.Effects.{asks, buffer_of, receives_on}
 use Rattle.qrules.specs.Facts.{Facts, is_for_receipt, sender}
 use Rattle.qrules.specs.Headline.AnsweredToSender.{is_held}
-use Rattle.qrules.specs.Headline.BestFirst.{receives_on}
 use Rattle.qrules.specs.Headline.CopiedExactly.{call_at}
 use Rattle.qrules.specs.Headline.ReceivedOnce.{item_received}
 use Rattle.qrules.specs.Headline.SentOrder.{connection_of}
@@ -31,7 +30,7 @@ use Rattle.qrules.specs.Lawful.{IsLawful, facts_of}
 use Rattle.qrules.specs.Pulses.{pulses_among}
 use Rattle.qrules.specs.Past.{attached, channel_at, connection_at, made_at, is_accepted, is_closed, is_down, is_ended, is_gone, items, open_call, pending, priority_of_item, sender_of}
 use Rattle.qrules.specs.Receivers.{newest, wait_on}
-use Rattle.qrules.specs.Rows.{asks, names}
+use Rattle.qrules.specs.Rows.{names}
 use Rattle.qrules.specs.Trace.{Event, Trace}
 
 -- ---- receipts

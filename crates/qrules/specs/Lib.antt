@@ -1,8 +1,8 @@
-pub mod Buffers
 pub mod Trace
 pub mod ThreadStates
 pub mod Facts
 pub mod Rows
+pub mod Effect
 pub mod Held
 pub mod Receiving
 pub mod Delivering
@@ -10,7 +10,7 @@ pub mod Receivers
 pub mod Cutting
 pub mod Pulses
 pub mod Calls
-pub mod Items
+pub mod Effects
 pub mod Answer
 pub mod Past
 pub mod Lawful

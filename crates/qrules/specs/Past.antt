@@ -20,8 +20,8 @@ use Rattle.qrules.specs.declared.open_call.Wait.{Wait}
 use Rattle.qrules.specs.declared.open_call.Wait.TheVariants.{Answer, Item as ForItem}
 use Rattle.qrules.specs.Trace.{Event, Trace}
 use Rattle.qrules.specs.Facts.{Facts, OpenChannel, count_to, is_fixed}
-use Rattle.qrules.specs.Items.{makes}
-use Rattle.qrules.specs.Rows.{Made, asks, closes, detaches, names, shuts_down, received, writes, written_over, with_buffer, set_for, sets}
+use Rattle.qrules.specs.Rows.{Made, names, received, written_over, with_buffer, set_for}
+use Rattle.qrules.specs.Effects.{asks, attaches, closes, creates, detaches, makes, sets, shuts_down, thread_of_send, writes}
 
 -- ---- accepted, ended
 
@@ -62,27 +62,6 @@ abbrev pub made_at : {A : Type 0} → (Event → Option A) → Trace → ℕ →
 made_at make [] i = None
 made_at make (e ∷ past) i = if i == length past + 1 then (if is_accepted e past then make e else None) else made_at make past i
 
--- the channel that a call creates: of its thread's process, with the flags that it names
-abbrev pub creates : Option Member → Call → Option OpenChannel
-creates None c = None
-creates (Some m) (ChannelCreate flags) = Some (record { owner = m.process; flags = flags })
-creates (Some m) (ConnectAttach chid) = None
-creates (Some m) (Send coid message reply_buffer) = None
-creates (Some m) (Receive chid buffer) = None
-creates (Some m) (Reply rcvid status bytes) = None
-creates (Some m) (Error rcvid code) = None
-creates (Some m) (Read rcvid offset buffer) = None
-creates (Some m) (Write rcvid offset bytes) = None
-creates (Some m) (Info rcvid) = None
-creates (Some m) (ReceivePulse chid) = None
-creates (Some m) (Pulse coid priority code value) = None
-creates (Some m) (PrioritySet thread priority) = None
-creates (Some m) (State thread) = None
-creates (Some m) (ChannelDestroy chid) = None
-creates (Some m) Shutdown = None
-creates (Some m) (Unblock thread) = None
-creates (Some m) (ConnectDetach coid) = None
-
 -- a call of which this is so was accepted
 abbrev pub was_accepted : (Call → Bool) → Trace → Bool
 was_accepted is_such [] = false
@@ -107,27 +86,6 @@ channel_at roster past h = if is_closed past h then None else created roster pas
 -- how many channels are open
 abbrev pub open_channels : List Member → Trace → ℕ
 open_channels roster past = count_to (channel_at roster past) (length past)
-
--- the connection that a call attaches: of its thread's process, to the channel that it names
-abbrev pub attaches : Option Member → Call → Option Connection
-attaches None c = None
-attaches (Some m) (ConnectAttach chid) = Some (record { process = m.process; channel = chid })
-attaches (Some m) (ChannelCreate flags) = None
-attaches (Some m) (Send coid message reply_buffer) = None
-attaches (Some m) (Receive chid buffer) = None
-attaches (Some m) (Reply rcvid status bytes) = None
-attaches (Some m) (Error rcvid code) = None
-attaches (Some m) (Read rcvid offset buffer) = None
-attaches (Some m) (Write rcvid offset bytes) = None
-attaches (Some m) (Info rcvid) = None
-attaches (Some m) (ReceivePulse chid) = None
-attaches (Some m) (Pulse coid priority code value) = None
-attaches (Some m) (PrioritySet thread priority) = None
-attaches (Some m) (State thread) = None
-attaches (Some m) (ChannelDestroy chid) = None
-attaches (Some m) Shutdown = None
-attaches (Some m) (Unblock thread) = None
-attaches (Some m) (ConnectDetach coid) = None
 
 -- connection k is detached
 abbrev pub is_detached : Trace → ℕ → Bool
@@ -197,26 +155,6 @@ pending_by past made h =
     if is_closed past h then [] else filter (λ item. not (is_gone past item)) (map (λ m. m.item) (filter (λ m. m.channel == h) made))
 
 -- ---- what a message is worth by now
-
--- the thread of a Send
-abbrev pub thread_of_send : ℕ → Call → Option ℕ
-thread_of_send t (Send coid message reply_buffer) = Some t
-thread_of_send t (ChannelCreate flags) = None
-thread_of_send t (ConnectAttach chid) = None
-thread_of_send t (Receive chid buffer) = None
-thread_of_send t (Reply rcvid status bytes) = None
-thread_of_send t (Error rcvid code) = None
-thread_of_send t (Read rcvid offset buffer) = None
-thread_of_send t (Write rcvid offset bytes) = None
-thread_of_send t (Info rcvid) = None
-thread_of_send t (ReceivePulse chid) = None
-thread_of_send t (Pulse coid priority code value) = None
-thread_of_send t (PrioritySet thread priority) = None
-thread_of_send t (State thread) = None
-thread_of_send t (ChannelDestroy chid) = None
-thread_of_send t Shutdown = None
-thread_of_send t (Unblock thread) = None
-thread_of_send t (ConnectDetach coid) = None
 
 -- the thread that sent message i
 abbrev pub sender_of : Trace → ℕ → Option ℕ

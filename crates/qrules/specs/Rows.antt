@@ -45,28 +45,6 @@ pub record Row : Type 0 where
 abbrev pub ends_none : ℕ → Option Completion
 ends_none u = None
 
--- ---- blocking
-
--- what a call waits for where it doesn't end in its own event
-abbrev pub asks : ℕ → Call → Option OpenCall
-asks n (Send coid message reply_buffer) = Some (record { number = n; wait = Answer coid message reply_buffer None })
-asks n (Receive chid buffer) = Some (record { number = n; wait = ForItem chid Any buffer })
-asks n (ChannelCreate flags) = None
-asks n (ConnectAttach chid) = None
-asks n (Reply rcvid status bytes) = None
-asks n (Error rcvid code) = None
-asks n (Read rcvid offset buffer) = None
-asks n (Write rcvid offset bytes) = None
-asks n (Info rcvid) = None
-asks n (ReceivePulse chid) = Some (record { number = n; wait = ForItem chid PulseOnly [] })
-asks n (Pulse coid priority code value) = None
-asks n (PrioritySet thread priority) = None
-asks n (State thread) = None
-asks n (ChannelDestroy chid) = None
-asks n Shutdown = None
-asks n (Unblock thread) = None
-asks n (ConnectDetach coid) = None
-
 -- ---- items
 
 -- the item that is sent over a connection, to its channel
@@ -98,26 +76,6 @@ pub record Written : Type 0 where
   pub offset : ℕ
   pub bytes : List ℕ
 
--- what a call writes
-abbrev pub writes : Call → Option Written
-writes (Write rcvid offset bytes) = Some (record { message = rcvid; offset = offset; bytes = bytes })
-writes (ChannelCreate flags) = None
-writes (ConnectAttach chid) = None
-writes (Send coid message reply_buffer) = None
-writes (Receive chid buffer) = None
-writes (Reply rcvid status bytes) = None
-writes (Error rcvid code) = None
-writes (Read rcvid offset buffer) = None
-writes (Info rcvid) = None
-writes (ReceivePulse chid) = None
-writes (Pulse coid priority code value) = None
-writes (PrioritySet thread priority) = None
-writes (State thread) = None
-writes (ChannelDestroy chid) = None
-writes Shutdown = None
-writes (Unblock thread) = None
-writes (ConnectDetach coid) = None
-
 -- ---- setting priorities
 
 -- a thread's priority that is set
@@ -125,119 +83,17 @@ pub record Setting : Type 0 where
   pub thread : ℕ
   pub priority : ℕ
 
--- what a call sets
-abbrev pub sets : Call → Option Setting
-sets (PrioritySet thread priority) = Some (record { thread = thread; priority = priority })
-sets (ChannelCreate flags) = None
-sets (ConnectAttach chid) = None
-sets (Send coid message reply_buffer) = None
-sets (Receive chid buffer) = None
-sets (Reply rcvid status bytes) = None
-sets (Error rcvid code) = None
-sets (Read rcvid offset buffer) = None
-sets (Write rcvid offset bytes) = None
-sets (Info rcvid) = None
-sets (ReceivePulse chid) = None
-sets (Pulse coid priority code value) = None
-sets (State thread) = None
-sets (ChannelDestroy chid) = None
-sets Shutdown = None
-sets (Unblock thread) = None
-sets (ConnectDetach coid) = None
-
 -- the priority that is set for thread u
 abbrev pub set_for : Option Setting → ℕ → Option ℕ
 set_for None u = None
 set_for (Some s) u = if s.thread == u then Some s.priority else None
 
--- ---- unblocking
-
--- the thread that a call wants to unblock
-abbrev pub unblocks : Call → Option ℕ
-unblocks (Unblock thread) = Some thread
-unblocks (ConnectDetach coid) = None
-unblocks (ChannelCreate flags) = None
-unblocks (ConnectAttach chid) = None
-unblocks (Send coid message reply_buffer) = None
-unblocks (Receive chid buffer) = None
-unblocks (Reply rcvid status bytes) = None
-unblocks (Error rcvid code) = None
-unblocks (Read rcvid offset buffer) = None
-unblocks (Write rcvid offset bytes) = None
-unblocks (Info rcvid) = None
-unblocks (ReceivePulse chid) = None
-unblocks (Pulse coid priority code value) = None
-unblocks (PrioritySet thread priority) = None
-unblocks (State thread) = None
-unblocks (ChannelDestroy chid) = None
-unblocks Shutdown = None
-
 -- ---- closing
-
--- the channel that a call destroys
-abbrev pub closes : Call → Option ℕ
-closes (ChannelDestroy chid) = Some chid
-closes (ChannelCreate flags) = None
-closes (ConnectAttach chid) = None
-closes (Send coid message reply_buffer) = None
-closes (Receive chid buffer) = None
-closes (Reply rcvid status bytes) = None
-closes (Error rcvid code) = None
-closes (Read rcvid offset buffer) = None
-closes (Write rcvid offset bytes) = None
-closes (Info rcvid) = None
-closes (ReceivePulse chid) = None
-closes (Pulse coid priority code value) = None
-closes (PrioritySet thread priority) = None
-closes (State thread) = None
-closes Shutdown = None
-closes (Unblock thread) = None
-closes (ConnectDetach coid) = None
-
--- the connection that a call detaches
-abbrev pub detaches : Call → Option ℕ
-detaches (ConnectDetach coid) = Some coid
-detaches (ChannelCreate flags) = None
-detaches (ConnectAttach chid) = None
-detaches (Send coid message reply_buffer) = None
-detaches (Receive chid buffer) = None
-detaches (Reply rcvid status bytes) = None
-detaches (Error rcvid code) = None
-detaches (Read rcvid offset buffer) = None
-detaches (Write rcvid offset bytes) = None
-detaches (Info rcvid) = None
-detaches (ReceivePulse chid) = None
-detaches (Pulse coid priority code value) = None
-detaches (PrioritySet thread priority) = None
-detaches (State thread) = None
-detaches (ChannelDestroy chid) = None
-detaches Shutdown = None
-detaches (Unblock thread) = None
 
 -- this is the one
 abbrev pub names : Option ℕ → ℕ → Bool
 names None h = false
 names (Some k) h = k == h
-
--- the call shuts the kernel down
-abbrev pub shuts_down : Call → Bool
-shuts_down Shutdown = true
-shuts_down (Unblock thread) = false
-shuts_down (ConnectDetach coid) = false
-shuts_down (ChannelCreate flags) = false
-shuts_down (ConnectAttach chid) = false
-shuts_down (Send coid message reply_buffer) = false
-shuts_down (Receive chid buffer) = false
-shuts_down (Reply rcvid status bytes) = false
-shuts_down (Error rcvid code) = false
-shuts_down (Read rcvid offset buffer) = false
-shuts_down (Write rcvid offset bytes) = false
-shuts_down (Info rcvid) = false
-shuts_down (ReceivePulse chid) = false
-shuts_down (Pulse coid priority code value) = false
-shuts_down (PrioritySet thread priority) = false
-shuts_down (State thread) = false
-shuts_down (ChannelDestroy chid) = false
 
 -- ---- buffers
 

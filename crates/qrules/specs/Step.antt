@@ -14,10 +14,10 @@ use Rattle.qrules.specs.declared.open_call.Wait.{Wait}
 use Rattle.qrules.specs.declared.open_call.Wait.TheVariants.{Answer, Item as ForItem}
 use Rattle.qrules.specs.Cutting.{is_unread_send}
 use Rattle.qrules.specs.Facts.{Facts, OpenChannel, sender, is_fixed, threads_of}
-use Rattle.qrules.specs.Rows.{Made, Received, Setting, Written, asks, closes, detaches, names, shuts_down, unblocks, writes, with_buffer, set_for, sets}
+use Rattle.qrules.specs.Effects.{asks, attaches, closes, creates, detaches, makes, sets, shuts_down, unblocks, writes}
+use Rattle.qrules.specs.Rows.{Made, Received, Setting, Written, names, with_buffer, set_for}
 use Rattle.qrules.specs.Answer.{row_of}
-use Rattle.qrules.specs.Items.{makes}
-use Rattle.qrules.specs.Past.{creates, attaches, held_with, made_on}
+use Rattle.qrules.specs.Past.{held_with, made_on}
 
 -- a look-up with one more record at n
 abbrev pub put_at : {A : Type 0} → Option A → ℕ → (ℕ → Option A) → ℕ → Option A

@@ -7,7 +7,7 @@ use Rattle.qtables.specs.Members.{IsRoster}
 use Rattle.qrules.specs.declared.call.Call.{Call}
 use Rattle.qrules.specs.declared.call.Call.TheVariants.{Shutdown}
 use Rattle.qrules.specs.declared.call.Completion.{Completion}
-use Rattle.qrules.specs.Buffers.{buffer_of}
+use Rattle.qrules.specs.Effects.{buffer_of}
 use Rattle.qrules.specs.Endings.{buffer_of_open, gets}
 use Rattle.qrules.specs.Facts.{threads_of}
 use Rattle.qrules.specs.Lawful.{followed_by}

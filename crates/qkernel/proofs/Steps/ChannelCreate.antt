@@ -17,7 +17,7 @@ use Rattle.qrules.specs.declared.call.Mark.TheVariants as mark
 use Rattle.qrecords.specs.declared.channel.Channel.{Channel}
 use Rattle.qrules.specs.Answer.{MayRefuse, failed}
 use Rattle.qrecords.specs.Channels.{opened, channel_in, waiting_on, pending_in, ids_of}
-use Rattle.qrules.specs.Past.{creates}
+use Rattle.qrules.specs.Effects.{creates}
 use Rattle.qkernel.specs.State.{State, IsSound, facts_in}
 use Rattle.qkernel.specs.Stands.{Steps}
 use Rattle.qrules.specs.Step.{put_at, one_for}

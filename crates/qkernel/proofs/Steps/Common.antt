@@ -15,8 +15,8 @@ use Rattle.qrecords.specs.declared.thread.Thread.{Thread}
 use Rattle.qbase.specs.declared.errno.Errno.{Errno}
 use Rattle.qqueue.specs.declared.item.Item.{Item}
 use Rattle.qrules.specs.Answer.{MayRefuse, failed, refusal, row_of}
-use Rattle.qrules.specs.Items.{makes}
-use Rattle.qrules.specs.Rows.{closes, names, sets}
+use Rattle.qrules.specs.Effects.{closes, makes, sets}
+use Rattle.qrules.specs.Rows.{names}
 use Rattle.qrules.specs.Step.{left_by, moved, pending_after, taken_out}
 use Rattle.qrules.specs.Past.{made_on}
 use Rattle.qrules.proofs.Past.Cuts.{EndsSettled, none_cut}

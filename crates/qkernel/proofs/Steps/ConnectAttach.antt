@@ -11,7 +11,7 @@ use Rattle.qrules.specs.declared.call.Completion.{Completion}
 use Rattle.qrules.specs.declared.call.Mark.TheVariants as mark
 use Rattle.qrules.specs.Answer.{MayRefuse, failed}
 use Rattle.qrecords.specs.Channels.{channel_in}
-use Rattle.qrules.specs.Past.{attaches}
+use Rattle.qrules.specs.Effects.{attaches}
 use Rattle.qkernel.specs.State.{State, IsSound, facts_in}
 use Rattle.qkernel.specs.Stands.{Steps}
 use Rattle.qrules.specs.Step.{put_at, one_for}

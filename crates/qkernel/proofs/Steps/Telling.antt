@@ -11,9 +11,8 @@ use Rattle.qbase.specs.declared.errno.Errno.TheVariants.{Again, NoMemory}
 use Rattle.qbase.proofs.Lists.{cond_same}
 use Rattle.qrules.specs.Answer.{MayRefuse, ending, failed, refusal, row_of}
 use Rattle.qrules.specs.Facts.{Facts, threads_of}
-use Rattle.qrules.specs.Items.{makes}
-use Rattle.qrules.specs.Past.{attaches, creates}
-use Rattle.qrules.specs.Rows.{Made, closes, detaches, sets, shuts_down, unblocks, writes}
+use Rattle.qrules.specs.Effects.{attaches, closes, creates, detaches, makes, sets, shuts_down, unblocks, writes}
+use Rattle.qrules.specs.Rows.{Made}
 use Rattle.qrules.specs.Step.{after_unblock, unless}
 use Rattle.qrules.specs.declared.call.Call.{Call}
 use Rattle.qrules.specs.declared.call.Completion.{Completion}

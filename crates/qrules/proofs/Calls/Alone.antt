@@ -4,8 +4,8 @@ use Rattle.std.specs.Prelude.{None, Some}
 use Rattle.std.proofs.lemmas.Option.{none-some}
 use Rattle.qrules.specs.Answer.{row_of}
 use Rattle.qrules.specs.Facts.{Facts, sender}
-use Rattle.qrules.specs.Items.{makes}
-use Rattle.qrules.specs.Rows.{Written, asks, received, writes}
+use Rattle.qrules.specs.Effects.{asks, makes, writes}
+use Rattle.qrules.specs.Rows.{Written, received}
 use Rattle.qrules.specs.declared.call.Call.{Call}
 use Rattle.qrules.specs.declared.call.Completion.{Completion}
 use Rattle.qrules.proofs.Past.Laws.{CallLaws, RowLaws, IsOwn}

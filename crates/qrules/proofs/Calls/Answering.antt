@@ -5,8 +5,8 @@ use Rattle.std.proofs.lemmas.Option.{none-some, same_Some}
 use Rattle.qrules.specs.Answer.{row_of}
 use Rattle.qrules.specs.Facts.{Facts, sender}
 use Rattle.qrules.specs.Held.{Finish, ends_sender, refusal}
-use Rattle.qrules.specs.Items.{makes}
-use Rattle.qrules.specs.Rows.{Written, received, writes}
+use Rattle.qrules.specs.Effects.{makes, writes}
+use Rattle.qrules.specs.Rows.{Written, received}
 use Rattle.qrules.specs.declared.call.Call.{Call}
 use Rattle.qrules.specs.declared.call.Completion.{Completion}
 use Rattle.qrules.proofs.Calls.Alone.{IsPlain}

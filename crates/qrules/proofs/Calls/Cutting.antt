@@ -7,8 +7,8 @@ use Rattle.qbase.specs.declared.errno.Errno.{Errno}
 use Rattle.qrules.specs.Answer.{row_of}
 use Rattle.qrules.specs.Cutting.{cut_call, cut_where, cuts}
 use Rattle.qrules.specs.Facts.{Facts, sender}
-use Rattle.qrules.specs.Items.{makes}
-use Rattle.qrules.specs.Rows.{Written, received, writes}
+use Rattle.qrules.specs.Effects.{makes, writes}
+use Rattle.qrules.specs.Rows.{Written, received}
 use Rattle.qrules.specs.declared.call.Call.{Call}
 use Rattle.qrules.specs.declared.call.Completion.{Completion}
 use Rattle.qrules.specs.declared.open_call.OpenCall.{OpenCall}

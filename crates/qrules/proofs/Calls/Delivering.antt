@@ -11,8 +11,8 @@ use Rattle.qrules.specs.Answer.{row_of, ending}
 use Rattle.qrules.specs.Delivering.{meets, receiver, receipt_by, received_of}
 use Rattle.qrules.specs.Facts.{Facts, leads_to, way}
 use Rattle.qrules.specs.Receivers.{newest}
-use Rattle.qrules.specs.Items.{makes}
-use Rattle.qrules.specs.Rows.{Received, Made, asks, received, receipt_in, sent_over, takes, takes_into, taking}
+use Rattle.qrules.specs.Effects.{asks, makes}
+use Rattle.qrules.specs.Rows.{Received, Made, received, receipt_in, sent_over, takes, takes_into, taking}
 use Rattle.qrules.specs.declared.call.Call.{Call}
 use Rattle.qrules.specs.declared.call.Completion.{Completion}
 use Rattle.qrules.specs.declared.open_call.OpenCall.{OpenCall}

@@ -8,8 +8,8 @@ use Rattle.qqueue.specs.declared.item.Kind.{Kind}
 use Rattle.qrules.specs.Answer.{row_of}
 use Rattle.qrules.specs.Facts.{Facts, message}
 use Rattle.qrules.specs.Receiving.{receipt_of, received_of, sender_for}
-use Rattle.qrules.specs.Items.{makes}
-use Rattle.qrules.specs.Rows.{Received, asks, received, taking, writes}
+use Rattle.qrules.specs.Effects.{asks, makes, writes}
+use Rattle.qrules.specs.Rows.{Received, received, taking}
 use Rattle.qrules.specs.declared.call.Call.{Call}
 use Rattle.qrules.specs.declared.call.Completion.{Completion}
 use Rattle.qrules.specs.declared.open_call.OpenCall.{OpenCall}

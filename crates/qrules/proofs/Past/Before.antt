@@ -6,9 +6,9 @@ use Rattle.std.proofs.lemmas.Option.{none-some, same_Some}
 use Rattle.qbase.specs.Laying.{lay_over}
 use Rattle.qrules.specs.Answer.{row_of}
 use Rattle.qrules.specs.Facts.{Facts, sender}
-use Rattle.qrules.specs.Items.{makes}
+use Rattle.qrules.specs.Effects.{makes, unblocks, writes}
 use Rattle.qrules.specs.Past.{held_with}
-use Rattle.qrules.specs.Rows.{Made, Received, Written, unblocks, with_buffer, writes}
+use Rattle.qrules.specs.Rows.{Made, Received, Written, with_buffer}
 use Rattle.qrules.specs.Step.{after_receipt, after_unblock, after_write, held_call, is_thread, unblocked_call, unblocked_wait, unless, written_call}
 use Rattle.qrules.specs.declared.call.Call.{Call}
 use Rattle.qrules.specs.declared.open_call.OpenCall.{OpenCall}

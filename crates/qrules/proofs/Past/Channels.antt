@@ -9,8 +9,9 @@ use Rattle.qtables.specs.declared.member.Member.{Member}
 use Rattle.qrules.specs.Answer.{row_of, Outcome}
 use Rattle.qrules.specs.Facts.{Facts, OpenChannel, is_owned_by, owns}
 use Rattle.qrules.specs.Lawful.{facts_of, IsLawful, with_event}
-use Rattle.qrules.specs.Past.{channel_at, creates, is_closed, open_channels, refuses}
-use Rattle.qrules.specs.Rows.{closes, names}
+use Rattle.qrules.specs.Effects.{closes, creates}
+use Rattle.qrules.specs.Past.{channel_at, is_closed, open_channels, refuses}
+use Rattle.qrules.specs.Rows.{names}
 use Rattle.qrules.specs.Step.{channel_after, one_for}
 use Rattle.qrules.specs.Trace.{Event, Trace}
 use Rattle.qrules.specs.declared.call.Call.{Call}

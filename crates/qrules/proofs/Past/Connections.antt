@@ -11,9 +11,10 @@ use Rattle.qrules.specs.Answer.{row_of, Outcome}
 use Rattle.qrules.specs.Calls.ConnectDetach.{due, is_own}
 use Rattle.qrules.specs.Facts.{Facts}
 use Rattle.qrules.specs.Lawful.{facts_of, IsLawful, with_event}
-use Rattle.qrules.specs.Past.{attached, attaches, connection_at, live_connections, refuses}
+use Rattle.qrules.specs.Effects.{attaches, detaches}
+use Rattle.qrules.specs.Past.{attached, connection_at, live_connections, refuses}
 use Rattle.qrules.specs.Pulses.{full_for}
-use Rattle.qrules.specs.Rows.{detaches, names}
+use Rattle.qrules.specs.Rows.{names}
 use Rattle.qrules.specs.Step.{connection_after, one_for}
 use Rattle.qrules.specs.Trace.{Event, Trace}
 use Rattle.qrules.specs.declared.call.Call.{Call}

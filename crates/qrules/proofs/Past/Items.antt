@@ -12,8 +12,8 @@ use Rattle.qrules.specs.Facts.{is_for_answer}
 use Rattle.qrules.specs.Headline.CopiedExactly.{call_at}
 use Rattle.qrules.specs.Lawful.{facts_of}
 use Rattle.qrules.specs.Past.{by_now, is_accepted, item_of, items, made_among, priority_before, priority_made, priority_of_item, is_closed, is_gone, pending, newest_block, worth}
-use Rattle.qrules.specs.Items.{makes}
-use Rattle.qrules.specs.Rows.{Made, asks}
+use Rattle.qrules.specs.Effects.{asks, makes}
+use Rattle.qrules.specs.Rows.{Made}
 use Rattle.qrules.specs.Trace.{Event, Trace}
 use Rattle.qrules.specs.declared.call.Call.{Call}
 use Rattle.qrules.specs.declared.open_call.OpenCall.{OpenCall}

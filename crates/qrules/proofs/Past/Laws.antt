@@ -10,8 +10,8 @@ use Rattle.qrules.specs.Facts.{Facts, sender, is_for_answer}
 use Rattle.qrules.specs.Laws.{is_for_reply}
 use Rattle.qrules.specs.Past.{is_failure, is_unblock_for}
 use Rattle.qrules.specs.Receiving.{sender_for}
-use Rattle.qrules.specs.Items.{makes}
-use Rattle.qrules.specs.Rows.{Row, Made, Received, Written, asks, received, unblocks, writes}
+use Rattle.qrules.specs.Effects.{asks, makes, unblocks, writes}
+use Rattle.qrules.specs.Rows.{Row, Made, Received, Written, received}
 use Rattle.qrules.specs.declared.call.Call.{Call}
 use Rattle.qrules.specs.declared.call.Call.TheVariants.{ChannelCreate, ConnectAttach, Send, Receive, Reply, Error, Read, Write, Info, ReceivePulse, Pulse, PrioritySet, State, ChannelDestroy, Shutdown, Unblock, ConnectDetach}
 use Rattle.qrules.specs.declared.call.Completion.{Completion}

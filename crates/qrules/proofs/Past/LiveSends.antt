@@ -8,10 +8,10 @@ use Rattle.qtables.specs.declared.member.Member.{Member}
 use Rattle.qrules.specs.Answer.{row_of}
 use Rattle.qrules.specs.Cutting.{is_over}
 use Rattle.qrules.specs.Facts.{Facts, is_for_answer}
-use Rattle.qrules.specs.Items.{makes}
+use Rattle.qrules.specs.Effects.{asks, attaches, detaches, makes, unblocks, writes}
 use Rattle.qrules.specs.Lawful.{facts_of, IsLawful}
-use Rattle.qrules.specs.Past.{attached, attaches, connection_at, open_call}
-use Rattle.qrules.specs.Rows.{asks, detaches, names, unblocks, writes}
+use Rattle.qrules.specs.Past.{attached, connection_at, open_call}
+use Rattle.qrules.specs.Rows.{names}
 use Rattle.qrules.specs.Step.{after_receipt, after_unblock, after_write, connection_after, open_call_after, put_at, unblocked_wait, unless}
 use Rattle.qrules.specs.Trace.{Trace}
 use Rattle.qrules.specs.declared.call.Call.{Call}

@@ -11,10 +11,10 @@ use Rattle.qtables.specs.declared.member.Member.{Member}
 use Rattle.qrules.specs.Answer.{Outcome, row_of}
 use Rattle.qrules.specs.Cutting.{is_unread_send}
 use Rattle.qrules.specs.Facts.{Facts}
-use Rattle.qrules.specs.Items.{makes}
+use Rattle.qrules.specs.Effects.{makes, sets}
 use Rattle.qrules.specs.Lawful.{IsLawful, facts_of, with_event}
 use Rattle.qrules.specs.Past.{is_accepted, is_gone, is_taken, made_on, open_call, set_by, worth}
-use Rattle.qrules.specs.Rows.{Received, Setting, set_for, sets}
+use Rattle.qrules.specs.Rows.{Received, Setting, set_for}
 use Rattle.qrules.specs.Step.{is_cut, left_by, moved, taken_out}
 use Rattle.qrules.specs.Trace.{Event, Trace}
 use Rattle.qrules.specs.declared.call.Call.{Call}

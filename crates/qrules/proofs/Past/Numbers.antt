@@ -8,7 +8,8 @@ use Rattle.qtables.specs.declared.member.Member.{Member}
 use Rattle.qrules.specs.Facts.{is_for_answer}
 use Rattle.qrules.specs.Headline.CopiedExactly.{call_at}
 use Rattle.qrules.specs.Past.{by_now, filled, is_accepted, is_ended, made_at, newest_block, unless_ended, with_receipt, held_with, open_call, receipt_of, priority_of_item, unblocked_among, items}
-use Rattle.qrules.specs.Rows.{asks, with_buffer}
+use Rattle.qrules.specs.Effects.{asks}
+use Rattle.qrules.specs.Rows.{with_buffer}
 use Rattle.qrules.specs.Trace.{Event, Trace}
 use Rattle.qrules.specs.declared.call.Call.{Call}
 use Rattle.qrules.specs.declared.open_call.OpenCall.{OpenCall}

@@ -14,8 +14,8 @@ use Rattle.qrules.specs.Facts.{Facts, sender, threads_of}
 use Rattle.qrules.specs.Lawful.{facts_of, IsLawful, with_event}
 use Rattle.qrules.specs.Past.{filled, refuses, ends, is_ended, is_taken, item_of, receipt_of, priority_of_item, newest_block, held_with, unless_ended, with_receipt, open_call, unblocked_among}
 use Rattle.qrules.specs.Receiving.{sender_for}
-use Rattle.qrules.specs.Items.{makes}
-use Rattle.qrules.specs.Rows.{Made, Received, Written, asks, unblocks, writes, written_over}
+use Rattle.qrules.specs.Effects.{asks, makes, unblocks, writes}
+use Rattle.qrules.specs.Rows.{Made, Received, Written, written_over}
 use Rattle.qrules.specs.Step.{held_call, is_thread, after_receipt, after_unblock, after_write, unblocked_call, unless, written_call, open_call_after}
 use Rattle.qrules.specs.Trace.{Event, Trace}
 use Rattle.qrules.specs.declared.call.Call.{Call}

@@ -14,8 +14,8 @@ use Rattle.qtables.specs.declared.member.Member.{Member}
 use Rattle.qrules.specs.Answer.{row_of, Outcome}
 use Rattle.qrules.specs.Lawful.{facts_of, IsLawful, with_event}
 use Rattle.qrules.specs.Past.{channel_at, ends, is_closed, is_ended, is_taken, is_gone, items, item_of, pending, receipt_among, receipt_of, open_call, made_on}
-use Rattle.qrules.specs.Items.{makes}
-use Rattle.qrules.specs.Rows.{Made, Received, closes, names, sets}
+use Rattle.qrules.specs.Effects.{closes, makes, sets}
+use Rattle.qrules.specs.Rows.{Made, Received, names}
 use Rattle.qrules.specs.Step.{is_cut, left_by, moved, taken_out, pending_after}
 use Rattle.qrules.specs.Trace.{Event, Trace}
 use Rattle.qrules.specs.declared.call.Call.{Call}

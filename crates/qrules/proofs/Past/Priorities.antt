@@ -11,7 +11,8 @@ use Rattle.qrules.specs.Answer.{row_of, ending, Outcome}
 use Rattle.qrules.specs.Facts.{threads_of}
 use Rattle.qrules.specs.Lawful.{facts_of, IsLawful, with_event}
 use Rattle.qrules.specs.Past.{by_now, carried, channel_at, first_among, given_by, item_of, items, made_among, priority_of_thread, refuses, worth}
-use Rattle.qrules.specs.Rows.{Made, Received, received, set_for, sets}
+use Rattle.qrules.specs.Effects.{sets}
+use Rattle.qrules.specs.Rows.{Made, Received, received, set_for}
 use Rattle.qrules.specs.Step.{taken_by, priority_after}
 use Rattle.qrules.specs.Trace.{Event, Trace}
 use Rattle.qrules.specs.declared.call.Call.{Call}

@@ -8,11 +8,11 @@ use Rattle.std.proofs.lemmas.Option.{same_Some}
 use Rattle.std.proofs.Math.Bool.{and-false, or-true, or-false}
 use Rattle.qtables.specs.declared.member.Member.{Member}
 use Rattle.qrules.specs.Facts.{is_for_answer}
-use Rattle.qrules.specs.Items.{makes}
+use Rattle.qrules.specs.Effects.{makes, unblocks}
 use Rattle.qrules.specs.Laws.{is_for_reply}
 use Rattle.qrules.specs.Lawful.{facts_of}
 use Rattle.qrules.specs.Past.{filled, held_with, is_taken, is_unblock_for, item_of, items, open_call, priority_of_item, receipt_among, receipt_of, unblocked_among, with_receipt}
-use Rattle.qrules.specs.Rows.{Made, unblocks}
+use Rattle.qrules.specs.Rows.{Made}
 use Rattle.qrules.specs.Step.{after_unblock, unblocked_call, unblocked_wait}
 use Rattle.qrules.specs.Trace.{Event, Trace}
 use Rattle.qrules.specs.declared.call.Call.{Call}

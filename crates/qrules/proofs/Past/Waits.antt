@@ -10,7 +10,7 @@ use Rattle.qtables.specs.declared.member.Member.{Member}
 use Rattle.qrules.specs.Answer.{row_of}
 use Rattle.qrules.specs.Calls.Info.{told}
 use Rattle.qrules.specs.Facts.{Facts, is_send, sender, sender_among, threads_of}
-use Rattle.qrules.specs.Rows.{asks}
+use Rattle.qrules.specs.Effects.{asks}
 use Rattle.qrules.specs.declared.call.Call.{Call}
 use Rattle.qrules.specs.declared.call.Call.TheVariants.{ChannelCreate, ConnectAttach, Send, Receive, Reply, Error, Read, Write, Info, ReceivePulse, Pulse, PrioritySet, State, ChannelDestroy, Shutdown, Unblock, ConnectDetach}
 use Rattle.qrules.specs.declared.open_call.OpenCall.{OpenCall}

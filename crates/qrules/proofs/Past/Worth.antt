@@ -5,8 +5,9 @@ use Rattle.std.specs.Option.{option_map, option_or}
 use Rattle.std.proofs.lemmas.Bool.{ne_eqb}
 use Rattle.qqueue.specs.Best.{is_pulse, with_priority}
 use Rattle.qqueue.specs.declared.item.Item.{Item}
-use Rattle.qrules.specs.Past.{by_now, is_accepted, is_gone, is_taken, made_among, is_unblock_for, sender_of, set_by, set_since, thread_of_send, unblocked_among, worth}
-use Rattle.qrules.specs.Rows.{Made, set_for, sets}
+use Rattle.qrules.specs.Effects.{sets, thread_of_send}
+use Rattle.qrules.specs.Past.{by_now, is_accepted, is_gone, is_taken, made_among, is_unblock_for, sender_of, set_by, set_since, unblocked_among, worth}
+use Rattle.qrules.specs.Rows.{Made, set_for}
 use Rattle.qrules.specs.Trace.{Event, Trace}
 use Rattle.qbase.proofs.Lists.{eqb_same}
 use Rattle.qrules.proofs.Past.Numbers.{made_beyond}

@@ -9,7 +9,8 @@ use Rattle.qrules.specs.Answer.{Outcome}
 use Rattle.qrules.specs.Facts.{Facts, sender, threads_of}
 use Rattle.qrules.specs.Lawful.{facts_of, IsLawful, with_event}
 use Rattle.qrules.specs.Past.{filled, is_accepted, open_call, refuses, with_receipt, with_writes}
-use Rattle.qrules.specs.Rows.{Written, asks, with_buffer, writes, written_over}
+use Rattle.qrules.specs.Effects.{asks, writes}
+use Rattle.qrules.specs.Rows.{Written, with_buffer, written_over}
 use Rattle.qrules.specs.Step.{after_write, is_thread, written_call}
 use Rattle.qrules.specs.Trace.{Event, Trace}
 use Rattle.qrules.specs.declared.call.Call.{Call}

@@ -20,10 +20,9 @@ use Rattle.qrules.specs.declared.call.Info.{Info as Told}
 use Rattle.qrules.specs.declared.call.Mark.TheVariants as mark
 use Rattle.qrules.specs.Cutting.{is_on}
 use Rattle.qrules.specs.Facts.{Facts, is_for_answer, message, sender, threads_of, way}
-use Rattle.qrules.specs.Headline.AnsweredToSender.{answered_by, is_answer}
-use Rattle.qrules.specs.Past.{thread_of_send}
-use Rattle.qrules.specs.Items.{makes}
-use Rattle.qrules.specs.Rows.{Made, asks, given, pulse_item, sent_over}
+use Rattle.qrules.specs.Effects.{answered_by, asks, makes, thread_of_send}
+use Rattle.qrules.specs.Headline.AnsweredToSender.{is_answer}
+use Rattle.qrules.specs.Rows.{Made, given, pulse_item, sent_over}
 use Rattle.qrules.specs.declared.call.Call.{Call}
 use Rattle.qrules.specs.declared.call.Call.TheVariants.{ChannelCreate, ConnectAttach, Send, Receive, Reply, Error, Read, Write, Info, ReceivePulse, Pulse, PrioritySet, State, ChannelDestroy, Shutdown, Unblock, ConnectDetach}
 use Rattle.qrules.specs.declared.call.Completion.{Completion}

@@ -9,9 +9,9 @@ use Rattle.qtables.specs.declared.connection.Connection.{Connection}
 use Rattle.qtables.specs.declared.member.Member.{Member}
 use Rattle.qrules.specs.Headline.BestFirst.{takeable}
 use Rattle.qrules.specs.Headline.CopiedExactly.{call_at}
-use Rattle.qrules.specs.Headline.SentOrder.{connection_of, sends_over}
+use Rattle.qrules.specs.Effects.{makes, sends_over}
+use Rattle.qrules.specs.Headline.SentOrder.{connection_of}
 use Rattle.qrules.specs.Past.{item_of, pending, priority_before, attached, made_on}
-use Rattle.qrules.specs.Items.{makes}
 use Rattle.qrules.specs.Rows.{message_item, pulse_item, Made, sent_over}
 use Rattle.qrules.specs.Trace.{Event, Trace}
 use Rattle.qrules.specs.declared.call.Call.{Call}

@@ -15,7 +15,7 @@ use Rattle.qqueue.specs.declared.item.Kind.TheVariants.{Any, PulseOnly}
 use Rattle.qbase.specs.Laying.{laid_count, lay_over}
 use Rattle.qtables.specs.declared.member.Member.{Member}
 use Rattle.qrules.specs.Answer.{row_of, ending, Answers}
-use Rattle.qrules.specs.Buffers.{buffer_of}
+use Rattle.qrules.specs.Effects.{buffer_of, message_sent, replies_with, writes}
 use Rattle.qrules.specs.Calls.Error.{errored}
 use Rattle.qrules.specs.Calls.Info.{told, telling}
 use Rattle.qrules.specs.Calls.Reply.{replied}
@@ -23,10 +23,10 @@ use Rattle.qrules.specs.Calls.Send as send
 use Rattle.qrules.specs.Cutting.{buffer_of_wait, cut_call, is_on, is_over}
 use Rattle.qrules.specs.Facts.{Facts, message, message_in, sender, threads_of, way}
 use Rattle.qrules.specs.Held.{Finish, refusal, reply_buffer, reply_buffer_in, reply_buffer_of}
-use Rattle.qrules.specs.Headline.CopiedExactly.{CopiedExactly, IsCopied, buffer_at, buffer_by, call_at, message_at, message_of, replies_with}
+use Rattle.qrules.specs.Headline.CopiedExactly.{CopiedExactly, IsCopied, buffer_at, buffer_by, call_at, message_at}
 use Rattle.qrules.specs.Lawful.{facts_of, IsLawful}
 use Rattle.qrules.specs.Past.{open_call, refuses}
-use Rattle.qrules.specs.Rows.{pulse_item, taking, writes, Made}
+use Rattle.qrules.specs.Rows.{pulse_item, taking, Made}
 use Rattle.qrules.specs.Trace.{Event, Trace}
 use Rattle.qrules.specs.declared.call.Call.{Call}
 use Rattle.qrules.specs.declared.call.Call.TheVariants.{ChannelCreate, ConnectAttach, Send, Receive, Reply, Error, Read, Write, Info, ReceivePulse, Pulse, PrioritySet, State, ChannelDestroy, Shutdown, Unblock, ConnectDetach}
@@ -67,11 +67,11 @@ event t c X = record { thread = t; call = c; endings = X }
 buffer_newest : (e : Event) (past : Trace) → buffer_at (e ∷ past) (length past + 1) ≡ buffer_by (e ∷ past) (length past + 1) e.call
 buffer_newest e past = ap (λ c. option_map_or (buffer_by (e ∷ past) (length past + 1)) c []) (call_newest e past)
 
-message_newest : (e : Event) (past : Trace) → message_at (e ∷ past) (length past + 1) ≡ message_of e.call
-message_newest e past = ap (λ c. option_map_or message_of c []) (call_newest e past)
+message_newest : (e : Event) (past : Trace) → message_at (e ∷ past) (length past + 1) ≡ message_sent e.call
+message_newest e past = ap (λ c. option_map_or message_sent c []) (call_newest e past)
 
 message_earlier : (e : Event) (past : Trace) (i : ℕ) → i ≤ length past → message_at (e ∷ past) i ≡ message_at past i
-message_earlier e past i l = ap (λ c. option_map_or message_of c []) (call_earlier e past i l)
+message_earlier e past i l = ap (λ c. option_map_or message_sent c []) (call_earlier e past i l)
 
 -- a call that writes nothing leaves the buffers of earlier calls
 buffer_stays : (e : Event) (past : Trace) (i : ℕ) (c : Call) → writes e.call ≡ None → buffer_by (e ∷ past) i c ≡ buffer_by past i c

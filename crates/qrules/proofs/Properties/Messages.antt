@@ -9,12 +9,13 @@ use Rattle.qqueue.specs.declared.item.Item.{Item}
 use Rattle.qtables.specs.declared.member.Member.{Member}
 use Rattle.qrules.specs.Cutting.{buffer_of_wait}
 use Rattle.qrules.specs.Facts.{is_for_answer, message, message_in, message_of, sender, threads_of, is_send}
-use Rattle.qrules.specs.Headline.CopiedExactly.{buffer_at, buffer_by, message_at, message_of as message_in_call}
+use Rattle.qrules.specs.Effects.{message_sent as message_in_call}
+use Rattle.qrules.specs.Headline.CopiedExactly.{buffer_at, buffer_by, message_at}
 use Rattle.qrules.specs.Lawful.{facts_of, IsLawful}
 use Rattle.qrules.specs.Past.{ends, filled, held_with, is_ended, item_of, newest_block, open_call, priority_of_item, receipt_of, with_receipt, with_writes}
 use Rattle.qrules.specs.Facts.{Facts}
-use Rattle.qrules.specs.Items.{makes}
-use Rattle.qrules.specs.Rows.{pulse_item, Made, asks, with_buffer}
+use Rattle.qrules.specs.Effects.{asks, makes}
+use Rattle.qrules.specs.Rows.{pulse_item, Made, with_buffer}
 use Rattle.qrules.specs.Trace.{Event, Trace}
 use Rattle.qrules.specs.declared.call.Call.{Call}
 use Rattle.qrules.specs.declared.call.Call.TheVariants.{ChannelCreate, ConnectAttach, Send, Receive, Reply, Error, Read, Write, Info, ReceivePulse, Pulse, PrioritySet, State, ChannelDestroy, Shutdown, Unblock, ConnectDetach}

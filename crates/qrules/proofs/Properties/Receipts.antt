@@ -16,9 +16,8 @@ use Rattle.qrules.specs.Calls.Reply.{replied}
 use Rattle.qrules.specs.Calls.Send.{item}
 use Rattle.qrules.specs.Cutting.{is_on}
 use Rattle.qrules.specs.Facts.{Facts, message, sender, way}
-use Rattle.qrules.specs.Headline.BestFirst.{receives_on}
+use Rattle.qrules.specs.Effects.{makes, receives_on}
 use Rattle.qrules.specs.Headline.ReceivedOnce.{item_received}
-use Rattle.qrules.specs.Items.{makes}
 use Rattle.qrules.specs.Rows.{Made, pulse_item, received}
 use Rattle.qrules.specs.declared.call.Call.{Call}
 use Rattle.qrules.specs.declared.call.Call.TheVariants.{ChannelCreate, ConnectAttach, Send, Receive, Reply, Error, Read, Write, Info, ReceivePulse, Pulse, PrioritySet, State, ChannelDestroy, Shutdown, Unblock, ConnectDetach}

@@ -10,8 +10,9 @@ use Rattle.qtables.specs.declared.member.Member.{Member}
 use Rattle.qrules.specs.Facts.{is_for_answer}
 use Rattle.qrules.specs.Headline.AnsweredToSender.{channel_among}
 use Rattle.qrules.specs.Lawful.{facts_of, IsLawful}
-use Rattle.qrules.specs.Past.{filled, is_accepted, item_of, items, made_at, newest_block, priority_of_item, receipt_of, sender_of, thread_of_send, with_receipt, with_writes, held_with, attached}
-use Rattle.qrules.specs.Rows.{Made, asks, with_buffer}
+use Rattle.qrules.specs.Effects.{asks, thread_of_send}
+use Rattle.qrules.specs.Past.{filled, is_accepted, item_of, items, made_at, newest_block, priority_of_item, receipt_of, sender_of, with_receipt, with_writes, held_with, attached}
+use Rattle.qrules.specs.Rows.{Made, with_buffer}
 use Rattle.qrules.specs.Trace.{Event, Trace}
 use Rattle.qrules.specs.declared.open_call.OpenCall.{OpenCall}
 use Rattle.qrules.specs.declared.open_call.Receipt.{Receipt}

@@ -13,7 +13,8 @@ use Rattle.qqueue.specs.declared.item.Kind.TheVariants.{Any}
 use Rattle.qqueue.proofs.OrderLaws.{best-at}
 use Rattle.qtables.specs.Members.{IsRoster}
 use Rattle.qtables.specs.declared.member.Member.{Member}
-use Rattle.qrules.specs.Headline.BestFirst.{BestFirst, TakesBest, receives_on, takeable}
+use Rattle.qrules.specs.Effects.{receives_on}
+use Rattle.qrules.specs.Headline.BestFirst.{BestFirst, TakesBest, takeable}
 use Rattle.qrules.specs.Headline.ReceivedOnce.{item_received}
 use Rattle.qrules.specs.Headline.SentOrder.{IsPlainReceive, NoneSentEarlier, SentOrder, connection_of}
 use Rattle.qrules.specs.Lawful.{IsLawful}

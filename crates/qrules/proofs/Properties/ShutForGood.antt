@@ -12,12 +12,11 @@ use Rattle.qrules.specs.Answer.{row_of, Outcome}
 use Rattle.qrules.specs.Cutting.{is_on, is_to}
 use Rattle.qrules.specs.Facts.{Facts, is_for_answer, leads_to, owns}
 use Rattle.qrules.specs.Headline.AnsweredToSender.{channel_among}
-use Rattle.qrules.specs.Headline.BestFirst.{receives_on}
+use Rattle.qrules.specs.Effects.{asks, attaches, closes, detaches, makes, receives_on, unblocks, writes}
 use Rattle.qrules.specs.Headline.ShutForGood.{NoneBlockedOn, NoneReceivedFrom, ShutForGood}
 use Rattle.qrules.specs.Lawful.{facts_of, IsLawful}
-use Rattle.qrules.specs.Past.{attached, attaches, connection_at, held_with, is_closed, items, open_call}
-use Rattle.qrules.specs.Items.{makes}
-use Rattle.qrules.specs.Rows.{asks, closes, names, with_buffer, writes, unblocks, detaches}
+use Rattle.qrules.specs.Past.{attached, connection_at, held_with, is_closed, items, open_call}
+use Rattle.qrules.specs.Rows.{names, with_buffer}
 use Rattle.qrules.specs.Step.{after_receipt, after_write, channel_after, connection_after, open_call_after, put_at, unless, after_unblock, unblocked_wait}
 use Rattle.qrules.specs.Trace.{Event, Trace}
 use Rattle.qrules.specs.declared.call.Call.{Call}

@@ -16,12 +16,11 @@ use Rattle.qrules.specs.Calls.Send.{item}
 use Rattle.qrules.specs.Delivering.{receiver, received_of}
 use Rattle.qrules.specs.Receiving.{receipt_of}
 use Rattle.qrules.specs.Facts.{Facts, sender, threads_of, way}
-use Rattle.qrules.specs.Headline.BestFirst.{receives_on}
+use Rattle.qrules.specs.Effects.{asks, closes, makes, receives_on, sets, unblocks, writes}
 use Rattle.qrules.specs.Lawful.{facts_of, IsLawful}
 use Rattle.qrules.specs.Past.{held_with, made_on}
 use Rattle.qrules.specs.Receivers.{newest}
-use Rattle.qrules.specs.Items.{makes}
-use Rattle.qrules.specs.Rows.{Made, Received, asks, closes, names, pulse_item, sent_over, sets, takes, taking, with_buffer, writes, unblocks}
+use Rattle.qrules.specs.Rows.{Made, Received, names, pulse_item, sent_over, takes, taking, with_buffer}
 use Rattle.qrules.specs.Step.{after_receipt, after_write, is_cut, left_by, moved, open_call_after, pending_after, taken_out, unless, after_unblock, unblocked_wait}
 use Rattle.qrules.specs.Trace.{Trace}
 use Rattle.qrules.specs.declared.call.Call.{Call}

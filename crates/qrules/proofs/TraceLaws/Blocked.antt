@@ -11,11 +11,11 @@ use Rattle.qtables.specs.declared.member.Member.{Member}
 use Rattle.qrules.specs.Answer.{row_of, ending}
 use Rattle.qrules.specs.Endings.{gets, may_end, AreApart, BlockedUnlessEnded, CallerGetsItsOwn, EndingsAreApart, EndingsGoToBlocked, EndsOrWaits, IsDue}
 use Rattle.qrules.specs.Facts.{Facts, sender, threads_of}
-use Rattle.qrules.specs.Items.{makes}
+use Rattle.qrules.specs.Effects.{asks, makes, unblocks, writes}
 use Rattle.qrules.specs.Laws.{blocker}
 use Rattle.qrules.specs.Lawful.{facts_of, IsLawful}
 use Rattle.qrules.specs.Past.{ends, is_accepted, is_ended, open_call}
-use Rattle.qrules.specs.Rows.{Made, Received, Written, asks, unblocks, writes}
+use Rattle.qrules.specs.Rows.{Made, Received, Written}
 use Rattle.qrules.specs.Step.{after_receipt, after_unblock, after_write, held_call, is_thread, open_call_after, unblocked_call, unless, written_call}
 use Rattle.qrules.specs.Trace.{Event, Trace}
 use Rattle.qrules.specs.declared.call.Call.{Call}

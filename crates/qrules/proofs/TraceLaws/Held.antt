@@ -15,7 +15,8 @@ use Rattle.qrules.specs.Headline.ReceivedOnce.{item_received}
 use Rattle.qrules.specs.Laws.{HeldIsHeldSend, IsHeldSend, blocker, is_for_reply}
 use Rattle.qrules.specs.Lawful.{IsLawful, facts_of}
 use Rattle.qrules.specs.Past.{copied_of, ends, filled, held_with, is_ended, is_taken, item_of, made_at, open_call, priority_of_item, receipt_among, receipt_of, with_receipt}
-use Rattle.qrules.specs.Rows.{Made, asks, received}
+use Rattle.qrules.specs.Effects.{asks}
+use Rattle.qrules.specs.Rows.{Made, received}
 use Rattle.qrules.specs.Trace.{Trace}
 use Rattle.qrules.specs.declared.call.Completion.{Completion}
 use Rattle.qrules.specs.declared.open_call.OpenCall.{OpenCall}

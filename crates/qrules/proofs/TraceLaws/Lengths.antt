@@ -12,7 +12,7 @@ use Rattle.qqueue.specs.Best.{is_pulse}
 use Rattle.qqueue.specs.declared.item.Item.{Item}
 use Rattle.qqueue.specs.declared.item.Kind.TheVariants.{Any, PulseOnly}
 use Rattle.qrules.specs.Answer.{row_of, ending}
-use Rattle.qrules.specs.Buffers.{buffer_of}
+use Rattle.qrules.specs.Effects.{asks, buffer_of, makes, unblocks, writes}
 use Rattle.qrules.specs.Calls.ConnectDetach as connect_detach
 use Rattle.qrules.specs.Calls.Error.{errored}
 use Rattle.qrules.specs.Calls.Reply.{replied}
@@ -23,8 +23,7 @@ use Rattle.qrules.specs.Cutting.{buffer_of_wait, is_on}
 use Rattle.qrules.specs.Endings.{buffer_of_open, buffer_brought, EndingsKeepLength, OpenCallsKeepLength}
 use Rattle.qrules.specs.Facts.{Facts, message, sender, threads_of, way}
 use Rattle.qrules.specs.Held.{Finish, ends_sender, refusal}
-use Rattle.qrules.specs.Items.{makes}
-use Rattle.qrules.specs.Rows.{Made, Received, Written, asks, pulse_item, taking, unblocks, with_buffer, writes, written_over}
+use Rattle.qrules.specs.Rows.{Made, Received, Written, pulse_item, taking, with_buffer, written_over}
 use Rattle.qrules.specs.Step.{after_receipt, after_unblock, after_write, held_call, is_thread, open_call_after, unblocked_call, unblocked_wait, unless, written_call}
 use Rattle.qrules.specs.Past.{filled, held_with, is_accepted, with_receipt, with_writes}
 use Rattle.qrules.specs.declared.call.Call.{Call}

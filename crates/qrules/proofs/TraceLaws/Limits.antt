@@ -17,8 +17,8 @@ use Rattle.qrules.specs.Facts.{Facts, way}
 use Rattle.qrules.specs.Laws.{PulsesAreLimited}
 use Rattle.qrules.specs.Lawful.{facts_of}
 use Rattle.qrules.specs.Past.{pending, made_on}
-use Rattle.qrules.specs.Items.{makes}
-use Rattle.qrules.specs.Rows.{Received, Setting, closes, message_item, names, pulse_item, sent_over, sets, Made}
+use Rattle.qrules.specs.Effects.{closes, makes, sets}
+use Rattle.qrules.specs.Rows.{Received, Setting, message_item, names, pulse_item, sent_over, Made}
 use Rattle.qrules.specs.Step.{is_cut, left_by, moved, pending_after, taken_out}
 use Rattle.qrules.specs.Answer.{row_of}
 use Rattle.qrules.specs.declared.call.Call.{Call}

@@ -15,7 +15,8 @@ use Rattle.qqueue.specs.declared.item.Kind.TheVariants.{Any, PulseOnly}
 use Rattle.qqueue.proofs.OrderLaws.{best-at, best_is_first}
 use Rattle.qtables.specs.Members.{IsRoster}
 use Rattle.qtables.specs.declared.member.Member.{Member}
-use Rattle.qrules.specs.Headline.BestFirst.{TakesBest, receives_on, takeable}
+use Rattle.qrules.specs.Effects.{receives_on}
+use Rattle.qrules.specs.Headline.BestFirst.{TakesBest, takeable}
 use Rattle.qrules.specs.Headline.ReceivedOnce.{item_received}
 use Rattle.qrules.specs.Lawful.{IsLawful}
 use Rattle.qrules.specs.Laws.{FirstGoesFirst, HasPriority, TakesBeside}

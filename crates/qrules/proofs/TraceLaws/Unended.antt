@@ -8,7 +8,7 @@ use Rattle.qtables.specs.declared.member.Member.{Member}
 use Rattle.qrules.specs.Laws.{blocker, IsUnended, AtMostOneOpen, OpenIsUnended}
 use Rattle.qrules.specs.Lawful.{IsLawful}
 use Rattle.qrules.specs.Past.{filled, ends, is_accepted, is_ended, made_at, newest_block, open_call, priority_of_item, receipt_of}
-use Rattle.qrules.specs.Rows.{asks}
+use Rattle.qrules.specs.Effects.{asks}
 use Rattle.qrules.specs.Trace.{Event, Trace}
 use Rattle.qrules.specs.declared.call.Call.{Call}
 use Rattle.qrules.specs.declared.call.Call.TheVariants.{ChannelCreate, ConnectAttach, Send, Receive, Reply, Error, Read, Write, Info, ReceivePulse, Pulse, PrioritySet, State, ChannelDestroy, Shutdown, Unblock, ConnectDetach}

@@ -6,6 +6,7 @@ use Rattle.qbase.specs.declared.flags.ChannelFlags.{ChannelFlags}
 use Rattle.qrules.specs.declared.call.Mark.TheVariants as mark
 use Rattle.qrules.specs.Facts.{Facts}
 use Rattle.qrules.specs.Rows.{Row, ends_none}
+use Rattle.qrules.specs.Effect.{Effect, plain}
 
 -- a flag that isn't one of the three, and then 64 open channels
 abbrev pub refusal : Facts → ChannelFlags → Option Errno
@@ -20,3 +21,7 @@ row f t flags = record {
   ends = ends_none;
   receipt = None;
 }
+
+-- it creates a channel
+abbrev pub effect : ChannelFlags → Effect
+effect flags = record plain { creates = Some flags }

@@ -6,6 +6,7 @@ use Rattle.qrules.specs.declared.call.Mark.TheVariants as mark
 use Rattle.qrules.specs.Cutting.{cuts, is_on}
 use Rattle.qrules.specs.Facts.{Facts, owns}
 use Rattle.qrules.specs.Rows.{Row}
+use Rattle.qrules.specs.Effect.{Effect, plain}
 
 -- a channel that isn't open, or isn't of the thread's process
 abbrev pub refusal : Facts → ℕ → ℕ → Option Errno
@@ -20,3 +21,7 @@ row f t chid = record {
   ends = cuts f (λ u. is_on f.connection chid) Srch;
   receipt = None;
 }
+
+-- it destroys the channel
+abbrev pub effect : ℕ → Effect
+effect chid = record plain { closes = Some chid }

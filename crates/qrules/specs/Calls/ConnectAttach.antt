@@ -5,6 +5,7 @@ use Rattle.qbase.specs.declared.errno.Errno.TheVariants.{Srch, Again}
 use Rattle.qrules.specs.declared.call.Mark.TheVariants as mark
 use Rattle.qrules.specs.Facts.{Facts}
 use Rattle.qrules.specs.Rows.{Row, ends_none}
+use Rattle.qrules.specs.Effect.{Effect, plain}
 
 -- no such channel, and then 1,024 live connections
 abbrev pub refusal : Facts → ℕ → Option Errno
@@ -19,3 +20,7 @@ row f t chid = record {
   ends = ends_none;
   receipt = None;
 }
+
+-- it attaches a connection to the channel
+abbrev pub effect : ℕ → Effect
+effect chid = record plain { attaches = Some chid }

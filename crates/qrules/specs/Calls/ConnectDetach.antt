@@ -11,6 +11,7 @@ use Rattle.qrules.specs.Cutting.{cuts, is_over}
 use Rattle.qrules.specs.Facts.{Facts, count_to, is_of_process, tells_disconnect}
 use Rattle.qrules.specs.Pulses.{full_for, told, told_receipt, wants_room_for}
 use Rattle.qrules.specs.Rows.{Made, Row, disconnect_item}
+use Rattle.qrules.specs.Effect.{Effect, plain}
 
 -- a connection, if it is one of process p to channel h
 abbrev pub between : ℕ → ℕ → Option Connection → Option Connection
@@ -54,3 +55,7 @@ row f t k = record {
   ends = ends f k (due f t k);
   receipt = told_receipt f (due f t k);
 }
+
+-- it detaches the connection, and makes a pulse where one is due
+abbrev pub effect : ℕ → Effect
+effect coid = record plain { detaches = Some coid; makes = λ f t. due f t coid }

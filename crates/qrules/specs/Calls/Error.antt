@@ -6,6 +6,7 @@ use Rattle.qrules.specs.declared.call.Mark.TheVariants as mark
 use Rattle.qrules.specs.Facts.{Facts, sender}
 use Rattle.qrules.specs.Held.{Finish, ends_sender, refusal}
 use Rattle.qrules.specs.Rows.{Row}
+use Rattle.qrules.specs.Effect.{Effect, plain}
 
 -- the code 0 is a reply of status 0 with no bytes
 abbrev pub mark_of : ℤ → Mark
@@ -24,3 +25,7 @@ row f t rcvid code = record {
   ends = ends_sender f (errored code) (sender f rcvid);
   receipt = None;
 }
+
+-- it answers the message; the code 0 is a reply of status 0 with no bytes
+abbrev pub effect : ℕ → ℤ → Effect
+effect rcvid code = record plain { answers = Some rcvid; replies = if int_eq code (pos 0) then Some (pos 0, []) else None }

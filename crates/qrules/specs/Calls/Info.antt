@@ -12,6 +12,7 @@ use Rattle.qrules.specs.declared.open_call.Wait.TheVariants.{Answer, Item as For
 use Rattle.qrules.specs.Facts.{Facts, sender}
 use Rattle.qrules.specs.Held.{refusal}
 use Rattle.qrules.specs.Rows.{Row, ends_none}
+use Rattle.qrules.specs.Effect.{Effect, plain}
 
 -- the sender, the connection, how many bytes were copied at the receipt, the lengths of message and reply buffer, and the priority of the
 -- receipt
@@ -51,3 +52,7 @@ row f t rcvid = record {
   ends = ends_none;
   receipt = None;
 }
+
+-- it changes nothing
+abbrev pub effect : Effect
+effect = plain

@@ -5,6 +5,7 @@ use Rattle.qbase.specs.declared.errno.Errno.TheVariants.{Srch}
 use Rattle.qrules.specs.declared.call.Mark.TheVariants as mark
 use Rattle.qrules.specs.Facts.{Facts, is_fellow}
 use Rattle.qrules.specs.Rows.{Row, ends_none}
+use Rattle.qrules.specs.Effect.{Effect, plain}
 
 -- a thread that the roster hasn't, or of another process
 abbrev pub refusal : Facts → ℕ → ℕ → Option Errno
@@ -19,3 +20,7 @@ row f t thread = record {
   ends = ends_none;
   receipt = None;
 }
+
+-- it sets the thread's priority
+abbrev pub effect : ℕ → ℕ → Effect
+effect thread priority = record plain { sets = Some (record { thread = thread; priority = priority }) }

@@ -6,7 +6,8 @@ use Rattle.qrules.specs.declared.call.Mark.TheVariants as mark
 use Rattle.qrules.specs.Delivering.{receiver, meets, received_of, wants_room}
 use Rattle.qrules.specs.Facts.{Facts, way}
 use Rattle.qrules.specs.Pulses.{full}
-use Rattle.qrules.specs.Rows.{Row, pulse_item}
+use Rattle.qrules.specs.Rows.{Row, pulse_item, sent_over}
+use Rattle.qrules.specs.Effect.{Effect, plain}
 
 -- a code below 0
 abbrev pub is_negative : ℤ → Bool
@@ -31,3 +32,7 @@ row f t coid priority code value = record {
   ends = meets f (pulse_item f.number priority code value) [] (receiver f (pulse_item f.number priority code value) (way f t coid));
   receipt = received_of f None (pulse_item f.number priority code value) [] (way f t coid) (receiver f (pulse_item f.number priority code value) (way f t coid));
 }
+
+-- it makes a pulse of the priority that is given, and sends it over the connection
+abbrev pub effect : ℕ → ℕ → ℤ → ℤ → Effect
+effect coid priority code value = record plain { makes = λ f t. sent_over (f.connection coid) (pulse_item f.number priority code value); sends_over = Some coid }

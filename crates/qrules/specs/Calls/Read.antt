@@ -5,6 +5,7 @@ use Rattle.qrules.specs.declared.call.Mark.TheVariants as mark
 use Rattle.qrules.specs.Facts.{Facts, message}
 use Rattle.qrules.specs.Held.{refusal}
 use Rattle.qrules.specs.Rows.{Row, ends_none}
+use Rattle.qrules.specs.Effect.{Effect, plain}
 
 -- what stands in the message from the offset on, over the front of the buffer
 abbrev pub row : Facts → ℕ → ℕ → ℕ → List ℕ → Row
@@ -20,3 +21,7 @@ row f t rcvid offset buffer = record {
   ends = ends_none;
   receipt = None;
 }
+
+-- it reads the message into its buffer
+abbrev pub effect : ℕ → ℕ → List ℕ → Effect
+effect rcvid offset buffer = record plain { buffer = Some buffer; reads = Some (record { message = rcvid; offset = offset; buffer = buffer }) }

@@ -5,6 +5,7 @@ use Rattle.qrules.specs.declared.call.Mark.TheVariants as mark
 use Rattle.qrules.specs.Facts.{Facts, sender}
 use Rattle.qrules.specs.Held.{Finish, ends_sender, refusal}
 use Rattle.qrules.specs.Rows.{Row}
+use Rattle.qrules.specs.Effect.{Effect, plain}
 
 -- the reply over the front of the buffer
 abbrev pub replied : ℤ → List ℕ → Finish
@@ -19,3 +20,7 @@ row f t rcvid status bytes = record {
   ends = ends_sender f (replied status bytes) (sender f rcvid);
   receipt = None;
 }
+
+-- it answers the message
+abbrev pub effect : ℕ → ℤ → List ℕ → Effect
+effect rcvid status bytes = record plain { answers = Some rcvid; replies = Some (status, bytes) }

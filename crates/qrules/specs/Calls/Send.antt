@@ -5,7 +5,9 @@ use Rattle.qbase.specs.declared.errno.Errno.TheVariants.{Badf}
 use Rattle.qqueue.specs.declared.item.Item.{Item}
 use Rattle.qrules.specs.Delivering.{receiver, meets, received_of, wants_room}
 use Rattle.qrules.specs.Facts.{Facts, way}
-use Rattle.qrules.specs.Rows.{Row, message_item}
+use Rattle.qrules.specs.Rows.{Row, message_item, sent_over}
+use Rattle.qrules.specs.Effect.{Effect, plain}
+use Rattle.qrules.specs.declared.open_call.Wait.TheVariants.{Answer}
 
 -- a connection that the thread's process hasn't, or whose channel isn't open
 abbrev pub refusal : Facts → ℕ → ℕ → Option Errno
@@ -24,3 +26,7 @@ row f t coid message = record {
   ends = meets f (item f t) message (receiver f (item f t) (way f t coid));
   receipt = received_of f (Some t) (item f t) message (way f t coid) (receiver f (item f t) (way f t coid));
 }
+
+-- it makes a message of its thread's priority, sends it over the connection, and waits for the answer
+abbrev pub effect : ℕ → List ℕ → List ℕ → Effect
+effect coid message reply_buffer = record plain { waits = Some (Answer coid message reply_buffer None); buffer = Some reply_buffer; makes = λ f t. sent_over (f.connection coid) (item f t); sends_over = Some coid; sends = Some message }

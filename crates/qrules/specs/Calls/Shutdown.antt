@@ -5,6 +5,7 @@ use Rattle.qrules.specs.declared.call.Mark.TheVariants as mark
 use Rattle.qrules.specs.Cutting.{cuts}
 use Rattle.qrules.specs.Facts.{Facts}
 use Rattle.qrules.specs.Rows.{Row}
+use Rattle.qrules.specs.Effect.{Effect, plain}
 
 -- any thread may shut the kernel down
 abbrev pub row : Facts → ℕ → Row
@@ -15,3 +16,7 @@ row f t = record {
   ends = cuts f (λ u wait. true) Srch;
   receipt = None;
 }
+
+-- it shuts the kernel down
+abbrev pub effect : Effect
+effect = record plain { shuts_down = true }

@@ -7,6 +7,7 @@ use Rattle.qrules.specs.declared.call.Mark.TheVariants as mark
 use Rattle.qrules.specs.Facts.{Facts}
 use Rattle.qrules.specs.ThreadStates.{state_in}
 use Rattle.qrules.specs.Rows.{Row, ends_none}
+use Rattle.qrules.specs.Effect.{Effect, plain}
 
 -- a thread that the roster hasn't
 abbrev pub refusal : Facts → ℕ → Option Errno
@@ -21,3 +22,7 @@ row f t thread = record {
   ends = ends_none;
   receipt = None;
 }
+
+-- it changes nothing
+abbrev pub effect : Effect
+effect = plain

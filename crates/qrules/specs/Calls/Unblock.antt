@@ -14,6 +14,7 @@ use Rattle.qrules.specs.Cutting.{cuts}
 use Rattle.qrules.specs.Facts.{Facts, is_fellow, tells_unblock}
 use Rattle.qrules.specs.Pulses.{full_for, told, told_receipt, wants_room_for}
 use Rattle.qrules.specs.Rows.{Made, Row, unblock_item}
+use Rattle.qrules.specs.Effect.{Effect, plain}
 
 -- the channel that the connection leads to, where that has the unblock flag
 abbrev pub guard_over : Facts → Option Connection → Option ℕ
@@ -64,3 +65,7 @@ row f t thread = record {
   ends = ends f thread (due f thread);
   receipt = told_receipt f (due f thread);
 }
+
+-- it is to unblock the thread, and makes a pulse where one is due
+abbrev pub effect : ℕ → Effect
+effect thread = record plain { unblocks = Some thread; makes = λ f t. due f thread }

@@ -5,6 +5,7 @@ use Rattle.qrules.specs.declared.call.Mark.TheVariants as mark
 use Rattle.qrules.specs.Facts.{Facts}
 use Rattle.qrules.specs.Held.{refusal, reply_buffer}
 use Rattle.qrules.specs.Rows.{Row, ends_none}
+use Rattle.qrules.specs.Effect.{Effect, plain}
 
 -- how many bytes found room; what was written is read off the past calls
 abbrev pub row : Facts → ℕ → ℕ → ℕ → List ℕ → Row
@@ -15,3 +16,7 @@ row f t rcvid offset bytes = record {
   ends = ends_none;
   receipt = None;
 }
+
+-- it writes over the message's reply buffer
+abbrev pub effect : ℕ → ℕ → List ℕ → Effect
+effect rcvid offset bytes = record plain { writes = Some (record { message = rcvid; offset = offset; bytes = bytes }) }

@@ -12,6 +12,7 @@ use Rattle.qrules.specs.Lawful.{facts_of}
 use Rattle.qrules.specs.Past.{is_accepted, is_ended, is_taken, items, sender_of}
 use Rattle.qrules.specs.Rows.{Made}
 use Rattle.qrules.specs.Trace.{Event, Trace}
+use Rattle.qrules.specs.Effects.{answered_by}
 
 -- message i is received, and its Send isn't ended
 abbrev pub is_held : Trace → ℕ → Bool
@@ -30,26 +31,6 @@ owns_that roster past t (Some h) = owns (facts_of roster past) t h
 -- the thread's process owns the channel of message i
 abbrev pub owns_channel_of : List Member → Trace → ℕ → ℕ → Bool
 owns_channel_of roster past t i = owns_that roster past t (channel_among (items roster past) i)
-
--- the message that a call answers
-abbrev pub answered_by : Call → Option ℕ
-answered_by (Reply rcvid status bytes) = Some rcvid
-answered_by (Error rcvid code) = Some rcvid
-answered_by (ChannelCreate flags) = None
-answered_by (ConnectAttach chid) = None
-answered_by (Send coid message reply_buffer) = None
-answered_by (Receive chid buffer) = None
-answered_by (Read rcvid offset buffer) = None
-answered_by (Write rcvid offset bytes) = None
-answered_by (Info rcvid) = None
-answered_by (ReceivePulse chid) = None
-answered_by (Pulse coid priority code value) = None
-answered_by (PrioritySet thread priority) = None
-answered_by (State thread) = None
-answered_by (ChannelDestroy chid) = None
-answered_by Shutdown = None
-answered_by (Unblock thread) = None
-answered_by (ConnectDetach coid) = None
 
 -- the mark is an answer
 abbrev pub is_answer : Mark → Bool

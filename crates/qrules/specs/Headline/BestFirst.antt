@@ -14,26 +14,7 @@ use Rattle.qrules.specs.Headline.CopiedExactly.{call_at}
 use Rattle.qrules.specs.Headline.ReceivedOnce.{item_received}
 use Rattle.qrules.specs.Past.{pending, item_of, made_on}
 use Rattle.qrules.specs.Trace.{Event, Trace}
-
--- the channel that a call receives on, and what it may take
-abbrev pub receives_on : Call → Option (ℕ × Kind)
-receives_on (Receive chid buffer) = Some (chid, Any)
-receives_on (ChannelCreate flags) = None
-receives_on (ConnectAttach chid) = None
-receives_on (Send coid message reply_buffer) = None
-receives_on (Reply rcvid status bytes) = None
-receives_on (Error rcvid code) = None
-receives_on (Read rcvid offset buffer) = None
-receives_on (Write rcvid offset bytes) = None
-receives_on (Info rcvid) = None
-receives_on (ReceivePulse chid) = Some (chid, PulseOnly)
-receives_on (Pulse coid priority code value) = None
-receives_on (PrioritySet thread priority) = None
-receives_on (State thread) = None
-receives_on (ChannelDestroy chid) = None
-receives_on Shutdown = None
-receives_on (Unblock thread) = None
-receives_on (ConnectDetach coid) = None
+use Rattle.qrules.specs.Effects.{receives_on}
 
 -- what could be taken from channel h in this event: what was pending before it, and the item that it makes
 abbrev pub takeable : List Member → Trace → Event → ℕ → List Item

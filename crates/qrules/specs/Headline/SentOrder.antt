@@ -11,26 +11,7 @@ use Rattle.qrules.specs.Headline.CopiedExactly.{call_at}
 use Rattle.qrules.specs.Headline.ReceivedOnce.{item_received}
 use Rattle.qrules.specs.Past.{priority_before}
 use Rattle.qrules.specs.Trace.{Event, Trace}
-
--- the connection that a call sends over
-abbrev pub sends_over : Call → Option ℕ
-sends_over (Send coid message reply_buffer) = Some coid
-sends_over (ChannelCreate flags) = None
-sends_over (ConnectAttach chid) = None
-sends_over (Receive chid buffer) = None
-sends_over (Reply rcvid status bytes) = None
-sends_over (Error rcvid code) = None
-sends_over (Read rcvid offset buffer) = None
-sends_over (Write rcvid offset bytes) = None
-sends_over (Info rcvid) = None
-sends_over (ReceivePulse chid) = None
-sends_over (Pulse coid priority code value) = Some coid
-sends_over (PrioritySet thread priority) = None
-sends_over (State thread) = None
-sends_over (ChannelDestroy chid) = None
-sends_over Shutdown = None
-sends_over (Unblock thread) = None
-sends_over (ConnectDetach coid) = None
+use Rattle.qrules.specs.Effects.{sends_over}
 
 -- the connection over which item i was sent
 abbrev pub connection_of : Trace → ℕ → Option ℕ

@@ -7,7 +7,7 @@ use Rattle.qrules.specs.declared.call.Call.TheVariants.{ChannelCreate, ChannelDe
 use Rattle.qrules.specs.declared.call.Completion.{Completion}
 use Rattle.qrules.specs.declared.call.Mark.TheVariants as mark
 use Rattle.qrules.specs.Answer.{Answers}
-use Rattle.qrules.specs.Buffers.{buffer_of}
+use Rattle.qrules.specs.Effects.{buffer_of}
 use Rattle.qrules.specs.Facts.{Facts}
 use Rattle.qrules.specs.Lawful.{facts_of, followed_by}
 use Rattle.qrules.specs.Rows.{message_item, pulse_item}

@@ -10,7 +10,7 @@ use Rattle.qrules.specs.declared.call.Mark.{Mark}
 use Rattle.qrules.specs.declared.call.Mark.TheVariants as mark
 use Rattle.qrules.specs.declared.open_call.Blocked.{Blocked}
 use Rattle.qrules.specs.Blocked.{blocked_at}
-use Rattle.qrules.specs.Buffers.{buffer_of}
+use Rattle.qrules.specs.Effects.{buffer_of}
 use Rattle.qrules.specs.Lawful.{IsLawful, followed_by}
 use Rattle.qrules.specs.Trace.{Event}
 

@@ -6,7 +6,8 @@ use Rattle.qqueue.specs.declared.item.Kind.TheVariants.{Any, PulseOnly}
 use Rattle.qtables.specs.declared.member.Member.{Member}
 use Rattle.qrules.specs.declared.call.Call.{Call}
 use Rattle.qrules.specs.declared.call.Completion.{Completion}
-use Rattle.qrules.specs.Headline.BestFirst.{TakesBest, receives_on, takeable}
+use Rattle.qrules.specs.Effects.{receives_on}
+use Rattle.qrules.specs.Headline.BestFirst.{TakesBest, takeable}
 use Rattle.qrules.specs.Headline.CopiedExactly.{call_at}
 use Rattle.qrules.specs.Trace.{Event, Trace}
 use Rattle.qrules.proofs.worked.broken.best_first.Goals as goal
