@@ -6,12 +6,12 @@ use Rattle.qrules.specs.declared.call.Call.{Call}
 use Rattle.qrules.specs.declared.call.Completion.{Completion}
 use Rattle.qrules.specs.Answer.{Answers}
 use Rattle.qrules.specs.Facts.{Facts}
-use Rattle.qrules.specs.Past.{facts_by, items, priority_of_thread}
+use Rattle.qrules.specs.Past.{facts_by, known}
 use Rattle.qrules.specs.Trace.{Event, Trace}
 
 -- all that a row may read, searched for in the past
 abbrev pub facts_of : List Member → Trace → Facts
-facts_of roster past = facts_by roster past (items roster past) (λ t. priority_of_thread roster past t)
+facts_of roster past = facts_by roster past (known roster past)
 
 -- each event is a call of a thread of the roster, and its endings answer the events before it
 abbrev pub IsLawful : List Member → Trace → Type 0

@@ -227,9 +227,14 @@ open_call_by past made t =
 
 -- ---- all that a row may read
 
--- searched for in the past, of all that was made so far and of each thread's priority
-abbrev pub facts_by : List Member → Trace → List Made → (ℕ → ℕ) → Facts
-facts_by roster past made priority = record {
+-- all items that were made so far, each as it was made, in rising number, and each thread's priority
+pub record Known : Type 0 where
+  pub made : List Made
+  pub priority : ℕ → ℕ
+
+-- searched for in the past, of what is known of it
+abbrev pub facts_by : List Member → Trace → Known → Facts
+facts_by roster past k = record {
   roster = roster;
   number = length past + 1;
   down = is_down past;
@@ -237,9 +242,9 @@ facts_by roster past made priority = record {
   open_channels = open_channels roster past;
   connection = λ k. connection_at roster past k;
   live_connections = live_connections roster past;
-  open_call = λ t. open_call_by past (by_now past made) t;
-  pending = λ h. pending_by past (by_now past made) h;
-  priority = priority;
+  open_call = λ t. open_call_by past (by_now past k.made) t;
+  pending = λ h. pending_by past (by_now past k.made) h;
+  priority = k.priority;
 }
 
 -- the item that an event makes, by what was so before it
@@ -262,17 +267,22 @@ abbrev pub given : List Member → Event → Trace → List Made → ℕ → Opt
 given roster e past made t =
     option_or (set_by e past t) (first_among (given_by (λ i. carried (channel_at roster past) (made_among (by_now past made) i)) t) e.endings)
 
-abbrev mutual
-  -- all items made so far, each as it was made, in rising number
-  pub items : List Member → Trace → List Made
-  items roster [] = []
-  items roster (e ∷ past) = items roster past ++ option_to_list (item_by (facts_by roster past (items roster past) (λ t. priority_of_thread roster past t)) e past)
+-- what is known after event e, by when these items were made: a thread's priority is what the event gave it, or else what it was
+abbrev pub known_after : List Member → Event → Trace → Known → List Made → Known
+known_after roster e past k made = record { made = made; priority = λ t. unwrap_or (given roster e past made t) (k.priority t) }
 
-  -- a thread's priority: what the newest event gave it that gave it one, or else what the roster gives it
-  pub priority_of_thread : List Member → Trace → ℕ → ℕ
-  priority_of_thread roster [] t = priority_in (member_at roster t)
-  priority_of_thread roster (e ∷ past) t =
-      unwrap_or (given roster e past (items roster past ++ option_to_list (item_by (facts_by roster past (items roster past) (λ u. priority_of_thread roster past u)) e past)) t) (priority_of_thread roster past t)
+-- what is known of a past: each accepted event may make an item, and a thread begins with the priority that the roster gives it
+abbrev pub known : List Member → Trace → Known
+known roster [] = record { made = []; priority = λ t. priority_in (member_at roster t) }
+known roster (e ∷ past) = known_after roster e past (known roster past) ((known roster past).made ++ option_to_list (item_by (facts_by roster past (known roster past)) e past))
+
+-- all items made so far, each as it was made, in rising number
+abbrev pub items : List Member → Trace → List Made
+items roster past = (known roster past).made
+
+-- a thread's priority: what the newest event gave it that gave it one, or else what the roster gives it
+abbrev pub priority_of_thread : List Member → Trace → ℕ → ℕ
+priority_of_thread roster past t = (known roster past).priority t
 
 -- ---- what was so after all past calls
 
@@ -283,7 +293,7 @@ made_on h (Some m) = if m.channel == h then m.item ∷ [] else []
 
 -- the item that an event makes
 abbrev pub item_of : List Member → Event → Trace → Option Made
-item_of roster e past = item_by (facts_by roster past (items roster past) (λ t. priority_of_thread roster past t)) e past
+item_of roster e past = item_by (facts_by roster past (known roster past)) e past
 
 -- the priority of item i by now
 abbrev pub priority_of_item : List Member → Trace → ℕ → ℕ

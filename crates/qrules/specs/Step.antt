@@ -15,7 +15,7 @@ use Rattle.qrules.specs.declared.open_call.Wait.TheVariants.{Answer, Item as For
 use Rattle.qrules.specs.Cutting.{is_unread_send}
 use Rattle.qrules.specs.Facts.{Facts, OpenChannel, sender, is_fixed, threads_of}
 use Rattle.qrules.specs.Effects.{asks, attaches, closes, creates, detaches, makes, sets, shuts_down, unblocks, writes}
-use Rattle.qrules.specs.Rows.{Made, Received, Setting, Written, names, with_buffer, set_for}
+use Rattle.qrules.specs.Rows.{Made, Received, Row, Setting, Written, names, with_buffer, set_for}
 use Rattle.qrules.specs.Answer.{row_of}
 use Rattle.qrules.specs.Past.{held_with, made_on}
 
@@ -80,12 +80,21 @@ after_unblock m (Some thread) u o = if (u == thread) && is_some m then option_ma
 abbrev pub unless : Bool → Option OpenCall → Option OpenCall
 unless b o = if b then None else o
 
--- what thread u waits for after the call: the caller for what it asks, unless that ended at once, and another for what it waited for, as
--- that was written over, received or unblocked, unless it is ended
+-- what the caller u waits for after its call, of this row: what it asks for, as that is received, unless it ended at once
+abbrev pub own_call_after : Facts → Call → Row → ℕ → Option OpenCall
+own_call_after f c row u = unless (is_some row.own) (after_receipt row.receipt u (asks f.number c))
+
+-- what another thread u waited for as the call leaves it: written over, received, unblocked
+abbrev pub call_left_by : Facts → ℕ → Call → Row → ℕ → Option OpenCall
+call_left_by f t c row u = after_unblock (makes f t c) (unblocks c) u (after_receipt row.receipt u (after_write f (writes c) u (f.open_call u)))
+
+-- the same, unless the call ends it
+abbrev pub other_call_after : Facts → ℕ → Call → Row → ℕ → Option OpenCall
+other_call_after f t c row u = unless (is_some (row.ends u)) (call_left_by f t c row u)
+
+-- what thread u waits for after the call
 abbrev pub open_call_after : Facts → ℕ → Call → ℕ → Option OpenCall
-open_call_after f t c u =
-    if u == t then unless (is_some (row_of f t c).own) (after_receipt (row_of f t c).receipt u (asks f.number c))
-    else unless (is_some ((row_of f t c).ends u)) (after_unblock (makes f t c) (unblocks c) u (after_receipt (row_of f t c).receipt u (after_write f (writes c) u (f.open_call u))))
+open_call_after f t c u = if u == t then own_call_after f c (row_of f t c) u else other_call_after f t c (row_of f t c) u
 
 -- the items of channel h but the one that was received from it
 abbrev pub taken_out : Option Received → ℕ → List Item → List Item

@@ -22,14 +22,20 @@ between p h (Some c) = if (c.process == p) && (c.channel == h) then Some c else 
 abbrev pub connections_between : Facts → ℕ → ℕ → ℕ
 connections_between f p h = count_to (λ k. between p h (f.connection k)) f.number
 
--- the pulse that tells of the last connection of its process to a channel with the disconnect flag, of the priority of thread t
+-- the connection is the last one of its process to a channel with the disconnect flag
+abbrev pub is_last : Facts → Connection → Bool
+is_last f c = tells_disconnect (f.channel c.channel) && (connections_between f c.process c.channel == 1)
+
+-- the pulse that tells that thread t has detached its process's last one, of the thread's priority
+abbrev pub detach_pulse : Facts → ℕ → Connection → Made
+detach_pulse f t c = record { item = disconnect_item f.number (f.priority t) c.process; channel = c.channel }
+
+-- the pulse that is due for this connection
 abbrev pub due_of : Facts → ℕ → Option Connection → Option Made
 due_of f t None = None
-due_of f t (Some c) =
-    if tells_disconnect (f.channel c.channel) && (connections_between f c.process c.channel == 1) then Some (record { item = disconnect_item f.number (f.priority t) c.process; channel = c.channel })
-    else None
+due_of f t (Some c) = if is_last f c then Some (detach_pulse f t c) else None
 
--- the pulse that is due for connection k
+-- the same for connection k
 abbrev pub due : Facts → ℕ → ℕ → Option Made
 due f t k = due_of f t (f.connection k)
 
