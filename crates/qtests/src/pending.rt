@@ -6,6 +6,7 @@ ghost use Rattle.std.specs.List.{AllByRecursion};
 use qbase::priority::Priority;
 use qqueue::item::{Item, Kind, What};
 use qqueue::queue::Queue;
+use std::alloc::Global;
 use std::process::Abort;
 use std::test::Fail;
 
@@ -101,7 +102,36 @@ fn remove(rt: &impl Abort, queue: &mut Queue, list: &mut Vec<Item>, id: u64, num
     assert_eq!(rt; removed, remove_from_list(list, id));
 }
 
-// The number to be removed: of the item in front, in the middle or at the end, or just any.
+// Gives the item of a number another priority, in the list.
+fn requeue_in_list(list: &mut [Item], number: u64, priority: Priority) -> bool {
+    for item in list.iter_mut() {
+        if item.number == number {
+            item.priority = priority;
+            return true;
+        }
+    }
+    false
+}
+
+// Gives the item of a number another priority in both, which may have one or not.
+fn requeue(
+    rt: &impl Abort,
+    queue: &mut Queue,
+    list: &mut Vec<Item>,
+    id: u64,
+    priority: Priority,
+    number: u64,
+)
+    requires { AllByRecursion (λ x. x.number < number) queue.old.items }
+    ensures older { AllByRecursion (λ x. x.number < number + 1) queue.new.items }
+    ensures room { queue.old.room ≤ queue.new.room }
+{
+    let found = queue.requeue(id, priority);
+    assert_eq!(rt; found, requeue_in_list(list, id, priority));
+}
+
+// The number to be removed or to get another priority: of the item in front, in the middle or at the end, or
+// just any.
 fn chosen(list: &[Item], drawn: u64) -> u64 {
     let place = match drawn % 4 {
         0 => 0,
@@ -124,7 +154,8 @@ fn brought(drawn: u64) -> What {
     }
 }
 
-// One step: in turn more items come than go, and more go than come. What is given is the room that is left.
+// One step: in turn more items come than go, and more go than come; some get another priority. What is given is
+// the room that is left.
 fn step(
     rt: &impl Abort,
     queue: &mut Queue,
@@ -139,14 +170,19 @@ fn step(
     ensures room { result ≤ queue.new.room }
 {
     let coming = if number / 512 % 2 == 0 { 5 } else { 3 };
-    let rest = drawn / 8;
-    if drawn % 8 < coming {
+    let rest = drawn / 10;
+    if drawn % 10 < coming {
         let item = Item {
             number,
             priority: priority_at(rt, rest / 2),
             what: brought(rest),
         };
         return push(rt, queue, list, room, item);
+    }
+    if drawn % 10 >= 8 {
+        let id = chosen(list, rest / 8);
+        requeue(rt, queue, list, id, priority_at(rt, rest), number);
+        return room;
     }
     match rest % 3 {
         0 => take(rt, queue, list, Kind::Any, number),
@@ -212,4 +248,79 @@ fn the_greatest_level_goes_first(rt: HostRuntime) -> Result<(), Fail> {
     }
     assert!(rt; queue.is_empty());
     Ok(())
+}
+
+// A priority by its number.
+fn priority(rt: &impl Abort, level: u8) -> Priority {
+    Priority::new(level).expect(rt, "a level")
+}
+
+// A queue with an item of each of these levels, numbered from 0: all pulses, or all messages.
+fn waiting(rt: &impl Abort, alloc: Global, pulses: bool, levels: &[u8]) -> Queue {
+    let mut queue = Queue::new(alloc);
+    queue.reserve(levels.len()).expect(rt, "memory");
+    for (place, level) in levels.iter().enumerate() {
+        queue.push(Item {
+            number: place as u64,
+            priority: priority(rt, *level),
+            what: brought(u64::from(pulses)),
+        });
+    }
+    queue
+}
+
+// Takes the items, which go in this order and are all.
+fn go_in_order(rt: &impl Abort, queue: &mut Queue, kind: Kind, numbers: &[u64]) {
+    for number in numbers {
+        let taken = queue.take(kind).expect(rt, "an item");
+        assert_eq!(rt; taken.number, *number);
+    }
+    assert!(rt; queue.is_empty());
+}
+
+/// A message that is raised to a level stands there between an earlier and a later one, before a later one, and
+/// behind an earlier one.
+#[test]
+fn a_raised_message_stands_at_its_place(rt: HostRuntime) {
+    let mut between = waiting(&rt, rt.alloc(), false, &[10, 5, 10]);
+    assert!(rt; between.requeue(1, priority(&rt, 10)));
+    go_in_order(&rt, &mut between, Kind::Any, &[0, 1, 2]);
+    let mut first = waiting(&rt, rt.alloc(), false, &[5, 10, 10]);
+    assert!(rt; first.requeue(0, priority(&rt, 10)));
+    go_in_order(&rt, &mut first, Kind::Any, &[0, 1, 2]);
+    let mut last = waiting(&rt, rt.alloc(), false, &[10, 10, 5, 7]);
+    assert!(rt; last.requeue(2, priority(&rt, 10)));
+    go_in_order(&rt, &mut last, Kind::Any, &[0, 1, 2, 3]);
+}
+
+/// A message that is lowered stands between an earlier and a later one; lowered beneath all, it goes last.
+#[test]
+fn a_lowered_message_stands_at_its_place(rt: HostRuntime) {
+    let mut queue = waiting(&rt, rt.alloc(), false, &[5, 10, 5]);
+    assert!(rt; queue.requeue(1, priority(&rt, 5)));
+    assert!(rt; queue.requeue(0, priority(&rt, 1)));
+    go_in_order(&rt, &mut queue, Kind::Any, &[1, 2, 0]);
+}
+
+/// The priority that it had changes nothing, alone on its level or not; nor does a number that isn't there.
+#[test]
+fn the_same_priority_changes_nothing(rt: HostRuntime) {
+    let mut queue = waiting(&rt, rt.alloc(), false, &[5, 5, 5, 64]);
+    for number in 0..4 {
+        let level = if number == 3 { 64 } else { 5 };
+        assert!(rt; queue.requeue(number, priority(&rt, level)));
+    }
+    assert!(rt; !queue.requeue(4, priority(&rt, 255)));
+    go_in_order(&rt, &mut queue, Kind::Any, &[3, 0, 1, 2]);
+}
+
+/// A pulse gets another priority as a message does, and is a pulse still.
+#[test]
+fn a_pulse_gets_another_priority(rt: HostRuntime) {
+    let mut queue = waiting(&rt, rt.alloc(), true, &[10, 5, 10, 63]);
+    assert!(rt; queue.requeue(1, priority(&rt, 10)));
+    assert!(rt; queue.requeue(3, priority(&rt, 255)));
+    assert!(rt; queue.requeue(3, priority(&rt, 1)));
+    assert_eq!(rt; queue.pulses(), 4);
+    go_in_order(&rt, &mut queue, Kind::PulseOnly, &[0, 1, 2, 3]);
 }
