@@ -52,7 +52,7 @@ fn run_calls(
     requires begun { HasRun kernel.old [] kernel.old printer.old }
     ensures { OnOk result (HasRun kernel.old calls.items kernel.new printer.new) }
 {
-    let mut endings: Endings = Endings::new_in(alloc);
+    let mut endings = Endings::new_in(alloc);
     'calls: for (thread, call) in calls {
         let shows = shows(&call);
         kernel.step(thread, call, &mut endings);

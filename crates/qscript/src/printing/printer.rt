@@ -38,8 +38,7 @@ impl Printer {
         })
     }
 
-    /// The lines of the next event: what its call ended, where that call's own buffer is printed when it ends, or
-    /// isn't.
+    /// The lines of the next event, and whether the buffer of its own call is printed when that ends.
     pub fn push_event(&mut self, shows: bool, endings: &[Completion]) -> Result<(), AllocError>
         requires { self.old.first + length self.old.shown.items < 2 ^ 64 }
         ensures { OnOk result ((run : Run) (e : Event) → HasPrinted run self.old → shows_buffer e.call ≡ shows → e.endings ≡ endings.now → HasPrinted (with_more run (e ∷ [])) self.new) }
