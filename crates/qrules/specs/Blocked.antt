@@ -1,17 +1,18 @@
 -- Who is blocked, in which state and on which channel.
-use Rattle.std.specs.Prelude.{ℕ, List, Option, None, Some}
+use Rattle.std.specs.Prelude.{List, Option, None, Some}
 use Rattle.std.specs.List.{filter_map}
 use Rattle.qtables.specs.declared.connection.Connection.{Connection}
 use Rattle.qtables.specs.declared.member.Member.{Member}
 use Rattle.qrules.specs.declared.open_call.Blocked.{Blocked}
 use Rattle.qrules.specs.declared.open_call.OpenCall.{OpenCall}
+use Rattle.qrules.specs.Ids.{ConnectionId, ThreadNo}
 use Rattle.qrules.specs.Facts.{Facts, threads_of}
 use Rattle.qrules.specs.Lawful.{facts_of}
 use Rattle.qrules.specs.ThreadStates.{state_of}
 use Rattle.qrules.specs.Trace.{Trace}
 
 -- what is told of a thread, if it has an open call
-abbrev pub told_of : (ℕ → Option Connection) → ℕ → Option OpenCall → Option Blocked
+abbrev pub told_of : (ConnectionId → Option Connection) → ThreadNo → Option OpenCall → Option Blocked
 told_of connection u None = None
 told_of connection u (Some o) = Some (record { number = o.number; thread = u; state = state_of connection o.wait })
 

@@ -3,12 +3,13 @@ use Rattle.std.specs.Prelude.{ℕ, ℤ, Bool, false, List, Option, None}
 use Rattle.qbase.specs.declared.flags.ChannelFlags.{ChannelFlags}
 use Rattle.qqueue.specs.declared.item.Kind.{Kind}
 use Rattle.qrules.specs.declared.open_call.Wait.{Wait}
+use Rattle.qrules.specs.Ids.{ChannelId, ConnectionId, ReceiveId, ThreadNo}
 use Rattle.qrules.specs.Facts.{Facts}
 use Rattle.qrules.specs.Rows.{Made, Setting, Written}
 
 -- what is read: bytes of which message, from which place, into which buffer
 pub record Reading : Type 0 where
-  pub message : ℕ
+  pub message : ReceiveId
   pub offset : ℕ
   pub buffer : List ℕ
 
@@ -21,19 +22,19 @@ pub record Effect : Type 0 where
   pub waits : Option Wait
   pub buffer : Option (List ℕ)
   pub creates : Option ChannelFlags
-  pub closes : Option ℕ
-  pub attaches : Option ℕ
-  pub detaches : Option ℕ
-  pub makes : Facts → ℕ → Option Made
-  pub sends_over : Option ℕ
+  pub closes : Option ChannelId
+  pub attaches : Option ChannelId
+  pub detaches : Option ConnectionId
+  pub makes : Facts → ThreadNo → Option Made
+  pub sends_over : Option ConnectionId
   pub sends : Option (List ℕ)
-  pub receives_on : Option (ℕ × Kind)
-  pub answers : Option ℕ
+  pub receives_on : Option (ChannelId × Kind)
+  pub answers : Option ReceiveId
   pub replies : Option (ℤ × List ℕ)
   pub reads : Option Reading
   pub writes : Option Written
   pub sets : Option Setting
-  pub unblocks : Option ℕ
+  pub unblocks : Option ThreadNo
   pub shuts_down : Bool
 
 -- none of all that

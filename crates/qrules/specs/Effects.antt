@@ -7,6 +7,7 @@ use Rattle.qtables.specs.declared.member.Member.{Member}
 use Rattle.qrules.specs.declared.call.Call.{Call}
 use Rattle.qrules.specs.declared.call.Call.TheVariants.{ChannelCreate, ConnectAttach, Send, Receive, Reply, Error, Read, Write, Info, ReceivePulse, Pulse, PrioritySet, State, ChannelDestroy, Shutdown, Unblock, ConnectDetach}
 use Rattle.qrules.specs.declared.open_call.OpenCall.{OpenCall}
+use Rattle.qrules.specs.Ids.{CallNo, ChannelId, ConnectionId, ReceiveId, ThreadNo}
 use Rattle.qrules.specs.Effect.{Effect}
 use Rattle.qrules.specs.Facts.{Facts, OpenChannel}
 use Rattle.qrules.specs.Rows.{Made, Setting, Written}
@@ -51,7 +52,7 @@ effect_of (ConnectDetach coid) = connect_detach.effect coid
 -- ---- waiting, and buffers
 
 -- what a call waits for where it doesn't end in its own event
-abbrev pub asks : ℕ → Call → Option OpenCall
+abbrev pub asks : CallNo → Call → Option OpenCall
 asks n c = option_map (λ wait. record { number = n; wait = wait }) (effect_of c).waits
 
 -- the buffer that a call brings, empty where it brings none
@@ -66,7 +67,7 @@ creates None c = None
 creates (Some m) c = option_map (λ flags. record { owner = m.process; flags = flags }) (effect_of c).creates
 
 -- the channel that a call destroys
-abbrev pub closes : Call → Option ℕ
+abbrev pub closes : Call → Option ChannelId
 closes c = (effect_of c).closes
 
 -- the connection that a call attaches: of its thread's process, to the channel that it names
@@ -75,7 +76,7 @@ attaches None c = None
 attaches (Some m) c = option_map (λ h. record { process = m.process; channel = h }) (effect_of c).attaches
 
 -- the connection that a call detaches
-abbrev pub detaches : Call → Option ℕ
+abbrev pub detaches : Call → Option ConnectionId
 detaches c = (effect_of c).detaches
 
 -- the call shuts the kernel down
@@ -85,15 +86,15 @@ shuts_down c = (effect_of c).shuts_down
 -- ---- items
 
 -- the item that a call of thread t makes, by what was so before it
-abbrev pub makes : Facts → ℕ → Call → Option Made
+abbrev pub makes : Facts → ThreadNo → Call → Option Made
 makes f t c = (effect_of c).makes f t
 
 -- the connection that a call sends over
-abbrev pub sends_over : Call → Option ℕ
+abbrev pub sends_over : Call → Option ConnectionId
 sends_over c = (effect_of c).sends_over
 
 -- the thread of a Send
-abbrev pub thread_of_send : ℕ → Call → Option ℕ
+abbrev pub thread_of_send : ThreadNo → Call → Option ThreadNo
 thread_of_send t c = option_map (λ message. t) (effect_of c).sends
 
 -- the bytes of a message that is sent
@@ -101,13 +102,13 @@ abbrev pub message_sent : Call → List ℕ
 message_sent c = unwrap_or (effect_of c).sends []
 
 -- the channel that a call receives on, and what it may take
-abbrev pub receives_on : Call → Option (ℕ × Kind)
+abbrev pub receives_on : Call → Option (ChannelId × Kind)
 receives_on c = (effect_of c).receives_on
 
 -- ---- answers, and what is written
 
 -- the message that a call answers
-abbrev pub answered_by : Call → Option ℕ
+abbrev pub answered_by : Call → Option ReceiveId
 answered_by c = (effect_of c).answers
 
 -- the status and the bytes that a call answers with
@@ -125,5 +126,5 @@ abbrev pub sets : Call → Option Setting
 sets c = (effect_of c).sets
 
 -- the thread that a call wants to unblock
-abbrev pub unblocks : Call → Option ℕ
+abbrev pub unblocks : Call → Option ThreadNo
 unblocks c = (effect_of c).unblocks

@@ -7,6 +7,7 @@ use Rattle.qtables.specs.declared.member.Member.{Member}
 use Rattle.qrules.specs.declared.call.Call.{Call}
 use Rattle.qrules.specs.declared.call.Completion.{Completion}
 use Rattle.qrules.specs.declared.open_call.OpenCall.{OpenCall}
+use Rattle.qrules.specs.Ids.{ThreadNo}
 use Rattle.qrules.specs.Effects.{buffer_of}
 use Rattle.qrules.specs.Cutting.{buffer_of_wait}
 use Rattle.qrules.specs.Headline.CopiedExactly.{call_at}
@@ -17,7 +18,7 @@ use Rattle.qrules.specs.Trace.{Event, Trace}
 -- ---- whose they are
 
 -- one of these endings goes to thread t
-abbrev pub gets : List Completion → ℕ → Bool
+abbrev pub gets : List Completion → ThreadNo → Bool
 gets endings t = list_any (λ x. x.thread == t) endings
 
 -- each of these endings goes to a thread of its own
@@ -30,11 +31,11 @@ abbrev pub EndingsAreApart : Type 0
 EndingsAreApart = (roster : List Member) (past : Trace) (e : Event) → IsRoster roster → IsLawful roster (e ∷ past) → AreApart e.endings
 
 -- a call of thread u may end in an event of thread t: it is the event's own, or u is blocked in it
-abbrev pub may_end : List Member → Trace → ℕ → ℕ → Bool
+abbrev pub may_end : List Member → Trace → ThreadNo → ThreadNo → Bool
 may_end roster past t u = (u == t) || is_some (open_call roster past u)
 
 -- in an event of thread t the ending goes to a thread of the roster whose call may end
-pub record IsDue (roster : List Member) (past : Trace) (t : ℕ) (x : Completion) : Type 0 where
+pub record IsDue (roster : List Member) (past : Trace) (t : ThreadNo) (x : Completion) : Type 0 where
   pub known : is_some (member_at roster x.thread) ≡ true
   pub may : may_end roster past t x.thread ≡ true
 
@@ -47,7 +48,7 @@ EndingsGoToBlocked = (roster : List Member) (past : Trace) (e : Event) → IsRos
 -- after an event of a thread that wasn't blocked just those threads are blocked whose calls might have ended and did not
 abbrev pub BlockedUnlessEnded : Type 0
 BlockedUnlessEnded = (roster : List Member) (past : Trace) (e : Event) → IsRoster roster → IsLawful roster (e ∷ past) → is_some (open_call roster past e.thread) ≡ false
-    → (u : ℕ) → is_some (open_call roster (e ∷ past) u) ≡ (if gets e.endings u then false else may_end roster past e.thread u)
+    → (u : ThreadNo) → is_some (open_call roster (e ∷ past) u) ≡ (if gets e.endings u then false else may_end roster past e.thread u)
 
 -- ---- the event's own call
 
@@ -68,7 +69,7 @@ buffer_of_open None = []
 buffer_of_open (Some o) = buffer_of_wait o.wait
 
 -- the buffer that thread u brought whose call may end in call c of thread t: with that call, or with the one that it is blocked in
-abbrev pub buffer_brought : List Member → Trace → ℕ → Call → ℕ → List ℕ
+abbrev pub buffer_brought : List Member → Trace → ThreadNo → Call → ThreadNo → List ℕ
 buffer_brought roster past t c u = if u == t then buffer_of c else buffer_of_open (open_call roster past u)
 
 -- each ending's buffer is as long as the one that its thread brought
@@ -84,4 +85,5 @@ pub record IsAsLong (past : Trace) (o : OpenCall) : Type 0 where
 
 -- so it is with each open call
 abbrev pub OpenCallsKeepLength : Type 0
-OpenCallsKeepLength = (roster : List Member) (past : Trace) → IsRoster roster → IsLawful roster past → (u : ℕ) (o : OpenCall) → open_call roster past u ≡ Some o → IsAsLong past o
+OpenCallsKeepLength = (roster : List Member) (past : Trace) → IsRoster roster → IsLawful roster past
+    → (u : ThreadNo) (o : OpenCall) → open_call roster past u ≡ Some o → IsAsLong past o

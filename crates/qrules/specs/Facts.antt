@@ -9,39 +9,40 @@ use Rattle.qtables.specs.Members.{member_at}
 use Rattle.qrules.specs.declared.open_call.OpenCall.{OpenCall}
 use Rattle.qrules.specs.declared.open_call.Wait.{Wait}
 use Rattle.qrules.specs.declared.open_call.Wait.TheVariants.{Answer, Item as ForItem}
+use Rattle.qrules.specs.Ids.{CallNo, ChannelId, ConnectionId, Level, ProcessNo, ReceiveId, ThreadNo}
 
 -- an open channel: the process that owns it, and its flags
 pub record OpenChannel : Type 0 where
-  pub owner : ℕ
+  pub owner : ProcessNo
   pub flags : ChannelFlags
 
 -- the threads, the number of the call that is answered, whether the kernel is shut down, each open channel and how many there are, each live
 -- connection and how many there are, each thread's open call, what waits on each channel in rising number, and each thread's priority
 pub record Facts : Type 0 where
   pub roster : List Member
-  pub number : ℕ
+  pub number : CallNo
   pub down : Bool
-  pub channel : ℕ → Option OpenChannel
+  pub channel : ChannelId → Option OpenChannel
   pub open_channels : ℕ
-  pub connection : ℕ → Option Connection
+  pub connection : ConnectionId → Option Connection
   pub live_connections : ℕ
-  pub open_call : ℕ → Option OpenCall
-  pub pending : ℕ → List Item
-  pub priority : ℕ → ℕ
+  pub open_call : ThreadNo → Option OpenCall
+  pub pending : ChannelId → List Item
+  pub priority : ThreadNo → Level
 
 -- ---- threads and processes
 
 -- the threads of a roster, in rising number
-abbrev pub threads_of : List Member → List ℕ
+abbrev pub threads_of : List Member → List ThreadNo
 threads_of roster = map (λ m. m.thread) roster
 
 -- the member is of this process
-abbrev pub is_in_process : ℕ → Option Member → Bool
+abbrev pub is_in_process : ProcessNo → Option Member → Bool
 is_in_process p None = false
 is_in_process p (Some m) = m.process == p
 
 -- the thread is one of this process
-abbrev pub is_of_process : Facts → ℕ → ℕ → Bool
+abbrev pub is_of_process : Facts → ThreadNo → ProcessNo → Bool
 is_of_process f t p = is_in_process p (member_at f.roster t)
 
 -- the other is one of the member's process
@@ -50,27 +51,27 @@ is_of_same None other = false
 is_of_same (Some m) other = is_in_process m.process other
 
 -- both threads are of one process
-abbrev pub is_fellow : Facts → ℕ → ℕ → Bool
+abbrev pub is_fellow : Facts → ThreadNo → ThreadNo → Bool
 is_fellow f t u = is_of_same (member_at f.roster t) (member_at f.roster u)
 
 -- ---- channels and connections
 
 -- this channel is of the thread's process
-abbrev pub is_owned_by : Facts → ℕ → Option OpenChannel → Bool
+abbrev pub is_owned_by : Facts → ThreadNo → Option OpenChannel → Bool
 is_owned_by f t None = false
 is_owned_by f t (Some c) = is_of_process f t c.owner
 
 -- the channel is open, and of the thread's process
-abbrev pub owns : Facts → ℕ → ℕ → Bool
+abbrev pub owns : Facts → ThreadNo → ChannelId → Bool
 owns f t h = is_owned_by f t (f.channel h)
 
 -- the channel that this connection leads to, where the thread's process attached it and the channel is open
-abbrev pub leads_to : Facts → ℕ → Option Connection → Option ℕ
+abbrev pub leads_to : Facts → ThreadNo → Option Connection → Option ChannelId
 leads_to f t None = None
 leads_to f t (Some c) = if is_of_process f t c.process && is_some (f.channel c.channel) then Some c.channel else None
 
 -- the channel that the thread may send to over connection k
-abbrev pub way : Facts → ℕ → ℕ → Option ℕ
+abbrev pub way : Facts → ThreadNo → ConnectionId → Option ChannelId
 way f t k = leads_to f t (f.connection k)
 
 -- the channel leaves its receivers' priorities as they are
@@ -107,17 +108,17 @@ is_for_receipt (Answer coid message reply_buffer (Some receipt)) = false
 is_for_receipt (ForItem chid kind buffer) = false
 
 -- the open call is the Send of number i
-abbrev pub is_send : ℕ → Option OpenCall → Bool
+abbrev pub is_send : ReceiveId → Option OpenCall → Bool
 is_send i None = false
 is_send i (Some o) = (o.number == i) && is_for_answer o.wait
 
 -- the first of these threads whose open call is the Send of number i
-abbrev pub sender_among : (ℕ → Option OpenCall) → ℕ → List ℕ → Option ℕ
+abbrev pub sender_among : (ThreadNo → Option OpenCall) → ReceiveId → List ThreadNo → Option ThreadNo
 sender_among open_call i [] = None
 sender_among open_call i (u ∷ threads) = if is_send i (open_call u) then Some u else sender_among open_call i threads
 
 -- the thread whose open call is the Send of number i
-abbrev pub sender : Facts → ℕ → Option ℕ
+abbrev pub sender : Facts → ReceiveId → Option ThreadNo
 sender f i = sender_among f.open_call i (threads_of f.roster)
 
 -- the message whose answer is waited for
@@ -131,5 +132,5 @@ message_in None = []
 message_in (Some o) = message_of o.wait
 
 -- the message that was sent as number i
-abbrev pub message : Facts → ℕ → List ℕ
+abbrev pub message : Facts → ReceiveId → List ℕ
 message f i = message_in (option_and_then f.open_call (sender f i))

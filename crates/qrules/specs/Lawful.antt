@@ -1,9 +1,10 @@
 -- Lawful traces: each event's endings answer the events before it.
-use Rattle.std.specs.Prelude.{ℕ, is_some, IsTrue, List, [], ◌∷◌}
+use Rattle.std.specs.Prelude.{is_some, IsTrue, List, [], ◌∷◌}
 use Rattle.qtables.specs.Members.{member_at}
 use Rattle.qtables.specs.declared.member.Member.{Member}
 use Rattle.qrules.specs.declared.call.Call.{Call}
 use Rattle.qrules.specs.declared.call.Completion.{Completion}
+use Rattle.qrules.specs.Ids.{ThreadNo}
 use Rattle.qrules.specs.Answer.{Answers}
 use Rattle.qrules.specs.Facts.{Facts}
 use Rattle.qrules.specs.Past.{facts_by, known}
@@ -24,5 +25,5 @@ followed_by past [] = past
 followed_by past (e ∷ events) = followed_by (e ∷ past) events
 
 -- the past with one more event
-abbrev pub with_event : ℕ → Call → List Completion → Trace → Trace
+abbrev pub with_event : ThreadNo → Call → List Completion → Trace → Trace
 with_event t c endings past = record { thread = t; call = c; endings = endings } ∷ past

@@ -1,3 +1,4 @@
+pub mod Ids
 pub mod Trace
 pub mod ThreadStates
 pub mod Facts

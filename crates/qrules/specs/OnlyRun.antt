@@ -1,15 +1,16 @@
 -- Where memory doesn't run out, a run is a function of its calls.
-use Rattle.std.specs.Prelude.{◌≡◌, ℕ, List, map}
+use Rattle.std.specs.Prelude.{◌≡◌, List, map}
 use Rattle.std.specs.List.{AllByRecursion}
 use Rattle.qbase.specs.declared.errno.Errno.TheVariants.{NoMemory}
 use Rattle.qtables.specs.declared.member.Member.{Member}
 use Rattle.qrules.specs.declared.call.Call.{Call}
 use Rattle.qrules.specs.declared.call.Mark.TheVariants as mark
+use Rattle.qrules.specs.Ids.{ThreadNo}
 use Rattle.qrules.specs.Lawful.{IsLawful, followed_by}
 use Rattle.qrules.specs.Trace.{Event, Trace}
 
 -- who made a call, and which
-abbrev pub event_call : Event → ℕ × Call
+abbrev pub event_call : Event → ThreadNo × Call
 event_call e = (e.thread, e.call)
 
 -- no call of these events was refused for want of memory

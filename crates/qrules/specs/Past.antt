@@ -10,7 +10,6 @@ use Rattle.qtables.specs.Members.{member_at}
 use Rattle.qtables.specs.declared.connection.Connection.{Connection}
 use Rattle.qtables.specs.declared.member.Member.{Member}
 use Rattle.qrules.specs.declared.call.Call.{Call}
-use Rattle.qrules.specs.declared.call.Call.TheVariants.{ChannelCreate, ConnectAttach, Send, Receive, Reply, Error, Read, Write, Info, ReceivePulse, Pulse, PrioritySet, State, ChannelDestroy, Shutdown, Unblock, ConnectDetach}
 use Rattle.qrules.specs.declared.call.Completion.{Completion}
 use Rattle.qrules.specs.declared.call.Mark.{Mark}
 use Rattle.qrules.specs.declared.call.Mark.TheVariants as mark
@@ -18,6 +17,7 @@ use Rattle.qrules.specs.declared.open_call.OpenCall.{OpenCall}
 use Rattle.qrules.specs.declared.open_call.Receipt.{Receipt}
 use Rattle.qrules.specs.declared.open_call.Wait.{Wait}
 use Rattle.qrules.specs.declared.open_call.Wait.TheVariants.{Answer, Item as ForItem}
+use Rattle.qrules.specs.Ids.{CallNo, ChannelId, ConnectionId, Level, ReceiveId, ThreadNo}
 use Rattle.qrules.specs.Trace.{Event, Trace}
 use Rattle.qrules.specs.Facts.{Facts, OpenChannel, count_to, is_fixed}
 use Rattle.qrules.specs.Rows.{Made, names, received, written_over, with_buffer, set_for}
@@ -40,7 +40,7 @@ is_failure (mark.Pulse item priority what) = false
 is_failure (mark.State state priority) = false
 
 -- these endings refuse call n: one is of n itself, and a failure
-abbrev pub refuses : List Completion → ℕ → Bool
+abbrev pub refuses : List Completion → CallNo → Bool
 refuses endings n = list_any (λ x. (x.call == n) && is_failure x.mark) endings
 
 -- the event after this past was accepted
@@ -48,17 +48,17 @@ abbrev pub is_accepted : Event → Trace → Bool
 is_accepted e past = not (refuses e.endings (length past + 1))
 
 -- one of these endings is of call i
-abbrev pub ends : List Completion → ℕ → Bool
+abbrev pub ends : List Completion → CallNo → Bool
 ends endings i = list_any (λ x. x.call == i) endings
 
 -- call i is ended
-abbrev pub is_ended : Trace → ℕ → Bool
+abbrev pub is_ended : Trace → CallNo → Bool
 is_ended past i = list_any (λ e. ends e.endings i) past
 
 -- ---- channels and connections
 
 -- what the event of number i made, where it was accepted
-abbrev pub made_at : {A : Type 0} → (Event → Option A) → Trace → ℕ → Option A
+abbrev pub made_at : {A : Type 0} → (Event → Option A) → Trace → CallNo → Option A
 made_at make [] i = None
 made_at make (e ∷ past) i = if i == length past + 1 then (if is_accepted e past then make e else None) else made_at make past i
 
@@ -72,15 +72,15 @@ abbrev pub is_down : Trace → Bool
 is_down past = was_accepted shuts_down past
 
 -- channel h is destroyed
-abbrev pub is_closed : Trace → ℕ → Bool
+abbrev pub is_closed : Trace → ChannelId → Bool
 is_closed past h = was_accepted (λ c. names (closes c) h) past
 
 -- the channel of number h that was created
-abbrev pub created : List Member → Trace → ℕ → Option OpenChannel
+abbrev pub created : List Member → Trace → ChannelId → Option OpenChannel
 created roster past h = made_at (λ e. creates (member_at roster e.thread) e.call) past h
 
 -- the open channel h: an accepted ChannelCreate has that number, and no accepted ChannelDestroy names it
-abbrev pub channel_at : List Member → Trace → ℕ → Option OpenChannel
+abbrev pub channel_at : List Member → Trace → ChannelId → Option OpenChannel
 channel_at roster past h = if is_closed past h then None else created roster past h
 
 -- how many channels are open
@@ -88,15 +88,15 @@ abbrev pub open_channels : List Member → Trace → ℕ
 open_channels roster past = count_to (channel_at roster past) (length past)
 
 -- connection k is detached
-abbrev pub is_detached : Trace → ℕ → Bool
+abbrev pub is_detached : Trace → ConnectionId → Bool
 is_detached past k = was_accepted (λ c. names (detaches c) k) past
 
 -- the connection of number k that was attached
-abbrev pub attached : List Member → Trace → ℕ → Option Connection
+abbrev pub attached : List Member → Trace → ConnectionId → Option Connection
 attached roster past k = made_at (λ e. attaches (member_at roster e.thread) e.call) past k
 
 -- the live connection k: an accepted ConnectAttach has that number, and no accepted ConnectDetach names it
-abbrev pub connection_at : List Member → Trace → ℕ → Option Connection
+abbrev pub connection_at : List Member → Trace → ConnectionId → Option Connection
 connection_at roster past k = if is_detached past k then None else attached roster past k
 
 -- how many connections are live
@@ -111,38 +111,38 @@ first_among tell [] = None
 first_among tell (x ∷ endings) = option_or (tell x) (first_among tell endings)
 
 -- the priority of a member, 0 where there is none
-abbrev pub priority_in : Option Member → ℕ
+abbrev pub priority_in : Option Member → Level
 priority_in None = 0
 priority_in (Some m) = m.priority
 
 -- of these items the one of number i
-abbrev pub made_among : List Made → ℕ → Option Made
+abbrev pub made_among : List Made → CallNo → Option Made
 made_among [] i = None
 made_among (m ∷ made) i = if m.item.number == i then Some m else made_among made i
 
 -- the priority of an item, 0 where there is none
-abbrev pub priority_made : Option Made → ℕ
+abbrev pub priority_made : Option Made → Level
 priority_made None = 0
 priority_made (Some m) = m.item.priority
 
 -- ---- receipts
 
 -- the receipt that an ending is of item i: how many bytes it copied
-abbrev pub copied_of : ℕ → Option (ℕ × ℕ) → Option ℕ
+abbrev pub copied_of : CallNo → Option (CallNo × ℕ) → Option ℕ
 copied_of i None = None
 copied_of i (Some r) = if r.0 == i then Some r.1 else None
 
 -- the receipt of item i among these endings
-abbrev pub receipt_among : List Completion → ℕ → Option ℕ
+abbrev pub receipt_among : List Completion → CallNo → Option ℕ
 receipt_among endings i = first_among (λ x. copied_of i (received x.mark)) endings
 
 -- the receipt of item i, by an ending of some event
-abbrev pub receipt_of : Trace → ℕ → Option ℕ
+abbrev pub receipt_of : Trace → CallNo → Option ℕ
 receipt_of [] i = None
 receipt_of (e ∷ past) i = option_or (receipt_among e.endings i) (receipt_of past i)
 
 -- item i is taken
-abbrev pub is_taken : Trace → ℕ → Bool
+abbrev pub is_taken : Trace → CallNo → Bool
 is_taken past i = is_some (receipt_of past i)
 
 -- the item is taken, or is a message whose Send is ended
@@ -150,27 +150,27 @@ abbrev pub is_gone : Trace → Item → Bool
 is_gone past item = is_taken past item.number || (not (is_pulse item.what) && is_ended past item.number)
 
 -- the items of channel h that are not gone, of these items, in rising number; none where it is destroyed
-abbrev pub pending_by : Trace → List Made → ℕ → List Item
+abbrev pub pending_by : Trace → List Made → ChannelId → List Item
 pending_by past made h =
     if is_closed past h then [] else filter (λ item. not (is_gone past item)) (map (λ m. m.item) (filter (λ m. m.channel == h) made))
 
 -- ---- what a message is worth by now
 
 -- the thread that sent message i
-abbrev pub sender_of : Trace → ℕ → Option ℕ
+abbrev pub sender_of : Trace → ReceiveId → Option ThreadNo
 sender_of past i = made_at (λ e. thread_of_send e.thread e.call) past i
 
 -- the priority that event e sets for thread t, where it is an accepted PrioritySet
-abbrev pub set_by : Event → Trace → ℕ → Option ℕ
+abbrev pub set_by : Event → Trace → ThreadNo → Option Level
 set_by e past t = if is_accepted e past then set_for (sets e.call) t else None
 
 -- the priority that was set last for thread t since message i was sent and before it was received
-abbrev pub set_since : Trace → ℕ → ℕ → Option ℕ
+abbrev pub set_since : Trace → ReceiveId → ThreadNo → Option Level
 set_since [] i t = None
 set_since (e ∷ past) i t = if i == length past + 1 then None else option_or (if is_taken past i then None else set_by e past t) (set_since past i t)
 
 -- the priority of an item by now: a message has what was set last for its thread while it was pending, and else, as each pulse, what it was made with
-abbrev pub worth : Trace → Item → ℕ
+abbrev pub worth : Trace → Item → Level
 worth past item = if is_pulse item.what then item.priority else unwrap_or (option_and_then (set_since past item.number) (sender_of past item.number)) item.priority
 
 -- these items as they are by now
@@ -180,7 +180,7 @@ by_now past made = map (λ m. record { item = with_priority (worth past m.item) 
 -- ---- open calls
 
 -- the newest accepted blocking call of thread t
-abbrev pub newest_block : Trace → ℕ → Option OpenCall
+abbrev pub newest_block : Trace → ThreadNo → Option OpenCall
 newest_block [] t = None
 newest_block (e ∷ past) t =
     if (e.thread == t) && is_accepted e past && is_some (asks (length past + 1) e.call) then asks (length past + 1) e.call else newest_block past t
@@ -191,7 +191,7 @@ held_with receipt (Answer coid message reply_buffer before) = Answer coid messag
 held_with receipt (ForItem chid kind buffer) = ForItem chid kind buffer
 
 -- a reply buffer of message i with the data of each accepted Write to it, in order
-abbrev pub with_writes : Trace → ℕ → List ℕ → List ℕ
+abbrev pub with_writes : Trace → ReceiveId → List ℕ → List ℕ
 with_writes [] i b = b
 with_writes (e ∷ past) i b = if is_accepted e past then written_over (writes e.call) i (with_writes past i b) else with_writes past i b
 
@@ -205,23 +205,23 @@ unless_ended past None = None
 unless_ended past (Some o) = if is_ended past o.number then None else Some o
 
 -- a call with what is kept of its message's receipt, where there was one
-abbrev pub with_receipt : ℕ → Bool → Option ℕ → OpenCall → OpenCall
+abbrev pub with_receipt : Level → Bool → Option ℕ → OpenCall → OpenCall
 with_receipt priority unblocked None o = o
 with_receipt priority unblocked (Some copied) o = record { number = o.number; wait = held_with (record { priority = priority; copied = copied; unblocked = unblocked }) o.wait }
 
 -- the item is an unblock pulse for message i
-abbrev pub is_unblock_for : ℕ → What → Bool
+abbrev pub is_unblock_for : ReceiveId → What → Bool
 is_unblock_for i what.Message = false
 is_unblock_for i (what.User code value) = false
 is_unblock_for i (what.Unblock rcvid) = rcvid == i
 is_unblock_for i (what.Disconnect process) = false
 
 -- one of these items is an unblock pulse for message i
-abbrev pub unblocked_among : List Made → ℕ → Bool
+abbrev pub unblocked_among : List Made → ReceiveId → Bool
 unblocked_among made i = list_any (λ m. is_unblock_for i m.item.what) made
 
 -- the open call of thread t, of all items as they are by now
-abbrev pub open_call_by : Trace → List Made → ℕ → Option OpenCall
+abbrev pub open_call_by : Trace → List Made → ThreadNo → Option OpenCall
 open_call_by past made t =
     option_map (λ o. with_receipt (priority_made (made_among made o.number)) (unblocked_among made o.number) (receipt_of past o.number) (filled past o)) (unless_ended past (newest_block past t))
 
@@ -230,7 +230,7 @@ open_call_by past made t =
 -- all items that were made so far, each as it was made, in rising number, and each thread's priority
 pub record Known : Type 0 where
   pub made : List Made
-  pub priority : ℕ → ℕ
+  pub priority : ThreadNo → Level
 
 -- searched for in the past, of what is known of it
 abbrev pub facts_by : List Member → Trace → Known → Facts
@@ -254,16 +254,16 @@ item_by f e past = if is_accepted e past then makes f e.thread e.call else None
 -- ---- items and priorities
 
 -- the priority that a receiver of the item takes: the item's, unless its channel leaves priorities as they are
-abbrev pub carried : (ℕ → Option OpenChannel) → Option Made → Option ℕ
+abbrev pub carried : (ChannelId → Option OpenChannel) → Option Made → Option Level
 carried channel None = None
 carried channel (Some m) = if is_fixed (channel m.channel) then None else Some m.item.priority
 
 -- the priority that an ending gives thread t, where each item that is received carries one or none
-abbrev pub given_by : (ℕ → Option ℕ) → ℕ → Completion → Option ℕ
+abbrev pub given_by : (CallNo → Option Level) → ThreadNo → Completion → Option Level
 given_by priority t x = if x.thread == t then option_and_then (λ r. priority r.0) (received x.mark) else None
 
 -- the priority that event e gives thread t, of all that was made by then: an accepted PrioritySet sets it, or the thread receives an item, as that was before the event
-abbrev pub given : List Member → Event → Trace → List Made → ℕ → Option ℕ
+abbrev pub given : List Member → Event → Trace → List Made → ThreadNo → Option Level
 given roster e past made t =
     option_or (set_by e past t) (first_among (given_by (λ i. carried (channel_at roster past) (made_among (by_now past made) i)) t) e.endings)
 
@@ -281,13 +281,13 @@ abbrev pub items : List Member → Trace → List Made
 items roster past = (known roster past).made
 
 -- a thread's priority: what the newest event gave it that gave it one, or else what the roster gives it
-abbrev pub priority_of_thread : List Member → Trace → ℕ → ℕ
+abbrev pub priority_of_thread : List Member → Trace → ThreadNo → Level
 priority_of_thread roster past t = (known roster past).priority t
 
 -- ---- what was so after all past calls
 
 -- the item that is made, where it is of channel h
-abbrev pub made_on : ℕ → Option Made → List Item
+abbrev pub made_on : ChannelId → Option Made → List Item
 made_on h None = []
 made_on h (Some m) = if m.channel == h then m.item ∷ [] else []
 
@@ -296,17 +296,17 @@ abbrev pub item_of : List Member → Event → Trace → Option Made
 item_of roster e past = item_by (facts_by roster past (known roster past)) e past
 
 -- the priority of item i by now
-abbrev pub priority_of_item : List Member → Trace → ℕ → ℕ
+abbrev pub priority_of_item : List Member → Trace → CallNo → Level
 priority_of_item roster past i = priority_made (made_among (by_now past (items roster past)) i)
 
 -- the priority of item i before event e, or as the event makes it
-abbrev pub priority_before : List Member → Event → Trace → ℕ → ℕ
+abbrev pub priority_before : List Member → Event → Trace → CallNo → Level
 priority_before roster e past i = priority_made (made_among (by_now past (items roster (e ∷ past))) i)
 
 -- what is pending on channel h, in rising number
-abbrev pub pending : List Member → Trace → ℕ → List Item
+abbrev pub pending : List Member → Trace → ChannelId → List Item
 pending roster past h = pending_by past (by_now past (items roster past)) h
 
 -- the open call of thread t
-abbrev pub open_call : List Member → Trace → ℕ → Option OpenCall
+abbrev pub open_call : List Member → Trace → ThreadNo → Option OpenCall
 open_call roster past t = open_call_by past (by_now past (items roster past)) t

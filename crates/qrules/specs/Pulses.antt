@@ -5,6 +5,7 @@ use Rattle.qbase.specs.declared.errno.Errno.TheVariants.{Again}
 use Rattle.qqueue.specs.Best.{is_pulse}
 use Rattle.qqueue.specs.declared.item.Item.{Item}
 use Rattle.qrules.specs.declared.call.Completion.{Completion}
+use Rattle.qrules.specs.Ids.{ChannelId, ThreadNo}
 use Rattle.qrules.specs.Delivering.{meets, receiver, received_of, wants_room}
 use Rattle.qrules.specs.Facts.{Facts}
 use Rattle.qrules.specs.Rows.{Made, Received}
@@ -14,7 +15,7 @@ abbrev pub pulses_among : List Item → ℕ
 pulses_among items = count_by (λ x. is_pulse x.what) items
 
 -- 1,024 pulses are pending on channel h
-abbrev pub full : Facts → ℕ → Option Errno
+abbrev pub full : Facts → ChannelId → Option Errno
 full f h = if nat_lt (pulses_among (f.pending h)) 1024 then None else Some Again
 
 -- the same of the channel of a pulse that is due, if one is
@@ -28,7 +29,7 @@ wants_room_for f None = false
 wants_room_for f (Some m) = wants_room f m.item (Some m.channel)
 
 -- the call of the receiver ends that a pulse which is due meets
-abbrev pub told : Facts → Option Made → ℕ → Option Completion
+abbrev pub told : Facts → Option Made → ThreadNo → Option Completion
 told f None u = None
 told f (Some m) u = meets f m.item [] (receiver f m.item (Some m.channel)) u
 

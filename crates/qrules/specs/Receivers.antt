@@ -7,29 +7,30 @@ use Rattle.qqueue.specs.declared.item.Item.{Item}
 use Rattle.qrules.specs.declared.open_call.OpenCall.{OpenCall}
 use Rattle.qrules.specs.declared.open_call.Wait.{Wait}
 use Rattle.qrules.specs.declared.open_call.Wait.TheVariants.{Answer, Item as ForItem}
+use Rattle.qrules.specs.Ids.{CallNo, ChannelId, ThreadNo}
 use Rattle.qrules.specs.Facts.{Facts, threads_of}
 
 -- the number of an open call that waits for an item of channel h, and may take this one
-abbrev pub wait_for : ℕ → Item → ℕ → Wait → Option ℕ
+abbrev pub wait_for : ChannelId → Item → CallNo → Wait → Option CallNo
 wait_for h item m (Answer coid message reply_buffer receipt) = None
 wait_for h item m (ForItem chid kind buffer) = if (chid == h) && may_take kind item then Some m else None
 
 -- the same of a thread's open call, if it has one
-abbrev pub wait_on : ℕ → Item → Option OpenCall → Option ℕ
+abbrev pub wait_on : ChannelId → Item → Option OpenCall → Option CallNo
 wait_on h item None = None
 wait_on h item (Some o) = wait_for h item o.number o.wait
 
 -- this call, if there is one, is later than call m
-abbrev pub is_after : ℕ → Option ℕ → Bool
+abbrev pub is_after : CallNo → Option CallNo → Bool
 is_after m None = false
 is_after m (Some n) = nat_lt m n
 
 -- of these threads none waits for such an item in a call later than m
-abbrev pub is_last : (ℕ → Option OpenCall) → ℕ → Item → List ℕ → ℕ → Bool
+abbrev pub is_last : (ThreadNo → Option OpenCall) → ChannelId → Item → List ThreadNo → CallNo → Bool
 is_last open_call h item threads m = not (list_any (λ v. is_after m (wait_on h item (open_call v))) threads)
 
 -- thread u waits for such an item, and of these threads none does in a later call
-abbrev pub is_newest : (ℕ → Option OpenCall) → ℕ → Item → List ℕ → ℕ → Bool
+abbrev pub is_newest : (ThreadNo → Option OpenCall) → ChannelId → Item → List ThreadNo → ThreadNo → Bool
 is_newest open_call h item threads u = option_map_or (is_last open_call h item threads) (wait_on h item (open_call u)) false
 
 -- the first of these numbers of which this is so
@@ -38,9 +39,9 @@ first_where is_so [] = None
 first_where is_so (u ∷ numbers) = if is_so u then Some u else first_where is_so numbers
 
 -- of these threads the one whose open receive on channel h has the greatest number, of those that may take the item
-abbrev pub newest_among : (ℕ → Option OpenCall) → ℕ → Item → List ℕ → Option ℕ
+abbrev pub newest_among : (ThreadNo → Option OpenCall) → ChannelId → Item → List ThreadNo → Option ThreadNo
 newest_among open_call h item threads = first_where (λ u. is_newest open_call h item threads u) threads
 
 -- the same of all threads
-abbrev pub newest : Facts → ℕ → Item → Option ℕ
+abbrev pub newest : Facts → ChannelId → Item → Option ThreadNo
 newest f h item = newest_among f.open_call h item (threads_of f.roster)

@@ -9,29 +9,30 @@ use Rattle.qqueue.specs.declared.item.Kind.TheVariants.{Any, PulseOnly}
 use Rattle.qrules.specs.declared.call.Call.{Call}
 use Rattle.qrules.specs.declared.call.Call.TheVariants.{Receive, ReceivePulse}
 use Rattle.qrules.specs.declared.call.Completion.{Completion}
+use Rattle.qrules.specs.Ids.{ChannelId, ThreadNo}
 use Rattle.qrules.specs.Facts.{Facts, owns, sender, message}
 use Rattle.qrules.specs.Rows.{Row, Received, ends_none, taking, receipt_in}
 
 -- a channel that isn't open, or isn't of the thread's process
-abbrev pub refusal : Facts → ℕ → ℕ → Option Errno
+abbrev pub refusal : Facts → ThreadNo → ChannelId → Option Errno
 refusal f t chid = if owns f t chid then None else Some Srch
 
 -- how the call ends that takes the item into its buffer
-abbrev pub receipt_of : Facts → ℕ → List ℕ → Option Item → Option Completion
+abbrev pub receipt_of : Facts → ThreadNo → List ℕ → Option Item → Option Completion
 receipt_of f t buffer None = None
 receipt_of f t buffer (Some item) = Some (taking item (message f item.number) t f.number buffer)
 
 -- the thread that waits for the answer to an item: there is one only of a message
-abbrev pub sender_for : Facts → Item → Option ℕ
+abbrev pub sender_for : Facts → Item → Option ThreadNo
 sender_for f item = if is_pulse item.what then None else sender f item.number
 
 -- the same as a receipt of what was sent
-abbrev pub received_of : Facts → ℕ → Option Completion → Option Item → Option Received
+abbrev pub received_of : Facts → ChannelId → Option Completion → Option Item → Option Received
 received_of f h y None = None
 received_of f h y (Some item) = receipt_in h (sender_for f item) item.priority y
 
 -- the best item that the kind may take; with none the call is blocked until one comes
-abbrev pub receiving : Facts → ℕ → ℕ → Kind → List ℕ → Row
+abbrev pub receiving : Facts → ThreadNo → ChannelId → Kind → List ℕ → Row
 receiving f t chid kind buffer = record {
   refusal = refusal f t chid;
   takes_memory = false;
@@ -41,6 +42,6 @@ receiving f t chid kind buffer = record {
 }
 
 -- the call that receives so: a Receive may take any item; a ReceivePulse takes pulses alone, and has no buffer
-abbrev pub receive_of : Kind → ℕ → List ℕ → Call
+abbrev pub receive_of : Kind → ChannelId → List ℕ → Call
 receive_of Any chid buffer = Receive chid buffer
 receive_of PulseOnly chid buffer = ReceivePulse chid

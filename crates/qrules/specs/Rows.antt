@@ -1,15 +1,12 @@
 -- What a row of the table of calls says, and what the rows share.
-use Rattle.std.specs.Prelude.{ℕ, ℤ, ◌==◌, Bool, true, false, List, [], Option, None, Some, if◌then◌else◌}
+use Rattle.std.specs.Prelude.{ℕ, ℤ, ◌==◌, Bool, false, List, Option, None, Some, if◌then◌else◌}
 use Rattle.qbase.specs.Laying.{laid_count, lay_over}
 use Rattle.qbase.specs.declared.errno.Errno.{Errno}
 use Rattle.qqueue.specs.declared.item.Item.{Item}
 use Rattle.qqueue.specs.Best.{is_pulse}
-use Rattle.qqueue.specs.declared.item.Kind.TheVariants.{Any, PulseOnly}
 use Rattle.qqueue.specs.declared.item.What.TheVariants.{Message, User}
 use Rattle.qqueue.specs.declared.item.What.TheVariants as what
 use Rattle.qtables.specs.declared.connection.Connection.{Connection}
-use Rattle.qrules.specs.declared.call.Call.{Call}
-use Rattle.qrules.specs.declared.call.Call.TheVariants.{ChannelCreate, ConnectAttach, Send, Receive, Reply, Error, Read, Write, Info, ReceivePulse, Pulse, PrioritySet, State, ChannelDestroy, Shutdown, Unblock, ConnectDetach}
 use Rattle.qrules.specs.declared.call.Completion.{Completion}
 use Rattle.qrules.specs.declared.call.Mark.{Mark}
 use Rattle.qrules.specs.declared.call.Mark.TheVariants as mark
@@ -17,18 +14,19 @@ use Rattle.qrules.specs.declared.open_call.OpenCall.{OpenCall}
 use Rattle.qrules.specs.declared.open_call.Receipt.{Receipt}
 use Rattle.qrules.specs.declared.open_call.Wait.{Wait}
 use Rattle.qrules.specs.declared.open_call.Wait.TheVariants.{Answer, Item as ForItem}
+use Rattle.qrules.specs.Ids.{CallNo, ChannelId, Level, ProcessNo, ReceiveId, ThreadNo}
 
 -- an item that an event makes, and the channel on which it is to be received
 pub record Made : Type 0 where
   pub item : Item
-  pub channel : ℕ
+  pub channel : ChannelId
 
 -- a receipt: the item's number and channel, the thread that takes it, the thread that waits for its answer, and what is kept of the receipt
 pub record Received : Type 0 where
-  pub item : ℕ
-  pub channel : ℕ
-  pub by : ℕ
-  pub sender : Option ℕ
+  pub item : CallNo
+  pub channel : ChannelId
+  pub by : ThreadNo
+  pub sender : Option ThreadNo
   pub kept : Receipt
 
 -- what a call is answered: the first of its own refusals that applies, whether it may also be refused for want of memory, how it ends in
@@ -38,11 +36,11 @@ pub record Row : Type 0 where
   pub refusal : Option Errno
   pub takes_memory : Bool
   pub own : Option Completion
-  pub ends : ℕ → Option Completion
+  pub ends : ThreadNo → Option Completion
   pub receipt : Option Received
 
 -- no other thread's call ends
-abbrev pub ends_none : ℕ → Option Completion
+abbrev pub ends_none : ThreadNo → Option Completion
 ends_none u = None
 
 -- ---- items
@@ -53,26 +51,26 @@ sent_over None item = None
 sent_over (Some c) item = Some (record { item = item; channel = c.channel })
 
 -- a message of this number and priority
-abbrev pub message_item : ℕ → ℕ → Item
+abbrev pub message_item : CallNo → Level → Item
 message_item n priority = record { number = n; priority = priority; what = Message }
 
 -- a user's pulse of this number and priority
-abbrev pub pulse_item : ℕ → ℕ → ℤ → ℤ → Item
+abbrev pub pulse_item : CallNo → Level → ℤ → ℤ → Item
 pulse_item n priority code value = record { number = n; priority = priority; what = User code value }
 
 -- the pulse of this number and priority that tells that the sender of message i wants to be unblocked
-abbrev pub unblock_item : ℕ → ℕ → ℕ → Item
+abbrev pub unblock_item : CallNo → Level → ReceiveId → Item
 unblock_item n priority i = record { number = n; priority = priority; what = what.Unblock i }
 
 -- the pulse of this number and priority that tells that process p has detached its last connection
-abbrev pub disconnect_item : ℕ → ℕ → ℕ → Item
+abbrev pub disconnect_item : CallNo → Level → ProcessNo → Item
 disconnect_item n priority p = record { number = n; priority = priority; what = what.Disconnect p }
 
 -- ---- writing
 
 -- what is written: over the reply buffer of which message, from which place, and the bytes
 pub record Written : Type 0 where
-  pub message : ℕ
+  pub message : ReceiveId
   pub offset : ℕ
   pub bytes : List ℕ
 
@@ -80,11 +78,11 @@ pub record Written : Type 0 where
 
 -- a thread's priority that is set
 pub record Setting : Type 0 where
-  pub thread : ℕ
-  pub priority : ℕ
+  pub thread : ThreadNo
+  pub priority : Level
 
 -- the priority that is set for thread u
-abbrev pub set_for : Option Setting → ℕ → Option ℕ
+abbrev pub set_for : Option Setting → ThreadNo → Option Level
 set_for None u = None
 set_for (Some s) u = if s.thread == u then Some s.priority else None
 
@@ -98,7 +96,7 @@ names (Some k) h = k == h
 -- ---- buffers
 
 -- the reply buffer of message i with what is written over it
-abbrev pub written_over : Option Written → ℕ → List ℕ → List ℕ
+abbrev pub written_over : Option Written → ReceiveId → List ℕ → List ℕ
 written_over None i b = b
 written_over (Some w) i b = if w.message == i then lay_over b w.offset w.bytes else b
 
@@ -116,21 +114,21 @@ given item message buffer =
     else (mark.Message item.number (laid_count buffer 0 message), lay_over buffer 0 message)
 
 -- the ending of call m of thread u that takes the item so
-abbrev pub taking : Item → List ℕ → ℕ → ℕ → List ℕ → Completion
+abbrev pub taking : Item → List ℕ → ThreadNo → CallNo → List ℕ → Completion
 taking item message u m buffer = record { call = m; thread = u; mark = (given item message buffer).0; buffer = (given item message buffer).1 }
 
 -- how the open call of number m ends, of thread u, that takes the item into what it waits with
-abbrev pub takes_into : Item → List ℕ → ℕ → ℕ → Wait → Option Completion
+abbrev pub takes_into : Item → List ℕ → ThreadNo → CallNo → Wait → Option Completion
 takes_into item message u m (Answer coid sent reply_buffer receipt) = None
 takes_into item message u m (ForItem chid kind buffer) = Some (taking item message u m buffer)
 
 -- how the open call of thread u ends that takes the item
-abbrev pub takes : Item → List ℕ → ℕ → Option OpenCall → Option Completion
+abbrev pub takes : Item → List ℕ → ThreadNo → Option OpenCall → Option Completion
 takes item message u None = None
 takes item message u (Some o) = takes_into item message u o.number o.wait
 
 -- the number of the item that an ending receives, and how many bytes were copied, none of a pulse
-abbrev pub received : Mark → Option (ℕ × ℕ)
+abbrev pub received : Mark → Option (CallNo × ℕ)
 received (mark.Message rcvid copied) = Some (rcvid, copied)
 received mark.Ok = None
 received (mark.Failed errno) = None
@@ -144,11 +142,11 @@ received (mark.Pulse item priority what) = Some (item, 0)
 received (mark.State state priority) = None
 
 -- the receipt that thread u makes of an item of this channel, sender and priority
-abbrev pub receipt_at : ℕ → Option ℕ → ℕ → ℕ → Option (ℕ × ℕ) → Option Received
+abbrev pub receipt_at : ChannelId → Option ThreadNo → Level → ThreadNo → Option (CallNo × ℕ) → Option Received
 receipt_at h sender priority u None = None
 receipt_at h sender priority u (Some r) = Some (record { item = r.0; channel = h; by = u; sender = sender; kept = record { priority = priority; copied = r.1; unblocked = false } })
 
 -- the receipt that an ending is, of an item of this channel, sender and priority
-abbrev pub receipt_in : ℕ → Option ℕ → ℕ → Option Completion → Option Received
+abbrev pub receipt_in : ChannelId → Option ThreadNo → Level → Option Completion → Option Received
 receipt_in h sender priority None = None
 receipt_in h sender priority (Some y) = receipt_at h sender priority y.thread (received y.mark)

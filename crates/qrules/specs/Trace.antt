@@ -1,11 +1,12 @@
 -- The list of all past calls.
-use Rattle.std.specs.Prelude.{ℕ, List}
+use Rattle.std.specs.Prelude.{List}
 use Rattle.qrules.specs.declared.call.Call.{Call}
 use Rattle.qrules.specs.declared.call.Completion.{Completion}
+use Rattle.qrules.specs.Ids.{CallNo, ThreadNo}
 
 -- a call that a thread made, and the endings that it brought, in rising thread number
 pub record Event : Type 0 where
-  pub thread : ℕ
+  pub thread : ThreadNo
   pub call : Call
   pub endings : List Completion
 
@@ -15,5 +16,5 @@ Trace = List Event
 
 -- the part of a trace that one run made: the number of its first event, and its events, the oldest first
 pub record Run : Type 0 where
-  pub first : ℕ
+  pub first : CallNo
   pub events : List Event

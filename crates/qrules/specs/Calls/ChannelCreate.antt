@@ -1,9 +1,10 @@
 -- ChannelCreate: a new channel of the caller's process.
-use Rattle.std.specs.Prelude.{ℕ, nat_lt, true, [], Option, None, Some, if◌then◌else◌}
+use Rattle.std.specs.Prelude.{nat_lt, true, [], Option, None, Some, if◌then◌else◌}
 use Rattle.qbase.specs.declared.errno.Errno.{Errno}
 use Rattle.qbase.specs.declared.errno.Errno.TheVariants.{Inval, Again}
 use Rattle.qbase.specs.declared.flags.ChannelFlags.{ChannelFlags}
 use Rattle.qrules.specs.declared.call.Mark.TheVariants as mark
+use Rattle.qrules.specs.Ids.{ThreadNo}
 use Rattle.qrules.specs.Facts.{Facts}
 use Rattle.qrules.specs.Rows.{Row, ends_none}
 use Rattle.qrules.specs.Effect.{Effect, plain}
@@ -13,7 +14,7 @@ abbrev pub refusal : Facts → ChannelFlags → Option Errno
 refusal f flags = if nat_lt flags.0 8 then (if nat_lt f.open_channels 64 then None else Some Again) else Some Inval
 
 -- its id is its number
-abbrev pub row : Facts → ℕ → ChannelFlags → Row
+abbrev pub row : Facts → ThreadNo → ChannelFlags → Row
 row f t flags = record {
   refusal = refusal f flags;
   takes_memory = true;

@@ -1,19 +1,20 @@
 -- ChannelDestroy: the end of a channel, and of each call that is blocked on it.
-use Rattle.std.specs.Prelude.{ℕ, false, [], Option, None, Some, if◌then◌else◌}
+use Rattle.std.specs.Prelude.{false, [], Option, None, Some, if◌then◌else◌}
 use Rattle.qbase.specs.declared.errno.Errno.{Errno}
 use Rattle.qbase.specs.declared.errno.Errno.TheVariants.{Inval, Srch}
 use Rattle.qrules.specs.declared.call.Mark.TheVariants as mark
+use Rattle.qrules.specs.Ids.{ChannelId, ThreadNo}
 use Rattle.qrules.specs.Cutting.{cuts, is_on}
 use Rattle.qrules.specs.Facts.{Facts, owns}
 use Rattle.qrules.specs.Rows.{Row}
 use Rattle.qrules.specs.Effect.{Effect, plain}
 
 -- a channel that isn't open, or isn't of the thread's process
-abbrev pub refusal : Facts → ℕ → ℕ → Option Errno
+abbrev pub refusal : Facts → ThreadNo → ChannelId → Option Errno
 refusal f t chid = if owns f t chid then None else Some Inval
 
 -- that the channel is closed is read off the past calls
-abbrev pub row : Facts → ℕ → ℕ → Row
+abbrev pub row : Facts → ThreadNo → ChannelId → Row
 row f t chid = record {
   refusal = refusal f t chid;
   takes_memory = false;
@@ -23,5 +24,5 @@ row f t chid = record {
 }
 
 -- it destroys the channel
-abbrev pub effect : ℕ → Effect
+abbrev pub effect : ChannelId → Effect
 effect chid = record plain { closes = Some chid }

@@ -7,6 +7,7 @@ use Rattle.qbase.specs.declared.errno.Errno.TheVariants.{Badf, Inval}
 use Rattle.qtables.specs.declared.connection.Connection.{Connection}
 use Rattle.qrules.specs.declared.call.Completion.{Completion}
 use Rattle.qrules.specs.declared.call.Mark.TheVariants as mark
+use Rattle.qrules.specs.Ids.{ChannelId, ConnectionId, ProcessNo, ThreadNo}
 use Rattle.qrules.specs.Cutting.{cuts, is_over}
 use Rattle.qrules.specs.Facts.{Facts, count_to, is_of_process, tells_disconnect}
 use Rattle.qrules.specs.Pulses.{full_for, told, told_receipt, wants_room_for}
@@ -14,12 +15,12 @@ use Rattle.qrules.specs.Rows.{Made, Row, disconnect_item}
 use Rattle.qrules.specs.Effect.{Effect, plain}
 
 -- a connection, if it is one of process p to channel h
-abbrev pub between : ℕ → ℕ → Option Connection → Option Connection
+abbrev pub between : ProcessNo → ChannelId → Option Connection → Option Connection
 between p h None = None
 between p h (Some c) = if (c.process == p) && (c.channel == h) then Some c else None
 
 -- how many live connections process p has to channel h; none has a number above that of the call that is answered
-abbrev pub connections_between : Facts → ℕ → ℕ → ℕ
+abbrev pub connections_between : Facts → ProcessNo → ChannelId → ℕ
 connections_between f p h = count_to (λ k. between p h (f.connection k)) f.number
 
 -- the connection is the last one of its process to a channel with the disconnect flag
@@ -27,33 +28,33 @@ abbrev pub is_last : Facts → Connection → Bool
 is_last f c = tells_disconnect (f.channel c.channel) && (connections_between f c.process c.channel == 1)
 
 -- the pulse that tells that thread t has detached its process's last one, of the thread's priority
-abbrev pub detach_pulse : Facts → ℕ → Connection → Made
+abbrev pub detach_pulse : Facts → ThreadNo → Connection → Made
 detach_pulse f t c = record { item = disconnect_item f.number (f.priority t) c.process; channel = c.channel }
 
 -- the pulse that is due for this connection
-abbrev pub due_of : Facts → ℕ → Option Connection → Option Made
+abbrev pub due_of : Facts → ThreadNo → Option Connection → Option Made
 due_of f t None = None
 due_of f t (Some c) = if is_last f c then Some (detach_pulse f t c) else None
 
 -- the same for connection k
-abbrev pub due : Facts → ℕ → ℕ → Option Made
+abbrev pub due : Facts → ThreadNo → ConnectionId → Option Made
 due f t k = due_of f t (f.connection k)
 
 -- the connection is live, and of the thread's process
-abbrev pub is_own : Facts → ℕ → Option Connection → Bool
+abbrev pub is_own : Facts → ThreadNo → Option Connection → Bool
 is_own f t None = false
 is_own f t (Some c) = is_of_process f t c.process
 
 -- a connection that isn't live, or is another process's, and then 1,024 pulses pending where one is due
-abbrev pub refusal : Facts → ℕ → ℕ → Option Errno
+abbrev pub refusal : Facts → ThreadNo → ConnectionId → Option Errno
 refusal f t k = if is_own f t (f.connection k) then full_for f (due f t k) else Some Inval
 
 -- each Send over the connection is cut, and the call of the pulse's receiver ends
-abbrev pub ends : Facts → ℕ → Option Made → ℕ → Option Completion
+abbrev pub ends : Facts → ConnectionId → Option Made → ThreadNo → Option Completion
 ends f k m u = option_or (cuts f (λ v. is_over k) Badf u) (told f m u)
 
 -- it never blocks; memory is wanted only for a pulse that waits; that the connection is detached is read off the past calls
-abbrev pub row : Facts → ℕ → ℕ → Row
+abbrev pub row : Facts → ThreadNo → ConnectionId → Row
 row f t k = record {
   refusal = refusal f t k;
   takes_memory = wants_room_for f (due f t k);
@@ -63,5 +64,5 @@ row f t k = record {
 }
 
 -- it detaches the connection, and makes a pulse where one is due
-abbrev pub effect : ℕ → Effect
+abbrev pub effect : ConnectionId → Effect
 effect coid = record plain { detaches = Some coid; makes = λ f t. due f t coid }

@@ -1,8 +1,9 @@
 -- Error: an answer without bytes.
-use Rattle.std.specs.Prelude.{ℕ, ℤ, pos, false, [], None, Some, if◌then◌else◌}
+use Rattle.std.specs.Prelude.{ℤ, pos, false, [], None, Some, if◌then◌else◌}
 use Rattle.std.specs.Ordering.{int_eq}
 use Rattle.qrules.specs.declared.call.Mark.{Mark}
 use Rattle.qrules.specs.declared.call.Mark.TheVariants as mark
+use Rattle.qrules.specs.Ids.{ReceiveId, ThreadNo}
 use Rattle.qrules.specs.Facts.{Facts, sender}
 use Rattle.qrules.specs.Held.{Finish, ends_sender, refusal}
 use Rattle.qrules.specs.Rows.{Row}
@@ -17,7 +18,7 @@ abbrev pub errored : ℤ → Finish
 errored code buffer = (mark_of code, buffer)
 
 -- it never blocks
-abbrev pub row : Facts → ℕ → ℕ → ℤ → Row
+abbrev pub row : Facts → ThreadNo → ReceiveId → ℤ → Row
 row f t rcvid code = record {
   refusal = refusal f t rcvid;
   takes_memory = false;
@@ -27,5 +28,5 @@ row f t rcvid code = record {
 }
 
 -- it answers the message; the code 0 is a reply of status 0 with no bytes
-abbrev pub effect : ℕ → ℤ → Effect
+abbrev pub effect : ReceiveId → ℤ → Effect
 effect rcvid code = record plain { answers = Some rcvid; replies = if int_eq code (pos 0) then Some (pos 0, []) else None }

@@ -1,5 +1,5 @@
 -- Info: what is told of a held message.
-use Rattle.std.specs.Prelude.{ℕ, false, [], length, Option, None, Some}
+use Rattle.std.specs.Prelude.{false, [], length, Option, None, Some}
 use Rattle.std.specs.Option.{option_map, option_and_then}
 use Rattle.qtables.specs.Members.{member_at}
 use Rattle.qtables.specs.declared.member.Member.{Member}
@@ -9,6 +9,7 @@ use Rattle.qrules.specs.declared.call.Mark.TheVariants as mark
 use Rattle.qrules.specs.declared.open_call.OpenCall.{OpenCall}
 use Rattle.qrules.specs.declared.open_call.Wait.{Wait}
 use Rattle.qrules.specs.declared.open_call.Wait.TheVariants.{Answer, Item as ForItem}
+use Rattle.qrules.specs.Ids.{CallNo, ReceiveId, ThreadNo}
 use Rattle.qrules.specs.Facts.{Facts, sender}
 use Rattle.qrules.specs.Held.{refusal}
 use Rattle.qrules.specs.Rows.{Row, ends_none}
@@ -35,16 +36,16 @@ told_of m None = None
 told_of m (Some o) = told_by m o.wait
 
 -- the same of the thread that sent it
-abbrev pub told : Facts → Option ℕ → Option Info
+abbrev pub told : Facts → Option ThreadNo → Option Info
 told f None = None
 told f (Some s) = option_and_then (λ m. told_of m (f.open_call s)) (member_at f.roster s)
 
 -- how the call ends that tells so
-abbrev pub telling : ℕ → ℕ → Info → Completion
+abbrev pub telling : CallNo → ThreadNo → Info → Completion
 telling n t info = record { call = n; thread = t; mark = mark.Info info; buffer = [] }
 
 -- it changes nothing
-abbrev pub row : Facts → ℕ → ℕ → Row
+abbrev pub row : Facts → ThreadNo → ReceiveId → Row
 row f t rcvid = record {
   refusal = refusal f t rcvid;
   takes_memory = false;

@@ -1,18 +1,19 @@
 -- PrioritySet: another priority for a thread of the caller's process, and for the message that it waits with to be received.
-use Rattle.std.specs.Prelude.{ℕ, false, [], Option, None, Some, if◌then◌else◌}
+use Rattle.std.specs.Prelude.{false, [], Option, None, Some, if◌then◌else◌}
 use Rattle.qbase.specs.declared.errno.Errno.{Errno}
 use Rattle.qbase.specs.declared.errno.Errno.TheVariants.{Srch}
 use Rattle.qrules.specs.declared.call.Mark.TheVariants as mark
+use Rattle.qrules.specs.Ids.{Level, ThreadNo}
 use Rattle.qrules.specs.Facts.{Facts, is_fellow}
 use Rattle.qrules.specs.Rows.{Row, ends_none}
 use Rattle.qrules.specs.Effect.{Effect, plain}
 
 -- a thread that the roster hasn't, or of another process
-abbrev pub refusal : Facts → ℕ → ℕ → Option Errno
+abbrev pub refusal : Facts → ThreadNo → ThreadNo → Option Errno
 refusal f t thread = if is_fellow f t thread then None else Some Srch
 
 -- that the priority is set, of the thread and of its pending message, is read off the past calls
-abbrev pub row : Facts → ℕ → ℕ → Row
+abbrev pub row : Facts → ThreadNo → ThreadNo → Row
 row f t thread = record {
   refusal = refusal f t thread;
   takes_memory = false;
@@ -22,5 +23,5 @@ row f t thread = record {
 }
 
 -- it sets the thread's priority
-abbrev pub effect : ℕ → ℕ → Effect
+abbrev pub effect : ThreadNo → Level → Effect
 effect thread priority = record plain { sets = Some (record { thread = thread; priority = priority }) }

@@ -1,8 +1,9 @@
 -- Pulse: a pulse to the receiver that began to wait last, or to the channel's pending items.
-use Rattle.std.specs.Prelude.{ℕ, ℤ, pos, negsuc, Bool, true, false, [], Option, None, Some, if◌then◌else◌}
+use Rattle.std.specs.Prelude.{ℤ, pos, negsuc, Bool, true, false, [], Option, None, Some, if◌then◌else◌}
 use Rattle.qbase.specs.declared.errno.Errno.{Errno}
 use Rattle.qbase.specs.declared.errno.Errno.TheVariants.{Badf, Inval}
 use Rattle.qrules.specs.declared.call.Mark.TheVariants as mark
+use Rattle.qrules.specs.Ids.{ChannelId, ConnectionId, Level, ThreadNo}
 use Rattle.qrules.specs.Delivering.{receiver, meets, received_of, wants_room}
 use Rattle.qrules.specs.Facts.{Facts, way}
 use Rattle.qrules.specs.Pulses.{full}
@@ -15,16 +16,16 @@ is_negative (pos n) = false
 is_negative (negsuc n) = true
 
 -- a code below 0, and then 1,024 pulses pending on the channel
-abbrev pub refusal_on : Facts → ℤ → Option ℕ → Option Errno
+abbrev pub refusal_on : Facts → ℤ → Option ChannelId → Option Errno
 refusal_on f code None = Some Badf
 refusal_on f code (Some h) = if is_negative code then Some Inval else full f h
 
 -- a connection that the thread's process hasn't, or whose channel isn't open, and then those
-abbrev pub refusal : Facts → ℕ → ℕ → ℤ → Option Errno
+abbrev pub refusal : Facts → ThreadNo → ConnectionId → ℤ → Option Errno
 refusal f t coid code = refusal_on f code (way f t coid)
 
 -- it never blocks; memory is wanted only for a pulse that waits
-abbrev pub row : Facts → ℕ → ℕ → ℕ → ℤ → ℤ → Row
+abbrev pub row : Facts → ThreadNo → ConnectionId → Level → ℤ → ℤ → Row
 row f t coid priority code value = record {
   refusal = refusal f t coid code;
   takes_memory = wants_room f (pulse_item f.number priority code value) (way f t coid);
@@ -34,5 +35,5 @@ row f t coid priority code value = record {
 }
 
 -- it makes a pulse of the priority that is given, and sends it over the connection
-abbrev pub effect : ℕ → ℕ → ℤ → ℤ → Effect
+abbrev pub effect : ConnectionId → Level → ℤ → ℤ → Effect
 effect coid priority code value = record plain { makes = λ f t. sent_over (f.connection coid) (pulse_item f.number priority code value); sends_over = Some coid }

@@ -2,13 +2,14 @@
 use Rattle.std.specs.Prelude.{ℕ, false, List, drop, None, Some}
 use Rattle.qbase.specs.Laying.{laid_count, lay_over}
 use Rattle.qrules.specs.declared.call.Mark.TheVariants as mark
+use Rattle.qrules.specs.Ids.{ReceiveId, ThreadNo}
 use Rattle.qrules.specs.Facts.{Facts, message}
 use Rattle.qrules.specs.Held.{refusal}
 use Rattle.qrules.specs.Rows.{Row, ends_none}
 use Rattle.qrules.specs.Effect.{Effect, plain}
 
 -- what stands in the message from the offset on, over the front of the buffer
-abbrev pub row : Facts → ℕ → ℕ → ℕ → List ℕ → Row
+abbrev pub row : Facts → ThreadNo → ReceiveId → ℕ → List ℕ → Row
 row f t rcvid offset buffer = record {
   refusal = refusal f t rcvid;
   takes_memory = false;
@@ -23,5 +24,5 @@ row f t rcvid offset buffer = record {
 }
 
 -- it reads the message into its buffer
-abbrev pub effect : ℕ → ℕ → List ℕ → Effect
+abbrev pub effect : ReceiveId → ℕ → List ℕ → Effect
 effect rcvid offset buffer = record plain { buffer = Some buffer; reads = Some (record { message = rcvid; offset = offset; buffer = buffer }) }

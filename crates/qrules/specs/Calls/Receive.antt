@@ -1,6 +1,7 @@
 -- Receive: the best item of the channel, or a wait for one.
 use Rattle.std.specs.Prelude.{ℕ, List, Some}
 use Rattle.qqueue.specs.declared.item.Kind.TheVariants.{Any}
+use Rattle.qrules.specs.Ids.{ChannelId, ThreadNo}
 use Rattle.qrules.specs.Facts.{Facts}
 use Rattle.qrules.specs.Receiving.{receiving}
 use Rattle.qrules.specs.Rows.{Row}
@@ -8,9 +9,9 @@ use Rattle.qrules.specs.Effect.{Effect, plain}
 use Rattle.qrules.specs.declared.open_call.Wait.TheVariants.{Item as ForItem}
 
 -- it takes messages and pulses
-abbrev pub row : Facts → ℕ → ℕ → List ℕ → Row
+abbrev pub row : Facts → ThreadNo → ChannelId → List ℕ → Row
 row f t chid buffer = receiving f t chid Any buffer
 
 -- it waits for an item, and may take any
-abbrev pub effect : ℕ → List ℕ → Effect
+abbrev pub effect : ChannelId → List ℕ → Effect
 effect chid buffer = record plain { waits = Some (ForItem chid Any buffer); buffer = Some buffer; receives_on = Some (chid, Any) }

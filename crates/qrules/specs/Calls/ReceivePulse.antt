@@ -1,6 +1,7 @@
 -- ReceivePulse: the best pulse of the channel, or a wait for one.
-use Rattle.std.specs.Prelude.{ℕ, [], Some}
+use Rattle.std.specs.Prelude.{[], Some}
 use Rattle.qqueue.specs.declared.item.Kind.TheVariants.{PulseOnly}
+use Rattle.qrules.specs.Ids.{ChannelId, ThreadNo}
 use Rattle.qrules.specs.Facts.{Facts}
 use Rattle.qrules.specs.Receiving.{receiving}
 use Rattle.qrules.specs.Rows.{Row}
@@ -8,9 +9,9 @@ use Rattle.qrules.specs.Effect.{Effect, plain}
 use Rattle.qrules.specs.declared.open_call.Wait.TheVariants.{Item as ForItem}
 
 -- it takes pulses alone, and has no buffer
-abbrev pub row : Facts → ℕ → ℕ → Row
+abbrev pub row : Facts → ThreadNo → ChannelId → Row
 row f t chid = receiving f t chid PulseOnly []
 
 -- it waits for a pulse, and brings no buffer
-abbrev pub effect : ℕ → Effect
+abbrev pub effect : ChannelId → Effect
 effect chid = record plain { waits = Some (ForItem chid PulseOnly []); receives_on = Some (chid, PulseOnly) }

@@ -2,6 +2,7 @@
 use Rattle.std.specs.Prelude.{ℕ, ℤ, false, List, [], None, Some}
 use Rattle.qbase.specs.Laying.{laid_count, lay_over}
 use Rattle.qrules.specs.declared.call.Mark.TheVariants as mark
+use Rattle.qrules.specs.Ids.{ReceiveId, ThreadNo}
 use Rattle.qrules.specs.Facts.{Facts, sender}
 use Rattle.qrules.specs.Held.{Finish, ends_sender, refusal}
 use Rattle.qrules.specs.Rows.{Row}
@@ -12,7 +13,7 @@ abbrev pub replied : ℤ → List ℕ → Finish
 replied status bytes buffer = (mark.Replied status (laid_count buffer 0 bytes), lay_over buffer 0 bytes)
 
 -- it never blocks
-abbrev pub row : Facts → ℕ → ℕ → ℤ → List ℕ → Row
+abbrev pub row : Facts → ThreadNo → ReceiveId → ℤ → List ℕ → Row
 row f t rcvid status bytes = record {
   refusal = refusal f t rcvid;
   takes_memory = false;
@@ -22,5 +23,5 @@ row f t rcvid status bytes = record {
 }
 
 -- it answers the message
-abbrev pub effect : ℕ → ℤ → List ℕ → Effect
+abbrev pub effect : ReceiveId → ℤ → List ℕ → Effect
 effect rcvid status bytes = record plain { answers = Some rcvid; replies = Some (status, bytes) }

@@ -3,6 +3,7 @@ use Rattle.std.specs.Prelude.{ℕ, is_some, List, Option, None, Some, if◌then�
 use Rattle.qbase.specs.declared.errno.Errno.{Errno}
 use Rattle.qbase.specs.declared.errno.Errno.TheVariants.{Badf}
 use Rattle.qqueue.specs.declared.item.Item.{Item}
+use Rattle.qrules.specs.Ids.{ConnectionId, ThreadNo}
 use Rattle.qrules.specs.Delivering.{receiver, meets, received_of, wants_room}
 use Rattle.qrules.specs.Facts.{Facts, way}
 use Rattle.qrules.specs.Rows.{Row, message_item, sent_over}
@@ -10,15 +11,15 @@ use Rattle.qrules.specs.Effect.{Effect, plain}
 use Rattle.qrules.specs.declared.open_call.Wait.TheVariants.{Answer}
 
 -- a connection that the thread's process hasn't, or whose channel isn't open
-abbrev pub refusal : Facts → ℕ → ℕ → Option Errno
+abbrev pub refusal : Facts → ThreadNo → ConnectionId → Option Errno
 refusal f t coid = if is_some (way f t coid) then None else Some Badf
 
 -- the message, of the sender's priority
-abbrev pub item : Facts → ℕ → Item
+abbrev pub item : Facts → ThreadNo → Item
 item f t = message_item f.number (f.priority t)
 
 -- the sender is blocked until its message is answered; memory is wanted only for a message that waits
-abbrev pub row : Facts → ℕ → ℕ → List ℕ → Row
+abbrev pub row : Facts → ThreadNo → ConnectionId → List ℕ → Row
 row f t coid message = record {
   refusal = refusal f t coid;
   takes_memory = wants_room f (item f t) (way f t coid);
@@ -28,5 +29,5 @@ row f t coid message = record {
 }
 
 -- it makes a message of its thread's priority, sends it over the connection, and waits for the answer
-abbrev pub effect : ℕ → List ℕ → List ℕ → Effect
+abbrev pub effect : ConnectionId → List ℕ → List ℕ → Effect
 effect coid message reply_buffer = record plain { waits = Some (Answer coid message reply_buffer None); buffer = Some reply_buffer; makes = λ f t. sent_over (f.connection coid) (item f t); sends_over = Some coid; sends = Some message }

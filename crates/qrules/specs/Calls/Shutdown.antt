@@ -1,14 +1,15 @@
 -- Shutdown: the end of every open call, and of the kernel.
-use Rattle.std.specs.Prelude.{ℕ, true, false, [], None, Some}
+use Rattle.std.specs.Prelude.{true, false, [], None, Some}
 use Rattle.qbase.specs.declared.errno.Errno.TheVariants.{Srch}
 use Rattle.qrules.specs.declared.call.Mark.TheVariants as mark
+use Rattle.qrules.specs.Ids.{ThreadNo}
 use Rattle.qrules.specs.Cutting.{cuts}
 use Rattle.qrules.specs.Facts.{Facts}
 use Rattle.qrules.specs.Rows.{Row}
 use Rattle.qrules.specs.Effect.{Effect, plain}
 
 -- any thread may shut the kernel down
-abbrev pub row : Facts → ℕ → Row
+abbrev pub row : Facts → ThreadNo → Row
 row f t = record {
   refusal = None;
   takes_memory = false;

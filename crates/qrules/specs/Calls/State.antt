@@ -1,20 +1,21 @@
 -- State: a thread's state and priority.
-use Rattle.std.specs.Prelude.{ℕ, [], Option, None, Some, false, is_some, if◌then◌else◌}
+use Rattle.std.specs.Prelude.{[], Option, None, Some, false, is_some, if◌then◌else◌}
 use Rattle.qbase.specs.declared.errno.Errno.{Errno}
 use Rattle.qbase.specs.declared.errno.Errno.TheVariants.{Srch}
 use Rattle.qtables.specs.Members.{member_at}
 use Rattle.qrules.specs.declared.call.Mark.TheVariants as mark
+use Rattle.qrules.specs.Ids.{ThreadNo}
 use Rattle.qrules.specs.Facts.{Facts}
 use Rattle.qrules.specs.ThreadStates.{state_in}
 use Rattle.qrules.specs.Rows.{Row, ends_none}
 use Rattle.qrules.specs.Effect.{Effect, plain}
 
 -- a thread that the roster hasn't
-abbrev pub refusal : Facts → ℕ → Option Errno
+abbrev pub refusal : Facts → ThreadNo → Option Errno
 refusal f thread = if is_some (member_at f.roster thread) then None else Some Srch
 
 -- any thread may ask for any
-abbrev pub row : Facts → ℕ → ℕ → Row
+abbrev pub row : Facts → ThreadNo → ThreadNo → Row
 row f t thread = record {
   refusal = refusal f thread;
   takes_memory = false;

@@ -2,13 +2,14 @@
 use Rattle.std.specs.Prelude.{ℕ, false, List, [], None, Some}
 use Rattle.qbase.specs.Laying.{laid_count}
 use Rattle.qrules.specs.declared.call.Mark.TheVariants as mark
+use Rattle.qrules.specs.Ids.{ReceiveId, ThreadNo}
 use Rattle.qrules.specs.Facts.{Facts}
 use Rattle.qrules.specs.Held.{refusal, reply_buffer}
 use Rattle.qrules.specs.Rows.{Row, ends_none}
 use Rattle.qrules.specs.Effect.{Effect, plain}
 
 -- how many bytes found room; what was written is read off the past calls
-abbrev pub row : Facts → ℕ → ℕ → ℕ → List ℕ → Row
+abbrev pub row : Facts → ThreadNo → ReceiveId → ℕ → List ℕ → Row
 row f t rcvid offset bytes = record {
   refusal = refusal f t rcvid;
   takes_memory = false;
@@ -18,5 +19,5 @@ row f t rcvid offset bytes = record {
 }
 
 -- it writes over the message's reply buffer
-abbrev pub effect : ℕ → ℕ → List ℕ → Effect
+abbrev pub effect : ReceiveId → ℕ → List ℕ → Effect
 effect rcvid offset bytes = record plain { writes = Some (record { message = rcvid; offset = offset; bytes = bytes }) }

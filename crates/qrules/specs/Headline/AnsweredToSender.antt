@@ -2,11 +2,10 @@
 use Rattle.std.specs.Prelude.{◌≡◌, ℕ, ◌==◌, ◌&&◌, not, Bool, true, false, List, [], ◌∷◌, count_by, Option, None, Some, if◌then◌else◌}
 use Rattle.std.specs.List.{AllByRecursion}
 use Rattle.qtables.specs.declared.member.Member.{Member}
-use Rattle.qrules.specs.declared.call.Call.{Call}
-use Rattle.qrules.specs.declared.call.Call.TheVariants.{ChannelCreate, ConnectAttach, Send, Receive, Reply, Error, Read, Write, Info, ReceivePulse, Pulse, PrioritySet, State, ChannelDestroy, Shutdown, Unblock, ConnectDetach}
 use Rattle.qrules.specs.declared.call.Completion.{Completion}
 use Rattle.qrules.specs.declared.call.Mark.{Mark}
 use Rattle.qrules.specs.declared.call.Mark.TheVariants as mark
+use Rattle.qrules.specs.Ids.{CallNo, ChannelId, ReceiveId, ThreadNo}
 use Rattle.qrules.specs.Facts.{owns}
 use Rattle.qrules.specs.Lawful.{facts_of}
 use Rattle.qrules.specs.Past.{is_accepted, is_ended, is_taken, items, sender_of}
@@ -15,21 +14,21 @@ use Rattle.qrules.specs.Trace.{Event, Trace}
 use Rattle.qrules.specs.Effects.{answered_by}
 
 -- message i is received, and its Send isn't ended
-abbrev pub is_held : Trace → ℕ → Bool
+abbrev pub is_held : Trace → ReceiveId → Bool
 is_held past i = is_taken past i && not (is_ended past i)
 
 -- the channel of the item of number i among these
-abbrev pub channel_among : List Made → ℕ → Option ℕ
+abbrev pub channel_among : List Made → CallNo → Option ChannelId
 channel_among [] i = None
 channel_among (m ∷ made) i = if m.item.number == i then Some m.channel else channel_among made i
 
 -- the thread's process owns this channel
-abbrev pub owns_that : List Member → Trace → ℕ → Option ℕ → Bool
+abbrev pub owns_that : List Member → Trace → ThreadNo → Option ChannelId → Bool
 owns_that roster past t None = false
 owns_that roster past t (Some h) = owns (facts_of roster past) t h
 
 -- the thread's process owns the channel of message i
-abbrev pub owns_channel_of : List Member → Trace → ℕ → ℕ → Bool
+abbrev pub owns_channel_of : List Member → Trace → ThreadNo → ReceiveId → Bool
 owns_channel_of roster past t i = owns_that roster past t (channel_among (items roster past) i)
 
 -- the mark is an answer
@@ -60,12 +59,12 @@ abbrev pub EachAnswersIts : List Member → Trace → Event → Type 0
 EachAnswersIts roster past e = AllByRecursion (λ x. is_answer x.mark ≡ true → AnswersIts roster past e x) e.endings
 
 -- how many of these endings are of call i
-abbrev pub endings_for : ℕ → List Completion → ℕ
+abbrev pub endings_for : CallNo → List Completion → ℕ
 endings_for i endings = count_by (λ x. x.call == i) endings
 
 -- an accepted call that answers a message has just one ending of its Send
 abbrev pub AnswersOnce : Trace → Event → Type 0
-AnswersOnce past e = (i : ℕ) → answered_by e.call ≡ Some i → is_accepted e past ≡ true → endings_for i e.endings ≡ 1
+AnswersOnce past e = (i : ReceiveId) → answered_by e.call ≡ Some i → is_accepted e past ≡ true → endings_for i e.endings ≡ 1
 
 -- so it is in each event
 abbrev pub AnsweredToSender : List Member → Trace → Type 0

@@ -1,15 +1,14 @@
 -- A receipt takes the item of greatest priority, and among equals the one that was made first.
-use Rattle.std.specs.Prelude.{◌≡◌, ℕ, List, [], ◌∷◌, ◌++◌, Option, None, Some}
+use Rattle.std.specs.Prelude.{◌≡◌, List, [], ◌∷◌, ◌++◌, Some}
 use Rattle.std.specs.List.{AllByRecursion}
 use Rattle.std.specs.Option.{option_map}
 use Rattle.qqueue.specs.Best.{best_of}
 use Rattle.qqueue.specs.declared.item.Item.{Item}
 use Rattle.qqueue.specs.declared.item.Kind.{Kind}
-use Rattle.qqueue.specs.declared.item.Kind.TheVariants.{Any, PulseOnly}
 use Rattle.qtables.specs.declared.member.Member.{Member}
 use Rattle.qrules.specs.declared.call.Call.{Call}
-use Rattle.qrules.specs.declared.call.Call.TheVariants.{ChannelCreate, ConnectAttach, Send, Receive, Reply, Error, Read, Write, Info, ReceivePulse, Pulse, PrioritySet, State, ChannelDestroy, Shutdown, Unblock, ConnectDetach}
 use Rattle.qrules.specs.declared.call.Completion.{Completion}
+use Rattle.qrules.specs.Ids.{CallNo, ChannelId}
 use Rattle.qrules.specs.Headline.CopiedExactly.{call_at}
 use Rattle.qrules.specs.Headline.ReceivedOnce.{item_received}
 use Rattle.qrules.specs.Past.{pending, item_of, made_on}
@@ -17,13 +16,13 @@ use Rattle.qrules.specs.Trace.{Event, Trace}
 use Rattle.qrules.specs.Effects.{receives_on}
 
 -- what could be taken from channel h in this event: what was pending before it, and the item that it makes
-abbrev pub takeable : List Member → Trace → Event → ℕ → List Item
+abbrev pub takeable : List Member → Trace → Event → ChannelId → List Item
 takeable roster past e h = pending roster past h ++ made_on h (item_of roster e past)
 
 -- the ending receives item i as the best of what its call may take
-pub record TakesBest (roster : List Member) (past : Trace) (e : Event) (x : Completion) (i : ℕ) : Type 0 where
+pub record TakesBest (roster : List Member) (past : Trace) (e : Event) (x : Completion) (i : CallNo) : Type 0 where
   pub call : Call
-  pub channel : ℕ
+  pub channel : ChannelId
   pub kind : Kind
   pub is_call : call_at (e ∷ past) x.call ≡ Some call
   pub receives : receives_on call ≡ Some (channel, kind)
@@ -32,4 +31,4 @@ pub record TakesBest (roster : List Member) (past : Trace) (e : Event) (x : Comp
 -- so it is with each receipt of each event
 abbrev pub BestFirst : List Member → Trace → Type 0
 BestFirst roster [] = Unit {0}
-BestFirst roster (e ∷ past) = AllByRecursion (λ x. (i : ℕ) → item_received x ≡ Some i → TakesBest roster past e x i) e.endings × BestFirst roster past
+BestFirst roster (e ∷ past) = AllByRecursion (λ x. (i : CallNo) → item_received x ≡ Some i → TakesBest roster past e x i) e.endings × BestFirst roster past

@@ -1,14 +1,13 @@
 -- Every buffer and every count is what was to be copied.
-use Rattle.std.specs.Prelude.{◌≡◌, ℕ, ℤ, pos, ◌+◌, ◌==◌, List, [], ◌∷◌, length, drop, Option, None, Some, if◌then◌else◌, is_some}
+use Rattle.std.specs.Prelude.{◌≡◌, ℕ, ◌+◌, ◌==◌, List, [], ◌∷◌, length, drop, Option, None, Some, if◌then◌else◌, is_some}
 use Rattle.std.specs.List.{AllByRecursion}
 use Rattle.std.specs.Option.{option_map_or}
-use Rattle.std.specs.Ordering.{int_eq}
 use Rattle.qbase.specs.Laying.{laid_count, lay_over}
 use Rattle.qrules.specs.declared.call.Call.{Call}
-use Rattle.qrules.specs.declared.call.Call.TheVariants.{ChannelCreate, ConnectAttach, Send, Receive, Reply, Error, Read, Write, Info, ReceivePulse, Pulse, PrioritySet, State, ChannelDestroy, Shutdown, Unblock, ConnectDetach}
 use Rattle.qrules.specs.declared.call.Completion.{Completion}
 use Rattle.qrules.specs.declared.call.Mark.{Mark}
 use Rattle.qrules.specs.declared.call.Mark.TheVariants as mark
+use Rattle.qrules.specs.Ids.{CallNo, ReceiveId}
 use Rattle.qrules.specs.Past.{with_writes}
 use Rattle.qrules.specs.Trace.{Event, Trace}
 use Rattle.qrules.specs.Effect.{Reading}
@@ -16,20 +15,20 @@ use Rattle.qrules.specs.Effects.{effect_of, buffer_of, message_sent, replies_wit
 use Rattle.qrules.specs.Rows.{Written}
 
 -- the call of number i
-abbrev pub call_at : Trace → ℕ → Option Call
+abbrev pub call_at : Trace → CallNo → Option Call
 call_at [] i = None
 call_at (e ∷ past) i = if i == length past + 1 then Some e.call else call_at past i
 
 -- the buffer of call i: a Send's with what was written over it, and any other's as the call brought it
-abbrev pub buffer_by : Trace → ℕ → Call → List ℕ
+abbrev pub buffer_by : Trace → CallNo → Call → List ℕ
 buffer_by past i c = if is_some (effect_of c).sends then with_writes past i (buffer_of c) else buffer_of c
 
 -- the same of the call of that number, nothing where there is none
-abbrev pub buffer_at : Trace → ℕ → List ℕ
+abbrev pub buffer_at : Trace → CallNo → List ℕ
 buffer_at past i = option_map_or (buffer_by past i) (call_at past i) []
 
 -- the bytes of message i
-abbrev pub message_at : Trace → ℕ → List ℕ
+abbrev pub message_at : Trace → ReceiveId → List ℕ
 message_at past i = option_map_or message_sent (call_at past i) []
 
 -- what is counted of a call that reads: the bytes of the message from the offset on that it lays over its buffer; of one that writes: those that it lays over the

@@ -4,6 +4,7 @@ use Rattle.std.specs.List.{AllByRecursion, filter_map, list_any}
 use Rattle.std.specs.Option.{option_map}
 use Rattle.qtables.specs.declared.member.Member.{Member}
 use Rattle.qrules.specs.declared.call.Completion.{Completion}
+use Rattle.qrules.specs.Ids.{CallNo}
 use Rattle.qrules.specs.Past.{items}
 use Rattle.qrules.specs.Rows.{received}
 use Rattle.qrules.specs.Trace.{Trace}
@@ -19,19 +20,19 @@ endings_of [] = []
 endings_of (e ∷ past) = e.endings ++ endings_of past
 
 -- the number of the item that an ending receives
-abbrev pub item_received : Completion → Option ℕ
+abbrev pub item_received : Completion → Option CallNo
 item_received x = option_map (λ r. r.0) (received x.mark)
 
 -- the items that these endings receive
-abbrev pub items_received : List Completion → List ℕ
+abbrev pub items_received : List Completion → List CallNo
 items_received endings = filter_map item_received endings
 
 -- the calls that these endings end
-abbrev pub calls_ended : List Completion → List ℕ
+abbrev pub calls_ended : List Completion → List CallNo
 calls_ended endings = map (λ x. x.call) endings
 
 -- an item of this number was made
-abbrev pub is_made : List Member → Trace → ℕ → Bool
+abbrev pub is_made : List Member → Trace → CallNo → Bool
 is_made roster past i = list_any (λ m. m.item.number == i) (items roster past)
 
 -- each event receives only what was made by then
