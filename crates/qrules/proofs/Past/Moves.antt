@@ -1,20 +1,19 @@
 -- A pending message that moves as the priority of its sender is set.
-use Rattle.std.proofs.Common.{◌≡◌, ℕ, ◌+◌, ◌≤◌, List, [], ◌∷◌, ◌++◌, map, length, refl, ap, sym, subst, ◌∙◌, cond, Bool, true, false, eqb, ◌⊎◌, inl, inr}
-use Rattle.std.specs.Prelude.{Option, None, Some, filter, is_some, not, unwrap_or, ◌&&◌}
+use Rattle.std.proofs.Common.{◌≡◌, ℕ, ◌≤◌, List, [], ◌∷◌, ◌++◌, map, length, refl, ap, sym, ◌∙◌, cond, Bool, true, false, eqb, inl, inr}
+use Rattle.std.specs.Prelude.{Option, None, Some, filter, not, unwrap_or}
 use Rattle.std.specs.List.{AllByRecursion}
-use Rattle.std.proofs.lemmas.Bool.{cases_Bool, eqb-true, eqb-false, eq-eqb, false_from_ne_true, or_parts, true≢false}
+use Rattle.std.proofs.lemmas.Bool.{eqb-true, eq-eqb, or_parts}
 use Rattle.std.proofs.lemmas.List.{map-append}
-use Rattle.std.proofs.lemmas.Option.{none-some}
 use Rattle.qqueue.specs.Best.{is_pulse, with_priority, without}
 use Rattle.qqueue.specs.declared.item.Item.{Item}
 use Rattle.qtables.specs.declared.member.Member.{Member}
-use Rattle.qrules.specs.Answer.{Outcome, row_of}
+use Rattle.qrules.specs.Answer.{Outcome}
 use Rattle.qrules.specs.Cutting.{is_unread_send}
 use Rattle.qrules.specs.Facts.{Facts}
 use Rattle.qrules.specs.Effects.{makes, sets}
 use Rattle.qrules.specs.Lawful.{IsLawful, facts_of, with_event}
-use Rattle.qrules.specs.Past.{is_accepted, is_gone, is_taken, made_on, open_call, set_by, worth}
-use Rattle.qrules.specs.Rows.{Received, Setting, set_for}
+use Rattle.qrules.specs.Past.{is_gone, is_taken, made_on, set_by, worth}
+use Rattle.qrules.specs.Rows.{Received, Setting}
 use Rattle.qrules.specs.Step.{is_cut, left_by, moved, taken_out}
 use Rattle.qrules.specs.Trace.{Event, Trace}
 use Rattle.qrules.specs.declared.call.Call.{Call}
@@ -23,7 +22,7 @@ use Rattle.qbase.proofs.Lists.{all_map, all_more}
 use Rattle.qrules.proofs.Calls.PrioritySet.{sets_alone}
 use Rattle.qrules.proofs.Past.Cuts.{pulse_unread, sent_by, unread_elsewhere}
 use Rattle.qrules.proofs.Past.Ends.{accepted}
-use Rattle.qrules.proofs.Past.Items.{IsPending, Stands, item_below, standing_is}
+use Rattle.qrules.proofs.Past.Items.{Stands, item_below, standing_is}
 use Rattle.qrules.proofs.Past.Worth.{now, sets_none, worth_set, worth_stays}
 
 -- ---- items that are changed in their priority alone

@@ -49,7 +49,7 @@ received_at roster past t c X r k a =
           record {
             first = place.first;
             at = subst (λ i. item_at roster (e ∷ past) i ≡ Some (record { item = place.first; channel = r.channel })) k.number
-            (item_earlier roster e past k.item.number (item_below roster past k.item.number _ place.made) ∙ place.made);
+                (item_earlier roster e past k.item.number (item_below roster past k.item.number _ place.made) ∙ place.made);
             is_worth = sym (item_priority roster past k.item.number _ place.made) ∙ best_priority roster past r.channel old.kind k.item old.best;
           }
     ]

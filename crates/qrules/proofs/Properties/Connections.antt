@@ -35,9 +35,11 @@ takeable_made roster past e h =
     let P = IsMadeFor roster (e ∷ past) h in
     all_append P (pending roster past h) (made_on h (item_of roster e past))
     (all_more (IsPending roster past h) P (pending roster past h) (pending_all roster past h) (λ w at. (at.first, item_earlier roster e past w.number (item_below roster past w.number _ at.made) ∙ at.made)))
-    (made_all P h (item_of roster e past) (λ m is on. (m.item,
-    subst (λ i. item_at roster (e ∷ past) i ≡ Some (record { item = m.item; channel = h })) (sym (made_by roster e past m is).number)
-    (item_newest roster e past ∙ is ∙ ap (λ k. Some (record { item = m.item; channel = k })) on))))
+    (made_all P h (item_of roster e past) (λ m is on. (
+      m.item,
+      subst (λ i. item_at roster (e ∷ past) i ≡ Some (record { item = m.item; channel = h })) (sym (made_by roster e past m is).number)
+          (item_newest roster e past ∙ is ∙ ap (λ k. Some (record { item = m.item; channel = k })) on),
+    )))
 
 -- each has the priority that its number had before the event
 pub takeable_priorities : (roster : List Member) (past : Trace) (e : Event) (h : ℕ) → AllByRecursion (λ w. priority_before roster e past w.number ≡ w.priority) (takeable roster past e h)

@@ -13,19 +13,17 @@ use Rattle.qqueue.specs.declared.item.Item.{Item}
 use Rattle.qqueue.specs.declared.item.Kind.{Kind}
 use Rattle.qqueue.specs.declared.item.Kind.TheVariants.{Any, PulseOnly}
 use Rattle.qqueue.proofs.OrderLaws.{best-at, best_is_first}
-use Rattle.qtables.specs.Members.{IsRoster}
 use Rattle.qtables.specs.declared.member.Member.{Member}
 use Rattle.qrules.specs.Effects.{receives_on}
 use Rattle.qrules.specs.Headline.BestFirst.{TakesBest, takeable}
 use Rattle.qrules.specs.Headline.ReceivedOnce.{item_received}
-use Rattle.qrules.specs.Lawful.{IsLawful}
 use Rattle.qrules.specs.Laws.{FirstGoesFirst, HasPriority, TakesBeside}
-use Rattle.qrules.specs.Past.{is_closed, is_gone, item_of, made_on, pending, priority_before, priority_of_item, worth}
+use Rattle.qrules.specs.Past.{is_closed, is_gone, item_of, made_on, pending, priority_before}
 use Rattle.qrules.specs.Rows.{Made}
 use Rattle.qrules.specs.Trace.{Event, Trace}
 use Rattle.qrules.specs.declared.call.Completion.{Completion}
 use Rattle.qbase.proofs.Lists.{all_more, eqb_same}
-use Rattle.qrules.proofs.Past.Items.{IsPending, Stands, before_earlier, item_at, item_below, item_earlier, item_made, item_priority, items_on, made_by, pending_all, pending_is, staying}
+use Rattle.qrules.proofs.Past.Items.{IsPending, before_earlier, item_at, item_below, item_earlier, item_made, item_priority, items_on, made_by, pending_all, pending_is, staying}
 use Rattle.qrules.proofs.Past.Pending.{items_more, made_all}
 use Rattle.qrules.proofs.Past.Rising.{takeable_rises}
 use Rattle.qrules.proofs.Past.Worth.{now}

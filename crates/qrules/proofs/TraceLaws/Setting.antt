@@ -1,23 +1,21 @@
 -- What an accepted PrioritySet changes of what is pending.
-use Rattle.std.proofs.Common.{◌≡◌, ℕ, List, [], ◌∷◌, ◌++◌, map, refl, ap, sym, ◌∙◌, cond, Bool, true, false, eqb}
-use Rattle.std.specs.Prelude.{Option, None, Some, filter, not, ◌&&◌}
+use Rattle.std.proofs.Common.{◌≡◌, ℕ, List, [], ◌∷◌, ◌++◌, map, refl, ap, sym, ◌∙◌, cond, true, false, eqb}
+use Rattle.std.specs.Prelude.{Some, filter, not, ◌&&◌}
 use Rattle.std.specs.List.{AllByRecursion}
 use Rattle.std.proofs.lemmas.Bool.{eqb-true, eq-eqb}
 use Rattle.std.proofs.lemmas.List.{append-nil}
 use Rattle.std.proofs.lemmas.Option.{none-some}
 use Rattle.qqueue.specs.Best.{is_pulse, with_priority}
 use Rattle.qqueue.specs.declared.item.Item.{Item}
-use Rattle.qtables.specs.Members.{IsRoster}
 use Rattle.qtables.specs.declared.member.Member.{Member}
 use Rattle.qrules.specs.Answer.{Outcome}
 use Rattle.qrules.specs.Cutting.{is_unread_send}
 use Rattle.qrules.specs.Lawful.{IsLawful, facts_of}
 use Rattle.qrules.specs.Laws.{OthersKeepTheirOrder, SettingMovesItsOwn, is_message_of, others_than, with_messages_at}
-use Rattle.qrules.specs.Past.{connection_at, is_accepted, open_call, pending, sender_of}
+use Rattle.qrules.specs.Past.{connection_at, open_call, pending, sender_of}
 use Rattle.qrules.specs.Rows.{Setting, names}
 use Rattle.qrules.specs.Step.{moved, pending_after}
-use Rattle.qrules.specs.Trace.{Event, Trace}
-use Rattle.qrules.specs.declared.call.Call.{Call}
+use Rattle.qrules.specs.Trace.{Trace}
 use Rattle.qrules.specs.declared.call.Call.TheVariants.{PrioritySet}
 use Rattle.qbase.proofs.Lists.{all_more, eqb_either}
 use Rattle.qrules.proofs.Past.Cuts.{none_cut, pulse_unread, sent_by, unread_elsewhere}
