@@ -27,14 +27,11 @@ runs_more old mid new events e run known step = λ roster past l st.
     let among : is_some (member_at roster e.thread) ≡ true = subst (λ r. is_some (member_at r e.thread) ≡ true) now.1.roster_is known in
     rw (followed_push past events e) ((now.0, among, next.0), next.1)
 
--- the run so far: these calls were made
+-- the run so far: these calls were made, and the roster stayed as it was
 pub record Going (old : State) (calls : List (ℕ × Call)) (now : State) (p : Printer) : Type 0 where
   pub run : HasRun old calls now p
   pub members : members_of now.threads ≡ members_of old.threads
   pub made : now.made ≡ old.made + length calls
-
-pub going_at_start : (old : State) (p : Printer) → HasRun old [] old p → Going old [] old p
-going_at_start old p run = record { run = run; members = refl; made = omega arith }
 
 -- how many calls the printer has noted
 pub noted_calls : (old : State) (calls : List (ℕ × Call)) (now : State) (p : Printer) → Going old calls now p → p.first + length p.shown.items ≡ old.made + 1 + length calls
