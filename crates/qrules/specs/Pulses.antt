@@ -23,12 +23,12 @@ abbrev pub full_for : Facts → Option Made → Option Errno
 full_for f None = None
 full_for f (Some m) = full f m.channel
 
--- a pulse is due that wants memory to wait in
+-- a pulse is made that wants memory to wait in
 abbrev pub wants_room_for : Facts → Option Made → Bool
 wants_room_for f None = false
 wants_room_for f (Some m) = wants_room f m.item (Some m.channel)
 
--- the call of the receiver ends that a pulse which is due meets
+-- the call of the receiver ends that a pulse which is made meets
 abbrev pub told : Facts → Option Made → ThreadNo → Option Completion
 told f None u = None
 told f (Some m) u = meets f m.item [] (receiver f m.item (Some m.channel)) u

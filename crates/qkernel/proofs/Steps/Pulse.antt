@@ -1,5 +1,5 @@
 -- Pulse as a step of the kernel.
-use Rattle.std.proofs.Common.{◌≡◌, ℕ, ◌+◌, List, [], ◌∷◌, refl, ◌∙◌, true, false, inl, inr}
+use Rattle.std.proofs.Common.{◌≡◌, ℕ, ◌+◌, List, [], ◌∷◌, refl, ap, ◌∙◌, true, false, inl, inr}
 use Rattle.std.specs.Prelude.{ℤ, pos, negsuc, None, Some}
 use lib.Signed.{lt_z}
 use Rattle.qbase.specs.declared.errno.Errno.TheVariants.{Again, Badf, Inval, NoMemory}
@@ -14,7 +14,7 @@ use Rattle.qrecords.specs.Channels.{way_in}
 use Rattle.qrecords.specs.Pulses.{has_room}
 use Rattle.qrules.specs.Facts.{way}
 use Rattle.qrules.specs.Rows.{pulse_item}
-use Rattle.qrules.specs.Pulses.{full}
+use Rattle.qrules.specs.Pulses.{full, told, told_receipt, wants_room_for}
 use Rattle.qkernel.specs.State.{State, facts_in}
 use Rattle.qkernel.specs.Stands.{Steps}
 use Rattle.qrules.specs.Receivers.{newest}
@@ -54,7 +54,7 @@ module _ (s : State) (t coid priority : ℕ) (code value : ℤ) (m : Member) (kn
   pulse_memory h found positive room nobody =
       let there : way (facts_in s) t coid ≡ Some h = way-leads_to s t m (entry_at s.connections coid) known ∙ found in
       let none : newest (facts_in s) h (pulse_item (s.made + 1) priority code value) ≡ None = nobody in
-      inr (rw (up, free, there, positive, room) refl, rw (there, none) refl, refl)
+      inr (rw (up, free, there, positive, room) refl, ap (wants_room_for (facts_in s)) (some_sent s t coid m h known found (pulse_item (s.made + 1) priority code value)) ∙ rw none refl, refl)
 
 -- ---- a pulse that is sent
 
@@ -62,11 +62,12 @@ pub tells_pulse : (s : State) (t coid priority : ℕ) (code value : ℤ) (m : Me
     → way_in m.process s.channels (entry_at s.connections coid) ≡ Some h → is_negative code ≡ false → full (facts_in s) h ≡ None → Tells s t (Pulse coid priority code value) (Some (record { item = pulse_item (s.made + 1) priority code value; channel = h }))
 tells_pulse s t coid priority code value m h known up free found positive room =
     let there : way (facts_in s) t coid ≡ Some h = some_way s t coid m h known found in
+    let sent = some_sent s t coid m h known found (pulse_item (s.made + 1) priority code value) in
     record {
       quiet = record { closes_none = refl; detaches_none = refl; stays_up = refl; creates_none = rw known refl; attaches_none = rw known refl; sets_none = refl; writes_none = refl };
       passed = rw (up, free, there, positive, room) refl;
-      made = some_sent s t coid m h known found (pulse_item (s.made + 1) priority code value);
+      made = sent;
       own = refl;
-      ends = λ u. rw there refl;
-      receipt = rw there refl;
+      ends = λ u. ap (λ o. told (facts_in s) o u) sent;
+      receipt = ap (told_receipt (facts_in s)) sent;
     }

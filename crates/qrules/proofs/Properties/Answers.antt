@@ -22,7 +22,7 @@ use Rattle.qrules.specs.Cutting.{is_on}
 use Rattle.qrules.specs.Facts.{Facts, is_for_answer, message, sender, threads_of, way}
 use Rattle.qrules.specs.Effects.{answered_by, asks, makes, thread_of_send}
 use Rattle.qrules.specs.Headline.AnsweredToSender.{is_answer}
-use Rattle.qrules.specs.Rows.{Made, given, pulse_item, sent_over}
+use Rattle.qrules.specs.Rows.{Made, given, sent_over}
 use Rattle.qrules.specs.declared.call.Call.{Call}
 use Rattle.qrules.specs.declared.call.Call.TheVariants.{ChannelCreate, ConnectAttach, Send, Receive, Reply, Error, Read, Write, Info, ReceivePulse, Pulse, PrioritySet, State, ChannelDestroy, Shutdown, Unblock, ConnectDetach}
 use Rattle.qrules.specs.declared.call.Completion.{Completion}
@@ -41,6 +41,7 @@ use Rattle.qrules.proofs.Properties.Rows.Delivering.{Meets, delivery_meets}
 use Rattle.qrules.proofs.Ways.{has_way, leads_over}
 use Rattle.qrules.specs.Calls.ConnectDetach as connect_detach
 use Rattle.qrules.specs.Calls.Unblock as unblock
+use Rattle.qrules.specs.Calls.Pulse as pulse
 use Rattle.qrules.proofs.Calls.ConnectDetach.{detach_ends}
 use Rattle.qrules.proofs.Properties.Rows.Telling.{told_meets, unblock_ends}
 
@@ -108,7 +109,7 @@ ends_answers f t (ChannelCreate flags) u y p e is = absurd (none-some y e)
 ends_answers f t (ConnectAttach chid) u y p e is = absurd (none-some y e)
 ends_answers f t (Send coid message reply_buffer) u y p e is = met_no_answer f (way f t coid) (item f t) message u y (delivery_meets f (way f t coid) (item f t) message u y e) is
 ends_answers f t (Pulse coid level code value) u y p e is =
-    met_no_answer f (way f t coid) (pulse_item f.number level code value) [] u y (delivery_meets f (way f t coid) (pulse_item f.number level code value) [] u y e) is
+    let k = told_meets f (pulse.sent f coid level code value) u y e in met_no_answer f (Some k.made.channel) k.made.item [] u y k.meets is
 ends_answers f t (ReceivePulse chid) u y p e is = absurd (none-some y e)
 ends_answers f t (Receive chid buffer) u y p e is = absurd (none-some y e)
 ends_answers f t (Reply rcvid status bytes) u y p e is = answers_by f t (Reply rcvid status bytes) rcvid (replied status bytes) u y refl (sender_ends f t rcvid (replied status bytes) u y p.row e)

@@ -26,7 +26,7 @@ use Rattle.qrules.specs.Held.{Finish, refusal, reply_buffer, reply_buffer_in, re
 use Rattle.qrules.specs.Headline.CopiedExactly.{CopiedExactly, IsCopied, buffer_at, buffer_by, call_at, message_at}
 use Rattle.qrules.specs.Lawful.{facts_of, IsLawful}
 use Rattle.qrules.specs.Past.{open_call, refuses}
-use Rattle.qrules.specs.Rows.{pulse_item, taking, Made}
+use Rattle.qrules.specs.Rows.{taking, Made}
 use Rattle.qrules.specs.Trace.{Event, Trace}
 use Rattle.qrules.specs.declared.call.Call.{Call}
 use Rattle.qrules.specs.declared.call.Call.TheVariants.{ChannelCreate, ConnectAttach, Send, Receive, Reply, Error, Read, Write, Info, ReceivePulse, Pulse, PrioritySet, State, ChannelDestroy, Shutdown, Unblock, ConnectDetach}
@@ -54,6 +54,8 @@ use Rattle.qrules.proofs.Properties.Rows.Delivering.{Meets, delivery_meets}
 use Rattle.qrules.proofs.Properties.Rows.Telling.{Tells, told_meets, unblock_ends}
 use Rattle.qrules.specs.Calls.ConnectDetach as connect_detach
 use Rattle.qrules.specs.Calls.Unblock as unblock
+use Rattle.qrules.specs.Calls.Pulse as pulse
+use Rattle.qrules.proofs.Calls.Pulse.{sent_pulse}
 use Rattle.qrules.proofs.Calls.ConnectDetach as detaching
 use Rattle.qrules.proofs.Calls.ConnectDetach.{detach_ends}
 use Rattle.qrules.proofs.Calls.Unblock as unblocking
@@ -250,8 +252,8 @@ ends_copied roster past t (Send coid sent reply_buffer) X u y p e =
     met_copied roster past t (Send coid sent reply_buffer) X u y (way (facts_of roster past) t coid) (send.item (facts_of roster past) t) sent refl (λ message. message_newest (event t (Send coid sent reply_buffer) X) past)
     (delivery_meets (facts_of roster past) (way (facts_of roster past) t coid) (send.item (facts_of roster past) t) sent u y e)
 ends_copied roster past t (Pulse coid level code value) X u y p e =
-    met_copied roster past t (Pulse coid level code value) X u y (way (facts_of roster past) t coid) (pulse_item (length past + 1) level code value) [] refl (λ message. absurd (true≢false message))
-    (delivery_meets (facts_of roster past) (way (facts_of roster past) t coid) (pulse_item (length past + 1) level code value) [] u y e)
+    let o = pulse.sent (facts_of roster past) coid level code value in
+    told_now roster past t (Pulse coid level code value) X u y o refl (λ m is. sent_pulse (facts_of roster past) coid level code value m is) (told_meets (facts_of roster past) o u y e)
 ends_copied roster past t (Reply rcvid status bytes) X u y p e =
     let r = sender_ends (facts_of roster past) t rcvid (replied status bytes) u y p.row e in
     let v = event t (Reply rcvid status bytes) X in

@@ -18,7 +18,7 @@ use Rattle.qrules.specs.Cutting.{is_on}
 use Rattle.qrules.specs.Facts.{Facts, message, sender, way}
 use Rattle.qrules.specs.Effects.{makes, receives_on}
 use Rattle.qrules.specs.Headline.ReceivedOnce.{item_received}
-use Rattle.qrules.specs.Rows.{Made, pulse_item, received}
+use Rattle.qrules.specs.Rows.{Made, received}
 use Rattle.qrules.specs.declared.call.Call.{Call}
 use Rattle.qrules.specs.declared.call.Call.TheVariants.{ChannelCreate, ConnectAttach, Send, Receive, Reply, Error, Read, Write, Info, ReceivePulse, Pulse, PrioritySet, State, ChannelDestroy, Shutdown, Unblock, ConnectDetach}
 use Rattle.qrules.specs.declared.call.Completion.{Completion}
@@ -35,6 +35,7 @@ use Rattle.qrules.proofs.Calls.Held.{sender_ends}
 use Rattle.qrules.proofs.Calls.Info.{plain}
 use Rattle.qrules.specs.Calls.ConnectDetach as connect_detach
 use Rattle.qrules.specs.Calls.Unblock as unblock
+use Rattle.qrules.specs.Calls.Pulse as pulse
 use Rattle.qrules.proofs.Calls.ConnectDetach.{detach_ends}
 use Rattle.qrules.proofs.Properties.Rows.Telling.{Tells, told_meets, unblock_ends}
 use Rattle.qrules.proofs.Calls.Delivering.{sent_way}
@@ -171,8 +172,7 @@ ends_takes f t (ReceivePulse chid) u y p r e m = absurd (none-some y e)
 ends_takes f t (Send coid message reply_buffer) u y p r e m =
     takes_met f t (Send coid message reply_buffer) (way f t coid) (item f t) message u y p (delivery_meets f (way f t coid) (item f t) message u y e) (sent_way f t coid (item f t)) m
 ends_takes f t (Pulse coid level code value) u y p r e m =
-    takes_met f t (Pulse coid level code value) (way f t coid) (pulse_item f.number level code value) [] u y p (delivery_meets f (way f t coid) (pulse_item f.number level code value) [] u y e)
-    (sent_way f t coid (pulse_item f.number level code value)) m
+    takes_told f t (Pulse coid level code value) (pulse.sent f coid level code value) u y p refl (told_meets f (pulse.sent f coid level code value) u y e) m
 
 -- each ending that receives an item takes it so
 pub takes_one : (f : Facts) (t : ℕ) (c : Call) (u : ℕ) (y : Completion) (p : ℕ × ℕ) → (row_of f t c).refusal ≡ None → ending f t c u ≡ Some y → received y.mark ≡ Some p → TakesOne f t c u y p.0

@@ -20,7 +20,7 @@ use Rattle.qrules.specs.Effects.{asks, closes, makes, receives_on, sets, unblock
 use Rattle.qrules.specs.Lawful.{facts_of, IsLawful}
 use Rattle.qrules.specs.Past.{held_with, made_on}
 use Rattle.qrules.specs.Receivers.{newest}
-use Rattle.qrules.specs.Rows.{Made, Received, names, pulse_item, sent_over, takes, taking, with_buffer}
+use Rattle.qrules.specs.Rows.{Made, Received, names, sent_over, takes, taking, with_buffer}
 use Rattle.qrules.specs.Step.{after_receipt, after_write, is_cut, left_by, moved, open_call_after, pending_after, taken_out, unless, after_unblock, unblocked_wait}
 use Rattle.qrules.specs.Trace.{Trace}
 use Rattle.qrules.specs.declared.call.Call.{Call}
@@ -38,7 +38,7 @@ use Rattle.qbase.proofs.Lists.{all_append, all_filter, all_more, is_among, none_
 use Rattle.qrules.proofs.Properties.Receipts.{waits_for}
 use Rattle.qrules.proofs.Past.Before.{Lasts, before_other, before_receipt, unless_is}
 use Rattle.qrules.proofs.Properties.Receivers.{WaitsOn, newest_some, newest_waits}
-use Rattle.qrules.proofs.Ways.{has_way, pulse_way}
+use Rattle.qrules.proofs.Ways.{has_way}
 use Rattle.qrules.proofs.Rosters.{known}
 use Rattle.qrules.proofs.Calls.Delivering.{sent_way}
 use Rattle.qrules.specs.Pulses.{told_receipt}
@@ -169,9 +169,7 @@ received_at_once f t (Send coid message reply_buffer) m u o kind p made among is
     let s = sent_is f t coid (item f t) m h.0 h.1 made in
     delivered_at_once f t (Send coid message reply_buffer) (way f t coid) (item f t) message (Some t) m u o kind s.0 s.1 refl among is waits may
 received_at_once f t (Pulse coid level code value) m u o kind p made among is waits may =
-    let h = pulse_way f t coid code p.row in
-    let s = sent_is f t coid (pulse_item f.number level code value) m h.0 h.1 made in
-    delivered_at_once f t (Pulse coid level code value) (way f t coid) (pulse_item f.number level code value) [] None m u o kind s.0 s.1 refl among is waits may
+    delivered_at_once f t (Pulse coid level code value) (Some m.channel) m.item [] None m u o kind refl refl (ap (told_receipt f) made) among is waits may
 
 -- ---- lists of items
 

@@ -19,11 +19,12 @@ use Rattle.qrules.specs.Calls.Reply.{replied}
 use Rattle.qrules.specs.Calls.Send.{item}
 use Rattle.qrules.specs.Calls.Unblock as unblock
 use Rattle.qrules.specs.Calls.Info.{told, telling}
+use Rattle.qrules.specs.Calls.Pulse as pulse
 use Rattle.qrules.specs.Cutting.{buffer_of_wait, is_on}
 use Rattle.qrules.specs.Endings.{buffer_of_open, buffer_brought, EndingsKeepLength, OpenCallsKeepLength}
 use Rattle.qrules.specs.Facts.{Facts, message, sender, threads_of, way}
 use Rattle.qrules.specs.Held.{Finish, ends_sender, refusal}
-use Rattle.qrules.specs.Rows.{Made, Received, Written, pulse_item, taking, with_buffer, written_over}
+use Rattle.qrules.specs.Rows.{Made, Received, Written, taking, with_buffer, written_over}
 use Rattle.qrules.specs.Step.{after_receipt, after_unblock, after_write, held_call, is_thread, open_call_after, unblocked_call, unblocked_wait, unless, written_call}
 use Rattle.qrules.specs.Past.{filled, held_with, is_accepted, with_receipt, with_writes}
 use Rattle.qrules.specs.declared.call.Call.{Call}
@@ -113,7 +114,7 @@ ends_length f t (Write rcvid offset bytes) u y p e = absurd (none-some y e)
 ends_length f t (Info rcvid) u y p e = absurd (none-some y e)
 ends_length f t (ReceivePulse chid) u y p e = absurd (none-some y e)
 ends_length f t (Pulse coid priority code value) u y p e =
-    met_length f (way f t coid) (pulse_item f.number priority code value) [] u y (delivery_meets f (way f t coid) (pulse_item f.number priority code value) [] u y e)
+    let k = told_meets f (pulse.sent f coid priority code value) u y e in met_length f (Some k.made.channel) k.made.item [] u y k.meets
 ends_length f t (PrioritySet thread priority) u y p e = absurd (none-some y e)
 ends_length f t (State thread) u y p e = absurd (none-some y e)
 ends_length f t (ChannelDestroy chid) u y p e = cut_length (is_on f.connection chid) Srch u (f.open_call u) y (cut_parts (is_on f.connection chid) Srch u (f.open_call u) y e)

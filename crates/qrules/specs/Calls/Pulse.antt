@@ -4,10 +4,9 @@ use Rattle.qbase.specs.declared.errno.Errno.{Errno}
 use Rattle.qbase.specs.declared.errno.Errno.TheVariants.{Badf, Inval}
 use Rattle.qrules.specs.declared.call.Mark.TheVariants as mark
 use Rattle.qrules.specs.Ids.{ChannelId, ConnectionId, Level, ThreadNo}
-use Rattle.qrules.specs.Delivering.{receiver, meets, received_of, wants_room}
 use Rattle.qrules.specs.Facts.{Facts, way}
-use Rattle.qrules.specs.Pulses.{full}
-use Rattle.qrules.specs.Rows.{Row, pulse_item, sent_over}
+use Rattle.qrules.specs.Pulses.{full, told, told_receipt, wants_room_for}
+use Rattle.qrules.specs.Rows.{Made, Row, pulse_item, sent_over}
 use Rattle.qrules.specs.Effect.{Effect, plain}
 
 -- a code below 0
@@ -24,16 +23,20 @@ refusal_on f code (Some h) = if is_negative code then Some Inval else full f h
 abbrev pub refusal : Facts → ThreadNo → ConnectionId → ℤ → Option Errno
 refusal f t coid code = refusal_on f code (way f t coid)
 
+-- the pulse of the priority that is given, sent over the connection
+abbrev pub sent : Facts → ConnectionId → Level → ℤ → ℤ → Option Made
+sent f coid priority code value = sent_over (f.connection coid) (pulse_item f.number priority code value)
+
 -- it never blocks; memory is wanted only for a pulse that waits
 abbrev pub row : Facts → ThreadNo → ConnectionId → Level → ℤ → ℤ → Row
 row f t coid priority code value = record {
   refusal = refusal f t coid code;
-  takes_memory = wants_room f (pulse_item f.number priority code value) (way f t coid);
+  takes_memory = wants_room_for f (sent f coid priority code value);
   own = Some (record { call = f.number; thread = t; mark = mark.Ok; buffer = [] });
-  ends = meets f (pulse_item f.number priority code value) [] (receiver f (pulse_item f.number priority code value) (way f t coid));
-  receipt = received_of f None (pulse_item f.number priority code value) [] (way f t coid) (receiver f (pulse_item f.number priority code value) (way f t coid));
+  ends = told f (sent f coid priority code value);
+  receipt = told_receipt f (sent f coid priority code value);
 }
 
--- it makes a pulse of the priority that is given, and sends it over the connection
+-- it makes that pulse, and sends it over the connection
 abbrev pub effect : ConnectionId → Level → ℤ → ℤ → Effect
-effect coid priority code value = record plain { makes = λ f t. sent_over (f.connection coid) (pulse_item f.number priority code value); sends_over = Some coid }
+effect coid priority code value = record plain { makes = λ f t. sent f coid priority code value; sends_over = Some coid }
