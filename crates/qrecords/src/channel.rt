@@ -158,12 +158,7 @@ pub fn enqueue(channels: &mut Channels<Channel>, chid: ChannelId, item: Item) ->
 }
 
 /// Gives the item of this number on a channel another priority, if it waits there; takes no memory.
-pub fn requeue(
-    channels: &mut Channels<Channel>,
-    chid: ChannelId,
-    number: u64,
-    priority: Priority,
-)
+pub fn requeue(channels: &mut Channels<Channel>, chid: ChannelId, number: u64, priority: Priority)
     ensures { SetsItems chid (requeued number priority (pending_in channels.old chid)) channels.old channels.new }
 {
     if let Some(channel) = channels.get_mut(chid) {
