@@ -7,7 +7,7 @@ use crate::making::{cells, completion, is_of, last_seat, seat_back};
 use qbase::errno::Errno;
 use qhandoff::cells::Cells;
 use qhandoff::seats::KernelSeat;
-use qrules::call::Completion;
+use qmodel::call::Completion;
 use std::alloc::Global;
 use std::process::Abort;
 

@@ -7,7 +7,7 @@ ghost use Rattle.qhandoff.specs.Words.{cells_id, count, desk, kernel_id, thread_
 use crate::making::{cells, completion, is_of, last_seat, seat_back};
 use qhandoff::cells::Cells;
 use qhandoff::seats::{KernelSeat, ThreadSeat};
-use qrules::call::Completion;
+use qmodel::call::Completion;
 use std::alloc::Global;
 use std::process::Abort;
 use std::sync::Wait;

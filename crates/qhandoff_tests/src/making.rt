@@ -7,7 +7,7 @@ use qbase::bytes::Bytes;
 use qbase::ids::ThreadNo;
 use qhandoff::cells::Cells;
 use qhandoff::seats::{KernelSeat, ThreadSeat};
-use qrules::call::{Completion, Mark};
+use qmodel::call::{Completion, Mark};
 use std::alloc::Global;
 use std::process::Abort;
 

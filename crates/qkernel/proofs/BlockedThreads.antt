@@ -8,16 +8,16 @@ use Rattle.std.proofs.lemmas.List.Elements.{filter_map-append}
 use Rattle.qtables.specs.Members.{IsRoster}
 use Rattle.qtables.specs.declared.connection.Connection.{Connection}
 use Rattle.qtables.specs.declared.member.Member.{Member}
-use Rattle.qrules.specs.Blocked.{told_of, blocked_in, blocked_at}
-use Rattle.qrules.specs.Facts.{threads_of}
+use Rattle.qmodel.specs.Blocked.{told_of, blocked_in, blocked_at}
+use Rattle.qmodel.specs.Facts.{threads_of}
 use Rattle.qkernel.specs.Stands.{StandsAt}
 use Rattle.qkernel.specs.State.{State, facts_in}
-use Rattle.qrecords.specs.Threads.{members_of, open_in}
-use Rattle.qrules.specs.Trace.{Trace}
-use Rattle.qrules.specs.declared.open_call.Blocked.{Blocked}
-use Rattle.qrules.specs.declared.open_call.OpenCall.{OpenCall}
-use Rattle.qrecords.specs.declared.thread.Thread.{Thread}
-use Rattle.qrecords.proofs.Senders.{own_open}
+use Rattle.qstate.specs.Threads.{members_of, open_in}
+use Rattle.qmodel.specs.Trace.{Trace}
+use Rattle.qmodel.specs.declared.open_call.Blocked.{Blocked}
+use Rattle.qmodel.specs.declared.open_call.OpenCall.{OpenCall}
+use Rattle.qstate.specs.declared.thread.Thread.{Thread}
+use Rattle.qstate.proofs.Senders.{own_open}
 use Rattle.qkernel.proofs.Standing.{stands_facts}
 
 -- what is told of each thread that is blocked, by its record

@@ -3,7 +3,7 @@ use Rattle.std.proofs.Common.{◌≡◌, ℕ, ◌-◌, ◌≤◌, List, [], ◌�
 use Rattle.std.specs.Prelude.{slice_range}
 use Rattle.std.proofs.lemmas.List.{append-nil, drop-append-le, take-append-drop}
 use Rattle.std.proofs.lemmas.Grind.{common_steps}
-use Rattle.qrules.specs.declared.call.Completion.{Completion}
+use Rattle.qmodel.specs.declared.call.Completion.{Completion}
 use Rattle.qkernel.specs.declared.trace.Entry.{Entry}
 use Rattle.qkernel.specs.Kept.{entry_call, event_of, events_of, logged_by, AllWithin, IsKept}
 

@@ -5,24 +5,24 @@ use Rattle.std.specs.List.{filter_map, cons_option, AllByRecursion}
 use Rattle.std.specs.Option.{option_map}
 use Rattle.std.proofs.lemmas.Bool.{eqb-true, eq-eqb, true≢false}
 use Rattle.qtables.specs.Members.{IsRoster}
-use Rattle.qrules.specs.declared.call.Call.{Call}
-use Rattle.qrules.specs.declared.call.Completion.{Completion}
-use Rattle.qrules.specs.declared.open_call.OpenCall.{OpenCall}
-use Rattle.qrecords.specs.declared.thread.Thread.{Thread}
-use Rattle.qrules.specs.Answer.{row_of, ending, Outcome}
-use Rattle.qrules.specs.Facts.{Facts, sender, threads_of}
-use Rattle.qrules.specs.Effects.{makes, unblocks, writes}
-use Rattle.qrules.specs.Rows.{Received, Written, Made}
+use Rattle.qmodel.specs.declared.call.Call.{Call}
+use Rattle.qmodel.specs.declared.call.Completion.{Completion}
+use Rattle.qmodel.specs.declared.open_call.OpenCall.{OpenCall}
+use Rattle.qstate.specs.declared.thread.Thread.{Thread}
+use Rattle.qmodel.specs.Answer.{row_of, ending, Outcome}
+use Rattle.qmodel.specs.Facts.{Facts, sender, threads_of}
+use Rattle.qmodel.specs.Effects.{makes, unblocks, writes}
+use Rattle.qmodel.specs.Rows.{Received, Written, Made}
 use Rattle.qkernel.specs.State.{State, facts_in}
 use Rattle.qkernel.specs.Stands.{Step, Steps}
-use Rattle.qrules.specs.Step.{Follows, unless, after_receipt, after_write, is_thread, held_call, written_call, after_unblock, unblocked_call}
-use Rattle.qrecords.specs.Threads.{members_of, open_in, blocked_count}
-use Rattle.qrules.proofs.Past.Ends.{row_passes}
-use Rattle.qrules.proofs.Past.Laws.{RowLaws}
-use Rattle.qrules.proofs.Past.RowLaws.{row_laws}
+use Rattle.qmodel.specs.Step.{Follows, unless, after_receipt, after_write, is_thread, held_call, written_call, after_unblock, unblocked_call}
+use Rattle.qstate.specs.Threads.{members_of, open_in, blocked_count}
+use Rattle.qmodel.proofs.Past.Ends.{row_passes}
+use Rattle.qmodel.proofs.Past.Laws.{RowLaws}
+use Rattle.qmodel.proofs.Past.RowLaws.{row_laws}
 use Rattle.qbase.proofs.Lists.{is_among}
-use Rattle.qrules.proofs.Rosters.{Rises, rises, not_among}
-use Rattle.qrecords.proofs.Senders.{own_open}
+use Rattle.qmodel.proofs.Rosters.{Rises, rises, not_among}
+use Rattle.qstate.proofs.Senders.{own_open}
 
 -- one where there is something
 abbrev one : {A : Type 0} → Option A → ℕ

@@ -3,20 +3,20 @@ use Rattle.std.proofs.Common.{◌≡◌, ℕ, suc, ◌+◌, ◌-◌, ◌<◌, �
 use Rattle.std.specs.Prelude.{is_some}
 use Rattle.std.proofs.lemmas.List.{append-nil, reverse-append}
 use Rattle.qtables.specs.Members.{member_at, IsRoster}
-use Rattle.qrules.specs.declared.call.Call.{Call}
-use Rattle.qrules.specs.declared.call.Completion.{Completion}
-use Rattle.qrecords.specs.declared.thread.Thread.{Thread}
+use Rattle.qmodel.specs.declared.call.Call.{Call}
+use Rattle.qmodel.specs.declared.call.Completion.{Completion}
+use Rattle.qstate.specs.declared.thread.Thread.{Thread}
 use Rattle.qkernel.specs.Logged.{Logged, with_next}
-use Rattle.qrules.specs.Lawful.{followed_by}
+use Rattle.qmodel.specs.Lawful.{followed_by}
 use Rattle.qkernel.specs.Runs.{RunsAtTraces, AllKnown, Headline}
-use Rattle.qrules.specs.OnlyRun.{event_call}
+use Rattle.qmodel.specs.OnlyRun.{event_call}
 use Rattle.qkernel.specs.Stands.{AnswersAtTraces}
 use Rattle.qkernel.specs.State.{State}
-use Rattle.qrecords.specs.Threads.{members_of, blocked_count}
-use Rattle.qrules.specs.Trace.{Event, Trace}
-use Rattle.qrules.proofs.Following.{followed_push}
-use Rattle.qrules.proofs.OnlyRun.{only_run}
-use Rattle.qrules.proofs.Properties.All.{has_properties}
+use Rattle.qstate.specs.Threads.{members_of, blocked_count}
+use Rattle.qmodel.specs.Trace.{Event, Trace}
+use Rattle.qmodel.proofs.Following.{followed_push}
+use Rattle.qmodel.proofs.OnlyRun.{only_run}
+use Rattle.qmodel.proofs.Properties.All.{has_properties}
 
 -- ---- events one after another
 

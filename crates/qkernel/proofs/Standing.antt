@@ -7,22 +7,22 @@ use Rattle.std.proofs.lemmas.List.{length-map}
 use Rattle.qbase.specs.declared.errno.Errno.{Errno}
 use Rattle.qtables.specs.Members.{member_at, IsRoster}
 use Rattle.qtables.specs.declared.member.Member.{Member}
-use Rattle.qrules.specs.declared.call.Call.{Call}
-use Rattle.qrules.specs.declared.call.Completion.{Completion}
-use Rattle.qrules.specs.Answer.{Outcome, Answers, ending, failed}
-use Rattle.qrules.specs.Facts.{Facts, threads_of}
-use Rattle.qrules.specs.Laws.{IsOnlyCounted}
-use Rattle.qrules.specs.Lawful.{facts_of, with_event}
-use Rattle.qrules.specs.Past.{is_failure, priority_in}
+use Rattle.qmodel.specs.declared.call.Call.{Call}
+use Rattle.qmodel.specs.declared.call.Completion.{Completion}
+use Rattle.qmodel.specs.Answer.{Outcome, Answers, ending, failed}
+use Rattle.qmodel.specs.Facts.{Facts, threads_of}
+use Rattle.qmodel.specs.Laws.{IsOnlyCounted}
+use Rattle.qmodel.specs.Lawful.{facts_of, with_event}
+use Rattle.qmodel.specs.Past.{is_failure, priority_in}
 use Rattle.qkernel.specs.Stands.{StandsAt, Step, Steps, AnswersAtTraces, LeavesIfRefused}
 use Rattle.qkernel.specs.State.{State, IsSound, facts_in}
-use Rattle.qrules.specs.Step.{Follows}
-use Rattle.qrecords.specs.Threads.{members_of, open_in, level_in, ready}
-use Rattle.qrules.specs.Trace.{Trace}
+use Rattle.qmodel.specs.Step.{Follows}
+use Rattle.qstate.specs.Threads.{members_of, open_in, level_in, ready}
+use Rattle.qmodel.specs.Trace.{Trace}
 use Rattle.qbase.proofs.Lists.{all_filter_map}
-use Rattle.qrules.proofs.Past.Ends.{ending_names, laws_of}
-use Rattle.qrules.proofs.Past.Follows.{past_follows}
-use Rattle.qrules.proofs.TraceLaws.Refused.{only_counted}
+use Rattle.qmodel.proofs.Past.Ends.{ending_names, laws_of}
+use Rattle.qmodel.proofs.Past.Follows.{past_follows}
+use Rattle.qmodel.proofs.TraceLaws.Refused.{only_counted}
 
 -- facts that say the same of each thing are one
 same_facts : (f g : Facts) → f.roster ≡ g.roster → f.number ≡ g.number → f.down ≡ g.down → ((h : ℕ) → f.channel h ≡ g.channel h) → f.open_channels ≡ g.open_channels → ((k : ℕ) → f.connection k ≡ g.connection k)

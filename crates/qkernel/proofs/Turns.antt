@@ -6,7 +6,7 @@ use Rattle.std.proofs.lemmas.Option.{same_Some, none-some}
 use Rattle.qbase.specs.declared.errno.Errno.TheVariants.{Busy, Down}
 use Rattle.qtables.specs.Members.{member_at}
 use Rattle.qtables.specs.declared.member.Member.{Member}
-use Rattle.qrules.specs.declared.open_call.OpenCall.{OpenCall}
+use Rattle.qmodel.specs.declared.open_call.OpenCall.{OpenCall}
 use Rattle.qkernel.specs.declared.kernel.turn.Turn.{Turn}
 
 -- the caller's entry of the roster

@@ -1,11 +1,11 @@
 -- How a log keeps events: the calls, and all their endings one after another.
 use Rattle.std.specs.Prelude.{ℕ, ◌≤◌, List, map, length, take, drop, slice_range}
 use Rattle.std.specs.List.{AllByRecursion}
-use Rattle.qrules.specs.declared.call.Completion.{Completion}
-use Rattle.qrules.specs.declared.call.Call.{Call}
+use Rattle.qmodel.specs.declared.call.Completion.{Completion}
+use Rattle.qmodel.specs.declared.call.Call.{Call}
 use Rattle.qkernel.specs.declared.trace.Entry.{Entry}
 use Rattle.qkernel.specs.Logged.{Logged}
-use Rattle.qrules.specs.Trace.{Event}
+use Rattle.qmodel.specs.Trace.{Event}
 
 -- the event of an entry, whose endings stand between two places of the list of all
 abbrev pub event_of : List Completion → Entry → Event

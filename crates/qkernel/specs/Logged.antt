@@ -1,8 +1,8 @@
 -- A log of events, as contracts see it.
 use Rattle.std.specs.Prelude.{ℕ, List, [], ◌∷◌, ◌++◌}
-use Rattle.qrules.specs.declared.call.Call.{Call}
-use Rattle.qrules.specs.declared.call.Completion.{Completion}
-use Rattle.qrules.specs.Trace.{Event}
+use Rattle.qmodel.specs.declared.call.Call.{Call}
+use Rattle.qmodel.specs.declared.call.Completion.{Completion}
+use Rattle.qmodel.specs.Trace.{Event}
 
 -- the events, the oldest in front; who made which calls that are noted and no events yet, the next in front; the endings of the next; and for how
 -- many more calls and how many more endings there is room

@@ -5,14 +5,14 @@ use Rattle.qbase.specs.declared.errno.Errno.{Errno}
 use Rattle.qbase.specs.declared.errno.Errno.TheVariants.{NoThread, Exhausted, NoMemory}
 use Rattle.qtables.specs.Members.{IsRoster, member_at}
 use Rattle.qtables.specs.declared.member.Member.{Member}
-use Rattle.qrules.specs.declared.call.Call.{Call}
-use Rattle.qrules.specs.Lawful.{IsLawful, followed_by}
-use Rattle.qrules.specs.OnlyRun.{IsOnlyRun}
-use Rattle.qrules.specs.Properties.{HasProperties}
+use Rattle.qmodel.specs.declared.call.Call.{Call}
+use Rattle.qmodel.specs.Lawful.{IsLawful, followed_by}
+use Rattle.qmodel.specs.OnlyRun.{IsOnlyRun}
+use Rattle.qmodel.specs.Properties.{HasProperties}
 use Rattle.qkernel.specs.Stands.{StandsAt}
 use Rattle.qkernel.specs.State.{State}
-use Rattle.qrecords.specs.Threads.{members_of}
-use Rattle.qrules.specs.Trace.{Event, Trace, Run}
+use Rattle.qstate.specs.Threads.{members_of}
+use Rattle.qmodel.specs.Trace.{Event, Trace, Run}
 
 -- each of these calls is of a thread of the roster
 abbrev pub AllKnown : List Member → List (ℕ × Call) → Type 0

@@ -5,17 +5,17 @@ use Rattle.qbase.specs.declared.errno.Errno.TheVariants.{NoThread, Exhausted}
 use Rattle.qtables.specs.Entries.{entry_at}
 use Rattle.qtables.specs.Members.{member_at}
 use Rattle.qtables.specs.declared.member.Member.{Member}
-use Rattle.qrules.specs.declared.call.Call.{Call}
-use Rattle.qrules.specs.declared.call.Completion.{Completion}
-use Rattle.qrules.specs.Answer.{Outcome, Answers, failed}
-use Rattle.qrecords.specs.Channels.{channel_in, pending_in}
-use Rattle.qrules.specs.Laws.{IsOnlyCounted}
-use Rattle.qrules.specs.Lawful.{IsLawful, facts_of, with_event}
-use Rattle.qrules.specs.Past.{is_down, channel_at, open_channels, connection_at, live_connections, open_call, pending, priority_of_thread}
+use Rattle.qmodel.specs.declared.call.Call.{Call}
+use Rattle.qmodel.specs.declared.call.Completion.{Completion}
+use Rattle.qmodel.specs.Answer.{Outcome, Answers, failed}
+use Rattle.qstate.specs.Channels.{channel_in, pending_in}
+use Rattle.qmodel.specs.Laws.{IsOnlyCounted}
+use Rattle.qmodel.specs.Lawful.{IsLawful, facts_of, with_event}
+use Rattle.qmodel.specs.Past.{is_down, channel_at, open_channels, connection_at, live_connections, open_call, pending, priority_of_thread}
 use Rattle.qkernel.specs.State.{State, facts_in}
-use Rattle.qrules.specs.Step.{Follows}
-use Rattle.qrecords.specs.Threads.{members_of, open_in, level_in}
-use Rattle.qrules.specs.Trace.{Trace}
+use Rattle.qmodel.specs.Step.{Follows}
+use Rattle.qstate.specs.Threads.{members_of, open_in, level_in}
+use Rattle.qmodel.specs.Trace.{Trace}
 
 -- the kernel's roster, count of calls, whether it is shut down, channels, connections, pending items, open calls and priorities are those of the trace
 pub record StandsAt (roster : List Member) (s : State) (past : Trace) : Type 0 where

@@ -4,11 +4,11 @@ use Rattle.std.specs.List.{AllByRecursion}
 use Rattle.qtables.specs.Entries.{entry_at, IsRising}
 use Rattle.qtables.specs.Members.{IsRoster}
 use Rattle.qtables.specs.declared.connection.Connection.{Connection}
-use Rattle.qrecords.specs.declared.channel.Channel.{Channel}
-use Rattle.qrecords.specs.declared.thread.Thread.{Thread}
-use Rattle.qrecords.specs.Channels.{channel_in, pending_in, ids_of}
-use Rattle.qrules.specs.Facts.{Facts}
-use Rattle.qrecords.specs.Threads.{members_of, open_in, level_in}
+use Rattle.qstate.specs.declared.channel.Channel.{Channel}
+use Rattle.qstate.specs.declared.thread.Thread.{Thread}
+use Rattle.qstate.specs.Channels.{channel_in, pending_in, ids_of}
+use Rattle.qmodel.specs.Facts.{Facts}
+use Rattle.qstate.specs.Threads.{members_of, open_in, level_in}
 
 -- how many calls it made, whether it is shut down, its threads, its open channels and its live connections
 pub record State : Type 0 where

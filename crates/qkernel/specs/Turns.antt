@@ -1,10 +1,10 @@
 -- A call's turn, and what its own method makes of the kernel.
 use Rattle.std.specs.Prelude.{◌≡◌, ℕ, ◌+◌, false, List, [], None, Some}
 use Rattle.qtables.specs.Members.{member_at}
-use Rattle.qrules.specs.declared.call.Call.{Call}
-use Rattle.qrules.specs.declared.call.Completion.{Completion}
-use Rattle.qrecords.specs.Threads.{members_of, open_in, level_in, seat_in}
-use Rattle.qrecords.specs.declared.thread.Thread.{Thread}
+use Rattle.qmodel.specs.declared.call.Call.{Call}
+use Rattle.qmodel.specs.declared.call.Completion.{Completion}
+use Rattle.qstate.specs.Threads.{members_of, open_in, level_in, seat_in}
+use Rattle.qstate.specs.declared.thread.Thread.{Thread}
 use Rattle.qkernel.specs.State.{State, IsSound}
 use Rattle.qkernel.specs.Stands.{Steps}
 use Rattle.qkernel.specs.declared.kernel.turn.Turn.{Turn}

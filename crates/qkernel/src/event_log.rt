@@ -6,8 +6,8 @@ ghost use Rattle.qkernel.specs.Logged.{with_next};
 
 use crate::trace::{Entry, Trace};
 use qbase::ids::ThreadNo;
-use qrecords::endings::Endings;
-use qrules::call::{Call, Completion};
+use qmodel::call::{Call, Completion};
+use qstate::endings::Endings;
 use std::alloc::{AllocError, Global};
 use std::marker::Model;
 

@@ -2,7 +2,7 @@
 
 ghost use Rattle.std.specs.Prelude.{◌≡◌, ◌+◌, ◌<◌, ◌≤◌, ◌^◌, ◌↔◌, [], length, None, Some, is_some, true, false, IsTrue, if◌then◌else◌, IfOk, IfErr, OnOk};
 ghost use Rattle.qtables.specs.Members.{member_at};
-ghost use Rattle.qrecords.specs.Threads.{members_of, open_in, seat_in, blocked_count};
+ghost use Rattle.qstate.specs.Threads.{members_of, open_in, seat_in, blocked_count};
 
 mod blocked;
 mod channel_create;
@@ -27,10 +27,10 @@ mod write;
 use arrayvec::ArrayVec;
 use qbase::errno::Errno;
 use qbase::ids::ThreadNo;
-use qrecords::channel::Channel;
-use qrecords::endings::{Endings, refuse};
-use qrecords::thread::{Thread, is_blocked, level_of, member_of, seat_of, threads_for};
-use qrules::call::Call;
+use qmodel::call::Call;
+use qstate::channel::Channel;
+use qstate::endings::{Endings, refuse};
+use qstate::thread::{Thread, is_blocked, level_of, member_of, seat_of, threads_for};
 use qtables::channels::Channels;
 use qtables::connections::Connections;
 use qtables::roster::Roster;

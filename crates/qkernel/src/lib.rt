@@ -7,5 +7,5 @@ pub mod kernel;
 pub mod run;
 pub mod trace;
 
-pub use qrecords::endings;
-pub use qrules::{call, open_call};
+pub use qmodel::{call, open_call};
+pub use qstate::endings;

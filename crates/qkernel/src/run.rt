@@ -3,8 +3,8 @@
 ghost use Rattle.std.specs.Prelude.{◌≡◌, ◌+◌, ◌<◌, ◌≤◌, ◌^◌, [], length, map, true, IfOk, IfErr, OnOk, OnErr, vec_len};
 ghost use Rattle.std.specs.List.{AllByRecursion};
 ghost use Rattle.qkernel.specs.Runs.{Headline, RunsAtTraces, AllKnown, RunError};
-ghost use Rattle.qrules.specs.OnlyRun.{event_call};
-ghost use Rattle.qrecords.specs.Threads.{blocked_count, members_of};
+ghost use Rattle.qmodel.specs.OnlyRun.{event_call};
+ghost use Rattle.qstate.specs.Threads.{blocked_count, members_of};
 
 use crate::event_log::EventLog;
 use crate::kernel::{CALL_LIMIT, Kernel};
@@ -12,8 +12,8 @@ use crate::trace::Trace;
 use arrayvec::ArrayVec;
 use qbase::errno::Errno;
 use qbase::ids::ThreadNo;
-use qrecords::endings::Endings;
-use qrules::call::Call;
+use qmodel::call::Call;
+use qstate::endings::Endings;
 use qtables::roster::THREAD_LIMIT;
 use std::alloc::{AllocError, Global};
 

@@ -5,7 +5,7 @@ ghost use Rattle.std.specs.Option.{option_map};
 ghost use Rattle.qkernel.specs.Kept.{events_of, AllWithin};
 
 use qbase::ids::ThreadNo;
-use qrules::call::{Call, Completion};
+use qmodel::call::{Call, Completion};
 use std::marker::Model;
 
 /// A call, and where its endings stand.
@@ -27,7 +27,7 @@ pub struct Trace {
 }
 
 impl Model for Trace {
-    ghost use Rattle.qrules.specs.Trace.{Run};
+    ghost use Rattle.qmodel.specs.Trace.{Run};
 
     ghost Value = { Run };
 

@@ -2,8 +2,8 @@
 use Rattle.std.specs.Prelude.{ℕ, List}
 use base.Stored.{Coded, coded_list}
 use base.Fml.{Fml, fobs, fauth}
-use Rattle.qrules.specs.declared.call.Call.{Call}
-use Rattle.qrules.specs.contracts.call.Call as row
+use Rattle.qmodel.specs.declared.call.Call.{Call}
+use Rattle.qmodel.specs.contracts.call.Call as row
 
 -- a list of calls as a ghost value
 abbrev pub calls_coded : Coded (List Call)

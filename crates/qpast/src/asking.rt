@@ -1,10 +1,10 @@
 //! What one thread asked for, in two halves, which proofs alone have.
 
 ghost use Rattle.std.specs.Prelude.{◌≡◌, ◌++◌, [], ◌∷◌, ℕ, List};
-ghost use Rattle.qrules.specs.declared.call.Call.{Call as Asking};
+ghost use Rattle.qmodel.specs.declared.call.Call.{Call as Asking};
 ghost use Rattle.qpast.specs.Halves.{asked_owns, heard_owns};
 
-use qrules::call::Call;
+use qmodel::call::Call;
 use std::marker::{Model, Send};
 use std::snapshot::Snapshot;
 

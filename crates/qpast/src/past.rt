@@ -2,12 +2,12 @@
 
 ghost use Rattle.std.specs.Prelude.{◌≡◌, []};
 ghost use base.Fml.{ftrue};
-ghost use Rattle.qrules.specs.Trace.{Trace};
-ghost use Rattle.qrules.specs.Lawful.{with_event};
+ghost use Rattle.qmodel.specs.Trace.{Trace};
+ghost use Rattle.qmodel.specs.Lawful.{with_event};
 
 use qbase::ids::ThreadNo;
-use qrecords::endings::Endings;
-use qrules::call::Call;
+use qmodel::call::Call;
+use qstate::endings::Endings;
 use std::marker::Model;
 use std::snapshot::Snapshot;
 

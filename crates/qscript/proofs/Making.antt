@@ -4,13 +4,13 @@ use Rattle.std.specs.Prelude.{is_some}
 use Rattle.std.proofs.lemmas.List.{length-map, map-append}
 use Rattle.qtables.specs.Members.{member_at}
 use Rattle.qtables.specs.declared.member.Member.{Member}
-use Rattle.qrules.specs.declared.call.Call.{Call}
-use Rattle.qrules.specs.declared.call.Completion.{Completion}
-use Rattle.qrules.specs.Lawful.{followed_by}
-use Rattle.qrules.specs.OnlyRun.{event_call}
-use Rattle.qrules.specs.Trace.{Event, Run}
-use Rattle.qrules.proofs.Following.{followed_push}
-use Rattle.qrecords.specs.Threads.{members_of}
+use Rattle.qmodel.specs.declared.call.Call.{Call}
+use Rattle.qmodel.specs.declared.call.Completion.{Completion}
+use Rattle.qmodel.specs.Lawful.{followed_by}
+use Rattle.qmodel.specs.OnlyRun.{event_call}
+use Rattle.qmodel.specs.Trace.{Event, Run}
+use Rattle.qmodel.proofs.Following.{followed_push}
+use Rattle.qstate.specs.Threads.{members_of}
 use Rattle.qkernel.specs.Runs.{RunsAtTraces, AllKnown}
 use Rattle.qkernel.specs.Stands.{AnswersAtTraces}
 use Rattle.qkernel.specs.State.{State}

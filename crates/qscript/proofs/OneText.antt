@@ -2,17 +2,17 @@
 use Rattle.std.proofs.Common.{◌≡◌, ℕ, ◌+◌, List, [], map, refl, ap, sym, ◌∙◌}
 use Rattle.qtables.specs.Members.{IsRoster}
 use Rattle.qtables.specs.declared.member.Member.{Member}
-use Rattle.qrules.specs.declared.call.Call.{Call}
-use Rattle.qrules.specs.declared.open_call.Blocked.{Blocked}
-use Rattle.qrules.specs.Blocked.{blocked_at}
-use Rattle.qrules.specs.Lawful.{followed_by}
-use Rattle.qrules.specs.OnlyRun.{event_call}
+use Rattle.qmodel.specs.declared.call.Call.{Call}
+use Rattle.qmodel.specs.declared.open_call.Blocked.{Blocked}
+use Rattle.qmodel.specs.Blocked.{blocked_at}
+use Rattle.qmodel.specs.Lawful.{followed_by}
+use Rattle.qmodel.specs.OnlyRun.{event_call}
 use Rattle.qkernel.specs.Runs.{IsWellRun}
 use Rattle.qkernel.specs.Stands.{StandsAt}
 use Rattle.qkernel.specs.State.{State}
 use Rattle.qkernel.proofs.Running.{headline_of}
-use Rattle.qrecords.specs.Threads.{members_of}
-use Rattle.qrules.specs.Trace.{Event, Run, Trace}
+use Rattle.qstate.specs.Threads.{members_of}
+use Rattle.qmodel.specs.Trace.{Event, Run, Trace}
 use Rattle.qscript.specs.Enrolled.{enrolled}
 use Rattle.qscript.specs.Printing.Printed.{printed}
 use Rattle.qscript.specs.Printing.Printer.{HasPrinted, HasRun}

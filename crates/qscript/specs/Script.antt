@@ -3,14 +3,14 @@ use Rattle.std.specs.Prelude.{◌≡◌, ℕ, ◌≤◌, ◌^◌, Bool, List, []
 use Rattle.std.specs.Io.KnownBytes.{Appends}
 use Rattle.qtables.specs.Members.{IsRoster}
 use Rattle.qtables.specs.declared.member.Member.{Member}
-use Rattle.qrules.specs.declared.call.Call.{Call}
-use Rattle.qrules.specs.declared.open_call.Blocked.{Blocked}
-use Rattle.qrules.specs.Blocked.{blocked_at}
-use Rattle.qrules.specs.Trace.{Run}
-use Rattle.qrules.specs.OnlyRun.{HadMemory, event_call}
+use Rattle.qmodel.specs.declared.call.Call.{Call}
+use Rattle.qmodel.specs.declared.open_call.Blocked.{Blocked}
+use Rattle.qmodel.specs.Blocked.{blocked_at}
+use Rattle.qmodel.specs.Trace.{Run}
+use Rattle.qmodel.specs.OnlyRun.{HadMemory, event_call}
 use Rattle.qkernel.specs.Runs.{AllKnown}
-use Rattle.qrules.specs.Properties.{HasProperties}
-use Rattle.qrules.specs.Lawful.{IsLawful, followed_by}
+use Rattle.qmodel.specs.Properties.{HasProperties}
+use Rattle.qmodel.specs.Lawful.{IsLawful, followed_by}
 use Rattle.qscript.specs.declared.fault.LineFault.{LineFault}
 use Rattle.qscript.specs.Enrolled.{enrolled, AllJoin}
 use Rattle.qscript.specs.Reading.Meaning.{meaning, Says, Faulty}

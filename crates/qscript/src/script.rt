@@ -2,7 +2,7 @@
 
 ghost use Rattle.std.specs.Prelude.{◌≡◌, ℕ, ◌+◌, ◌≤◌, ◌^◌, [], length, IfOk, IfErr, OnOk, IsErrOf, false, string_bytes};
 ghost use Rattle.qkernel.specs.Runs.{AllKnown};
-ghost use Rattle.qrecords.specs.Threads.{members_of};
+ghost use Rattle.qstate.specs.Threads.{members_of};
 ghost use Rattle.qscript.specs.Printing.Printer.{HasRun};
 ghost use Rattle.qscript.specs.Enrolled.{enrolled, AllJoin};
 ghost use Rattle.qscript.specs.Script.{CanRun, IsTextOfRun, IsRun, IsUnread, IsTooLong, IsFaulty, IsCut};

@@ -3,7 +3,7 @@
 ghost use Rattle.std.specs.Prelude.{◌≡◌, Bool, true, false, MatchOption};
 ghost use Rattle.qshared.specs.Counting.{pends};
 
-use qrules::call::{Call, Completion};
+use qmodel::call::{Call, Completion};
 use qshared::log::Log;
 use qshared::port::{Called, Port};
 use qshared::shared::Shared;

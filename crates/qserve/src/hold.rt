@@ -10,7 +10,7 @@ use crate::tally::Tally;
 use crossbeam_utils::Backoff;
 use qbase::bytes::Bytes;
 use qbase::ids::ChannelId;
-use qrules::call::{Call, Completion};
+use qmodel::call::{Call, Completion};
 use qshared::port::Called;
 use std::alloc::Global;
 use std::sync::Wait;

@@ -1,7 +1,7 @@
 //! How far a run is, on a line that is written over twice a second.
 
 use crate::endpoint::Endpoint;
-use qrules::call::{Call, Completion};
+use qmodel::call::{Call, Completion};
 use qshared::port::Called;
 use std::alloc::{AllocError, Global};
 use std::rt::Clock;

@@ -3,7 +3,7 @@
 use crate::endpoint::Endpoint;
 use crate::fault::WorkerFault;
 use crate::tally::Tally;
-use qrules::call::{Call, Completion};
+use qmodel::call::{Call, Completion};
 use qshared::port::Called;
 use std::alloc::Global;
 use std::rt::Clock;

@@ -2,7 +2,7 @@
 
 use crate::scripted::{Scripted, Told};
 use qbase::ids::{ChannelId, ConnectionId};
-use qrules::call::Mark;
+use qmodel::call::Mark;
 use qserve::client::client;
 use qserve::progress::{Counted, Progress, line_of};
 use std::test::Fail;

@@ -4,7 +4,7 @@ ghost use Rattle.std.specs.Option.{is_some};
 
 use qbase::errno::Errno;
 use qbase::ids::ThreadNo;
-use qrules::call::{Call, Completion, Mark};
+use qmodel::call::{Call, Completion, Mark};
 use qserve::endpoint::Endpoint;
 use qshared::port::Called;
 use std::alloc::Global;

@@ -4,10 +4,10 @@ use Rattle.std.specs.Prelude.{replicate}
 use Rattle.std.proofs.lemmas.List.{length-map}
 use Rattle.qtables.specs.Members.{IsRoster}
 use Rattle.qtables.specs.declared.member.Member.{Member}
-use Rattle.qrules.specs.Facts.{threads_of}
-use Rattle.qrules.specs.declared.call.Completion.{Completion}
-use Rattle.qrules.proofs.Properties.All.{has_properties}
-use Rattle.qrecords.specs.Threads.{members_of}
+use Rattle.qmodel.specs.Facts.{threads_of}
+use Rattle.qmodel.specs.declared.call.Completion.{Completion}
+use Rattle.qmodel.proofs.Properties.All.{has_properties}
+use Rattle.qstate.specs.Threads.{members_of}
 use Rattle.qkernel.specs.Stands.{StandsAt}
 use Rattle.qkernel.specs.State.{State, IsSound}
 use Rattle.qhandoff.specs.declared.view.Line.{Line}

@@ -5,8 +5,8 @@ use Rattle.std.specs.List.{AllByRecursion}
 use Rattle.std.proofs.lemmas.Bool.{cases_Bool, eqb-false, true≢false}
 use Rattle.std.proofs.lemmas.List.Folds.{list_any-append}
 use Rattle.std.proofs.Math.Seq.{drop-cons}
-use Rattle.qrules.specs.declared.call.Completion.{Completion}
-use Rattle.qrules.specs.Endings.{gets, AreApart}
+use Rattle.qmodel.specs.declared.call.Completion.{Completion}
+use Rattle.qmodel.specs.Endings.{gets, AreApart}
 use Rattle.qkernel.specs.Logged.{Logged}
 use Rattle.qshared.specs.Due.{place}
 use Rattle.qshared.specs.Rooms.{MayCopy, Copied}

@@ -7,16 +7,16 @@ use Rattle.std.proofs.lemmas.List.{length-map}
 use Rattle.qbase.specs.declared.errno.Errno.TheVariants.{Busy}
 use Rattle.qtables.specs.Members.{member_at}
 use Rattle.qtables.specs.declared.member.Member.{Member}
-use Rattle.qrules.specs.declared.call.Call.{Call}
-use Rattle.qrules.specs.declared.call.Completion.{Completion}
-use Rattle.qrules.specs.Answer.{Answers}
-use Rattle.qrules.specs.Endings.{AreApart, gets}
-use Rattle.qrules.specs.Facts.{threads_of}
-use Rattle.qrules.specs.Lawful.{facts_of, with_event}
-use Rattle.qrules.specs.Past.{is_down}
-use Rattle.qrules.specs.Trace.{Trace}
-use Rattle.qrules.proofs.Rosters.{among_member, known}
-use Rattle.qrules.proofs.TraceLaws.Blocked.{caller_gets_its_own, endings_are_apart}
+use Rattle.qmodel.specs.declared.call.Call.{Call}
+use Rattle.qmodel.specs.declared.call.Completion.{Completion}
+use Rattle.qmodel.specs.Answer.{Answers}
+use Rattle.qmodel.specs.Endings.{AreApart, gets}
+use Rattle.qmodel.specs.Facts.{threads_of}
+use Rattle.qmodel.specs.Lawful.{facts_of, with_event}
+use Rattle.qmodel.specs.Past.{is_down}
+use Rattle.qmodel.specs.Trace.{Trace}
+use Rattle.qmodel.proofs.Rosters.{among_member, known}
+use Rattle.qmodel.proofs.TraceLaws.Blocked.{caller_gets_its_own, endings_are_apart}
 use Rattle.qkernel.specs.Stands.{AnswersAtTraces}
 use Rattle.qkernel.specs.State.{State}
 use Rattle.qhandoff.specs.declared.view.Desk.{Desk}

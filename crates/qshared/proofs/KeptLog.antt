@@ -9,20 +9,20 @@ use Rattle.qbase.specs.declared.errno.Errno.{Errno}
 use Rattle.qbase.specs.declared.errno.Errno.TheVariants.{TraceFull, NoMemory}
 use Rattle.qtables.specs.Members.{member_at}
 use Rattle.qtables.specs.declared.member.Member.{Member}
-use Rattle.qrules.specs.declared.call.Call.{Call}
-use Rattle.qrules.specs.declared.call.Call.TheVariants.{Shutdown}
-use Rattle.qrules.specs.declared.call.Completion.{Completion}
-use Rattle.qrules.specs.Answer.{Answers, refusal}
-use Rattle.qrules.specs.Endings.{AreApart, IsDue, buffer_brought, gets}
-use Rattle.qrules.specs.Facts.{threads_of}
-use Rattle.qrules.specs.Lawful.{IsLawful, facts_of, followed_by, with_event}
-use Rattle.qrules.specs.Past.{is_down, open_call}
-use Rattle.qrules.specs.Trace.{Event, Trace}
-use Rattle.qrules.proofs.Following.{followed_length, followed_push}
-use Rattle.qrules.proofs.Past.Ends.{accepted}
-use Rattle.qrules.proofs.Rosters.{known}
-use Rattle.qrules.proofs.TraceLaws.Blocked.{blocked_unless_ended, endings_are_apart, endings_go_to_blocked}
-use Rattle.qrules.proofs.TraceLaws.Lengths.{after_fits, ending_fits}
+use Rattle.qmodel.specs.declared.call.Call.{Call}
+use Rattle.qmodel.specs.declared.call.Call.TheVariants.{Shutdown}
+use Rattle.qmodel.specs.declared.call.Completion.{Completion}
+use Rattle.qmodel.specs.Answer.{Answers, refusal}
+use Rattle.qmodel.specs.Endings.{AreApart, IsDue, buffer_brought, gets}
+use Rattle.qmodel.specs.Facts.{threads_of}
+use Rattle.qmodel.specs.Lawful.{IsLawful, facts_of, followed_by, with_event}
+use Rattle.qmodel.specs.Past.{is_down, open_call}
+use Rattle.qmodel.specs.Trace.{Event, Trace}
+use Rattle.qmodel.proofs.Following.{followed_length, followed_push}
+use Rattle.qmodel.proofs.Past.Ends.{accepted}
+use Rattle.qmodel.proofs.Rosters.{known}
+use Rattle.qmodel.proofs.TraceLaws.Blocked.{blocked_unless_ended, endings_are_apart, endings_go_to_blocked}
+use Rattle.qmodel.proofs.TraceLaws.Lengths.{after_fits, ending_fits}
 use Rattle.qkernel.specs.Logged.{Logged, with_next}
 use Rattle.qshared.specs.Due.{place}
 use Rattle.qshared.specs.Rooms.{KeptPast, admits_kept, refuses_kept, HasRoomFor, HasRooms, MayCopy, Copied, IsKept}

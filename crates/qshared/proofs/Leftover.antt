@@ -7,10 +7,10 @@ use Rattle.std.proofs.lemmas.Option.{same_Some}
 use mathlib.Core.Option.{some, some-injective, some-ne-none}
 use lib.ListN.{get_elem?}
 use Rattle.qbase.proofs.Lists.{all_more}
-use Rattle.qrules.specs.declared.call.Completion.{Completion}
-use Rattle.qrules.specs.Laws.{RiseByThread}
-use Rattle.qrules.specs.Trace.{Trace}
-use Rattle.qrules.proofs.Rosters.{Rises, all_at}
+use Rattle.qmodel.specs.declared.call.Completion.{Completion}
+use Rattle.qmodel.specs.Laws.{RiseByThread}
+use Rattle.qmodel.specs.Trace.{Trace}
+use Rattle.qmodel.proofs.Rosters.{Rises, all_at}
 use Rattle.qhandoff.specs.Words.{AreBelow, left_for}
 use Rattle.qhandoff.specs.Words as cells
 use Rattle.qshared.specs.Due.{due, of_thread, place}

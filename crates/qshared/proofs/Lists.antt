@@ -8,11 +8,11 @@ use mathlib.Core.Option.{none, some}
 use mathlib.Core.Option as maybe
 use lib.ListN.{get_elem?}
 use Rattle.qtables.specs.declared.member.Member.{Member}
-use Rattle.qrules.specs.declared.call.Call.{Call}
-use Rattle.qrules.specs.declared.call.Completion.{Completion}
-use Rattle.qrules.specs.Facts.{threads_of}
-use Rattle.qrules.specs.Lawful.{with_event}
-use Rattle.qrules.specs.Trace.{Trace}
+use Rattle.qmodel.specs.declared.call.Call.{Call}
+use Rattle.qmodel.specs.declared.call.Completion.{Completion}
+use Rattle.qmodel.specs.Facts.{threads_of}
+use Rattle.qmodel.specs.Lawful.{with_event}
+use Rattle.qmodel.specs.Trace.{Trace}
 use Rattle.qpast.specs.declared.asking.Heard.{Heard}
 use Rattle.qshared.specs.Asking.{AreCallsOf, calls_of, heard_in}
 use Rattle.qshared.specs.Counting.{is_event}

@@ -6,7 +6,7 @@ use Rattle.std.proofs.lemmas.Bool.{eqb-true, ne_eqb, eq-eqb, true≢false}
 use Rattle.std.proofs.lemmas.Iterator.Adapters.{position_from-zero}
 use Rattle.std.proofs.lemmas.Option.{same_Some, none-some}
 use Rattle.qbase.proofs.Lists.{is_among}
-use Rattle.qrules.proofs.Rosters.{Rises}
+use Rattle.qmodel.proofs.Rosters.{Rises}
 use Rattle.qshared.specs.Due.{place}
 
 -- thread t stands at i, and nowhere before

@@ -6,13 +6,13 @@ use Rattle.std.proofs.lemmas.Bool.{cases_Bool, eqb-true, eqb-false, ne_eqb, true
 use Rattle.std.proofs.lemmas.List.Elements.{filter-append}
 use Rattle.std.proofs.lemmas.List.Folds.{list_any-append}
 use Rattle.std.proofs.lemmas.Option.{same_Some}
-use Rattle.qrules.specs.declared.call.Completion.{Completion}
+use Rattle.qmodel.specs.declared.call.Completion.{Completion}
 use Rattle.qhandoff.specs.declared.view.Desk.{Desk}
 use Rattle.qhandoff.specs.declared.view.Line.{Line}
 use Rattle.qhandoff.specs.Rule.{line}
 use Rattle.qhandoff.specs.Steps.{put_desk}
 use Rattle.qhandoff.proofs.Changes.{line_else, line_here}
-use Rattle.qrules.specs.Endings.{gets, AreApart}
+use Rattle.qmodel.specs.Endings.{gets, AreApart}
 use Rattle.qshared.specs.Due.{place, of_thread}
 use Rattle.qshared.specs.Putting.{MayPut, Handed}
 use Rattle.qshared.proofs.Places.{place_same}

@@ -5,7 +5,7 @@ use lib.ListN.{get_elem?}
 use Rattle.atomic_table.specs.Seated.{TableId}
 use Rattle.atomic_table.proofs.Lists.{at_map}
 use Rattle.qhandoff.specs.declared.seats.ThreadSeat.{ThreadSeat}
-use Rattle.qrules.specs.declared.call.Completion.{Completion}
+use Rattle.qmodel.specs.declared.call.Completion.{Completion}
 use Rattle.qhandoff.specs.Words.{IsRow, thread_id, thread_of, taken, took}
 
 module _ {P : Type 0} where

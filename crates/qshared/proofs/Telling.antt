@@ -8,16 +8,16 @@ use Rattle.std.proofs.lemmas.Option.{same_Some}
 use Rattle.qbase.proofs.Lists.{some_of}
 use Rattle.qtables.specs.Members.{IsRoster}
 use Rattle.qtables.specs.declared.member.Member.{Member}
-use Rattle.qrules.specs.declared.call.Call.{Call}
-use Rattle.qrules.specs.declared.call.Completion.{Completion}
-use Rattle.qrules.specs.Answer.{Answers}
-use Rattle.qrules.specs.Endings.{IsDue, gets, may_end}
-use Rattle.qrules.specs.Facts.{threads_of}
-use Rattle.qrules.specs.Lawful.{IsLawful, facts_of, with_event}
-use Rattle.qrules.specs.Trace.{Event, Trace}
-use Rattle.qrules.proofs.Properties.All.{has_properties}
-use Rattle.qrules.proofs.Rosters.{among_member, known}
-use Rattle.qrules.proofs.TraceLaws.Blocked.{blocked_unless_ended, endings_go_to_blocked}
+use Rattle.qmodel.specs.declared.call.Call.{Call}
+use Rattle.qmodel.specs.declared.call.Completion.{Completion}
+use Rattle.qmodel.specs.Answer.{Answers}
+use Rattle.qmodel.specs.Endings.{IsDue, gets, may_end}
+use Rattle.qmodel.specs.Facts.{threads_of}
+use Rattle.qmodel.specs.Lawful.{IsLawful, facts_of, with_event}
+use Rattle.qmodel.specs.Trace.{Event, Trace}
+use Rattle.qmodel.proofs.Properties.All.{has_properties}
+use Rattle.qmodel.proofs.Rosters.{among_member, known}
+use Rattle.qmodel.proofs.TraceLaws.Blocked.{blocked_unless_ended, endings_go_to_blocked}
 use Rattle.qkernel.specs.Stands.{StandsAt}
 use Rattle.qkernel.specs.State.{State}
 use Rattle.qhandoff.specs.declared.view.Desk.{Desk}

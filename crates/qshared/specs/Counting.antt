@@ -2,9 +2,9 @@
 use Rattle.std.specs.Prelude.{◌≡◌, ℕ, Bool, true, false, List, [], ◌∷◌}
 use Rattle.qbase.specs.declared.errno.Errno.{Errno}
 use Rattle.qtables.specs.declared.member.Member.{Member}
-use Rattle.qrules.specs.declared.call.Call.{Call}
-use Rattle.qrules.specs.declared.call.Completion.{Completion}
-use Rattle.qrules.specs.Trace.{Trace}
+use Rattle.qmodel.specs.declared.call.Call.{Call}
+use Rattle.qmodel.specs.declared.call.Completion.{Completion}
+use Rattle.qmodel.specs.Trace.{Trace}
 use Rattle.qshared.specs.Held.{Held}
 use Rattle.qshared.specs.Performing.{Admits, IsEvent, IsRefused, Performs, Refuses}
 use Rattle.qshared.specs.declared.port.Called.{Called}

@@ -1,10 +1,10 @@
 -- What is due to each thread, and what the cells say of it.
 use Rattle.std.specs.Prelude.{◌≡◌, ℕ, ◌==◌, is_some, List, [], ◌∷◌, ◌++◌, filter, position, Option, Some}
 use Rattle.qtables.specs.declared.member.Member.{Member}
-use Rattle.qrules.specs.declared.call.Completion.{Completion}
-use Rattle.qrules.specs.Facts.{threads_of}
-use Rattle.qrules.specs.Past.{open_call}
-use Rattle.qrules.specs.Trace.{Trace}
+use Rattle.qmodel.specs.declared.call.Completion.{Completion}
+use Rattle.qmodel.specs.Facts.{threads_of}
+use Rattle.qmodel.specs.Past.{open_call}
+use Rattle.qmodel.specs.Trace.{Trace}
 use Rattle.qhandoff.specs.declared.view.Desk.{Desk}
 use Rattle.qhandoff.specs.Rule.{line}
 

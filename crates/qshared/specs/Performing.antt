@@ -4,12 +4,12 @@ use Rattle.qbase.specs.declared.errno.Errno.{Errno}
 use Rattle.qbase.specs.declared.errno.Errno.TheVariants.{NoThread, Down, Busy}
 use Rattle.qtables.specs.Members.{member_at}
 use Rattle.qtables.specs.declared.member.Member.{Member}
-use Rattle.qrules.specs.declared.call.Call.{Call}
-use Rattle.qrules.specs.declared.call.Completion.{Completion}
-use Rattle.qrules.specs.Answer.{Answers}
-use Rattle.qrules.specs.Lawful.{facts_of, with_event}
-use Rattle.qrules.specs.Past.{ends, is_down, open_call}
-use Rattle.qrules.specs.Trace.{Trace}
+use Rattle.qmodel.specs.declared.call.Call.{Call}
+use Rattle.qmodel.specs.declared.call.Completion.{Completion}
+use Rattle.qmodel.specs.Answer.{Answers}
+use Rattle.qmodel.specs.Lawful.{facts_of, with_event}
+use Rattle.qmodel.specs.Past.{ends, is_down, open_call}
+use Rattle.qmodel.specs.Trace.{Trace}
 use Rattle.qshared.specs.Due.{due}
 use Rattle.qshared.specs.Held.{Held}
 use Rattle.qshared.specs.declared.performed.Performed.{Performed}

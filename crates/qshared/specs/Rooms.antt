@@ -4,15 +4,15 @@ use Rattle.qbase.specs.declared.errno.Errno.{Errno}
 use Rattle.qbase.specs.declared.errno.Errno.TheVariants.{TraceFull, NoMemory}
 use Rattle.qtables.specs.declared.member.Member.{Member}
 use Rattle.qtables.specs.Members.{IsRoster}
-use Rattle.qrules.specs.declared.call.Call.{Call}
-use Rattle.qrules.specs.declared.call.Call.TheVariants.{Shutdown}
-use Rattle.qrules.specs.declared.call.Completion.{Completion}
-use Rattle.qrules.specs.Effects.{buffer_of}
-use Rattle.qrules.specs.Endings.{buffer_of_open, gets}
-use Rattle.qrules.specs.Facts.{threads_of}
-use Rattle.qrules.specs.Lawful.{followed_by}
-use Rattle.qrules.specs.Past.{is_down, open_call}
-use Rattle.qrules.specs.Trace.{Trace}
+use Rattle.qmodel.specs.declared.call.Call.{Call}
+use Rattle.qmodel.specs.declared.call.Call.TheVariants.{Shutdown}
+use Rattle.qmodel.specs.declared.call.Completion.{Completion}
+use Rattle.qmodel.specs.Effects.{buffer_of}
+use Rattle.qmodel.specs.Endings.{buffer_of_open, gets}
+use Rattle.qmodel.specs.Facts.{threads_of}
+use Rattle.qmodel.specs.Lawful.{followed_by}
+use Rattle.qmodel.specs.Past.{is_down, open_call}
+use Rattle.qmodel.specs.Trace.{Trace}
 use Rattle.qkernel.specs.Logged.{Logged}
 use Rattle.qshared.specs.Due.{place}
 

@@ -1,13 +1,13 @@
 //! What is needed to keep a call, before it is made.
 ghost use Rattle.std.specs.Prelude.{◌≡◌, ◌<◌, ◌≤◌, ◌+◌, ◌⊎◌, length, IfOk, IfErr, OnOk, ◌^◌};
-ghost use Rattle.qrules.specs.Effects.{buffer_of};
-ghost use Rattle.qrules.specs.declared.call.Call.TheVariants.{Shutdown};
+ghost use Rattle.qmodel.specs.Effects.{buffer_of};
+ghost use Rattle.qmodel.specs.declared.call.Call.TheVariants.{Shutdown};
 ghost use Rattle.qshared.specs.Rooms.{HasRoomFor};
 
 use crate::room::Room;
 use qbase::errno::Errno;
 use qkernel::event_log::EventLog;
-use qrules::call::Call;
+use qmodel::call::Call;
 use std::alloc::{AllocError, Global};
 
 /// How many endings an event has at most.

@@ -2,7 +2,7 @@
 ghost use Rattle.std.specs.Prelude.{◌≡◌, ◌<◌, ◌≤◌, [], ◌∷◌, length, ◌||◌, ◌==◌};
 ghost use Rattle.std.specs.List.{AllByRecursion};
 ghost use Rattle.qhandoff.specs.Words.{cells_id, kernel_id, desk};
-ghost use Rattle.qrules.specs.Endings.{gets, AreApart};
+ghost use Rattle.qmodel.specs.Endings.{gets, AreApart};
 ghost use Rattle.qshared.specs.Due.{place};
 ghost use Rattle.qshared.specs.Putting.{MayPut, Handed};
 
@@ -10,7 +10,7 @@ use qbase::ids::ThreadNo;
 use qhandoff::cells::Cells;
 use qhandoff::seats::KernelSeat;
 use qkernel::endings::Endings;
-use qrules::call::Completion;
+use qmodel::call::Completion;
 
 /// Where a thread stands among these.
 pub(crate) fn place_of(threads: &[ThreadNo], thread: ThreadNo) -> Option<usize>

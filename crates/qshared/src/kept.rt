@@ -2,9 +2,9 @@
 ghost use Rattle.std.specs.Prelude.{◌≡◌, ◌<◌, ◌≤◌, ◌-◌, ◌^◌, ◌++◌, [], ◌∷◌, length, IfOk};
 ghost use Rattle.std.specs.List.{AllByRecursion};
 ghost use Rattle.qtables.specs.Members.{IsRoster};
-ghost use Rattle.qrules.specs.Endings.{AreApart};
-ghost use Rattle.qrules.specs.Facts.{threads_of};
-ghost use Rattle.qrules.specs.Lawful.{followed_by};
+ghost use Rattle.qmodel.specs.Endings.{AreApart};
+ghost use Rattle.qmodel.specs.Facts.{threads_of};
+ghost use Rattle.qmodel.specs.Lawful.{followed_by};
 ghost use Rattle.qshared.specs.Rooms.{MayCopy, Copied};
 
 use crate::admitting::admit;
@@ -17,7 +17,7 @@ use qbase::ids::ThreadNo;
 use qkernel::endings::Endings;
 use qkernel::event_log::EventLog;
 use qkernel::trace::Trace;
-use qrules::call::{Call, Completion};
+use qmodel::call::{Call, Completion};
 use std::alloc::{AllocError, Global};
 use std::marker::{Model, PhantomData};
 use std::mem;
@@ -41,7 +41,7 @@ pub struct Kept<K: Tie> {
 
 impl<K: Tie> Model for Kept<K> {
     ghost use Rattle.std.specs.Prelude.{[]};
-    ghost use Rattle.qrules.specs.Lawful.{followed_by};
+    ghost use Rattle.qmodel.specs.Lawful.{followed_by};
     ghost use Rattle.qshared.specs.Rooms.{KeptPast, IsKept};
 
     ghost Value = { KeptPast };

@@ -2,17 +2,17 @@
 ghost use Rattle.std.specs.Prelude.{◌≡◌, ◌<◌, ◌^◌, ℕ, Bool, List, length, IfErr, OnOk, is_some, true, false};
 ghost use Rattle.qtables.specs.Members.{member_at};
 ghost use Rattle.qtables.specs.declared.member.Member.{Member};
-ghost use Rattle.qrules.specs.declared.call.Call.{Call};
-ghost use Rattle.qrules.specs.Answer.{Answers};
-ghost use Rattle.qrules.specs.Lawful.{facts_of, IsLawful, with_event};
-ghost use Rattle.qrules.specs.Past.{is_down, open_call};
-ghost use Rattle.qrules.specs.Trace.{Trace};
+ghost use Rattle.qmodel.specs.declared.call.Call.{Call};
+ghost use Rattle.qmodel.specs.Answer.{Answers};
+ghost use Rattle.qmodel.specs.Lawful.{facts_of, IsLawful, with_event};
+ghost use Rattle.qmodel.specs.Past.{is_down, open_call};
+ghost use Rattle.qmodel.specs.Trace.{Trace};
 ghost use Rattle.qshared.specs.Performing.{Admits, Refuses};
 
 use qbase::errno::Errno;
 use qbase::ids::ThreadNo;
 use qkernel::endings::Endings;
-use qrules::call::Call;
+use qmodel::call::Call;
 
 /// How the past of a locked kernel is kept. A call is noted before it is made, which may be refused; then it is
 /// made, and is an event with its endings. `Kept` keeps the events in memory.

@@ -1,8 +1,8 @@
 //! What a shared kernel is made of.
 ghost use Rattle.std.specs.Prelude.{◌≡◌, ◌≤◌, ◌^◌, ◌⊎◌, ◌<◌, ℕ, [], length, map, IfOk, IfErr};
 ghost use lib.ListN.{get_elem?};
-ghost use Rattle.qrules.specs.Facts.{threads_of};
-ghost use Rattle.qrecords.specs.Threads.{members_of};
+ghost use Rattle.qmodel.specs.Facts.{threads_of};
+ghost use Rattle.qstate.specs.Threads.{members_of};
 ghost use Rattle.qkernel.specs.Stands.{StandsAt};
 ghost use Rattle.qhandoff.specs.Steps.{seated_desk};
 ghost use Rattle.qhandoff.specs.Words.{cells_id, kernel_id, count, desk, took, IsRow};
@@ -13,8 +13,8 @@ use qbase::ids::ThreadNo;
 use qhandoff::cells::Cells;
 use qhandoff::seats::{KernelSeat, ThreadSeat};
 use qkernel::kernel::Kernel;
+use qmodel::call::Completion;
 use qpast::asking::{Asked, Heard, halves};
-use qrules::call::Completion;
 use qtables::member::Member;
 use qtables::roster::Roster;
 use std::alloc::{AllocError, Global};

@@ -1,6 +1,6 @@
 //! What came of a call.
 use qbase::errno::Errno;
-use qrules::call::Call;
+use qmodel::call::Call;
 
 /// What came of a call that was made under the lock.
 #[derive(Debug, Drop)]

@@ -1,6 +1,6 @@
 //! One thread's way to a shared kernel.
 ghost use Rattle.std.specs.Prelude.{◌≡◌, ◌+◌, ◌++◌, [], ◌∷◌, true, false, MatchOption, if◌then◌else◌, slice_index_or, Some};
-ghost use Rattle.qrules.specs.Facts.{threads_of};
+ghost use Rattle.qmodel.specs.Facts.{threads_of};
 ghost use Rattle.qhandoff.specs.Words.{thread_id, thread_of, taken};
 ghost use Rattle.qshared.specs.Due.{place};
 ghost use Rattle.qshared.specs.Counting.{is_call, gives, pends, Came};
@@ -15,8 +15,8 @@ use crossbeam_utils::sync::Parker;
 use qbase::errno::Errno;
 use qbase::ids::ThreadNo;
 use qhandoff::seats::ThreadSeat;
+use qmodel::call::{Call, Completion};
 use qpast::asking::Asked;
-use qrules::call::{Call, Completion};
 use std::sync::Wait;
 use std::sync::ledger::Share;
 

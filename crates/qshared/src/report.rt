@@ -1,7 +1,7 @@
 //! What a shared kernel did.
 
 use qkernel::trace::Trace;
-use qrules::call::Completion;
+use qmodel::call::Completion;
 
 /// What a shared kernel did, once it is finished.
 #[derive(Debug, Drop)]

@@ -1,7 +1,7 @@
 //! A kernel with its past, and the kernel's seat of the cells.
 ghost use Rattle.std.specs.Prelude.{◌≡◌, ◌≤◌, ◌^◌, [], length, if◌then◌else◌};
-ghost use Rattle.qrules.specs.Facts.{threads_of};
-ghost use Rattle.qrecords.specs.Threads.{members_of};
+ghost use Rattle.qmodel.specs.Facts.{threads_of};
+ghost use Rattle.qstate.specs.Threads.{members_of};
 ghost use Rattle.qkernel.specs.Stands.{StandsAt};
 ghost use Rattle.qhandoff.specs.Steps.{seated_desk};
 ghost use Rattle.qhandoff.specs.Words.{cells_id, kernel_id, desk};
@@ -18,7 +18,7 @@ use qhandoff::cells::Cells;
 use qhandoff::seats::KernelSeat;
 use qkernel::endings::Endings;
 use qkernel::kernel::Kernel;
-use qrules::call::{Call, Completion};
+use qmodel::call::{Call, Completion};
 use std::marker::{Model, PhantomData};
 
 /// A kernel with its past, and the kernel's seat of the cells: what lies under the lock, but for the count of the

@@ -9,8 +9,8 @@ use qbase::errno::Errno;
 use qbase::ids::ThreadNo;
 use qkernel::endings::Endings;
 use qkernel::kernel::CALL_LIMIT;
+use qmodel::call::Call;
 use qpast::past::Past;
-use qrules::call::Call;
 use std::marker::PhantomData;
 use std::snapshot::Snapshot;
 

@@ -11,18 +11,18 @@ use Rattle.qqueue.specs.Contents.{Contents}
 use Rattle.qtables.specs.Entries.{entry_at}
 use Rattle.qtables.specs.Members.{member_at}
 use Rattle.qtables.specs.declared.member.Member.{Member}
-use Rattle.qrules.specs.declared.call.Call.TheVariants.{ChannelCreate}
-use Rattle.qrules.specs.declared.call.Completion.{Completion}
-use Rattle.qrules.specs.declared.call.Mark.TheVariants as mark
-use Rattle.qrecords.specs.declared.channel.Channel.{Channel}
-use Rattle.qrules.specs.Answer.{MayRefuse, failed}
-use Rattle.qrecords.specs.Channels.{opened, channel_in, waiting_on, pending_in, ids_of}
-use Rattle.qrules.specs.Effects.{creates}
+use Rattle.qmodel.specs.declared.call.Call.TheVariants.{ChannelCreate}
+use Rattle.qmodel.specs.declared.call.Completion.{Completion}
+use Rattle.qmodel.specs.declared.call.Mark.TheVariants as mark
+use Rattle.qstate.specs.declared.channel.Channel.{Channel}
+use Rattle.qmodel.specs.Answer.{MayRefuse, failed}
+use Rattle.qstate.specs.Channels.{opened, channel_in, waiting_on, pending_in, ids_of}
+use Rattle.qmodel.specs.Effects.{creates}
 use Rattle.qkernel.specs.State.{State, IsSound, facts_in}
 use Rattle.qkernel.specs.Stands.{Steps}
-use Rattle.qrules.specs.Step.{put_at, one_for}
-use Rattle.qrecords.specs.Threads.{members_of, open_in}
-use Rattle.qrules.proofs.Rosters.{rises, among, only_own}
+use Rattle.qmodel.specs.Step.{put_at, one_for}
+use Rattle.qstate.specs.Threads.{members_of, open_in}
+use Rattle.qmodel.proofs.Rosters.{rises, among, only_own}
 use Rattle.qbase.proofs.Lists.{all_append}
 use Rattle.qkernel.proofs.Steps.Common.{uncut, counted, step_refused_alone, all_up_to, stays_free}
 use Rattle.qkernel.proofs.Tables.{entry_at-push, entry_at-above, length-push}

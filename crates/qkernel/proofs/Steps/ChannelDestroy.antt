@@ -8,17 +8,17 @@ use Rattle.qqueue.specs.declared.item.Item.{Item}
 use Rattle.qtables.specs.Entries.{entry_at}
 use Rattle.qtables.specs.Members.{member_at}
 use Rattle.qtables.specs.declared.member.Member.{Member}
-use Rattle.qrules.specs.Answer.{failed}
-use Rattle.qrules.specs.Facts.{owns}
-use Rattle.qrules.specs.Step.{left_by}
-use Rattle.qrules.specs.declared.call.Call.TheVariants.{ChannelDestroy}
-use Rattle.qrules.specs.declared.call.Completion.{Completion}
-use Rattle.qrecords.specs.Channels.{ClosesIn, channel_in, is_of, pending_in}
-use Rattle.qrecords.specs.Cuts.{AreCut, LoseCut}
-use Rattle.qrecords.specs.Threads.{members_of, open_in}
-use Rattle.qrecords.specs.declared.channel.Channel.{Channel}
-use Rattle.qrecords.specs.declared.cutting.Cut.TheVariants.{On}
-use Rattle.qrecords.specs.declared.thread.Thread.{Thread}
+use Rattle.qmodel.specs.Answer.{failed}
+use Rattle.qmodel.specs.Facts.{owns}
+use Rattle.qmodel.specs.Step.{left_by}
+use Rattle.qmodel.specs.declared.call.Call.TheVariants.{ChannelDestroy}
+use Rattle.qmodel.specs.declared.call.Completion.{Completion}
+use Rattle.qstate.specs.Channels.{ClosesIn, channel_in, is_of, pending_in}
+use Rattle.qstate.specs.Cuts.{AreCut, LoseCut}
+use Rattle.qstate.specs.Threads.{members_of, open_in}
+use Rattle.qstate.specs.declared.channel.Channel.{Channel}
+use Rattle.qstate.specs.declared.cutting.Cut.TheVariants.{On}
+use Rattle.qstate.specs.declared.thread.Thread.{Thread}
 use Rattle.qkernel.specs.State.{State, IsSound, facts_in}
 use Rattle.qkernel.specs.Stands.{Steps}
 use Rattle.qkernel.proofs.Steps.Common.{counted, count_same, owned_by_member, step_refused_alone}

@@ -8,26 +8,26 @@ use Rattle.qtables.specs.Entries.{entry_at}
 use Rattle.qtables.specs.Members.{member_at}
 use Rattle.qtables.specs.declared.connection.Connection.{Connection}
 use Rattle.qtables.specs.declared.member.Member.{Member}
-use Rattle.qrules.specs.declared.call.Call.{Call}
-use Rattle.qrules.specs.declared.call.Completion.{Completion}
-use Rattle.qrecords.specs.declared.channel.Channel.{Channel}
-use Rattle.qrecords.specs.declared.thread.Thread.{Thread}
+use Rattle.qmodel.specs.declared.call.Call.{Call}
+use Rattle.qmodel.specs.declared.call.Completion.{Completion}
+use Rattle.qstate.specs.declared.channel.Channel.{Channel}
+use Rattle.qstate.specs.declared.thread.Thread.{Thread}
 use Rattle.qbase.specs.declared.errno.Errno.{Errno}
 use Rattle.qqueue.specs.declared.item.Item.{Item}
-use Rattle.qrules.specs.Answer.{MayRefuse, failed, refusal, row_of}
-use Rattle.qrules.specs.Effects.{closes, makes, sets}
-use Rattle.qrules.specs.Rows.{names}
-use Rattle.qrules.specs.Step.{left_by, moved, pending_after, taken_out}
-use Rattle.qrules.specs.Past.{made_on}
-use Rattle.qrules.proofs.Past.Cuts.{EndsSettled, none_cut}
-use Rattle.qrules.proofs.Past.Ends.{row_passes}
-use Rattle.qrules.proofs.Past.Laws.{is_forceful}
-use Rattle.qrules.proofs.Past.RowLaws.{row_laws}
-use Rattle.qrecords.specs.Channels.{channel_in, pending_in, ids_of, is_of, way_in}
-use Rattle.qrules.specs.Facts.{Facts, OpenChannel, is_in_process, is_owned_by, leads_to}
+use Rattle.qmodel.specs.Answer.{MayRefuse, failed, refusal, row_of}
+use Rattle.qmodel.specs.Effects.{closes, makes, sets}
+use Rattle.qmodel.specs.Rows.{names}
+use Rattle.qmodel.specs.Step.{left_by, moved, pending_after, taken_out}
+use Rattle.qmodel.specs.Past.{made_on}
+use Rattle.qmodel.proofs.Past.Cuts.{EndsSettled, none_cut}
+use Rattle.qmodel.proofs.Past.Ends.{row_passes}
+use Rattle.qmodel.proofs.Past.Laws.{is_forceful}
+use Rattle.qmodel.proofs.Past.RowLaws.{row_laws}
+use Rattle.qstate.specs.Channels.{channel_in, pending_in, ids_of, is_of, way_in}
+use Rattle.qmodel.specs.Facts.{Facts, OpenChannel, is_in_process, is_owned_by, leads_to}
 use Rattle.qkernel.specs.State.{State, IsSound, facts_in}
 use Rattle.qkernel.specs.Stands.{Steps}
-use Rattle.qrecords.specs.Threads.{members_of, open_in, level_in}
+use Rattle.qstate.specs.Threads.{members_of, open_in, level_in}
 
 -- ---- refused calls
 

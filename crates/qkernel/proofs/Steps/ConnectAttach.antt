@@ -6,17 +6,17 @@ use Rattle.qbase.specs.declared.errno.Errno.TheVariants.{Srch, Again, NoMemory}
 use Rattle.qtables.specs.Entries.{entry_at}
 use Rattle.qtables.specs.Members.{member_at}
 use Rattle.qtables.specs.declared.member.Member.{Member}
-use Rattle.qrules.specs.declared.call.Call.TheVariants.{ConnectAttach}
-use Rattle.qrules.specs.declared.call.Completion.{Completion}
-use Rattle.qrules.specs.declared.call.Mark.TheVariants as mark
-use Rattle.qrules.specs.Answer.{MayRefuse, failed}
-use Rattle.qrecords.specs.Channels.{channel_in}
-use Rattle.qrules.specs.Effects.{attaches}
+use Rattle.qmodel.specs.declared.call.Call.TheVariants.{ConnectAttach}
+use Rattle.qmodel.specs.declared.call.Completion.{Completion}
+use Rattle.qmodel.specs.declared.call.Mark.TheVariants as mark
+use Rattle.qmodel.specs.Answer.{MayRefuse, failed}
+use Rattle.qstate.specs.Channels.{channel_in}
+use Rattle.qmodel.specs.Effects.{attaches}
 use Rattle.qkernel.specs.State.{State, IsSound, facts_in}
 use Rattle.qkernel.specs.Stands.{Steps}
-use Rattle.qrules.specs.Step.{put_at, one_for}
-use Rattle.qrecords.specs.Threads.{members_of, open_in}
-use Rattle.qrules.proofs.Rosters.{rises, among, only_own}
+use Rattle.qmodel.specs.Step.{put_at, one_for}
+use Rattle.qstate.specs.Threads.{members_of, open_in}
+use Rattle.qmodel.proofs.Rosters.{rises, among, only_own}
 use Rattle.qbase.proofs.Lists.{all_append}
 use Rattle.qkernel.proofs.Steps.Common.{uncut, counted, step_refused_alone, all_up_to, stays_free, up_to_below}
 use Rattle.qkernel.proofs.Tables.{entry_at-push, length-push, rising_push}

@@ -16,32 +16,32 @@ use Rattle.qtables.specs.Entries.{entry_at, without_entry}
 use Rattle.qtables.specs.Members.{member_at}
 use Rattle.qtables.specs.declared.connection.Connection.{Connection}
 use Rattle.qtables.specs.declared.member.Member.{Member}
-use Rattle.qrules.specs.Answer.{MayRefuse, ending, failed}
-use Rattle.qrules.specs.Calls.ConnectDetach.{between, connections_between, due, due_of, is_own}
-use Rattle.qrules.specs.Cutting.{cut_where, is_on, is_over, is_unread_send}
-use Rattle.qrules.specs.Facts.{tells_disconnect, threads_of}
-use Rattle.qrules.specs.Pulses.{full_for, told, told_receipt}
-use Rattle.qrules.specs.Rows.{Made, Received, disconnect_item}
-use Rattle.qrules.specs.Step.{is_cut, left_by, taken_out, unless}
-use Rattle.qrules.specs.Past.{made_on}
-use Rattle.qrules.specs.declared.call.Call.TheVariants.{ConnectDetach}
-use Rattle.qrules.specs.declared.call.Completion.{Completion}
-use Rattle.qrules.specs.declared.open_call.Wait.TheVariants.{Item as ForItem}
-use Rattle.qrecords.specs.declared.channel.Channel.{Channel}
-use Rattle.qrecords.specs.declared.cutting.Cut.TheVariants.{Over}
-use Rattle.qrecords.specs.declared.thread.Thread.{Thread}
-use Rattle.qrecords.specs.Channels.{channel_in, own_channel_in, pending_in}
-use Rattle.qrecords.specs.Cuts.{AreCut, LoseCut, ending_for, is_cut_among}
-use Rattle.qrecords.specs.Endings.{inserted_if}
-use Rattle.qrecords.specs.Pulses.{has_room}
-use Rattle.qrules.specs.Receivers.{newest}
-use Rattle.qrecords.specs.Threads.{level_in, members_of, newest_in, open_in}
+use Rattle.qmodel.specs.Answer.{MayRefuse, ending, failed}
+use Rattle.qmodel.specs.Calls.ConnectDetach.{between, connections_between, due, due_of, is_own}
+use Rattle.qmodel.specs.Cutting.{cut_where, is_on, is_over, is_unread_send}
+use Rattle.qmodel.specs.Facts.{tells_disconnect, threads_of}
+use Rattle.qmodel.specs.Pulses.{full_for, told, told_receipt}
+use Rattle.qmodel.specs.Rows.{Made, Received, disconnect_item}
+use Rattle.qmodel.specs.Step.{is_cut, left_by, taken_out, unless}
+use Rattle.qmodel.specs.Past.{made_on}
+use Rattle.qmodel.specs.declared.call.Call.TheVariants.{ConnectDetach}
+use Rattle.qmodel.specs.declared.call.Completion.{Completion}
+use Rattle.qmodel.specs.declared.open_call.Wait.TheVariants.{Item as ForItem}
+use Rattle.qstate.specs.declared.channel.Channel.{Channel}
+use Rattle.qstate.specs.declared.cutting.Cut.TheVariants.{Over}
+use Rattle.qstate.specs.declared.thread.Thread.{Thread}
+use Rattle.qstate.specs.Channels.{channel_in, own_channel_in, pending_in}
+use Rattle.qstate.specs.Cuts.{AreCut, LoseCut, ending_for, is_cut_among}
+use Rattle.qstate.specs.Endings.{inserted_if}
+use Rattle.qstate.specs.Pulses.{has_room}
+use Rattle.qmodel.specs.Receivers.{newest}
+use Rattle.qstate.specs.Threads.{level_in, members_of, newest_in, open_in}
 use Rattle.qkernel.specs.State.{State, IsSound, facts_in}
 use Rattle.qkernel.specs.Stands.{Steps}
 use Rattle.qtables.proofs.LookUps.{entry_at-without_entry}
-use Rattle.qrules.proofs.Calls.Cutting.{cut_parts}
+use Rattle.qmodel.proofs.Calls.Cutting.{cut_parts}
 use Rattle.qbase.proofs.Lists.{all_filter, cond_same, filter_twice, or_none}
-use Rattle.qrules.proofs.Rosters.{filter_map_same}
+use Rattle.qmodel.proofs.Rosters.{filter_map_same}
 use Rattle.qkernel.proofs.Tables.{count_picked, rising_without}
 use Rattle.qkernel.proofs.Steps.Common.{all_up_to, counted, step_refused_alone}
 use Rattle.qkernel.proofs.Steps.Cutting.{mine, sound_less}

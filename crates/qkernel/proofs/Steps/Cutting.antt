@@ -6,16 +6,16 @@ use Rattle.std.proofs.lemmas.Bool.{eqb-true}
 use Rattle.qbase.specs.declared.errno.Errno.{Errno}
 use Rattle.qqueue.specs.declared.item.Item.{Item}
 use Rattle.qtables.specs.Entries.{entry_at}
-use Rattle.qrules.specs.Cutting.{cut_where}
-use Rattle.qrules.specs.Facts.{threads_of}
-use Rattle.qrules.specs.declared.call.Completion.{Completion}
-use Rattle.qrules.specs.declared.call.Mark.TheVariants as mark
-use Rattle.qrecords.specs.Channels.{pending_in}
-use Rattle.qrecords.specs.Cuts.{AreCut, LoseCut, ending_for, is_cut_among, is_cut_by}
-use Rattle.qrecords.specs.Threads.{members_of, open_in}
-use Rattle.qrecords.specs.declared.channel.Channel.{Channel}
-use Rattle.qrecords.specs.declared.cutting.Cut.{Cut}
-use Rattle.qrecords.specs.declared.thread.Thread.{Thread}
+use Rattle.qmodel.specs.Cutting.{cut_where}
+use Rattle.qmodel.specs.Facts.{threads_of}
+use Rattle.qmodel.specs.declared.call.Completion.{Completion}
+use Rattle.qmodel.specs.declared.call.Mark.TheVariants as mark
+use Rattle.qstate.specs.Channels.{pending_in}
+use Rattle.qstate.specs.Cuts.{AreCut, LoseCut, ending_for, is_cut_among, is_cut_by}
+use Rattle.qstate.specs.Threads.{members_of, open_in}
+use Rattle.qstate.specs.declared.channel.Channel.{Channel}
+use Rattle.qstate.specs.declared.cutting.Cut.{Cut}
+use Rattle.qstate.specs.declared.thread.Thread.{Thread}
 use Rattle.qkernel.specs.State.{State, IsSound}
 use Rattle.qbase.proofs.Lists.{all_filter}
 use Rattle.qkernel.proofs.Steps.Common.{counted, sound_counted_alone}

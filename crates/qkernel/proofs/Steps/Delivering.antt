@@ -9,16 +9,16 @@ use Rattle.qqueue.specs.declared.item.Item.{Item}
 use Rattle.qtables.specs.Entries.{entry_at}
 use Rattle.qtables.specs.Members.{member_at}
 use Rattle.qtables.specs.declared.member.Member.{Member}
-use Rattle.qrecords.specs.declared.channel.Channel.{Channel}
-use Rattle.qrecords.specs.declared.thread.Thread.{Thread}
-use Rattle.qrecords.specs.Channels.{pending_in, ids_of, way_in, SetsItems, channel_in}
-use Rattle.qrules.specs.Facts.{way, is_fixed}
-use Rattle.qrules.specs.Rows.{sent_over}
+use Rattle.qstate.specs.declared.channel.Channel.{Channel}
+use Rattle.qstate.specs.declared.thread.Thread.{Thread}
+use Rattle.qstate.specs.Channels.{pending_in, ids_of, way_in, SetsItems, channel_in}
+use Rattle.qmodel.specs.Facts.{way, is_fixed}
+use Rattle.qmodel.specs.Rows.{sent_over}
 use Rattle.qkernel.specs.State.{State, IsSound, facts_in}
-use Rattle.qrules.specs.Past.{made_on}
-use Rattle.qrecords.specs.Threads.{members_of}
+use Rattle.qmodel.specs.Past.{made_on}
+use Rattle.qstate.specs.Threads.{members_of}
 use Rattle.qbase.proofs.Lists.{all_append, eqb_either}
-use Rattle.qrules.proofs.Calls.Delivering.{sent_way}
+use Rattle.qmodel.proofs.Calls.Delivering.{sent_way}
 use Rattle.qkernel.proofs.Steps.Common.{Counted, count_same, all_up_to, way-leads_to}
 
 -- the priority that a receiver on channel h takes of the item

@@ -9,26 +9,26 @@ use Rattle.qtables.specs.Entries.{entry_at}
 use Rattle.qtables.specs.Members.{member_at}
 use Rattle.qtables.specs.declared.connection.Connection.{Connection}
 use Rattle.qtables.specs.declared.member.Member.{Member}
-use Rattle.qrules.specs.declared.call.Call.{Call}
-use Rattle.qrules.specs.declared.call.Completion.{Completion}
-use Rattle.qrules.specs.declared.call.Mark.TheVariants as mark
-use Rattle.qrules.specs.declared.open_call.OpenCall.{OpenCall}
-use Rattle.qrules.specs.declared.open_call.Wait.{Wait}
-use Rattle.qrules.specs.declared.open_call.Wait.TheVariants.{Answer, Item as ForItem}
-use Rattle.qrecords.specs.declared.thread.Thread.{Thread}
-use Rattle.qrules.specs.Answer.{row_of, failed}
-use Rattle.qrecords.specs.Channels.{channel_in}
-use Rattle.qrecords.specs.Endings.{inserted}
-use Rattle.qrules.specs.Facts.{is_send, sender, sender_among, threads_of}
-use Rattle.qrules.specs.Held.{Finish, ends_sender, finished, finished_with, is_held_for, owns_end, refusal}
-use Rattle.qrecords.specs.HeldIn.{leads_to_own, is_held_over, is_held_in}
+use Rattle.qmodel.specs.declared.call.Call.{Call}
+use Rattle.qmodel.specs.declared.call.Completion.{Completion}
+use Rattle.qmodel.specs.declared.call.Mark.TheVariants as mark
+use Rattle.qmodel.specs.declared.open_call.OpenCall.{OpenCall}
+use Rattle.qmodel.specs.declared.open_call.Wait.{Wait}
+use Rattle.qmodel.specs.declared.open_call.Wait.TheVariants.{Answer, Item as ForItem}
+use Rattle.qstate.specs.declared.thread.Thread.{Thread}
+use Rattle.qmodel.specs.Answer.{row_of, failed}
+use Rattle.qstate.specs.Channels.{channel_in}
+use Rattle.qstate.specs.Endings.{inserted}
+use Rattle.qmodel.specs.Facts.{is_send, sender, sender_among, threads_of}
+use Rattle.qmodel.specs.Held.{Finish, ends_sender, finished, finished_with, is_held_for, owns_end, refusal}
+use Rattle.qstate.specs.HeldIn.{leads_to_own, is_held_over, is_held_in}
 use Rattle.qkernel.specs.State.{State, IsSound, facts_in}
 use Rattle.qkernel.specs.Stands.{Steps}
-use Rattle.qrules.specs.Step.{unless}
-use Rattle.qrecords.specs.Threads.{members_of, open_in, held_over_in, sender_in, sent_call, SetsOpen}
-use Rattle.qrecords.proofs.Inserting.{two_endings}
+use Rattle.qmodel.specs.Step.{unless}
+use Rattle.qstate.specs.Threads.{members_of, open_in, held_over_in, sender_in, sent_call, SetsOpen}
+use Rattle.qstate.proofs.Inserting.{two_endings}
 use Rattle.qbase.proofs.Lists.{is_among, cond_same}
-use Rattle.qrules.proofs.Rosters.{rises, among, filter_map_same}
+use Rattle.qmodel.proofs.Rosters.{rises, among, filter_map_same}
 use Rattle.qkernel.proofs.Steps.Common.{counted, step_refused_alone, owned_by_member}
 
 module _ (s : State) (t : ℕ) (m : Member) (i : ℕ) (sound : IsSound s) (known : member_at (members_of s.threads) t ≡ Some m) where

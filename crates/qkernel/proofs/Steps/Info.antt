@@ -7,23 +7,23 @@ use Rattle.std.proofs.lemmas.Bool.{true≢false}
 use Rattle.qtables.specs.Members.{member_at, IsRoster}
 use Rattle.qtables.specs.declared.connection.Connection.{Connection}
 use Rattle.qtables.specs.declared.member.Member.{Member}
-use Rattle.qrules.specs.declared.call.Call.TheVariants.{Info}
-use Rattle.qrules.specs.declared.call.Completion.{Completion}
-use Rattle.qrecords.specs.declared.channel.Channel.{Channel}
-use Rattle.qrules.specs.declared.open_call.OpenCall.{OpenCall}
-use Rattle.qrules.specs.declared.open_call.Wait.{Wait}
-use Rattle.qrules.specs.declared.open_call.Wait.TheVariants.{Answer, Item as ForItem}
-use Rattle.qrecords.specs.declared.thread.Thread.{Thread}
-use Rattle.qrules.specs.declared.call.Info.{Info as Told}
-use Rattle.qrules.specs.Calls.Info.{told, told_of, telling}
-use Rattle.qrules.specs.Facts.{is_send, sender, threads_of}
-use Rattle.qrecords.specs.HeldIn.{is_held_in}
+use Rattle.qmodel.specs.declared.call.Call.TheVariants.{Info}
+use Rattle.qmodel.specs.declared.call.Completion.{Completion}
+use Rattle.qstate.specs.declared.channel.Channel.{Channel}
+use Rattle.qmodel.specs.declared.open_call.OpenCall.{OpenCall}
+use Rattle.qmodel.specs.declared.open_call.Wait.{Wait}
+use Rattle.qmodel.specs.declared.open_call.Wait.TheVariants.{Answer, Item as ForItem}
+use Rattle.qstate.specs.declared.thread.Thread.{Thread}
+use Rattle.qmodel.specs.declared.call.Info.{Info as Told}
+use Rattle.qmodel.specs.Calls.Info.{told, told_of, telling}
+use Rattle.qmodel.specs.Facts.{is_send, sender, threads_of}
+use Rattle.qstate.specs.HeldIn.{is_held_in}
 use Rattle.qkernel.specs.State.{State, IsSound, facts_in}
 use Rattle.qkernel.specs.Stands.{Steps}
-use Rattle.qrecords.specs.Threads.{held_over_in, members_of, open_in}
-use Rattle.qrecords.proofs.Seats.{first_member, first_open}
-use Rattle.qrecords.proofs.Senders.{first_there, held_there, sender_of_held, sender_there}
-use Rattle.qrules.proofs.Rosters.{among, only_own, rises}
+use Rattle.qstate.specs.Threads.{held_over_in, members_of, open_in}
+use Rattle.qstate.proofs.Seats.{first_member, first_open}
+use Rattle.qstate.proofs.Senders.{first_there, held_there, sender_of_held, sender_there}
+use Rattle.qmodel.proofs.Rosters.{among, only_own, rises}
 use Rattle.qkernel.proofs.Steps.Common.{uncut, counted, stays_free}
 use Rattle.qkernel.proofs.Steps.Held.{is_held}
 

@@ -11,22 +11,22 @@ use Rattle.qqueue.specs.declared.item.Item.{Item}
 use Rattle.qtables.specs.Entries.{entry_at}
 use Rattle.qtables.specs.Members.{member_at}
 use Rattle.qtables.specs.declared.member.Member.{Member}
-use Rattle.qrules.specs.Answer.{failed}
-use Rattle.qrules.specs.Cutting.{is_unread_send}
-use Rattle.qrules.specs.Facts.{is_in_process}
-use Rattle.qrules.specs.declared.call.Call.TheVariants.{PrioritySet}
-use Rattle.qrules.specs.declared.call.Completion.{Completion}
-use Rattle.qrules.specs.declared.call.Mark.TheVariants as mark
-use Rattle.qrecords.specs.declared.channel.Channel.{Channel}
-use Rattle.qrecords.specs.declared.thread.Thread.{Thread}
+use Rattle.qmodel.specs.Answer.{failed}
+use Rattle.qmodel.specs.Cutting.{is_unread_send}
+use Rattle.qmodel.specs.Facts.{is_in_process}
+use Rattle.qmodel.specs.declared.call.Call.TheVariants.{PrioritySet}
+use Rattle.qmodel.specs.declared.call.Completion.{Completion}
+use Rattle.qmodel.specs.declared.call.Mark.TheVariants as mark
+use Rattle.qstate.specs.declared.channel.Channel.{Channel}
+use Rattle.qstate.specs.declared.thread.Thread.{Thread}
 use Rattle.qkernel.specs.State.{State, IsSound, facts_in}
 use Rattle.qkernel.specs.Stands.{Steps}
-use Rattle.qrecords.specs.Channels.{channel_in, ids_of, pending_in}
-use Rattle.qrecords.specs.Threads.{level_in, members_of, open_in, SetsLevel}
-use Rattle.qrecords.specs.Unread.{MovesUnread}
-use Rattle.qrules.specs.Step.{moved}
-use Rattle.qrules.proofs.Past.Cuts.{none_cut}
-use Rattle.qrules.proofs.Rosters.{among, only_own, rises}
+use Rattle.qstate.specs.Channels.{channel_in, ids_of, pending_in}
+use Rattle.qstate.specs.Threads.{level_in, members_of, open_in, SetsLevel}
+use Rattle.qstate.specs.Unread.{MovesUnread}
+use Rattle.qmodel.specs.Step.{moved}
+use Rattle.qmodel.proofs.Past.Cuts.{none_cut}
+use Rattle.qmodel.proofs.Rosters.{among, only_own, rises}
 use Rattle.qbase.proofs.Lists.{all_map, all_more}
 use Rattle.qkernel.proofs.Steps.Delivering.{sound_threads}
 use Rattle.qkernel.proofs.Steps.Common.{count_same, counted, stays_free, step_refused_alone}

@@ -6,19 +6,19 @@ use Rattle.qbase.specs.declared.errno.Errno.TheVariants.{Again, Badf, Inval, NoM
 use Rattle.qtables.specs.Entries.{entry_at}
 use Rattle.qtables.specs.Members.{member_at}
 use Rattle.qtables.specs.declared.member.Member.{Member}
-use Rattle.qrules.specs.declared.call.Call.TheVariants.{Pulse}
-use Rattle.qrules.specs.declared.call.Completion.{Completion}
-use Rattle.qrules.specs.Answer.{MayRefuse, failed}
-use Rattle.qrules.specs.Calls.Pulse.{is_negative}
-use Rattle.qrecords.specs.Channels.{way_in}
-use Rattle.qrecords.specs.Pulses.{has_room}
-use Rattle.qrules.specs.Facts.{way}
-use Rattle.qrules.specs.Rows.{pulse_item}
-use Rattle.qrules.specs.Pulses.{full, told, told_receipt, wants_room_for}
+use Rattle.qmodel.specs.declared.call.Call.TheVariants.{Pulse}
+use Rattle.qmodel.specs.declared.call.Completion.{Completion}
+use Rattle.qmodel.specs.Answer.{MayRefuse, failed}
+use Rattle.qmodel.specs.Calls.Pulse.{is_negative}
+use Rattle.qstate.specs.Channels.{way_in}
+use Rattle.qstate.specs.Pulses.{has_room}
+use Rattle.qmodel.specs.Facts.{way}
+use Rattle.qmodel.specs.Rows.{pulse_item}
+use Rattle.qmodel.specs.Pulses.{full, told, told_receipt, wants_room_for}
 use Rattle.qkernel.specs.State.{State, facts_in}
 use Rattle.qkernel.specs.Stands.{Steps}
-use Rattle.qrules.specs.Receivers.{newest}
-use Rattle.qrecords.specs.Threads.{members_of, newest_in, open_in}
+use Rattle.qmodel.specs.Receivers.{newest}
+use Rattle.qstate.specs.Threads.{members_of, newest_in, open_in}
 use Rattle.qkernel.proofs.Steps.Common.{counted, step_refused_alone, way-leads_to}
 use Rattle.qkernel.proofs.Steps.Delivering.{some_sent, some_way}
 use Rattle.qkernel.proofs.Steps.Telling.{Tells}

@@ -4,14 +4,14 @@ use Rattle.std.specs.Prelude.{drop, None, Some}
 use Rattle.qbase.specs.Laying.{laid_count, lay_over}
 use Rattle.qtables.specs.Members.{member_at}
 use Rattle.qtables.specs.declared.member.Member.{Member}
-use Rattle.qrules.specs.declared.call.Call.TheVariants.{Read}
-use Rattle.qrules.specs.declared.call.Completion.{Completion}
-use Rattle.qrules.specs.declared.call.Mark.TheVariants as mark
-use Rattle.qrecords.specs.HeldIn.{is_held_in}
+use Rattle.qmodel.specs.declared.call.Call.TheVariants.{Read}
+use Rattle.qmodel.specs.declared.call.Completion.{Completion}
+use Rattle.qmodel.specs.declared.call.Mark.TheVariants as mark
+use Rattle.qstate.specs.HeldIn.{is_held_in}
 use Rattle.qkernel.specs.State.{State, IsSound}
 use Rattle.qkernel.specs.Stands.{Steps}
-use Rattle.qrecords.specs.Threads.{members_of, message_from, open_in}
-use Rattle.qrules.proofs.Rosters.{among, only_own, rises}
+use Rattle.qstate.specs.Threads.{members_of, message_from, open_in}
+use Rattle.qmodel.proofs.Rosters.{among, only_own, rises}
 use Rattle.qkernel.proofs.Steps.Common.{uncut, counted, stays_free}
 use Rattle.qkernel.proofs.Steps.Held.{is_held}
 

@@ -12,25 +12,25 @@ use Rattle.qqueue.specs.declared.item.Kind.{Kind}
 use Rattle.qqueue.specs.declared.item.Kind.TheVariants.{Any, PulseOnly}
 use Rattle.qtables.specs.Members.{member_at}
 use Rattle.qtables.specs.declared.member.Member.{Member}
-use Rattle.qrules.specs.declared.call.Call.TheVariants.{Receive, ReceivePulse}
-use Rattle.qrules.specs.declared.call.Completion.{Completion}
-use Rattle.qrules.specs.declared.call.Mark.TheVariants as mark
-use Rattle.qrecords.specs.declared.channel.Channel.{Channel}
-use Rattle.qrules.specs.declared.open_call.OpenCall.{OpenCall}
-use Rattle.qrules.specs.declared.open_call.Receipt.{Receipt}
-use Rattle.qrules.specs.declared.open_call.Wait.TheVariants.{Item as ForItem}
-use Rattle.qrecords.specs.declared.thread.Thread.{Thread}
-use Rattle.qrules.specs.Answer.{ending}
-use Rattle.qrecords.specs.Channels.{channel_in, pending_in, ids_of, is_of, SetsItems}
-use Rattle.qrules.specs.Facts.{owns, threads_of, is_fixed}
-use Rattle.qrules.specs.Receiving.{receipt_of, received_of, receive_of}
-use Rattle.qrules.specs.Rows.{Received, taking}
+use Rattle.qmodel.specs.declared.call.Call.TheVariants.{Receive, ReceivePulse}
+use Rattle.qmodel.specs.declared.call.Completion.{Completion}
+use Rattle.qmodel.specs.declared.call.Mark.TheVariants as mark
+use Rattle.qstate.specs.declared.channel.Channel.{Channel}
+use Rattle.qmodel.specs.declared.open_call.OpenCall.{OpenCall}
+use Rattle.qmodel.specs.declared.open_call.Receipt.{Receipt}
+use Rattle.qmodel.specs.declared.open_call.Wait.TheVariants.{Item as ForItem}
+use Rattle.qstate.specs.declared.thread.Thread.{Thread}
+use Rattle.qmodel.specs.Answer.{ending}
+use Rattle.qstate.specs.Channels.{channel_in, pending_in, ids_of, is_of, SetsItems}
+use Rattle.qmodel.specs.Facts.{owns, threads_of, is_fixed}
+use Rattle.qmodel.specs.Receiving.{receipt_of, received_of, receive_of}
+use Rattle.qmodel.specs.Rows.{Received, taking}
 use Rattle.qkernel.specs.State.{State, IsSound, facts_in}
 use Rattle.qkernel.specs.Stands.{Steps}
-use Rattle.qrules.specs.Step.{after_receipt, is_thread, held_call, taken_out, unless, taken_by}
-use Rattle.qrecords.specs.Threads.{members_of, open_in, level_in, message_from, sender_in, SetsOpen, HandsOver, SetsLevel}
+use Rattle.qmodel.specs.Step.{after_receipt, is_thread, held_call, taken_out, unless, taken_by}
+use Rattle.qstate.specs.Threads.{members_of, open_in, level_in, message_from, sender_in, SetsOpen, HandsOver, SetsLevel}
 use Rattle.qbase.proofs.Lists.{all_filter, eqb_either, cond_same}
-use Rattle.qrules.proofs.Rosters.{rises, among, nothing, filter_map_same, only_own}
+use Rattle.qmodel.proofs.Rosters.{rises, among, nothing, filter_map_same, only_own}
 use Rattle.qkernel.proofs.Steps.Common.{uncut, counted, step_refused_alone, owned_by_member, all_up_to, stays_free}
 use Rattle.qkernel.proofs.Steps.Delivering.{count_kept, sound_items}
 

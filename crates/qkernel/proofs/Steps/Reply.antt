@@ -3,17 +3,17 @@ use Rattle.std.proofs.Common.{◌≡◌, ℕ, ◌+◌, List, [], ◌∷◌, refl
 use Rattle.std.specs.Prelude.{ℤ, None, Some}
 use Rattle.qtables.specs.Members.{member_at}
 use Rattle.qtables.specs.declared.member.Member.{Member}
-use Rattle.qrules.specs.declared.call.Call.TheVariants.{Reply}
-use Rattle.qrules.specs.declared.call.Completion.{Completion}
-use Rattle.qrules.specs.declared.call.Mark.TheVariants as mark
-use Rattle.qrecords.specs.declared.thread.Thread.{Thread}
-use Rattle.qrules.specs.Calls.Reply.{replied}
-use Rattle.qrecords.specs.Endings.{inserted}
-use Rattle.qrules.specs.Held.{finished}
-use Rattle.qrecords.specs.HeldIn.{is_held_in}
+use Rattle.qmodel.specs.declared.call.Call.TheVariants.{Reply}
+use Rattle.qmodel.specs.declared.call.Completion.{Completion}
+use Rattle.qmodel.specs.declared.call.Mark.TheVariants as mark
+use Rattle.qstate.specs.declared.thread.Thread.{Thread}
+use Rattle.qmodel.specs.Calls.Reply.{replied}
+use Rattle.qstate.specs.Endings.{inserted}
+use Rattle.qmodel.specs.Held.{finished}
+use Rattle.qstate.specs.HeldIn.{is_held_in}
 use Rattle.qkernel.specs.State.{State, IsSound}
 use Rattle.qkernel.specs.Stands.{Steps}
-use Rattle.qrecords.specs.Threads.{members_of, open_in, sender_in, SetsOpen}
+use Rattle.qstate.specs.Threads.{members_of, open_in, sender_in, SetsOpen}
 use Rattle.qkernel.proofs.Steps.Common.{uncut}
 use Rattle.qkernel.proofs.Steps.Held.{is_held, two_ended, answered_calls}
 

@@ -10,27 +10,27 @@ use Rattle.qqueue.specs.declared.item.Item.{Item}
 use Rattle.qtables.specs.Entries.{entry_at}
 use Rattle.qtables.specs.Members.{member_at}
 use Rattle.qtables.specs.declared.member.Member.{Member}
-use Rattle.qrules.specs.declared.call.Call.TheVariants.{Send}
-use Rattle.qrules.specs.declared.call.Completion.{Completion}
-use Rattle.qrecords.specs.declared.channel.Channel.{Channel}
-use Rattle.qrules.specs.declared.open_call.OpenCall.{OpenCall}
-use Rattle.qrules.specs.declared.open_call.Receipt.{Receipt}
-use Rattle.qrules.specs.declared.open_call.Wait.TheVariants.{Answer}
-use Rattle.qrecords.specs.declared.thread.Thread.{Thread}
-use Rattle.qrules.specs.Answer.{failed, ending}
-use Rattle.qrecords.specs.Channels.{pending_in, way_in, SetsItems}
-use Rattle.qrules.specs.Facts.{way, threads_of}
-use Rattle.qrules.specs.Receivers.{newest}
-use Rattle.qrules.specs.Rows.{message_item, takes, received, sent_over}
+use Rattle.qmodel.specs.declared.call.Call.TheVariants.{Send}
+use Rattle.qmodel.specs.declared.call.Completion.{Completion}
+use Rattle.qstate.specs.declared.channel.Channel.{Channel}
+use Rattle.qmodel.specs.declared.open_call.OpenCall.{OpenCall}
+use Rattle.qmodel.specs.declared.open_call.Receipt.{Receipt}
+use Rattle.qmodel.specs.declared.open_call.Wait.TheVariants.{Answer}
+use Rattle.qstate.specs.declared.thread.Thread.{Thread}
+use Rattle.qmodel.specs.Answer.{failed, ending}
+use Rattle.qstate.specs.Channels.{pending_in, way_in, SetsItems}
+use Rattle.qmodel.specs.Facts.{way, threads_of}
+use Rattle.qmodel.specs.Receivers.{newest}
+use Rattle.qmodel.specs.Rows.{message_item, takes, received, sent_over}
 use Rattle.qkernel.specs.State.{State, IsSound, facts_in}
 use Rattle.qkernel.specs.Stands.{Steps}
-use Rattle.qrules.specs.Step.{unless, held_call}
-use Rattle.qrules.specs.Past.{made_on}
-use Rattle.qrecords.specs.Threads.{members_of, open_in, level_in, newest_in, SetsOpen, Wakes}
+use Rattle.qmodel.specs.Step.{unless, held_call}
+use Rattle.qmodel.specs.Past.{made_on}
+use Rattle.qstate.specs.Threads.{members_of, open_in, level_in, newest_in, SetsOpen, Wakes}
 use Rattle.qbase.proofs.Lists.{is_among, cond_same}
-use Rattle.qrules.proofs.Rosters.{rises, nothing, filter_map_same, only_own}
+use Rattle.qmodel.proofs.Rosters.{rises, nothing, filter_map_same, only_own}
 use Rattle.qkernel.proofs.Steps.Delivering.{counted_room, count_kept, items_after, some_sent, some_way, with_item, level_of}
-use Rattle.qrecords.proofs.Receivers.{ended_thread}
+use Rattle.qstate.proofs.Receivers.{ended_thread}
 use Rattle.qkernel.proofs.Steps.Common.{uncut, counted, step_refused, step_refused_alone, way-leads_to}
 use Rattle.qqueue.specs.Best.{without}
 

@@ -6,15 +6,15 @@ use Rattle.qbase.specs.declared.errno.Errno.TheVariants.{Srch}
 use Rattle.qtables.specs.Entries.{entry_at}
 use Rattle.qtables.specs.Members.{member_at}
 use Rattle.qtables.specs.declared.member.Member.{Member}
-use Rattle.qrules.specs.Step.{left_by}
-use Rattle.qrules.specs.declared.call.Call.TheVariants.{Shutdown}
-use Rattle.qrules.specs.declared.call.Completion.{Completion}
-use Rattle.qrecords.specs.Channels.{pending_in}
-use Rattle.qrecords.specs.Cuts.{AreCut, LoseCut}
-use Rattle.qrecords.specs.Threads.{members_of, open_in}
-use Rattle.qrecords.specs.declared.channel.Channel.{Channel}
-use Rattle.qrecords.specs.declared.cutting.Cut.TheVariants.{All}
-use Rattle.qrecords.specs.declared.thread.Thread.{Thread}
+use Rattle.qmodel.specs.Step.{left_by}
+use Rattle.qmodel.specs.declared.call.Call.TheVariants.{Shutdown}
+use Rattle.qmodel.specs.declared.call.Completion.{Completion}
+use Rattle.qstate.specs.Channels.{pending_in}
+use Rattle.qstate.specs.Cuts.{AreCut, LoseCut}
+use Rattle.qstate.specs.Threads.{members_of, open_in}
+use Rattle.qstate.specs.declared.channel.Channel.{Channel}
+use Rattle.qstate.specs.declared.cutting.Cut.TheVariants.{All}
+use Rattle.qstate.specs.declared.thread.Thread.{Thread}
 use Rattle.qkernel.specs.State.{State, facts_in}
 use Rattle.qkernel.specs.Stands.{Steps}
 use Rattle.qkernel.proofs.Steps.Cutting.{endings_cut, open_after}

@@ -6,15 +6,15 @@ use Rattle.qbase.specs.declared.errno.Errno.TheVariants.{Srch}
 use Rattle.qtables.specs.Entries.{entry_at}
 use Rattle.qtables.specs.Members.{member_at}
 use Rattle.qtables.specs.declared.member.Member.{Member}
-use Rattle.qrules.specs.Answer.{failed}
-use Rattle.qrules.specs.ThreadStates.{state_in}
-use Rattle.qrules.specs.declared.call.Call.TheVariants.{State as Ask}
-use Rattle.qrules.specs.declared.call.Completion.{Completion}
-use Rattle.qrules.specs.declared.call.Mark.TheVariants as mark
+use Rattle.qmodel.specs.Answer.{failed}
+use Rattle.qmodel.specs.ThreadStates.{state_in}
+use Rattle.qmodel.specs.declared.call.Call.TheVariants.{State as Ask}
+use Rattle.qmodel.specs.declared.call.Completion.{Completion}
+use Rattle.qmodel.specs.declared.call.Mark.TheVariants as mark
 use Rattle.qkernel.specs.State.{State, IsSound, facts_in}
 use Rattle.qkernel.specs.Stands.{Steps}
-use Rattle.qrecords.specs.Threads.{level_in, members_of, open_in}
-use Rattle.qrules.proofs.Rosters.{among, only_own, rises}
+use Rattle.qstate.specs.Threads.{level_in, members_of, open_in}
+use Rattle.qmodel.proofs.Rosters.{among, only_own, rises}
 use Rattle.qkernel.proofs.Steps.Common.{uncut, counted, stays_free, step_refused_alone}
 
 module _ (s : State) (t target : ℕ) (m : Member) (known : member_at (members_of s.threads) t ≡ Some m) (up : s.down ≡ false) (free : open_in s.threads t ≡ None) where

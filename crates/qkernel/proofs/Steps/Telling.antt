@@ -9,26 +9,26 @@ use Rattle.qtables.specs.declared.member.Member.{Member}
 use Rattle.qbase.specs.declared.errno.Errno.{Errno}
 use Rattle.qbase.specs.declared.errno.Errno.TheVariants.{Again, NoMemory}
 use Rattle.qbase.proofs.Lists.{cond_same}
-use Rattle.qrules.specs.Answer.{MayRefuse, ending, failed, refusal, row_of}
-use Rattle.qrules.specs.Facts.{Facts, threads_of}
-use Rattle.qrules.specs.Effects.{attaches, closes, creates, detaches, makes, sets, shuts_down, unblocks, writes}
-use Rattle.qrules.specs.Rows.{Made}
-use Rattle.qrules.specs.Step.{after_unblock, unless}
-use Rattle.qrules.specs.declared.call.Call.{Call}
-use Rattle.qrules.specs.declared.call.Completion.{Completion}
-use Rattle.qrules.specs.declared.open_call.OpenCall.{OpenCall}
-use Rattle.qrecords.specs.declared.channel.Channel.{Channel}
-use Rattle.qrecords.specs.declared.thread.Thread.{Thread}
-use Rattle.qrecords.specs.Endings.{inserted_if}
-use Rattle.qrecords.specs.Pulses.{IsSent, IsSentIfDue, IsTurnedAway, has_room}
-use Rattle.qrecords.specs.Threads.{level_in, members_of, newest_in, open_in}
-use Rattle.qrecords.proofs.Inserting.{own_first, own_one}
+use Rattle.qmodel.specs.Answer.{MayRefuse, ending, failed, refusal, row_of}
+use Rattle.qmodel.specs.Facts.{Facts, threads_of}
+use Rattle.qmodel.specs.Effects.{attaches, closes, creates, detaches, makes, sets, shuts_down, unblocks, writes}
+use Rattle.qmodel.specs.Rows.{Made}
+use Rattle.qmodel.specs.Step.{after_unblock, unless}
+use Rattle.qmodel.specs.declared.call.Call.{Call}
+use Rattle.qmodel.specs.declared.call.Completion.{Completion}
+use Rattle.qmodel.specs.declared.open_call.OpenCall.{OpenCall}
+use Rattle.qstate.specs.declared.channel.Channel.{Channel}
+use Rattle.qstate.specs.declared.thread.Thread.{Thread}
+use Rattle.qstate.specs.Endings.{inserted_if}
+use Rattle.qstate.specs.Pulses.{IsSent, IsSentIfDue, IsTurnedAway, has_room}
+use Rattle.qstate.specs.Threads.{level_in, members_of, newest_in, open_in}
+use Rattle.qstate.proofs.Inserting.{own_first, own_one}
 use Rattle.qkernel.specs.State.{State, IsSound, facts_in}
 use Rattle.qkernel.specs.Stands.{Steps}
-use Rattle.qrules.proofs.Past.OpenCalls.{unblock_none}
-use Rattle.qrules.proofs.Rosters.{among, filter_map_same, only_own, rises}
-use Rattle.qrules.specs.Pulses.{told, told_receipt}
-use Rattle.qrules.proofs.Past.Laws.{IsSettled}
+use Rattle.qmodel.proofs.Past.OpenCalls.{unblock_none}
+use Rattle.qmodel.proofs.Rosters.{among, filter_map_same, only_own, rises}
+use Rattle.qmodel.specs.Pulses.{told, told_receipt}
+use Rattle.qmodel.proofs.Past.Laws.{IsSettled}
 use Rattle.qkernel.proofs.Steps.Common.{Counted, counted_alone, sound_counted, sound_counted_alone, step_refused, uncut_by}
 use Rattle.qkernel.proofs.Steps.Cutting.{mine}
 use Rattle.qkernel.proofs.Steps.Delivering.{count_kept, counted_room, sound_threads, sound_with_item}

@@ -9,27 +9,27 @@ use Rattle.std.specs.Option.{option_or}
 use Rattle.qbase.proofs.Lists.{eqb_same, is_among, or_none}
 use Rattle.qqueue.specs.Best.{is_pulse}
 use Rattle.qqueue.specs.declared.item.Item.{Item}
-use Rattle.qrules.specs.Facts.{threads_of}
-use Rattle.qrules.specs.Pulses.{full_for, told, told_receipt}
-use Rattle.qrules.specs.Receivers.{newest}
-use Rattle.qrules.specs.Rows.{Made, received, takes, takes_into}
-use Rattle.qrules.specs.Step.{after_receipt, taken_by, taken_out, unless}
-use Rattle.qrules.specs.Past.{made_on}
-use Rattle.qrules.specs.declared.call.Completion.{Completion}
-use Rattle.qrules.specs.declared.open_call.OpenCall.{OpenCall}
-use Rattle.qrules.specs.declared.open_call.Wait.{Wait}
-use Rattle.qrules.specs.declared.open_call.Wait.TheVariants.{Answer, Item as ForItem}
-use Rattle.qrules.proofs.Rosters.{filter_map_same, rises}
-use Rattle.qrules.proofs.Calls.Delivering.{ForAnItem, met_item, met_settled}
-use Rattle.qrules.proofs.Past.Laws.{IsSettled}
-use Rattle.qrecords.specs.Channels.{channel_in, ids_of, pending_in}
-use Rattle.qrecords.specs.Endings.{inserted_if}
-use Rattle.qrecords.specs.Pulses.{IsLeft, IsMet, IsSentIfDue}
-use Rattle.qrecords.specs.Threads.{level_in, members_of, open_in}
-use Rattle.qrecords.specs.declared.channel.Channel.{Channel}
-use Rattle.qrecords.specs.declared.thread.Thread.{Thread}
-use Rattle.qrecords.proofs.Inserting.{endings_fewer, inserted_among}
-use Rattle.qrecords.proofs.Receivers.{ended_thread, newest_receives, waits_among}
+use Rattle.qmodel.specs.Facts.{threads_of}
+use Rattle.qmodel.specs.Pulses.{full_for, told, told_receipt}
+use Rattle.qmodel.specs.Receivers.{newest}
+use Rattle.qmodel.specs.Rows.{Made, received, takes, takes_into}
+use Rattle.qmodel.specs.Step.{after_receipt, taken_by, taken_out, unless}
+use Rattle.qmodel.specs.Past.{made_on}
+use Rattle.qmodel.specs.declared.call.Completion.{Completion}
+use Rattle.qmodel.specs.declared.open_call.OpenCall.{OpenCall}
+use Rattle.qmodel.specs.declared.open_call.Wait.{Wait}
+use Rattle.qmodel.specs.declared.open_call.Wait.TheVariants.{Answer, Item as ForItem}
+use Rattle.qmodel.proofs.Rosters.{filter_map_same, rises}
+use Rattle.qmodel.proofs.Calls.Delivering.{ForAnItem, met_item, met_settled}
+use Rattle.qmodel.proofs.Past.Laws.{IsSettled}
+use Rattle.qstate.specs.Channels.{channel_in, ids_of, pending_in}
+use Rattle.qstate.specs.Endings.{inserted_if}
+use Rattle.qstate.specs.Pulses.{IsLeft, IsMet, IsSentIfDue}
+use Rattle.qstate.specs.Threads.{level_in, members_of, open_in}
+use Rattle.qstate.specs.declared.channel.Channel.{Channel}
+use Rattle.qstate.specs.declared.thread.Thread.{Thread}
+use Rattle.qstate.proofs.Inserting.{endings_fewer, inserted_among}
+use Rattle.qstate.proofs.Receivers.{ended_thread, newest_receives, waits_among}
 use Rattle.qkernel.specs.State.{State, IsSound, facts_in}
 use Rattle.qkernel.proofs.Steps.Delivering.{items_after, with_item}
 

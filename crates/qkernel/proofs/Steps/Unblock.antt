@@ -13,32 +13,32 @@ use Rattle.qtables.specs.Entries.{entry_at}
 use Rattle.qtables.specs.Members.{member_at}
 use Rattle.qtables.specs.declared.connection.Connection.{Connection}
 use Rattle.qtables.specs.declared.member.Member.{Member}
-use Rattle.qrules.specs.Answer.{MayRefuse, ending, failed}
-use Rattle.qrules.specs.Calls.Unblock.{due, due_of, due_on, ends, guard, guard_over}
-use Rattle.qrules.specs.Cutting.{cut_call, cut_where, is_unread_send}
-use Rattle.qrules.specs.Facts.{is_in_process, threads_of}
-use Rattle.qrules.specs.Pulses.{told_receipt, full}
-use Rattle.qrules.specs.Rows.{unblock_item, Made}
-use Rattle.qrules.specs.Step.{left_by, taken_out, unblocked_call}
-use Rattle.qrules.specs.Past.{made_on}
-use Rattle.qrules.specs.declared.call.Call.TheVariants.{Unblock}
-use Rattle.qrules.specs.declared.call.Completion.{Completion}
-use Rattle.qrules.specs.declared.open_call.OpenCall.{OpenCall}
-use Rattle.qrules.specs.declared.open_call.Wait.{Wait}
-use Rattle.qrules.specs.declared.open_call.Wait.TheVariants.{Answer, Item as ForItem}
-use Rattle.qrecords.specs.declared.channel.Channel.{Channel}
-use Rattle.qrecords.specs.declared.cutting.Cut.TheVariants.{Of}
-use Rattle.qrecords.specs.declared.held.Held.{Held}
-use Rattle.qrecords.specs.declared.thread.Thread.{Thread}
-use Rattle.qrecords.specs.Channels.{pending_in}
-use Rattle.qrecords.specs.Cuts.{AreCut, LoseCut}
-use Rattle.qrecords.specs.HeldIn.{guard_in, guarded_in, held_in}
-use Rattle.qrecords.specs.Pulses.{has_room}
-use Rattle.qrules.specs.Receivers.{newest}
-use Rattle.qrecords.specs.Threads.{members_of, newest_in, open_in, MarksUnblocked}
+use Rattle.qmodel.specs.Answer.{MayRefuse, ending, failed}
+use Rattle.qmodel.specs.Calls.Unblock.{due, due_of, due_on, ends, guard, guard_over}
+use Rattle.qmodel.specs.Cutting.{cut_call, cut_where, is_unread_send}
+use Rattle.qmodel.specs.Facts.{is_in_process, threads_of}
+use Rattle.qmodel.specs.Pulses.{told_receipt, full}
+use Rattle.qmodel.specs.Rows.{unblock_item, Made}
+use Rattle.qmodel.specs.Step.{left_by, taken_out, unblocked_call}
+use Rattle.qmodel.specs.Past.{made_on}
+use Rattle.qmodel.specs.declared.call.Call.TheVariants.{Unblock}
+use Rattle.qmodel.specs.declared.call.Completion.{Completion}
+use Rattle.qmodel.specs.declared.open_call.OpenCall.{OpenCall}
+use Rattle.qmodel.specs.declared.open_call.Wait.{Wait}
+use Rattle.qmodel.specs.declared.open_call.Wait.TheVariants.{Answer, Item as ForItem}
+use Rattle.qstate.specs.declared.channel.Channel.{Channel}
+use Rattle.qstate.specs.declared.cutting.Cut.TheVariants.{Of}
+use Rattle.qstate.specs.declared.held.Held.{Held}
+use Rattle.qstate.specs.declared.thread.Thread.{Thread}
+use Rattle.qstate.specs.Channels.{pending_in}
+use Rattle.qstate.specs.Cuts.{AreCut, LoseCut}
+use Rattle.qstate.specs.HeldIn.{guard_in, guarded_in, held_in}
+use Rattle.qstate.specs.Pulses.{has_room}
+use Rattle.qmodel.specs.Receivers.{newest}
+use Rattle.qstate.specs.Threads.{members_of, newest_in, open_in, MarksUnblocked}
 use Rattle.qkernel.specs.State.{State, IsSound, facts_in}
 use Rattle.qkernel.specs.Stands.{Steps}
-use Rattle.qrules.proofs.Rosters.{among, filter_map_same, only_own, rises}
+use Rattle.qmodel.proofs.Rosters.{among, filter_map_same, only_own, rises}
 use Rattle.qkernel.proofs.Steps.Common.{counted, stays_free, step_refused_alone, uncut_by}
 use Rattle.qkernel.proofs.Steps.Cutting.{endings_cut, mine, open_after}
 use Rattle.qkernel.proofs.Steps.Delivering.{count_kept}

@@ -6,18 +6,18 @@ use Rattle.std.proofs.lemmas.Bool.{eqb-true}
 use Rattle.qbase.specs.Laying.{laid_count}
 use Rattle.qtables.specs.Members.{member_at}
 use Rattle.qtables.specs.declared.member.Member.{Member}
-use Rattle.qrules.specs.declared.call.Call.TheVariants.{Write}
-use Rattle.qrules.specs.declared.call.Completion.{Completion}
-use Rattle.qrules.specs.declared.call.Mark.TheVariants as mark
-use Rattle.qrecords.specs.declared.thread.Thread.{Thread}
-use Rattle.qrules.specs.Held.{reply_buffer_in}
-use Rattle.qrecords.specs.HeldIn.{is_held_in}
-use Rattle.qrules.specs.Step.{is_thread, written_call}
+use Rattle.qmodel.specs.declared.call.Call.TheVariants.{Write}
+use Rattle.qmodel.specs.declared.call.Completion.{Completion}
+use Rattle.qmodel.specs.declared.call.Mark.TheVariants as mark
+use Rattle.qstate.specs.declared.thread.Thread.{Thread}
+use Rattle.qmodel.specs.Held.{reply_buffer_in}
+use Rattle.qstate.specs.HeldIn.{is_held_in}
+use Rattle.qmodel.specs.Step.{is_thread, written_call}
 use Rattle.qkernel.specs.State.{State, IsSound}
 use Rattle.qkernel.specs.Stands.{Steps}
-use Rattle.qrecords.specs.Threads.{members_of, open_in, sender_in, sent_call, ChangesSender}
+use Rattle.qstate.specs.Threads.{members_of, open_in, sender_in, sent_call, ChangesSender}
 use Rattle.qbase.proofs.Lists.{cond_same}
-use Rattle.qrules.proofs.Rosters.{among, only_own, rises}
+use Rattle.qmodel.proofs.Rosters.{among, only_own, rises}
 use Rattle.qkernel.proofs.Steps.Common.{uncut}
 use Rattle.qkernel.proofs.Steps.Held.{is_held}
 

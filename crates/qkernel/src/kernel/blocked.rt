@@ -4,14 +4,14 @@ ghost use Rattle.std.specs.Prelude.{◌≡◌, ◌++◌, List, Some, IfOk, OnOk}
 ghost use Rattle.std.specs.Option.{option_to_list};
 ghost use Rattle.qtables.specs.Entries.{entry_at};
 ghost use Rattle.qtables.specs.declared.member.Member.{Member};
-ghost use Rattle.qrules.specs.Blocked.{told_of, blocked_at};
-ghost use Rattle.qrules.specs.Trace.{Trace};
+ghost use Rattle.qmodel.specs.Blocked.{told_of, blocked_at};
+ghost use Rattle.qmodel.specs.Trace.{Trace};
 
 use super::Kernel;
 use qbase::state::ThreadState;
-use qrecords::thread::Thread;
-use qrecords::thread_state::state_of_wait;
-use qrules::open_call::Blocked;
+use qmodel::open_call::Blocked;
+use qstate::thread::Thread;
+use qstate::thread_state::state_of_wait;
 use qtables::connections::Connections;
 use std::alloc::{AllocError, Global};
 

@@ -6,10 +6,10 @@ use qbase::bytes::Bytes;
 use qbase::errno::Errno;
 use qbase::flags::ChannelFlags;
 use qbase::ids::ChannelId;
+use qmodel::call::{Call, Mark};
 use qqueue::queue::Queue;
-use qrecords::channel::Channel;
-use qrecords::endings::{Endings, end_own, refuse};
-use qrules::call::{Call, Mark};
+use qstate::channel::Channel;
+use qstate::endings::{Endings, end_own, refuse};
 
 impl Kernel {
     ghost use Rattle.qkernel.specs.Turns.{MayCall, Makes};

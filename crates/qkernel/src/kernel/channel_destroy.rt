@@ -5,10 +5,10 @@ use super::turn::Turn;
 use qbase::bytes::Bytes;
 use qbase::errno::Errno;
 use qbase::ids::ChannelId;
-use qrecords::channel::{close, owns};
-use qrecords::cutting::{Cut, cut_calls};
-use qrecords::endings::{Endings, own_ending, refuse};
-use qrules::call::{Call, Mark};
+use qmodel::call::{Call, Mark};
+use qstate::channel::{close, owns};
+use qstate::cutting::{Cut, cut_calls};
+use qstate::endings::{Endings, own_ending, refuse};
 
 impl Kernel {
     ghost use Rattle.qkernel.specs.Turns.{MayCall, Makes};

@@ -5,9 +5,9 @@ use super::turn::Turn;
 use qbase::bytes::Bytes;
 use qbase::errno::Errno;
 use qbase::ids::{ChannelId, ConnectionId};
-use qrecords::channel::is_open;
-use qrecords::endings::{Endings, end_own, refuse};
-use qrules::call::{Call, Mark};
+use qmodel::call::{Call, Mark};
+use qstate::channel::is_open;
+use qstate::endings::{Endings, end_own, refuse};
 use qtables::connection::Connection;
 
 impl Kernel {

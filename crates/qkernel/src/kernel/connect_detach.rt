@@ -1,7 +1,7 @@
 //! ConnectDetach.
 
 ghost use Rattle.std.specs.Prelude.{◌≡◌, None, Some, if◌then◌else◌};
-ghost use Rattle.qrules.specs.Rows.{disconnect_item};
+ghost use Rattle.qmodel.specs.Rows.{disconnect_item};
 
 use super::Kernel;
 use super::turn::Turn;
@@ -9,12 +9,12 @@ use qbase::bytes::Bytes;
 use qbase::errno::Errno;
 use qbase::ids::{ConnectionId, ProcessNo};
 use qbase::priority::Priority;
+use qmodel::call::{Call, Mark};
 use qqueue::item::{Item, What};
-use qrecords::channel::{own_connection, tells_detached};
-use qrecords::cutting::{Cut, cut_calls};
-use qrecords::endings::{Endings, end_also, own_ending, refuse};
-use qrecords::pulses::send_due;
-use qrules::call::{Call, Mark};
+use qstate::channel::{own_connection, tells_detached};
+use qstate::cutting::{Cut, cut_calls};
+use qstate::endings::{Endings, end_also, own_ending, refuse};
+use qstate::pulses::send_due;
 
 /// The pulse that tells of a process's last connection, if it is that.
 fn pulse_for(last: bool, number: u64, priority: Priority, process: ProcessNo) -> Option<Item>

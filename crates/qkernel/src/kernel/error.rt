@@ -1,18 +1,18 @@
 //! Error.
 
 ghost use Rattle.std.specs.Prelude.{◌≡◌};
-ghost use Rattle.qrules.specs.Calls.Error.{errored, mark_of};
-ghost use Rattle.qrules.specs.Held.{finished};
+ghost use Rattle.qmodel.specs.Calls.Error.{errored, mark_of};
+ghost use Rattle.qmodel.specs.Held.{finished};
 
 use super::Kernel;
 use super::turn::Turn;
 use qbase::bytes::Bytes;
 use qbase::errno::Errno;
 use qbase::ids::{ReceiveId, ThreadNo};
-use qrecords::endings::{Endings, end_two, own_ending, refuse};
-use qrecords::held::{held_seat, take_sent};
-use qrules::call::{Call, Completion, Mark};
-use qrules::open_call::{OpenCall, Wait};
+use qmodel::call::{Call, Completion, Mark};
+use qmodel::open_call::{OpenCall, Wait};
+use qstate::endings::{Endings, end_two, own_ending, refuse};
+use qstate::held::{held_seat, take_sent};
 
 /// How the sender's call is marked: the code 0 is a reply of status 0 with no bytes, our own profile.
 fn mark(code: i32) -> Mark

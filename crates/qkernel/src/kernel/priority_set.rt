@@ -6,10 +6,10 @@ use qbase::bytes::Bytes;
 use qbase::errno::Errno;
 use qbase::ids::ThreadNo;
 use qbase::priority::Priority;
-use qrecords::endings::{Endings, end_own, refuse};
-use qrecords::thread::{seat_in_process, set_level};
-use qrecords::unread::requeue_unread;
-use qrules::call::{Call, Mark};
+use qmodel::call::{Call, Mark};
+use qstate::endings::{Endings, end_own, refuse};
+use qstate::thread::{seat_in_process, set_level};
+use qstate::unread::requeue_unread;
 
 impl Kernel {
     ghost use Rattle.qkernel.specs.Turns.{MayCall, Makes};

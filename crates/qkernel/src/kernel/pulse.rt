@@ -6,11 +6,11 @@ use qbase::bytes::Bytes;
 use qbase::errno::Errno;
 use qbase::ids::ConnectionId;
 use qbase::priority::Priority;
+use qmodel::call::{Call, Mark};
 use qqueue::item::{Item, What};
-use qrecords::channel::way;
-use qrecords::endings::{Endings, end_with, own_ending, refuse};
-use qrecords::pulses::send_pulse;
-use qrules::call::{Call, Mark};
+use qstate::channel::way;
+use qstate::endings::{Endings, end_with, own_ending, refuse};
+use qstate::pulses::send_pulse;
 
 impl Kernel {
     ghost use Rattle.qkernel.specs.Turns.{MayCall, Makes};

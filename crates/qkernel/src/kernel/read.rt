@@ -5,9 +5,9 @@ use super::turn::Turn;
 use qbase::bytes::Bytes;
 use qbase::errno::Errno;
 use qbase::ids::ReceiveId;
-use qrecords::endings::{Endings, end_one, refuse};
-use qrecords::held::held_seat;
-use qrules::call::{Call, Completion, Mark};
+use qmodel::call::{Call, Completion, Mark};
+use qstate::endings::{Endings, end_one, refuse};
+use qstate::held::held_seat;
 
 impl Kernel {
     ghost use Rattle.qkernel.specs.Turns.{MayCall, Makes};

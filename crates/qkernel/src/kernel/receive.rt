@@ -1,19 +1,19 @@
 //! Receive, and what it shares with ReceivePulse.
 
 ghost use Rattle.std.specs.Prelude.{◌≡◌, []};
-ghost use Rattle.qrules.specs.Receiving.{receive_of};
+ghost use Rattle.qmodel.specs.Receiving.{receive_of};
 
 use super::Kernel;
 use super::turn::Turn;
 use qbase::bytes::Bytes;
 use qbase::errno::Errno;
 use qbase::ids::ChannelId;
+use qmodel::call::{Call, Completion};
+use qmodel::open_call::{OpenCall, Wait};
 use qqueue::item::Kind;
-use qrecords::channel::{carried, owns, take_best};
-use qrecords::endings::{Endings, end_one, refuse};
-use qrecords::thread::{block, hand_item, set_level};
-use qrules::call::{Call, Completion};
-use qrules::open_call::{OpenCall, Wait};
+use qstate::channel::{carried, owns, take_best};
+use qstate::endings::{Endings, end_one, refuse};
+use qstate::thread::{block, hand_item, set_level};
 
 impl Kernel {
     ghost use Rattle.qkernel.specs.Turns.{MayCall, Makes};

@@ -4,9 +4,9 @@ use super::Kernel;
 use super::turn::Turn;
 use qbase::bytes::Bytes;
 use qbase::ids::ChannelId;
+use qmodel::call::Call;
 use qqueue::item::Kind;
-use qrecords::endings::Endings;
-use qrules::call::Call;
+use qstate::endings::Endings;
 
 impl Kernel {
     ghost use Rattle.qkernel.specs.Turns.{MayCall, Makes};

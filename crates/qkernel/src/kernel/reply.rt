@@ -1,18 +1,18 @@
 //! Reply.
 
 ghost use Rattle.std.specs.Prelude.{◌≡◌};
-ghost use Rattle.qrules.specs.Calls.Reply.{replied};
-ghost use Rattle.qrules.specs.Held.{finished};
+ghost use Rattle.qmodel.specs.Calls.Reply.{replied};
+ghost use Rattle.qmodel.specs.Held.{finished};
 
 use super::Kernel;
 use super::turn::Turn;
 use qbase::bytes::Bytes;
 use qbase::errno::Errno;
 use qbase::ids::{ReceiveId, ThreadNo};
-use qrecords::endings::{Endings, end_two, own_ending, refuse};
-use qrecords::held::{held_seat, take_sent};
-use qrules::call::{Call, Completion, Mark};
-use qrules::open_call::{OpenCall, Wait};
+use qmodel::call::{Call, Completion, Mark};
+use qmodel::open_call::{OpenCall, Wait};
+use qstate::endings::{Endings, end_two, own_ending, refuse};
+use qstate::held::{held_seat, take_sent};
 
 /// How an open Send ends that is replied to; none where the call is no Send.
 fn replied_to(

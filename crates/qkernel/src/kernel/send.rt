@@ -2,19 +2,19 @@
 
 ghost use Rattle.std.specs.Prelude.{◌≡◌, Some, false, option_map, IfSome};
 ghost use Rattle.qqueue.specs.Best.{is_pulse};
-ghost use Rattle.qrules.specs.Rows.{takes, received};
+ghost use Rattle.qmodel.specs.Rows.{takes, received};
 
 use super::Kernel;
 use super::turn::Turn;
 use qbase::bytes::Bytes;
 use qbase::errno::Errno;
 use qbase::ids::{ConnectionId, ReceiveId, ThreadNo};
+use qmodel::call::{Call, Completion, Mark};
+use qmodel::open_call::{OpenCall, Receipt, Wait};
 use qqueue::item::{Item, What};
-use qrecords::channel::{carried, enqueue, way};
-use qrecords::endings::{Endings, end_one, refuse};
-use qrecords::thread::{block, newest_receiver, wake};
-use qrules::call::{Call, Completion, Mark};
-use qrules::open_call::{OpenCall, Receipt, Wait};
+use qstate::channel::{carried, enqueue, way};
+use qstate::endings::{Endings, end_one, refuse};
+use qstate::thread::{block, newest_receiver, wake};
 
 /// How the open call of a thread ends that takes a message, and how many bytes were copied; none where it
 /// doesn't wait for an item.

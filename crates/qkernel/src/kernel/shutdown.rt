@@ -3,9 +3,9 @@
 use super::Kernel;
 use super::turn::Turn;
 use qbase::errno::Errno;
-use qrecords::cutting::{Cut, cut_calls};
-use qrecords::endings::{Endings, own_ending};
-use qrules::call::{Call, Mark};
+use qmodel::call::{Call, Mark};
+use qstate::cutting::{Cut, cut_calls};
+use qstate::endings::{Endings, own_ending};
 
 impl Kernel {
     ghost use Rattle.qkernel.specs.Turns.{MayCall, Makes};

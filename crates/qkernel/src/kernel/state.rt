@@ -5,10 +5,10 @@ use super::turn::Turn;
 use qbase::bytes::Bytes;
 use qbase::errno::Errno;
 use qbase::ids::ThreadNo;
-use qrecords::endings::{Endings, end_own, refuse};
-use qrecords::thread::{level_of, seat_of};
-use qrecords::thread_state::state_at;
-use qrules::call::{Call, Mark};
+use qmodel::call::{Call, Mark};
+use qstate::endings::{Endings, end_own, refuse};
+use qstate::thread::{level_of, seat_of};
+use qstate::thread_state::state_at;
 
 impl Kernel {
     ghost use Rattle.qkernel.specs.Turns.{MayCall, Makes};

@@ -1,20 +1,20 @@
 //! Unblock.
 
 ghost use Rattle.std.specs.Prelude.{◌≡◌};
-ghost use Rattle.qrules.specs.Rows.{unblock_item};
+ghost use Rattle.qmodel.specs.Rows.{unblock_item};
 
 use super::Kernel;
 use super::turn::Turn;
 use qbase::bytes::Bytes;
 use qbase::errno::Errno;
 use qbase::ids::ThreadNo;
+use qmodel::call::{Call, Mark};
 use qqueue::item::{Item, What};
-use qrecords::cutting::{Cut, cut_calls};
-use qrecords::endings::{Endings, end_one, end_with, own_ending, refuse};
-use qrecords::held::{Held, guarded, mark_unblocked};
-use qrecords::pulses::send_pulse;
-use qrecords::thread::seat_in_process;
-use qrules::call::{Call, Mark};
+use qstate::cutting::{Cut, cut_calls};
+use qstate::endings::{Endings, end_one, end_with, own_ending, refuse};
+use qstate::held::{Held, guarded, mark_unblocked};
+use qstate::pulses::send_pulse;
+use qstate::thread::seat_in_process;
 
 /// The pulse that tells of a held message whose sender is to be unblocked.
 fn pulse_for(number: u64, held: &Held) -> Item

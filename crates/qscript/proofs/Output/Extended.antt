@@ -3,8 +3,8 @@ use Rattle.std.proofs.Common.{◌≡◌, ℕ, zero, suc, ◌+◌, ◌-◌, ◌<�
 use Rattle.std.proofs.lemmas.Bool.{leb-true}
 use Rattle.std.specs.List.{flat_map}
 use Rattle.std.specs.Option.{option_map}
-use Rattle.qrules.specs.declared.call.Completion.{Completion}
-use Rattle.qrules.specs.Trace.{Event, Run}
+use Rattle.qmodel.specs.declared.call.Completion.{Completion}
+use Rattle.qmodel.specs.Trace.{Event, Run}
 use Rattle.qscript.specs.Printing.OpenLine.{open_text}
 use Rattle.qscript.specs.Printing.Printed.{call_by, ending_text, event_text, texts_from, printed}
 use Rattle.qscript.specs.Printing.Laws.{with_more, GoesOn}

@@ -4,9 +4,9 @@ use Rattle.std.proofs.lemmas.Bool.{leb-true, leb-false}
 use Rattle.std.proofs.lemmas.List.{length-map, map-append, get_or_past}
 use Rattle.std.specs.List.{flat_map}
 use Rattle.std.specs.Option.{option_map}
-use Rattle.qrules.specs.declared.call.Call.{Call}
-use Rattle.qrules.specs.declared.call.Completion.{Completion}
-use Rattle.qrules.specs.Trace.{Event, Run}
+use Rattle.qmodel.specs.declared.call.Call.{Call}
+use Rattle.qmodel.specs.declared.call.Completion.{Completion}
+use Rattle.qmodel.specs.Trace.{Event, Run}
 use Rattle.qscript.specs.Printing.Laws.{with_more}
 use Rattle.qscript.specs.Printing.Printed.{shows_buffer, call_by, is_shown, ended_text, event_text, texts_from}
 use Rattle.qscript.specs.Printing.Printer.{shows_own, shows_at, HasPrinted}

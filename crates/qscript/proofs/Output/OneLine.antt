@@ -10,13 +10,13 @@ use Rattle.qbase.specs.declared.errno.Errno.TheVariants.{Srch, Badf, Inval, Agai
 use Rattle.qbase.specs.Errno.{word_of}
 use Rattle.qbase.specs.declared.state.ThreadState.{ThreadState}
 use Rattle.qbase.specs.declared.state.ThreadState.TheVariants.{Ready, SendBlocked, ReceiveBlocked, ReplyBlocked}
-use Rattle.qrules.specs.declared.call.Completion.{Completion}
+use Rattle.qmodel.specs.declared.call.Completion.{Completion}
 use Rattle.qqueue.specs.declared.item.What.{What}
 use Rattle.qqueue.specs.declared.item.What.TheVariants.{Message, User, Unblock, Disconnect}
-use Rattle.qrules.specs.declared.call.Mark.{Mark}
-use Rattle.qrules.specs.declared.call.Mark.TheVariants as marks
-use Rattle.qrules.specs.declared.open_call.Blocked.{Blocked}
-use Rattle.qrules.specs.Trace.{Event, Run}
+use Rattle.qmodel.specs.declared.call.Mark.{Mark}
+use Rattle.qmodel.specs.declared.call.Mark.TheVariants as marks
+use Rattle.qmodel.specs.declared.open_call.Blocked.{Blocked}
+use Rattle.qmodel.specs.Trace.{Event, Run}
 use Rattle.qscript.specs.Printing.Words.{spaced}
 use Rattle.qscript.specs.Printing.Marks.{mark_words, pulse_words}
 use Rattle.qscript.specs.Printing.Buffer.{buffer_words}

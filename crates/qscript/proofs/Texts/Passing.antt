@@ -9,7 +9,7 @@ use Rattle.std.proofs.Math.Seq.{take-append_seam, take-append-add, get_or-append
 use Rattle.std.specs.Option.{option_or}
 use Rattle.qbase.proofs.Lists.{or_none}
 use Rattle.qtables.specs.declared.member.Member.{Member}
-use Rattle.qrules.specs.declared.call.Call.{Call}
+use Rattle.qmodel.specs.declared.call.Call.{Call}
 use Rattle.qscript.specs.declared.reading.line.Line.{Line}
 use Rattle.qscript.specs.declared.reading.line.Line.TheVariants as lines
 use Rattle.qscript.specs.declared.fault.LineFault.{LineFault}

@@ -2,7 +2,7 @@
 use Rattle.std.proofs.Common.{◌≡◌, ℕ, zero, suc, ◌+◌, List, [], ◌∷◌, ◌++◌, take, slice_get, Some, refl, ◌∙◌, sym, append_assoc, append-nil, add-one}
 use Rattle.std.specs.List.{flat_map}
 use Rattle.std.specs.Option.{option_map}
-use Rattle.qrules.specs.Trace.{Event}
+use Rattle.qmodel.specs.Trace.{Event}
 use Rattle.qscript.specs.Writing.Text.{call_text}
 
 -- the call at a place comes after those before it

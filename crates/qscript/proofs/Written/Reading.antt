@@ -6,8 +6,8 @@ use Rattle.std.proofs.lemmas.Bool.{le-ltb, cases_Bool}
 use Rattle.std.proofs.lemmas.Fmt.{digits_decimal, length-decimal-le}
 use Rattle.std.proofs.lemmas.Slice.Eq.{bytes_eq-Decides}
 use Rattle.qtables.specs.declared.member.Member.{Member}
-use Rattle.qrules.specs.declared.call.Call.{Call}
-use Rattle.qrules.specs.declared.call.Call.TheVariants as calls
+use Rattle.qmodel.specs.declared.call.Call.{Call}
+use Rattle.qmodel.specs.declared.call.Call.TheVariants as calls
 use Rattle.qscript.specs.declared.reading.line.Line.TheVariants as lines
 use Rattle.qscript.specs.Printing.Words.{spaced}
 use Rattle.qscript.specs.Reading.Call.{call_of, verb_of, channel_verb, message_verb, thread_verb}

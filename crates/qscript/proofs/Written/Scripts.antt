@@ -4,9 +4,9 @@ use Rattle.std.specs.List.{All, AllByRecursion, flat_map, list_all}
 use Rattle.std.proofs.lemmas.Bool.{lt-leb, ne_eqb, and_parts}
 use Rattle.std.proofs.lemmas.List.Elements.{All-cons, All-nil}
 use Rattle.qtables.specs.declared.member.Member.{Member}
-use Rattle.qrules.specs.declared.call.Call.{Call}
-use Rattle.qrules.specs.OnlyRun.{event_call}
-use Rattle.qrules.specs.Trace.{Event}
+use Rattle.qmodel.specs.declared.call.Call.{Call}
+use Rattle.qmodel.specs.OnlyRun.{event_call}
+use Rattle.qmodel.specs.Trace.{Event}
 use Rattle.qscript.specs.declared.reading.line.Line.TheVariants as lines
 use Rattle.qscript.specs.Reading.Line.{is_text}
 use Rattle.qscript.specs.Reading.Lines.{lines_of, is_newline, without_return}

@@ -5,9 +5,9 @@ use Rattle.qbase.specs.Errno.{word_of}
 use Rattle.qbase.specs.declared.state.ThreadState.{ThreadState}
 use Rattle.qqueue.specs.declared.item.What.{What}
 use Rattle.qqueue.specs.declared.item.What.TheVariants.{Message, User, Unblock, Disconnect}
-use Rattle.qrules.specs.declared.call.Info.{Info}
-use Rattle.qrules.specs.declared.call.Mark.{Mark}
-use Rattle.qrules.specs.declared.call.Mark.TheVariants as marks
+use Rattle.qmodel.specs.declared.call.Info.{Info}
+use Rattle.qmodel.specs.declared.call.Mark.{Mark}
+use Rattle.qmodel.specs.declared.call.Mark.TheVariants as marks
 use Rattle.qscript.specs.Printing.State.{state_words}
 
 -- what is told of a held message: the sender's process and thread, the connection, the three lengths and the priority

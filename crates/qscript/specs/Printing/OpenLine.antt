@@ -1,6 +1,6 @@
 -- A thread that is blocked when a run is over.
 use Rattle.std.specs.Prelude.{ℕ, List, [], ◌∷◌, ◌++◌, codes, decimal}
-use Rattle.qrules.specs.declared.open_call.Blocked.{Blocked}
+use Rattle.qmodel.specs.declared.open_call.Blocked.{Blocked}
 use Rattle.qscript.specs.Printing.State.{state_words}
 use Rattle.qscript.specs.Printing.Words.{spaced}
 

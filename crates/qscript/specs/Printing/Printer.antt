@@ -1,8 +1,8 @@
 -- The text of a run, made as the run goes.
 use Rattle.std.specs.Prelude.{◌≡◌, ℕ, ◌+◌, ◌-◌, ◌&&◌, nat_le, Bool, false, List, map, slice_index_or, string_bytes}
-use Rattle.qrules.specs.OnlyRun.{event_call}
-use Rattle.qrules.specs.Trace.{Event, Run}
-use Rattle.qrules.specs.declared.call.Call.{Call}
+use Rattle.qmodel.specs.OnlyRun.{event_call}
+use Rattle.qmodel.specs.Trace.{Event, Run}
+use Rattle.qmodel.specs.declared.call.Call.{Call}
 use Rattle.qkernel.specs.Runs.{RunsAtTraces}
 use Rattle.qkernel.specs.State.{State}
 use Rattle.qscript.specs.Printing.Printed.{shows_buffer, texts_from}

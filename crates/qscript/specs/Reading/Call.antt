@@ -2,8 +2,8 @@
 use Rattle.std.specs.Prelude.{ℕ, List, Option, Some, None, Result, Ok, Err, if◌then◌else◌, codes}
 use Rattle.std.specs.Str.{bytes_eq}
 use Rattle.std.specs.Option.{option_or}
-use Rattle.qrules.specs.declared.call.Call.{Call}
-use Rattle.qrules.specs.declared.call.Call.TheVariants as calls
+use Rattle.qmodel.specs.declared.call.Call.{Call}
+use Rattle.qmodel.specs.declared.call.Call.TheVariants as calls
 use Rattle.qscript.specs.declared.reading.verb.Verb.{Verb}
 use Rattle.qscript.specs.declared.reading.verb.Verb.TheVariants as verbs
 use Rattle.qscript.specs.declared.fault.LineFault.{LineFault}

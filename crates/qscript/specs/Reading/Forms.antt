@@ -1,8 +1,8 @@
 -- The operands of a line, from the left: ids, receive ids and offsets are numbers of 64 bits, threads and processes numbers of a byte.
 use Rattle.std.specs.Prelude.{ℕ, ◌^◌, List, [], ◌∷◌, Result, Ok, Err}
 use Rattle.qtables.specs.declared.member.Member.{Member}
-use Rattle.qrules.specs.declared.call.Call.{Call}
-use Rattle.qrules.specs.declared.call.Call.TheVariants as calls
+use Rattle.qmodel.specs.declared.call.Call.{Call}
+use Rattle.qmodel.specs.declared.call.Call.TheVariants as calls
 use Rattle.qscript.specs.declared.fault.LineFault.{LineFault}
 use Rattle.qscript.specs.declared.fault.LineFault.TheVariants.{WordCount}
 use Rattle.qscript.specs.Reading.Steps.{◌>>=◌}

@@ -3,7 +3,7 @@ use Rattle.std.specs.Prelude.{◌≡◌, ℕ, zero, suc, ◌+◌, ◌==◌, Bool
 use Rattle.std.specs.List.{list_any, filter_map}
 use Rattle.std.specs.Option.{option_or}
 use Rattle.qtables.specs.declared.member.Member.{Member}
-use Rattle.qrules.specs.declared.call.Call.{Call}
+use Rattle.qmodel.specs.declared.call.Call.{Call}
 use Rattle.qscript.specs.declared.reading.line.Line.{Line}
 use Rattle.qscript.specs.declared.reading.line.Line.TheVariants as lines
 use Rattle.qscript.specs.declared.fault.LineFault.{LineFault}

@@ -3,10 +3,10 @@ use Rattle.std.specs.Prelude.{◌≡◌, ℕ, ◌<◌, ◌≤◌, ◌^◌, true,
 use Rattle.std.specs.List.{AllByRecursion}
 use Rattle.hex.specs.Hex.{IsBytes}
 use Rattle.qtables.specs.declared.member.Member.{Member}
-use Rattle.qrules.specs.declared.call.Call.{Call}
-use Rattle.qrules.specs.declared.call.Call.TheVariants as calls
-use Rattle.qrules.specs.OnlyRun.{event_call}
-use Rattle.qrules.specs.Trace.{Event}
+use Rattle.qmodel.specs.declared.call.Call.{Call}
+use Rattle.qmodel.specs.declared.call.Call.TheVariants as calls
+use Rattle.qmodel.specs.OnlyRun.{event_call}
+use Rattle.qmodel.specs.Trace.{Event}
 use Rattle.qscript.specs.Reading.Meaning.{Says, is_in, meaning}
 use Rattle.qscript.specs.Reading.Number.{is_within}
 use Rattle.qscript.specs.TextLimit.{most_text}

@@ -2,8 +2,8 @@
 use Rattle.std.specs.Prelude.{ℕ, List, [], ◌∷◌, ◌++◌, codes, decimal}
 use Rattle.std.specs.Fmt.{signed_decimal}
 use Rattle.qtables.specs.declared.member.Member.{Member}
-use Rattle.qrules.specs.declared.call.Call.{Call}
-use Rattle.qrules.specs.declared.call.Call.TheVariants as calls
+use Rattle.qmodel.specs.declared.call.Call.{Call}
+use Rattle.qmodel.specs.declared.call.Call.TheVariants as calls
 use Rattle.qscript.specs.Printing.Buffer.{buffer_word}
 use Rattle.qscript.specs.Printing.Words.{spaced}
 

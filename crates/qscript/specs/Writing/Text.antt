@@ -2,7 +2,7 @@
 use Rattle.std.specs.Prelude.{ℕ, List, [], ◌∷◌, ◌++◌}
 use Rattle.std.specs.List.{flat_map}
 use Rattle.qtables.specs.declared.member.Member.{Member}
-use Rattle.qrules.specs.Trace.{Event}
+use Rattle.qmodel.specs.Trace.{Event}
 use Rattle.qscript.specs.Writing.Line.{call_line, member_line}
 
 -- the line of a thread, with its end

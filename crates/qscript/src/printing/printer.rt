@@ -2,7 +2,7 @@
 
 ghost use Rattle.std.specs.Prelude.{◌≡◌, ◌+◌, ◌^◌, ◌<◌, [], ◌∷◌, ◌++◌, length, IfOk, OnOk, string_bytes};
 ghost use Rattle.std.specs.List.{flat_map};
-ghost use Rattle.qrules.specs.Trace.{Event, Run};
+ghost use Rattle.qmodel.specs.Trace.{Event, Run};
 ghost use Rattle.qscript.specs.Printing.Laws.{with_more};
 ghost use Rattle.qscript.specs.Printing.OpenLine.{open_text};
 ghost use Rattle.qscript.specs.Printing.Printed.{shows_buffer, printed};

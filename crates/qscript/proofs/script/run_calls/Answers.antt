@@ -2,8 +2,8 @@ use Rattle.std.proofs.Common.{◌≡◌, ℕ, [], ◌∷◌, ◌++◌, length, l
 use Rattle.std.specs.Prelude.{is_some, true}
 use Rattle.std.specs.Vec.Iter.{into_iter_items}
 use Rattle.qtables.specs.Members.{member_at}
-use Rattle.qrules.specs.declared.call.Call.{Call}
-use Rattle.qrecords.specs.Threads.{members_of}
+use Rattle.qmodel.specs.declared.call.Call.{Call}
+use Rattle.qstate.specs.Threads.{members_of}
 use Rattle.qscript.proofs.Making.{next_known, noted_calls, going_more}
 use Rattle.qscript.proofs.script.run_calls.Goals as goal
 

@@ -6,8 +6,8 @@ use Rattle.std.proofs.lemmas.List.{length-map}
 use lib.ListN.{get_elem?}
 use lib.Seq.{get_or-append_seam}
 use Rattle.std.specs.Prelude.{Some}
-use Rattle.qrules.specs.Facts.{threads_of}
-use Rattle.qrules.proofs.Rosters.{rises}
+use Rattle.qmodel.specs.Facts.{threads_of}
+use Rattle.qmodel.proofs.Rosters.{rises}
 use Rattle.atomic_table.proofs.Lists.{at_index}
 use Rattle.qhandoff.specs.Words.{thread_of}
 use Rattle.qkernel.proofs.Running.{popped}

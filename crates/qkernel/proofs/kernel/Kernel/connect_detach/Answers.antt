@@ -1,9 +1,9 @@
 use Rattle.std.proofs.Common.{◌+◌, ap, sym, ◌∙◌, cond}
 use Rattle.std.specs.Prelude.{None, Some, is_some}
-use Rattle.qrules.specs.Rows.{disconnect_item}
+use Rattle.qmodel.specs.Rows.{disconnect_item}
 use Rattle.qkernel.proofs.Steps.Common.{up_to_below}
-use Rattle.qrecords.specs.Endings.{inserted_if}
-use Rattle.qrules.specs.declared.call.Call.TheVariants.{ConnectDetach}
+use Rattle.qstate.specs.Endings.{inserted_if}
+use Rattle.qmodel.specs.declared.call.Call.TheVariants.{ConnectDetach}
 use Rattle.qkernel.proofs.Steps.ConnectDetach.{detach_full, detach_memory, due_is, new_pulse, own_parts, room_for_one, sound_detached, step_detach_refused, step_detached}
 use Rattle.qkernel.proofs.Steps.Telling.{sound_due, sound_turned_away, step_turned_away}
 use Rattle.qkernel.proofs.kernel.Kernel.connect_detach.Goals as goal

@@ -1,8 +1,8 @@
 use Rattle.std.proofs.Common.{◌≡◌, ap, sym, ◌∙◌, true, refl, inl, inr}
 use Rattle.std.specs.Prelude.{is_some}
 use Rattle.qtables.specs.Members.{member_at, IsRoster}
-use Rattle.qrecords.specs.Threads.{members_of}
-use Rattle.qrecords.proofs.Seats.{is_there}
+use Rattle.qstate.specs.Threads.{members_of}
+use Rattle.qstate.proofs.Seats.{is_there}
 use Rattle.qkernel.proofs.Standing.{refused_leaves, step_at_traces, steps_made}
 use Rattle.qkernel.proofs.kernel.Kernel.dispatch.Goals as goal
 

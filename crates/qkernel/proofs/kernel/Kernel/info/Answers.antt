@@ -1,8 +1,8 @@
 use Rattle.std.proofs.Common.{◌≡◌, refl, sym, ap, ◌∙◌, Some}
 use Rattle.std.specs.Prelude.{position}
-use Rattle.qrules.specs.Calls.Info.{told_of}
-use Rattle.qrules.specs.Facts.{is_send}
-use Rattle.qrules.specs.declared.call.Call.TheVariants.{Info}
+use Rattle.qmodel.specs.Calls.Info.{told_of}
+use Rattle.qmodel.specs.Facts.{is_send}
+use Rattle.qmodel.specs.declared.call.Call.TheVariants.{Info}
 use Rattle.qkernel.proofs.Steps.Held.{step_unheld}
 use Rattle.qkernel.proofs.Steps.Info.{info_there, step_info, told_there}
 use Rattle.qkernel.proofs.kernel.Kernel.info.Goals as goal

@@ -1,6 +1,6 @@
 use Rattle.std.proofs.Common.{ap, ◌∙◌}
 use Rattle.std.specs.Prelude.{is_some}
-use Rattle.qrecords.proofs.Seats.{is_there}
+use Rattle.qstate.proofs.Seats.{is_there}
 use Rattle.qkernel.proofs.kernel.Kernel.knows.Goals as goal
 
 pub returns : goal.returns

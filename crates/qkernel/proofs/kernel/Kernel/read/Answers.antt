@@ -1,9 +1,9 @@
 use Rattle.std.proofs.Common.{◌≡◌, refl, sym, ap, ◌∙◌, Some}
 use Rattle.std.specs.Prelude.{position}
-use Rattle.qrules.specs.Facts.{is_send, message_in}
-use Rattle.qrecords.specs.Threads.{message_from}
-use Rattle.qrecords.proofs.Senders.{message_there}
-use Rattle.qrules.specs.declared.call.Call.TheVariants.{Read}
+use Rattle.qmodel.specs.Facts.{is_send, message_in}
+use Rattle.qstate.specs.Threads.{message_from}
+use Rattle.qstate.proofs.Senders.{message_there}
+use Rattle.qmodel.specs.declared.call.Call.TheVariants.{Read}
 use Rattle.qkernel.proofs.Steps.Held.{step_unheld}
 use Rattle.qkernel.proofs.Steps.Read.{step_read}
 use Rattle.qkernel.proofs.kernel.Kernel.read.Goals as goal

@@ -1,5 +1,5 @@
 use Rattle.std.proofs.Common.{sym, ◌∙◌}
-use Rattle.qrecords.proofs.Seats.{seat_kept}
+use Rattle.qstate.proofs.Seats.{seat_kept}
 use Rattle.qqueue.specs.Best.{is_pulse}
 use Rattle.qkernel.proofs.Steps.Receiving.{hands_members, step_receive_refused, step_receive_waits, step_receive_takes, sound_taken, sound_kept}
 use Rattle.qkernel.proofs.kernel.Kernel.receive_kind.Goals as goal

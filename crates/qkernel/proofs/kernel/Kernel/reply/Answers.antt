@@ -1,8 +1,8 @@
 use Rattle.std.proofs.Common.{refl, sym, ap, ◌∙◌, w64}
 use Rattle.std.proofs.lemmas.Int.{to_z-of_z}
-use Rattle.qrules.specs.declared.call.Call.TheVariants.{Reply}
-use Rattle.qrules.specs.Calls.Reply.{replied}
-use Rattle.qrules.specs.Held.{finished}
+use Rattle.qmodel.specs.declared.call.Call.TheVariants.{Reply}
+use Rattle.qmodel.specs.Calls.Reply.{replied}
+use Rattle.qmodel.specs.Held.{finished}
 use Rattle.qkernel.proofs.Steps.Held.{finished_there, step_unheld}
 use Rattle.qkernel.proofs.Steps.Reply.{step_replied}
 use Rattle.qkernel.proofs.Steps.Delivering.{sound_threads}

@@ -1,9 +1,9 @@
 use Rattle.std.proofs.Common.{sym, ap, ◌∙◌, refl}
 use Rattle.qtables.specs.Members.{IsRoster}
-use Rattle.qrules.specs.Rows.{takes}
-use Rattle.qrecords.specs.Threads.{members_of}
-use Rattle.qrecords.proofs.Seats.{seat_kept}
-use Rattle.qrecords.proofs.Receivers.{newest_receives, taken_there, waits_among, waits_open}
+use Rattle.qmodel.specs.Rows.{takes}
+use Rattle.qstate.specs.Threads.{members_of}
+use Rattle.qstate.proofs.Seats.{seat_kept}
+use Rattle.qstate.proofs.Receivers.{newest_receives, taken_there, waits_among, waits_open}
 use Rattle.qkernel.proofs.Steps.Delivering.{sound_with_item, sound_threads}
 use Rattle.qkernel.proofs.Steps.Send.{item, step_send_no_memory, step_send_nowhere, step_send_waits, step_send_met}
 use Rattle.qkernel.proofs.kernel.Kernel.send.Goals as goal

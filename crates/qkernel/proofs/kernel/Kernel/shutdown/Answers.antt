@@ -1,6 +1,6 @@
 use Rattle.std.proofs.Common.{true}
 use Rattle.qbase.specs.declared.errno.Errno.TheVariants.{Srch}
-use Rattle.qrecords.specs.declared.cutting.Cut.TheVariants.{All}
+use Rattle.qstate.specs.declared.cutting.Cut.TheVariants.{All}
 use Rattle.qkernel.proofs.Steps.Cutting.{sound_cut}
 use Rattle.qkernel.proofs.Steps.Shutdown.{step_shut}
 use Rattle.qkernel.proofs.kernel.Kernel.shutdown.Goals as goal

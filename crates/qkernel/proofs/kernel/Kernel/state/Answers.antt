@@ -1,6 +1,6 @@
 use Rattle.std.proofs.Common.{ap, sym, ◌∙◌}
 use Rattle.std.specs.Prelude.{is_some}
-use Rattle.qrecords.proofs.Seats.{is_there}
+use Rattle.qstate.proofs.Seats.{is_there}
 use Rattle.qkernel.proofs.Steps.State.{step_state, step_state_nobody}
 use Rattle.qkernel.proofs.kernel.Kernel.state.Goals as goal
 

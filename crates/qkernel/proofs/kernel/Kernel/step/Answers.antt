@@ -2,9 +2,9 @@ use Rattle.std.proofs.Common.{ap, sym, ◌∙◌}
 use Rattle.std.specs.Prelude.{is_some}
 use Rattle.std.proofs.lemmas.Bool.{true≢false}
 use Rattle.qtables.specs.Members.{IsRoster}
-use Rattle.qrecords.specs.Threads.{members_of}
+use Rattle.qstate.specs.Threads.{members_of}
 use Rattle.qkernel.proofs.Room.{steps_room}
-use Rattle.qrecords.proofs.Seats.{is_there}
+use Rattle.qstate.proofs.Seats.{is_there}
 use Rattle.qkernel.proofs.Standing.{refused_leaves, step_at_traces}
 use Rattle.qkernel.proofs.kernel.Kernel.step.Goals as goal
 

@@ -1,9 +1,9 @@
 use Rattle.std.proofs.Common.{◌+◌, ap, sym, ◌∙◌}
 use Rattle.std.specs.Prelude.{is_some, Some}
 use Rattle.qbase.specs.declared.errno.Errno.TheVariants.{Intr}
-use Rattle.qrules.specs.declared.call.Call.TheVariants.{Unblock}
-use Rattle.qrecords.specs.declared.cutting.Cut.TheVariants.{Of}
-use Rattle.qrecords.proofs.Seats.{seat_kept}
+use Rattle.qmodel.specs.declared.call.Call.TheVariants.{Unblock}
+use Rattle.qstate.specs.declared.cutting.Cut.TheVariants.{Of}
+use Rattle.qstate.proofs.Seats.{seat_kept}
 use Rattle.qkernel.proofs.Steps.Common.{up_to_below}
 use Rattle.qkernel.proofs.Steps.Cutting.{sound_cut}
 use Rattle.qkernel.proofs.Steps.Delivering.{sound_kept}

@@ -1,5 +1,5 @@
 use Rattle.std.proofs.Common.{refl, sym}
-use Rattle.qrules.specs.declared.call.Call.TheVariants.{Write}
+use Rattle.qmodel.specs.declared.call.Call.TheVariants.{Write}
 use Rattle.qkernel.proofs.Steps.Held.{step_unheld}
 use Rattle.qkernel.proofs.Steps.Write.{step_written}
 use Rattle.qkernel.proofs.Steps.Delivering.{sound_threads}

@@ -29,8 +29,8 @@ use denote.Triple.Walked.{Stays, stay_dropped, stay_ref, walk_of, ends_at, Goes-
 use contract.CodeStep
 use Rattle.qpast.proofs.Facts.{hears_last, tells_all}
 use Rattle.std.specs.contracts.snapshot.Snapshot as Snapshot
-use Rattle.qrules.specs.declared.call.Call.{Call as Asking}
-use Rattle.qrules.specs.contracts.call.Call as Call
+use Rattle.qmodel.specs.declared.call.Call.{Call as Asking}
+use Rattle.qmodel.specs.contracts.call.Call as Call
 use Rattle.qpast.specs.Halves.{calls_coded, heard_owns}
 use Rattle.qpast.specs.contracts.asking.Asked as Asked
 use Rattle.qpast.specs.contracts.asking.Heard as Heard

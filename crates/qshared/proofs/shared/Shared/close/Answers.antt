@@ -2,10 +2,10 @@ use Rattle.std.proofs.Common.{◌≡◌, ℕ, [], sym, subst, ap, ◌∙◌, map
 use Rattle.std.specs.Prelude.{Some}
 use Rattle.std.proofs.lemmas.List.{length-map}
 use lib.ListN.{get_elem?}
-use Rattle.qrules.specs.Facts.{threads_of}
-use Rattle.qrules.proofs.Rosters.{rises}
+use Rattle.qmodel.specs.Facts.{threads_of}
+use Rattle.qmodel.proofs.Rosters.{rises}
 use Rattle.qhandoff.specs.Words.{cells_id, count, took, left_for, AreBelow, IsRow}
-use Rattle.qrules.specs.Laws.{RiseByThread}
+use Rattle.qmodel.specs.Laws.{RiseByThread}
 use Rattle.qshared.specs.Asking.{calls_of}
 use Rattle.qshared.specs.Due.{due, of_thread, place}
 use Rattle.qshared.proofs.Leftover.{few_left, left_by_thread, left_due}

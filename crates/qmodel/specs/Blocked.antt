@@ -1,0 +1,25 @@
+-- Who is blocked, in which state and on which channel.
+use Rattle.std.specs.Prelude.{List, Option, None, Some}
+use Rattle.std.specs.List.{filter_map}
+use Rattle.qtables.specs.declared.connection.Connection.{Connection}
+use Rattle.qtables.specs.declared.member.Member.{Member}
+use Rattle.qmodel.specs.declared.open_call.Blocked.{Blocked}
+use Rattle.qmodel.specs.declared.open_call.OpenCall.{OpenCall}
+use Rattle.qmodel.specs.Ids.{ConnectionId, ThreadNo}
+use Rattle.qmodel.specs.Facts.{Facts, threads_of}
+use Rattle.qmodel.specs.Lawful.{facts_of}
+use Rattle.qmodel.specs.ThreadStates.{state_of}
+use Rattle.qmodel.specs.Trace.{Trace}
+
+-- what is told of a thread, if it has an open call
+abbrev pub told_of : (ConnectionId → Option Connection) → ThreadNo → Option OpenCall → Option Blocked
+told_of connection u None = None
+told_of connection u (Some o) = Some (record { number = o.number; thread = u; state = state_of connection o.wait })
+
+-- the threads that are blocked, in rising number
+abbrev pub blocked_in : Facts → List Blocked
+blocked_in f = filter_map (λ u. told_of f.connection u (f.open_call u)) (threads_of f.roster)
+
+-- the threads that are blocked after these events, in rising number
+abbrev pub blocked_at : List Member → Trace → List Blocked
+blocked_at roster past = blocked_in (facts_of roster past)

@@ -1,0 +1,27 @@
+-- ConnectAttach: a connection of the caller's process to an open channel.
+use Rattle.std.specs.Prelude.{nat_lt, is_some, true, [], Option, None, Some, if◌then◌else◌}
+use Rattle.qbase.specs.declared.errno.Errno.{Errno}
+use Rattle.qbase.specs.declared.errno.Errno.TheVariants.{Srch, Again}
+use Rattle.qmodel.specs.declared.call.Mark.TheVariants as mark
+use Rattle.qmodel.specs.Ids.{ChannelId, ThreadNo}
+use Rattle.qmodel.specs.Facts.{Facts}
+use Rattle.qmodel.specs.Rows.{Row, ends_none}
+use Rattle.qmodel.specs.Effect.{Effect, plain}
+
+-- no such channel, and then 1,024 live connections
+abbrev pub refusal : Facts → ChannelId → Option Errno
+refusal f chid = if is_some (f.channel chid) then (if nat_lt f.live_connections 1024 then None else Some Again) else Some Srch
+
+-- its id is its number
+abbrev pub row : Facts → ThreadNo → ChannelId → Row
+row f t chid = record {
+  refusal = refusal f chid;
+  takes_memory = true;
+  own = Some (record { call = f.number; thread = t; mark = mark.Connection f.number; buffer = [] });
+  ends = ends_none;
+  receipt = None;
+}
+
+-- it attaches a connection to the channel
+abbrev pub effect : ChannelId → Effect
+effect chid = record plain { attaches = Some chid }

@@ -1,0 +1,32 @@
+-- Error: an answer without bytes.
+use Rattle.std.specs.Prelude.{ℤ, pos, false, [], None, Some, if◌then◌else◌}
+use Rattle.std.specs.Ordering.{int_eq}
+use Rattle.qmodel.specs.declared.call.Mark.{Mark}
+use Rattle.qmodel.specs.declared.call.Mark.TheVariants as mark
+use Rattle.qmodel.specs.Ids.{ReceiveId, ThreadNo}
+use Rattle.qmodel.specs.Facts.{Facts, sender}
+use Rattle.qmodel.specs.Held.{Finish, ends_sender, refusal}
+use Rattle.qmodel.specs.Rows.{Row}
+use Rattle.qmodel.specs.Effect.{Effect, plain}
+
+-- the code 0 is a reply of status 0 with no bytes
+abbrev pub mark_of : ℤ → Mark
+mark_of code = if int_eq code (pos 0) then mark.Replied (pos 0) 0 else mark.Errored code
+
+-- the buffer stays as it is
+abbrev pub errored : ℤ → Finish
+errored code buffer = (mark_of code, buffer)
+
+-- it never blocks
+abbrev pub row : Facts → ThreadNo → ReceiveId → ℤ → Row
+row f t rcvid code = record {
+  refusal = refusal f t rcvid;
+  takes_memory = false;
+  own = Some (record { call = f.number; thread = t; mark = mark.Ok; buffer = [] });
+  ends = ends_sender f (errored code) (sender f rcvid);
+  receipt = None;
+}
+
+-- it answers the message; the code 0 is a reply of status 0 with no bytes
+abbrev pub effect : ReceiveId → ℤ → Effect
+effect rcvid code = record plain { answers = Some rcvid; replies = if int_eq code (pos 0) then Some (pos 0, []) else None }

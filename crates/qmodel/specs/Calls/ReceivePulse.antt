@@ -1,0 +1,17 @@
+-- ReceivePulse: the best pulse of the channel, or a wait for one.
+use Rattle.std.specs.Prelude.{[], Some}
+use Rattle.qqueue.specs.declared.item.Kind.TheVariants.{PulseOnly}
+use Rattle.qmodel.specs.Ids.{ChannelId, ThreadNo}
+use Rattle.qmodel.specs.Facts.{Facts}
+use Rattle.qmodel.specs.Receiving.{receiving}
+use Rattle.qmodel.specs.Rows.{Row}
+use Rattle.qmodel.specs.Effect.{Effect, plain}
+use Rattle.qmodel.specs.declared.open_call.Wait.TheVariants.{Item as ForItem}
+
+-- it takes pulses alone, and has no buffer
+abbrev pub row : Facts → ThreadNo → ChannelId → Row
+row f t chid = receiving f t chid PulseOnly []
+
+-- it waits for a pulse, and brings no buffer
+abbrev pub effect : ChannelId → Effect
+effect chid = record plain { waits = Some (ForItem chid PulseOnly []); receives_on = Some (chid, PulseOnly) }

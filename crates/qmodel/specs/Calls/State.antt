@@ -1,0 +1,29 @@
+-- State: a thread's state and priority.
+use Rattle.std.specs.Prelude.{[], Option, None, Some, false, is_some, if◌then◌else◌}
+use Rattle.qbase.specs.declared.errno.Errno.{Errno}
+use Rattle.qbase.specs.declared.errno.Errno.TheVariants.{Srch}
+use Rattle.qtables.specs.Members.{member_at}
+use Rattle.qmodel.specs.declared.call.Mark.TheVariants as mark
+use Rattle.qmodel.specs.Ids.{ThreadNo}
+use Rattle.qmodel.specs.Facts.{Facts}
+use Rattle.qmodel.specs.ThreadStates.{state_in}
+use Rattle.qmodel.specs.Rows.{Row, ends_none}
+use Rattle.qmodel.specs.Effect.{Effect, plain}
+
+-- a thread that the roster hasn't
+abbrev pub refusal : Facts → ThreadNo → Option Errno
+refusal f thread = if is_some (member_at f.roster thread) then None else Some Srch
+
+-- any thread may ask for any
+abbrev pub row : Facts → ThreadNo → ThreadNo → Row
+row f t thread = record {
+  refusal = refusal f thread;
+  takes_memory = false;
+  own = Some (record { call = f.number; thread = t; mark = mark.State (state_in f.connection (f.open_call thread)) (f.priority thread); buffer = [] });
+  ends = ends_none;
+  receipt = None;
+}
+
+-- it changes nothing
+abbrev pub effect : Effect
+effect = plain

@@ -1,0 +1,23 @@
+-- Write: bytes over the reply buffer of a held message's sender, from an offset on.
+use Rattle.std.specs.Prelude.{ℕ, false, List, [], None, Some}
+use Rattle.qbase.specs.Laying.{laid_count}
+use Rattle.qmodel.specs.declared.call.Mark.TheVariants as mark
+use Rattle.qmodel.specs.Ids.{ReceiveId, ThreadNo}
+use Rattle.qmodel.specs.Facts.{Facts}
+use Rattle.qmodel.specs.Held.{refusal, reply_buffer}
+use Rattle.qmodel.specs.Rows.{Row, ends_none}
+use Rattle.qmodel.specs.Effect.{Effect, plain}
+
+-- how many bytes found room; what was written is read off the past calls
+abbrev pub row : Facts → ThreadNo → ReceiveId → ℕ → List ℕ → Row
+row f t rcvid offset bytes = record {
+  refusal = refusal f t rcvid;
+  takes_memory = false;
+  own = Some (record { call = f.number; thread = t; mark = mark.Count (laid_count (reply_buffer f rcvid) offset bytes); buffer = [] });
+  ends = ends_none;
+  receipt = None;
+}
+
+-- it writes over the message's reply buffer
+abbrev pub effect : ReceiveId → ℕ → List ℕ → Effect
+effect rcvid offset bytes = record plain { writes = Some (record { message = rcvid; offset = offset; bytes = bytes }) }

@@ -1,0 +1,49 @@
+-- Cutting: calls that are blocked are ended by force.
+use Rattle.std.specs.Prelude.{ℕ, ◌==◌, ◌&&◌, Bool, false, List, Option, None, Some, if◌then◌else◌}
+use Rattle.qbase.specs.declared.errno.Errno.{Errno}
+use Rattle.qtables.specs.declared.connection.Connection.{Connection}
+use Rattle.qmodel.specs.declared.call.Completion.{Completion}
+use Rattle.qmodel.specs.declared.call.Mark.TheVariants as mark
+use Rattle.qmodel.specs.declared.open_call.OpenCall.{OpenCall}
+use Rattle.qmodel.specs.declared.open_call.Wait.{Wait}
+use Rattle.qmodel.specs.declared.open_call.Wait.TheVariants.{Answer, Item as ForItem}
+use Rattle.qmodel.specs.Ids.{ChannelId, ConnectionId, ReceiveId, ThreadNo}
+use Rattle.qmodel.specs.Facts.{Facts, is_for_receipt}
+
+-- the buffer that a wait gives back
+abbrev pub buffer_of_wait : Wait → List ℕ
+buffer_of_wait (Answer coid message reply_buffer receipt) = reply_buffer
+buffer_of_wait (ForItem chid kind buffer) = buffer
+
+-- the connection leads to channel h
+abbrev pub is_to : ChannelId → Option Connection → Bool
+is_to h None = false
+is_to h (Some c) = c.channel == h
+
+-- the wait is on channel h: a Send's on the channel of its connection, a receive's on the channel that it names
+abbrev pub is_on : (ConnectionId → Option Connection) → ChannelId → Wait → Bool
+is_on connection h (Answer coid message reply_buffer receipt) = is_to h (connection coid)
+is_on connection h (ForItem chid kind buffer) = chid == h
+
+-- the wait is for the answer to a message that was sent over connection k
+abbrev pub is_over : ConnectionId → Wait → Bool
+is_over k (Answer coid message reply_buffer receipt) = coid == k
+is_over k (ForItem chid kind buffer) = false
+
+-- the open call is the Send of number i, blocked on channel h, and not received
+abbrev pub is_unread_send : (ConnectionId → Option Connection) → ChannelId → ReceiveId → Option OpenCall → Bool
+is_unread_send connection h i None = false
+is_unread_send connection h i (Some o) = (o.number == i) && is_for_receipt o.wait && is_on connection h o.wait
+
+-- how thread u's open call ends that is cut: it fails, and gives its buffer back as it is by now
+abbrev pub cut_call : Errno → ThreadNo → OpenCall → Completion
+cut_call e u o = record { call = o.number; thread = u; mark = mark.Failed e; buffer = buffer_of_wait o.wait }
+
+-- the same of thread u's open call, if it has one and this is so of what it waits for
+abbrev pub cut_where : (Wait → Bool) → Errno → ThreadNo → Option OpenCall → Option Completion
+cut_where is_cut e u None = None
+cut_where is_cut e u (Some o) = if is_cut o.wait then Some (cut_call e u o) else None
+
+-- each open call is cut of which this is so, by its thread and what it waits for
+abbrev pub cuts : Facts → (ThreadNo → Wait → Bool) → Errno → ThreadNo → Option Completion
+cuts f is_cut e u = cut_where (is_cut u) e u (f.open_call u)

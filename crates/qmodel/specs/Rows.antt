@@ -1,0 +1,152 @@
+-- What a row of the table of calls says, and what the rows share.
+use Rattle.std.specs.Prelude.{ℕ, ℤ, ◌==◌, Bool, false, List, Option, None, Some, if◌then◌else◌}
+use Rattle.qbase.specs.Laying.{laid_count, lay_over}
+use Rattle.qbase.specs.declared.errno.Errno.{Errno}
+use Rattle.qqueue.specs.declared.item.Item.{Item}
+use Rattle.qqueue.specs.Best.{is_pulse}
+use Rattle.qqueue.specs.declared.item.What.TheVariants.{Message, User}
+use Rattle.qqueue.specs.declared.item.What.TheVariants as what
+use Rattle.qtables.specs.declared.connection.Connection.{Connection}
+use Rattle.qmodel.specs.declared.call.Completion.{Completion}
+use Rattle.qmodel.specs.declared.call.Mark.{Mark}
+use Rattle.qmodel.specs.declared.call.Mark.TheVariants as mark
+use Rattle.qmodel.specs.declared.open_call.OpenCall.{OpenCall}
+use Rattle.qmodel.specs.declared.open_call.Receipt.{Receipt}
+use Rattle.qmodel.specs.declared.open_call.Wait.{Wait}
+use Rattle.qmodel.specs.declared.open_call.Wait.TheVariants.{Answer, Item as ForItem}
+use Rattle.qmodel.specs.Ids.{CallNo, ChannelId, Level, ProcessNo, ReceiveId, ThreadNo}
+
+-- an item that an event makes, and the channel on which it is to be received
+pub record Made : Type 0 where
+  pub item : Item
+  pub channel : ChannelId
+
+-- a receipt: the item's number and channel, the thread that takes it, the thread that waits for its answer, and what is kept of the receipt
+pub record Received : Type 0 where
+  pub item : CallNo
+  pub channel : ChannelId
+  pub by : ThreadNo
+  pub sender : Option ThreadNo
+  pub kept : Receipt
+
+-- what a call is answered: the first of its own refusals that applies, whether it may also be refused for want of memory, how it ends in
+-- its own event where it does, and how it ends the open call of another thread; and the receipt that it brings about, which says nothing of
+-- what is answered: it serves to tell what is so after the call (Step)
+pub record Row : Type 0 where
+  pub refusal : Option Errno
+  pub takes_memory : Bool
+  pub own : Option Completion
+  pub ends : ThreadNo → Option Completion
+  pub receipt : Option Received
+
+-- no other thread's call ends
+abbrev pub ends_none : ThreadNo → Option Completion
+ends_none u = None
+
+-- ---- items
+
+-- the item that is sent over a connection, to its channel
+abbrev pub sent_over : Option Connection → Item → Option Made
+sent_over None item = None
+sent_over (Some c) item = Some (record { item = item; channel = c.channel })
+
+-- a message of this number and priority
+abbrev pub message_item : CallNo → Level → Item
+message_item n priority = record { number = n; priority = priority; what = Message }
+
+-- a user's pulse of this number and priority
+abbrev pub pulse_item : CallNo → Level → ℤ → ℤ → Item
+pulse_item n priority code value = record { number = n; priority = priority; what = User code value }
+
+-- the pulse of this number and priority that tells that the sender of message i wants to be unblocked
+abbrev pub unblock_item : CallNo → Level → ReceiveId → Item
+unblock_item n priority i = record { number = n; priority = priority; what = what.Unblock i }
+
+-- the pulse of this number and priority that tells that process p has detached its last connection
+abbrev pub disconnect_item : CallNo → Level → ProcessNo → Item
+disconnect_item n priority p = record { number = n; priority = priority; what = what.Disconnect p }
+
+-- ---- writing
+
+-- what is written: over the reply buffer of which message, from which place, and the bytes
+pub record Written : Type 0 where
+  pub message : ReceiveId
+  pub offset : ℕ
+  pub bytes : List ℕ
+
+-- ---- setting priorities
+
+-- a thread's priority that is set
+pub record Setting : Type 0 where
+  pub thread : ThreadNo
+  pub priority : Level
+
+-- the priority that is set for thread u
+abbrev pub set_for : Option Setting → ThreadNo → Option Level
+set_for None u = None
+set_for (Some s) u = if s.thread == u then Some s.priority else None
+
+-- ---- closing
+
+-- this is the one
+abbrev pub names : Option ℕ → ℕ → Bool
+names None h = false
+names (Some k) h = k == h
+
+-- ---- buffers
+
+-- the reply buffer of message i with what is written over it
+abbrev pub written_over : Option Written → ReceiveId → List ℕ → List ℕ
+written_over None i b = b
+written_over (Some w) i b = if w.message == i then lay_over b w.offset w.bytes else b
+
+-- a wait with its reply buffer changed
+abbrev pub with_buffer : (List ℕ → List ℕ) → Wait → Wait
+with_buffer f (Answer coid message reply_buffer receipt) = Answer coid message (f reply_buffer) receipt
+with_buffer f (ForItem chid kind buffer) = ForItem chid kind buffer
+
+-- ---- receipts
+
+-- how a receive ends that takes an item into its buffer: a message is laid over the front, with that count; a pulse stands in the mark alone
+abbrev pub given : Item → List ℕ → List ℕ → Mark × List ℕ
+given item message buffer =
+    if is_pulse item.what then (mark.Pulse item.number item.priority item.what, buffer)
+    else (mark.Message item.number (laid_count buffer 0 message), lay_over buffer 0 message)
+
+-- the ending of call m of thread u that takes the item so
+abbrev pub taking : Item → List ℕ → ThreadNo → CallNo → List ℕ → Completion
+taking item message u m buffer = record { call = m; thread = u; mark = (given item message buffer).0; buffer = (given item message buffer).1 }
+
+-- how the open call of number m ends, of thread u, that takes the item into what it waits with
+abbrev pub takes_into : Item → List ℕ → ThreadNo → CallNo → Wait → Option Completion
+takes_into item message u m (Answer coid sent reply_buffer receipt) = None
+takes_into item message u m (ForItem chid kind buffer) = Some (taking item message u m buffer)
+
+-- how the open call of thread u ends that takes the item
+abbrev pub takes : Item → List ℕ → ThreadNo → Option OpenCall → Option Completion
+takes item message u None = None
+takes item message u (Some o) = takes_into item message u o.number o.wait
+
+-- the number of the item that an ending receives, and how many bytes were copied, none of a pulse
+abbrev pub received : Mark → Option (CallNo × ℕ)
+received (mark.Message rcvid copied) = Some (rcvid, copied)
+received mark.Ok = None
+received (mark.Failed errno) = None
+received (mark.Channel chid) = None
+received (mark.Connection coid) = None
+received (mark.Replied status copied) = None
+received (mark.Errored code) = None
+received (mark.Count copied) = None
+received (mark.Info info) = None
+received (mark.Pulse item priority what) = Some (item, 0)
+received (mark.State state priority) = None
+
+-- the receipt that thread u makes of an item of this channel, sender and priority
+abbrev pub receipt_at : ChannelId → Option ThreadNo → Level → ThreadNo → Option (CallNo × ℕ) → Option Received
+receipt_at h sender priority u None = None
+receipt_at h sender priority u (Some r) = Some (record { item = r.0; channel = h; by = u; sender = sender; kept = record { priority = priority; copied = r.1; unblocked = false } })
+
+-- the receipt that an ending is, of an item of this channel, sender and priority
+abbrev pub receipt_in : ChannelId → Option ThreadNo → Level → Option Completion → Option Received
+receipt_in h sender priority None = None
+receipt_in h sender priority (Some y) = receipt_at h sender priority y.thread (received y.mark)

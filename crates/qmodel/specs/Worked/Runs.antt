@@ -1,0 +1,81 @@
+-- How a run is written out.
+use Rattle.std.specs.Prelude.{◌≡◌, ◌⊎◌, ℕ, ◌-◌, ◌==◌, List, [], ◌∷◌, take, if◌then◌else◌}
+use Rattle.qbase.specs.declared.errno.Errno.TheVariants.{NoMemory}
+use Rattle.qbase.specs.declared.flags.ChannelFlags.{ChannelFlags}
+use Rattle.qbase.specs.declared.state.ThreadState.{ThreadState}
+use Rattle.qtables.specs.declared.member.Member.{Member}
+use Rattle.qmodel.specs.declared.call.Call.{Call}
+use Rattle.qmodel.specs.declared.call.Completion.{Completion}
+use Rattle.qmodel.specs.declared.call.Mark.{Mark}
+use Rattle.qmodel.specs.declared.call.Mark.TheVariants as mark
+use Rattle.qmodel.specs.declared.open_call.Blocked.{Blocked}
+use Rattle.qmodel.specs.Blocked.{blocked_at}
+use Rattle.qmodel.specs.Effects.{buffer_of}
+use Rattle.qmodel.specs.Lawful.{IsLawful, followed_by}
+use Rattle.qmodel.specs.Trace.{Event}
+
+-- a thread, its process and its priority
+abbrev pub member : ℕ → ℕ → ℕ → Member
+member t p priority = record { thread = t; process = p; priority = priority }
+
+-- thread t makes a call, with these endings
+abbrev pub event : ℕ → Call → List Completion → Event
+event t c endings = record { thread = t; call = c; endings = endings }
+
+-- call n of thread t ends
+abbrev pub ended : ℕ → ℕ → Mark → List ℕ → Completion
+ended n t mark buffer = record { call = n; thread = t; mark = mark; buffer = buffer }
+
+-- thread t is blocked in call n
+abbrev pub blocked : ℕ → ℕ → ThreadState → Blocked
+blocked n t state = record { number = n; thread = t; state = state }
+
+-- flags of these bits
+abbrev pub flags_of : ℕ → ChannelFlags
+flags_of bits = record { 0 = bits }
+
+-- the events, the oldest first, are a lawful trace
+abbrev pub IsLawfulRun : List Member → List Event → Type 0
+IsLawfulRun roster events = IsLawful roster (followed_by [] events)
+
+-- they are none
+abbrev pub IsUnlawfulRun : List Member → List Event → Type 0
+IsUnlawfulRun roster events = IsLawfulRun roster events → ⊥
+
+-- who is blocked after the events
+abbrev pub blocked_after : List Member → List Event → List Blocked
+blocked_after roster events = blocked_at roster (followed_by [] events)
+
+-- ---- other endings
+
+-- the same events, but these are the endings of event n
+abbrev pub with_endings : ℕ → List Completion → List Event → List Event
+with_endings n endings [] = []
+with_endings n endings (e ∷ events) = if n == 1 then event e.thread e.call endings ∷ events else e ∷ with_endings (n - 1) endings events
+
+-- what is told of event n
+abbrev pub of_event : (Event → List Completion) → ℕ → List Event → List Completion
+of_event tell n [] = []
+of_event tell n (e ∷ events) = if n == 1 then tell e else of_event tell (n - 1) events
+
+-- the endings of event n
+abbrev pub endings_at : ℕ → List Event → List Completion
+endings_at n events = of_event (λ e. e.endings) n events
+
+-- event n as it ends where memory runs out: refused, with its buffer as it was
+abbrev pub refused_at : ℕ → List Event → List Completion
+refused_at n events = of_event (λ e. ended n e.thread (mark.Failed NoMemory) (buffer_of e.call) ∷ []) n events
+
+-- the events up to event n are a lawful trace where it has these endings
+abbrev pub MayEnd : List Member → List Event → ℕ → List Completion → Type 0
+MayEnd roster events n endings = IsLawfulRun roster (with_endings n endings (take n events))
+
+-- event n has just the endings that are written: none is changed, left out or added
+abbrev pub EndsOnlySo : List Member → List Event → ℕ → Type 0
+EndsOnlySo roster events n = (endings : List Completion) → MayEnd roster events n endings → endings ≡ endings_at n events
+
+-- event n is refused where memory runs out, and else has just the endings that are written
+abbrev pub EndsOnlySoWithMemory : List Member → List Event → ℕ → Type 0
+EndsOnlySoWithMemory roster events n =
+    MayEnd roster events n (refused_at n events)
+    × ((endings : List Completion) → MayEnd roster events n endings → (endings ≡ endings_at n events) ⊎ (endings ≡ refused_at n events))

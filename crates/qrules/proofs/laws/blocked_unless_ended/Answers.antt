@@ -1,5 +1,0 @@
-use Rattle.qrules.proofs.TraceLaws.Blocked.{blocked_unless_ended}
-use Rattle.qrules.proofs.laws.blocked_unless_ended.Goals as goal
-
-pub returns : goal.returns
-returns c = blocked_unless_ended

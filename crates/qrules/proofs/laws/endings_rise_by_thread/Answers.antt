@@ -1,5 +1,0 @@
-use Rattle.qrules.proofs.TraceLaws.Ending.{endings_rise_by_thread}
-use Rattle.qrules.proofs.laws.endings_rise_by_thread.Goals as goal
-
-pub returns : goal.returns
-returns c = endings_rise_by_thread

@@ -1,5 +1,0 @@
-use Rattle.qrules.proofs.TraceLaws.Waiting.{open_sends_are_live}
-use Rattle.qrules.proofs.laws.open_sends_are_live.Goals as goal
-
-pub returns : goal.returns
-returns c = open_sends_are_live

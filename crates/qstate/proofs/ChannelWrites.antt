@@ -1,0 +1,76 @@
+-- What a write to one channel's record changes, and what its removal does.
+use Rattle.std.proofs.Common.{◌≡◌, ℕ, ◌+◌, ◌≤◌, List, [], ◌∷◌, length, map, not, refl, ap, sym, ◌∙◌, cond, true, false, eqb}
+use Rattle.std.specs.Prelude.{Option, None, Some, is_some, IfNone, OnSome, Result, Ok, Err, OnErr}
+use Rattle.std.specs.List.{AllByRecursion}
+use Rattle.std.specs.Option.{option_map}
+use Rattle.std.proofs.lemmas.Bool.{eqb-true, true≢false}
+use Rattle.qqueue.specs.declared.item.Item.{Item}
+use Rattle.qqueue.specs.Contents.{Contents}
+use Rattle.qtables.specs.Entries.{entry_at, with_record, without_entry}
+use Rattle.qtables.proofs.LookUps.{entry_at-with_record, entry_at-without_entry}
+use Rattle.qbase.proofs.Lists.{eqb_either}
+use Rattle.qstate.specs.declared.channel.Channel.{Channel}
+use Rattle.qstate.specs.Channels.{opened, channel_in, pending_in, waiting_on, SetsItems, ClosesIn}
+
+module _ {R : Type 0} where
+  -- the record of each number, after a write to one that is there
+  written_at : (entries : List (ℕ × R)) (id : ℕ) (c r : R) (k : ℕ) → entry_at entries id ≡ Some c → entry_at (with_record entries id r) k ≡ cond (eqb k id) (Some r) (entry_at entries k)
+  written_at entries id c r k is =
+      entry_at-with_record entries id r k ∙ ap (λ b. cond b (option_map (λ _. r) (entry_at entries k)) (entry_at entries k)) (eqb_either id k)
+      ∙ (elim (eqb k id) as (λ b. eqb k id ≡ b → cond b (option_map (λ _. r) (entry_at entries k)) (entry_at entries k) ≡ cond b (Some r) (entry_at entries k)) [
+        | true ↦ λ e. ap (option_map (λ _. r)) (ap (entry_at entries) (eqb-true k id e) ∙ is)
+        | false ↦ λ e. refl
+      ] refl)
+
+  ids_same : (entries : List (ℕ × R)) (id : ℕ) (r : R) → map (λ e. e.0) (with_record entries id r) ≡ map (λ e. e.0) entries
+  ids_same [] id r = refl
+  ids_same (e ∷ entries) id r = ap (λ ns. e.0 ∷ ns) (ids_same entries id r)
+
+  -- what holds of each id holds of each that is left
+  ids_kept : (P : ℕ → Type 0) (entries : List (ℕ × R)) (id : ℕ) → AllByRecursion P (map (λ e. e.0) entries) → AllByRecursion P (map (λ e. e.0) (without_entry entries id))
+  ids_kept P [] id h = tt
+  ids_kept P (e ∷ entries) id h =
+      elim (eqb e.0 id) as (λ b. AllByRecursion P (map (λ e. e.0) (cond (not b) (e ∷ without_entry entries id) (without_entry entries id)))) [
+        | true ↦ ids_kept P entries id h.1
+        | false ↦ (h.0, ids_kept P entries id h.1)
+      ]
+
+-- a write that changes a channel's queue alone
+pub sets_items : (channels : List (ℕ × Channel)) (h : ℕ) (c : Channel) (q : Contents) (items : List Item) → entry_at channels h ≡ Some c → q.items ≡ items
+    → SetsItems h items channels (with_record channels h (record { owner = c.owner; flags = c.flags; queue = q }))
+sets_items channels h c q items is now =
+    let d : Channel = record { owner = c.owner; flags = c.flags; queue = q } in
+    record {
+      ids = ids_same channels h d;
+      channel = λ k. ap (option_map opened) (written_at channels h c d k is)
+          ∙ (elim (eqb k h) as (λ b. eqb k h ≡ b → option_map opened (cond b (Some d) (entry_at channels k)) ≡ channel_in channels k) [
+            | true ↦ λ e. rw (eqb-true k h e, is) refl
+            | false ↦ λ e. refl
+          ] refl);
+      pending = λ k. ap waiting_on (written_at channels h c d k is)
+          ∙ (elim (eqb k h) as (λ b. waiting_on (cond b (Some d) (entry_at channels k)) ≡ cond b items (waiting_on (entry_at channels k))) [ true ↦ now | false ↦ refl ]);
+    }
+
+-- what holds where there is a channel holds where one is open
+on_open : {P : Type 0} (o : Option Channel) → is_some (option_map opened o) ≡ true → OnSome o P → P
+on_open None there h = absurd (true≢false (sym there))
+on_open (Some c) there h = h
+
+-- a table without the channel's entry
+pub closes_in : (h : ℕ) (channels : List (ℕ × Channel)) → is_some (channel_in channels h) ≡ true → OnSome (entry_at channels h) (length (without_entry channels h) + 1 ≡ length channels) → ClosesIn h channels (without_entry channels h)
+closes_in h channels there fewer = record {
+  ids = λ n all. ids_kept (λ id. id ≤ n) channels h all;
+  channel = λ k. ap (option_map opened) (entry_at-without_entry channels h k) ∙ (elim (eqb h k) as (λ b. option_map opened (cond b None (entry_at channels k)) ≡ cond b None (channel_in channels k)) [ true ↦ refl | false ↦ refl ]);
+  pending = λ k. ap waiting_on (entry_at-without_entry channels h k) ∙ (elim (eqb h k) as (λ b. waiting_on (cond b None (entry_at channels k)) ≡ cond b [] (pending_in channels k)) [ true ↦ refl | false ↦ refl ]);
+  fewer = on_open (entry_at channels h) there fewer;
+}
+
+-- what holds at all holds at an error
+pub on_err : {T E P : Type 0} (r : Result T E) → P → OnErr r P
+on_err (Ok x) h = tt
+on_err (Err e) h = h
+
+-- what follows from what holds where there is none
+pub if_none : {A : Type 0} {P Q : Type 0} (o : Option A) → (P → Q) → IfNone o P → IfNone o Q
+if_none None f h = f h
+if_none (Some x) f h = tt

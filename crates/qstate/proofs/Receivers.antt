@@ -1,0 +1,141 @@
+-- The receivers of a channel, by the records of their threads.
+use Rattle.std.proofs.Common.{◌≡◌, ◌<◌, ◌≤◌, ℕ, List, [], ◌∷◌, drop, length, refl, ap, sym, ◌∙◌, arith, cond, true, false, eqb}
+use Rattle.std.specs.Prelude.{Option, None, Some, is_some, not, nat_lt, Bool, ◌||◌}
+use Rattle.std.specs.List.{AllByRecursion}
+use Rattle.std.specs.Option.{option_map, option_map_or}
+use Rattle.std.proofs.lemmas.Bool.{le-ltb, ltb-false, ltb-true, true≢false}
+use Rattle.std.proofs.lemmas.List.{drop_all}
+use Rattle.std.proofs.lemmas.Option.{none-some, same_Some}
+use Rattle.qqueue.specs.declared.item.Item.{Item}
+use Rattle.qtables.specs.Members.{IsRoster}
+use Rattle.qmodel.specs.declared.call.Completion.{Completion}
+use Rattle.qmodel.specs.declared.open_call.OpenCall.{OpenCall}
+use Rattle.qmodel.specs.declared.open_call.Wait.{Wait}
+use Rattle.qmodel.specs.declared.open_call.Wait.TheVariants.{Answer, Item as ForItem}
+use Rattle.qstate.specs.declared.thread.Thread.{Thread}
+use Rattle.qmodel.specs.Facts.{threads_of}
+use Rattle.qmodel.specs.Receivers.{first_where, is_after, wait_on}
+use Rattle.qmodel.specs.Rows.{takes, takes_into}
+use Rattle.qmodel.proofs.Properties.Receivers.{after_less, any_after, newest_parts}
+use Rattle.qstate.specs.Threads.{later, members_of, newest_in, open_in}
+use Rattle.qbase.proofs.Lists.{is_among}
+use Rattle.qstate.proofs.Senders.{own_open}
+
+-- ---- the search through the threads, and what it finds
+
+-- the best so far and the threads that are looked at, by what each waits in
+abbrev top : (ℕ → Option ℕ) → Option (ℕ × ℕ) → List ℕ → Option (ℕ × ℕ)
+top wait best [] = best
+top wait best (u ∷ ts) = top wait (later best u (wait u)) ts
+
+-- the same through the records of threads
+abbrev pub newest_by : ℕ → Item → Option (ℕ × ℕ) → List Thread → Option (ℕ × ℕ)
+newest_by h item best [] = best
+newest_by h item best (t ∷ threads) = newest_by h item (later best t.member.thread (wait_on h item t.open_call)) threads
+
+newest_same : (open_call : ℕ → Option OpenCall) (h : ℕ) (item : Item) (best : Option (ℕ × ℕ)) (threads : List Thread) → AllByRecursion (λ x. open_call x.member.thread ≡ x.open_call) threads
+    → newest_by h item best threads ≡ top (λ u. wait_on h item (open_call u)) best (threads_of (members_of threads))
+newest_same open_call h item best [] w = refl
+newest_same open_call h item best (t ∷ threads) w = rw (← w.0) (newest_same open_call h item (later best t.member.thread (wait_on h item (open_call t.member.thread))) threads w.1)
+
+module _ (wait : ℕ → Option ℕ) where
+  -- a best so far stays where none is later, and is forgotten where one is
+  top_from : (m u : ℕ) (ts : List ℕ) → top wait (Some (m, u)) ts ≡ cond (any_after wait m ts) (top wait None ts) (Some (m, u))
+  top_from m u [] = refl
+  top_from m u (t ∷ ts) = elim (wait t) as (λ o. top wait (later (Some (m, u)) t o) ts ≡ cond (is_after m o || any_after wait m ts) (top wait (later None t o) ts) (Some (m, u))) [
+    | None ↦ top_from m u ts
+    | Some n ↦ elim (nat_lt m n) as (λ b. nat_lt m n ≡ b → top wait (cond b (Some (n, t)) (Some (m, u))) ts ≡ cond (b || any_after wait m ts) (top wait (Some (n, t)) ts) (Some (m, u))) [
+      | true ↦ λ less. refl
+      | false ↦ λ more. top_from m u ts ∙ (elim (any_after wait m ts) as (λ b. any_after wait m ts ≡ b → cond b (top wait None ts) (Some (m, u)) ≡ cond b (top wait (Some (n, t)) ts) (Some (m, u))) [
+        | true ↦ λ some. sym (top_from n t ts ∙ ap (λ b. cond b (top wait None ts) (Some (n, t))) (after_less wait n m ts (ltb-false m n more) some))
+        | false ↦ λ none. refl
+      ] refl)
+    ] refl
+  ]
+
+  -- of these threads none waits later than this one, if it waits
+  abbrev lasts : List ℕ → ℕ → Bool
+  lasts ts u = option_map_or (λ m. not (any_after wait m ts)) (wait u) false
+
+  first_same : (p q : ℕ → Bool) (ns : List ℕ) → ((u : ℕ) → p u ≡ q u) → first_where p ns ≡ first_where q ns
+  first_same p q [] same = refl
+  first_same p q (u ∷ ns) same = rw (same u, first_same p q ns same) refl
+
+  -- one more thread changes nothing of the others where it waits for nothing
+  more_idle : (t : ℕ) (ts : List ℕ) → wait t ≡ None → (u : ℕ) → lasts (t ∷ ts) u ≡ lasts ts u
+  more_idle t ts idle u = rw idle refl
+
+  -- nor where one of them waits later than it does
+  more_earlier : (t m : ℕ) (ts : List ℕ) → wait t ≡ Some m → any_after wait m ts ≡ true → (u : ℕ) → lasts (t ∷ ts) u ≡ lasts ts u
+  more_earlier t m ts is some u = rw is (elim (wait u) as (λ o. option_map_or (λ n. not (nat_lt n m || any_after wait n ts)) o false ≡ option_map_or (λ n. not (any_after wait n ts)) o false) [
+    | None ↦ refl
+    | Some n ↦ elim (nat_lt n m) as (λ b. nat_lt n m ≡ b → not (b || any_after wait n ts) ≡ not (any_after wait n ts)) [
+      | true ↦ λ less. let k : n < m = ltb-true n m less in rw (after_less wait n m ts (omega arith) some) refl
+      | false ↦ λ more. refl
+    ] refl
+  ])
+
+  -- what the search finds is the last to wait
+  pub top_is : (ts : List ℕ) → option_map (λ b. b.1) (top wait None ts) ≡ first_where (lasts ts) ts
+  top_is [] = refl
+  top_is (t ∷ ts) = elim (wait t) as (λ o. wait t ≡ o → option_map (λ b. b.1) (top wait (later None t o) ts) ≡ cond (option_map_or (λ m. not (any_after wait m (t ∷ ts))) o false) (Some t) (first_where (lasts (t ∷ ts)) ts)) [
+    | None ↦ λ idle. top_is ts ∙ sym (first_same (lasts (t ∷ ts)) (lasts ts) ts (more_idle t ts idle))
+    | Some m ↦ λ is. ap (option_map (λ (b : ℕ × ℕ). b.1)) (top_from m t ts) ∙ rw (is, le-ltb m m (omega arith)) (
+        elim (any_after wait m ts) as (λ b. any_after wait m ts ≡ b → option_map (λ b. b.1) (cond b (top wait None ts) (Some (m, t))) ≡ cond (not b) (Some t) (first_where (lasts (t ∷ ts)) ts)) [
+          | true ↦ λ some. top_is ts ∙ sym (first_same (lasts (t ∷ ts)) (lasts ts) ts (more_earlier t m ts is some))
+          | false ↦ λ none. refl
+        ] refl)
+  ] refl
+
+pub newest_found : (h : ℕ) (item : Item) (threads : List Thread) → IsRoster (members_of threads) → option_map (λ b. b.1) (newest_by h item None threads) ≡ newest_in h item threads
+newest_found h item threads roster =
+    ap (option_map (λ (b : ℕ × ℕ). b.1)) (newest_same (open_in threads) h item None threads (own_open threads roster)) ∙ top_is (λ u. wait_on h item (open_in threads u)) (threads_of (members_of threads))
+
+-- so where the search has looked at all threads, with this best
+pub search_found : (h : ℕ) (item : Item) (threads : List Thread) (best : Option (ℕ × ℕ)) (k : ℕ) → length threads ≤ k → newest_by h item best (drop k threads) ≡ newest_by h item None threads → IsRoster (members_of threads)
+    → option_map (λ b. b.1) best ≡ newest_in h item threads
+search_found h item threads best k all same roster =
+    ap (option_map (λ (b : ℕ × ℕ). b.1)) (ap (newest_by h item best) (sym (drop_all k threads all)) ∙ same) ∙ newest_found h item threads roster
+
+-- the newest receiver waits for such an item of the channel
+pub newest_receives : (threads : List Thread) (h : ℕ) (item : Item) (r : ℕ) → newest_in h item threads ≡ Some r → (m : ℕ) × (wait_on h item (open_in threads r) ≡ Some m)
+newest_receives threads h item r e = let k = newest_parts (open_in threads) h item (threads_of (members_of threads)) r e in (k.0, k.1.waits)
+
+-- what waits is among the threads
+pub waits_among : (h : ℕ) (item : Item) (m : ℕ) (threads : List Thread) (u : ℕ) → wait_on h item (open_in threads u) ≡ Some m → is_among (threads_of (members_of threads)) u ≡ true
+waits_among h item m [] u e = absurd (none-some m e)
+waits_among h item m (t ∷ threads) u e =
+    elim (eqb t.member.thread u) as (λ b. wait_on h item (cond b t.open_call (open_in threads u)) ≡ Some m → (b || is_among (threads_of (members_of threads)) u) ≡ true) [
+      | true ↦ λ e. refl
+      | false ↦ λ e. waits_among h item m threads u e
+    ] e
+
+-- what waits for an item takes one
+pub waits_takes : (h m : ℕ) (item : Item) (message : List ℕ) (u : ℕ) (o : Option OpenCall) → wait_on h item o ≡ Some m → is_some (takes item message u o) ≡ true
+waits_takes h m item message u None e = absurd (none-some m e)
+waits_takes h m item message u (Some o) e = waits o.wait e where
+  waits : (w : Wait) → wait_on h item (Some (record { number = o.number; wait = w })) ≡ Some m → is_some (takes item message u (Some (record { number = o.number; wait = w }))) ≡ true
+  waits (Answer coid sent reply_buffer receipt) e = absurd (none-some m e)
+  waits (ForItem chid kind buffer) e = refl
+
+-- how it ends is of its thread
+pub ended_thread : (item : Item) (message : List ℕ) (r : ℕ) (o : Option OpenCall) (y : Completion) → takes item message r o ≡ Some y → y.thread ≡ r
+ended_thread item message r None y e = absurd (none-some y e)
+ended_thread item message r (Some o) y e = by_wait o.wait e where
+  by_wait : (w : Wait) → takes_into item message r o.number w ≡ Some y → y.thread ≡ r
+  by_wait (Answer coid sent reply_buffer receipt) e = absurd (none-some y e)
+  by_wait (ForItem chid kind buffer) e = sym (ap (λ x. x.thread) (same_Some _ y e))
+
+-- what waits has an open call
+pub waits_open : (h m : ℕ) (item : Item) (o : Option OpenCall) → wait_on h item o ≡ Some m → is_some o ≡ true
+waits_open h m item None e = absurd (none-some m e)
+waits_open h m item (Some o) e = refl
+
+-- so an ending is given, and with it what was copied
+pub met_there : (h m : ℕ) (item : Item) (message : List ℕ) (u : ℕ) (o call : Option OpenCall) (r : Option Completion) → wait_on h item o ≡ Some m → call ≡ o → r ≡ takes item message u call → r ≡ None → ⊥
+met_there h m item message u o call r waits same ended none =
+    true≢false (sym (waits_takes h m item message u o waits) ∙ ap (λ x. is_some (takes item message u x)) (sym same) ∙ ap is_some (sym ended) ∙ ap is_some none)
+
+pub taken_there : {R : Type 0} (h m : ℕ) (item : Item) (message : List ℕ) (u : ℕ) (o call : Option OpenCall) (r : Option (Completion × R)) → wait_on h item o ≡ Some m → call ≡ o → option_map (λ x. x.0) r ≡ takes item message u call → r ≡ None → ⊥
+taken_there h m item message u o call r waits same ended none =
+    true≢false (sym (waits_takes h m item message u o waits) ∙ ap (λ x. is_some (takes item message u x)) (sym same) ∙ ap is_some (sym ended) ∙ ap (λ x. is_some (option_map (λ y. y.0) x)) none)

@@ -1,0 +1,156 @@
+-- The thread whose open call is a Send, by its place and by its number.
+use Rattle.std.proofs.Common.{◌≡◌, ℕ, suc, zero, ◌+◌, ◌<◌, List, [], ◌∷◌, length, set, get_or, refl, ap, sym, subst, ◌∙◌, cond, arith, true, false, eqb}
+use Rattle.std.specs.Prelude.{Option, None, Some, is_some, position}
+use Rattle.std.specs.List.{position_from, AllByRecursion}
+use Rattle.std.specs.Option.{option_map}
+use Rattle.std.proofs.lemmas.Bool.{eqb-true, eq-eqb, ne_eqb, true≢false}
+use Rattle.std.proofs.lemmas.Iterator.Adapters.{position_from-zero}
+use Rattle.std.proofs.lemmas.Option.{same_Some, none-some}
+use Rattle.qtables.specs.Members.{IsRoster}
+use Rattle.qtables.specs.declared.connection.Connection.{Connection}
+use Rattle.qstate.specs.declared.channel.Channel.{Channel}
+use Rattle.qmodel.specs.declared.open_call.OpenCall.{OpenCall}
+use Rattle.qstate.specs.declared.thread.Thread.{Thread}
+use Rattle.qmodel.specs.Facts.{threads_of, is_send, sender_among, message_in}
+use Rattle.qstate.specs.HeldIn.{is_held_in, is_held_over}
+use Rattle.qstate.specs.Threads.{held_over_in, members_of, open_in, sender_in, sent_call, message_from, ChangesSender}
+use Rattle.qstate.proofs.Seats.{IsFirstAt, first_open, set_members, set_open, set_level}
+
+-- ---- each thread waits for what its own record says
+
+later_own : (s : Thread) (threads rest : List Thread) → AllByRecursion (λ m. s.member.thread < m.thread) (members_of rest) → AllByRecursion (λ x. open_in threads x.member.thread ≡ x.open_call) rest
+    → AllByRecursion (λ x. open_in (s ∷ threads) x.member.thread ≡ x.open_call) rest
+later_own s threads [] l h = tt
+later_own s threads (x ∷ rest) l h =
+    let other : eqb s.member.thread x.member.thread ≡ false = ne_eqb _ _ (λ e. let below : s.member.thread < x.member.thread = l.0 in omega arith) in
+    (rw other (h.0), later_own s threads rest l.1 h.1)
+
+pub own_open : (threads : List Thread) → IsRoster (members_of threads) → AllByRecursion (λ x. open_in threads x.member.thread ≡ x.open_call) threads
+own_open [] r = tt
+own_open (s ∷ threads) r = (rw (eq-eqb s.member.thread s.member.thread refl) refl, later_own s threads threads r.0 (own_open threads r.1))
+
+-- the sender by records
+abbrev pub sender_by : ℕ → List Thread → Option ℕ
+sender_by i [] = None
+sender_by i (t ∷ threads) = cond (is_send i t.open_call) (Some t.member.thread) (sender_by i threads)
+
+sender_same : (open_call : ℕ → Option OpenCall) (i : ℕ) (threads : List Thread) → AllByRecursion (λ x. open_call x.member.thread ≡ x.open_call) threads
+    → sender_among open_call i (threads_of (members_of threads)) ≡ sender_by i threads
+sender_same open_call i [] h = refl
+sender_same open_call i (t ∷ threads) h = rw (h.0, sender_same open_call i threads h.1) refl
+
+pub sender_in-by : (i : ℕ) (threads : List Thread) → IsRoster (members_of threads) → sender_in threads i ≡ sender_by i threads
+sender_in-by i threads r = sender_same (open_in threads) i threads (own_open threads r)
+
+-- ---- by places
+
+-- the Send of number i is the open call at k, and none before
+abbrev pub IsSenderAt : List Thread → ℕ → ℕ → Type 0
+IsSenderAt [] i k = ⊥
+IsSenderAt (t ∷ threads) i zero = is_send i t.open_call ≡ true
+IsSenderAt (t ∷ threads) i (suc k) = (is_send i t.open_call ≡ false) × IsSenderAt threads i k
+
+found_from : (i : ℕ) (threads : List Thread) (n k : ℕ) → position_from (λ t. is_send i t.open_call) n threads ≡ Some k → (j : ℕ) × (k ≡ n + j) × IsSenderAt threads i j
+found_from i [] n k e = absurd (none-some k e)
+found_from i (t ∷ threads) n k e =
+    elim (is_send i t.open_call)
+    as (λ b. is_send i t.open_call ≡ b → cond b (Some n) (position_from (λ t. is_send i t.open_call) (n + 1) threads) ≡ Some k → (j : ℕ) × (k ≡ n + j) × IsSenderAt (t ∷ threads) i j) [
+      | true ↦ λ at e. let same : n ≡ k = same_Some n k e in (0, omega arith, at)
+      | false ↦ λ other e. let r = found_from i threads (n + 1) k e in let same : k ≡ n + 1 + r.0 = r.1 in (suc r.0, omega arith, (other, r.2))
+    ] refl e
+
+pub sender_at : (i : ℕ) (threads : List Thread) (k : ℕ) → position (λ t. is_send i t.open_call) threads ≡ Some k → IsSenderAt threads i k
+sender_at i threads k e =
+    let r = found_from i threads 0 k (sym (position_from-zero (λ t. is_send i t.open_call) threads) ∙ e) in
+    subst (IsSenderAt threads i) (let same : k ≡ 0 + r.0 = r.1 in omega arith) r.2
+
+none_from : (i : ℕ) (threads : List Thread) (n : ℕ) → position_from (λ t. is_send i t.open_call) n threads ≡ None → sender_by i threads ≡ None
+none_from i [] n e = refl
+none_from i (t ∷ threads) n e =
+    elim (is_send i t.open_call) as (λ b. cond b (Some n) (position_from (λ t. is_send i t.open_call) (n + 1) threads) ≡ None → cond b (Some t.member.thread) (sender_by i threads) ≡ None) [
+      | true ↦ λ e. absurd (none-some n (sym e))
+      | false ↦ λ e. none_from i threads (n + 1) e
+    ] e
+
+pub no_sender : (i : ℕ) (threads : List Thread) → position (λ t. is_send i t.open_call) threads ≡ None → sender_by i threads ≡ None
+no_sender i threads e = none_from i threads 0 (sym (position_from-zero (λ t. is_send i t.open_call) threads) ∙ e)
+
+pub sender_is : (i : ℕ) (threads : List Thread) (k : ℕ) (d : Thread) → IsSenderAt threads i k → sender_by i threads ≡ Some (get_or threads k d).member.thread
+sender_is i [] k d h = absurd h
+sender_is i (t ∷ threads) zero d h = rw h refl
+sender_is i (t ∷ threads) (suc k) d h = rw h.0 (sender_is i threads k d h.1)
+
+pub sender_below : (i : ℕ) (threads : List Thread) (k : ℕ) → IsSenderAt threads i k → k < length threads
+sender_below i [] k h = absurd h
+sender_below i (t ∷ threads) zero h = omega arith
+sender_below i (t ∷ threads) (suc k) h = let below : k < length threads = sender_below i threads k h.1 in omega arith
+
+above_all : (n : ℕ) (threads : List Thread) (k : ℕ) (d : Thread) → AllByRecursion (λ m. n < m.thread) (members_of threads) → k < length threads → n < (get_or threads k d).member.thread
+above_all n [] k d h l = absurd (omega arith)
+above_all n (t ∷ threads) zero d h l = h.0
+above_all n (t ∷ threads) (suc k) d h l = above_all n threads k d h.1 (omega arith)
+
+-- in a roster each thread stands where it first stands
+pub roster_first : (threads : List Thread) (k : ℕ) (d : Thread) → IsRoster (members_of threads) → k < length threads → IsFirstAt threads (get_or threads k d).member.thread k
+roster_first [] k d r l = absurd (omega arith)
+roster_first (t ∷ threads) zero d r l = refl
+roster_first (t ∷ threads) (suc k) d r l =
+    (ne_eqb _ _ (λ e. let above : t.member.thread < (get_or threads k d).member.thread = above_all t.member.thread threads k d r.0 (omega arith) in omega arith), roster_first threads k d r.1 (omega arith))
+
+-- ---- the open call of the sender is changed
+
+pub changes_nowhere : (i : ℕ) (change : OpenCall → OpenCall) (threads : List Thread) → IsRoster (members_of threads) → position (λ t. is_send i t.open_call) threads ≡ None → ChangesSender i change threads threads
+changes_nowhere i change threads r e =
+    let none : sender_in threads i ≡ None = sender_in-by i threads r ∙ no_sender i threads e in
+    record { members = refl; open_call = λ v. rw none refl; priority = λ v. refl }
+
+pub message_nowhere : (i : ℕ) (threads : List Thread) → IsRoster (members_of threads) → position (λ t. is_send i t.open_call) threads ≡ None → message_from threads i ≡ []
+message_nowhere i threads r e =
+    let none : sender_in threads i ≡ None = sender_in-by i threads r ∙ no_sender i threads e in rw none refl
+
+module _ (i : ℕ) (threads : List Thread) (k : ℕ) (d : Thread) (r : IsRoster (members_of threads)) (at : position (λ t. is_send i t.open_call) threads ≡ Some k) where
+  there : IsSenderAt threads i k
+  there = sender_at i threads k at
+
+  pub sender_there : sender_in threads i ≡ Some (get_or threads k d).member.thread
+  sender_there = sender_in-by i threads r ∙ sender_is i threads k d there
+
+  pub first_there : IsFirstAt threads (get_or threads k d).member.thread k
+  first_there = roster_first threads k d r (sender_below i threads k there)
+
+  pub call_there : sent_call threads i ≡ (get_or threads k d).open_call
+  call_there = rw sender_there (first_open _ threads k d first_there)
+
+  pub message_there : message_from threads i ≡ message_in (get_or threads k d).open_call
+  message_there = ap message_in call_there
+
+  pub changes_there : (change : OpenCall → OpenCall) (x : Thread) → x.member ≡ (get_or threads k d).member → x.priority ≡ (get_or threads k d).priority
+      → x.open_call ≡ option_map change (get_or threads k d).open_call → ChangesSender i change threads (set threads k x)
+  changes_there change x m p o = record {
+    members = set_members _ threads k d x first_there m;
+    open_call = λ v. set_open _ threads k d x v first_there m
+        ∙ rw sender_there (elim (eqb v (get_or threads k d).member.thread) as (λ b. eqb v (get_or threads k d).member.thread ≡ b → cond b x.open_call (open_in threads v) ≡ cond b (option_map change (open_in threads v)) (open_in threads v)) [
+          | true ↦ λ e. o ∙ ap (option_map change) (sym (ap (open_in threads) (eqb-true v _ e) ∙ first_open _ threads k d first_there))
+          | false ↦ λ e. refl
+        ] refl);
+    priority = λ v. set_level _ threads k d x v first_there m p;
+  }
+
+-- ---- whether its message is held
+
+pub held_nowhere : (connections : List (ℕ × Connection)) (channels : List (ℕ × Channel)) (p i : ℕ) (threads : List Thread) → IsRoster (members_of threads) → position (λ t. is_send i t.open_call) threads ≡ None
+    → is_held_in threads connections channels p i ≡ false
+held_nowhere connections channels p i threads r e =
+    let none : sender_in threads i ≡ None = sender_in-by i threads r ∙ no_sender i threads e in rw none refl
+
+pub held_there : (connections : List (ℕ × Connection)) (channels : List (ℕ × Channel)) (p i : ℕ) (threads : List Thread) (k : ℕ) (d : Thread) → IsRoster (members_of threads) → position (λ t. is_send i t.open_call) threads ≡ Some k
+    → is_held_in threads connections channels p i ≡ is_held_over connections channels p (held_over_in (get_or threads k d).open_call)
+held_there connections channels p i threads k d r at = ap (λ o. is_held_over connections channels p (held_over_in o)) (call_there i threads k d r at)
+
+-- a message that is held has a sender
+pub sender_of_held : (connections : List (ℕ × Connection)) (channels : List (ℕ × Channel)) (p : ℕ) (o : Option OpenCall) → is_held_over connections channels p (held_over_in o) ≡ true → is_some (held_over_in o) ≡ true
+sender_of_held connections channels p o e =
+    elim (held_over_in o) as (λ x. is_held_over connections channels p x ≡ true → is_some x ≡ true) [
+      | None ↦ λ h. absurd (true≢false (sym h))
+      | Some coid ↦ λ h. refl
+    ] e

@@ -1,0 +1,67 @@
+-- The channels of a kernel, by id.
+use Rattle.std.specs.Prelude.{◌≡◌, ◌≤◌, ◌+◌, ℕ, ◌==◌, ◌&&◌, Bool, false, is_some, List, [], length, map, Option, None, Some, if◌then◌else◌}
+use Rattle.std.specs.List.{AllByRecursion}
+use Rattle.std.specs.Option.{option_map}
+use Rattle.qqueue.specs.declared.item.Item.{Item}
+use Rattle.qtables.specs.Entries.{entry_at}
+use Rattle.qtables.specs.declared.connection.Connection.{Connection}
+use Rattle.qstate.specs.declared.channel.Channel.{Channel}
+use Rattle.qmodel.specs.Facts.{OpenChannel}
+
+-- what a call may read of a channel
+abbrev pub opened : Channel → OpenChannel
+opened c = record { owner = c.owner; flags = c.flags }
+
+-- the open channel of an id
+abbrev pub channel_in : List (ℕ × Channel) → ℕ → Option OpenChannel
+channel_in channels h = option_map opened (entry_at channels h)
+
+-- what waits on a channel
+abbrev pub waiting_on : Option Channel → List Item
+waiting_on None = []
+waiting_on (Some c) = c.queue.items
+
+-- how many more items a channel has room for
+abbrev pub room_of : Option Channel → ℕ
+room_of None = 0
+room_of (Some c) = c.queue.room
+
+-- how many more items the channel of an id has room for
+abbrev pub room_in : List (ℕ × Channel) → ℕ → ℕ
+room_in channels h = room_of (entry_at channels h)
+
+-- what waits on the channel of an id
+abbrev pub pending_in : List (ℕ × Channel) → ℕ → List Item
+pending_in channels h = waiting_on (entry_at channels h)
+
+-- the channel is one of this process
+abbrev pub is_of : ℕ → Option OpenChannel → Bool
+is_of p None = false
+is_of p (Some c) = p == c.owner
+
+-- the channel that this connection leads to, where it is one of this process and the channel is open
+abbrev pub way_in : ℕ → List (ℕ × Channel) → Option Connection → Option ℕ
+way_in p channels None = None
+way_in p channels (Some c) = if (p == c.process) && is_some (channel_in channels c.channel) then Some c.channel else None
+
+-- the channel of this connection, where it is one of this process
+abbrev pub own_channel_in : ℕ → Option Connection → Option ℕ
+own_channel_in p None = None
+own_channel_in p (Some c) = if p == c.process then Some c.channel else None
+
+-- the ids of the open channels
+abbrev pub ids_of : List (ℕ × Channel) → List ℕ
+ids_of channels = map (λ e. e.0) channels
+
+-- channel h now has these items, and all else is as it was
+pub record SetsItems (h : ℕ) (items : List Item) (old new : List (ℕ × Channel)) : Type 0 where
+  pub ids : ids_of new ≡ ids_of old
+  pub channel : (k : ℕ) → channel_in new k ≡ channel_in old k
+  pub pending : (k : ℕ) → pending_in new k ≡ (if k == h then items else pending_in old k)
+
+-- channel h is gone, and all else is as it was
+pub record ClosesIn (h : ℕ) (old new : List (ℕ × Channel)) : Type 0 where
+  pub ids : (n : ℕ) → AllByRecursion (λ id. id ≤ n) (ids_of old) → AllByRecursion (λ id. id ≤ n) (ids_of new)
+  pub channel : (k : ℕ) → channel_in new k ≡ (if h == k then None else channel_in old k)
+  pub pending : (k : ℕ) → pending_in new k ≡ (if h == k then [] else pending_in old k)
+  pub fewer : length new + 1 ≡ length old

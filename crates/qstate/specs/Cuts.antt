@@ -1,0 +1,90 @@
+-- What becomes of the threads and the channels as calls are cut.
+use Rattle.std.specs.Prelude.{◌≡◌, ℕ, ◌==◌, ◌&&◌, Bool, true, false, not, is_some, List, [], ◌∷◌, ◌++◌, filter, Option, None, Some, if◌then◌else◌}
+use Rattle.std.specs.List.{list_any}
+use Rattle.std.specs.Option.{option_map, option_and_then}
+use Rattle.qbase.specs.declared.errno.Errno.{Errno}
+use Rattle.qtables.specs.declared.connection.Connection.{Connection}
+use Rattle.qmodel.specs.declared.call.Completion.{Completion}
+use Rattle.qmodel.specs.declared.open_call.OpenCall.{OpenCall}
+use Rattle.qmodel.specs.declared.open_call.Wait.{Wait}
+use Rattle.qmodel.specs.declared.open_call.Wait.TheVariants.{Answer, Item as ForItem}
+use Rattle.qmodel.specs.Cutting.{is_on, is_over, is_unread_send, cut_where}
+use Rattle.qmodel.specs.Facts.{threads_of}
+use Rattle.qstate.specs.declared.channel.Channel.{Channel}
+use Rattle.qstate.specs.declared.cutting.Cut.{Cut}
+use Rattle.qstate.specs.declared.cutting.Cut.TheVariants.{On, All, Of, Over}
+use Rattle.qstate.specs.declared.thread.Thread.{Thread}
+use Rattle.qstate.specs.Channels.{ids_of, channel_in, pending_in}
+use Rattle.qstate.specs.Threads.{members_of, open_in, level_in}
+
+-- this is so of a thread and what it waits for, where that is cut
+abbrev pub is_cut_by : (ℕ → Option Connection) → Cut → ℕ → Wait → Bool
+is_cut_by connection (On chid) u wait = is_on connection chid wait
+is_cut_by connection All u wait = true
+is_cut_by connection (Of thread) u wait = u == thread
+is_cut_by connection (Over coid) u wait = is_over coid wait
+
+-- how the call of thread u ends: the caller's own so, and another's if it is cut
+abbrev pub ending_for : (ℕ → Option Connection) → Cut → Errno → Completion → ℕ → Option OpenCall → Option Completion
+ending_for connection cut e own u o = if u == own.thread then Some own else cut_where (is_cut_by connection cut u) e u o
+
+-- each thread whose call is cut has none any more, and all else is as it was
+pub record AreCut (connection : ℕ → Option Connection) (cut : Cut) (e : Errno) (old new : List Thread) : Type 0 where
+  pub members : members_of new ≡ members_of old
+  pub open_call : (v : ℕ) → open_in new v ≡ (if is_some (cut_where (is_cut_by connection cut v) e v (open_in old v)) then None else open_in old v)
+  pub priority : (v : ℕ) → level_in new v ≡ level_in old v
+
+-- a Send of number i that is blocked on channel h and not received is cut, of one of these threads
+abbrev pub is_cut_among : (ℕ → Option Connection) → Cut → Errno → List Thread → ℕ → ℕ → Bool
+is_cut_among connection cut e threads h i =
+    list_any (λ s. is_unread_send connection h i (open_in threads s) && is_some (cut_where (is_cut_by connection cut s) e s (open_in threads s))) (threads_of (members_of threads))
+
+-- each message whose Send is cut leaves its channel, and all else is as it was
+pub record LoseCut (connection : ℕ → Option Connection) (cut : Cut) (e : Errno) (threads : List Thread) (old new : List (ℕ × Channel)) : Type 0 where
+  pub ids : ids_of new ≡ ids_of old
+  pub channel : (k : ℕ) → channel_in new k ≡ channel_in old k
+  pub pending : (k : ℕ) → pending_in new k ≡ filter (λ item. not (is_cut_among connection cut e threads k item.number)) (pending_in old k)
+
+-- ---- one thread
+
+-- the connection over which a message was sent that isn't received
+abbrev pub unread_over_by : Wait → Option ℕ
+unread_over_by (Answer coid message reply_buffer None) = Some coid
+unread_over_by (Answer coid message reply_buffer (Some receipt)) = None
+unread_over_by (ForItem chid kind buffer) = None
+
+-- the channel that such a message waits on
+abbrev pub unread_on_by : (ℕ → Option Connection) → Wait → Option ℕ
+unread_on_by connection wait = option_map (λ c. c.channel) (option_and_then connection (unread_over_by wait))
+
+-- the endings with one more behind them, if there is one
+abbrev pub with_ending : List Completion → Option Completion → List Completion
+with_ending endings None = endings
+with_ending endings (Some ending) = endings ++ ending ∷ []
+
+-- this is so of what an open call waits for
+abbrev pub is_cut_open : (Wait → Bool) → Option OpenCall → Bool
+is_cut_open is_cut None = false
+is_cut_open is_cut (Some o) = is_cut o.wait
+
+-- an open call, if it is cut
+abbrev pub taken_by : (Wait → Bool) → Option OpenCall → Option OpenCall
+taken_by is_cut o = if is_cut_open is_cut o then o else None
+
+-- the thread with no open call, if that is cut
+abbrev pub left_open : (Wait → Bool) → Thread → Thread
+left_open is_cut t = record { member = t.member; priority = t.priority; open_call = if is_cut_open is_cut t.open_call then None else t.open_call }
+
+-- the thread with no open call, if this cuts that
+abbrev pub left_by : (ℕ → Option Connection) → Cut → Thread → Thread
+left_by connection cut t = left_open (is_cut_by connection cut t.member.thread) t
+
+-- the open call is cut and is the Send of number i, blocked on channel h and not received
+abbrev pub is_taken_from : (ℕ → Option Connection) → (Wait → Bool) → Option OpenCall → ℕ → ℕ → Bool
+is_taken_from connection is_cut o h i = is_unread_send connection h i o && is_cut_open is_cut o
+
+-- each item of which this is so leaves its channel, and all else is as it was
+pub record Lose (goes : ℕ → ℕ → Bool) (old new : List (ℕ × Channel)) : Type 0 where
+  pub ids : ids_of new ≡ ids_of old
+  pub channel : (k : ℕ) → channel_in new k ≡ channel_in old k
+  pub pending : (k : ℕ) → pending_in new k ≡ filter (λ item. not (goes k item.number)) (pending_in old k)

@@ -1,0 +1,49 @@
+-- Whether a message is held, by the kernel's content.
+use Rattle.std.specs.Prelude.{ℕ, Bool, false, List, Option, None, Some, if◌then◌else◌}
+use Rattle.std.specs.Option.{option_map}
+use Rattle.qtables.specs.Entries.{entry_at}
+use Rattle.qtables.specs.declared.connection.Connection.{Connection}
+use Rattle.qmodel.specs.declared.open_call.OpenCall.{OpenCall}
+use Rattle.qmodel.specs.declared.open_call.Wait.{Wait}
+use Rattle.qmodel.specs.declared.open_call.Wait.TheVariants.{Answer, Item as ForItem}
+use Rattle.qmodel.specs.Facts.{tells_unblock}
+use Rattle.qstate.specs.declared.channel.Channel.{Channel}
+use Rattle.qstate.specs.declared.held.Held.{Held}
+use Rattle.qstate.specs.declared.thread.Thread.{Thread}
+use Rattle.qstate.specs.Channels.{channel_in, is_of}
+use Rattle.qstate.specs.Threads.{held_over_in, sent_call}
+
+-- what is told of a message that is held: its number, the connection over which it was sent, and what is kept of its receipt
+abbrev pub held_of : ℕ → Wait → Option Held
+held_of n (Answer coid message reply_buffer (Some receipt)) = Some (record { rcvid = n; coid = coid; receipt = receipt })
+held_of n (Answer coid message reply_buffer None) = None
+held_of n (ForItem chid kind buffer) = None
+
+-- the same of a thread's open call, if it has one
+abbrev pub held_in : Option OpenCall → Option Held
+held_in None = None
+held_in (Some o) = held_of o.number o.wait
+
+-- the channel that a connection leads to, where that has the unblock flag
+abbrev pub guard_in : List (ℕ × Channel) → Option Connection → Option ℕ
+guard_in channels None = None
+guard_in channels (Some c) = if tells_unblock (channel_in channels c.channel) then Some c.channel else None
+
+-- a message that is held, with its channel, where that has the unblock flag
+abbrev pub guarded_in : List (ℕ × Connection) → List (ℕ × Channel) → Option Held → Option (Held × ℕ)
+guarded_in connections channels None = None
+guarded_in connections channels (Some held) = option_map (λ h. (held, h)) (guard_in channels (entry_at connections held.coid))
+
+-- the channel of a connection is of this process
+abbrev pub leads_to_own : List (ℕ × Channel) → ℕ → Option Connection → Bool
+leads_to_own channels p None = false
+leads_to_own channels p (Some c) = is_of p (channel_in channels c.channel)
+
+-- a message that was sent over this connection is held for this process
+abbrev pub is_held_over : List (ℕ × Connection) → List (ℕ × Channel) → ℕ → Option ℕ → Bool
+is_held_over connections channels p None = false
+is_held_over connections channels p (Some coid) = leads_to_own channels p (entry_at connections coid)
+
+-- the message of number i is held for this process
+abbrev pub is_held_in : List Thread → List (ℕ × Connection) → List (ℕ × Channel) → ℕ → ℕ → Bool
+is_held_in threads connections channels p i = is_held_over connections channels p (held_over_in (sent_call threads i))

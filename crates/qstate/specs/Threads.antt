@@ -1,0 +1,112 @@
+-- The threads of a kernel, one after another.
+use Rattle.std.specs.Prelude.{◌≡◌, ℕ, ◌+◌, ◌==◌, nat_lt, Bool, true, false, List, [], ◌∷◌, map, position, is_some, unwrap_or, Option, None, Some, if◌then◌else◌}
+use Rattle.std.specs.Option.{option_map, option_and_then}
+use Rattle.qqueue.specs.declared.item.Item.{Item}
+use Rattle.qtables.specs.declared.member.Member.{Member}
+use Rattle.qmodel.specs.declared.open_call.OpenCall.{OpenCall}
+use Rattle.qmodel.specs.declared.open_call.Receipt.{Receipt}
+use Rattle.qmodel.specs.declared.open_call.Wait.{Wait}
+use Rattle.qmodel.specs.declared.open_call.Wait.TheVariants.{Answer, Item as ForItem}
+use Rattle.qstate.specs.declared.thread.Thread.{Thread}
+use Rattle.qmodel.specs.Facts.{threads_of, sender_among, message_in}
+use Rattle.qmodel.specs.Receivers.{newest_among}
+use Rattle.qmodel.specs.Step.{held_call, is_thread, unblocked_call}
+
+-- the roster
+abbrev pub members_of : List Thread → List Member
+members_of threads = map (λ t. t.member) threads
+
+-- the open call of a thread
+abbrev pub open_in : List Thread → ℕ → Option OpenCall
+open_in [] u = None
+open_in (t ∷ threads) u = if t.member.thread == u then t.open_call else open_in threads u
+
+-- the priority of a thread, 0 where there is none
+abbrev pub level_in : List Thread → ℕ → ℕ
+level_in [] u = 0
+level_in (t ∷ threads) u = if t.member.thread == u then t.priority else level_in threads u
+
+-- how many threads are blocked
+abbrev pub blocked_count : List Thread → ℕ
+blocked_count [] = 0
+blocked_count (t ∷ threads) = (if is_some t.open_call then 1 else 0) + blocked_count threads
+
+-- where a thread stands
+abbrev pub seat_in : List Thread → ℕ → Option ℕ
+seat_in threads u = position (λ t. t.member.thread == u) threads
+
+-- a thread that isn't blocked and has the priority that it begins with
+abbrev pub ready : Member → Thread
+ready m = record { member = m; priority = m.priority; open_call = None }
+
+-- the receiver on channel h that may take the item and began last
+abbrev pub newest_in : ℕ → Item → List Thread → Option ℕ
+newest_in h item threads = newest_among (open_in threads) h item (threads_of (members_of threads))
+
+-- call m is later than the best so far, which is the number of a call and its thread
+abbrev pub is_later : ℕ → Option (ℕ × ℕ) → Bool
+is_later m None = true
+is_later m (Some best) = nat_lt best.0 m
+
+-- the later of the best so far and call m of thread u, if there is one
+abbrev pub later : Option (ℕ × ℕ) → ℕ → Option ℕ → Option (ℕ × ℕ)
+later best u None = best
+later best u (Some m) = if is_later m best then Some (m, u) else best
+
+-- thread u has this open call, and all else is as it was
+pub record SetsOpen (u : ℕ) (o : Option OpenCall) (old new : List Thread) : Type 0 where
+  pub members : members_of new ≡ members_of old
+  pub open_call : (v : ℕ) → open_in new v ≡ (if v == u then o else open_in old v)
+  pub priority : (v : ℕ) → level_in new v ≡ level_in old v
+
+-- thread u has this priority, if one is given, and all else is as it was
+pub record SetsLevel (u : ℕ) (p : Option ℕ) (old new : List Thread) : Type 0 where
+  pub members : members_of new ≡ members_of old
+  pub open_call : (v : ℕ) → open_in new v ≡ open_in old v
+  pub priority : (v : ℕ) → level_in new v ≡ unwrap_or (if u == v then p else None) (level_in old v)
+
+-- thread u has no open call and has this priority, if one is given, and all else is as it was
+pub record Wakes (u : ℕ) (p : Option ℕ) (old new : List Thread) : Type 0 where
+  pub members : members_of new ≡ members_of old
+  pub open_call : (v : ℕ) → open_in new v ≡ (if v == u then None else open_in old v)
+  pub priority : (v : ℕ) → level_in new v ≡ unwrap_or (if u == v then p else None) (level_in old v)
+
+-- an unblock pulse was made for what thread u is blocked in, and all else is as it was
+pub record MarksUnblocked (u : ℕ) (old new : List Thread) : Type 0 where
+  pub members : members_of new ≡ members_of old
+  pub open_call : (v : ℕ) → open_in new v ≡ (if v == u then option_map unblocked_call (open_in old v) else open_in old v)
+  pub priority : (v : ℕ) → level_in new v ≡ level_in old v
+
+-- the connection over which a message was sent that is held
+abbrev pub held_over_by : Wait → Option ℕ
+held_over_by (Answer coid message reply_buffer (Some receipt)) = Some coid
+held_over_by (Answer coid message reply_buffer None) = None
+held_over_by (ForItem chid kind buffer) = None
+
+-- the same of a thread's open call, if it has one
+abbrev pub held_over_in : Option OpenCall → Option ℕ
+held_over_in None = None
+held_over_in (Some o) = held_over_by o.wait
+
+-- the thread whose open call is the Send of number i
+abbrev pub sender_in : List Thread → ℕ → Option ℕ
+sender_in threads i = sender_among (open_in threads) i (threads_of (members_of threads))
+
+-- the open call that is the Send of number i
+abbrev pub sent_call : List Thread → ℕ → Option OpenCall
+sent_call threads i = option_and_then (open_in threads) (sender_in threads i)
+
+-- the message of the Send of number i
+abbrev pub message_from : List Thread → ℕ → List ℕ
+message_from threads i = message_in (sent_call threads i)
+
+-- the open call of the thread that sent message i is changed so, and all else is as it was
+pub record ChangesSender (i : ℕ) (change : OpenCall → OpenCall) (old new : List Thread) : Type 0 where
+  pub members : members_of new ≡ members_of old
+  pub open_call : (v : ℕ) → open_in new v ≡ (if is_thread (sender_in old i) v then option_map change (open_in old v) else open_in old v)
+  pub priority : (v : ℕ) → level_in new v ≡ level_in old v
+
+-- the sender of a message that is received keeps its receipt, and a pulse changes nothing
+abbrev pub HandsOver : Bool → ℕ → Receipt → List Thread → List Thread → Type 0
+HandsOver true i kept old new = new ≡ old
+HandsOver false i kept old new = ChangesSender i (held_call kept) old new

@@ -1,0 +1,29 @@
+-- Messages that are not received, by the kernel's content.
+use Rattle.std.specs.Prelude.{◌≡◌, ℕ, List, map, Option, None, Some, if◌then◌else◌}
+use Rattle.qqueue.specs.Best.{with_priority}
+use Rattle.qtables.specs.Entries.{entry_at}
+use Rattle.qtables.specs.declared.connection.Connection.{Connection}
+use Rattle.qmodel.specs.Cutting.{is_unread_send}
+use Rattle.qmodel.specs.declared.open_call.OpenCall.{OpenCall}
+use Rattle.qmodel.specs.declared.open_call.Wait.{Wait}
+use Rattle.qmodel.specs.declared.open_call.Wait.TheVariants.{Answer, Item as ForItem}
+use Rattle.qstate.specs.declared.channel.Channel.{Channel}
+use Rattle.qstate.specs.declared.unread.Unread.{Unread}
+use Rattle.qstate.specs.Channels.{channel_in, ids_of, pending_in}
+
+-- the message of call n whose receipt is waited for
+abbrev pub unread_of : ℕ → Wait → Option Unread
+unread_of n (Answer coid message reply_buffer None) = Some (record { number = n; coid = coid })
+unread_of n (Answer coid message reply_buffer (Some receipt)) = None
+unread_of n (ForItem chid kind buffer) = None
+
+-- the same of a thread's open call, if it has one
+abbrev pub unread_in : Option OpenCall → Option Unread
+unread_in None = None
+unread_in (Some o) = unread_of o.number o.wait
+
+-- the message of this open call has this priority where it waits to be received, and all else is as it was
+pub record MovesUnread (o : Option OpenCall) (connections : List (ℕ × Connection)) (priority : ℕ) (old new : List (ℕ × Channel)) : Type 0 where
+  pub ids : ids_of new ≡ ids_of old
+  pub channel : (h : ℕ) → channel_in new h ≡ channel_in old h
+  pub pending : (h : ℕ) → pending_in new h ≡ map (λ item. if is_unread_send (λ k. entry_at connections k) h item.number o then with_priority priority item else item) (pending_in old h)

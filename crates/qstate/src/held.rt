@@ -1,0 +1,226 @@
+//! Messages that are held: received, and not yet answered.
+
+ghost use Rattle.std.specs.Prelude.{◌≡◌, Some, None, is_some, position, length, option_map, IfSome};
+ghost use Rattle.qbase.specs.Laying.{laid_count, lay_over};
+ghost use Rattle.qtables.specs.Members.{IsRoster};
+ghost use Rattle.qmodel.specs.Calls.Info.{told_of};
+ghost use Rattle.qmodel.specs.Facts.{is_send, message_in};
+ghost use Rattle.qmodel.specs.Held.{reply_buffer_in, reply_buffer_of};
+ghost use Rattle.qstate.specs.HeldIn.{guarded_in, held_in, is_held_in};
+ghost use Rattle.qmodel.specs.Rows.{with_buffer};
+ghost use Rattle.qmodel.specs.Step.{unblocked_call, unblocked_wait, written_call};
+ghost use Rattle.qstate.specs.Threads.{members_of, open_in, seat_in, sender_in, sent_call, SetsOpen, ChangesSender, MarksUnblocked};
+
+use crate::channel::{Channel, owns, tells_unblock};
+use crate::thread::{Thread, sender_seat};
+use qbase::bytes::Bytes;
+use qbase::ids::{ChannelId, ConnectionId, ProcessNo, ReceiveId, ThreadNo};
+use qmodel::call::Info;
+use qmodel::open_call::{OpenCall, Receipt, Wait};
+use qtables::channels::Channels;
+use qtables::connections::Connections;
+use std::mem;
+
+/// A message that is held.
+#[derive(Clone, Copy, Debug, PartialEq, Eq)]
+pub struct Held {
+    pub rcvid: ReceiveId,
+    /// The connection over which it was sent.
+    pub coid: ConnectionId,
+    /// What is kept of its receipt.
+    pub receipt: Receipt,
+}
+
+/// The message that the thread at a seat waits for the answer to and that is held on a channel with the
+/// unblock flag, and that channel.
+pub fn guarded(
+    threads: &[Thread],
+    connections: &Connections,
+    channels: &Channels<Channel>,
+    seat: usize,
+    thread: ThreadNo,
+) -> Option<(Held, ChannelId)>
+    requires { seat_in threads.now thread ≡ Some seat }
+    ensures { result ≡ guarded_in connections.now channels.now (held_in (open_in threads.now thread)) }
+{
+    let held = threads[seat].held()?;
+    let connection = connections.get(held.coid)?;
+    if tells_unblock(channels, connection.channel) {
+        Some((held, connection.channel))
+    } else {
+        None
+    }
+}
+
+/// Keeps that an unblock pulse was made for the message of the thread at a seat.
+pub fn mark_unblocked(threads: &mut Vec<Thread>, seat: usize, thread: ThreadNo)
+    requires { seat_in threads.old.items thread ≡ Some seat }
+    ensures { MarksUnblocked thread threads.old.items threads.new.items }
+{
+    let there = &mut threads[seat];
+    there.mark_unblocked();
+}
+
+/// Where the thread stands whose message is held under this id, on a channel of this process.
+pub fn held_seat(
+    threads: &[Thread],
+    connections: &Connections,
+    channels: &Channels<Channel>,
+    process: ProcessNo,
+    rcvid: ReceiveId,
+) -> Option<usize>
+    requires { IsRoster (members_of threads.now) }
+    ensures held { is_some result ≡ is_held_in threads.now connections.now channels.now process rcvid }
+    ensures seat { IfSome result (λ seat. position (λ t. is_send rcvid t.open_call) threads.now ≡ Some seat) }
+{
+    let seat = sender_seat(threads, rcvid.0)?;
+    let coid = threads[seat].held_over()?;
+    let connection = connections.get(coid)?;
+    if owns(channels, process, connection.channel) {
+        Some(seat)
+    } else {
+        None
+    }
+}
+
+/// Takes the Send of this number out of the thread at a seat, which then isn't blocked; answers the thread
+/// and the call.
+pub fn take_sent(
+    threads: &mut Vec<Thread>,
+    seat: usize,
+    number: u64,
+) -> (ThreadNo, Option<OpenCall>)
+    requires roster { IsRoster (members_of threads.old.items) }
+    requires seat { position (λ t. is_send number t.open_call) threads.old.items ≡ Some seat }
+    ensures thread { sender_in threads.old.items number ≡ Some result.0 }
+    ensures had { result.1 ≡ open_in threads.old.items result.0 }
+    ensures after { SetsOpen result.0 None threads.old.items threads.new.items }
+{
+    let there = &mut threads[seat];
+    let thread = there.member.thread;
+    (thread, mem::replace(&mut there.open_call, None))
+}
+
+/// Copies bytes over the reply buffer of the Send of this number, whose thread stands at a seat, and
+/// answers how many.
+pub fn write_sent(
+    threads: &mut Vec<Thread>,
+    seat: usize,
+    number: u64,
+    offset: usize,
+    bytes: &Bytes,
+) -> usize
+    requires roster { IsRoster (members_of threads.old.items) }
+    requires seat { position (λ t. is_send number t.open_call) threads.old.items ≡ Some seat }
+    ensures after { ChangesSender number (written_call offset bytes.now) threads.old.items threads.new.items }
+    ensures count { result ≡ laid_count (reply_buffer_in (sent_call threads.old.items number)) offset bytes.now }
+{
+    let sender = &mut threads[seat];
+    sender.write(offset, bytes)
+}
+
+/// Copies bytes over the reply buffer of a wait for an answer, and answers how many.
+fn write_over(wait: &mut Wait, offset: usize, bytes: &Bytes) -> usize
+    ensures after { wait.new ≡ with_buffer (λ b. lay_over b offset bytes.now) wait.old }
+    ensures count { result ≡ laid_count (reply_buffer_of wait.old) offset bytes.now }
+{
+    match wait {
+        Wait::Answer { reply_buffer, .. } => reply_buffer.lay(offset, bytes.as_slice()),
+        Wait::Item { .. } => 0,
+    }
+}
+
+/// Keeps that an unblock pulse was made for the message whose answer is waited for, if that is received.
+fn mark_wait(wait: &mut Wait)
+    ensures { wait.new ≡ unblocked_wait wait.old }
+{
+    if let Wait::Answer {
+        receipt: Some(receipt),
+        ..
+    } = wait
+    {
+        receipt.unblocked = true;
+    }
+}
+
+impl Thread {
+    /// The message that it waits for the answer to, where that is held.
+    pub fn held(&self) -> Option<Held>
+        ensures { result ≡ held_in self.now.open_call }
+    {
+        let call = self.open_call.as_ref()?;
+        match &call.wait {
+            Wait::Answer {
+                coid,
+                receipt: Some(receipt),
+                ..
+            } => Some(Held {
+                rcvid: ReceiveId(call.number),
+                coid: *coid,
+                receipt: *receipt,
+            }),
+            _ => None,
+        }
+    }
+
+    /// Keeps that an unblock pulse was made for its message, if that is held.
+    fn mark_unblocked(&mut self)
+        ensures member { self.new.member ≡ self.old.member }
+        ensures priority { self.new.priority ≡ self.old.priority }
+        ensures after { self.new.open_call ≡ option_map unblocked_call self.old.open_call }
+    {
+        if let Some(call) = &mut self.open_call {
+            mark_wait(&mut call.wait);
+        }
+    }
+
+    /// The message of the Send that it is blocked in.
+    pub fn message(&self) -> &[u8]
+        ensures { result.now ≡ message_in self.now.open_call }
+    {
+        let Some(call) = &self.open_call else {
+            return &[];
+        };
+        match &call.wait {
+            Wait::Answer { message, .. } => message.as_slice(),
+            Wait::Item { .. } => &[],
+        }
+    }
+
+    /// Copies bytes over the reply buffer of the Send that it is blocked in, and answers how many.
+    fn write(&mut self, offset: usize, bytes: &Bytes) -> usize
+        ensures member { self.new.member ≡ self.old.member }
+        ensures priority { self.new.priority ≡ self.old.priority }
+        ensures after { self.new.open_call ≡ option_map (written_call offset bytes.now) self.old.open_call }
+        ensures count { result ≡ laid_count (reply_buffer_in self.old.open_call) offset bytes.now }
+    {
+        match &mut self.open_call {
+            None => 0,
+            Some(call) => write_over(&mut call.wait, offset, bytes),
+        }
+    }
+
+    /// What is told of the message that it sent, where that is received.
+    pub fn info(&self) -> Option<Info>
+        ensures { result ≡ told_of self.now.member self.now.open_call }
+    {
+        let call = self.open_call.as_ref()?;
+        match &call.wait {
+            Wait::Answer {
+                coid,
+                message,
+                reply_buffer,
+                receipt: Some(receipt),
+            } => Some(Info {
+                process: self.member.process,
+                thread: self.member.thread,
+                connection: *coid,
+                msglen: receipt.copied,
+                srcmsglen: message.len(),
+                dstmsglen: reply_buffer.len(),
+                priority: receipt.priority,
+            }),
+            _ => None,
+        }
+    }
+}

@@ -1,0 +1,57 @@
+//! The state of a thread, and the channel on which it is blocked.
+
+ghost use Rattle.std.specs.Prelude.{◌≡◌, Some};
+ghost use Rattle.qtables.specs.Entries.{entry_at};
+ghost use Rattle.qmodel.specs.ThreadStates.{channel_over, state_of, state_in};
+ghost use Rattle.qstate.specs.Threads.{open_in, seat_in};
+
+use crate::thread::Thread;
+use qbase::ids::{ChannelId, ConnectionId, ThreadNo};
+use qbase::state::ThreadState;
+use qmodel::open_call::Wait;
+use qtables::connections::Connections;
+
+/// The channel of a connection, 0 where there is none.
+fn channel_of(connections: &Connections, coid: ConnectionId) -> ChannelId
+    ensures { result ≡ channel_over (entry_at connections.now coid) }
+{
+    match connections.get(coid) {
+        None => ChannelId(0),
+        Some(connection) => connection.channel,
+    }
+}
+
+/// The state of a thread that waits so.
+pub fn state_of_wait(connections: &Connections, wait: &Wait) -> ThreadState
+    ensures { result ≡ state_of (entry_at connections.now) wait.now }
+{
+    match wait {
+        Wait::Answer {
+            coid,
+            receipt: None,
+            ..
+        } => ThreadState::SendBlocked(channel_of(connections, *coid)),
+        Wait::Answer {
+            coid,
+            receipt: Some(_),
+            ..
+        } => ThreadState::ReplyBlocked(channel_of(connections, *coid)),
+        Wait::Item { chid, .. } => ThreadState::ReceiveBlocked(*chid),
+    }
+}
+
+/// The state of the thread at a seat.
+pub fn state_at(
+    connections: &Connections,
+    threads: &[Thread],
+    seat: usize,
+    thread: ThreadNo,
+) -> ThreadState
+    requires { seat_in threads.now thread ≡ Some seat }
+    ensures { result ≡ state_in (entry_at connections.now) (open_in threads.now thread) }
+{
+    match &threads[seat].open_call {
+        None => ThreadState::Ready,
+        Some(call) => state_of_wait(connections, &call.wait),
+    }
+}

@@ -1,0 +1,64 @@
+//! Messages that are sent and not yet received: with such a message its thread is SEND-blocked.
+
+ghost use Rattle.std.specs.Prelude.{◌≡◌, Some};
+ghost use Rattle.qstate.specs.Threads.{open_in, seat_in};
+ghost use Rattle.qstate.specs.Unread.{unread_in, MovesUnread};
+
+use crate::channel::{Channel, requeue};
+use crate::thread::Thread;
+use qbase::ids::{ConnectionId, ThreadNo};
+use qbase::priority::Priority;
+use qmodel::open_call::Wait;
+use qtables::channels::Channels;
+use qtables::connections::Connections;
+
+/// A message that isn't received.
+#[derive(Clone, Copy, Debug, PartialEq, Eq)]
+pub struct Unread {
+    /// The number of its Send.
+    pub number: u64,
+    /// The connection over which it was sent.
+    pub coid: ConnectionId,
+}
+
+impl Thread {
+    /// The message that it waits for the receipt of.
+    pub fn unread(&self) -> Option<Unread>
+        ensures { result ≡ unread_in self.now.open_call }
+    {
+        let call = self.open_call.as_ref()?;
+        match &call.wait {
+            Wait::Answer {
+                coid,
+                receipt: None,
+                ..
+            } => Some(Unread {
+                number: call.number,
+                coid: *coid,
+            }),
+            _ => None,
+        }
+    }
+}
+
+/// Gives the message with which the thread at a seat is SEND-blocked another priority, on the channel on which it
+/// waits; where the thread isn't SEND-blocked nothing moves. Takes no memory.
+pub fn requeue_unread(
+    threads: &[Thread],
+    connections: &Connections,
+    channels: &mut Channels<Channel>,
+    seat: usize,
+    thread: ThreadNo,
+    priority: Priority,
+)
+    requires { seat_in threads.now thread ≡ Some seat }
+    ensures { MovesUnread (open_in threads.now thread) connections.now priority channels.old channels.new }
+{
+    let Some(unread) = threads[seat].unread() else {
+        return;
+    };
+    let Some(connection) = connections.get(unread.coid) else {
+        return;
+    };
+    requeue(channels, connection.channel, unread.number, priority);
+}
