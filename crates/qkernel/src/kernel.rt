@@ -10,6 +10,7 @@ mod channel_destroy;
 mod connect_attach;
 mod connect_detach;
 mod error;
+mod finding;
 mod info;
 mod priority_set;
 mod pulse;

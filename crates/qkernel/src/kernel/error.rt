@@ -7,12 +7,11 @@ ghost use Rattle.qmodel.specs.Held.{finished};
 use super::Kernel;
 use super::turn::Turn;
 use qbase::bytes::Bytes;
-use qbase::errno::Errno;
 use qbase::ids::{ReceiveId, ThreadNo};
 use qmodel::call::{Call, Completion, Mark};
 use qmodel::open_call::{OpenCall, Wait};
 use qstate::endings::{Endings, end_two, own_ending, refuse};
-use qstate::held::{held_seat, take_sent};
+use qstate::held::take_sent;
 
 /// How the sender's call is marked: the code 0 is a reply of status 0 with no bytes, our own profile.
 fn mark(code: i32) -> Mark
@@ -55,14 +54,9 @@ impl Kernel {
     {
         let number = turn.made + 1;
         let alloc = self.alloc;
-        let Some(held) = held_seat(
-            &self.threads,
-            &self.connections,
-            &self.channels,
-            turn.process,
-            rcvid,
-        ) else {
-            return refuse(endings, number, turn.thread, Errno::Srch, Bytes::new(alloc));
+        let held = match self.held_seat(turn, rcvid) {
+            Ok(held) => held,
+            Err(errno) => return refuse(endings, number, turn.thread, errno, Bytes::new(alloc)),
         };
         let (client, call) = take_sent(&mut self.threads, held, rcvid.0);
         let Some(ended) = errored_to(call, client, code) else {

@@ -3,11 +3,9 @@
 use super::Kernel;
 use super::turn::Turn;
 use qbase::bytes::Bytes;
-use qbase::errno::Errno;
 use qbase::ids::ReceiveId;
 use qmodel::call::{Call, Mark};
 use qstate::endings::{Endings, end_own, refuse};
-use qstate::held::held_seat;
 
 impl Kernel {
     ghost use Rattle.qkernel.specs.Turns.{MayCall, Makes};
@@ -19,14 +17,9 @@ impl Kernel {
     {
         let number = turn.made + 1;
         let alloc = self.alloc;
-        let Some(held) = held_seat(
-            &self.threads,
-            &self.connections,
-            &self.channels,
-            turn.process,
-            rcvid,
-        ) else {
-            return refuse(endings, number, turn.thread, Errno::Srch, Bytes::new(alloc));
+        let held = match self.held_seat(turn, rcvid) {
+            Ok(held) => held,
+            Err(errno) => return refuse(endings, number, turn.thread, errno, Bytes::new(alloc)),
         };
         let Some(info) = self.threads[held].info() else {
             unreachable!();

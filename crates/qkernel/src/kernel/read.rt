@@ -3,11 +3,9 @@
 use super::Kernel;
 use super::turn::Turn;
 use qbase::bytes::Bytes;
-use qbase::errno::Errno;
 use qbase::ids::ReceiveId;
 use qmodel::call::{Call, Completion, Mark};
 use qstate::endings::{Endings, end_one, refuse};
-use qstate::held::held_seat;
 
 impl Kernel {
     ghost use Rattle.qkernel.specs.Turns.{MayCall, Makes};
@@ -26,14 +24,9 @@ impl Kernel {
         ensures { Makes self.old turn.now (Call.Read rcvid offset buffer) endings.new.items self.new }
     {
         let number = turn.made + 1;
-        let Some(held) = held_seat(
-            &self.threads,
-            &self.connections,
-            &self.channels,
-            turn.process,
-            rcvid,
-        ) else {
-            return refuse(endings, number, turn.thread, Errno::Srch, buffer);
+        let held = match self.held_seat(turn, rcvid) {
+            Ok(held) => held,
+            Err(errno) => return refuse(endings, number, turn.thread, errno, buffer),
         };
         let mut buffer = buffer;
         let copied = buffer.take(self.threads[held].message(), offset);

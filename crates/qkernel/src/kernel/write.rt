@@ -3,11 +3,10 @@
 use super::Kernel;
 use super::turn::Turn;
 use qbase::bytes::Bytes;
-use qbase::errno::Errno;
 use qbase::ids::ReceiveId;
 use qmodel::call::{Call, Mark};
 use qstate::endings::{Endings, end_own, refuse};
-use qstate::held::{held_seat, write_sent};
+use qstate::held::write_sent;
 
 impl Kernel {
     ghost use Rattle.qkernel.specs.Turns.{MayCall, Makes};
@@ -27,14 +26,9 @@ impl Kernel {
     {
         let number = turn.made + 1;
         let alloc = self.alloc;
-        let Some(held) = held_seat(
-            &self.threads,
-            &self.connections,
-            &self.channels,
-            turn.process,
-            rcvid,
-        ) else {
-            return refuse(endings, number, turn.thread, Errno::Srch, Bytes::new(alloc));
+        let held = match self.held_seat(turn, rcvid) {
+            Ok(held) => held,
+            Err(errno) => return refuse(endings, number, turn.thread, errno, Bytes::new(alloc)),
         };
         let copied = write_sent(&mut self.threads, held, rcvid.0, offset, &bytes);
         end_own(endings, alloc, number, turn.thread, Mark::Count(copied));

@@ -7,24 +7,24 @@ use Rattle.qkernel.proofs.Steps.Held.{step_unheld}
 use Rattle.qkernel.proofs.Steps.Info.{info_there, step_info, told_there}
 use Rattle.qkernel.proofs.kernel.Kernel.info.Goals as goal
 
-pub returns-in_default : goal.returns-in_default
-returns-in_default c =
+pub returns-in-Err : goal.returns-in-Err
+returns-in-Err c =
     let may = rw (← c.self.view_is) at c.requires in
-    let none = rw c.deref.ensures.value at (sym c.in_default.ensures.held) in
-    rw (← c.self.view_is, may.counted) (step_unheld _ c.args.turn.now.thread _ c.args.rcvid may.sound may.caller.known (Info c.args.rcvid) _ refl may.up may.free none (rw c.new.ensures at c.refuse.ensures))
+    let none = rw (← c.self.view_is) at c.in-Err.ensures.none in
+    rw (← c.self.view_is, may.counted) (step_unheld _ c.args.turn.now.thread _ c.args.rcvid may.sound may.caller.known (Info c.args.rcvid) _ refl may.up may.free none (rw (c.new.ensures, c.in-Err.ensures.error) at c.refuse.ensures))
 
 pub unreachable-requires : goal.unreachable-requires
 unreachable-requires c =
     let may = rw (← c.self.view_is) at c.requires in
-    let at : position (λ t. is_send c.args.rcvid t.open_call) c.self.inside.threads.items ≡ Some c.in-Some.held = rw c.deref.ensures.value at c.in-Some.ensures.seat in
-    let held = rw c.deref.ensures.value at (sym c.in-Some.ensures.held) in
-    told_there c.self.inside.connections c.self.inside.channels c.args.turn.now.process c.args.rcvid c.self.inside.threads.items c.in-Some.held c.index.result.now may.sound.roster at held
-    (ap (λ t. told_of t.member t.open_call) (sym c.index.ensures) ∙ sym c.info.ensures ∙ c.in_default-info.is)
+    let at : position (λ t. is_send c.args.rcvid t.open_call) c.self.inside.threads.items ≡ Some c.in-Ok.held = rw (← c.self.view_is) at c.in-Ok.ensures.seat in
+    let held = rw (← c.self.view_is) at c.in-Ok.ensures.held in
+    told_there c.self.inside.connections c.self.inside.channels c.args.turn.now.process c.args.rcvid c.self.inside.threads.items c.in-Ok.held c.index.result.now may.sound.roster at held
+    (ap (λ t. told_of t.member t.open_call) (sym c.index.ensures) ∙ sym c.info.ensures ∙ c.in_default.is)
 
 pub returns : goal.returns
 returns c =
     let may = rw (← c.self.view_is) at c.requires in
-    let held = rw c.deref.ensures.value at (sym c.in-Some.ensures.held) in
-    let at : position (λ t. is_send c.args.rcvid t.open_call) c.self.inside.threads.items ≡ Some c.in-Some.held = rw c.deref.ensures.value at c.in-Some.ensures.seat in
-    let told = info_there (record { made = c.args.turn.now.made; down = c.self.inside.down; threads = c.self.inside.threads.items; channels = c.self.inside.channels; connections = c.self.inside.connections }) c.args.rcvid c.in-Some.held c.index.result.now may.sound.roster at ∙ ap (λ t. told_of t.member t.open_call) (sym c.index.ensures) ∙ sym c.info.ensures ∙ c.in-Some-info.is in
-    rw (← c.self.view_is, may.counted) (step_info _ c.args.turn.now.thread _ c.args.rcvid may.sound may.caller.known may.up may.free held c.in-Some-info.info _ told c.end_own.ensures)
+    let held = rw (← c.self.view_is) at c.in-Ok.ensures.held in
+    let at : position (λ t. is_send c.args.rcvid t.open_call) c.self.inside.threads.items ≡ Some c.in-Ok.held = rw (← c.self.view_is) at c.in-Ok.ensures.seat in
+    let told = info_there (record { made = c.args.turn.now.made; down = c.self.inside.down; threads = c.self.inside.threads.items; channels = c.self.inside.channels; connections = c.self.inside.connections }) c.args.rcvid c.in-Ok.held c.index.result.now may.sound.roster at ∙ ap (λ t. told_of t.member t.open_call) (sym c.index.ensures) ∙ sym c.info.ensures ∙ c.in-Some.is in
+    rw (← c.self.view_is, may.counted) (step_info _ c.args.turn.now.thread _ c.args.rcvid may.sound may.caller.known may.up may.free held c.in-Some.info _ told c.end_own.ensures)

@@ -8,18 +8,18 @@ use Rattle.qkernel.proofs.Steps.Held.{step_unheld}
 use Rattle.qkernel.proofs.Steps.Read.{step_read}
 use Rattle.qkernel.proofs.kernel.Kernel.read.Goals as goal
 
-pub returns-in_default : goal.returns-in_default
-returns-in_default c =
+pub returns-in-Err : goal.returns-in-Err
+returns-in-Err c =
     let may = rw (← c.self.view_is) at c.requires in
-    let none = rw c.deref.ensures.value at (sym c.in_default.ensures.held) in
-    rw (← c.self.view_is, may.counted) (step_unheld _ c.args.turn.now.thread _ c.args.rcvid may.sound may.caller.known (Read c.args.rcvid c.args.offset c.args.buffer) _ refl may.up may.free none c.refuse.ensures)
+    let none = rw (← c.self.view_is) at c.in-Err.ensures.none in
+    rw (← c.self.view_is, may.counted) (step_unheld _ c.args.turn.now.thread _ c.args.rcvid may.sound may.caller.known (Read c.args.rcvid c.args.offset c.args.buffer) _ refl may.up may.free none (rw c.in-Err.ensures.error at c.refuse.ensures))
 
 pub returns : goal.returns
 returns c =
     let may = rw (← c.self.view_is) at c.requires in
-    let held = rw c.deref.ensures.value at (sym c.in-Some.ensures.held) in
-    let at : position (λ t. is_send c.args.rcvid t.open_call) c.self.inside.threads.items ≡ Some c.in-Some.held = rw c.deref.ensures.value at c.in-Some.ensures.seat in
+    let held = rw (← c.self.view_is) at c.in-Ok.ensures.held in
+    let at : position (λ t. is_send c.args.rcvid t.open_call) c.self.inside.threads.items ≡ Some c.in-Ok.held = rw (← c.self.view_is) at c.in-Ok.ensures.seat in
     let message : c.message.result.now ≡ message_from c.self.inside.threads.items c.args.rcvid =
-    c.message.ensures ∙ ap (λ t. message_in t.open_call) c.index.ensures ∙ sym (message_there c.args.rcvid c.self.inside.threads.items c.in-Some.held c.index.result.now may.sound.roster at) in
+    c.message.ensures ∙ ap (λ t. message_in t.open_call) c.index.ensures ∙ sym (message_there c.args.rcvid c.self.inside.threads.items c.in-Ok.held c.index.result.now may.sound.roster at) in
     let ended = rw (c.take-copied.ensures.count, c.take-copied.ensures.after, message) at c.end_one.ensures in
     rw (← c.self.view_is, may.counted) (step_read _ c.args.turn.now.thread _ c.args.rcvid may.sound may.caller.known may.up may.free held c.args.offset c.args.buffer _ ended)

@@ -1,15 +1,15 @@
-use Rattle.std.proofs.Common.{refl, sym}
+use Rattle.std.proofs.Common.{refl}
 use Rattle.qmodel.specs.declared.call.Call.TheVariants.{Write}
 use Rattle.qkernel.proofs.Steps.Held.{step_unheld}
 use Rattle.qkernel.proofs.Steps.Write.{step_written}
 use Rattle.qkernel.proofs.Steps.Delivering.{sound_threads}
 use Rattle.qkernel.proofs.kernel.Kernel.write.Goals as goal
 
-pub returns-in_default : goal.returns-in_default
-returns-in_default c =
+pub returns-in-Err : goal.returns-in-Err
+returns-in-Err c =
     let may = rw (← c.self.view_is) at c.requires in
-    let none = rw c.deref.ensures.value at (sym c.in_default.ensures.held) in
-    rw (← c.self.view_is, may.counted) (step_unheld _ c.args.turn.now.thread _ c.args.rcvid may.sound may.caller.known (Write c.args.rcvid c.args.offset c.args.bytes) _ refl may.up may.free none (rw c.new.ensures at c.refuse.ensures))
+    let none = rw (← c.self.view_is) at c.in-Err.ensures.none in
+    rw (← c.self.view_is, may.counted) (step_unheld _ c.args.turn.now.thread _ c.args.rcvid may.sound may.caller.known (Write c.args.rcvid c.args.offset c.args.bytes) _ refl may.up may.free none (rw (c.new.ensures, c.in-Err.ensures.error) at c.refuse.ensures))
 
 pub invariant_of-self : goal.invariant_of-self
 invariant_of-self c =
@@ -19,7 +19,7 @@ invariant_of-self c =
 pub returns : goal.returns
 returns c =
     let may = rw (← c.self.view_is) at c.requires in
-    let held = rw c.deref.ensures.value at (sym c.in-Some.ensures.held) in
+    let held = rw (← c.self.view_is) at c.in-Ok.ensures.held in
     let changes = rw c.rcvid.view_is at c.write_sent-copied.ensures.after in
     let count = rw c.rcvid.view_is at c.write_sent-copied.ensures.count in
     rw (← c.self.view_is, may.counted) (step_written _ c.args.turn.now.thread _ c.args.rcvid may.sound may.caller.known may.up may.free held c.args.offset c.args.bytes _ _ changes (rw count at c.end_own.ensures))
