@@ -1,8 +1,10 @@
 -- A call's turn, and what its own method makes of the kernel.
-use Rattle.std.specs.Prelude.{◌≡◌, ℕ, ◌+◌, false, List, [], None, Some}
+use Rattle.std.specs.Prelude.{◌≡◌, ℕ, ◌+◌, false, List, [], ◌∷◌, None, Some, Result, Ok, Err}
+use Rattle.qbase.specs.declared.errno.Errno.{Errno}
 use Rattle.qtables.specs.Members.{member_at}
 use Rattle.qmodel.specs.declared.call.Call.{Call}
 use Rattle.qmodel.specs.declared.call.Completion.{Completion}
+use Rattle.qmodel.specs.declared.call.Mark.TheVariants as mark
 use Rattle.qstate.specs.Threads.{members_of, open_in, level_in, seat_in}
 use Rattle.qstate.specs.declared.thread.Thread.{Thread}
 use Rattle.qkernel.specs.State.{State, IsSound}
@@ -32,3 +34,12 @@ pub record MayCall (s : State) (turn : Turn) (endings : List Completion) : Type 
 -- the call of this turn, from the content before it was counted
 abbrev pub Makes : State → Turn → Call → List Completion → State → Type 0
 Makes old turn c endings new = Steps (before turn old) turn.thread c endings new
+
+-- how the call of this turn ends that is refused and gives no buffer back
+abbrev pub refused : Turn → Errno → Completion
+refused turn e = record { call = turn.made + 1; thread = turn.thread; mark = mark.Failed e; buffer = [] }
+
+-- the call is made with these endings; or it is refused with an error, and none is put yet
+abbrev pub MakesOrRefuses : {T : Type 0} → State → Turn → Call → Result T Errno → List Completion → State → Type 0
+MakesOrRefuses old turn c (Ok done) endings new = Makes old turn c endings new
+MakesOrRefuses old turn c (Err e) endings new = (endings ≡ []) × Makes old turn c (refused turn e ∷ []) new

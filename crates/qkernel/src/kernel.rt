@@ -26,6 +26,7 @@ mod unblock;
 mod write;
 
 use arrayvec::ArrayVec;
+use qbase::bytes::Bytes;
 use qbase::errno::Errno;
 use qbase::ids::ThreadNo;
 use qmodel::call::Call;
@@ -67,7 +68,7 @@ impl Model for Kernel {
 impl Kernel {
     ghost use Rattle.qkernel.specs.Stands.{Steps, StandsAt, AnswersAtTraces, DispatchError, LeavesIfRefused};
     ghost use Rattle.qkernel.specs.State.{IsSound};
-    ghost use Rattle.qkernel.specs.Turns.{IsTurnIn, MayCall, Makes};
+    ghost use Rattle.qkernel.specs.Turns.{IsTurnIn, MayCall, MakesOrRefuses};
 
     /// A kernel without channels, all threads of the roster ready at the priority that they begin with. The
     /// room for thread records and open calls is made here; `NoMemory` is the only error.
@@ -117,13 +118,14 @@ impl Kernel {
             thread,
             process: member_of(&self.threads, seat, thread).process,
             priority: level_of(&self.threads, seat, thread),
+            alloc: self.alloc,
         }
     }
 
     /// Makes a counted call that nothing refuses whichever call it is, by the call's own method.
-    fn make(&mut self, turn: &Turn, call: Call, endings: &mut Endings)
+    fn make(&mut self, turn: &Turn, call: Call, endings: &mut Endings) -> Result<(), Errno>
         requires { MayCall self.old turn.now endings.old.items }
-        ensures { Makes self.old turn.now call endings.new.items self.new }
+        ensures { MakesOrRefuses self.old turn.now call result endings.new.items self.new }
     {
         match call {
             Call::ChannelCreate(flags) => self.channel_create(turn, flags, endings),
@@ -132,8 +134,14 @@ impl Kernel {
                 coid,
                 message,
                 reply_buffer,
-            } => self.send(turn, coid, message, reply_buffer, endings),
-            Call::Receive { chid, buffer } => self.receive(turn, chid, buffer, endings),
+            } => {
+                self.send(turn, coid, message, reply_buffer, endings);
+                Ok(())
+            }
+            Call::Receive { chid, buffer } => {
+                self.receive(turn, chid, buffer, endings);
+                Ok(())
+            }
             Call::Reply {
                 rcvid,
                 status,
@@ -144,14 +152,20 @@ impl Kernel {
                 rcvid,
                 offset,
                 buffer,
-            } => self.read(turn, rcvid, offset, buffer, endings),
+            } => {
+                self.read(turn, rcvid, offset, buffer, endings);
+                Ok(())
+            }
             Call::Write {
                 rcvid,
                 offset,
                 bytes,
             } => self.write(turn, rcvid, offset, bytes, endings),
             Call::Info(rcvid) => self.info(turn, rcvid, endings),
-            Call::ReceivePulse(chid) => self.receive_pulse(turn, chid, endings),
+            Call::ReceivePulse(chid) => {
+                self.receive_pulse(turn, chid, endings);
+                Ok(())
+            }
             Call::Pulse {
                 coid,
                 priority,
@@ -164,7 +178,10 @@ impl Kernel {
             } => self.priority_set(turn, target, priority, endings),
             Call::State(target) => self.state(turn, target, endings),
             Call::ChannelDestroy(chid) => self.channel_destroy(turn, chid, endings),
-            Call::Shutdown => self.shutdown(turn, endings),
+            Call::Shutdown => {
+                self.shutdown(turn, endings);
+                Ok(())
+            }
             Call::Unblock(target) => self.unblock(turn, target, endings),
             Call::ConnectDetach(coid) => self.connect_detach(turn, coid, endings),
         }
@@ -182,9 +199,10 @@ impl Kernel {
         self.made += 1;
         if let Some(errno) = refusal {
             let buffer = call.into_buffer(self.alloc);
-            refuse(endings, self.made, thread, errno, buffer);
-        } else {
-            self.make(&turn, call, endings);
+            return refuse(endings, self.made, thread, errno, buffer);
+        }
+        if let Err(errno) = self.make(&turn, call, endings) {
+            turn.refuse(endings, errno, Bytes::new(self.alloc));
         }
     }
 

@@ -5,7 +5,6 @@ ghost use Rattle.qmodel.specs.Rows.{disconnect_item};
 
 use super::Kernel;
 use super::turn::Turn;
-use qbase::bytes::Bytes;
 use qbase::errno::Errno;
 use qbase::ids::{ConnectionId, ProcessNo};
 use qbase::priority::Priority;
@@ -13,7 +12,7 @@ use qmodel::call::{Call, Mark};
 use qqueue::item::{Item, What};
 use qstate::channel::{own_connection, tells_detached};
 use qstate::cutting::{Cut, cut_calls};
-use qstate::endings::{Endings, end_also, own_ending, refuse};
+use qstate::endings::{Endings, end_also};
 use qstate::pulses::send_due;
 
 /// The pulse that tells of a process's last connection, if it is that.
@@ -32,42 +31,37 @@ fn pulse_for(last: bool, number: u64, priority: Priority, process: ProcessNo) ->
 }
 
 impl Kernel {
-    ghost use Rattle.qkernel.specs.Turns.{MayCall, Makes};
+    ghost use Rattle.qkernel.specs.Turns.{MayCall, MakesOrRefuses};
 
     /// Detaches a connection of the caller's process, after each Send over it has ended with `Badf`. Where it
     /// was the last one of the process to a channel with the disconnect flag, the channel's server gets a
     /// pulse of the caller's priority. Never blocks, and takes memory for a pulse that waits alone.
-    pub(super) fn connect_detach(&mut self, turn: &Turn, coid: ConnectionId, endings: &mut Endings)
+    pub(super) fn connect_detach(
+        &mut self,
+        turn: &Turn,
+        coid: ConnectionId,
+        endings: &mut Endings,
+    ) -> Result<(), Errno>
         requires { MayCall self.old turn.now endings.old.items }
-        ensures { Makes self.old turn.now (Call.ConnectDetach coid) endings.new.items self.new }
+        ensures { MakesOrRefuses self.old turn.now (Call.ConnectDetach coid) result endings.new.items self.new }
     {
-        let number = turn.made + 1;
-        let alloc = self.alloc;
         let Some(chid) = own_connection(&self.connections, turn.process, coid) else {
-            return refuse(
-                endings,
-                number,
-                turn.thread,
-                Errno::Inval,
-                Bytes::new(alloc),
-            );
+            return Err(Errno::Inval);
         };
         let last = tells_detached(&self.connections, &self.channels, turn.process, chid);
-        let due = pulse_for(last, number, turn.priority, turn.process);
-        let met = match send_due(&mut self.threads, &mut self.channels, chid, due) {
-            Ok(met) => met,
-            Err(errno) => return refuse(endings, number, turn.thread, errno, Bytes::new(alloc)),
-        };
+        let due = pulse_for(last, turn.made + 1, turn.priority, turn.process);
+        let met = send_due(&mut self.threads, &mut self.channels, chid, due)?;
         cut_calls(
             &mut self.threads,
             &mut self.channels,
             &self.connections,
             Cut::Over(coid),
             Errno::Badf,
-            own_ending(alloc, number, turn.thread, Mark::Ok),
+            turn.ending(Mark::Ok),
             endings,
         );
         end_also(endings, met);
         let _ = self.connections.remove(coid);
+        Ok(())
     }
 }

@@ -6,11 +6,11 @@ ghost use Rattle.qmodel.specs.Held.{finished};
 
 use super::Kernel;
 use super::turn::Turn;
-use qbase::bytes::Bytes;
+use qbase::errno::Errno;
 use qbase::ids::{ReceiveId, ThreadNo};
 use qmodel::call::{Call, Completion, Mark};
 use qmodel::open_call::{OpenCall, Wait};
-use qstate::endings::{Endings, end_two, own_ending, refuse};
+use qstate::endings::Endings;
 use qstate::held::take_sent;
 
 /// How the sender's call is marked: the code 0 is a reply of status 0 with no bytes, our own profile.
@@ -44,25 +44,26 @@ fn errored_to(call: Option<OpenCall>, thread: ThreadNo, code: i32) -> Option<Com
 }
 
 impl Kernel {
-    ghost use Rattle.qkernel.specs.Turns.{MayCall, Makes};
+    ghost use Rattle.qkernel.specs.Turns.{MayCall, MakesOrRefuses};
 
     /// Answers a held message with a code and no bytes: its sender's call ends. Never blocks, and takes no
     /// memory.
-    pub(super) fn error(&mut self, turn: &Turn, rcvid: ReceiveId, code: i32, endings: &mut Endings)
+    pub(super) fn error(
+        &mut self,
+        turn: &Turn,
+        rcvid: ReceiveId,
+        code: i32,
+        endings: &mut Endings,
+    ) -> Result<(), Errno>
         requires { MayCall self.old turn.now endings.old.items }
-        ensures { Makes self.old turn.now (Call.Error rcvid code) endings.new.items self.new }
+        ensures { MakesOrRefuses self.old turn.now (Call.Error rcvid code) result endings.new.items self.new }
     {
-        let number = turn.made + 1;
-        let alloc = self.alloc;
-        let held = match self.held_seat(turn, rcvid) {
-            Ok(held) => held,
-            Err(errno) => return refuse(endings, number, turn.thread, errno, Bytes::new(alloc)),
-        };
+        let held = self.held_seat(turn, rcvid)?;
         let (client, call) = take_sent(&mut self.threads, held, rcvid.0);
         let Some(ended) = errored_to(call, client, code) else {
             unreachable!();
         };
-        let mine = own_ending(alloc, number, turn.thread, Mark::Ok);
-        end_two(endings, mine, ended);
+        turn.end_both(endings, ended);
+        Ok(())
     }
 }

@@ -3,12 +3,17 @@
 ghost use Rattle.std.specs.Prelude.{◌≡◌, Some, true, false, position, IfOk, IfErr};
 ghost use Rattle.qmodel.specs.Facts.{is_send};
 ghost use Rattle.qstate.specs.HeldIn.{is_held_in};
+ghost use Rattle.qmodel.specs.Facts.{is_in_process};
+ghost use Rattle.qtables.specs.Members.{member_at};
+ghost use Rattle.qstate.specs.HeldIn.{guarded_in, held_in};
+ghost use Rattle.qstate.specs.Threads.{members_of, open_in, seat_in};
 
 use super::Kernel;
 use super::turn::Turn;
 use qbase::errno::Errno;
-use qbase::ids::ReceiveId;
-use qstate::held::held_seat;
+use qbase::ids::{ChannelId, ReceiveId, ThreadNo};
+use qstate::held::{Held, guarded, held_seat};
+use qstate::thread::seat_in_process;
 
 impl Kernel {
     /// Where the thread stands whose message is held under this id on a channel of the caller's process;
@@ -27,5 +32,30 @@ impl Kernel {
             rcvid,
         );
         seat.ok_or(Errno::Srch)
+    }
+
+    /// Where a thread of the caller's process stands; `Srch` where it is none.
+    pub(super) fn fellow_seat(&self, turn: &Turn, target: ThreadNo) -> Result<usize, Errno>
+        ensures seat { IfOk result (λ seat. seat_in self.now.threads target ≡ Some seat) }
+        ensures fellow { IfOk result (λ seat. is_in_process turn.now.process (member_at (members_of self.now.threads) target) ≡ true) }
+        ensures none { IfErr result (λ e. is_in_process turn.now.process (member_at (members_of self.now.threads) target) ≡ false) }
+        ensures error { IfErr result (λ e. e ≡ Errno.Srch) }
+    {
+        seat_in_process(&self.threads, turn.process, target).ok_or(Errno::Srch)
+    }
+
+    /// The message that the thread at a seat waits for the answer to and that is held on a channel with the
+    /// unblock flag, and that channel.
+    pub(super) fn guarded(&self, seat: usize, thread: ThreadNo) -> Option<(Held, ChannelId)>
+        requires { seat_in self.now.threads thread ≡ Some seat }
+        ensures { result ≡ guarded_in self.now.connections self.now.channels (held_in (open_in self.now.threads thread)) }
+    {
+        guarded(
+            &self.threads,
+            &self.connections,
+            &self.channels,
+            seat,
+            thread,
+        )
     }
 }

@@ -4,8 +4,8 @@ use super::Kernel;
 use super::turn::Turn;
 use qbase::bytes::Bytes;
 use qbase::ids::ReceiveId;
-use qmodel::call::{Call, Completion, Mark};
-use qstate::endings::{Endings, end_one, refuse};
+use qmodel::call::{Call, Mark};
+use qstate::endings::Endings;
 
 impl Kernel {
     ghost use Rattle.qkernel.specs.Turns.{MayCall, Makes};
@@ -23,21 +23,12 @@ impl Kernel {
         requires { MayCall self.old turn.now endings.old.items }
         ensures { Makes self.old turn.now (Call.Read rcvid offset buffer) endings.new.items self.new }
     {
-        let number = turn.made + 1;
         let held = match self.held_seat(turn, rcvid) {
             Ok(held) => held,
-            Err(errno) => return refuse(endings, number, turn.thread, errno, buffer),
+            Err(errno) => return turn.refuse(endings, errno, buffer),
         };
         let mut buffer = buffer;
         let copied = buffer.take(self.threads[held].message(), offset);
-        end_one(
-            endings,
-            Completion {
-                call: number,
-                thread: turn.thread,
-                mark: Mark::Count(copied),
-                buffer,
-            },
-        );
+        turn.give_back(endings, Mark::Count(copied), buffer);
     }
 }

@@ -8,12 +8,12 @@ use super::turn::Turn;
 use qbase::bytes::Bytes;
 use qbase::errno::Errno;
 use qbase::ids::ChannelId;
-use qmodel::call::{Call, Completion};
-use qmodel::open_call::{OpenCall, Wait};
+use qmodel::call::Call;
+use qmodel::open_call::Wait;
 use qqueue::item::Kind;
 use qstate::channel::{carried, owns, take_best};
-use qstate::endings::{Endings, end_one, refuse};
-use qstate::thread::{block, hand_item, set_level};
+use qstate::endings::Endings;
+use qstate::thread::{hand_item, set_level};
 
 impl Kernel {
     ghost use Rattle.qkernel.specs.Turns.{MayCall, Makes};
@@ -45,34 +45,19 @@ impl Kernel {
         requires buffer { kind ≡ Kind.PulseOnly → buffer ≡ [] }
         ensures { Makes self.old turn.now (receive_of kind chid buffer) endings.new.items self.new }
     {
-        let number = turn.made + 1;
         if !owns(&self.channels, turn.process, chid) {
-            return refuse(endings, number, turn.thread, Errno::Srch, buffer);
+            return turn.refuse(endings, Errno::Srch, buffer);
         }
         match take_best(&mut self.channels, chid, kind) {
             None => {
-                let wait = Wait::Item { chid, kind, buffer };
-                block(
-                    &mut self.threads,
-                    turn.seat,
-                    turn.thread,
-                    OpenCall { number, wait },
-                );
+                turn.block(&mut self.threads, Wait::Item { chid, kind, buffer });
             }
             Some(item) => {
                 let mut buffer = buffer;
                 let level = carried(&self.channels, chid, item.priority);
                 let mark = hand_item(&mut self.threads, item, &mut buffer);
                 set_level(&mut self.threads, turn.seat, turn.thread, level);
-                end_one(
-                    endings,
-                    Completion {
-                        call: number,
-                        thread: turn.thread,
-                        mark,
-                        buffer,
-                    },
-                );
+                turn.give_back(endings, mark, buffer);
             }
         }
     }

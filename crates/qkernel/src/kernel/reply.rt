@@ -7,10 +7,11 @@ ghost use Rattle.qmodel.specs.Held.{finished};
 use super::Kernel;
 use super::turn::Turn;
 use qbase::bytes::Bytes;
+use qbase::errno::Errno;
 use qbase::ids::{ReceiveId, ThreadNo};
 use qmodel::call::{Call, Completion, Mark};
 use qmodel::open_call::{OpenCall, Wait};
-use qstate::endings::{Endings, end_two, own_ending, refuse};
+use qstate::endings::Endings;
 use qstate::held::take_sent;
 
 /// How an open Send ends that is replied to; none where the call is no Send.
@@ -39,7 +40,7 @@ fn replied_to(
 }
 
 impl Kernel {
-    ghost use Rattle.qkernel.specs.Turns.{MayCall, Makes};
+    ghost use Rattle.qkernel.specs.Turns.{MayCall, MakesOrRefuses};
 
     /// Answers a held message: its sender's call ends. Never blocks, and takes no memory.
     pub(super) fn reply(
@@ -49,21 +50,16 @@ impl Kernel {
         status: i64,
         bytes: Bytes,
         endings: &mut Endings,
-    )
+    ) -> Result<(), Errno>
         requires { MayCall self.old turn.now endings.old.items }
-        ensures { Makes self.old turn.now (Call.Reply rcvid status bytes) endings.new.items self.new }
+        ensures { MakesOrRefuses self.old turn.now (Call.Reply rcvid status bytes) result endings.new.items self.new }
     {
-        let number = turn.made + 1;
-        let alloc = self.alloc;
-        let held = match self.held_seat(turn, rcvid) {
-            Ok(held) => held,
-            Err(errno) => return refuse(endings, number, turn.thread, errno, Bytes::new(alloc)),
-        };
+        let held = self.held_seat(turn, rcvid)?;
         let (client, call) = take_sent(&mut self.threads, held, rcvid.0);
         let Some(ended) = replied_to(call, client, status, &bytes) else {
             unreachable!();
         };
-        let mine = own_ending(alloc, number, turn.thread, Mark::Ok);
-        end_two(endings, mine, ended);
+        turn.end_both(endings, ended);
+        Ok(())
     }
 }

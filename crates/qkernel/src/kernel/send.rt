@@ -13,8 +13,8 @@ use qmodel::call::{Call, Completion, Mark};
 use qmodel::open_call::{OpenCall, Receipt, Wait};
 use qqueue::item::{Item, What};
 use qstate::channel::{carried, enqueue, way};
-use qstate::endings::{Endings, end_one, refuse};
-use qstate::thread::{block, newest_receiver, wake};
+use qstate::endings::{Endings, end_one};
+use qstate::thread::{newest_receiver, wake};
 
 /// How the open call of a thread ends that takes a message, and how many bytes were copied; none where it
 /// doesn't wait for an item.
@@ -67,19 +67,18 @@ impl Kernel {
         requires { MayCall self.old turn.now endings.old.items }
         ensures { Makes self.old turn.now (Call.Send coid message reply_buffer) endings.new.items self.new }
     {
-        let number = turn.made + 1;
         let Some(chid) = way(&self.connections, &self.channels, turn.process, coid) else {
-            return refuse(endings, number, turn.thread, Errno::Badf, reply_buffer);
+            return turn.refuse(endings, Errno::Badf, reply_buffer);
         };
         let item = Item {
-            number,
+            number: turn.made + 1,
             priority: turn.priority,
             what: What::Message,
         };
         let receipt = match newest_receiver(&self.threads, chid, &item) {
             None => {
                 if let Err(errno) = enqueue(&mut self.channels, chid, item) {
-                    return refuse(endings, number, turn.thread, errno, reply_buffer);
+                    return turn.refuse(endings, errno, reply_buffer);
                 }
                 None
             }
@@ -104,11 +103,6 @@ impl Kernel {
             reply_buffer,
             receipt,
         };
-        block(
-            &mut self.threads,
-            turn.seat,
-            turn.thread,
-            OpenCall { number, wait },
-        );
+        turn.block(&mut self.threads, wait);
     }
 }

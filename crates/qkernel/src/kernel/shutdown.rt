@@ -5,7 +5,7 @@ use super::turn::Turn;
 use qbase::errno::Errno;
 use qmodel::call::{Call, Mark};
 use qstate::cutting::{Cut, cut_calls};
-use qstate::endings::{Endings, own_ending};
+use qstate::endings::Endings;
 
 impl Kernel {
     ghost use Rattle.qkernel.specs.Turns.{MayCall, Makes};
@@ -16,14 +16,13 @@ impl Kernel {
         requires { MayCall self.old turn.now endings.old.items }
         ensures { Makes self.old turn.now Call.Shutdown endings.new.items self.new }
     {
-        let own = own_ending(self.alloc, turn.made + 1, turn.thread, Mark::Ok);
         cut_calls(
             &mut self.threads,
             &mut self.channels,
             &self.connections,
             Cut::All,
             Errno::Srch,
-            own,
+            turn.ending(Mark::Ok),
             endings,
         );
         self.down = true;

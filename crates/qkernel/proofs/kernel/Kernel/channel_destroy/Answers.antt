@@ -10,5 +10,5 @@ invariant_of-self c =
 pub returns : goal.returns
 returns c =
     let may = rw (← c.self.view_is) at c.requires in
-    let ended = rw c.own_ending-own.ensures at c.cut_calls.ensures.endings in
+    let ended = rw c.ending.ensures at c.cut_calls.ensures.endings in
     rw (← c.self.view_is, may.counted) (step_destroyed _ c.args.turn.now.thread c.args.chid _ may.caller.known may.up may.free _ _ _ c.cut_calls.ensures.threads c.cut_calls.ensures.channels c.close.ensures _ (sym c.if-not-owns.ensures) ended)

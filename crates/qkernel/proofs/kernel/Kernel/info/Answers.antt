@@ -1,4 +1,5 @@
 use Rattle.std.proofs.Common.{◌≡◌, refl, sym, ap, ◌∙◌, Some}
+use Rattle.std.proofs.lemmas.Result.{err_from_is_err_and}
 use Rattle.std.specs.Prelude.{position}
 use Rattle.qmodel.specs.Calls.Info.{told_of}
 use Rattle.qmodel.specs.Facts.{is_send}
@@ -7,24 +8,25 @@ use Rattle.qkernel.proofs.Steps.Held.{step_unheld}
 use Rattle.qkernel.proofs.Steps.Info.{info_there, step_info, told_there}
 use Rattle.qkernel.proofs.kernel.Kernel.info.Goals as goal
 
-pub returns-in-Err : goal.returns-in-Err
-returns-in-Err c =
+pub returns-in_err-held : goal.returns-in_err-held
+returns-in_err-held c =
     let may = rw (← c.self.view_is) at c.requires in
-    let none = rw (← c.self.view_is) at c.in-Err.ensures.none in
-    rw (← c.self.view_is, may.counted) (step_unheld _ c.args.turn.now.thread _ c.args.rcvid may.sound may.caller.known (Info c.args.rcvid) _ refl may.up may.free none (rw (c.new.ensures, c.in-Err.ensures.error) at c.refuse.ensures))
+    let none = rw (← c.self.view_is) at c.in_err-held.ensures.none in
+    let p = err_from_is_err_and c.from_residual.result c.from_residual.ensures.1 in
+    rw (p.1, p.2) (c.requires.none, rw (← c.self.view_is, may.counted, c.in_err-held.ensures.error) (step_unheld _ c.args.turn.now.thread _ c.args.rcvid may.sound may.caller.known (Info c.args.rcvid) _ refl may.up may.free none refl))
 
 pub unreachable-requires : goal.unreachable-requires
 unreachable-requires c =
     let may = rw (← c.self.view_is) at c.requires in
-    let at : position (λ t. is_send c.args.rcvid t.open_call) c.self.inside.threads.items ≡ Some c.in-Ok.held = rw (← c.self.view_is) at c.in-Ok.ensures.seat in
-    let held = rw (← c.self.view_is) at c.in-Ok.ensures.held in
-    told_there c.self.inside.connections c.self.inside.channels c.args.turn.now.process c.args.rcvid c.self.inside.threads.items c.in-Ok.held c.index.result.now may.sound.roster at held
+    let at : position (λ t. is_send c.args.rcvid t.open_call) c.self.inside.threads.items ≡ Some c.in_ok-held.held = rw (← c.self.view_is) at c.in_ok-held.ensures.seat in
+    let held = rw (← c.self.view_is) at c.in_ok-held.ensures.held in
+    told_there c.self.inside.connections c.self.inside.channels c.args.turn.now.process c.args.rcvid c.self.inside.threads.items c.in_ok-held.held c.index.result.now may.sound.roster at held
     (ap (λ t. told_of t.member t.open_call) (sym c.index.ensures) ∙ sym c.info.ensures ∙ c.in_default.is)
 
 pub returns : goal.returns
 returns c =
     let may = rw (← c.self.view_is) at c.requires in
-    let held = rw (← c.self.view_is) at c.in-Ok.ensures.held in
-    let at : position (λ t. is_send c.args.rcvid t.open_call) c.self.inside.threads.items ≡ Some c.in-Ok.held = rw (← c.self.view_is) at c.in-Ok.ensures.seat in
-    let told = info_there (record { made = c.args.turn.now.made; down = c.self.inside.down; threads = c.self.inside.threads.items; channels = c.self.inside.channels; connections = c.self.inside.connections }) c.args.rcvid c.in-Ok.held c.index.result.now may.sound.roster at ∙ ap (λ t. told_of t.member t.open_call) (sym c.index.ensures) ∙ sym c.info.ensures ∙ c.in-Some.is in
-    rw (← c.self.view_is, may.counted) (step_info _ c.args.turn.now.thread _ c.args.rcvid may.sound may.caller.known may.up may.free held c.in-Some.info _ told c.end_own.ensures)
+    let held = rw (← c.self.view_is) at c.in_ok-held.ensures.held in
+    let at : position (λ t. is_send c.args.rcvid t.open_call) c.self.inside.threads.items ≡ Some c.in_ok-held.held = rw (← c.self.view_is) at c.in_ok-held.ensures.seat in
+    let told = info_there (record { made = c.args.turn.now.made; down = c.self.inside.down; threads = c.self.inside.threads.items; channels = c.self.inside.channels; connections = c.self.inside.connections }) c.args.rcvid c.in_ok-held.held c.index.result.now may.sound.roster at ∙ ap (λ t. told_of t.member t.open_call) (sym c.index.ensures) ∙ sym c.info.ensures ∙ c.in-Some.is in
+    rw (← c.self.view_is, may.counted) (step_info _ c.args.turn.now.thread _ c.args.rcvid may.sound may.caller.known may.up may.free held c.in-Some.info _ told c.end.ensures)

@@ -1,6 +1,7 @@
 use Rattle.std.proofs.Common.{◌+◌, ap, sym, ◌∙◌}
 use Rattle.qkernel.proofs.Turns.{unrefused}
 use Rattle.qkernel.proofs.kernel.Kernel.perform.Goals as goal
+use Rattle.qkernel.proofs.kernel.Kernel.perform.Goals.{in-Err, in_default-make}
 
 pub make-requires : goal.make-requires
 make-requires c =
@@ -15,7 +16,12 @@ make-requires c =
       none = c.requires.none;
     }
 
-pub returns-in_default : goal.returns-in_default
-returns-in_default c =
+pub returns : goal.returns
+returns c =
     let turn = rw (← c.self.view_is) at c.turn_of-turn.ensures in
-    rw (← c.self.view_is) (rw (turn.made, turn.thread) at c.make.ensures)
+    elim c.match-make.branch [
+      | in-Err w ↦
+          let ended = rw (w.new.ensures, turn.made, turn.thread) at w.refuse-in-Err.ensures in
+          rw (w.endings-is, ended, ← c.self.view_is) (rw (turn.made, turn.thread) at w.in-Err.ensures.1)
+      | in_default-make w ↦ rw (w.endings-is, ← c.self.view_is) (rw (turn.made, turn.thread) at w.in_default-make.ensures)
+    ]

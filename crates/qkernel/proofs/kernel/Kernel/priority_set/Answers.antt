@@ -1,17 +1,15 @@
-use Rattle.std.proofs.Common.{ap, sym, ◌∙◌}
-use Rattle.std.specs.Prelude.{is_some}
 use Rattle.qkernel.proofs.Steps.PrioritySet.{sound_set, step_set}
 use Rattle.qkernel.proofs.kernel.Kernel.priority_set.Goals as goal
 
 pub returns : goal.returns
 returns c =
     let may = rw (← c.self.view_is) at c.requires in
-    let own = rw c.deref.ensures.value at (sym c.seat_in_process.ensures.own ∙ ap is_some c.in-Some.is) in
-    let moves = rw c.deref-2.ensures.value at c.requeue_unread.ensures in
-    rw (← c.self.view_is, may.counted) (step_set _ c.args.turn.now.thread c.args.target c.args.priority _ may.caller.known may.up may.free _ _ _ may.sound own moves c.set_level.ensures c.end_own.ensures)
+    let own = rw (← c.self.view_is) at c.in_ok-there.ensures.fellow in
+    let moves = rw c.deref.ensures.value at c.requeue_unread.ensures in
+    rw (← c.self.view_is, may.counted) (step_set _ c.args.turn.now.thread c.args.target c.args.priority _ may.caller.known may.up may.free _ _ _ may.sound own moves c.set_level.ensures c.end.ensures)
 
 pub invariant_of-self : goal.invariant_of-self
 invariant_of-self c =
     let may = rw (← c.self.view_is) at c.requires in
-    let moves = rw c.deref-2.ensures.value at c.requeue_unread.ensures in
+    let moves = rw c.deref.ensures.value at c.requeue_unread.ensures in
     rw (may.counted) (sound_set _ c.args.target c.args.priority _ _ may.sound moves c.set_level.ensures.members)

@@ -1,4 +1,5 @@
 use Rattle.std.proofs.Common.{◌+◌, refl, sym, ◌∙◌, w8, w32}
+use Rattle.std.proofs.lemmas.Result.{err_from_is_err_and}
 use Rattle.std.proofs.lemmas.Int.{to_z-of_z}
 use Rattle.std.specs.Prelude.{Some}
 use Rattle.qmodel.specs.Rows.{pulse_item}
@@ -7,35 +8,42 @@ use Rattle.qkernel.specs.State.{State}
 use Rattle.qkernel.proofs.Steps.Pulse.{natural, pulse_full, pulse_memory, tells_pulse}
 use Rattle.qkernel.proofs.Steps.Telling.{none_marked, sound_due, sound_turned_away, step_told, step_turned_away}
 use Rattle.qkernel.proofs.kernel.Kernel.pulse.Goals as goal
-use Rattle.qkernel.proofs.kernel.Kernel.pulse.Goals.{in-Ok, in-Err}
 use Rattle.qkernel.proofs.Steps.Told.{is_told, made_for}
 
 pub invariant_of-self : goal.invariant_of-self
 invariant_of-self c =
     let may = rw (← c.self.view_is) at c.requires in
-    elim c.match-send_pulse.branch [
-      | in-Ok w ↦ rw (may.counted) (sound_due _ c.in-Some.chid (Some _) _ _ w.in-Ok.met may.sound (refl, refl) w.in-Ok.ensures.ok)
-      | in-Err w ↦ rw (may.counted) (sound_turned_away _ c.args.turn.now.thread (Pulse c.args.coid c.args.priority c.args.code c.args.value) c.in-Some.chid _ w.in-Err.errno _ _ w.in-Err.ensures.err may.sound)
-    ]
+    rw (may.counted) (sound_turned_away _ c.args.turn.now.thread (Pulse c.args.coid c.args.priority c.args.code c.args.value) c.in-Some.chid _ c.in_err-met.field-0.0 _ _ c.in_err-met.ensures.err may.sound)
+
+pub invariant_of-self-2 : goal.invariant_of-self-2
+invariant_of-self-2 c =
+    let may = rw (← c.self.view_is) at c.requires in
+    rw (may.counted) (sound_due _ c.in-Some.chid (Some _) _ _ c.in_ok-met.met may.sound (refl, refl) c.in_ok-met.ensures.ok)
+
+pub returns-in_err-met : goal.returns-in_err-met
+returns-in_err-met c =
+    let may = rw (← c.self.view_is) at c.requires in
+    let found = sym c.way.ensures ∙ c.in-Some.is in
+    let positive = natural c.args.code (rw (to_z-of_z w8 c.args.code c.ranges.code) at c.if-code-lt0.false) in
+    let old : State = record { made = c.args.turn.now.made; down = c.self.inside.down; threads = c.self.inside.threads.items; channels = c.self.inside.channels; connections = c.self.inside.connections } in
+    let item = pulse_item (c.args.turn.now.made + 1) c.args.priority c.args.code c.args.value in
+    let away = rw (to_z-of_z w8 c.args.code c.ranges.code, to_z-of_z w32 c.args.value c.ranges.value) at c.in_err-met.ensures.err in
+    let p = err_from_is_err_and c.from_residual.result c.from_residual.ensures.1 in
+    rw (p.1, p.2) (
+      c.requires.none,
+      rw (← c.self.view_is, may.counted) (step_turned_away _ c.args.turn.now.thread (Pulse c.args.coid c.args.priority c.args.code c.args.value) c.in-Some.chid item c.in_err-met.field-0.0 _ _ away _
+          (pulse_full old c.args.turn.now.thread c.args.coid c.args.priority c.args.code c.args.value _ may.caller.known may.up may.free c.in-Some.chid found positive)
+          (pulse_memory old c.args.turn.now.thread c.args.coid c.args.priority c.args.code c.args.value _ may.caller.known may.up may.free c.in-Some.chid found positive) refl),
+    )
 
 pub returns : goal.returns
 returns c =
     let may = rw (← c.self.view_is) at c.requires in
     let found = sym c.way.ensures ∙ c.in-Some.is in
     let positive = natural c.args.code (rw (to_z-of_z w8 c.args.code c.ranges.code) at c.if-code-lt0.false) in
-    let old : State = record { made = c.args.turn.now.made; down = c.self.inside.down; threads = c.self.inside.threads.items; channels = c.self.inside.channels; connections = c.self.inside.connections } in
     let item = pulse_item (c.args.turn.now.made + 1) c.args.priority c.args.code c.args.value in
-    elim c.match-send_pulse.branch [
-      | in-Ok w ↦
-          let sent = rw (to_z-of_z w8 c.args.code c.ranges.code, to_z-of_z w32 c.args.value c.ranges.value) at w.in-Ok.ensures.ok in
-          let told = is_told _ c.args.turn.now.thread c.in-Some.chid (Some item) _ _ w.in-Ok.met may.sound may.free (refl, refl) sent in
-          rw (w.endings-is, ← c.self.view_is, may.counted) (step_told _ c.args.turn.now.thread (Pulse c.args.coid c.args.priority c.args.code c.args.value) _ (made_for c.in-Some.chid (Some item)) may.sound may.caller.known may.free
-          (tells_pulse _ c.args.turn.now.thread c.args.coid c.args.priority c.args.code c.args.value _ c.in-Some.chid may.caller.known may.up may.free found positive told.room) _ _ w.in-Ok.met told _ _
-          (none_marked (Pulse c.args.coid c.args.priority c.args.code c.args.value) (made_for c.in-Some.chid (Some item)) _ refl) (rw w.own_ending-own.ensures at w.end_with.ensures))
-      | in-Err w ↦
-          let away = rw (to_z-of_z w8 c.args.code c.ranges.code, to_z-of_z w32 c.args.value c.ranges.value) at w.in-Err.ensures.err in
-          rw (w.endings-is, ← c.self.view_is, may.counted) (step_turned_away _ c.args.turn.now.thread (Pulse c.args.coid c.args.priority c.args.code c.args.value) c.in-Some.chid item w.in-Err.errno _ _ away _
-          (pulse_full old c.args.turn.now.thread c.args.coid c.args.priority c.args.code c.args.value _ may.caller.known may.up may.free c.in-Some.chid found positive)
-          (pulse_memory old c.args.turn.now.thread c.args.coid c.args.priority c.args.code c.args.value _ may.caller.known may.up may.free c.in-Some.chid found positive)
-          (rw w.new-in-Err.ensures at w.refuse-in-Err.ensures))
-    ]
+    let sent = rw (to_z-of_z w8 c.args.code c.ranges.code, to_z-of_z w32 c.args.value c.ranges.value) at c.in_ok-met.ensures.ok in
+    let told = is_told _ c.args.turn.now.thread c.in-Some.chid (Some item) _ _ c.in_ok-met.met may.sound may.free (refl, refl) sent in
+    rw (← c.self.view_is, may.counted) (step_told _ c.args.turn.now.thread (Pulse c.args.coid c.args.priority c.args.code c.args.value) _ (made_for c.in-Some.chid (Some item)) may.sound may.caller.known may.free
+    (tells_pulse _ c.args.turn.now.thread c.args.coid c.args.priority c.args.code c.args.value _ c.in-Some.chid may.caller.known may.up may.free found positive told.room) _ _ c.in_ok-met.met told _ _
+    (none_marked (Pulse c.args.coid c.args.priority c.args.code c.args.value) (made_for c.in-Some.chid (Some item)) _ refl) c.end_with.ensures)

@@ -21,5 +21,5 @@ returns c =
     let at : position (λ t. is_send c.args.rcvid t.open_call) c.self.inside.threads.items ≡ Some c.in-Ok.held = rw (← c.self.view_is) at c.in-Ok.ensures.seat in
     let message : c.message.result.now ≡ message_from c.self.inside.threads.items c.args.rcvid =
     c.message.ensures ∙ ap (λ t. message_in t.open_call) c.index.ensures ∙ sym (message_there c.args.rcvid c.self.inside.threads.items c.in-Ok.held c.index.result.now may.sound.roster at) in
-    let ended = rw (c.take-copied.ensures.count, c.take-copied.ensures.after, message) at c.end_one.ensures in
+    let ended = rw (c.take-copied.ensures.count, c.take-copied.ensures.after, message) at c.give_back.ensures in
     rw (← c.self.view_is, may.counted) (step_read _ c.args.turn.now.thread _ c.args.rcvid may.sound may.caller.known may.up may.free held c.args.offset c.args.buffer _ ended)

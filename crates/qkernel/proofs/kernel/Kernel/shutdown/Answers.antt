@@ -13,5 +13,5 @@ invariant_of-self c =
 pub returns : goal.returns
 returns c =
     let may = rw (← c.self.view_is) at c.requires in
-    let ended = rw c.own_ending-own.ensures at c.cut_calls.ensures.endings in
+    let ended = rw c.ending.ensures at c.cut_calls.ensures.endings in
     rw (← c.self.view_is, may.counted) (step_shut _ c.args.turn.now.thread _ _ _ _ may.caller.known may.up may.free c.cut_calls.ensures.threads c.cut_calls.ensures.channels ended)

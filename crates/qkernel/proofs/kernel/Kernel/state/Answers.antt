@@ -1,4 +1,4 @@
-use Rattle.std.proofs.Common.{ap, sym, ◌∙◌}
+use Rattle.std.proofs.Common.{ap, refl, sym, ◌∙◌}
 use Rattle.std.specs.Prelude.{is_some}
 use Rattle.qstate.proofs.Seats.{is_there}
 use Rattle.qkernel.proofs.Steps.State.{step_state, step_state_nobody}
@@ -8,11 +8,11 @@ pub returns-in_default : goal.returns-in_default
 returns-in_default c =
     let may = rw (← c.self.view_is) at c.requires in
     let nobody = sym (is_there c.args.target c.self.inside.threads.items) ∙ ap is_some (rw c.deref.ensures.value at (sym c.seat_of.ensures ∙ c.in_default.is)) in
-    rw (← c.self.view_is, may.counted) (step_state_nobody _ c.args.turn.now.thread c.args.target _ may.caller.known may.up may.free _ nobody (rw c.new.ensures at c.refuse.ensures))
+    (c.requires.none, rw (← c.self.view_is, may.counted) (step_state_nobody _ c.args.turn.now.thread c.args.target _ may.caller.known may.up may.free _ nobody refl))
 
 pub returns : goal.returns
 returns c =
     let may = rw (← c.self.view_is) at c.requires in
     let there = sym (is_there c.args.target c.self.inside.threads.items) ∙ ap is_some (rw c.deref.ensures.value at (sym c.seat_of.ensures ∙ c.in-Some.is)) in
-    let ended = rw (c.state_at.ensures, c.level_of.ensures, c.deref-2.ensures.value, c.deref-3.ensures.value) at c.end_own.ensures in
+    let ended = rw (c.state_at.ensures, c.level_of.ensures, c.deref-2.ensures.value, c.deref-3.ensures.value) at c.end.ensures in
     rw (← c.self.view_is, may.counted) (step_state _ c.args.turn.now.thread c.args.target _ may.caller.known may.up may.free _ may.sound there ended)
