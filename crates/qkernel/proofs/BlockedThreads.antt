@@ -8,7 +8,7 @@ use Rattle.std.proofs.lemmas.List.Elements.{filter_map-append}
 use Rattle.qtables.specs.Members.{IsRoster}
 use Rattle.qtables.specs.declared.connection.Connection.{Connection}
 use Rattle.qtables.specs.declared.member.Member.{Member}
-use Rattle.qmodel.specs.Blocked.{told_of, blocked_in, blocked_at}
+use Rattle.qmodel.specs.Blocked.{blocked_thread, blocked_threads_in, blocked_threads_at}
 use Rattle.qmodel.specs.Facts.{threads_of}
 use Rattle.qkernel.specs.Stands.{StandsAt}
 use Rattle.qkernel.specs.State.{State, facts_in}
@@ -22,21 +22,21 @@ use Rattle.qkernel.proofs.Standing.{stands_facts}
 
 -- what is told of each thread that is blocked, by its record
 abbrev pub blocked_by : (ℕ → Option Connection) → List Thread → List Blocked
-blocked_by connection threads = filter_map (λ t. told_of connection t.member.thread t.open_call) threads
+blocked_by connection threads = filter_map (λ t. blocked_thread connection t.member.thread t.open_call) threads
 
 one_told : (given : Option Blocked) → cons_option given [] ≡ option_to_list given
 one_told None = refl
 one_told (Some b) = refl
 
 pub blocked_more : (connection : ℕ → Option Connection) (threads : List Thread) (i : ℕ) (d : Thread) → i < length threads
-    → blocked_by connection (take i threads) ++ option_to_list (told_of connection (get_or threads i d).member.thread (get_or threads i d).open_call) ≡ blocked_by connection (take (i + 1) threads)
-blocked_more connection threads i d within = rw ((take_at_read threads i d within).1, filter_map-append (λ t. told_of connection t.member.thread t.open_call) (take i threads) (get_or threads i d ∷ []), one_told (told_of connection (get_or threads i d).member.thread (get_or threads i d).open_call)) refl
+    → blocked_by connection (take i threads) ++ option_to_list (blocked_thread connection (get_or threads i d).member.thread (get_or threads i d).open_call) ≡ blocked_by connection (take (i + 1) threads)
+blocked_more connection threads i d within = rw ((take_at_read threads i d within).1, filter_map-append (λ t. blocked_thread connection t.member.thread t.open_call) (take i threads) (get_or threads i d ∷ []), one_told (blocked_thread connection (get_or threads i d).member.thread (get_or threads i d).open_call)) refl
 
 same_told : (connection : ℕ → Option Connection) (open_call : ℕ → Option OpenCall) (threads : List Thread) → AllByRecursion (λ x. open_call x.member.thread ≡ x.open_call) threads
-    → blocked_by connection threads ≡ filter_map (λ u. told_of connection u (open_call u)) (threads_of (members_of threads))
+    → blocked_by connection threads ≡ filter_map (λ u. blocked_thread connection u (open_call u)) (threads_of (members_of threads))
 same_told connection open_call [] h = refl
 same_told connection open_call (t ∷ threads) h = rw (h.0, same_told connection open_call threads h.1) refl
 
 pub blocked_now : (roster : List Member) (s : State) (past : Trace) → IsRoster (members_of s.threads) → StandsAt roster s past
-    → blocked_by (facts_in s).connection s.threads ≡ blocked_at roster past
-blocked_now roster s past rises stands = same_told (facts_in s).connection (open_in s.threads) s.threads (own_open s.threads rises) ∙ ap blocked_in (stands_facts roster s past stands)
+    → blocked_by (facts_in s).connection s.threads ≡ blocked_threads_at roster past
+blocked_now roster s past rises stands = same_told (facts_in s).connection (open_in s.threads) s.threads (own_open s.threads rises) ∙ ap blocked_threads_in (stands_facts roster s past stands)

@@ -9,7 +9,7 @@ use Rattle.qtables.specs.Members.{member_at, IsRoster}
 use Rattle.qtables.specs.declared.member.Member.{Member}
 use Rattle.qmodel.specs.declared.call.Call.{Call}
 use Rattle.qmodel.specs.declared.call.Completion.{Completion}
-use Rattle.qmodel.specs.Answer.{Outcome, Answers, ending, failed}
+use Rattle.qmodel.specs.Answer.{Outcome, Answers, ending, refusal_ending}
 use Rattle.qmodel.specs.Facts.{Facts, threads_of}
 use Rattle.qmodel.specs.Laws.{IsOnlyCounted}
 use Rattle.qmodel.specs.Lawful.{facts_of, with_event}
@@ -17,7 +17,7 @@ use Rattle.qmodel.specs.Past.{is_failure, priority_in}
 use Rattle.qkernel.specs.Stands.{StandsAt, Step, Steps, AnswersAtTraces, LeavesIfRefused}
 use Rattle.qkernel.specs.State.{State, IsSound, facts_in}
 use Rattle.qmodel.specs.Step.{Follows}
-use Rattle.qstate.specs.Threads.{members_of, open_in, level_in, ready}
+use Rattle.qstate.specs.Threads.{members_of, open_in, level_in, ready_thread}
 use Rattle.qmodel.specs.Trace.{Trace}
 use Rattle.qbase.proofs.Lists.{all_filter_map}
 use Rattle.qmodel.proofs.Past.Ends.{ending_names, laws_of}
@@ -88,7 +88,7 @@ abbrev IsNoFailureOf : ℕ → Completion → Type 0
 IsNoFailureOf t x = x.thread ≡ t → is_failure x.mark ≡ true → ⊥
 
 -- an accepted call's own ending is no failure, and its others go to other threads
-passed_unfailed : (f : Facts) (t : ℕ) (c : Call) (X : List Completion) → Outcome true f t c X → (e : Errno) → X ≡ failed f t c e ∷ [] → ⊥
+passed_unfailed : (f : Facts) (t : ℕ) (c : Call) (X : List Completion) → Outcome true f t c X → (e : Errno) → X ≡ refusal_ending f t c e ∷ [] → ⊥
 passed_unfailed f t c X a e is = (subst (AllByRecursion (IsNoFailureOf t)) (sym a.1 ∙ is) others).0 refl refl where
   others : AllByRecursion (IsNoFailureOf t) (filter_map (ending f t c) (threads_of f.roster))
   others = all_filter_map (IsNoFailureOf t) (ending f t c) (threads_of f.roster) (λ v y given.
@@ -110,22 +110,22 @@ steps_made old t c X new step = let number : new.made + 1 ≡ old.made + 1 + 1 =
 
 -- ---- a new kernel
 
-ready_members : (roster : List Member) → members_of (map ready roster) ≡ roster
+ready_members : (roster : List Member) → members_of (map ready_thread roster) ≡ roster
 ready_members [] = refl
 ready_members (m ∷ roster) = ap (λ ms. m ∷ ms) (ready_members roster)
 
-ready_open : (roster : List Member) (u : ℕ) → open_in (map ready roster) u ≡ None
+ready_open : (roster : List Member) (u : ℕ) → open_in (map ready_thread roster) u ≡ None
 ready_open [] u = refl
-ready_open (m ∷ roster) u = elim (eqb m.thread u) as (λ b. cond b None (open_in (map ready roster) u) ≡ None) [ true ↦ refl | false ↦ ready_open roster u ]
+ready_open (m ∷ roster) u = elim (eqb m.thread u) as (λ b. cond b None (open_in (map ready_thread roster) u) ≡ None) [ true ↦ refl | false ↦ ready_open roster u ]
 
-ready_level : (roster : List Member) (u : ℕ) → level_in (map ready roster) u ≡ priority_in (member_at roster u)
+ready_level : (roster : List Member) (u : ℕ) → level_in (map ready_thread roster) u ≡ priority_in (member_at roster u)
 ready_level [] u = refl
-ready_level (m ∷ roster) u = elim (eqb m.thread u) as (λ b. cond b m.priority (level_in (map ready roster) u) ≡ priority_in (cond b (Some m) (member_at roster u))) [ true ↦ refl | false ↦ ready_level roster u ]
+ready_level (m ∷ roster) u = elim (eqb m.thread u) as (λ b. cond b m.priority (level_in (map ready_thread roster) u) ≡ priority_in (cond b (Some m) (member_at roster u))) [ true ↦ refl | false ↦ ready_level roster u ]
 
-pub sound_new : (roster : List Member) → length roster ≤ 64 → IsRoster roster → IsSound (record { made = 0; down = false; threads = map ready roster; channels = []; connections = [] })
-sound_new roster few r = record { few = rw (length-map roster ready) few; roster = rw (ready_members roster) r; channel_ids = tt; connection_ids = tt; connections = (tt, tt); items = λ h. tt }
+pub sound_new : (roster : List Member) → length roster ≤ 64 → IsRoster roster → IsSound (record { made = 0; down = false; threads = map ready_thread roster; channels = []; connections = [] })
+sound_new roster few r = record { few = rw (length-map roster ready_thread) few; roster = rw (ready_members roster) r; channel_ids = tt; connection_ids = tt; connections = (tt, tt); items = λ h. tt }
 
-pub stands_new : (roster : List Member) → StandsAt roster (record { made = 0; down = false; threads = map ready roster; channels = []; connections = [] }) []
+pub stands_new : (roster : List Member) → StandsAt roster (record { made = 0; down = false; threads = map ready_thread roster; channels = []; connections = [] }) []
 stands_new roster = record {
   roster_is = ready_members roster;
   made = refl;

@@ -7,11 +7,11 @@ use Rattle.qtables.specs.Members.{member_at}
 use Rattle.qtables.specs.declared.member.Member.{Member}
 use Rattle.qmodel.specs.declared.call.Call.{Call}
 use Rattle.qmodel.specs.declared.call.Completion.{Completion}
-use Rattle.qmodel.specs.Answer.{Outcome, Answers, failed}
+use Rattle.qmodel.specs.Answer.{Outcome, Answers, refusal_ending}
 use Rattle.qstate.specs.Channels.{channel_in, pending_in}
 use Rattle.qmodel.specs.Laws.{IsOnlyCounted}
 use Rattle.qmodel.specs.Lawful.{IsLawful, facts_of, with_event}
-use Rattle.qmodel.specs.Past.{is_down, channel_at, open_channels, connection_at, live_connections, open_call, pending, priority_of_thread}
+use Rattle.qmodel.specs.Past.{is_down, channel_at, open_channels, connection_at, live_connections, open_call, pending_items, priority_of_thread}
 use Rattle.qkernel.specs.State.{State, facts_in}
 use Rattle.qmodel.specs.Step.{Follows}
 use Rattle.qstate.specs.Threads.{members_of, open_in, level_in}
@@ -27,7 +27,7 @@ pub record StandsAt (roster : List Member) (s : State) (past : Trace) : Type 0 w
   pub connection : (k : ℕ) → entry_at s.connections k ≡ connection_at roster past k
   pub live_connections : length s.connections ≡ live_connections roster past
   pub open_call : (t : ℕ) → open_in s.threads t ≡ open_call roster past t
-  pub pending : (h : ℕ) → pending_in s.channels h ≡ pending roster past h
+  pub pending : (h : ℕ) → pending_in s.channels h ≡ pending_items roster past h
   pub priority : (t : ℕ) → level_in s.threads t ≡ priority_of_thread roster past t
 
 -- one call, by the kernel's content alone
@@ -46,7 +46,7 @@ AnswersAtTraces old t c endings new = (roster : List Member) (past : Trace) → 
 
 -- a refused call, whose one ending is its own failure, leaves all as it was but how many calls were made
 abbrev pub LeavesIfRefused : State → ℕ → Call → List Completion → State → Type 0
-LeavesIfRefused old t c endings new = (e : Errno) → endings ≡ failed (facts_in old) t c e ∷ [] → IsOnlyCounted (facts_in old) (facts_in new)
+LeavesIfRefused old t c endings new = (e : Errno) → endings ≡ refusal_ending (facts_in old) t c e ∷ [] → IsOnlyCounted (facts_in old) (facts_in new)
 
 -- why a call is no event: its thread isn't in the roster, or else the kernel has made all the calls that it can number
 abbrev pub DispatchError : State → ℕ → Errno → Type 0

@@ -12,8 +12,8 @@ use Rattle.qkernel.specs.Stands.{Steps}
 use Rattle.qkernel.specs.declared.kernel.turn.Turn.{Turn}
 
 -- the kernel's content before the call of this turn was counted
-abbrev pub before : Turn → State → State
-before turn s = record { made = turn.made; down = s.down; threads = s.threads; channels = s.channels; connections = s.connections }
+abbrev pub state_before : Turn → State → State
+state_before turn s = record { made = turn.made; down = s.down; threads = s.threads; channels = s.channels; connections = s.connections }
 
 -- the turn is that of the thread at its seat among these, of its process and with its priority
 pub record IsTurnIn (threads : List Thread) (turn : Turn) : Type 0 where
@@ -25,7 +25,7 @@ pub record IsTurnIn (threads : List Thread) (turn : Turn) : Type 0 where
 -- the call of this turn may be made: it is counted and nothing else is done yet, no call has ended, the kernel isn't shut down, and the caller isn't blocked
 pub record MayCall (s : State) (turn : Turn) (endings : List Completion) : Type 0 where
   pub counted : s.made ≡ turn.made + 1
-  pub sound : IsSound (before turn s)
+  pub sound : IsSound (state_before turn s)
   pub caller : IsTurnIn s.threads turn
   pub up : s.down ≡ false
   pub free : open_in s.threads turn.thread ≡ None
@@ -33,7 +33,7 @@ pub record MayCall (s : State) (turn : Turn) (endings : List Completion) : Type 
 
 -- the call of this turn, from the content before it was counted
 abbrev pub Makes : State → Turn → Call → List Completion → State → Type 0
-Makes old turn c endings new = Steps (before turn old) turn.thread c endings new
+Makes old turn c endings new = Steps (state_before turn old) turn.thread c endings new
 
 -- how the call of this turn ends that is refused and gives no buffer back
 abbrev pub refused : Turn → Errno → Completion

@@ -58,8 +58,8 @@ abbrev pub MayRefuse : Facts → ThreadNo → Call → Errno → Type 0
 MayRefuse f t c e = (refusal f t c ≡ Some e) ⊎ ((refusal f t c ≡ None) × ((row_of f t c).takes_memory ≡ true) × (e ≡ NoMemory))
 
 -- a refused call ends in its own event, with its buffer as it was
-abbrev pub failed : Facts → ThreadNo → Call → Errno → Completion
-failed f t c e = record { call = f.number; thread = t; mark = mark.Failed e; buffer = buffer_of c }
+abbrev pub refusal_ending : Facts → ThreadNo → Call → Errno → Completion
+refusal_ending f t c e = record { call = f.number; thread = t; mark = mark.Failed e; buffer = buffer_of c }
 
 -- the ending that thread u gets from an accepted call of thread t
 abbrev pub ending : Facts → ThreadNo → Call → ThreadNo → Option Completion
@@ -68,7 +68,7 @@ ending f t c u = if u == t then (row_of f t c).own else (row_of f t c).ends u
 -- accepted: each thread of the roster, in rising number, gets what the row says; refused: the caller alone, its refusal
 abbrev pub Outcome : Bool → Facts → ThreadNo → Call → List Completion → Type 0
 Outcome true f t c endings = (refusal f t c ≡ None) × (endings ≡ filter_map (ending f t c) (threads_of f.roster))
-Outcome false f t c endings = (e : Errno) × MayRefuse f t c e × (endings ≡ failed f t c e ∷ [])
+Outcome false f t c endings = (e : Errno) × MayRefuse f t c e × (endings ≡ refusal_ending f t c e ∷ [])
 
 -- these endings answer this call
 abbrev pub Answers : Facts → ThreadNo → Call → List Completion → Type 0

@@ -12,14 +12,14 @@ use Rattle.qmodel.specs.ThreadStates.{state_of}
 use Rattle.qmodel.specs.Trace.{Trace}
 
 -- what is told of a thread, if it has an open call
-abbrev pub told_of : (ConnectionId → Option Connection) → ThreadNo → Option OpenCall → Option Blocked
-told_of connection u None = None
-told_of connection u (Some o) = Some (record { number = o.number; thread = u; state = state_of connection o.wait })
+abbrev pub blocked_thread : (ConnectionId → Option Connection) → ThreadNo → Option OpenCall → Option Blocked
+blocked_thread connection u None = None
+blocked_thread connection u (Some o) = Some (record { number = o.number; thread = u; state = state_of connection o.wait })
 
 -- the threads that are blocked, in rising number
-abbrev pub blocked_in : Facts → List Blocked
-blocked_in f = filter_map (λ u. told_of f.connection u (f.open_call u)) (threads_of f.roster)
+abbrev pub blocked_threads_in : Facts → List Blocked
+blocked_threads_in f = filter_map (λ u. blocked_thread f.connection u (f.open_call u)) (threads_of f.roster)
 
 -- the threads that are blocked after these events, in rising number
-abbrev pub blocked_at : List Member → Trace → List Blocked
-blocked_at roster past = blocked_in (facts_of roster past)
+abbrev pub blocked_threads_at : List Member → Trace → List Blocked
+blocked_threads_at roster past = blocked_threads_in (facts_of roster past)

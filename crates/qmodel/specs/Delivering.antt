@@ -5,13 +5,13 @@ use Rattle.qqueue.specs.declared.item.Item.{Item}
 use Rattle.qmodel.specs.declared.call.Completion.{Completion}
 use Rattle.qmodel.specs.Ids.{ChannelId, ThreadNo}
 use Rattle.qmodel.specs.Facts.{Facts}
-use Rattle.qmodel.specs.Receivers.{newest}
+use Rattle.qmodel.specs.Receivers.{newest_receiver}
 use Rattle.qmodel.specs.Rows.{Received, takes, receipt_in}
 
 -- the receiver on the channel that takes the item at once
 abbrev pub receiver : Facts → Item → Option ChannelId → Option ThreadNo
 receiver f item None = None
-receiver f item (Some h) = newest f h item
+receiver f item (Some h) = newest_receiver f h item
 
 -- no receiver takes the item at once, so it wants memory to wait in
 abbrev pub wants_room : Facts → Item → Option ChannelId → Bool
@@ -27,6 +27,6 @@ meets f item message None u = None
 meets f item message (Some r) u = if u == r then receipt_by f item message u else None
 
 -- the same as a receipt of what was sent to channel h; a message has a sender that waits for its answer
-abbrev pub received_of : Facts → Option ThreadNo → Item → List ℕ → Option ChannelId → Option ThreadNo → Option Received
-received_of f sender item message None r = None
-received_of f sender item message (Some h) r = receipt_in h sender item.priority (option_and_then (receipt_by f item message) r)
+abbrev pub receipt_when_sent : Facts → Option ThreadNo → Item → List ℕ → Option ChannelId → Option ThreadNo → Option Received
+receipt_when_sent f sender item message None r = None
+receipt_when_sent f sender item message (Some h) r = receipt_in h sender item.priority (option_and_then (receipt_by f item message) r)

@@ -38,8 +38,8 @@ pub record Effect : Type 0 where
   pub shuts_down : Bool
 
 -- none of all that
-abbrev pub plain : Effect
-plain = record {
+abbrev pub no_effect : Effect
+no_effect = record {
   waits = None;
   buffer = None;
   creates = None;

@@ -12,7 +12,7 @@ use Rattle.qmodel.specs.Effects.{buffer_of}
 use Rattle.qmodel.specs.Cutting.{buffer_of_wait}
 use Rattle.qmodel.specs.Headline.CopiedExactly.{call_at}
 use Rattle.qmodel.specs.Lawful.{IsLawful}
-use Rattle.qmodel.specs.Past.{ends, open_call}
+use Rattle.qmodel.specs.Past.{has_ending_of, open_call}
 use Rattle.qmodel.specs.Trace.{Event, Trace}
 
 -- ---- whose they are
@@ -35,13 +35,13 @@ abbrev pub may_end : List Member → Trace → ThreadNo → ThreadNo → Bool
 may_end roster past t u = (u == t) || is_some (open_call roster past u)
 
 -- in an event of thread t the ending goes to a thread of the roster whose call may end
-pub record IsDue (roster : List Member) (past : Trace) (t : ThreadNo) (x : Completion) : Type 0 where
+pub record GoesToBlocked (roster : List Member) (past : Trace) (t : ThreadNo) (x : Completion) : Type 0 where
   pub known : is_some (member_at roster x.thread) ≡ true
   pub may : may_end roster past t x.thread ≡ true
 
 -- each ending of an event goes to the caller or to a thread that was blocked, and to one of the roster
 abbrev pub EndingsGoToBlocked : Type 0
-EndingsGoToBlocked = (roster : List Member) (past : Trace) (e : Event) → IsRoster roster → IsLawful roster (e ∷ past) → AllByRecursion (IsDue roster past e.thread) e.endings
+EndingsGoToBlocked = (roster : List Member) (past : Trace) (e : Event) → IsRoster roster → IsLawful roster (e ∷ past) → AllByRecursion (GoesToBlocked roster past e.thread) e.endings
 
 -- ---- who is blocked afterwards
 
@@ -55,11 +55,11 @@ BlockedUnlessEnded = (roster : List Member) (past : Trace) (e : Event) → IsRos
 -- a call either ends in its own event, or its thread waits in it afterwards
 abbrev pub EndsOrWaits : Type 0
 EndsOrWaits = (roster : List Member) (past : Trace) (e : Event) → IsRoster roster → IsLawful roster (e ∷ past)
-    → (ends e.endings (length past + 1) ≡ false) ↔ (option_map (λ o. o.number) (open_call roster (e ∷ past) e.thread) ≡ Some (length past + 1))
+    → (has_ending_of e.endings (length past + 1) ≡ false) ↔ (option_map (λ o. o.number) (open_call roster (e ∷ past) e.thread) ≡ Some (length past + 1))
 
 -- the caller gets an ending just where its call ends in its own event
 abbrev pub CallerGetsItsOwn : Type 0
-CallerGetsItsOwn = (roster : List Member) (past : Trace) (e : Event) → IsRoster roster → IsLawful roster (e ∷ past) → gets e.endings e.thread ≡ ends e.endings (length past + 1)
+CallerGetsItsOwn = (roster : List Member) (past : Trace) (e : Event) → IsRoster roster → IsLawful roster (e ∷ past) → gets e.endings e.thread ≡ has_ending_of e.endings (length past + 1)
 
 -- ---- how long their buffers are
 

@@ -41,20 +41,20 @@ abbrev pub Finish : Type 0
 Finish = List ℕ → Mark × List ℕ
 
 -- how the Send of number m ends, of thread u, that is answered so
-abbrev pub finished_with : Finish → ThreadNo → CallNo → Wait → Option Completion
-finished_with finish u m (Answer coid message reply_buffer receipt) =
+abbrev pub answer_ending_of_wait : Finish → ThreadNo → CallNo → Wait → Option Completion
+answer_ending_of_wait finish u m (Answer coid message reply_buffer receipt) =
     Some (record { call = m; thread = u; mark = (finish reply_buffer).0; buffer = (finish reply_buffer).1 })
-finished_with finish u m (ForItem chid kind buffer) = None
+answer_ending_of_wait finish u m (ForItem chid kind buffer) = None
 
 -- the same of a thread's open call, if it has one
-abbrev pub finished : Finish → ThreadNo → Option OpenCall → Option Completion
-finished finish u None = None
-finished finish u (Some o) = finished_with finish u o.number o.wait
+abbrev pub answer_ending : Finish → ThreadNo → Option OpenCall → Option Completion
+answer_ending finish u None = None
+answer_ending finish u (Some o) = answer_ending_of_wait finish u o.number o.wait
 
 -- the sender's call ends, and no other
 abbrev pub ends_sender : Facts → Finish → Option ThreadNo → ThreadNo → Option Completion
 ends_sender f finish None u = None
-ends_sender f finish (Some s) u = if u == s then finished finish u (f.open_call u) else None
+ends_sender f finish (Some s) u = if u == s then answer_ending finish u (f.open_call u) else None
 
 -- ---- what is kept of a message
 

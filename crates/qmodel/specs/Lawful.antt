@@ -7,12 +7,12 @@ use Rattle.qmodel.specs.declared.call.Completion.{Completion}
 use Rattle.qmodel.specs.Ids.{ThreadNo}
 use Rattle.qmodel.specs.Answer.{Answers}
 use Rattle.qmodel.specs.Facts.{Facts}
-use Rattle.qmodel.specs.Past.{facts_by, known}
+use Rattle.qmodel.specs.Past.{facts_by, knowledge_of}
 use Rattle.qmodel.specs.Trace.{Event, Trace}
 
 -- all that a row may read, searched for in the past
 abbrev pub facts_of : List Member → Trace → Facts
-facts_of roster past = facts_by roster past (known roster past)
+facts_of roster past = facts_by roster past (knowledge_of roster past)
 
 -- each event is a call of a thread of the roster, and its endings answer the events before it
 abbrev pub IsLawful : List Member → Trace → Type 0

@@ -29,8 +29,8 @@ use Rattle.qmodel.specs.Headline.SentOrder.{connection_of}
 use Rattle.qmodel.specs.Headline.ShutForGood.{NoneReceivedFrom}
 use Rattle.qmodel.specs.Lawful.{IsLawful, facts_of}
 use Rattle.qmodel.specs.Pulses.{pulses_among}
-use Rattle.qmodel.specs.Past.{attached, channel_at, connection_at, made_at, is_accepted, is_closed, is_down, is_ended, is_gone, items, open_call, pending, priority_of_item, sender_of}
-use Rattle.qmodel.specs.Receivers.{newest, wait_on}
+use Rattle.qmodel.specs.Past.{attached_connection, channel_at, connection_at, made_at, is_accepted, is_closed, is_down, is_ended, is_gone, items, open_call, pending_items, priority_of_item, sender_of}
+use Rattle.qmodel.specs.Receivers.{newest_receiver, wait_on}
 use Rattle.qmodel.specs.Rows.{names}
 use Rattle.qmodel.specs.Trace.{Event, Trace}
 
@@ -39,7 +39,7 @@ use Rattle.qmodel.specs.Trace.{Event, Trace}
 -- connection k was attached to channel h
 pub record LeadsTo (roster : List Member) (past : Trace) (k : ConnectionId) (h : ChannelId) : Type 0 where
   pub connection : Connection
-  pub is : attached roster past k ≡ Some connection
+  pub is : attached_connection roster past k ≡ Some connection
   pub channel : connection.channel ≡ h
 
 -- an item of number i was made on channel h
@@ -106,19 +106,19 @@ pub record IsLastWait (f : Facts) (h : ChannelId) (item : Item) (u : ThreadNo) :
 -- the newest receiver of an item is the one whose call has the greatest number of all that may take it
 abbrev pub NewestIsGreatest : Type 0
 NewestIsGreatest = (roster : List Member) (past : Trace) → IsRoster roster → IsLawful roster past
-    → (h : ChannelId) (u : ThreadNo) (item : Item) → newest (facts_of roster past) h item ≡ Some u → IsLastWait (facts_of roster past) h item u
+    → (h : ChannelId) (u : ThreadNo) (item : Item) → newest_receiver (facts_of roster past) h item ≡ Some u → IsLastWait (facts_of roster past) h item u
 
 -- there is none exactly where no thread waits that may take it
 abbrev pub NoneIsNewest : Type 0
 NoneIsNewest = (roster : List Member) (past : Trace) → IsRoster roster → IsLawful roster past
-    → (h : ChannelId) (item : Item) → (newest (facts_of roster past) h item ≡ None) ↔ ((u : ThreadNo) → wait_on h item (open_call roster past u) ≡ None)
+    → (h : ChannelId) (item : Item) → (newest_receiver (facts_of roster past) h item ≡ None) ↔ ((u : ThreadNo) → wait_on h item (open_call roster past u) ≡ None)
 
 -- nothing is pending on a channel that a thread may take which waits there
 abbrev pub NothingPendingForWaiting : Type 0
 NothingPendingForWaiting = (roster : List Member) (past : Trace) → IsRoster roster → IsLawful roster past
     → (u : ThreadNo) (n : CallNo) (h : ChannelId) (kind : Kind) (buffer : List ℕ)
     → open_call roster past u ≡ Some (record { number = n; wait = ForItem h kind buffer })
-    → AllByRecursion (λ item. may_take kind item ≡ false) (pending roster past h)
+    → AllByRecursion (λ item. may_take kind item ≡ false) (pending_items roster past h)
 
 -- ---- pending items
 
@@ -130,7 +130,7 @@ is_for_reply (ForItem chid kind buffer) = false
 
 -- the items of a channel are pending in rising number
 abbrev pub PendingRises : Type 0
-PendingRises = (roster : List Member) (past : Trace) → IsRoster roster → IsLawful roster past → (h : ChannelId) → IsRising (pending roster past h)
+PendingRises = (roster : List Member) (past : Trace) → IsRoster roster → IsLawful roster past → (h : ChannelId) → IsRising (pending_items roster past h)
 
 -- neither the past nor an open call says of item i that it is a message received and not answered
 pub record IsNotHeld (roster : List Member) (past : Trace) (i : CallNo) : Type 0 where
@@ -140,7 +140,7 @@ pub record IsNotHeld (roster : List Member) (past : Trace) (i : CallNo) : Type 0
 -- nothing is both pending and held
 abbrev pub NonePendingIsHeld : Type 0
 NonePendingIsHeld = (roster : List Member) (past : Trace) → IsRoster roster → IsLawful roster past
-    → (h : ChannelId) → AllByRecursion (λ item. IsNotHeld roster past item.number) (pending roster past h)
+    → (h : ChannelId) → AllByRecursion (λ item. IsNotHeld roster past item.number) (pending_items roster past h)
 
 -- the Send of number i is what its sender is blocked in, and not received
 pub record IsOpenSend (roster : List Member) (past : Trace) (i : ReceiveId) : Type 0 where
@@ -154,7 +154,7 @@ pub record IsOpenSend (roster : List Member) (past : Trace) (i : ReceiveId) : Ty
 -- the Send of each pending message is the open call of its sender
 abbrev pub PendingIsOpen : Type 0
 PendingIsOpen = (roster : List Member) (past : Trace) → IsRoster roster → IsLawful roster past
-    → (h : ChannelId) → AllByRecursion (λ item. is_pulse item.what ≡ false → IsOpenSend roster past item.number) (pending roster past h)
+    → (h : ChannelId) → AllByRecursion (λ item. is_pulse item.what ≡ false → IsOpenSend roster past item.number) (pending_items roster past h)
 
 -- ---- the order of receipt
 
@@ -176,7 +176,7 @@ HasPriority roster past x = priority_of_item roster past x.number ≡ x.priority
 abbrev pub FirstGoesFirst : Type 0
 FirstGoesFirst = (roster : List Member) (past later : Trace) (e : Event) → IsRoster roster → IsLawful roster (e ∷ later ++ past) → (h : ChannelId)
     → AllByRecursion (λ x. AllByRecursion (λ y. comes_before x y ≡ true → HasPriority roster (later ++ past) x → HasPriority roster (later ++ past) y
-    → AllByRecursion (λ z. TakesBeside (e ∷ later ++ past) z y.number h x → is_gone (later ++ past) x ≡ true) e.endings) (pending roster past h)) (pending roster past h)
+    → AllByRecursion (λ z. TakesBeside (e ∷ later ++ past) z y.number h x → is_gone (later ++ past) x ≡ true) e.endings) (pending_items roster past h)) (pending_items roster past h)
 
 -- ---- setting a priority
 
@@ -192,7 +192,7 @@ with_messages_at past t priority items = map (λ item. if is_message_of past t i
 abbrev pub SettingMovesItsOwn : Type 0
 SettingMovesItsOwn = (roster : List Member) (past : Trace) (e : Event) → IsRoster roster → IsLawful roster (e ∷ past) → is_accepted e past ≡ true
     → (t : ThreadNo) (priority : Level) → e.call ≡ PrioritySet t priority
-    → (h : ChannelId) → pending roster (e ∷ past) h ≡ with_messages_at past t priority (pending roster past h)
+    → (h : ChannelId) → pending_items roster (e ∷ past) h ≡ with_messages_at past t priority (pending_items roster past h)
 
 -- the items but the messages of thread t
 abbrev pub others_than : Trace → ThreadNo → List Item → List Item
@@ -202,7 +202,7 @@ others_than past t items = filter (λ item. not (is_message_of past t item)) ite
 abbrev pub OthersKeepTheirOrder : Type 0
 OthersKeepTheirOrder = (roster : List Member) (past : Trace) (e : Event) → IsRoster roster → IsLawful roster (e ∷ past) → is_accepted e past ≡ true
     → (t : ThreadNo) (priority : Level) → e.call ≡ PrioritySet t priority
-    → (h : ChannelId) → others_than past t (pending roster (e ∷ past) h) ≡ others_than past t (pending roster past h)
+    → (h : ChannelId) → others_than past t (pending_items roster (e ∷ past) h) ≡ others_than past t (pending_items roster past h)
 
 -- ---- held messages
 
@@ -277,4 +277,4 @@ EndingsRiseByThread = (roster : List Member) (past : Trace) (e : Event) → IsRo
 -- no more than 1,024 pulses are pending on a channel
 abbrev pub PulsesAreLimited : Type 0
 PulsesAreLimited = (roster : List Member) (past : Trace) → IsRoster roster → IsLawful roster past
-    → (h : ChannelId) → pulses_among (pending roster past h) ≤ 1024
+    → (h : ChannelId) → pulses_among (pending_items roster past h) ≤ 1024

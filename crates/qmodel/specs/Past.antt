@@ -20,7 +20,7 @@ use Rattle.qmodel.specs.declared.open_call.Wait.TheVariants.{Answer, Item as For
 use Rattle.qmodel.specs.Ids.{CallNo, ChannelId, ConnectionId, Level, ReceiveId, ThreadNo}
 use Rattle.qmodel.specs.Trace.{Event, Trace}
 use Rattle.qmodel.specs.Facts.{Facts, OpenChannel, count_to, is_fixed}
-use Rattle.qmodel.specs.Rows.{Made, names, received, written_over, with_buffer, set_for}
+use Rattle.qmodel.specs.Rows.{Made, names, item_in_mark, buffer_after_write, with_buffer, priority_set_for}
 use Rattle.qmodel.specs.Effects.{asks, attaches, closes, creates, detaches, makes, sets, shuts_down, thread_of_send, writes}
 
 -- ---- accepted, ended
@@ -48,12 +48,12 @@ abbrev pub is_accepted : Event → Trace → Bool
 is_accepted e past = not (refuses e.endings (length past + 1))
 
 -- one of these endings is of call i
-abbrev pub ends : List Completion → CallNo → Bool
-ends endings i = list_any (λ x. x.call == i) endings
+abbrev pub has_ending_of : List Completion → CallNo → Bool
+has_ending_of endings i = list_any (λ x. x.call == i) endings
 
 -- call i is ended
 abbrev pub is_ended : Trace → CallNo → Bool
-is_ended past i = list_any (λ e. ends e.endings i) past
+is_ended past i = list_any (λ e. has_ending_of e.endings i) past
 
 -- ---- channels and connections
 
@@ -76,12 +76,12 @@ abbrev pub is_closed : Trace → ChannelId → Bool
 is_closed past h = was_accepted (λ c. names (closes c) h) past
 
 -- the channel of number h that was created
-abbrev pub created : List Member → Trace → ChannelId → Option OpenChannel
-created roster past h = made_at (λ e. creates (member_at roster e.thread) e.call) past h
+abbrev pub created_channel : List Member → Trace → ChannelId → Option OpenChannel
+created_channel roster past h = made_at (λ e. creates (member_at roster e.thread) e.call) past h
 
 -- the open channel h: an accepted ChannelCreate has that number, and no accepted ChannelDestroy names it
 abbrev pub channel_at : List Member → Trace → ChannelId → Option OpenChannel
-channel_at roster past h = if is_closed past h then None else created roster past h
+channel_at roster past h = if is_closed past h then None else created_channel roster past h
 
 -- how many channels are open
 abbrev pub open_channels : List Member → Trace → ℕ
@@ -92,12 +92,12 @@ abbrev pub is_detached : Trace → ConnectionId → Bool
 is_detached past k = was_accepted (λ c. names (detaches c) k) past
 
 -- the connection of number k that was attached
-abbrev pub attached : List Member → Trace → ConnectionId → Option Connection
-attached roster past k = made_at (λ e. attaches (member_at roster e.thread) e.call) past k
+abbrev pub attached_connection : List Member → Trace → ConnectionId → Option Connection
+attached_connection roster past k = made_at (λ e. attaches (member_at roster e.thread) e.call) past k
 
 -- the live connection k: an accepted ConnectAttach has that number, and no accepted ConnectDetach names it
 abbrev pub connection_at : List Member → Trace → ConnectionId → Option Connection
-connection_at roster past k = if is_detached past k then None else attached roster past k
+connection_at roster past k = if is_detached past k then None else attached_connection roster past k
 
 -- how many connections are live
 abbrev pub live_connections : List Member → Trace → ℕ
@@ -121,37 +121,37 @@ made_among [] i = None
 made_among (m ∷ made) i = if m.item.number == i then Some m else made_among made i
 
 -- the priority of an item, 0 where there is none
-abbrev pub priority_made : Option Made → Level
-priority_made None = 0
-priority_made (Some m) = m.item.priority
+abbrev pub priority_of_made : Option Made → Level
+priority_of_made None = 0
+priority_of_made (Some m) = m.item.priority
 
 -- ---- receipts
 
 -- the receipt that an ending is of item i: how many bytes it copied
-abbrev pub copied_of : CallNo → Option (CallNo × ℕ) → Option ℕ
-copied_of i None = None
-copied_of i (Some r) = if r.0 == i then Some r.1 else None
+abbrev pub copied_count_in : CallNo → Option (CallNo × ℕ) → Option ℕ
+copied_count_in i None = None
+copied_count_in i (Some r) = if r.0 == i then Some r.1 else None
 
 -- the receipt of item i among these endings
-abbrev pub receipt_among : List Completion → CallNo → Option ℕ
-receipt_among endings i = first_among (λ x. copied_of i (received x.mark)) endings
+abbrev pub copied_count_among : List Completion → CallNo → Option ℕ
+copied_count_among endings i = first_among (λ x. copied_count_in i (item_in_mark x.mark)) endings
 
 -- the receipt of item i, by an ending of some event
-abbrev pub receipt_of : Trace → CallNo → Option ℕ
-receipt_of [] i = None
-receipt_of (e ∷ past) i = option_or (receipt_among e.endings i) (receipt_of past i)
+abbrev pub copied_count_of : Trace → CallNo → Option ℕ
+copied_count_of [] i = None
+copied_count_of (e ∷ past) i = option_or (copied_count_among e.endings i) (copied_count_of past i)
 
 -- item i is taken
 abbrev pub is_taken : Trace → CallNo → Bool
-is_taken past i = is_some (receipt_of past i)
+is_taken past i = is_some (copied_count_of past i)
 
 -- the item is taken, or is a message whose Send is ended
 abbrev pub is_gone : Trace → Item → Bool
 is_gone past item = is_taken past item.number || (not (is_pulse item.what) && is_ended past item.number)
 
 -- the items of channel h that are not gone, of these items, in rising number; none where it is destroyed
-abbrev pub pending_by : Trace → List Made → ChannelId → List Item
-pending_by past made h =
+abbrev pub pending_among : Trace → List Made → ChannelId → List Item
+pending_among past made h =
     if is_closed past h then [] else filter (λ item. not (is_gone past item)) (map (λ m. m.item) (filter (λ m. m.channel == h) made))
 
 -- ---- what a message is worth by now
@@ -161,21 +161,21 @@ abbrev pub sender_of : Trace → ReceiveId → Option ThreadNo
 sender_of past i = made_at (λ e. thread_of_send e.thread e.call) past i
 
 -- the priority that event e sets for thread t, where it is an accepted PrioritySet
-abbrev pub set_by : Event → Trace → ThreadNo → Option Level
-set_by e past t = if is_accepted e past then set_for (sets e.call) t else None
+abbrev pub priority_set_by : Event → Trace → ThreadNo → Option Level
+priority_set_by e past t = if is_accepted e past then priority_set_for (sets e.call) t else None
 
 -- the priority that was set last for thread t since message i was sent and before it was received
-abbrev pub set_since : Trace → ReceiveId → ThreadNo → Option Level
-set_since [] i t = None
-set_since (e ∷ past) i t = if i == length past + 1 then None else option_or (if is_taken past i then None else set_by e past t) (set_since past i t)
+abbrev pub priority_set_since : Trace → ReceiveId → ThreadNo → Option Level
+priority_set_since [] i t = None
+priority_set_since (e ∷ past) i t = if i == length past + 1 then None else option_or (if is_taken past i then None else priority_set_by e past t) (priority_set_since past i t)
 
 -- the priority of an item by now: a message has what was set last for its thread while it was pending, and else, as each pulse, what it was made with
 abbrev pub worth : Trace → Item → Level
-worth past item = if is_pulse item.what then item.priority else unwrap_or (option_and_then (set_since past item.number) (sender_of past item.number)) item.priority
+worth past item = if is_pulse item.what then item.priority else unwrap_or (option_and_then (priority_set_since past item.number) (sender_of past item.number)) item.priority
 
 -- these items as they are by now
-abbrev pub by_now : Trace → List Made → List Made
-by_now past made = map (λ m. record { item = with_priority (worth past m.item) m.item; channel = m.channel }) made
+abbrev pub items_by_now : Trace → List Made → List Made
+items_by_now past made = map (λ m. record { item = with_priority (worth past m.item) m.item; channel = m.channel }) made
 
 -- ---- open calls
 
@@ -186,18 +186,18 @@ newest_block (e ∷ past) t =
     if (e.thread == t) && is_accepted e past && is_some (asks (length past + 1) e.call) then asks (length past + 1) e.call else newest_block past t
 
 -- a wait for an answer with what is kept of the message's receipt
-abbrev pub held_with : Receipt → Wait → Wait
-held_with receipt (Answer coid message reply_buffer before) = Answer coid message reply_buffer (Some receipt)
-held_with receipt (ForItem chid kind buffer) = ForItem chid kind buffer
+abbrev pub wait_with_receipt : Receipt → Wait → Wait
+wait_with_receipt receipt (Answer coid message reply_buffer before) = Answer coid message reply_buffer (Some receipt)
+wait_with_receipt receipt (ForItem chid kind buffer) = ForItem chid kind buffer
 
 -- a reply buffer of message i with the data of each accepted Write to it, in order
 abbrev pub with_writes : Trace → ReceiveId → List ℕ → List ℕ
 with_writes [] i b = b
-with_writes (e ∷ past) i b = if is_accepted e past then written_over (writes e.call) i (with_writes past i b) else with_writes past i b
+with_writes (e ∷ past) i b = if is_accepted e past then buffer_after_write (writes e.call) i (with_writes past i b) else with_writes past i b
 
 -- a call with its reply buffer as it is by now
-abbrev pub filled : Trace → OpenCall → OpenCall
-filled past o = record { number = o.number; wait = with_buffer (with_writes past o.number) o.wait }
+abbrev pub call_by_now : Trace → OpenCall → OpenCall
+call_by_now past o = record { number = o.number; wait = with_buffer (with_writes past o.number) o.wait }
 
 -- a call, unless it is ended
 abbrev pub unless_ended : Trace → Option OpenCall → Option OpenCall
@@ -207,7 +207,7 @@ unless_ended past (Some o) = if is_ended past o.number then None else Some o
 -- a call with what is kept of its message's receipt, where there was one
 abbrev pub with_receipt : Level → Bool → Option ℕ → OpenCall → OpenCall
 with_receipt priority unblocked None o = o
-with_receipt priority unblocked (Some copied) o = record { number = o.number; wait = held_with (record { priority = priority; copied = copied; unblocked = unblocked }) o.wait }
+with_receipt priority unblocked (Some copied) o = record { number = o.number; wait = wait_with_receipt (record { priority = priority; copied = copied; unblocked = unblocked }) o.wait }
 
 -- the item is an unblock pulse for message i
 abbrev pub is_unblock_for : ReceiveId → What → Bool
@@ -223,17 +223,17 @@ unblocked_among made i = list_any (λ m. is_unblock_for i m.item.what) made
 -- the open call of thread t, of all items as they are by now
 abbrev pub open_call_by : Trace → List Made → ThreadNo → Option OpenCall
 open_call_by past made t =
-    option_map (λ o. with_receipt (priority_made (made_among made o.number)) (unblocked_among made o.number) (receipt_of past o.number) (filled past o)) (unless_ended past (newest_block past t))
+    option_map (λ o. with_receipt (priority_of_made (made_among made o.number)) (unblocked_among made o.number) (copied_count_of past o.number) (call_by_now past o)) (unless_ended past (newest_block past t))
 
 -- ---- all that a row may read
 
 -- all items that were made so far, each as it was made, in rising number, and each thread's priority
-pub record Known : Type 0 where
+pub record Knowledge : Type 0 where
   pub made : List Made
   pub priority : ThreadNo → Level
 
 -- searched for in the past, of what is known of it
-abbrev pub facts_by : List Member → Trace → Known → Facts
+abbrev pub facts_by : List Member → Trace → Knowledge → Facts
 facts_by roster past k = record {
   roster = roster;
   number = length past + 1;
@@ -242,8 +242,8 @@ facts_by roster past k = record {
   open_channels = open_channels roster past;
   connection = λ k. connection_at roster past k;
   live_connections = live_connections roster past;
-  open_call = λ t. open_call_by past (by_now past k.made) t;
-  pending = λ h. pending_by past (by_now past k.made) h;
+  open_call = λ t. open_call_by past (items_by_now past k.made) t;
+  pending = λ h. pending_among past (items_by_now past k.made) h;
   priority = k.priority;
 }
 
@@ -254,35 +254,35 @@ item_by f e past = if is_accepted e past then makes f e.thread e.call else None
 -- ---- items and priorities
 
 -- the priority that a receiver of the item takes: the item's, unless its channel leaves priorities as they are
-abbrev pub carried : (ChannelId → Option OpenChannel) → Option Made → Option Level
-carried channel None = None
-carried channel (Some m) = if is_fixed (channel m.channel) then None else Some m.item.priority
+abbrev pub carried_priority : (ChannelId → Option OpenChannel) → Option Made → Option Level
+carried_priority channel None = None
+carried_priority channel (Some m) = if is_fixed (channel m.channel) then None else Some m.item.priority
 
 -- the priority that an ending gives thread t, where each item that is received carries one or none
-abbrev pub given_by : (CallNo → Option Level) → ThreadNo → Completion → Option Level
-given_by priority t x = if x.thread == t then option_and_then (λ r. priority r.0) (received x.mark) else None
+abbrev pub priority_from_ending : (CallNo → Option Level) → ThreadNo → Completion → Option Level
+priority_from_ending priority t x = if x.thread == t then option_and_then (λ r. priority r.0) (item_in_mark x.mark) else None
 
 -- the priority that event e gives thread t, of all that was made by then: an accepted PrioritySet sets it, or the thread receives an item, as that was before the event
-abbrev pub given : List Member → Event → Trace → List Made → ThreadNo → Option Level
-given roster e past made t =
-    option_or (set_by e past t) (first_among (given_by (λ i. carried (channel_at roster past) (made_among (by_now past made) i)) t) e.endings)
+abbrev pub priority_from_event : List Member → Event → Trace → List Made → ThreadNo → Option Level
+priority_from_event roster e past made t =
+    option_or (priority_set_by e past t) (first_among (priority_from_ending (λ i. carried_priority (channel_at roster past) (made_among (items_by_now past made) i)) t) e.endings)
 
 -- what is known after event e, by when these items were made: a thread's priority is what the event gave it, or else what it was
-abbrev pub known_after : List Member → Event → Trace → Known → List Made → Known
-known_after roster e past k made = record { made = made; priority = λ t. unwrap_or (given roster e past made t) (k.priority t) }
+abbrev pub knowledge_after : List Member → Event → Trace → Knowledge → List Made → Knowledge
+knowledge_after roster e past k made = record { made = made; priority = λ t. unwrap_or (priority_from_event roster e past made t) (k.priority t) }
 
 -- what is known of a past: each accepted event may make an item, and a thread begins with the priority that the roster gives it
-abbrev pub known : List Member → Trace → Known
-known roster [] = record { made = []; priority = λ t. priority_in (member_at roster t) }
-known roster (e ∷ past) = known_after roster e past (known roster past) ((known roster past).made ++ option_to_list (item_by (facts_by roster past (known roster past)) e past))
+abbrev pub knowledge_of : List Member → Trace → Knowledge
+knowledge_of roster [] = record { made = []; priority = λ t. priority_in (member_at roster t) }
+knowledge_of roster (e ∷ past) = knowledge_after roster e past (knowledge_of roster past) ((knowledge_of roster past).made ++ option_to_list (item_by (facts_by roster past (knowledge_of roster past)) e past))
 
 -- all items made so far, each as it was made, in rising number
 abbrev pub items : List Member → Trace → List Made
-items roster past = (known roster past).made
+items roster past = (knowledge_of roster past).made
 
 -- a thread's priority: what the newest event gave it that gave it one, or else what the roster gives it
 abbrev pub priority_of_thread : List Member → Trace → ThreadNo → Level
-priority_of_thread roster past t = (known roster past).priority t
+priority_of_thread roster past t = (knowledge_of roster past).priority t
 
 -- ---- what was so after all past calls
 
@@ -293,20 +293,20 @@ made_on h (Some m) = if m.channel == h then m.item ∷ [] else []
 
 -- the item that an event makes
 abbrev pub item_of : List Member → Event → Trace → Option Made
-item_of roster e past = item_by (facts_by roster past (known roster past)) e past
+item_of roster e past = item_by (facts_by roster past (knowledge_of roster past)) e past
 
 -- the priority of item i by now
 abbrev pub priority_of_item : List Member → Trace → CallNo → Level
-priority_of_item roster past i = priority_made (made_among (by_now past (items roster past)) i)
+priority_of_item roster past i = priority_of_made (made_among (items_by_now past (items roster past)) i)
 
 -- the priority of item i before event e, or as the event makes it
 abbrev pub priority_before : List Member → Event → Trace → CallNo → Level
-priority_before roster e past i = priority_made (made_among (by_now past (items roster (e ∷ past))) i)
+priority_before roster e past i = priority_of_made (made_among (items_by_now past (items roster (e ∷ past))) i)
 
 -- what is pending on channel h, in rising number
-abbrev pub pending : List Member → Trace → ChannelId → List Item
-pending roster past h = pending_by past (by_now past (items roster past)) h
+abbrev pub pending_items : List Member → Trace → ChannelId → List Item
+pending_items roster past h = pending_among past (items_by_now past (items roster past)) h
 
 -- the open call of thread t
 abbrev pub open_call : List Member → Trace → ThreadNo → Option OpenCall
-open_call roster past t = open_call_by past (by_now past (items roster past)) t
+open_call roster past t = open_call_by past (items_by_now past (items roster past)) t

@@ -11,34 +11,34 @@ use Rattle.qmodel.specs.declared.call.Call.TheVariants.{Receive, ReceivePulse}
 use Rattle.qmodel.specs.declared.call.Completion.{Completion}
 use Rattle.qmodel.specs.Ids.{ChannelId, ThreadNo}
 use Rattle.qmodel.specs.Facts.{Facts, owns, sender, message}
-use Rattle.qmodel.specs.Rows.{Row, Received, ends_none, taking, receipt_in}
+use Rattle.qmodel.specs.Rows.{Row, Received, ends_none, receipt_ending, receipt_in}
 
 -- a channel that isn't open, or isn't of the thread's process
 abbrev pub refusal : Facts → ThreadNo → ChannelId → Option Errno
 refusal f t chid = if owns f t chid then None else Some Srch
 
 -- how the call ends that takes the item into its buffer
-abbrev pub receipt_of : Facts → ThreadNo → List ℕ → Option Item → Option Completion
-receipt_of f t buffer None = None
-receipt_of f t buffer (Some item) = Some (taking item (message f item.number) t f.number buffer)
+abbrev pub own_receipt : Facts → ThreadNo → List ℕ → Option Item → Option Completion
+own_receipt f t buffer None = None
+own_receipt f t buffer (Some item) = Some (receipt_ending item (message f item.number) t f.number buffer)
 
 -- the thread that waits for the answer to an item: there is one only of a message
 abbrev pub sender_for : Facts → Item → Option ThreadNo
 sender_for f item = if is_pulse item.what then None else sender f item.number
 
 -- the same as a receipt of what was sent
-abbrev pub received_of : Facts → ChannelId → Option Completion → Option Item → Option Received
-received_of f h y None = None
-received_of f h y (Some item) = receipt_in h (sender_for f item) item.priority y
+abbrev pub receipt_when_taken : Facts → ChannelId → Option Completion → Option Item → Option Received
+receipt_when_taken f h y None = None
+receipt_when_taken f h y (Some item) = receipt_in h (sender_for f item) item.priority y
 
 -- the best item that the kind may take; with none the call is blocked until one comes
-abbrev pub receiving : Facts → ThreadNo → ChannelId → Kind → List ℕ → Row
-receiving f t chid kind buffer = record {
+abbrev pub receive_row : Facts → ThreadNo → ChannelId → Kind → List ℕ → Row
+receive_row f t chid kind buffer = record {
   refusal = refusal f t chid;
   takes_memory = false;
-  own = receipt_of f t buffer (best_of kind (f.pending chid));
+  own = own_receipt f t buffer (best_of kind (f.pending chid));
   ends = ends_none;
-  receipt = received_of f chid (receipt_of f t buffer (best_of kind (f.pending chid))) (best_of kind (f.pending chid));
+  receipt = receipt_when_taken f chid (own_receipt f t buffer (best_of kind (f.pending chid))) (best_of kind (f.pending chid));
 }
 
 -- the call that receives so: a Receive may take any item; a ReceivePulse takes pulses alone, and has no buffer

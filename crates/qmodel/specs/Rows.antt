@@ -46,9 +46,9 @@ ends_none u = None
 -- ---- items
 
 -- the item that is sent over a connection, to its channel
-abbrev pub sent_over : Option Connection → Item → Option Made
-sent_over None item = None
-sent_over (Some c) item = Some (record { item = item; channel = c.channel })
+abbrev pub item_sent_over : Option Connection → Item → Option Made
+item_sent_over None item = None
+item_sent_over (Some c) item = Some (record { item = item; channel = c.channel })
 
 -- a message of this number and priority
 abbrev pub message_item : CallNo → Level → Item
@@ -82,9 +82,9 @@ pub record Setting : Type 0 where
   pub priority : Level
 
 -- the priority that is set for thread u
-abbrev pub set_for : Option Setting → ThreadNo → Option Level
-set_for None u = None
-set_for (Some s) u = if s.thread == u then Some s.priority else None
+abbrev pub priority_set_for : Option Setting → ThreadNo → Option Level
+priority_set_for None u = None
+priority_set_for (Some s) u = if s.thread == u then Some s.priority else None
 
 -- ---- closing
 
@@ -96,9 +96,9 @@ names (Some k) h = k == h
 -- ---- buffers
 
 -- the reply buffer of message i with what is written over it
-abbrev pub written_over : Option Written → ReceiveId → List ℕ → List ℕ
-written_over None i b = b
-written_over (Some w) i b = if w.message == i then lay_over b w.offset w.bytes else b
+abbrev pub buffer_after_write : Option Written → ReceiveId → List ℕ → List ℕ
+buffer_after_write None i b = b
+buffer_after_write (Some w) i b = if w.message == i then lay_over b w.offset w.bytes else b
 
 -- a wait with its reply buffer changed
 abbrev pub with_buffer : (List ℕ → List ℕ) → Wait → Wait
@@ -108,19 +108,19 @@ with_buffer f (ForItem chid kind buffer) = ForItem chid kind buffer
 -- ---- receipts
 
 -- how a receive ends that takes an item into its buffer: a message is laid over the front, with that count; a pulse stands in the mark alone
-abbrev pub given : Item → List ℕ → List ℕ → Mark × List ℕ
-given item message buffer =
+abbrev pub delivery_of : Item → List ℕ → List ℕ → Mark × List ℕ
+delivery_of item message buffer =
     if is_pulse item.what then (mark.Pulse item.number item.priority item.what, buffer)
     else (mark.Message item.number (laid_count buffer 0 message), lay_over buffer 0 message)
 
 -- the ending of call m of thread u that takes the item so
-abbrev pub taking : Item → List ℕ → ThreadNo → CallNo → List ℕ → Completion
-taking item message u m buffer = record { call = m; thread = u; mark = (given item message buffer).0; buffer = (given item message buffer).1 }
+abbrev pub receipt_ending : Item → List ℕ → ThreadNo → CallNo → List ℕ → Completion
+receipt_ending item message u m buffer = record { call = m; thread = u; mark = (delivery_of item message buffer).0; buffer = (delivery_of item message buffer).1 }
 
 -- how the open call of number m ends, of thread u, that takes the item into what it waits with
 abbrev pub takes_into : Item → List ℕ → ThreadNo → CallNo → Wait → Option Completion
 takes_into item message u m (Answer coid sent reply_buffer receipt) = None
-takes_into item message u m (ForItem chid kind buffer) = Some (taking item message u m buffer)
+takes_into item message u m (ForItem chid kind buffer) = Some (receipt_ending item message u m buffer)
 
 -- how the open call of thread u ends that takes the item
 abbrev pub takes : Item → List ℕ → ThreadNo → Option OpenCall → Option Completion
@@ -128,18 +128,18 @@ takes item message u None = None
 takes item message u (Some o) = takes_into item message u o.number o.wait
 
 -- the number of the item that an ending receives, and how many bytes were copied, none of a pulse
-abbrev pub received : Mark → Option (CallNo × ℕ)
-received (mark.Message rcvid copied) = Some (rcvid, copied)
-received mark.Ok = None
-received (mark.Failed errno) = None
-received (mark.Channel chid) = None
-received (mark.Connection coid) = None
-received (mark.Replied status copied) = None
-received (mark.Errored code) = None
-received (mark.Count copied) = None
-received (mark.Info info) = None
-received (mark.Pulse item priority what) = Some (item, 0)
-received (mark.State state priority) = None
+abbrev pub item_in_mark : Mark → Option (CallNo × ℕ)
+item_in_mark (mark.Message rcvid copied) = Some (rcvid, copied)
+item_in_mark mark.Ok = None
+item_in_mark (mark.Failed errno) = None
+item_in_mark (mark.Channel chid) = None
+item_in_mark (mark.Connection coid) = None
+item_in_mark (mark.Replied status copied) = None
+item_in_mark (mark.Errored code) = None
+item_in_mark (mark.Count copied) = None
+item_in_mark (mark.Info info) = None
+item_in_mark (mark.Pulse item priority what) = Some (item, 0)
+item_in_mark (mark.State state priority) = None
 
 -- the receipt that thread u makes of an item of this channel, sender and priority
 abbrev pub receipt_at : ChannelId → Option ThreadNo → Level → ThreadNo → Option (CallNo × ℕ) → Option Received
@@ -149,4 +149,4 @@ receipt_at h sender priority u (Some r) = Some (record { item = r.0; channel = h
 -- the receipt that an ending is, of an item of this channel, sender and priority
 abbrev pub receipt_in : ChannelId → Option ThreadNo → Level → Option Completion → Option Received
 receipt_in h sender priority None = None
-receipt_in h sender priority (Some y) = receipt_at h sender priority y.thread (received y.mark)
+receipt_in h sender priority (Some y) = receipt_at h sender priority y.thread (item_in_mark y.mark)

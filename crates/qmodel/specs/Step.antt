@@ -3,7 +3,7 @@ use Rattle.std.specs.Prelude.{◌≡◌, ℕ, ◌+◌, ◌==◌, ◌&&◌, ◌||
 use Rattle.std.specs.List.{list_any}
 use Rattle.std.specs.Option.{option_map, option_or}
 use Rattle.qbase.specs.Laying.{lay_over}
-use Rattle.qqueue.specs.Best.{with_priority, without}
+use Rattle.qqueue.specs.Best.{with_priority, without_item}
 use Rattle.qqueue.specs.declared.item.Item.{Item}
 use Rattle.qtables.specs.Members.{member_at}
 use Rattle.qtables.specs.declared.connection.Connection.{Connection}
@@ -16,9 +16,9 @@ use Rattle.qmodel.specs.Ids.{ChannelId, ConnectionId, Level, ReceiveId, ThreadNo
 use Rattle.qmodel.specs.Cutting.{is_unread_send}
 use Rattle.qmodel.specs.Facts.{Facts, OpenChannel, sender, is_fixed, threads_of}
 use Rattle.qmodel.specs.Effects.{asks, attaches, closes, creates, detaches, makes, sets, shuts_down, unblocks, writes}
-use Rattle.qmodel.specs.Rows.{Made, Received, Row, Setting, Written, names, with_buffer, set_for}
+use Rattle.qmodel.specs.Rows.{Made, Received, Row, Setting, Written, names, with_buffer, priority_set_for}
 use Rattle.qmodel.specs.Answer.{row_of}
-use Rattle.qmodel.specs.Past.{held_with, made_on}
+use Rattle.qmodel.specs.Past.{wait_with_receipt, made_on}
 
 -- a look-up with one more record at n
 abbrev pub put_at : {A : Type 0} → Option A → ℕ → (ℕ → Option A) → ℕ → Option A
@@ -40,7 +40,7 @@ connection_after f t c k = if names (detaches c) k then None else put_at (attach
 
 -- an open call whose message is received
 abbrev pub held_call : Receipt → OpenCall → OpenCall
-held_call kept o = record { number = o.number; wait = held_with kept o.wait }
+held_call kept o = record { number = o.number; wait = wait_with_receipt kept o.wait }
 
 -- this thread
 abbrev pub is_thread : Option ThreadNo → ThreadNo → Bool
@@ -98,37 +98,37 @@ abbrev pub open_call_after : Facts → ThreadNo → Call → ThreadNo → Option
 open_call_after f t c u = if u == t then own_call_after f c (row_of f t c) u else other_call_after f t c (row_of f t c) u
 
 -- the items of channel h but the one that was received from it
-abbrev pub taken_out : Option Received → ChannelId → List Item → List Item
-taken_out None h items = items
-taken_out (Some r) h items = if r.channel == h then without r.item items else items
+abbrev pub unreceived_items : Option Received → ChannelId → List Item → List Item
+unreceived_items None h items = items
+unreceived_items (Some r) h items = if r.channel == h then without_item r.item items else items
 
 -- the call ends a Send of number i that is blocked on channel h and not received
 abbrev pub is_cut : Facts → ThreadNo → Call → ChannelId → ReceiveId → Bool
 is_cut f t c h i = list_any (λ s. is_unread_send f.connection h i (f.open_call s) && is_some ((row_of f t c).ends s)) (threads_of f.roster)
 
 -- the items of channel h but the messages whose Sends the call ends
-abbrev pub left_by : Facts → ThreadNo → Call → ChannelId → List Item → List Item
-left_by f t c h items = filter (λ item. not (is_cut f t c h item.number)) items
+abbrev pub uncut_items : Facts → ThreadNo → Call → ChannelId → List Item → List Item
+uncut_items f t c h items = filter (λ item. not (is_cut f t c h item.number)) items
 
 -- the items of channel h, where the message of the thread that the priority is set for has it, if it waits there
-abbrev pub moved : Facts → ChannelId → Option Setting → List Item → List Item
-moved f h None items = items
-moved f h (Some s) items = map (λ item. if is_unread_send f.connection h item.number (f.open_call s.thread) then with_priority s.priority item else item) items
+abbrev pub items_with_priority_set : Facts → ChannelId → Option Setting → List Item → List Item
+items_with_priority_set f h None items = items
+items_with_priority_set f h (Some s) items = map (λ item. if is_unread_send f.connection h item.number (f.open_call s.thread) then with_priority s.priority item else item) items
 
 -- nothing is left of a channel that is destroyed; to any other the item joins that the call makes, a message goes whose Send ends, the
 -- one that is received goes, and a message has the priority that is set for its thread
 abbrev pub pending_after : Facts → ThreadNo → Call → ChannelId → List Item
 pending_after f t c h =
-    if names (closes c) h then [] else moved f h (sets c) (taken_out (row_of f t c).receipt h (left_by f t c h (f.pending h ++ made_on h (makes f t c))))
+    if names (closes c) h then [] else items_with_priority_set f h (sets c) (unreceived_items (row_of f t c).receipt h (uncut_items f t c h (f.pending h ++ made_on h (makes f t c))))
 
 -- the priority that thread u takes by a receipt: the item's, unless its channel leaves priorities as they are
-abbrev pub taken_by : Facts → Option Received → ThreadNo → Option Level
-taken_by f None u = None
-taken_by f (Some r) u = if r.by == u then (if is_fixed (f.channel r.channel) then None else Some r.kept.priority) else None
+abbrev pub priority_taken : Facts → Option Received → ThreadNo → Option Level
+priority_taken f None u = None
+priority_taken f (Some r) u = if r.by == u then (if is_fixed (f.channel r.channel) then None else Some r.kept.priority) else None
 
 -- the priority of thread u after the call: the one that is set for it, or else that it takes by a receipt, or else its own
 abbrev pub priority_after : Facts → ThreadNo → Call → ThreadNo → Level
-priority_after f t c u = unwrap_or (option_or (set_for (sets c) u) (taken_by f (row_of f t c).receipt u)) (f.priority u)
+priority_after f t c u = unwrap_or (option_or (priority_set_for (sets c) u) (priority_taken f (row_of f t c).receipt u)) (f.priority u)
 
 -- g are the facts after the call
 pub record Follows (f : Facts) (t : ThreadNo) (c : Call) (accepted : Bool) (g : Facts) : Type 0 where

@@ -8,7 +8,7 @@ use Rattle.slab.specs.Slab.{Slab, get, Updates}
 use Rattle.qbase.proofs.Lists.{all_more}
 use Rattle.qqueue.specs.declared.item.Item.{Item}
 use Rattle.qqueue.specs.declared.node.Node.{Node}
-use Rattle.qqueue.specs.Best.{is_pulse, without}
+use Rattle.qqueue.specs.Best.{is_pulse, without_item}
 use Rattle.qqueue.specs.Rings.{put_place, places_of, items_at, pulses_of, Rises, is_on, keys_on, item_of, after_of, before_of, Linked, Ring, first_of}
 use Rattle.qqueue.specs.Joins.{Relinked, SameLinks, ClosedUp}
 use Rattle.qqueue.specs.Kept.{AreRings}
@@ -68,9 +68,9 @@ module _ (first : Bool → ℕ → Option ℕ) (s removed : Slab Node) (key : �
     pub removed_rises : Rises (places_of removed)
     removed_rises = rises_but_put (node.item, key) (places_of removed) (subst Rises removed_put h.up)
 
-    pub removed_items : items_at (places_of removed) ≡ without node.item.number (items_at (places_of s))
+    pub removed_items : items_at (places_of removed) ≡ without_item node.item.number (items_at (places_of s))
     removed_items =
-        sym (ap (λ l. without node.item.number (items_at l)) removed_put
+        sym (ap (λ l. without_item node.item.number (items_at l)) removed_put
         ∙ without_put (node.item, key) (places_of removed) (all_places (λ q. q.0.number ≢ node.item.number) 0 removed.slots apart))
 
     turned : (front back : List ℕ) → keys_on own node.item.priority (places_of s) ≡ front ++ key ∷ back → Turned (back ++ front)
@@ -131,7 +131,7 @@ module _ (first after_first : Bool → ℕ → Option ℕ) (s removed t : Slab N
     pub taken_places : places_of s ≡ put_place (node.item, key) (places_of t)
     taken_places = removed_put first s removed key node own h ∙ ap (put_place (node.item, key)) (sym same_places)
 
-    pub taken_items : items_at (places_of t) ≡ without node.item.number (items_at (places_of s))
+    pub taken_items : items_at (places_of t) ≡ without_item node.item.number (items_at (places_of s))
     taken_items = ap items_at same_places ∙ removed_items first s removed key node own h
 
     pub taken_pulses : pulses_of (items_at (places_of s)) ≡ pulses_of (items_at (places_of t)) + cond (is_pulse node.item.what) 1 0

@@ -29,18 +29,18 @@ best_of kind [] = None
 best_of kind (x ∷ items) = if may_take kind x then Some (first_of_two x (best_of kind items)) else best_of kind items
 
 -- the items but the one of this number
-abbrev pub without : ℕ → List Item → List Item
-without number items = filter (λ item. not (item.number == number)) items
+abbrev pub without_item : ℕ → List Item → List Item
+without_item number items = filter (λ item. not (item.number == number)) items
 
 -- the item of this number
-abbrev pub numbered : ℕ → List Item → Option Item
-numbered number [] = None
-numbered number (x ∷ items) = if x.number == number then Some x else numbered number items
+abbrev pub item_of_number : ℕ → List Item → Option Item
+item_of_number number [] = None
+item_of_number number (x ∷ items) = if x.number == number then Some x else item_of_number number items
 
 -- the item, of another priority
 abbrev pub with_priority : ℕ → Item → Item
 with_priority priority item = record { number = item.number; priority = priority; what = item.what }
 
 -- the items, where the one of this number has another priority
-abbrev pub requeued : ℕ → ℕ → List Item → List Item
-requeued number priority items = map (λ item. if item.number == number then with_priority priority item else item) items
+abbrev pub with_item_priority : ℕ → ℕ → List Item → List Item
+with_item_priority number priority items = map (λ item. if item.number == number then with_priority priority item else item) items

@@ -4,7 +4,7 @@ ghost use Rattle.std.specs.Prelude.{◌≡◌, ◌≢◌, ◌+◌, ◌<◌, ◌�
 ghost use Rattle.std.specs.List.{AllByRecursion};
 ghost use Rattle.std.specs.Vec.{vec_len, vec_capacity};
 ghost use Rattle.slab.specs.Slab.{slab_len};
-ghost use Rattle.qqueue.specs.Best.{best_of, is_pulse, without, requeued};
+ghost use Rattle.qqueue.specs.Best.{best_of, is_pulse, without_item, with_item_priority};
 ghost use Rattle.qqueue.specs.Lanes.{first_in, IsEarlier, IsForemost};
 ghost use Rattle.qqueue.specs.Rings.{put_place, places_after, places_of, items_at, pulses_of, Rises, keys_on, Ring, first_of, after_of, before_of, item_of, item_at, Linked};
 ghost use Rattle.qqueue.specs.Joins.{Joined, ClosedUp};
@@ -234,7 +234,7 @@ impl Lists {
         requires there { IsSome (item_of self.old.nodes key) }
         ensures item { item_of self.old.nodes key ≡ Some result }
         ensures places { places_of self.old.nodes ≡ put_place (result, key) (places_of self.new.nodes) }
-        ensures rest { items_at (places_of self.new.nodes) ≡ without result.number (items_at (places_of self.old.nodes)) }
+        ensures rest { items_at (places_of self.new.nodes) ≡ without_item result.number (items_at (places_of self.old.nodes)) }
         ensures counts { pulses_of (items_at (places_of self.old.nodes)) ≡ pulses_of (items_at (places_of self.new.nodes)) + (if is_pulse result.what then 1 else 0) }
         ensures kept { IsKept self.new }
         ensures room { self.old.room < self.new.room }
@@ -254,7 +254,7 @@ impl Lists {
     pub fn requeue(&mut self, key: usize, priority: Priority)
         requires kept { IsKept self.old }
         requires there { IsSome (item_of self.old.nodes key) }
-        ensures items { IfSome (item_of self.old.nodes key) (λ item. items_at (places_of self.new.nodes) ≡ requeued item.number priority (items_at (places_of self.old.nodes))) }
+        ensures items { IfSome (item_of self.old.nodes key) (λ item. items_at (places_of self.new.nodes) ≡ with_item_priority item.number priority (items_at (places_of self.old.nodes))) }
         ensures counts { pulses_of (items_at (places_of self.new.nodes)) ≡ pulses_of (items_at (places_of self.old.nodes)) }
         ensures kept { IsKept self.new }
         ensures room { self.new.room ≡ self.old.room }

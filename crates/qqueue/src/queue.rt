@@ -3,7 +3,7 @@
 ghost use Rattle.std.specs.Prelude.{◌≡◌, ◌==◌, ◌+◌, ◌<◌, ◌≤◌, [], ◌∷◌, ◌++◌, length, count_by, IsOk, OnOk, OnErr, IfErr, IfSome, IfNone, IsSome, IsFalse, is_some, option_copied};
 ghost use Rattle.std.specs.List.{AllByRecursion};
 ghost use Rattle.qbase.specs.declared.errno.Errno.TheVariants.{NoMemory};
-ghost use Rattle.qqueue.specs.Best.{best_of, without, requeued, numbered, is_pulse};
+ghost use Rattle.qqueue.specs.Best.{best_of, without_item, with_item_priority, item_of_number, is_pulse};
 ghost use Rattle.qqueue.specs.Contents.{IsRising};
 ghost use Rattle.qqueue.specs.Kept.{IsKept};
 ghost use Rattle.qqueue.specs.Rings.{places_of, items_at, item_of, pulses_of};
@@ -44,7 +44,7 @@ fn take_out(lists: &mut Lists, pulses: &mut usize, key: usize) -> Item
     requires there { IsSome (item_of lists.old.nodes key) }
     requires counted { pulses.old ≡ pulses_of (items_at (places_of lists.old.nodes)) }
     ensures item { item_of lists.old.nodes key ≡ Some result }
-    ensures rest { items_at (places_of lists.new.nodes) ≡ without result.number (items_at (places_of lists.old.nodes)) }
+    ensures rest { items_at (places_of lists.new.nodes) ≡ without_item result.number (items_at (places_of lists.old.nodes)) }
     ensures kept { IsKept lists.new }
     ensures room { lists.old.room ≤ lists.new.room }
     ensures counted { pulses.new ≡ pulses_of (items_at (places_of lists.new.nodes)) }
@@ -109,7 +109,7 @@ impl Queue {
     /// that was sent first (messages and pulses in one order: own profile).
     pub fn take(&mut self, kind: Kind) -> Option<Item>
         ensures best { result ≡ best_of kind self.old.items }
-        ensures rest { IfSome result (λ item. self.new.items ≡ without item.number self.old.items) }
+        ensures rest { IfSome result (λ item. self.new.items ≡ without_item item.number self.old.items) }
         ensures unchanged { IfNone result (self.new ≡ self.old) }
         ensures room { self.old.room ≤ self.new.room }
     {
@@ -119,8 +119,8 @@ impl Queue {
 
     /// Takes out the item of this number, whatever its priority.
     pub fn remove(&mut self, number: u64) -> Option<Item>
-        ensures found { result ≡ numbered number self.old.items }
-        ensures rest { self.new.items ≡ without number self.old.items }
+        ensures found { result ≡ item_of_number number self.old.items }
+        ensures rest { self.new.items ≡ without_item number self.old.items }
         ensures unchanged { IfNone result (self.new ≡ self.old) }
         ensures room { self.old.room ≤ self.new.room }
     {
@@ -131,8 +131,8 @@ impl Queue {
     /// Gives the item of this number another priority, and says whether there is one; takes no memory. It then
     /// stands among the items of its new priority at its place by number, not behind them.
     pub fn requeue(&mut self, number: u64, priority: Priority) -> bool
-        ensures found { result ≡ is_some (numbered number self.old.items) }
-        ensures items { self.new.items ≡ requeued number priority self.old.items }
+        ensures found { result ≡ is_some (item_of_number number self.old.items) }
+        ensures items { self.new.items ≡ with_item_priority number priority self.old.items }
         ensures unchanged { IsFalse result → self.new ≡ self.old }
         ensures room { self.new.room ≡ self.old.room }
     {

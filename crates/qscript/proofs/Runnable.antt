@@ -9,19 +9,19 @@ use Rattle.std.proofs.Math.Bool.{or-false}
 use Rattle.std.specs.Option.{option_or}
 use Rattle.qbase.proofs.Lists.{length-filter_map}
 use Rattle.qtables.specs.declared.member.Member.{Member}
-use Rattle.qtables.specs.Members.{member_at, joined, join_refusal}
+use Rattle.qtables.specs.Members.{member_at, with_member, join_refusal}
 use Rattle.qmodel.specs.declared.call.Call.{Call}
 use Rattle.qscript.specs.declared.reading.line.Line.{Line}
 use Rattle.qscript.specs.declared.reading.line.Line.TheVariants as lines
 use Rattle.qscript.specs.declared.fault.LineFault.{LineFault}
 use Rattle.qscript.specs.declared.fault.LineFault.TheVariants.{DoubleThread, TooManyThreads, UnknownThread}
-use Rattle.qscript.specs.Enrolled.{enrolled, AllJoin}
+use Rattle.qscript.specs.Enrolled.{roster_with, AllJoin}
 use Rattle.qkernel.specs.Runs.{AllKnown}
 use Rattle.qscript.specs.Script.{CanRun}
 use Rattle.qscript.specs.Reading.Line.{line_of}
 use Rattle.qscript.specs.Reading.Lines.{lines_of, is_newline, without_return, without_last_end}
 use Rattle.qscript.specs.Reading.Words.{is_empty}
-use Rattle.qscript.specs.Reading.Meaning.{Meaning, TooLong, Says, meaning, is_in, placed, member_in, call_in, roster_of, calls_of, line_with, line_after, fault_in, fault_at, first_fault, unless, of_lines}
+use Rattle.qscript.specs.Reading.Meaning.{Meaning, TooLong, Says, meaning, is_in, line_after_roster, member_in, call_in, roster_of, calls_of, line_with, line_after, fault_in, fault_at, first_fault, fault_or, of_lines}
 use Rattle.qscript.proofs.Texts.Early.{bind_ok, placed_keeps, alone}
 use Rattle.qscript.proofs.Texts.Progress.{roster_more, calls_more}
 use Rattle.qscript.proofs.Joining.{enrolled_more}
@@ -44,45 +44,45 @@ or_move true false c = refl
 or_move false true c = refl
 or_move false false c = refl
 
-in_joined : (t : ℕ) (m : Member) (r : List Member) → is_in t (joined m r) ≡ ((m.thread == t) || is_in t r)
+in_joined : (t : ℕ) (m : Member) (r : List Member) → is_in t (with_member m r) ≡ ((m.thread == t) || is_in t r)
 in_joined t m [] = refl
 in_joined t m (x ∷ r) =
-    elim (nat_lt m.thread x.thread) as (λ b. is_in t (cond b (m ∷ x ∷ r) (x ∷ joined m r)) ≡ ((m.thread == t) || ((x.thread == t) || is_in t r))) [
+    elim (nat_lt m.thread x.thread) as (λ b. is_in t (cond b (m ∷ x ∷ r) (x ∷ with_member m r)) ≡ ((m.thread == t) || ((x.thread == t) || is_in t r))) [
       | true ↦ refl
       | false ↦ rw (in_joined t m r) (or_swap (x.thread == t) (m.thread == t) (is_in t r))
     ]
 
-length_joined : (m : Member) (r : List Member) → length (joined m r) ≡ length r + 1
+length_joined : (m : Member) (r : List Member) → length (with_member m r) ≡ length r + 1
 length_joined m [] = refl
 length_joined m (x ∷ r) =
-    elim (nat_lt m.thread x.thread) as (λ b. length (cond b (m ∷ x ∷ r) (x ∷ joined m r)) ≡ length (x ∷ r) + 1) [
+    elim (nat_lt m.thread x.thread) as (λ b. length (cond b (m ∷ x ∷ r) (x ∷ with_member m r)) ≡ length (x ∷ r) + 1) [
       | true ↦ omega arith
       | false ↦ omega (arith, length_joined m r)
     ]
 
-in_enrolled : (t : ℕ) (r ms : List Member) → is_in t (enrolled r ms) ≡ (is_in t r || is_in t ms)
+in_enrolled : (t : ℕ) (r ms : List Member) → is_in t (roster_with r ms) ≡ (is_in t r || is_in t ms)
 in_enrolled t r [] = sym (or-false (is_in t r))
-in_enrolled t r (m ∷ ms) = in_enrolled t (joined m r) ms ∙ rw (in_joined t m r) (or_move (m.thread == t) (is_in t r) (is_in t ms))
+in_enrolled t r (m ∷ ms) = in_enrolled t (with_member m r) ms ∙ rw (in_joined t m r) (or_move (m.thread == t) (is_in t r) (is_in t ms))
 
-length_enrolled : (r ms : List Member) → length (enrolled r ms) ≡ length r + length ms
+length_enrolled : (r ms : List Member) → length (roster_with r ms) ≡ length r + length ms
 length_enrolled r [] = omega arith
-length_enrolled r (m ∷ ms) = omega (arith, length_enrolled (joined m r) ms, length_joined m r)
+length_enrolled r (m ∷ ms) = omega (arith, length_enrolled (with_member m r) ms, length_joined m r)
 
 -- ---- members and callers so far
 
 pub record Fine (ms : List Member) (cs : List (ℕ × Call)) : Type 0 where
   pub members : AllJoin [] ms
-  pub callers : AllKnown (enrolled [] ms) cs
+  pub callers : AllKnown (roster_with [] ms) cs
 
-joins_more : (r ms : List Member) (m : Member) → AllJoin r ms → join_refusal (enrolled r ms) m.thread ≡ None → AllJoin r (ms ++ m ∷ [])
+joins_more : (r ms : List Member) (m : Member) → AllJoin r ms → join_refusal (roster_with r ms) m.thread ≡ None → AllJoin r (ms ++ m ∷ [])
 joins_more r [] m all new = (new, tt)
-joins_more r (x ∷ ms) m all new = (all.0, joins_more (joined x r) ms m all.1 new)
+joins_more r (x ∷ ms) m all new = (all.0, joins_more (with_member x r) ms m all.1 new)
 
-still_known : (r : List Member) (m : Member) (cs : List (ℕ × Call)) → AllKnown r cs → AllKnown (joined m r) cs
+still_known : (r : List Member) (m : Member) (cs : List (ℕ × Call)) → AllKnown r cs → AllKnown (with_member m r) cs
 still_known r m [] all = tt
 still_known r m (c ∷ cs) all =
     let here : IsTrue (is_in c.0 r) = rw (known r c.0) at all.0 in
-    (rw (known (joined m r) c.0, in_joined c.0 m r) (or_right (m.thread == c.0) (is_in c.0 r) here), still_known r m cs all.1)
+    (rw (known (with_member m r) c.0, in_joined c.0 m r) (or_right (m.thread == c.0) (is_in c.0 r) here), still_known r m cs all.1)
 
 known_more : (r : List Member) (cs : List (ℕ × Call)) (t : ℕ) (c : Call) → AllKnown r cs → IsTrue (is_some (member_at r t)) → AllKnown r (cs ++ (t, c) ∷ [])
 known_more r [] t c all h = (h, tt)
@@ -106,26 +106,26 @@ not_refused r t absent few = rw (absent, lt-ltb (length r) 64 few)
 under : (n : ℕ) → nat_le 64 n ≡ false → n < 64
 under n h = leb-false 64 n h
 
-joins_next : (ms : List Member) (m : Member) (l : Line) → placed ms (lines.Roster m) ≡ Ok l → join_refusal (enrolled [] ms) m.thread ≡ None
+joins_next : (ms : List Member) (m : Member) (l : Line) → line_after_roster ms (lines.Roster m) ≡ Ok l → join_refusal (roster_with [] ms) m.thread ≡ None
 joins_next ms m l h =
     let free = two_free (is_in m.thread ms) (nat_le 64 (length ms)) (lines.Roster m) l h in
-    not_refused (enrolled [] ms) m.thread
-    (known (enrolled [] ms) m.thread ∙ in_enrolled m.thread [] ms ∙ free.0)
+    not_refused (roster_with [] ms) m.thread
+    (known (roster_with [] ms) m.thread ∙ in_enrolled m.thread [] ms ∙ free.0)
     (omega (arith, length_enrolled [] ms, under (length ms) free.1))
 
-calls_next : (ms : List Member) (t : ℕ) (c : Call) (l : Line) → placed ms (lines.Call t c) ≡ Ok l → IsTrue (is_some (member_at (enrolled [] ms) t))
-calls_next ms t c l h = known (enrolled [] ms) t ∙ in_enrolled t [] ms ∙ one_free (is_in t ms) (lines.Call t c) l h
+calls_next : (ms : List Member) (t : ℕ) (c : Call) (l : Line) → line_after_roster ms (lines.Call t c) ≡ Ok l → IsTrue (is_some (member_at (roster_with [] ms) t))
+calls_next ms t c l h = known (roster_with [] ms) t ∙ in_enrolled t [] ms ∙ one_free (is_in t ms) (lines.Call t c) l h
 
-fine_more : (ms : List Member) (cs : List (ℕ × Call)) (l : Line) → Fine ms cs → placed ms l ≡ Ok l
+fine_more : (ms : List Member) (cs : List (ℕ × Call)) (l : Line) → Fine ms cs → line_after_roster ms l ≡ Ok l
     → Fine (ms ++ cons_option (member_in (Ok l)) []) (cs ++ cons_option (call_in (Ok l)) [])
 fine_more ms cs lines.Blank f h = rw (append-nil, append-nil) f
 fine_more ms cs (lines.Roster m) f h = record {
   members = joins_more [] ms m f.members (joins_next ms m _ h);
-  callers = rw (append-nil, enrolled_more [] ms m) (still_known (enrolled [] ms) m cs f.callers);
+  callers = rw (append-nil, enrolled_more [] ms m) (still_known (roster_with [] ms) m cs f.callers);
 }
 fine_more ms cs (lines.Call t c) f h = record {
   members = rw append-nil f.members;
-  callers = rw append-nil (known_more (enrolled [] ms) cs t c f.callers (calls_next ms t c _ h));
+  callers = rw append-nil (known_more (roster_with [] ms) cs t c f.callers (calls_next ms t c _ h));
 }
 
 -- ---- all lines
@@ -134,9 +134,9 @@ fine_with : (ms : List Member) (cs : List (ℕ × Call)) (line : List ℕ) (l : 
     → Fine (ms ++ cons_option (member_in (Ok l)) []) (cs ++ cons_option (call_in (Ok l)) [])
 unfolding line_with
 fine_with ms cs line l f h =
-    let b = bind_ok (line_of (nat_lt 0 (length cs)) line) (placed ms) l h in
+    let b = bind_ok (line_of (nat_lt 0 (length cs)) line) (line_after_roster ms) l h in
     let same : b.0 ≡ l = placed_keeps ms b.0 l b.2 in
-    let here : placed ms l ≡ Ok l = ap (placed ms) (sym same) ∙ b.2 in
+    let here : line_after_roster ms l ≡ Ok l = ap (line_after_roster ms) (sym same) ∙ b.2 in
     fine_more ms cs l f here
 
 -- no fault at a line
@@ -185,7 +185,7 @@ few_calls ls = length-filter_map (λ line. call_in (line_of false line)) ls
 
 -- ---- the whole
 
-said_so : (found : Option (ℕ × LineFault)) (ms ms' : List Member) (cs cs' : List (ℕ × Call)) → unless found (Says ms cs) ≡ Says ms' cs'
+said_so : (found : Option (ℕ × LineFault)) (ms ms' : List Member) (cs cs' : List (ℕ × Call)) → fault_or found (Says ms cs) ≡ Says ms' cs'
     → (found ≡ None) × (ms ≡ ms') × (cs ≡ cs')
 said_so None ms ms' cs cs' h = (refl, (cc), (cc))
 said_so (Some x) ms ms' cs cs' h = cc

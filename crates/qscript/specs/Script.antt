@@ -5,14 +5,14 @@ use Rattle.qtables.specs.Members.{IsRoster}
 use Rattle.qtables.specs.declared.member.Member.{Member}
 use Rattle.qmodel.specs.declared.call.Call.{Call}
 use Rattle.qmodel.specs.declared.open_call.Blocked.{Blocked}
-use Rattle.qmodel.specs.Blocked.{blocked_at}
+use Rattle.qmodel.specs.Blocked.{blocked_threads_at}
 use Rattle.qmodel.specs.Trace.{Run}
 use Rattle.qmodel.specs.OnlyRun.{HadMemory, event_call}
 use Rattle.qkernel.specs.Runs.{AllKnown}
 use Rattle.qmodel.specs.Properties.{HasProperties}
 use Rattle.qmodel.specs.Lawful.{IsLawful, followed_by}
 use Rattle.qscript.specs.declared.fault.LineFault.{LineFault}
-use Rattle.qscript.specs.Enrolled.{enrolled, AllJoin}
+use Rattle.qscript.specs.Enrolled.{roster_with, AllJoin}
 use Rattle.qscript.specs.Reading.Meaning.{meaning, Says, Faulty}
 use Rattle.qscript.specs.Printing.Printed.{printed}
 use Rattle.qscript.specs.Transfer.{IsReading, FailsWithin, IsOverfull, StopsWithin}
@@ -20,18 +20,18 @@ use Rattle.qscript.specs.Transfer.{IsReading, FailsWithin, IsOverfull, StopsWith
 -- the threads may join one roster, each call is of one of them, and there are no more calls than a kernel can number
 pub record CanRun (roster : List Member) (calls : List (ℕ × Call)) : Type 0 where
   pub members : AllJoin [] roster
-  pub callers : AllKnown (enrolled [] roster) calls
+  pub callers : AllKnown (roster_with [] roster) calls
   pub few : length calls ≤ 2 ^ 40
 
 -- a run of just these calls, lawful from the first call on, and who is blocked after it; the roster's threads stand in rising number, which the
 -- laws of lawful traces ask
 pub record IsRunOf (roster : List Member) (calls : List (ℕ × Call)) (run : Run) (blocked : List Blocked) : Type 0 where
-  pub rising : IsRoster (enrolled [] roster)
+  pub rising : IsRoster (roster_with [] roster)
   pub first : run.first ≡ 1
   pub made : map event_call run.events ≡ calls
-  pub lawful : IsLawful (enrolled [] roster) (followed_by [] run.events)
-  pub properties : HasProperties (enrolled [] roster) (followed_by [] run.events)
-  pub left : blocked ≡ blocked_at (enrolled [] roster) (followed_by [] run.events)
+  pub lawful : IsLawful (roster_with [] roster) (followed_by [] run.events)
+  pub properties : HasProperties (roster_with [] roster) (followed_by [] run.events)
+  pub left : blocked ≡ blocked_threads_at (roster_with [] roster) (followed_by [] run.events)
 
 -- the text of such a run; if no call was refused for want of memory, it is the text of each other such run
 pub record IsTextOfRun (roster : List Member) (calls : List (ℕ × Call)) (text : List ℕ) : Type 0 where

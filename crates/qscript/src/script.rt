@@ -4,7 +4,7 @@ ghost use Rattle.std.specs.Prelude.{◌≡◌, ℕ, ◌+◌, ◌≤◌, ◌^◌,
 ghost use Rattle.qkernel.specs.Runs.{AllKnown};
 ghost use Rattle.qstate.specs.Threads.{members_of};
 ghost use Rattle.qscript.specs.Printing.Printer.{HasRun};
-ghost use Rattle.qscript.specs.Enrolled.{enrolled, AllJoin};
+ghost use Rattle.qscript.specs.Enrolled.{roster_with, AllJoin};
 ghost use Rattle.qscript.specs.Script.{CanRun, IsTextOfRun, IsRun, IsUnread, IsTooLong, IsFaulty, IsCut};
 ghost use Rattle.qscript.specs.Watched.{inner_of, has_faulted};
 ghost use Rattle.qscript.specs.declared.fault.LineFault.{LineFault};
@@ -28,7 +28,7 @@ use std::io::{Read, Write};
 #[tactic(auto, using(crate::proofs::Joining::joins_at, crate::proofs::Joining::enrolled_next))]
 fn roster_of(alloc: Global, members: &[Member]) -> Roster
     requires { AllJoin [] members.now }
-    ensures { result ≡ enrolled [] members.now }
+    ensures { result ≡ roster_with [] members.now }
 {
     let mut roster = Roster::new(alloc);
     'joining: for member in members {

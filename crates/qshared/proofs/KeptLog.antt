@@ -13,7 +13,7 @@ use Rattle.qmodel.specs.declared.call.Call.{Call}
 use Rattle.qmodel.specs.declared.call.Call.TheVariants.{Shutdown}
 use Rattle.qmodel.specs.declared.call.Completion.{Completion}
 use Rattle.qmodel.specs.Answer.{Answers, refusal}
-use Rattle.qmodel.specs.Endings.{AreApart, IsDue, buffer_brought, gets}
+use Rattle.qmodel.specs.Endings.{AreApart, GoesToBlocked, buffer_brought, gets}
 use Rattle.qmodel.specs.Facts.{threads_of}
 use Rattle.qmodel.specs.Lawful.{IsLawful, facts_of, followed_by, with_event}
 use Rattle.qmodel.specs.Past.{is_down, open_call}
@@ -137,7 +137,7 @@ module _ (roster : List Member) (limit : ℕ) (threads rooms : List ℕ) (log : 
     pub all_may_copy : AllByRecursion (MayCopy threads (set rooms i room)) X
     all_may_copy = subst (λ ts. AllByRecursion (MayCopy ts (set rooms i room)) X) (sym f.kept.threads_are)
         (both X (endings_go_to_blocked roster past e f.kept.rises lawful_next) (ending_fits roster past e f.kept.rises lawful_next)) where
-          both : (Y : List Completion) → AllByRecursion (IsDue roster past t) Y → AllByRecursion (λ x. length x.buffer ≤ length (buffer_brought roster past t c x.thread)) Y
+          both : (Y : List Completion) → AllByRecursion (GoesToBlocked roster past t) Y → AllByRecursion (λ x. length x.buffer ≤ length (buffer_brought roster past t c x.thread)) Y
               → AllByRecursion (MayCopy (threads_of roster) (set rooms i room)) Y
           both [] a b = tt
           both (x ∷ Y) a b =

@@ -13,7 +13,7 @@ use Rattle.qmodel.specs.Trace.{Trace}
 use Rattle.qmodel.proofs.Rosters.{Rises, all_at}
 use Rattle.qhandoff.specs.Words.{AreBelow, left_for}
 use Rattle.qhandoff.specs.Words as cells
-use Rattle.qshared.specs.Due.{due, of_thread, place}
+use Rattle.qshared.specs.Due.{endings_due, of_thread, place}
 use Rattle.qshared.proofs.Places.{IsAt, at_among, is_at, place_at, place_same}
 
 -- a completion with the number of its cell
@@ -64,9 +64,9 @@ all_behind : {A : Type 0} (P : A → Type 0) (xs ys : List A) → AllByRecursion
 all_behind P [] ys a = a
 all_behind P (x ∷ xs) ys a = all_behind P xs ys a.1
 
-own_due : (past : Trace) (t : ℕ) → AllByRecursion (λ x. x.thread ≡ t) (due past t)
+own_due : (past : Trace) (t : ℕ) → AllByRecursion (λ x. x.thread ≡ t) (endings_due past t)
 own_due [] t = tt
-own_due (e ∷ past) t = all_append _ (due past t) (of_thread t e.endings) (own_due past t) (own_filtered t e.endings)
+own_due (e ∷ past) t = all_append _ (endings_due past t) (of_thread t e.endings) (own_due past t) (own_filtered t e.endings)
 
 -- ---- each is left for its own thread
 
@@ -121,7 +121,7 @@ left_rises ts r (x ∷ xs) all up = (above xs all.1 up.0, left_rises ts r xs all
 -- ---- where what was taken and what is left is what is due
 
 module _ (ts : List ℕ) (past : Trace) (xs : List Left) (rises : Rises ts) (up : cells.Rises xs) (below : AreBelow (length ts) xs)
-    (took : ℕ → List Completion) (told : (t i : ℕ) → place ts t ≡ Some i → took i ++ left_for i xs ≡ due past t) where
+    (took : ℕ → List Completion) (told : (t i : ℕ) → place ts t ≡ Some i → took i ++ left_for i xs ≡ endings_due past t) where
   placed : AllByRecursion (IsPlaced ts) xs
   placed = each (IsPlaced ts) xs (λ k x at.
       let t = get_or ts x.0 0 in
@@ -132,5 +132,5 @@ module _ (ts : List ℕ) (past : Trace) (xs : List Left) (rises : Rises ts) (up 
   pub left_by_thread : RiseByThread (map (λ x. x.1) xs)
   left_by_thread = left_rises ts rises xs placed (rising xs up)
 
-  pub left_due : (t i : ℕ) → place ts t ≡ Some i → took i ++ of_thread t (map (λ x. x.1) xs) ≡ due past t
+  pub left_due : (t i : ℕ) → place ts t ≡ Some i → took i ++ of_thread t (map (λ x. x.1) xs) ≡ endings_due past t
   left_due t i at = ap (λ ys. took i ++ ys) (left_same ts t i at xs placed) ∙ told t i at

@@ -11,7 +11,7 @@ use Rattle.qtables.specs.declared.member.Member.{Member}
 use Rattle.qmodel.specs.declared.call.Call.{Call}
 use Rattle.qmodel.specs.declared.call.Completion.{Completion}
 use Rattle.qmodel.specs.Answer.{Answers}
-use Rattle.qmodel.specs.Endings.{IsDue, gets, may_end}
+use Rattle.qmodel.specs.Endings.{GoesToBlocked, gets, may_end}
 use Rattle.qmodel.specs.Facts.{threads_of}
 use Rattle.qmodel.specs.Lawful.{IsLawful, facts_of, with_event}
 use Rattle.qmodel.specs.Trace.{Event, Trace}
@@ -89,7 +89,7 @@ module _ (roster : List Member) (kernel : State) (d : Desk Completion) (past : T
 
       pub all_may_put : AllByRecursion (MayPut (threads_of roster) (opened_desk d i)) X
       all_may_put = each X (endings_go_to_blocked roster past e rises lawful_after) where
-        each : (Y : List Completion) → AllByRecursion (IsDue roster past t) Y → AllByRecursion (MayPut (threads_of roster) (opened_desk d i)) Y
+        each : (Y : List Completion) → AllByRecursion (GoesToBlocked roster past t) Y → AllByRecursion (MayPut (threads_of roster) (opened_desk d i)) Y
         each [] a = tt
         each (x ∷ Y) a =
             let s = some_of (place (threads_of roster) x.thread) (place_some (threads_of roster) x.thread (known roster x.thread a.0.known)) in

@@ -13,9 +13,9 @@ abbrev pub of_thread : ℕ → List Completion → List Completion
 of_thread t endings = filter (λ x. x.thread == t) endings
 
 -- all endings so far of the calls of thread t, in order
-abbrev pub due : Trace → ℕ → List Completion
-due [] t = []
-due (e ∷ past) t = due past t ++ of_thread t e.endings
+abbrev pub endings_due : Trace → ℕ → List Completion
+endings_due [] t = []
+endings_due (e ∷ past) t = endings_due past t ++ of_thread t e.endings
 
 -- where thread t stands among these, which is the number of its cell
 abbrev pub place : List ℕ → ℕ → Option ℕ
@@ -23,4 +23,4 @@ place threads t = position (λ u. u == t) threads
 
 -- of each thread of the roster, what was put into its cell is what is due to it, and its cell is opened just where it has an open call
 abbrev pub IsTied : List Member → Desk Completion → Trace → Type 0
-IsTied roster d past = (t i : ℕ) → place (threads_of roster) t ≡ Some i → ((line d i).put ≡ due past t) × ((line d i).opened ≡ is_some (open_call roster past t))
+IsTied roster d past = (t i : ℕ) → place (threads_of roster) t ≡ Some i → ((line d i).put ≡ endings_due past t) × ((line d i).opened ≡ is_some (open_call roster past t))

@@ -8,9 +8,9 @@ use Rattle.qmodel.specs.declared.call.Call.{Call}
 use Rattle.qmodel.specs.declared.call.Completion.{Completion}
 use Rattle.qmodel.specs.Answer.{Answers}
 use Rattle.qmodel.specs.Lawful.{facts_of, with_event}
-use Rattle.qmodel.specs.Past.{ends, is_down, open_call}
+use Rattle.qmodel.specs.Past.{has_ending_of, is_down, open_call}
 use Rattle.qmodel.specs.Trace.{Trace}
-use Rattle.qshared.specs.Due.{due}
+use Rattle.qshared.specs.Due.{endings_due}
 use Rattle.qshared.specs.Held.{Held}
 use Rattle.qshared.specs.declared.performed.Performed.{Performed}
 use Rattle.qshared.specs.declared.performed.Performed.TheVariants.{Ended, Open, Refused}
@@ -37,7 +37,7 @@ pub record IsFree (roster : List Member) (past : Trace) (t : ℕ) : Type 0 where
 abbrev pub IsReason : List Member → Trace → ℕ → Errno → Type 0
 IsReason roster past t NoThread = is_some (member_at roster t) ≡ false
 IsReason roster past t Down = (is_some (member_at roster t) ≡ true) × (is_down past ≡ true)
-IsReason roster past t Busy = IsHeard roster past t × ((is_some (open_call roster past t) ≡ true) ⊎ ¬ (due past t ≡ []))
+IsReason roster past t Busy = IsHeard roster past t × ((is_some (open_call roster past t) ≡ true) ⊎ ¬ (endings_due past t ≡ []))
 IsReason roster past t e = ⊥
 
 -- why a call is refused: for one of these reasons, or because a free thread's call may not be noted
@@ -53,5 +53,5 @@ pub record IsEvent (roster : List Member) (past : Trace) (t : ℕ) (c : Call) (X
 -- a call that is refused is given back and changes nothing; any other was noted and is an event, and ended just where this holds an ending of the call itself
 abbrev pub Performs : List Member → Refuses → Admits → Held → ℕ → Call → Performed → Held → Type 0
 Performs roster refuses admits old t c (Refused e given) new = (new ≡ old) × (given ≡ c) × IsRefused roster refuses old t c e
-Performs roster refuses admits old t c Ended new = (X : List Completion) × IsEvent roster old.past t c X new.past × admits old.limit old.past c × (ends X (length old.past + 1) ≡ true)
-Performs roster refuses admits old t c Open new = (X : List Completion) × IsEvent roster old.past t c X new.past × admits old.limit old.past c × (ends X (length old.past + 1) ≡ false)
+Performs roster refuses admits old t c Ended new = (X : List Completion) × IsEvent roster old.past t c X new.past × admits old.limit old.past c × (has_ending_of X (length old.past + 1) ≡ true)
+Performs roster refuses admits old t c Open new = (X : List Completion) × IsEvent roster old.past t c X new.past × admits old.limit old.past c × (has_ending_of X (length old.past + 1) ≡ false)

@@ -13,7 +13,7 @@ use Rattle.qmodel.specs.Trace.{Trace}
 use Rattle.qhandoff.specs.declared.seats.ThreadSeat.{ThreadSeat}
 use Rattle.qhandoff.specs.Words.{took}
 use Rattle.qshared.specs.Asking.{AreCallsOf}
-use Rattle.qshared.specs.Due.{due, of_thread, place}
+use Rattle.qshared.specs.Due.{endings_due, of_thread, place}
 
 -- why a call may not be noted: the kernel has made as many as it makes
 abbrev pub refuses_unkept : ℕ → Trace → Call → Errno → Type 0
@@ -31,4 +31,4 @@ pub record WasMade (roster : List Member) (seats : List (ThreadSeat Completion))
   pub asked_is : AreCallsOf roster asked past
   pub lawful : IsLawful roster past
   pub properties : HasProperties roster past
-  pub due_is : (t i : ℕ) → place (threads_of roster) t ≡ Some i → took (get_elem? seats i) ++ of_thread t left ≡ due past t
+  pub due_is : (t i : ℕ) → place (threads_of roster) t ≡ Some i → took (get_elem? seats i) ++ of_thread t left ≡ endings_due past t

@@ -9,7 +9,7 @@ ghost use Rattle.qmodel.specs.Laws.{RiseByThread};
 ghost use Rattle.qmodel.specs.Properties.{HasProperties};
 ghost use Rattle.qhandoff.specs.Words.{cells_id, thread_of, taken, took, IsRow};
 ghost use Rattle.qshared.specs.Asking.{AreCallsOf, asked_in};
-ghost use Rattle.qshared.specs.Due.{place, due, of_thread};
+ghost use Rattle.qshared.specs.Due.{place, endings_due, of_thread};
 ghost use Rattle.qshared.specs.Naming.{AreParts, AreAll};
 ghost use Rattle.qshared.specs.Unkept.{WasMade};
 
@@ -219,7 +219,7 @@ impl<K: Tie, L: Log> Shared<K, L> {
         ensures asked { AreCallsOf K.roster (map (λ p. p.asked.calls) ports.items) (L.past result.log) }
         ensures lawful { IsLawful K.roster (L.past result.log) × HasProperties K.roster (L.past result.log) }
         ensures rises { RiseByThread result.left.items }
-        ensures due { (t i : ℕ) → place (threads_of K.roster) t ≡ Some i → took (get_elem? (map (λ p. p.seat) ports.items) i) ++ of_thread t result.left.items ≡ due (L.past result.log) t }
+        ensures due { (t i : ℕ) → place (threads_of K.roster) t ≡ Some i → took (get_elem? (map (λ p. p.seat) ports.items) i) ++ of_thread t result.left.items ≡ endings_due (L.past result.log) t }
     {
         let Shared { cells, lock, .. } = self;
         let Locked {
@@ -296,7 +296,7 @@ impl<K: Tie> Shared<K, Kept<K>> {
         ensures asked { AreCallsOf K.roster (map (λ p. p.asked.calls) ports.items) (followed_by [] result.trace.events) }
         ensures lawful { (result.trace.first ≡ 1) × IsLawful K.roster (followed_by [] result.trace.events) × HasProperties K.roster (followed_by [] result.trace.events) }
         ensures rises { RiseByThread result.left.items }
-        ensures due { (t i : ℕ) → place (threads_of K.roster) t ≡ Some i → took (get_elem? (map (λ p. p.seat) ports.items) i) ++ of_thread t result.left.items ≡ due (followed_by [] result.trace.events) t }
+        ensures due { (t i : ℕ) → place (threads_of K.roster) t ≡ Some i → took (get_elem? (map (λ p. p.seat) ports.items) i) ++ of_thread t result.left.items ≡ endings_due (followed_by [] result.trace.events) t }
     {
         let Closed { log, calls, left } = self.close(ports);
         Report {

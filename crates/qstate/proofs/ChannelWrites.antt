@@ -10,7 +10,7 @@ use Rattle.qtables.specs.Entries.{entry_at, with_record, without_entry}
 use Rattle.qtables.proofs.LookUps.{entry_at-with_record, entry_at-without_entry}
 use Rattle.qbase.proofs.Lists.{eqb_either}
 use Rattle.qstate.specs.declared.channel.Channel.{Channel}
-use Rattle.qstate.specs.Channels.{opened, channel_in, pending_in, waiting_on, SetsItems, ClosesIn}
+use Rattle.qstate.specs.Channels.{open_channel_of, channel_in, pending_in, items_waiting_on, SetsItems, ClosesIn}
 
 module _ {R : Type 0} where
   -- the record of each number, after a write to one that is there
@@ -42,17 +42,17 @@ sets_items channels h c q items is now =
     let d : Channel = record { owner = c.owner; flags = c.flags; queue = q } in
     record {
       ids = ids_same channels h d;
-      channel = λ k. ap (option_map opened) (written_at channels h c d k is)
-          ∙ (elim (eqb k h) as (λ b. eqb k h ≡ b → option_map opened (cond b (Some d) (entry_at channels k)) ≡ channel_in channels k) [
+      channel = λ k. ap (option_map open_channel_of) (written_at channels h c d k is)
+          ∙ (elim (eqb k h) as (λ b. eqb k h ≡ b → option_map open_channel_of (cond b (Some d) (entry_at channels k)) ≡ channel_in channels k) [
             | true ↦ λ e. rw (eqb-true k h e, is) refl
             | false ↦ λ e. refl
           ] refl);
-      pending = λ k. ap waiting_on (written_at channels h c d k is)
-          ∙ (elim (eqb k h) as (λ b. waiting_on (cond b (Some d) (entry_at channels k)) ≡ cond b items (waiting_on (entry_at channels k))) [ true ↦ now | false ↦ refl ]);
+      pending = λ k. ap items_waiting_on (written_at channels h c d k is)
+          ∙ (elim (eqb k h) as (λ b. items_waiting_on (cond b (Some d) (entry_at channels k)) ≡ cond b items (items_waiting_on (entry_at channels k))) [ true ↦ now | false ↦ refl ]);
     }
 
 -- what holds where there is a channel holds where one is open
-on_open : {P : Type 0} (o : Option Channel) → is_some (option_map opened o) ≡ true → OnSome o P → P
+on_open : {P : Type 0} (o : Option Channel) → is_some (option_map open_channel_of o) ≡ true → OnSome o P → P
 on_open None there h = absurd (true≢false (sym there))
 on_open (Some c) there h = h
 
@@ -60,8 +60,8 @@ on_open (Some c) there h = h
 pub closes_in : (h : ℕ) (channels : List (ℕ × Channel)) → is_some (channel_in channels h) ≡ true → OnSome (entry_at channels h) (length (without_entry channels h) + 1 ≡ length channels) → ClosesIn h channels (without_entry channels h)
 closes_in h channels there fewer = record {
   ids = λ n all. ids_kept (λ id. id ≤ n) channels h all;
-  channel = λ k. ap (option_map opened) (entry_at-without_entry channels h k) ∙ (elim (eqb h k) as (λ b. option_map opened (cond b None (entry_at channels k)) ≡ cond b None (channel_in channels k)) [ true ↦ refl | false ↦ refl ]);
-  pending = λ k. ap waiting_on (entry_at-without_entry channels h k) ∙ (elim (eqb h k) as (λ b. waiting_on (cond b None (entry_at channels k)) ≡ cond b [] (pending_in channels k)) [ true ↦ refl | false ↦ refl ]);
+  channel = λ k. ap (option_map open_channel_of) (entry_at-without_entry channels h k) ∙ (elim (eqb h k) as (λ b. option_map open_channel_of (cond b None (entry_at channels k)) ≡ cond b None (channel_in channels k)) [ true ↦ refl | false ↦ refl ]);
+  pending = λ k. ap items_waiting_on (entry_at-without_entry channels h k) ∙ (elim (eqb h k) as (λ b. items_waiting_on (cond b None (entry_at channels k)) ≡ cond b [] (pending_in channels k)) [ true ↦ refl | false ↦ refl ]);
   fewer = on_open (entry_at channels h) there fewer;
 }
 

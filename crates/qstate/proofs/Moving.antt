@@ -4,7 +4,7 @@ use Rattle.std.specs.Prelude.{Option, None, Some, ◌&&◌}
 use Rattle.std.proofs.Math.Bool.{and-false, and-true}
 use Rattle.std.proofs.lemmas.Bool.{eqb-true}
 use Rattle.std.proofs.lemmas.Option.{none-some, same_Some}
-use Rattle.qqueue.specs.Best.{requeued, with_priority}
+use Rattle.qqueue.specs.Best.{with_item_priority, with_priority}
 use Rattle.qqueue.specs.declared.item.Item.{Item}
 use Rattle.qtables.specs.Entries.{entry_at}
 use Rattle.qtables.specs.declared.connection.Connection.{Connection}
@@ -48,10 +48,10 @@ unmoved p priority [] none = refl
 unmoved p priority (x ∷ items) none = rw (none x.number) (ap (λ l. x ∷ l) (unmoved p priority items none))
 
 -- the one of a number moves
-moved : (p : ℕ → Bool) (n priority : ℕ) (items : List Item) → ((i : ℕ) → p i ≡ eqb n i) → requeued n priority items ≡ map (λ item. cond (p item.number) (with_priority priority item) item) items
+moved : (p : ℕ → Bool) (n priority : ℕ) (items : List Item) → ((i : ℕ) → p i ≡ eqb n i) → with_item_priority n priority items ≡ map (λ item. cond (p item.number) (with_priority priority item) item) items
 moved p n priority [] one = refl
 moved p n priority (x ∷ items) one =
-    ap (λ b. cond b (with_priority priority x) x ∷ requeued n priority items) (eqb_either x.number n ∙ sym (one x.number))
+    ap (λ b. cond b (with_priority priority x) x ∷ with_item_priority n priority items) (eqb_either x.number n ∙ sym (one x.number))
     ∙ ap (λ l. cond (p x.number) (with_priority priority x) x ∷ l) (moved p n priority items one)
 
 -- ---- the channels
@@ -74,16 +74,16 @@ moves_nowhere o connections priority channels u is gone = nothing_moves o connec
     some_unread (λ k. entry_at connections k) h i o u is ∙ ap (λ c. eqb u.number i && is_to h c) gone ∙ and-false (eqb u.number i))
 
 pub moves_one : (o : Option OpenCall) (connections : List (ℕ × Connection)) (priority : ℕ) (old new : List (ℕ × Channel)) (u : Unread) (c : Connection) → unread_in o ≡ Some u → entry_at connections u.coid ≡ Some c
-    → SetsItems c.channel (requeued u.number priority (pending_in old c.channel)) old new → MovesUnread o connections priority old new
+    → SetsItems c.channel (with_item_priority u.number priority (pending_in old c.channel)) old new → MovesUnread o connections priority old new
 moves_one o connections priority old new u c is over sets = record {
   ids = sets.ids;
   channel = sets.channel;
   pending = λ h. sets.pending h ∙ (
       let p = λ (i : ℕ). is_unread_send (λ k. entry_at connections k) h i o in
       let is_that : (i : ℕ) → p i ≡ (eqb u.number i && eqb c.channel h) = λ i. some_unread (λ k. entry_at connections k) h i o u is ∙ ap (λ x. eqb u.number i && is_to h x) over in
-      elim (eqb h c.channel) as (λ b. eqb h c.channel ≡ b → cond b (requeued u.number priority (pending_in old c.channel)) (pending_in old h) ≡ map (λ item. cond (p item.number) (with_priority priority item) item) (pending_in old h)) [
+      elim (eqb h c.channel) as (λ b. eqb h c.channel ≡ b → cond b (with_item_priority u.number priority (pending_in old c.channel)) (pending_in old h) ≡ map (λ item. cond (p item.number) (with_priority priority item) item) (pending_in old h)) [
         | true ↦ λ there.
-            ap (λ k. requeued u.number priority (pending_in old k)) (sym (eqb-true h c.channel there))
+            ap (λ k. with_item_priority u.number priority (pending_in old k)) (sym (eqb-true h c.channel there))
             ∙ moved p u.number priority (pending_in old h) (λ i. is_that i ∙ ap (λ b. eqb u.number i && b) (eqb_either c.channel h ∙ there) ∙ and-true (eqb u.number i))
         | false ↦ λ elsewhere. sym (unmoved p priority (pending_in old h) (λ i. is_that i ∙ ap (λ b. eqb u.number i && b) (eqb_either c.channel h ∙ elsewhere) ∙ and-false (eqb u.number i)))
       ] refl);

@@ -17,7 +17,7 @@ use Rattle.qmodel.specs.Facts.{threads_of}
 use Rattle.qmodel.specs.Receivers.{first_where, is_after, wait_on}
 use Rattle.qmodel.specs.Rows.{takes, takes_into}
 use Rattle.qmodel.proofs.Properties.Receivers.{after_less, any_after, newest_parts}
-use Rattle.qstate.specs.Threads.{later, members_of, newest_in, open_in}
+use Rattle.qstate.specs.Threads.{later_of_two, members_of, newest_in, open_in}
 use Rattle.qbase.proofs.Lists.{is_among}
 use Rattle.qstate.proofs.Senders.{own_open}
 
@@ -26,23 +26,23 @@ use Rattle.qstate.proofs.Senders.{own_open}
 -- the best so far and the threads that are looked at, by what each waits in
 abbrev top : (ℕ → Option ℕ) → Option (ℕ × ℕ) → List ℕ → Option (ℕ × ℕ)
 top wait best [] = best
-top wait best (u ∷ ts) = top wait (later best u (wait u)) ts
+top wait best (u ∷ ts) = top wait (later_of_two best u (wait u)) ts
 
 -- the same through the records of threads
 abbrev pub newest_by : ℕ → Item → Option (ℕ × ℕ) → List Thread → Option (ℕ × ℕ)
 newest_by h item best [] = best
-newest_by h item best (t ∷ threads) = newest_by h item (later best t.member.thread (wait_on h item t.open_call)) threads
+newest_by h item best (t ∷ threads) = newest_by h item (later_of_two best t.member.thread (wait_on h item t.open_call)) threads
 
 newest_same : (open_call : ℕ → Option OpenCall) (h : ℕ) (item : Item) (best : Option (ℕ × ℕ)) (threads : List Thread) → AllByRecursion (λ x. open_call x.member.thread ≡ x.open_call) threads
     → newest_by h item best threads ≡ top (λ u. wait_on h item (open_call u)) best (threads_of (members_of threads))
 newest_same open_call h item best [] w = refl
-newest_same open_call h item best (t ∷ threads) w = rw (← w.0) (newest_same open_call h item (later best t.member.thread (wait_on h item (open_call t.member.thread))) threads w.1)
+newest_same open_call h item best (t ∷ threads) w = rw (← w.0) (newest_same open_call h item (later_of_two best t.member.thread (wait_on h item (open_call t.member.thread))) threads w.1)
 
 module _ (wait : ℕ → Option ℕ) where
   -- a best so far stays where none is later, and is forgotten where one is
   top_from : (m u : ℕ) (ts : List ℕ) → top wait (Some (m, u)) ts ≡ cond (any_after wait m ts) (top wait None ts) (Some (m, u))
   top_from m u [] = refl
-  top_from m u (t ∷ ts) = elim (wait t) as (λ o. top wait (later (Some (m, u)) t o) ts ≡ cond (is_after m o || any_after wait m ts) (top wait (later None t o) ts) (Some (m, u))) [
+  top_from m u (t ∷ ts) = elim (wait t) as (λ o. top wait (later_of_two (Some (m, u)) t o) ts ≡ cond (is_after m o || any_after wait m ts) (top wait (later_of_two None t o) ts) (Some (m, u))) [
     | None ↦ top_from m u ts
     | Some n ↦ elim (nat_lt m n) as (λ b. nat_lt m n ≡ b → top wait (cond b (Some (n, t)) (Some (m, u))) ts ≡ cond (b || any_after wait m ts) (top wait (Some (n, t)) ts) (Some (m, u))) [
       | true ↦ λ less. refl
@@ -78,7 +78,7 @@ module _ (wait : ℕ → Option ℕ) where
   -- what the search finds is the last to wait
   pub top_is : (ts : List ℕ) → option_map (λ b. b.1) (top wait None ts) ≡ first_where (lasts ts) ts
   top_is [] = refl
-  top_is (t ∷ ts) = elim (wait t) as (λ o. wait t ≡ o → option_map (λ b. b.1) (top wait (later None t o) ts) ≡ cond (option_map_or (λ m. not (any_after wait m (t ∷ ts))) o false) (Some t) (first_where (lasts (t ∷ ts)) ts)) [
+  top_is (t ∷ ts) = elim (wait t) as (λ o. wait t ≡ o → option_map (λ b. b.1) (top wait (later_of_two None t o) ts) ≡ cond (option_map_or (λ m. not (any_after wait m (t ∷ ts))) o false) (Some t) (first_where (lasts (t ∷ ts)) ts)) [
     | None ↦ λ idle. top_is ts ∙ sym (first_same (lasts (t ∷ ts)) (lasts ts) ts (more_idle t ts idle))
     | Some m ↦ λ is. ap (option_map (λ (b : ℕ × ℕ). b.1)) (top_from m t ts) ∙ rw (is, le-ltb m m (omega arith)) (
         elim (any_after wait m ts) as (λ b. any_after wait m ts ≡ b → option_map (λ b. b.1) (cond b (top wait None ts) (Some (m, t))) ≡ cond (not b) (Some t) (first_where (lasts (t ∷ ts)) ts)) [

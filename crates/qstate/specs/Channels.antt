@@ -9,17 +9,17 @@ use Rattle.qstate.specs.declared.channel.Channel.{Channel}
 use Rattle.qmodel.specs.Facts.{OpenChannel}
 
 -- what a call may read of a channel
-abbrev pub opened : Channel → OpenChannel
-opened c = record { owner = c.owner; flags = c.flags }
+abbrev pub open_channel_of : Channel → OpenChannel
+open_channel_of c = record { owner = c.owner; flags = c.flags }
 
 -- the open channel of an id
 abbrev pub channel_in : List (ℕ × Channel) → ℕ → Option OpenChannel
-channel_in channels h = option_map opened (entry_at channels h)
+channel_in channels h = option_map open_channel_of (entry_at channels h)
 
 -- what waits on a channel
-abbrev pub waiting_on : Option Channel → List Item
-waiting_on None = []
-waiting_on (Some c) = c.queue.items
+abbrev pub items_waiting_on : Option Channel → List Item
+items_waiting_on None = []
+items_waiting_on (Some c) = c.queue.items
 
 -- how many more items a channel has room for
 abbrev pub room_of : Option Channel → ℕ
@@ -32,7 +32,7 @@ room_in channels h = room_of (entry_at channels h)
 
 -- what waits on the channel of an id
 abbrev pub pending_in : List (ℕ × Channel) → ℕ → List Item
-pending_in channels h = waiting_on (entry_at channels h)
+pending_in channels h = items_waiting_on (entry_at channels h)
 
 -- the channel is one of this process
 abbrev pub is_of : ℕ → Option OpenChannel → Bool

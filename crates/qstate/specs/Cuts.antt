@@ -68,16 +68,16 @@ is_cut_open is_cut None = false
 is_cut_open is_cut (Some o) = is_cut o.wait
 
 -- an open call, if it is cut
-abbrev pub taken_by : (Wait → Bool) → Option OpenCall → Option OpenCall
-taken_by is_cut o = if is_cut_open is_cut o then o else None
+abbrev pub call_if_cut : (Wait → Bool) → Option OpenCall → Option OpenCall
+call_if_cut is_cut o = if is_cut_open is_cut o then o else None
 
 -- the thread with no open call, if that is cut
-abbrev pub left_open : (Wait → Bool) → Thread → Thread
-left_open is_cut t = record { member = t.member; priority = t.priority; open_call = if is_cut_open is_cut t.open_call then None else t.open_call }
+abbrev pub thread_unless_cut : (Wait → Bool) → Thread → Thread
+thread_unless_cut is_cut t = record { member = t.member; priority = t.priority; open_call = if is_cut_open is_cut t.open_call then None else t.open_call }
 
 -- the thread with no open call, if this cuts that
-abbrev pub left_by : (ℕ → Option Connection) → Cut → Thread → Thread
-left_by connection cut t = left_open (is_cut_by connection cut t.member.thread) t
+abbrev pub thread_after_cut : (ℕ → Option Connection) → Cut → Thread → Thread
+thread_after_cut connection cut t = thread_unless_cut (is_cut_by connection cut t.member.thread) t
 
 -- the open call is cut and is the Send of number i, blocked on channel h and not received
 abbrev pub is_taken_from : (ℕ → Option Connection) → (Wait → Bool) → Option OpenCall → ℕ → ℕ → Bool

@@ -14,15 +14,15 @@ use Rattle.qstate.specs.Channels.{channel_in, is_of}
 use Rattle.qstate.specs.Threads.{held_over_in, sent_call}
 
 -- what is told of a message that is held: its number, the connection over which it was sent, and what is kept of its receipt
-abbrev pub held_of : ℕ → Wait → Option Held
-held_of n (Answer coid message reply_buffer (Some receipt)) = Some (record { rcvid = n; coid = coid; receipt = receipt })
-held_of n (Answer coid message reply_buffer None) = None
-held_of n (ForItem chid kind buffer) = None
+abbrev pub held_message_of : ℕ → Wait → Option Held
+held_message_of n (Answer coid message reply_buffer (Some receipt)) = Some (record { rcvid = n; coid = coid; receipt = receipt })
+held_message_of n (Answer coid message reply_buffer None) = None
+held_message_of n (ForItem chid kind buffer) = None
 
 -- the same of a thread's open call, if it has one
-abbrev pub held_in : Option OpenCall → Option Held
-held_in None = None
-held_in (Some o) = held_of o.number o.wait
+abbrev pub held_message_in : Option OpenCall → Option Held
+held_message_in None = None
+held_message_in (Some o) = held_message_of o.number o.wait
 
 -- the channel that a connection leads to, where that has the unblock flag
 abbrev pub guard_in : List (ℕ × Channel) → Option Connection → Option ℕ
@@ -30,9 +30,9 @@ guard_in channels None = None
 guard_in channels (Some c) = if tells_unblock (channel_in channels c.channel) then Some c.channel else None
 
 -- a message that is held, with its channel, where that has the unblock flag
-abbrev pub guarded_in : List (ℕ × Connection) → List (ℕ × Channel) → Option Held → Option (Held × ℕ)
-guarded_in connections channels None = None
-guarded_in connections channels (Some held) = option_map (λ h. (held, h)) (guard_in channels (entry_at connections held.coid))
+abbrev pub guarded_message_in : List (ℕ × Connection) → List (ℕ × Channel) → Option Held → Option (Held × ℕ)
+guarded_message_in connections channels None = None
+guarded_message_in connections channels (Some held) = option_map (λ h. (held, h)) (guard_in channels (entry_at connections held.coid))
 
 -- the channel of a connection is of this process
 abbrev pub leads_to_own : List (ℕ × Channel) → ℕ → Option Connection → Bool

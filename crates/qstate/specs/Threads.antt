@@ -9,7 +9,7 @@ use Rattle.qmodel.specs.declared.open_call.Wait.{Wait}
 use Rattle.qmodel.specs.declared.open_call.Wait.TheVariants.{Answer, Item as ForItem}
 use Rattle.qstate.specs.declared.thread.Thread.{Thread}
 use Rattle.qmodel.specs.Facts.{threads_of, sender_among, message_in}
-use Rattle.qmodel.specs.Receivers.{newest_among}
+use Rattle.qmodel.specs.Receivers.{newest_receiver_among}
 use Rattle.qmodel.specs.Step.{held_call, is_thread, unblocked_call}
 
 -- the roster
@@ -36,12 +36,12 @@ abbrev pub seat_in : List Thread → ℕ → Option ℕ
 seat_in threads u = position (λ t. t.member.thread == u) threads
 
 -- a thread that isn't blocked and has the priority that it begins with
-abbrev pub ready : Member → Thread
-ready m = record { member = m; priority = m.priority; open_call = None }
+abbrev pub ready_thread : Member → Thread
+ready_thread m = record { member = m; priority = m.priority; open_call = None }
 
 -- the receiver on channel h that may take the item and began last
 abbrev pub newest_in : ℕ → Item → List Thread → Option ℕ
-newest_in h item threads = newest_among (open_in threads) h item (threads_of (members_of threads))
+newest_in h item threads = newest_receiver_among (open_in threads) h item (threads_of (members_of threads))
 
 -- call m is later than the best so far, which is the number of a call and its thread
 abbrev pub is_later : ℕ → Option (ℕ × ℕ) → Bool
@@ -49,9 +49,9 @@ is_later m None = true
 is_later m (Some best) = nat_lt best.0 m
 
 -- the later of the best so far and call m of thread u, if there is one
-abbrev pub later : Option (ℕ × ℕ) → ℕ → Option ℕ → Option (ℕ × ℕ)
-later best u None = best
-later best u (Some m) = if is_later m best then Some (m, u) else best
+abbrev pub later_of_two : Option (ℕ × ℕ) → ℕ → Option ℕ → Option (ℕ × ℕ)
+later_of_two best u None = best
+later_of_two best u (Some m) = if is_later m best then Some (m, u) else best
 
 -- thread u has this open call, and all else is as it was
 pub record SetsOpen (u : ℕ) (o : Option OpenCall) (old new : List Thread) : Type 0 where

@@ -2,7 +2,7 @@
 
 ghost use Rattle.std.specs.Prelude.{◌≡◌, ◌==◌, ◌+◌, ◌≤◌, ◌<◌, ◌++◌, ◌∷◌, ◌&&◌, [], count_by, is_some, true, None, Some, if◌then◌else◌, IsOk, OnOk, OnErr, IfErr, IfSome, IfNone};
 ghost use Rattle.std.specs.List.{AllByRecursion};
-ghost use Rattle.qqueue.specs.Best.{best_of, requeued, without};
+ghost use Rattle.qqueue.specs.Best.{best_of, with_item_priority, without_item};
 ghost use Rattle.qmodel.specs.Pulses.{pulses_among};
 ghost use Rattle.qmodel.specs.Facts.{is_fixed, tells_disconnect, tells_unblock};
 ghost use Rattle.qstate.specs.Channels.{channel_in, own_channel_in, pending_in, is_of, room_in, way_in, ClosesIn, SetsItems};
@@ -132,7 +132,7 @@ pub fn tells_unblock(channels: &Channels<Channel>, chid: ChannelId) -> bool
 /// Takes the best item that waits on a channel.
 pub fn take_best(channels: &mut Channels<Channel>, chid: ChannelId, kind: Kind) -> Option<Item>
     ensures best { result ≡ best_of kind (pending_in channels.old chid) }
-    ensures taken { IfSome result (λ item. SetsItems chid (without item.number (pending_in channels.old chid)) channels.old channels.new) }
+    ensures taken { IfSome result (λ item. SetsItems chid (without_item item.number (pending_in channels.old chid)) channels.old channels.new) }
     ensures none { IfNone result (SetsItems chid (pending_in channels.old chid) channels.old channels.new) }
 {
     let channel = channels.get_mut(chid)?;
@@ -159,7 +159,7 @@ pub fn enqueue(channels: &mut Channels<Channel>, chid: ChannelId, item: Item) ->
 
 /// Gives the item of this number on a channel another priority, if it waits there; takes no memory.
 pub fn requeue(channels: &mut Channels<Channel>, chid: ChannelId, number: u64, priority: Priority)
-    ensures { SetsItems chid (requeued number priority (pending_in channels.old chid)) channels.old channels.new }
+    ensures { SetsItems chid (with_item_priority number priority (pending_in channels.old chid)) channels.old channels.new }
 {
     if let Some(channel) = channels.get_mut(chid) {
         let _ = channel.queue.requeue(number, priority);

@@ -5,7 +5,7 @@ ghost use Rattle.qtables.specs.Entries.{entry_at};
 ghost use Rattle.qtables.specs.Members.{IsRoster};
 ghost use Rattle.qmodel.specs.Cutting.{buffer_of_wait, is_on, is_over, is_unread_send, cut_call, cut_where};
 ghost use Rattle.qmodel.specs.Facts.{threads_of};
-ghost use Rattle.qstate.specs.Cuts.{is_cut_by, ending_for, with_ending, left_open, unread_over_by, unread_on_by, taken_by, is_taken_from, Lose, AreCut, LoseCut};
+ghost use Rattle.qstate.specs.Cuts.{is_cut_by, ending_for, with_ending, thread_unless_cut, unread_over_by, unread_on_by, call_if_cut, is_taken_from, Lose, AreCut, LoseCut};
 ghost use Rattle.qstate.specs.Threads.{members_of, open_in};
 
 use crate::channel::Channel;
@@ -127,8 +127,8 @@ fn failed(call: OpenCall, thread: ThreadNo, errno: Errno) -> Completion
 
 /// Takes the open call of a thread, if it is cut.
 fn take_cut(thread: &mut Thread, connections: &Connections, cut: &Cut) -> Option<OpenCall>
-    ensures had { result ≡ taken_by (is_cut_by (entry_at connections.now) cut.now thread.old.member.thread) thread.old.open_call }
-    ensures after { thread.new ≡ left_open (is_cut_by (entry_at connections.now) cut.now thread.old.member.thread) thread.old }
+    ensures had { result ≡ call_if_cut (is_cut_by (entry_at connections.now) cut.now thread.old.member.thread) thread.old.open_call }
+    ensures after { thread.new ≡ thread_unless_cut (is_cut_by (entry_at connections.now) cut.now thread.old.member.thread) thread.old }
 {
     match &thread.open_call {
         Some(call) if is_cut(connections, cut, thread.member.thread, &call.wait) => {
@@ -147,7 +147,7 @@ fn cut_thread(
     errno: Errno,
 ) -> Option<Completion>
     ensures ending { result ≡ cut_where (is_cut_by (entry_at connections.now) cut.now thread.old.member.thread) errno thread.old.member.thread thread.old.open_call }
-    ensures thread { thread.new ≡ left_open (is_cut_by (entry_at connections.now) cut.now thread.old.member.thread) thread.old }
+    ensures thread { thread.new ≡ thread_unless_cut (is_cut_by (entry_at connections.now) cut.now thread.old.member.thread) thread.old }
     ensures channels { Lose (is_taken_from (entry_at connections.now) (is_cut_by (entry_at connections.now) cut.now thread.old.member.thread) thread.old.open_call) channels.old channels.new }
 {
     let call = take_cut(thread, connections, cut)?;
@@ -168,7 +168,7 @@ fn end_thread(
     requires idle { (thread.old.member.thread == caller) ≡ true → thread.old.open_call ≡ None }
     ensures ending { result ≡ (if thread.old.member.thread == caller then own.old else cut_where (is_cut_by (entry_at connections.now) cut.now thread.old.member.thread) errno thread.old.member.thread thread.old.open_call) }
     ensures own { own.new ≡ (if thread.old.member.thread == caller then None else own.old) }
-    ensures thread { thread.new ≡ left_open (is_cut_by (entry_at connections.now) cut.now thread.old.member.thread) thread.old }
+    ensures thread { thread.new ≡ thread_unless_cut (is_cut_by (entry_at connections.now) cut.now thread.old.member.thread) thread.old }
     ensures channels { Lose (is_taken_from (entry_at connections.now) (is_cut_by (entry_at connections.now) cut.now thread.old.member.thread) thread.old.open_call) channels.old channels.new }
 {
     if thread.member.thread == caller {

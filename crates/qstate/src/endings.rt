@@ -1,7 +1,7 @@
 //! The endings of one event.
 
 ghost use Rattle.std.specs.Prelude.{◌≡◌, ◌<◌, [], ◌∷◌, true, is_some, length, nat_lt, position};
-ghost use Rattle.qstate.specs.Endings.{inserted, inserted_if};
+ghost use Rattle.qstate.specs.Endings.{with_ending_in_place, with_ending_if};
 
 use arrayvec::ArrayVec;
 use qbase::bytes::Bytes;
@@ -58,7 +58,7 @@ fn first_later(endings: &Endings, thread: ThreadNo) -> Option<usize>
 /// Ends one more call in the same event, in its place among the endings.
 fn end_one_more(endings: &mut Endings, ending: Completion)
     requires { length endings.old.items < 64 }
-    ensures { endings.new.items ≡ inserted ending endings.old.items }
+    ensures { endings.new.items ≡ with_ending_in_place ending endings.old.items }
 {
     match first_later(endings, ending.thread) {
         None => endings.push(ending),
@@ -69,7 +69,7 @@ fn end_one_more(endings: &mut Endings, ending: Completion)
 /// Ends one more call in the same event, if there is one, in its place among the endings.
 pub fn end_also(endings: &mut Endings, ending: Option<Completion>)
     requires { is_some ending ≡ true → length endings.old.items < 64 }
-    ensures { endings.new.items ≡ inserted_if ending endings.old.items }
+    ensures { endings.new.items ≡ with_ending_if ending endings.old.items }
 {
     if let Some(ending) = ending {
         end_one_more(endings, ending);
@@ -79,7 +79,7 @@ pub fn end_also(endings: &mut Endings, ending: Option<Completion>)
 /// Ends a call in its own event, and with it another's, if one ends.
 pub fn end_with(endings: &mut Endings, own: Completion, other: Option<Completion>)
     requires { endings.old.items ≡ [] }
-    ensures { endings.new.items ≡ inserted_if other (own ∷ []) }
+    ensures { endings.new.items ≡ with_ending_if other (own ∷ []) }
 {
     match other {
         None => end_one(endings, own),
@@ -106,7 +106,7 @@ pub fn refuse(endings: &mut Endings, call: u64, thread: ThreadNo, errno: Errno, 
 /// Ends a call in its own event, and with it another's, in rising thread number.
 pub fn end_two(endings: &mut Endings, own: Completion, other: Completion)
     requires { endings.old.items ≡ [] }
-    ensures { endings.new.items ≡ inserted other (own ∷ []) }
+    ensures { endings.new.items ≡ with_ending_in_place other (own ∷ []) }
 {
     if is_before(other.thread, own.thread) {
         endings.push(other);

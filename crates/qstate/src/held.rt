@@ -3,10 +3,10 @@
 ghost use Rattle.std.specs.Prelude.{◌≡◌, Some, None, is_some, position, length, option_map, IfSome};
 ghost use Rattle.qbase.specs.Laying.{laid_count, lay_over};
 ghost use Rattle.qtables.specs.Members.{IsRoster};
-ghost use Rattle.qmodel.specs.Calls.Info.{told_of};
+ghost use Rattle.qmodel.specs.Calls.Info.{info_of_open};
 ghost use Rattle.qmodel.specs.Facts.{is_send, message_in};
 ghost use Rattle.qmodel.specs.Held.{reply_buffer_in, reply_buffer_of};
-ghost use Rattle.qstate.specs.HeldIn.{guarded_in, held_in, is_held_in};
+ghost use Rattle.qstate.specs.HeldIn.{guarded_message_in, held_message_in, is_held_in};
 ghost use Rattle.qmodel.specs.Rows.{with_buffer};
 ghost use Rattle.qmodel.specs.Step.{unblocked_call, unblocked_wait, written_call};
 ghost use Rattle.qstate.specs.Threads.{members_of, open_in, seat_in, sender_in, sent_call, SetsOpen, ChangesSender, MarksUnblocked};
@@ -41,7 +41,7 @@ pub fn guarded(
     thread: ThreadNo,
 ) -> Option<(Held, ChannelId)>
     requires { seat_in threads.now thread ≡ Some seat }
-    ensures { result ≡ guarded_in connections.now channels.now (held_in (open_in threads.now thread)) }
+    ensures { result ≡ guarded_message_in connections.now channels.now (held_message_in (open_in threads.now thread)) }
 {
     let held = threads[seat].held()?;
     let connection = connections.get(held.coid)?;
@@ -146,7 +146,7 @@ fn mark_wait(wait: &mut Wait)
 impl Thread {
     /// The message that it waits for the answer to, where that is held.
     pub fn held(&self) -> Option<Held>
-        ensures { result ≡ held_in self.now.open_call }
+        ensures { result ≡ held_message_in self.now.open_call }
     {
         let call = self.open_call.as_ref()?;
         match &call.wait {
@@ -202,7 +202,7 @@ impl Thread {
 
     /// What is told of the message that it sent, where that is received.
     pub fn info(&self) -> Option<Info>
-        ensures { result ≡ told_of self.now.member self.now.open_call }
+        ensures { result ≡ info_of_open self.now.member self.now.open_call }
     {
         let call = self.open_call.as_ref()?;
         match &call.wait {

@@ -5,9 +5,9 @@ ghost use Rattle.qbase.specs.Laying.{laid_count, lay_over};
 ghost use Rattle.qtables.specs.Members.{member_at, IsRoster};
 ghost use Rattle.qqueue.specs.Best.{is_pulse};
 ghost use Rattle.qmodel.specs.Facts.{is_in_process, is_send, message_in};
-ghost use Rattle.qmodel.specs.Rows.{given};
+ghost use Rattle.qmodel.specs.Rows.{delivery_of};
 ghost use Rattle.qmodel.specs.Step.{held_call};
-ghost use Rattle.qstate.specs.Threads.{members_of, open_in, seat_in, level_in, ready, newest_in, later, held_over_in, message_from, SetsOpen, SetsLevel, Wakes, ChangesSender, HandsOver};
+ghost use Rattle.qstate.specs.Threads.{members_of, open_in, seat_in, level_in, ready_thread, newest_in, later_of_two, held_over_in, message_from, SetsOpen, SetsLevel, Wakes, ChangesSender, HandsOver};
 ghost use Rattle.qmodel.specs.Receivers.{wait_on};
 
 use qbase::bytes::Bytes;
@@ -33,7 +33,7 @@ pub struct Thread {
 
 /// A thread for each member, none of them blocked.
 pub fn threads_for(alloc: Global, members: &[Member]) -> Result<Vec<Thread>, AllocError>
-    ensures { IfOk result (λ threads. threads.items ≡ map ready members.now) }
+    ensures { IfOk result (λ threads. threads.items ≡ map ready_thread members.now) }
 {
     let mut threads = Vec::with_capacity(alloc, members.len())?;
     for member in members {
@@ -172,8 +172,8 @@ pub fn hand_over(
 pub fn hand_item(threads: &mut Vec<Thread>, item: Item, buffer: &mut Bytes) -> Mark
     requires { IsRoster (members_of threads.old.items) }
     ensures kept { HandsOver (is_pulse item.what) item.number (record { priority = item.priority; copied = laid_count buffer.old 0 (message_from threads.old.items item.number); unblocked = false }) threads.old.items threads.new.items }
-    ensures mark { result ≡ (given item (message_from threads.old.items item.number) buffer.old).0 }
-    ensures buffer { buffer.new ≡ (given item (message_from threads.old.items item.number) buffer.old).1 }
+    ensures mark { result ≡ (delivery_of item (message_from threads.old.items item.number) buffer.old).0 }
+    ensures buffer { buffer.new ≡ (delivery_of item (message_from threads.old.items item.number) buffer.old).1 }
 {
     if item.what.is_pulse() {
         return Mark::Pulse {
@@ -264,7 +264,7 @@ fn later(
     channel: ChannelId,
     item: &Item,
 ) -> Option<(u64, ThreadNo)>
-    ensures { result ≡ later best thread.now.member.thread (wait_on channel item.now thread.now.open_call) }
+    ensures { result ≡ later_of_two best thread.now.member.thread (wait_on channel item.now thread.now.open_call) }
 {
     let Some(number) = waits_on(thread, channel, item) else {
         return best;

@@ -9,7 +9,7 @@ use Rattle.std.proofs.lemmas.Option.{slice_get-get_or}
 use Rattle.std.proofs.lemmas.Bool.{ne_eqb, eq-eqb, eqb-true, eqb-false, lt-ltb, le-ltb, ltb-true, ltb-false}
 use Rattle.std.proofs.lemmas.Bool.Decides.{nat_tests}
 use Rattle.qtables.specs.declared.member.Member.{Member}
-use Rattle.qtables.specs.Members.{member_at, joined, IsRoster}
+use Rattle.qtables.specs.Members.{member_at, with_member, IsRoster}
 
 at_in_all : (P : Member → Type 0) (ms : List Member) → AllByRecursion P ms → (i : ℕ) (d : Member) → i < length ms → P (get_or ms i d)
 at_in_all P [] all i d lt = absurd (omega arith)
@@ -42,7 +42,7 @@ member_at_none [] t h = refl
 member_at_none (m ∷ ms) t h = rw (ne_eqb m.thread t (h 0 m (omega arith))) (member_at_none ms t (λ k d lt. h (suc k) d (omega arith)))
 
 -- a member that goes in between lower and higher threads joins
-pub insert-joined : (ms : List Member) (i : ℕ) (m : Member) → i ≤ length ms → ((k : ℕ) (d : Member) → k < i → (get_or ms k d).thread < m.thread) → ((k : ℕ) (d : Member) → i ≤ k → k < length ms → m.thread < (get_or ms k d).thread) → insert ms i m ≡ joined m ms
+pub insert-joined : (ms : List Member) (i : ℕ) (m : Member) → i ≤ length ms → ((k : ℕ) (d : Member) → k < i → (get_or ms k d).thread < m.thread) → ((k : ℕ) (d : Member) → i ≤ k → k < length ms → m.thread < (get_or ms k d).thread) → insert ms i m ≡ with_member m ms
 insert-joined [] zero m le below above = refl
 insert-joined [] (suc i) m le below above = absurd (omega arith)
 insert-joined (x ∷ ms) zero m le below above = rw (lt-ltb m.thread x.thread (above 0 x (omega arith) (omega arith)))
@@ -50,10 +50,10 @@ insert-joined (x ∷ ms) (suc i) m le below above =
     let lt : x.thread < m.thread = below 0 x (omega arith) in
     rw (le-ltb m.thread x.thread (omega arith)) (ap (λ l. x ∷ l) (insert-joined ms i m (omega arith) (λ k d low. below (suc k) d (omega arith)) (λ k d high within. above (suc k) d (omega arith) (omega arith))))
 
-all_joined : (P : Member → Type 0) (m : Member) (ms : List Member) → P m → AllByRecursion P ms → AllByRecursion P (joined m ms)
+all_joined : (P : Member → Type 0) (m : Member) (ms : List Member) → P m → AllByRecursion P ms → AllByRecursion P (with_member m ms)
 all_joined P m [] here all = (here, tt)
 all_joined P m (x ∷ ms) here all =
-    elim (ltb m.thread x.thread) as (λ b. AllByRecursion P (cond b (m ∷ x ∷ ms) (x ∷ joined m ms))) [
+    elim (ltb m.thread x.thread) as (λ b. AllByRecursion P (cond b (m ∷ x ∷ ms) (x ∷ with_member m ms))) [
       | true ↦ (here, all)
       | false ↦ (all.0, all_joined P m ms here all.1)
     ]
@@ -63,26 +63,26 @@ all_higher a b [] lt all = tt
 all_higher a b (m ∷ ms) lt all = let up : b < m.thread = all.0 in (omega arith, all_higher a b ms lt all.1)
 
 -- a roster with one more thread is a roster
-pub IsRoster-joined : (m : Member) (ms : List Member) → IsRoster ms → member_at ms m.thread ≡ None → IsRoster (joined m ms)
+pub IsRoster-joined : (m : Member) (ms : List Member) → IsRoster ms → member_at ms m.thread ≡ None → IsRoster (with_member m ms)
 IsRoster-joined m [] up new = (tt, tt)
 IsRoster-joined m (x ∷ ms) up new =
-    elim (eqb x.thread m.thread) as (λ b. eqb x.thread m.thread ≡ b → cond b (Some x) (member_at ms m.thread) ≡ None → IsRoster (joined m (x ∷ ms))) [
+    elim (eqb x.thread m.thread) as (λ b. eqb x.thread m.thread ≡ b → cond b (Some x) (member_at ms m.thread) ≡ None → IsRoster (with_member m (x ∷ ms))) [
       | true ↦ λ e n. absurd (cc)
       | false ↦ λ e n.
-          elim (ltb m.thread x.thread) as (λ b. ltb m.thread x.thread ≡ b → IsRoster (cond b (m ∷ x ∷ ms) (x ∷ joined m ms))) [
+          elim (ltb m.thread x.thread) as (λ b. ltb m.thread x.thread ≡ b → IsRoster (cond b (m ∷ x ∷ ms) (x ∷ with_member m ms))) [
             | true ↦ λ l. let lt : m.thread < x.thread = ltb-true m.thread x.thread l in ((lt, all_higher m.thread x.thread ms lt up.0), up)
             | false ↦ λ l. let lt : x.thread < m.thread = grind (arith, nat_tests, ltb-false m.thread x.thread l) in (all_joined (λ y. x.thread < y.thread) m ms lt up.0, IsRoster-joined m ms up.1 n)
           ] refl
     ] refl new
 
 -- it joins just its own entry
-pub member_at-joined : (m : Member) (ms : List Member) (u : ℕ) → member_at ms m.thread ≡ None → member_at (joined m ms) u ≡ cond (eqb m.thread u) (Some m) (member_at ms u)
+pub member_at-joined : (m : Member) (ms : List Member) (u : ℕ) → member_at ms m.thread ≡ None → member_at (with_member m ms) u ≡ cond (eqb m.thread u) (Some m) (member_at ms u)
 member_at-joined m [] u new = refl
 member_at-joined m (x ∷ ms) u new =
-    elim (eqb x.thread m.thread) as (λ b. eqb x.thread m.thread ≡ b → cond b (Some x) (member_at ms m.thread) ≡ None → member_at (joined m (x ∷ ms)) u ≡ cond (eqb m.thread u) (Some m) (member_at (x ∷ ms) u)) [
+    elim (eqb x.thread m.thread) as (λ b. eqb x.thread m.thread ≡ b → cond b (Some x) (member_at ms m.thread) ≡ None → member_at (with_member m (x ∷ ms)) u ≡ cond (eqb m.thread u) (Some m) (member_at (x ∷ ms) u)) [
       | true ↦ λ e n. absurd (cc)
       | false ↦ λ e n.
-          elim (ltb m.thread x.thread) as (λ b. member_at (cond b (m ∷ x ∷ ms) (x ∷ joined m ms)) u ≡ cond (eqb m.thread u) (Some m) (member_at (x ∷ ms) u)) [
+          elim (ltb m.thread x.thread) as (λ b. member_at (cond b (m ∷ x ∷ ms) (x ∷ with_member m ms)) u ≡ cond (eqb m.thread u) (Some m) (member_at (x ∷ ms) u)) [
             | true ↦ refl
             | false ↦ rw (member_at-joined m ms u n) (
                 elim (eqb x.thread u) as (λ b. eqb x.thread u ≡ b → cond b (Some x) (cond (eqb m.thread u) (Some m) (member_at ms u)) ≡ cond (eqb m.thread u) (Some m) (cond b (Some x) (member_at ms u))) [
@@ -107,7 +107,7 @@ module _ (ms : List Member) (up : IsRoster ms) (t : ℕ) where
   found (Err i) within parted = tt
 
   -- or at the place where it would stand
-  pub missed : (r : Result ℕ ℕ) → IsSearchInRange r (length ms) → IsBinarySearchResult (λ m. nat_cmp m.thread t) ms r → IfErr r (λ i. (i ≤ length ms) × (member_at ms t ≡ None) × ((m : Member) → m.thread ≡ t → (insert ms i m ≡ joined m ms) × IsRoster (insert ms i m)))
+  pub missed : (r : Result ℕ ℕ) → IsSearchInRange r (length ms) → IsBinarySearchResult (λ m. nat_cmp m.thread t) ms r → IfErr r (λ i. (i ≤ length ms) × (member_at ms t ≡ None) × ((m : Member) → m.thread ≡ t → (insert ms i m ≡ with_member m ms) × IsRoster (insert ms i m)))
   missed (Ok i) within equal = tt
   missed (Err i) within parted =
       let below : (k : ℕ) (d : Member) → k < i → (get_or ms k d).thread < t = λ k d lt. ranked (get_or ms k d).thread t _ (sym ((parted comparisons_rise).0 k d (omega arith) lt)) in

@@ -11,9 +11,9 @@ member_at [] thread = None
 member_at (m ∷ members) thread = if m.thread == thread then Some m else member_at members thread
 
 -- the members with one more, in its place
-abbrev pub joined : Member → List Member → List Member
-joined m [] = m ∷ []
-joined m (x ∷ members) = if nat_lt m.thread x.thread then m ∷ x ∷ members else x ∷ joined m members
+abbrev pub with_member : Member → List Member → List Member
+with_member m [] = m ∷ []
+with_member m (x ∷ members) = if nat_lt m.thread x.thread then m ∷ x ∷ members else x ∷ with_member m members
 
 -- each thread comes once, in rising number
 abbrev pub IsRoster : List Member → Type 0

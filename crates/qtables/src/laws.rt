@@ -4,14 +4,14 @@ ghost use Rattle.std.specs.Prelude.{◌≡◌, ◌<◌, ℕ, ◌==◌, List, [],
 ghost use Rattle.std.specs.List.{AllByRecursion};
 ghost use Rattle.qtables.specs.Entries.{entry_at, with_record, without_entry};
 ghost use Rattle.qtables.specs.declared.member.Member.{Member};
-ghost use Rattle.qtables.specs.Members.{member_at, joined, IsRoster};
+ghost use Rattle.qtables.specs.Members.{member_at, with_member, IsRoster};
 
 /// A thread that isn't in a roster joins just its own entry, and the members rise as before.
 pub fn joins_just_its_own()
     ensures own { (m : Member) (roster : List Member) (thread : ℕ) → member_at roster m.thread ≡ None →
-        member_at (joined m roster) thread ≡ (if m.thread == thread then Some m else member_at roster thread) }
+        member_at (with_member m roster) thread ≡ (if m.thread == thread then Some m else member_at roster thread) }
     ensures rising { (m : Member) (roster : List Member) → IsRoster roster → member_at roster m.thread ≡ None →
-        IsRoster (joined m roster) }
+        IsRoster (with_member m roster) }
 {}
 
 /// A table is a map: each change of its entries changes the look-up of just one number.

@@ -34,7 +34,7 @@ impl Model for Roster {
 }
 
 impl Roster {
-    ghost use Rattle.qtables.specs.Members.{member_at, joined, join_refusal, IsRoster};
+    ghost use Rattle.qtables.specs.Members.{member_at, with_member, join_refusal, IsRoster};
 
     /// No threads, and no memory.
     pub fn new(alloc: Global) -> Roster
@@ -56,7 +56,7 @@ impl Roster {
             (λ _. join_refusal self.old thread ≡ None)
             (λ e. join_refusal self.old thread ≡ Some e) }
         ensures ok { OnOk result
-            (self.new ≡ joined (record { thread = thread; process = process; priority = priority }) self.old) }
+            (self.new ≡ with_member (record { thread = thread; process = process; priority = priority }) self.old) }
         ensures err { OnErr result (self.new ≡ self.old) }
     {
         match self.search(thread) {
@@ -123,7 +123,7 @@ impl Roster {
             (i ≤ length self.now)
             × (member_at self.now thread ≡ None)
             × ((m : Member) → m.thread ≡ thread →
-            (insert self.now i m ≡ joined m self.now) × IsRoster (insert self.now i m))) }
+            (insert self.now i m ≡ with_member m self.now) × IsRoster (insert self.now i m))) }
     {
         self.members()
             .binary_search_by_key(&thread.0, |m| m.thread.0)

@@ -15,8 +15,8 @@ use Rattle.qmodel.specs.declared.call.Call.TheVariants.{ChannelCreate}
 use Rattle.qmodel.specs.declared.call.Completion.{Completion}
 use Rattle.qmodel.specs.declared.call.Mark.TheVariants as mark
 use Rattle.qstate.specs.declared.channel.Channel.{Channel}
-use Rattle.qmodel.specs.Answer.{MayRefuse, failed}
-use Rattle.qstate.specs.Channels.{opened, channel_in, waiting_on, pending_in, ids_of}
+use Rattle.qmodel.specs.Answer.{MayRefuse, refusal_ending}
+use Rattle.qstate.specs.Channels.{open_channel_of, channel_in, items_waiting_on, pending_in, ids_of}
 use Rattle.qmodel.specs.Effects.{creates}
 use Rattle.qkernel.specs.State.{State, IsSound, facts_in}
 use Rattle.qkernel.specs.Stands.{Steps}
@@ -45,7 +45,7 @@ may_refuse s t flags e up free known is =
     ] refl is
 
 pub step_create_refused : (s : State) (t : ℕ) (flags : ChannelFlags) (e : Errno) (X : List Completion) → s.down ≡ false → open_in s.threads t ≡ None → nat_lt flags.0 8 ≡ true → e ≡ cond (nat_lt (length s.channels) 64) NoMemory Again
-    → X ≡ failed (facts_in s) t (ChannelCreate flags) e ∷ [] → Steps s t (ChannelCreate flags) X (counted s)
+    → X ≡ refusal_ending (facts_in s) t (ChannelCreate flags) e ∷ [] → Steps s t (ChannelCreate flags) X (counted s)
 step_create_refused s t flags e X up free known is X_is = step_refused_alone s t (ChannelCreate flags) e X (may_refuse s t flags e up free known is) X_is
 
 module _ (s : State) (t : ℕ) (flags : ChannelFlags) (m : Member) (q : Contents) (sound : IsSound s) (empty : q.items ≡ []) where
@@ -63,18 +63,18 @@ module _ (s : State) (t : ℕ) (flags : ChannelFlags) (m : Member) (q : Contents
   there h = entry_at-push s.channels s.made (record { owner = m.process; flags = flags; queue = q }) h (ids_entries s.made s.channels sound.channel_ids)
 
   channel_there : (h : ℕ) → channel_in with_channel.channels h ≡ cond (eqb h (s.made + 1)) (Some (record { owner = m.process; flags = flags })) (channel_in s.channels h)
-  channel_there h = ap (option_map opened) (there h)
-      ∙ (elim (eqb h (s.made + 1)) as (λ b. option_map opened (cond b (Some (record { owner = m.process; flags = flags; queue = q })) (entry_at s.channels h)) ≡ cond b (Some (record { owner = m.process; flags = flags })) (channel_in s.channels h)) [
+  channel_there h = ap (option_map open_channel_of) (there h)
+      ∙ (elim (eqb h (s.made + 1)) as (λ b. option_map open_channel_of (cond b (Some (record { owner = m.process; flags = flags; queue = q })) (entry_at s.channels h)) ≡ cond b (Some (record { owner = m.process; flags = flags })) (channel_in s.channels h)) [
         | true ↦ refl
         | false ↦ refl
       ])
 
   pending_there : (h : ℕ) → pending_in with_channel.channels h ≡ pending_in s.channels h
-  pending_there h = ap waiting_on (there h)
-      ∙ (elim (eqb h (s.made + 1)) as (λ b. eqb h (s.made + 1) ≡ b → waiting_on (cond b (Some (record { owner = m.process; flags = flags; queue = q })) (entry_at s.channels h)) ≡ pending_in s.channels h) [
+  pending_there h = ap items_waiting_on (there h)
+      ∙ (elim (eqb h (s.made + 1)) as (λ b. eqb h (s.made + 1) ≡ b → items_waiting_on (cond b (Some (record { owner = m.process; flags = flags; queue = q })) (entry_at s.channels h)) ≡ pending_in s.channels h) [
         | true ↦ λ e.
             let new : h ≡ s.made + 1 = eqb-true h (s.made + 1) e in
-            empty ∙ sym (ap waiting_on (entry_at-above s.channels s.made h (ids_entries s.made s.channels sound.channel_ids) (omega arith)))
+            empty ∙ sym (ap items_waiting_on (entry_at-above s.channels s.made h (ids_entries s.made s.channels sound.channel_ids) (omega arith)))
         | false ↦ λ e. refl
       ] refl)
 

@@ -8,9 +8,9 @@ use Rattle.qqueue.specs.declared.item.Item.{Item}
 use Rattle.qtables.specs.Entries.{entry_at}
 use Rattle.qtables.specs.Members.{member_at}
 use Rattle.qtables.specs.declared.member.Member.{Member}
-use Rattle.qmodel.specs.Answer.{failed}
+use Rattle.qmodel.specs.Answer.{refusal_ending}
 use Rattle.qmodel.specs.Facts.{owns}
-use Rattle.qmodel.specs.Step.{left_by}
+use Rattle.qmodel.specs.Step.{uncut_items}
 use Rattle.qmodel.specs.declared.call.Call.TheVariants.{ChannelDestroy}
 use Rattle.qmodel.specs.declared.call.Completion.{Completion}
 use Rattle.qstate.specs.Channels.{ClosesIn, channel_in, is_of, pending_in}
@@ -25,7 +25,7 @@ use Rattle.qkernel.proofs.Steps.Common.{counted, count_same, owned_by_member, st
 use Rattle.qkernel.proofs.Steps.Cutting.{endings_cut, open_after, sound_cut}
 
 module _ (s : State) (t chid : ℕ) (m : Member) (known : member_at (members_of s.threads) t ≡ Some m) (up : s.down ≡ false) (free : open_in s.threads t ≡ None) where
-  pub step_destroy_refused : (X : List Completion) → is_of m.process (channel_in s.channels chid) ≡ false → X ≡ failed (facts_in s) t (ChannelDestroy chid) Inval ∷ [] → Steps s t (ChannelDestroy chid) X (counted s)
+  pub step_destroy_refused : (X : List Completion) → is_of m.process (channel_in s.channels chid) ≡ false → X ≡ refusal_ending (facts_in s) t (ChannelDestroy chid) Inval ∷ [] → Steps s t (ChannelDestroy chid) X (counted s)
   step_destroy_refused X other is =
       let not_own : owns (facts_in s) t chid ≡ false = owned_by_member (facts_in s) t m (channel_in s.channels chid) known ∙ other in
       step_refused_alone s t (ChannelDestroy chid) Inval X (inl (rw (up, free, not_own) refl)) is
@@ -49,7 +49,7 @@ module _ (s : State) (t chid : ℕ) (m : Member) (known : member_at (members_of 
               connection = λ k. rw known refl;
               live_connections = rw known (omega arith);
               open_call = λ u. open_after s t (On chid) Srch threads u free are;
-              pending = λ h. closes.pending h ∙ ap (cond (eqb chid h) []) (lose.pending h ∙ ap (left_by (facts_in s) t (ChannelDestroy chid) h) (sym (append-nil (pending_in s.channels h))));
+              pending = λ h. closes.pending h ∙ ap (cond (eqb chid h) []) (lose.pending h ∙ ap (uncut_items (facts_in s) t (ChannelDestroy chid) h) (sym (append-nil (pending_in s.channels h))));
               priority = are.priority;
             };
           },

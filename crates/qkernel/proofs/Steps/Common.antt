@@ -14,10 +14,10 @@ use Rattle.qstate.specs.declared.channel.Channel.{Channel}
 use Rattle.qstate.specs.declared.thread.Thread.{Thread}
 use Rattle.qbase.specs.declared.errno.Errno.{Errno}
 use Rattle.qqueue.specs.declared.item.Item.{Item}
-use Rattle.qmodel.specs.Answer.{MayRefuse, failed, refusal, row_of}
+use Rattle.qmodel.specs.Answer.{MayRefuse, refusal_ending, refusal, row_of}
 use Rattle.qmodel.specs.Effects.{closes, makes, sets}
 use Rattle.qmodel.specs.Rows.{names}
-use Rattle.qmodel.specs.Step.{left_by, moved, pending_after, taken_out}
+use Rattle.qmodel.specs.Step.{uncut_items, items_with_priority_set, pending_after, unreceived_items}
 use Rattle.qmodel.specs.Past.{made_on}
 use Rattle.qmodel.proofs.Past.Cuts.{EndsSettled, none_cut}
 use Rattle.qmodel.proofs.Past.Ends.{row_passes}
@@ -51,7 +51,7 @@ pub count_same : (old new : List (ℕ × Channel)) → ids_of new ≡ ids_of old
 count_same old new e = sym (length-map new (λ e. e.0)) ∙ ap length e ∙ length-map old (λ e. e.0)
 
 -- a call that is refused only counts
-pub step_refused : (s : State) (t : ℕ) (c : Call) (e : Errno) (X : List Completion) (new : State) → MayRefuse (facts_in s) t c e → X ≡ failed (facts_in s) t c e ∷ [] → Counted s new → Steps s t c X new
+pub step_refused : (s : State) (t : ℕ) (c : Call) (e : Errno) (X : List Completion) (new : State) → MayRefuse (facts_in s) t c e → X ≡ refusal_ending (facts_in s) t c e ∷ [] → Counted s new → Steps s t c X new
 step_refused s t c e X new may is counted = (
   false,
   record {
@@ -72,7 +72,7 @@ step_refused s t c e X new may is counted = (
 )
 
 -- the same where nothing else changed
-pub step_refused_alone : (s : State) (t : ℕ) (c : Call) (e : Errno) (X : List Completion) → MayRefuse (facts_in s) t c e → X ≡ failed (facts_in s) t c e ∷ []
+pub step_refused_alone : (s : State) (t : ℕ) (c : Call) (e : Errno) (X : List Completion) → MayRefuse (facts_in s) t c e → X ≡ refusal_ending (facts_in s) t c e ∷ []
     → Steps s t c X (counted s)
 step_refused_alone s t c e X may is = step_refused s t c e X _ may is (counted_alone s)
 
@@ -80,18 +80,18 @@ step_refused_alone s t c e X may is = step_refused s t c e X _ may is (counted_a
 
 -- what is pending after a call that neither destroys a channel nor ends a Send which isn't received
 pub uncut_by : (s : State) (t : ℕ) (c : Call) → EndsSettled (facts_in s) t c → closes c ≡ None → sets c ≡ None → (h : ℕ) {x : List Item}
-    → x ≡ taken_out (row_of (facts_in s) t c).receipt h (pending_in s.channels h ++ made_on h (makes (facts_in s) t c)) → x ≡ pending_after (facts_in s) t c h
+    → x ≡ unreceived_items (row_of (facts_in s) t c).receipt h (pending_in s.channels h ++ made_on h (makes (facts_in s) t c)) → x ≡ pending_after (facts_in s) t c h
 uncut_by s t c settled closes_none sets_none h {x} is =
     let f = facts_in s in
     let items = pending_in s.channels h ++ made_on h (makes f t c) in
     is
-    ∙ ap (taken_out (row_of f t c).receipt h) (sym (none_cut f t c settled h items))
-    ∙ ap (λ o. cond (names o h) [] (taken_out (row_of f t c).receipt h (left_by f t c h items))) (sym closes_none)
-    ∙ ap (λ o. cond (names (closes c) h) [] (moved f h o (taken_out (row_of f t c).receipt h (left_by f t c h items)))) (sym sets_none)
+    ∙ ap (unreceived_items (row_of f t c).receipt h) (sym (none_cut f t c settled h items))
+    ∙ ap (λ o. cond (names o h) [] (unreceived_items (row_of f t c).receipt h (uncut_items f t c h items))) (sym closes_none)
+    ∙ ap (λ o. cond (names (closes c) h) [] (items_with_priority_set f h o (unreceived_items (row_of f t c).receipt h (uncut_items f t c h items)))) (sym sets_none)
 
 -- the same of a call that is accepted and ends no other by force
 pub uncut : (s : State) (t : ℕ) (c : Call) → refusal (facts_in s) t c ≡ None → is_forceful c ≡ false → closes c ≡ None → sets c ≡ None → (h : ℕ) {x : List Item}
-    → x ≡ taken_out (row_of (facts_in s) t c).receipt h (pending_in s.channels h ++ made_on h (makes (facts_in s) t c)) → x ≡ pending_after (facts_in s) t c h
+    → x ≡ unreceived_items (row_of (facts_in s) t c).receipt h (pending_in s.channels h ++ made_on h (makes (facts_in s) t c)) → x ≡ pending_after (facts_in s) t c h
 uncut s t c passed mild closes_none sets_none h is = uncut_by s t c ((row_laws (facts_in s) t c (row_passes (facts_in s) t c passed)).ends_settled mild) closes_none sets_none h is
 
 -- ---- soundness

@@ -9,7 +9,7 @@ use Rattle.qtables.specs.declared.member.Member.{Member}
 use Rattle.qmodel.specs.declared.call.Call.TheVariants.{ConnectAttach}
 use Rattle.qmodel.specs.declared.call.Completion.{Completion}
 use Rattle.qmodel.specs.declared.call.Mark.TheVariants as mark
-use Rattle.qmodel.specs.Answer.{MayRefuse, failed}
+use Rattle.qmodel.specs.Answer.{MayRefuse, refusal_ending}
 use Rattle.qstate.specs.Channels.{channel_in}
 use Rattle.qmodel.specs.Effects.{attaches}
 use Rattle.qkernel.specs.State.{State, IsSound, facts_in}
@@ -22,7 +22,7 @@ use Rattle.qkernel.proofs.Steps.Common.{uncut, counted, step_refused_alone, all_
 use Rattle.qkernel.proofs.Tables.{entry_at-push, length-push, rising_push}
 
 pub step_attach_nowhere : (s : State) (t chid : ℕ) (X : List Completion) → s.down ≡ false → open_in s.threads t ≡ None → is_some (channel_in s.channels chid) ≡ false
-    → X ≡ failed (facts_in s) t (ConnectAttach chid) Srch ∷ [] → Steps s t (ConnectAttach chid) X (counted s)
+    → X ≡ refusal_ending (facts_in s) t (ConnectAttach chid) Srch ∷ [] → Steps s t (ConnectAttach chid) X (counted s)
 step_attach_nowhere s t chid X up free closed is = step_refused_alone s t (ConnectAttach chid) Srch X (inl (rw (up, free, closed) refl)) is
 
 -- the table's refusal is the row's, or want of memory
@@ -35,7 +35,7 @@ may_refuse s t chid e up free opens is =
     ] refl is
 
 pub step_attach_refused : (s : State) (t chid : ℕ) (e : Errno) (X : List Completion) → s.down ≡ false → open_in s.threads t ≡ None → is_some (channel_in s.channels chid) ≡ true → e ≡ cond (nat_lt (length s.connections) 1024) NoMemory Again
-    → X ≡ failed (facts_in s) t (ConnectAttach chid) e ∷ [] → Steps s t (ConnectAttach chid) X (counted s)
+    → X ≡ refusal_ending (facts_in s) t (ConnectAttach chid) e ∷ [] → Steps s t (ConnectAttach chid) X (counted s)
 step_attach_refused s t chid e X up free opens is X_is = step_refused_alone s t (ConnectAttach chid) e X (may_refuse s t chid e up free opens is) X_is
 
 module _ (s : State) (t chid : ℕ) (m : Member) (sound : IsSound s) where

@@ -10,19 +10,19 @@ use Rattle.std.proofs.lemmas.Option.{none-some, same_Some}
 use Rattle.std.proofs.lemmas.List.Elements.{filter_agree}
 use Rattle.std.specs.Option.{option_or}
 use Rattle.qbase.specs.declared.errno.Errno.TheVariants.{Again, Badf, Inval, NoMemory}
-use Rattle.qqueue.specs.Best.{without}
+use Rattle.qqueue.specs.Best.{without_item}
 use Rattle.qqueue.specs.declared.item.Item.{Item}
 use Rattle.qtables.specs.Entries.{entry_at, without_entry}
 use Rattle.qtables.specs.Members.{member_at}
 use Rattle.qtables.specs.declared.connection.Connection.{Connection}
 use Rattle.qtables.specs.declared.member.Member.{Member}
-use Rattle.qmodel.specs.Answer.{MayRefuse, ending, failed}
-use Rattle.qmodel.specs.Calls.ConnectDetach.{between, connections_between, due, due_of, is_own}
+use Rattle.qmodel.specs.Answer.{MayRefuse, ending, refusal_ending}
+use Rattle.qmodel.specs.Calls.ConnectDetach.{connection_between, connections_between, due_pulse, due_pulse_over, is_own}
 use Rattle.qmodel.specs.Cutting.{cut_where, is_on, is_over, is_unread_send}
 use Rattle.qmodel.specs.Facts.{tells_disconnect, threads_of}
-use Rattle.qmodel.specs.Pulses.{full_for, told, told_receipt}
+use Rattle.qmodel.specs.Pulses.{refusal_if_full_for, ends_receiver, pulse_receipt}
 use Rattle.qmodel.specs.Rows.{Made, Received, disconnect_item}
-use Rattle.qmodel.specs.Step.{is_cut, left_by, taken_out, unless}
+use Rattle.qmodel.specs.Step.{is_cut, uncut_items, unreceived_items, unless}
 use Rattle.qmodel.specs.Past.{made_on}
 use Rattle.qmodel.specs.declared.call.Call.TheVariants.{ConnectDetach}
 use Rattle.qmodel.specs.declared.call.Completion.{Completion}
@@ -32,9 +32,9 @@ use Rattle.qstate.specs.declared.cutting.Cut.TheVariants.{Over}
 use Rattle.qstate.specs.declared.thread.Thread.{Thread}
 use Rattle.qstate.specs.Channels.{channel_in, own_channel_in, pending_in}
 use Rattle.qstate.specs.Cuts.{AreCut, LoseCut, ending_for, is_cut_among}
-use Rattle.qstate.specs.Endings.{inserted_if}
+use Rattle.qstate.specs.Endings.{with_ending_if}
 use Rattle.qstate.specs.Pulses.{has_room}
-use Rattle.qmodel.specs.Receivers.{newest}
+use Rattle.qmodel.specs.Receivers.{newest_receiver}
 use Rattle.qstate.specs.Threads.{level_in, members_of, newest_in, open_in}
 use Rattle.qkernel.specs.State.{State, IsSound, facts_in}
 use Rattle.qkernel.specs.Stands.{Steps}
@@ -68,14 +68,14 @@ not_own : (s : State) (t : ℕ) (m : Member) (o : Option Connection) → member_
 not_own s t m None known e = refl
 not_own s t m (Some c) known e = rw known (elim (eqb m.process c.process) as (λ b. cond b (Some c.channel) None ≡ None → b ≡ false) [ true ↦ λ k. absurd (none-some c.channel (sym k)) | false ↦ λ k. refl ] e)
 
-between_is : (p h : ℕ) (c : Connection) → is_some (between p h (Some c)) ≡ (eqb c.process p && eqb c.channel h)
+between_is : (p h : ℕ) (c : Connection) → is_some (connection_between p h (Some c)) ≡ (eqb c.process p && eqb c.channel h)
 between_is p h c = elim (eqb c.process p && eqb c.channel h) as (λ b. is_some (cond b (Some c) None) ≡ b) [ true ↦ refl | false ↦ refl ]
 
 -- how many live connections a process has to a channel is counted over the table
 pub counted_between : (s : State) (p h : ℕ) → IsSound s → connections_between (facts_in s) p h ≡ count_by (λ e. (eqb e.1.process p) && (eqb e.1.channel h)) s.connections
 counted_between s p h sound =
-    count_picked (between p h) s.connections (s.made + 1) refl sound.connections.0 (all_up_to (λ e. e.0) s.made s.connections sound.connection_ids) sound.connections.1
-    ∙ length-filter (λ e. is_some (between p h (Some e.1))) s.connections
+    count_picked (connection_between p h) s.connections (s.made + 1) refl sound.connections.0 (all_up_to (λ e. e.0) s.made s.connections sound.connection_ids) sound.connections.1
+    ∙ length-filter (λ e. is_some (connection_between p h (Some e.1))) s.connections
     ∙ ap (λ (q : ℕ × Connection → Bool). count_by q s.connections) (λ i e. between_is p h e.1 i)
 
 -- ---- lists
@@ -84,9 +84,9 @@ filter_swapped : (p q : Item → Bool) (items : List Item) → filter p (filter 
 filter_swapped p q items = filter_twice q p items ∙ filter_agree (λ x. q x && p x) (λ x. p x && q x) (λ x. and_comm (q x) (p x)) items ∙ sym (filter_twice p q items)
 
 -- what is taken out and what leaves may go in either order
-taken_filtered : (p : Item → Bool) (receipt : Option Received) (k : ℕ) (items : List Item) → filter p (taken_out receipt k items) ≡ taken_out receipt k (filter p items)
+taken_filtered : (p : Item → Bool) (receipt : Option Received) (k : ℕ) (items : List Item) → filter p (unreceived_items receipt k items) ≡ unreceived_items receipt k (filter p items)
 taken_filtered p None k items = refl
-taken_filtered p (Some r) k items = elim (eqb r.channel k) as (λ b. filter p (cond b (without r.item items) items) ≡ cond b (without r.item (filter p items)) (filter p items)) [
+taken_filtered p (Some r) k items = elim (eqb r.channel k) as (λ b. filter p (cond b (without_item r.item items) items) ≡ cond b (without_item r.item (filter p items)) (filter p items)) [
   | true ↦ filter_swapped p (λ item. not (eqb item.number r.item)) items
   | false ↦ refl
 ]
@@ -98,7 +98,7 @@ new_pulse n priority p last d is = subst (IsNew n) (sym is) (elim last as (λ b.
 -- ---- the step
 
 module _ (s : State) (t coid : ℕ) (m : Member) (known : member_at (members_of s.threads) t ≡ Some m) (up : s.down ≡ false) (free : open_in s.threads t ≡ None) where
-  pub step_detach_refused : (X : List Completion) → own_channel_in m.process (entry_at s.connections coid) ≡ None → X ≡ failed (facts_in s) t (ConnectDetach coid) Inval ∷ [] → Steps s t (ConnectDetach coid) X (counted s)
+  pub step_detach_refused : (X : List Completion) → own_channel_in m.process (entry_at s.connections coid) ≡ None → X ≡ refusal_ending (facts_in s) t (ConnectDetach coid) Inval ∷ [] → Steps s t (ConnectDetach coid) X (counted s)
   step_detach_refused X other is =
       let not_mine : is_own (facts_in s) t (entry_at s.connections coid) ≡ false = not_own s t m (entry_at s.connections coid) known other in
       step_refused_alone s t (ConnectDetach coid) Inval X (inl (rw (up, free, not_mine) refl)) is
@@ -112,23 +112,23 @@ module _ (s : State) (t coid : ℕ) (m : Member) (known : member_at (members_of 
     pulse = disconnect_item (s.made + 1) (level_in s.threads t) m.process
 
     pub due_is : (last : Bool) → IsSound s → last ≡ (tells_disconnect (channel_in s.channels h) && eqb (count_by (λ e. (eqb e.1.process m.process) && (eqb e.1.channel h)) s.connections) 1)
-        → due (facts_in s) t coid ≡ made_for h (cond last (Some pulse) None)
+        → due_pulse (facts_in s) t coid ≡ made_for h (cond last (Some pulse) None)
     due_is last sound is =
         let same : m.process ≡ of.connection.process = eqb-true m.process of.connection.process of.process in
-        ap (due_of (facts_in s) t) of.is
+        ap (due_pulse_over (facts_in s) t) of.is
         ∙ rw (← same, of.channel, counted_between s m.process h sound, ← is) (elim last as (λ b. cond {A = Option Made} b (Some (record { item = pulse; channel = h })) None ≡ made_for h (cond b (Some pulse) None)) [ true ↦ refl | false ↦ refl ])
 
-    module _ (d : Option Item) (due_is : due (facts_in s) t coid ≡ made_for h d) where
+    module _ (d : Option Item) (due_is : due_pulse (facts_in s) t coid ≡ made_for h d) where
       pub detach_full : is_some d ≡ true → has_room s.channels h ≡ false → MayRefuse (facts_in s) t (ConnectDetach coid) Again
-      detach_full some full = inl (rw (up, free, own, due_is) (elim d as (λ d. is_some d ≡ true → full_for (facts_in s) (made_for h d) ≡ Some Again) [
+      detach_full some full = inl (rw (up, free, own, due_is) (elim d as (λ d. is_some d ≡ true → refusal_if_full_for (facts_in s) (made_for h d) ≡ Some Again) [
         | None ↦ λ e. absurd (true≢false (sym e))
         | Some item ↦ λ e. rw full refl
       ] some))
 
       pub detach_memory : (item : Item) → d ≡ Some item → has_room s.channels h ≡ true → newest_in h item s.threads ≡ None → MayRefuse (facts_in s) t (ConnectDetach coid) NoMemory
       detach_memory item some room nobody =
-          let none : newest (facts_in s) h item ≡ None = nobody in
-          let made : due (facts_in s) t coid ≡ Some (record { item = item; channel = h }) = due_is ∙ ap (made_for h) some in
+          let none : newest_receiver (facts_in s) h item ≡ None = nobody in
+          let made : due_pulse (facts_in s) t coid ≡ Some (record { item = item; channel = h }) = due_is ∙ ap (made_for h) some in
           inr (
             rw (up, free, own, made, room) refl,
             rw (made, none) refl,
@@ -136,7 +136,7 @@ module _ (s : State) (t coid : ℕ) (m : Member) (known : member_at (members_of 
           )
 
       -- what is cut once the pulse is sent
-      module _ (sound : IsSound s) (mid : List Thread) (between : List (ℕ × Channel)) (met : Option Completion) (is : IsTold s t (made_for h d) mid between met) where
+      module _ (sound : IsSound s) (mid : List Thread) (between : List (ℕ × Channel)) (met : Option Completion) (is : IsTold s t (made_for h d) mid connection_between met) where
         abbrev o : Option Made
         o = made_for h d
 
@@ -148,14 +148,14 @@ module _ (s : State) (t coid : ℕ) (m : Member) (known : member_at (members_of 
         cut u = cut_where (is_over coid) Badf u (open_in s.threads u)
 
         -- what meets the pulse isn't cut
-        met_uncut : (u : ℕ) (y : Completion) → told (facts_in s) o u ≡ Some y → cut u ≡ None
+        met_uncut : (u : ℕ) (y : Completion) → ends_receiver (facts_in s) o u ≡ Some y → cut u ≡ None
         met_uncut u y e = let k = told_waits s o u y e in rw (k.is, k.waits) refl
 
-        met_unread : (u k i : ℕ) (y : Completion) → told (facts_in s) o u ≡ Some y → is_unread_send (entry_at s.connections) k i (open_in s.threads u) ≡ false
+        met_unread : (u k i : ℕ) (y : Completion) → ends_receiver (facts_in s) o u ≡ Some y → is_unread_send (entry_at s.connections) k i (open_in s.threads u) ≡ false
         met_unread u k i y e = let w = told_waits s o u y e in rw (w.is, w.waits) (elim (eqb w.waiting.number i) as (λ b. (b && false && is_on (entry_at s.connections) k (ForItem w.chid w.kind w.buffer)) ≡ false) [ true ↦ refl | false ↦ refl ])
 
         cut_mid : (u : ℕ) → cut_where (is_over coid) Badf u (open_in mid u) ≡ cut u
-        cut_mid u = rw (is.open_call u) (elim (told (facts_in s) o u) as (λ x. told (facts_in s) o u ≡ x → cut_where (is_over coid) Badf u (unless (is_some x) (open_in s.threads u)) ≡ cut u) [
+        cut_mid u = rw (is.open_call u) (elim (ends_receiver (facts_in s) o u) as (λ x. ends_receiver (facts_in s) o u ≡ x → cut_where (is_over coid) Badf u (unless (is_some x) (open_in s.threads u)) ≡ cut u) [
           | None ↦ λ e. refl
           | Some y ↦ λ e. sym (met_uncut u y e)
         ] refl)
@@ -173,37 +173,37 @@ module _ (s : State) (t coid : ℕ) (m : Member) (known : member_at (members_of 
           | false ↦ λ other hit. sym (ap (λ y. y.thread) (cut_parts (is_over coid) Badf u (open_in s.threads u) x hit).ending)
         ] refl (sym (g_is u) ∙ e)
 
-        g_none : (u : ℕ) → is_some (told (facts_in s) o u) ≡ true → g u ≡ None
-        g_none u there = g_is u ∙ (elim (told (facts_in s) o u) as (λ x. told (facts_in s) o u ≡ x → is_some x ≡ true → cond (eqb u t) (Some (mine s t)) (cut u) ≡ None) [
+        g_none : (u : ℕ) → is_some (ends_receiver (facts_in s) o u) ≡ true → g u ≡ None
+        g_none u there = g_is u ∙ (elim (ends_receiver (facts_in s) o u) as (λ x. ends_receiver (facts_in s) o u ≡ x → is_some x ≡ true → cond (eqb u t) (Some (mine s t)) (cut u) ≡ None) [
           | None ↦ λ e some. absurd (true≢false (sym some))
-          | Some y ↦ λ e some. rw (ne_eqb u t (not_caller s t u o mid between met is there), met_uncut u y e) refl
+          | Some y ↦ λ e some. rw (ne_eqb u t (not_caller s t u o mid connection_between met is there), met_uncut u y e) refl
         ] refl there)
 
-        ending_is : (u : ℕ) → option_or (g u) (told (facts_in s) o u) ≡ ending (facts_in s) t (ConnectDetach coid) u
-        ending_is u = rw (due_is, g_is u) (elim (eqb u t) as (λ b. option_or (cond b (Some (mine s t)) (cut u)) (told (facts_in s) o u) ≡ cond b (Some (mine s t)) (option_or (cut u) (told (facts_in s) o u))) [ true ↦ refl | false ↦ refl ])
+        ending_is : (u : ℕ) → option_or (g u) (ends_receiver (facts_in s) o u) ≡ ending (facts_in s) t (ConnectDetach coid) u
+        ending_is u = rw (due_is, g_is u) (elim (eqb u t) as (λ b. option_or (cond b (Some (mine s t)) (cut u)) (ends_receiver (facts_in s) o u) ≡ cond b (Some (mine s t)) (option_or (cut u) (ends_receiver (facts_in s) o u))) [ true ↦ refl | false ↦ refl ])
 
         pub room_for_one : length s.threads ≤ 64 → is_some met ≡ true → length (filter_map g (threads_of (members_of mid))) < 64
         room_for_one few some = rw (is.members) (let fewer : length (filter_map g ts) + 1 ≤ length ts = is.few g g_none some in let as_many : length ts ≡ length s.threads = length-map (members_of s.threads) (λ m. m.thread) ∙ length-map s.threads (λ t. t.member) in omega arith)
 
-        module _ (threads : List Thread) (now : List (ℕ × Channel)) (are : AreCut (entry_at s.connections) (Over coid) Badf mid threads) (lose : LoseCut (entry_at s.connections) (Over coid) Badf mid between now) where
+        module _ (threads : List Thread) (now : List (ℕ × Channel)) (are : AreCut (entry_at s.connections) (Over coid) Badf mid threads) (lose : LoseCut (entry_at s.connections) (Over coid) Badf mid connection_between now) where
           abbrev pub detached : State
           detached = record { made = s.made + 1; down = s.down; threads = threads; channels = now; connections = without_entry s.connections coid }
 
-          open_is : (u : ℕ) → open_in threads u ≡ unless (is_some (option_or (cut u) (told (facts_in s) o u))) (open_in s.threads u)
-          open_is u = are.open_call u ∙ rw (cut_mid u, is.open_call u) (elim (told (facts_in s) o u) as (λ x. told (facts_in s) o u ≡ x → cond (is_some (cut u)) None (unless (is_some x) (open_in s.threads u)) ≡ unless (is_some (option_or (cut u) x)) (open_in s.threads u)) [
+          open_is : (u : ℕ) → open_in threads u ≡ unless (is_some (option_or (cut u) (ends_receiver (facts_in s) o u))) (open_in s.threads u)
+          open_is u = are.open_call u ∙ rw (cut_mid u, is.open_call u) (elim (ends_receiver (facts_in s) o u) as (λ x. ends_receiver (facts_in s) o u ≡ x → cond (is_some (cut u)) None (unless (is_some x) (open_in s.threads u)) ≡ unless (is_some (option_or (cut u) x)) (open_in s.threads u)) [
             | None ↦ λ e. rw (or_none (cut u)) refl
             | Some y ↦ λ e. rw (met_uncut u y e) refl
           ] refl)
 
-          open_after : (u : ℕ) → open_in threads u ≡ cond (eqb u t) None (unless (is_some (option_or (cut u) (told (facts_in s) o u))) (open_in s.threads u))
-          open_after u = elim (eqb u t) as (λ b. eqb u t ≡ b → open_in threads u ≡ cond b None (unless (is_some (option_or (cut u) (told (facts_in s) o u))) (open_in s.threads u))) [
+          open_after : (u : ℕ) → open_in threads u ≡ cond (eqb u t) None (unless (is_some (option_or (cut u) (ends_receiver (facts_in s) o u))) (open_in s.threads u))
+          open_after u = elim (eqb u t) as (λ b. eqb u t ≡ b → open_in threads u ≡ cond b None (unless (is_some (option_or (cut u) (ends_receiver (facts_in s) o u))) (open_in s.threads u))) [
             | true ↦ λ same. open_is u ∙ (let idle : open_in s.threads u ≡ None = ap (open_in s.threads) (eqb-true u t same) ∙ free in rw idle (cond_same _ None))
             | false ↦ λ other. open_is u
           ] refl
 
           gone_is : (k i v : ℕ) → (is_unread_send (entry_at s.connections) k i (open_in mid v) && is_some (cut_where (is_over coid) Badf v (open_in mid v)))
-              ≡ (is_unread_send (entry_at s.connections) k i (open_in s.threads v) && is_some (option_or (cut v) (told (facts_in s) o v)))
-          gone_is k i v = rw (cut_mid v, is.open_call v) (elim (told (facts_in s) o v) as (λ x. told (facts_in s) o v ≡ x → (is_unread_send (entry_at s.connections) k i (unless (is_some x) (open_in s.threads v)) && is_some (cut v))
+              ≡ (is_unread_send (entry_at s.connections) k i (open_in s.threads v) && is_some (option_or (cut v) (ends_receiver (facts_in s) o v)))
+          gone_is k i v = rw (cut_mid v, is.open_call v) (elim (ends_receiver (facts_in s) o v) as (λ x. ends_receiver (facts_in s) o v ≡ x → (is_unread_send (entry_at s.connections) k i (unless (is_some x) (open_in s.threads v)) && is_some (cut v))
               ≡ (is_unread_send (entry_at s.connections) k i (open_in s.threads v) && is_some (option_or (cut v) x))) [
                 | None ↦ λ e. rw (or_none (cut v)) refl
                 | Some y ↦ λ e. rw (met_unread v k i y e) refl
@@ -212,21 +212,21 @@ module _ (s : State) (t coid : ℕ) (m : Member) (known : member_at (members_of 
           cut_is : (k i : ℕ) → is_cut_among (entry_at s.connections) (Over coid) Badf mid k i ≡ is_cut (facts_in s) t (ConnectDetach coid) k i
           cut_is k i = rw (is.members, due_is) (ap (λ (p : ℕ → Bool). list_any p ts) (λ j v. gone_is k i v j))
 
-          pending_is : (k : ℕ) → pending_in now k ≡ taken_out (told_receipt (facts_in s) o) k (left_by (facts_in s) t (ConnectDetach coid) k (pending_in s.channels k ++ made_on k o))
+          pending_is : (k : ℕ) → pending_in now k ≡ unreceived_items (pulse_receipt (facts_in s) o) k (uncut_items (facts_in s) t (ConnectDetach coid) k (pending_in s.channels k ++ made_on k o))
           pending_is k = lose.pending k
-              ∙ filter_agree (λ (item : Item). not (is_cut_among (entry_at s.connections) (Over coid) Badf mid k item.number)) (λ item. not (is_cut (facts_in s) t (ConnectDetach coid) k item.number)) (λ item. ap not (cut_is k item.number)) (pending_in between k)
-              ∙ ap (left_by (facts_in s) t (ConnectDetach coid) k) (is.pending k)
-              ∙ taken_filtered (λ item. not (is_cut (facts_in s) t (ConnectDetach coid) k item.number)) (told_receipt (facts_in s) o) k (pending_in s.channels k ++ made_on k o)
+              ∙ filter_agree (λ (item : Item). not (is_cut_among (entry_at s.connections) (Over coid) Badf mid k item.number)) (λ item. not (is_cut (facts_in s) t (ConnectDetach coid) k item.number)) (λ item. ap not (cut_is k item.number)) (pending_in connection_between k)
+              ∙ ap (uncut_items (facts_in s) t (ConnectDetach coid) k) (is.pending k)
+              ∙ taken_filtered (λ item. not (is_cut (facts_in s) t (ConnectDetach coid) k item.number)) (pulse_receipt (facts_in s) o) k (pending_in s.channels k ++ made_on k o)
 
           pub step_detached : (X : List Completion) → length (without_entry s.connections coid) + 1 ≡ length s.connections
-              → X ≡ inserted_if met (filter_map g (threads_of (members_of mid))) → Steps s t (ConnectDetach coid) X detached
+              → X ≡ with_ending_if met (filter_map g (threads_of (members_of mid))) → Steps s t (ConnectDetach coid) X detached
           step_detached X fewer is_X = (
             true,
             record {
               answer = (
                 rw (up, free, own, due_is) is.room,
-                is_X ∙ ap (λ ms. inserted_if met (filter_map g (threads_of ms))) is.members ∙ is.endings g g_own g_none
-                    ∙ filter_map_same (λ u. option_or (g u) (told (facts_in s) o u)) (ending (facts_in s) t (ConnectDetach coid)) ts ending_is,
+                is_X ∙ ap (λ ms. with_ending_if met (filter_map g (threads_of ms))) is.members ∙ is.endings g g_own g_none
+                    ∙ filter_map_same (λ u. option_or (g u) (ends_receiver (facts_in s) o u)) (ending (facts_in s) t (ConnectDetach coid)) ts ending_is,
               );
               follows = record {
                 roster = are.members ∙ is.members;
@@ -243,9 +243,9 @@ module _ (s : State) (t coid : ℕ) (m : Member) (known : member_at (members_of 
             },
           )
 
-          pub sound_detached : IsSound (record { made = s.made + 1; down = s.down; threads = mid; channels = between; connections = s.connections }) → IsSound detached
-          sound_detached told =
-              let k = sound_less _ s.down (Over coid) Badf threads now told are lose in
+          pub sound_detached : IsSound (record { made = s.made + 1; down = s.down; threads = mid; channels = connection_between; connections = s.connections }) → IsSound detached
+          sound_detached ends_receiver =
+              let k = sound_less _ s.down (Over coid) Badf threads now ends_receiver are lose in
               record {
                 few = k.few;
                 roster = k.roster;

@@ -4,7 +4,7 @@ use Rattle.std.specs.Prelude.{Option, None, Some}
 use Rattle.std.specs.List.{AllByRecursion}
 use Rattle.std.proofs.lemmas.List.{length-map}
 use Rattle.std.proofs.lemmas.Bool.{eqb-true, eq-eqb, ne_eqb}
-use Rattle.qqueue.specs.Best.{without}
+use Rattle.qqueue.specs.Best.{without_item}
 use Rattle.qqueue.specs.declared.item.Item.{Item}
 use Rattle.qtables.specs.Entries.{entry_at}
 use Rattle.qtables.specs.Members.{member_at}
@@ -13,7 +13,7 @@ use Rattle.qstate.specs.declared.channel.Channel.{Channel}
 use Rattle.qstate.specs.declared.thread.Thread.{Thread}
 use Rattle.qstate.specs.Channels.{pending_in, ids_of, way_in, SetsItems, channel_in}
 use Rattle.qmodel.specs.Facts.{way, is_fixed}
-use Rattle.qmodel.specs.Rows.{sent_over}
+use Rattle.qmodel.specs.Rows.{item_sent_over}
 use Rattle.qkernel.specs.State.{State, IsSound, facts_in}
 use Rattle.qmodel.specs.Past.{made_on}
 use Rattle.qstate.specs.Threads.{members_of}
@@ -48,7 +48,7 @@ counted_room s h new sets = record {
 -- ---- an item that waits, and one that is met
 
 -- no item of these has a number above n
-pub without_new : (n : ℕ) (items : List Item) (item : Item) → item.number ≡ n + 1 → AllByRecursion (λ x. x.number ≤ n) items → without (n + 1) (items ++ item ∷ []) ≡ items
+pub without_new : (n : ℕ) (items : List Item) (item : Item) → item.number ≡ n + 1 → AllByRecursion (λ x. x.number ≤ n) items → without_item (n + 1) (items ++ item ∷ []) ≡ items
 without_new n [] item is h = rw (eq-eqb item.number (n + 1) is) refl
 without_new n (x ∷ items) item is h =
     let below : x.number ≤ n = h.0 in
@@ -67,11 +67,11 @@ module _ (s : State) (h : ℕ) (item : Item) (sound : IsSound s) (number : item.
   ] refl) ∙ ap (λ l. pending_in s.channels k ++ l) (sym (made_there k))
 
   -- the item doesn't wait
-  pub items_after : (k : ℕ) → pending_in s.channels k ≡ cond (eqb h k) (without item.number (pending_in s.channels k ++ made_on k (Some (record { item = item; channel = h }))))
+  pub items_after : (k : ℕ) → pending_in s.channels k ≡ cond (eqb h k) (without_item item.number (pending_in s.channels k ++ made_on k (Some (record { item = item; channel = h }))))
       (pending_in s.channels k ++ made_on k (Some (record { item = item; channel = h })))
   items_after k = rw (eqb_either h k) (
-      elim (eqb k h) as (λ b. pending_in s.channels k ≡ cond b (without item.number (pending_in s.channels k ++ cond b (item ∷ []) [])) (pending_in s.channels k ++ cond b (item ∷ []) [])) [
-        | true ↦ sym (ap (λ n. without n (pending_in s.channels k ++ item ∷ [])) number ∙ without_new s.made (pending_in s.channels k) item number (sound.items k))
+      elim (eqb k h) as (λ b. pending_in s.channels k ≡ cond b (without_item item.number (pending_in s.channels k ++ cond b (item ∷ []) [])) (pending_in s.channels k ++ cond b (item ∷ []) [])) [
+        | true ↦ sym (ap (λ n. without_item n (pending_in s.channels k ++ item ∷ [])) number ∙ without_new s.made (pending_in s.channels k) item number (sound.items k))
         | false ↦ sym (append-nil _)
       ])
 
@@ -80,7 +80,7 @@ module _ (s : State) (t coid : ℕ) (m : Member) (h : ℕ) (known : member_at (m
   pub some_way : way (facts_in s) t coid ≡ Some h
   some_way = way-leads_to s t m (entry_at s.connections coid) known ∙ found
 
-  pub some_sent : (item : Item) → sent_over (entry_at s.connections coid) item ≡ Some (record { item = item; channel = h })
+  pub some_sent : (item : Item) → item_sent_over (entry_at s.connections coid) item ≡ Some (record { item = item; channel = h })
   some_sent item = sent_way (facts_in s) t coid item h some_way
 
 -- ---- soundness

@@ -16,11 +16,11 @@ use Rattle.qmodel.specs.declared.open_call.OpenCall.{OpenCall}
 use Rattle.qmodel.specs.declared.open_call.Wait.{Wait}
 use Rattle.qmodel.specs.declared.open_call.Wait.TheVariants.{Answer, Item as ForItem}
 use Rattle.qstate.specs.declared.thread.Thread.{Thread}
-use Rattle.qmodel.specs.Answer.{row_of, failed}
+use Rattle.qmodel.specs.Answer.{row_of, refusal_ending}
 use Rattle.qstate.specs.Channels.{channel_in}
-use Rattle.qstate.specs.Endings.{inserted}
+use Rattle.qstate.specs.Endings.{with_ending_in_place}
 use Rattle.qmodel.specs.Facts.{is_send, sender, sender_among, threads_of}
-use Rattle.qmodel.specs.Held.{Finish, ends_sender, finished, finished_with, is_held_for, owns_end, refusal}
+use Rattle.qmodel.specs.Held.{Finish, ends_sender, answer_ending, answer_ending_of_wait, is_held_for, owns_end, refusal}
 use Rattle.qstate.specs.HeldIn.{leads_to_own, is_held_over, is_held_in}
 use Rattle.qkernel.specs.State.{State, IsSound, facts_in}
 use Rattle.qkernel.specs.Stands.{Steps}
@@ -50,7 +50,7 @@ module _ (s : State) (t : ℕ) (m : Member) (i : ℕ) (sound : IsSound s) (known
 
   -- refused where no message is held so
   pub step_unheld : (c : Call) (X : List Completion) → (row_of (facts_in s) t c).refusal ≡ refusal (facts_in s) t i → s.down ≡ false → open_in s.threads t ≡ None → is_held_in s.threads s.connections s.channels m.process i ≡ false
-      → X ≡ failed (facts_in s) t c Srch ∷ [] → Steps s t c X (counted s)
+      → X ≡ refusal_ending (facts_in s) t c Srch ∷ [] → Steps s t c X (counted s)
   step_unheld c X row up free none is = step_refused_alone s t c Srch X (inl (rw (up, free, row, is_held, none) refl)) is
 
 -- ---- the sender
@@ -75,40 +75,40 @@ among_senders threads i u e = found (threads_of (members_of threads)) e where
 
 -- ---- an answer
 
-finished_some : (i : ℕ) (finish : Finish) (u : ℕ) (o : Option OpenCall) → is_send i o ≡ true → is_some (finished finish u o) ≡ true
+finished_some : (i : ℕ) (finish : Finish) (u : ℕ) (o : Option OpenCall) → is_send i o ≡ true → is_some (answer_ending finish u o) ≡ true
 finished_some i finish u None e = absurd (true≢false (sym e))
 finished_some i finish u (Some o) e = by_wait o.wait e where
-  by_wait : (w : Wait) → is_send i (Some (record { number = o.number; wait = w })) ≡ true → is_some (finished finish u (Some (record { number = o.number; wait = w }))) ≡ true
+  by_wait : (w : Wait) → is_send i (Some (record { number = o.number; wait = w })) ≡ true → is_some (answer_ending finish u (Some (record { number = o.number; wait = w }))) ≡ true
   by_wait (Answer coid message reply_buffer receipt) e = refl
   by_wait (ForItem chid kind buffer) e = absurd (true≢false (sym (and_parts _ _ e).1))
 
-finished_thread : (finish : Finish) (u : ℕ) (o : Option OpenCall) (y : Completion) → finished finish u o ≡ Some y → y.thread ≡ u
+finished_thread : (finish : Finish) (u : ℕ) (o : Option OpenCall) (y : Completion) → answer_ending finish u o ≡ Some y → y.thread ≡ u
 finished_thread finish u None y e = absurd (none-some y e)
 finished_thread finish u (Some o) y e = by_wait o.wait e where
-  by_wait : (w : Wait) → finished_with finish u o.number w ≡ Some y → y.thread ≡ u
+  by_wait : (w : Wait) → answer_ending_of_wait finish u o.number w ≡ Some y → y.thread ≡ u
   by_wait (Answer coid message reply_buffer receipt) e = sym (ap (λ x. x.thread) (same_Some _ y e))
   by_wait (ForItem chid kind buffer) e = absurd (none-some y e)
 
 -- the sender's call is a Send
-pub finished_there : (threads : List Thread) (i u : ℕ) (finish : Finish) (call : Option OpenCall) → sender_in threads i ≡ Some u → call ≡ open_in threads u → finished finish u call ≡ None → ⊥
+pub finished_there : (threads : List Thread) (i u : ℕ) (finish : Finish) (call : Option OpenCall) → sender_in threads i ≡ Some u → call ≡ open_in threads u → answer_ending finish u call ≡ None → ⊥
 finished_there threads i u finish call is same none =
-    true≢false (sym (finished_some i finish u (open_in threads u) (sends threads i u is)) ∙ ap (λ o. is_some (finished finish u o)) (sym same) ∙ ap is_some none)
+    true≢false (sym (finished_some i finish u (open_in threads u) (sends threads i u is)) ∙ ap (λ o. is_some (answer_ending finish u o)) (sym same) ∙ ap is_some none)
 
 module _ (s : State) (t : ℕ) (m : Member) (i : ℕ) (sound : IsSound s) (known : member_at (members_of s.threads) t ≡ Some m) (finish : Finish) (u : ℕ) (y : Completion) (up : s.down ≡ false) (free : open_in s.threads t ≡ None)
-    (is_sender : sender_in s.threads i ≡ Some u) (ended : finished finish u (open_in s.threads u) ≡ Some y) where
+    (is_sender : sender_in s.threads i ≡ Some u) (ended : answer_ending finish u (open_in s.threads u) ≡ Some y) where
   -- the ending of the call that answers
   abbrev pub mine : Completion
   mine = record { call = s.made + 1; thread = t; mark = mark.Ok; buffer = [] }
 
   apart : t ≢ u
-  apart e = none-some y (sym (ap (finished finish u) (ap (open_in s.threads) (sym e) ∙ free)) ∙ ended)
+  apart e = none-some y (sym (ap (answer_ending finish u) (ap (open_in s.threads) (sym e) ∙ free)) ∙ ended)
 
   -- the endings of the two threads
-  pub two_ended : (X : List Completion) → X ≡ inserted y (mine ∷ []) → X ≡ filter_map (λ v. cond (eqb v t) (Some mine) (ends_sender (facts_in s) finish (sender (facts_in s) i) v)) (threads_of (members_of s.threads))
+  pub two_ended : (X : List Completion) → X ≡ with_ending_in_place y (mine ∷ []) → X ≡ filter_map (λ v. cond (eqb v t) (Some mine) (ends_sender (facts_in s) finish (sender (facts_in s) i) v)) (threads_of (members_of s.threads))
   two_ended X is =
       is ∙ two_endings mine y t u refl (finished_thread finish u (open_in s.threads u) y ended) apart (threads_of (members_of s.threads)) (rises (members_of s.threads) sound.roster) (among (members_of s.threads) t m known) (among_senders s.threads i u is_sender)
       ∙ sym (filter_map_same (λ v. cond (eqb v t) (Some mine) (ends_sender (facts_in s) finish (sender (facts_in s) i) v)) (λ v. cond (eqb v t) (Some mine) (cond (eqb v u) (Some y) None)) (threads_of (members_of s.threads)) (λ v. rw is_sender
-      (ap (cond (eqb v t) (Some mine)) (elim (eqb v u) as (λ b. eqb v u ≡ b → cond b (finished finish v (open_in s.threads v)) None ≡ cond b (Some y) None) [
+      (ap (cond (eqb v t) (Some mine)) (elim (eqb v u) as (λ b. eqb v u ≡ b → cond b (answer_ending finish v (open_in s.threads v)) None ≡ cond b (Some y) None) [
         | true ↦ λ f. rw (eqb-true v u f) ended
         | false ↦ λ f. refl
       ] refl))))
@@ -117,9 +117,9 @@ module _ (s : State) (t : ℕ) (m : Member) (i : ℕ) (sound : IsSound s) (known
   pub answered_calls : (threads : List Thread) → SetsOpen u None s.threads threads → (v : ℕ)
       → open_in threads v ≡ cond (eqb v t) None (unless (is_some (ends_sender (facts_in s) finish (sender (facts_in s) i) v)) (open_in s.threads v))
   answered_calls threads takes v = rw is_sender (takes.open_call v ∙ (elim (eqb v t) as (λ b. eqb v t ≡ b → cond (eqb v u) None (open_in s.threads v)
-      ≡ cond b None (unless (is_some (cond (eqb v u) (finished finish v (open_in s.threads v)) None)) (open_in s.threads v))) [
+      ≡ cond b None (unless (is_some (cond (eqb v u) (answer_ending finish v (open_in s.threads v)) None)) (open_in s.threads v))) [
         | true ↦ λ e. let idle : open_in s.threads v ≡ None = ap (open_in s.threads) (eqb-true v t e) ∙ free in rw idle (cond_same (eqb v u) None)
-        | false ↦ λ e. elim (eqb v u) as (λ b. eqb v u ≡ b → cond b None (open_in s.threads v) ≡ unless (is_some (cond b (finished finish v (open_in s.threads v)) None)) (open_in s.threads v)) [
+        | false ↦ λ e. elim (eqb v u) as (λ b. eqb v u ≡ b → cond b None (open_in s.threads v) ≡ unless (is_some (cond b (answer_ending finish v (open_in s.threads v)) None)) (open_in s.threads v)) [
           | true ↦ λ f. rw (eqb-true v u f, ended) refl
           | false ↦ λ f. refl
         ] refl

@@ -15,7 +15,7 @@ use Rattle.qmodel.specs.declared.open_call.Wait.{Wait}
 use Rattle.qmodel.specs.declared.open_call.Wait.TheVariants.{Answer, Item as ForItem}
 use Rattle.qstate.specs.declared.thread.Thread.{Thread}
 use Rattle.qmodel.specs.declared.call.Info.{Info as Told}
-use Rattle.qmodel.specs.Calls.Info.{told, told_of, telling}
+use Rattle.qmodel.specs.Calls.Info.{info_of, info_of_open, info_ending}
 use Rattle.qmodel.specs.Facts.{is_send, sender, threads_of}
 use Rattle.qstate.specs.HeldIn.{is_held_in}
 use Rattle.qkernel.specs.State.{State, IsSound, facts_in}
@@ -29,38 +29,38 @@ use Rattle.qkernel.proofs.Steps.Held.{is_held}
 
 -- what is told of the thread at a seat
 pub info_there : (s : State) (i k : ℕ) (d : Thread) → IsRoster (members_of s.threads) → position (λ t. is_send i t.open_call) s.threads ≡ Some k
-    → told (facts_in s) (sender (facts_in s) i) ≡ told_of (get_or s.threads k d).member (get_or s.threads k d).open_call
+    → info_of (facts_in s) (sender (facts_in s) i) ≡ info_of_open (get_or s.threads k d).member (get_or s.threads k d).open_call
 info_there s i k d r at =
     let first = first_there i s.threads k d r at in
-    ap (told (facts_in s)) (sender_there i s.threads k d r at)
-    ∙ ap (option_and_then (λ m. told_of m (open_in s.threads (get_or s.threads k d).member.thread))) (first_member _ s.threads k d first)
-    ∙ ap (told_of (get_or s.threads k d).member) (first_open _ s.threads k d first)
+    ap (info_of (facts_in s)) (sender_there i s.threads k d r at)
+    ∙ ap (option_and_then (λ m. info_of_open m (open_in s.threads (get_or s.threads k d).member.thread))) (first_member _ s.threads k d first)
+    ∙ ap (info_of_open (get_or s.threads k d).member) (first_open _ s.threads k d first)
 
 -- what is held is told of
-told_some : (m : Member) (o : Option OpenCall) → is_some (held_over_in o) ≡ true → is_some (told_of m o) ≡ true
+told_some : (m : Member) (o : Option OpenCall) → is_some (held_over_in o) ≡ true → is_some (info_of_open m o) ≡ true
 told_some m None e = e
 told_some m (Some o) e = by_wait o.wait e where
-  by_wait : (w : Wait) → is_some (held_over_in (Some (record { number = o.number; wait = w }))) ≡ true → is_some (told_of m (Some (record { number = o.number; wait = w }))) ≡ true
+  by_wait : (w : Wait) → is_some (held_over_in (Some (record { number = o.number; wait = w }))) ≡ true → is_some (info_of_open m (Some (record { number = o.number; wait = w }))) ≡ true
   by_wait (Answer coid message reply_buffer (Some receipt)) e = refl
   by_wait (Answer coid message reply_buffer None) e = e
   by_wait (ForItem chid kind buffer) e = e
 
 pub told_there : (connections : List (ℕ × Connection)) (channels : List (ℕ × Channel)) (p i : ℕ) (threads : List Thread) (k : ℕ) (d : Thread) → IsRoster (members_of threads) → position (λ t. is_send i t.open_call) threads ≡ Some k
-    → is_held_in threads connections channels p i ≡ true → told_of (get_or threads k d).member (get_or threads k d).open_call ≡ None → ⊥
+    → is_held_in threads connections channels p i ≡ true → info_of_open (get_or threads k d).member (get_or threads k d).open_call ≡ None → ⊥
 told_there connections channels p i threads k d r at held none =
     let over = sender_of_held connections channels p (get_or threads k d).open_call (sym (held_there connections channels p i threads k d r at) ∙ held) in
     true≢false (sym (told_some (get_or threads k d).member (get_or threads k d).open_call over) ∙ ap is_some none)
 
 module _ (s : State) (t : ℕ) (m : Member) (i : ℕ) (sound : IsSound s) (known : member_at (members_of s.threads) t ≡ Some m) (up : s.down ≡ false) (free : open_in s.threads t ≡ None)
     (held : is_held_in s.threads s.connections s.channels m.process i ≡ true) where
-  pub step_info : (told_so : Told) (X : List Completion) → told (facts_in s) (sender (facts_in s) i) ≡ Some told_so → X ≡ telling (s.made + 1) t told_so ∷ [] → Steps s t (Info i) X (counted s)
+  pub step_info : (told_so : Told) (X : List Completion) → info_of (facts_in s) (sender (facts_in s) i) ≡ Some told_so → X ≡ info_ending (s.made + 1) t told_so ∷ [] → Steps s t (Info i) X (counted s)
   step_info told_so X says is = (
     true,
     record {
       answer = (
         rw (up, free, is_held s t m i sound known, held) refl,
-        is ∙ sym (only_own _ t (Some (telling (s.made + 1) t told_so)) (rises (members_of s.threads) sound.roster) (among (members_of s.threads) t m known))
-            ∙ ap (λ o. filter_map (λ u. cond (eqb u t) (option_map (telling (s.made + 1) t) o) None) (threads_of (members_of s.threads))) (sym says),
+        is ∙ sym (only_own _ t (Some (info_ending (s.made + 1) t told_so)) (rises (members_of s.threads) sound.roster) (among (members_of s.threads) t m known))
+            ∙ ap (λ o. filter_map (λ u. cond (eqb u t) (option_map (info_ending (s.made + 1) t) o) None) (threads_of (members_of s.threads))) (sym says),
       );
       follows = record {
         roster = refl;

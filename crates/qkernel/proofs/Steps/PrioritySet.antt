@@ -11,7 +11,7 @@ use Rattle.qqueue.specs.declared.item.Item.{Item}
 use Rattle.qtables.specs.Entries.{entry_at}
 use Rattle.qtables.specs.Members.{member_at}
 use Rattle.qtables.specs.declared.member.Member.{Member}
-use Rattle.qmodel.specs.Answer.{failed}
+use Rattle.qmodel.specs.Answer.{refusal_ending}
 use Rattle.qmodel.specs.Cutting.{is_unread_send}
 use Rattle.qmodel.specs.Facts.{is_in_process}
 use Rattle.qmodel.specs.declared.call.Call.TheVariants.{PrioritySet}
@@ -21,10 +21,10 @@ use Rattle.qstate.specs.declared.channel.Channel.{Channel}
 use Rattle.qstate.specs.declared.thread.Thread.{Thread}
 use Rattle.qkernel.specs.State.{State, IsSound, facts_in}
 use Rattle.qkernel.specs.Stands.{Steps}
-use Rattle.qstate.specs.Channels.{pending_in}
+use Rattle.qstate.specs.Channels.{channel_in, ids_of, pending_in}
 use Rattle.qstate.specs.Threads.{level_in, members_of, open_in, SetsLevel}
 use Rattle.qstate.specs.Unread.{MovesUnread}
-use Rattle.qmodel.specs.Step.{moved}
+use Rattle.qmodel.specs.Step.{items_with_priority_set}
 use Rattle.qmodel.proofs.Past.Cuts.{none_cut}
 use Rattle.qmodel.proofs.Rosters.{among, only_own, rises}
 use Rattle.qbase.proofs.Lists.{all_map, all_more}
@@ -32,7 +32,7 @@ use Rattle.qkernel.proofs.Steps.Delivering.{sound_threads}
 use Rattle.qkernel.proofs.Steps.Common.{count_same, counted, stays_free, step_refused_alone}
 
 module _ (s : State) (t thread priority : ℕ) (m : Member) (known : member_at (members_of s.threads) t ≡ Some m) (up : s.down ≡ false) (free : open_in s.threads t ≡ None) where
-  pub step_set_refused : (X : List Completion) → is_in_process m.process (member_at (members_of s.threads) thread) ≡ false → X ≡ failed (facts_in s) t (PrioritySet thread priority) Srch ∷ []
+  pub step_set_refused : (X : List Completion) → is_in_process m.process (member_at (members_of s.threads) thread) ≡ false → X ≡ refusal_ending (facts_in s) t (PrioritySet thread priority) Srch ∷ []
       → Steps s t (PrioritySet thread priority) X (counted s)
   step_set_refused X other is = step_refused_alone s t (PrioritySet thread priority) Srch X (inl (rw (up, free, known, other) refl)) is
 
@@ -59,7 +59,7 @@ module _ (s : State) (t thread priority : ℕ) (m : Member) (known : member_at (
         connection = λ k. rw known refl;
         live_connections = rw known (omega arith);
         open_call = λ u. sets.open_call u ∙ stays_free s.threads t u free;
-        pending = λ k. moves.pending k ∙ ap (moved (facts_in s) k (Some (record { thread = thread; priority = priority })))
+        pending = λ k. moves.pending k ∙ ap (items_with_priority_set (facts_in s) k (Some (record { thread = thread; priority = priority })))
             (sym (none_cut (facts_in s) t (PrioritySet thread priority) (λ u y e. absurd (none-some y e)) k (pending_in s.channels k ++ []) ∙ append-nil (pending_in s.channels k)));
         priority = λ u. sets.priority u ∙ (elim (eqb thread u) as (λ b. unwrap_or (cond b (Some priority) None) (level_in s.threads u) ≡ unwrap_or (option_or (cond b (Some priority) None) None) (level_in s.threads u)) [ true ↦ refl | false ↦ refl ]);
       };

@@ -6,7 +6,7 @@ use Rattle.std.specs.Option.{option_map}
 use Rattle.std.proofs.lemmas.Bool.{eqb-true}
 use Rattle.qbase.specs.Laying.{laid_count}
 use Rattle.qbase.specs.declared.errno.Errno.TheVariants.{Srch}
-use Rattle.qqueue.specs.Best.{best_of, is_pulse, without}
+use Rattle.qqueue.specs.Best.{best_of, is_pulse, without_item}
 use Rattle.qqueue.specs.declared.item.Item.{Item}
 use Rattle.qqueue.specs.declared.item.Kind.{Kind}
 use Rattle.qqueue.specs.declared.item.Kind.TheVariants.{Any, PulseOnly}
@@ -23,11 +23,11 @@ use Rattle.qstate.specs.declared.thread.Thread.{Thread}
 use Rattle.qmodel.specs.Answer.{ending}
 use Rattle.qstate.specs.Channels.{channel_in, pending_in, ids_of, is_of, SetsItems}
 use Rattle.qmodel.specs.Facts.{owns, threads_of, is_fixed}
-use Rattle.qmodel.specs.Receiving.{receipt_of, received_of, receive_of}
-use Rattle.qmodel.specs.Rows.{Received, taking}
+use Rattle.qmodel.specs.Receiving.{own_receipt, receipt_when_taken, receive_of}
+use Rattle.qmodel.specs.Rows.{Received, receipt_ending}
 use Rattle.qkernel.specs.State.{State, IsSound, facts_in}
 use Rattle.qkernel.specs.Stands.{Steps}
-use Rattle.qmodel.specs.Step.{after_receipt, is_thread, held_call, taken_out, unless, taken_by}
+use Rattle.qmodel.specs.Step.{after_receipt, is_thread, held_call, unreceived_items, unless, priority_taken}
 use Rattle.qstate.specs.Threads.{members_of, open_in, level_in, message_from, sender_in, SetsOpen, HandsOver, SetsLevel}
 use Rattle.qbase.proofs.Lists.{all_filter, eqb_either, cond_same}
 use Rattle.qmodel.proofs.Rosters.{rises, among, nothing, filter_map_same, only_own}
@@ -56,11 +56,11 @@ kept_items s h k = elim (eqb k h) as (λ b. eqb k h ≡ b → cond b (pending_in
 
 -- how the call ends
 abbrev own_of : State → ℕ → List ℕ → Option Item → Option Completion
-own_of s t buffer o = receipt_of (facts_in s) t buffer o
+own_of s t buffer o = own_receipt (facts_in s) t buffer o
 
 -- what it receives
 abbrev receipt_by : State → ℕ → ℕ → List ℕ → Option Item → Option Received
-receipt_by s t chid buffer o = received_of (facts_in s) chid (own_of s t buffer o) o
+receipt_by s t chid buffer o = receipt_when_taken (facts_in s) chid (own_of s t buffer o) o
 
 -- the endings, the open calls and the items of the step that a row of this best item says
 record Receives (s : State) (t chid : ℕ) (kind : Kind) (buffer : List ℕ) (o : Option Item) (X : List Completion) (threads : List Thread) (channels : List (ℕ × Channel)) : Type 0 where
@@ -68,10 +68,10 @@ record Receives (s : State) (t chid : ℕ) (kind : Kind) (buffer : List ℕ) (o 
   roster : members_of threads ≡ members_of s.threads
   open_call : (u : ℕ) → open_in threads u ≡ cond (eqb u t) (unless (is_some (own_of s t buffer o)) (after_receipt (receipt_by s t chid buffer o) u (Some (record { number = s.made + 1; wait = ForItem chid kind buffer }))))
       (unless false (after_receipt (receipt_by s t chid buffer o) u (open_in s.threads u)))
-  items : (k : ℕ) → pending_in channels k ≡ taken_out (receipt_by s t chid buffer o) k (pending_in s.channels k ++ [])
+  items : (k : ℕ) → pending_in channels k ≡ unreceived_items (receipt_by s t chid buffer o) k (pending_in s.channels k ++ [])
   ids : ids_of channels ≡ ids_of s.channels
   channel : (k : ℕ) → channel_in channels k ≡ channel_in s.channels k
-  priority : (u : ℕ) → level_in threads u ≡ unwrap_or (taken_by (facts_in s) (receipt_by s t chid buffer o) u) (level_in s.threads u)
+  priority : (u : ℕ) → level_in threads u ≡ unwrap_or (priority_taken (facts_in s) (receipt_by s t chid buffer o) u) (level_in s.threads u)
 
 step_of : (s : State) (t chid : ℕ) (kind : Kind) (buffer : List ℕ) (m : Member) (o : Option Item) (X : List Completion) (threads : List Thread) (channels : List (ℕ × Channel)) → (kind ≡ PulseOnly → buffer ≡ [])
     → member_at (members_of s.threads) t ≡ Some m → s.down ≡ false → open_in s.threads t ≡ None → owns (facts_in s) t chid ≡ true → best_of kind (pending_in s.channels chid) ≡ o → Receives s t chid kind buffer o X threads channels
@@ -142,9 +142,9 @@ module _ (s : State) (t chid : ℕ) (kind : Kind) (buffer : List ℕ) (m : Membe
   })
 
   module _ (item : Item) (best : best_of kind (pending_in s.channels chid) ≡ Some item) where
-    items_after : (k : ℕ) → cond (eqb k chid) (without item.number (pending_in s.channels chid)) (pending_in s.channels k) ≡ cond (eqb chid k) (without item.number (pending_in s.channels k ++ [])) (pending_in s.channels k ++ [])
-    items_after k = rw (append-nil, eqb_either chid k) (elim (eqb k chid) as (λ b. eqb k chid ≡ b → cond b (without item.number (pending_in s.channels chid)) (pending_in s.channels k) ≡ cond b (without item.number (pending_in s.channels k)) (pending_in s.channels k)) [
-      | true ↦ λ e. ap (λ n. without item.number (pending_in s.channels n)) (sym (eqb-true k chid e))
+    items_after : (k : ℕ) → cond (eqb k chid) (without_item item.number (pending_in s.channels chid)) (pending_in s.channels k) ≡ cond (eqb chid k) (without_item item.number (pending_in s.channels k ++ [])) (pending_in s.channels k ++ [])
+    items_after k = rw (append-nil, eqb_either chid k) (elim (eqb k chid) as (λ b. eqb k chid ≡ b → cond b (without_item item.number (pending_in s.channels chid)) (pending_in s.channels k) ≡ cond b (without_item item.number (pending_in s.channels k)) (pending_in s.channels k)) [
+      | true ↦ λ e. ap (λ n. without_item item.number (pending_in s.channels n)) (sym (eqb-true k chid e))
       | false ↦ λ e. refl
     ] refl)
 
@@ -168,11 +168,11 @@ module _ (s : State) (t chid : ℕ) (kind : Kind) (buffer : List ℕ) (m : Membe
     level channels = cond (is_fixed (channel_in channels chid)) None (Some item.priority)
 
     pub step_receive_takes : (threads_1 threads_2 : List Thread) (channels : List (ℕ × Channel)) (X : List Completion) → HandsOver (is_pulse item.what) item.number kept s.threads threads_1
-        → SetsLevel t (level channels) threads_1 threads_2 → SetsItems chid (without item.number (pending_in s.channels chid)) s.channels channels → X ≡ taking item (message_from s.threads item.number) t (s.made + 1) buffer ∷ []
+        → SetsLevel t (level channels) threads_1 threads_2 → SetsItems chid (without_item item.number (pending_in s.channels chid)) s.channels channels → X ≡ receipt_ending item (message_from s.threads item.number) t (s.made + 1) buffer ∷ []
         → Steps s t (receive_of kind chid buffer) X (record { made = s.made + 1; down = s.down; threads = threads_2; channels = channels; connections = s.connections })
     step_receive_takes threads_1 threads_2 channels X hands takes sets is = by (is_pulse item.what) refl hands where
-      ends : X ≡ filter_map (λ u. cond (eqb u t) (Some (taking item (message_from s.threads item.number) t (s.made + 1) buffer)) None) (threads_of (members_of s.threads))
-      ends = is ∙ sym (only_own (threads_of (members_of s.threads)) t (Some (taking item (message_from s.threads item.number) t (s.made + 1) buffer)) (rises (members_of s.threads) sound.roster) (among (members_of s.threads) t m known))
+      ends : X ≡ filter_map (λ u. cond (eqb u t) (Some (receipt_ending item (message_from s.threads item.number) t (s.made + 1) buffer)) None) (threads_of (members_of s.threads))
+      ends = is ∙ sym (only_own (threads_of (members_of s.threads)) t (Some (receipt_ending item (message_from s.threads item.number) t (s.made + 1) buffer)) (rises (members_of s.threads) sound.roster) (among (members_of s.threads) t m known))
 
       levels : (u : ℕ) → level_in threads_1 u ≡ level_in s.threads u → level_in threads_2 u ≡ unwrap_or (cond (eqb t u) (level s.channels) None) (level_in s.threads u)
       levels u same = takes.priority u ∙ ap (unwrap_or (cond (eqb t u) (level channels) None)) same
@@ -206,7 +206,7 @@ hands_members true i receipt old new same = ap members_of same
 hands_members false i receipt old new changes = changes.members
 
 pub sound_taken : (s : State) (threads : List Thread) (channels : List (ℕ × Channel)) (h i : ℕ) → IsSound s → members_of threads ≡ members_of s.threads
-    → SetsItems h (without i (pending_in s.channels h)) s.channels channels → IsSound (record { made = s.made + 1; down = s.down; threads = threads; channels = channels; connections = s.connections })
+    → SetsItems h (without_item i (pending_in s.channels h)) s.channels channels → IsSound (record { made = s.made + 1; down = s.down; threads = threads; channels = channels; connections = s.connections })
 sound_taken s threads channels h i sound e sets =
     sound_items s threads channels h _ sound e sets (all_filter (λ x. x.number ≤ s.made + 1) (λ x. not (eqb x.number i)) (pending_in s.channels h) (all_up_to (λ x. x.number) s.made _ (sound.items h)))
 

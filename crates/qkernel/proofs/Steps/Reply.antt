@@ -7,9 +7,9 @@ use Rattle.qmodel.specs.declared.call.Call.TheVariants.{Reply}
 use Rattle.qmodel.specs.declared.call.Completion.{Completion}
 use Rattle.qmodel.specs.declared.call.Mark.TheVariants as mark
 use Rattle.qstate.specs.declared.thread.Thread.{Thread}
-use Rattle.qmodel.specs.Calls.Reply.{replied}
-use Rattle.qstate.specs.Endings.{inserted}
-use Rattle.qmodel.specs.Held.{finished}
+use Rattle.qmodel.specs.Calls.Reply.{reply_finish}
+use Rattle.qstate.specs.Endings.{with_ending_in_place}
+use Rattle.qmodel.specs.Held.{answer_ending}
 use Rattle.qstate.specs.HeldIn.{is_held_in}
 use Rattle.qkernel.specs.State.{State, IsSound}
 use Rattle.qkernel.specs.Stands.{Steps}
@@ -18,13 +18,13 @@ use Rattle.qkernel.proofs.Steps.Common.{uncut}
 use Rattle.qkernel.proofs.Steps.Held.{is_held, two_ended, answered_calls}
 
 pub step_replied : (s : State) (t : ℕ) (m : Member) (i : ℕ) (sound : IsSound s) (known : member_at (members_of s.threads) t ≡ Some m) (status : ℤ) (bytes : List ℕ) (u : ℕ) (y : Completion)
-    → s.down ≡ false → open_in s.threads t ≡ None → is_held_in s.threads s.connections s.channels m.process i ≡ true → sender_in s.threads i ≡ Some u → finished (replied status bytes) u (open_in s.threads u) ≡ Some y
-    → (threads : List Thread) (X : List Completion) → SetsOpen u None s.threads threads → X ≡ inserted y (record { call = s.made + 1; thread = t; mark = mark.Ok; buffer = [] } ∷ [])
+    → s.down ≡ false → open_in s.threads t ≡ None → is_held_in s.threads s.connections s.channels m.process i ≡ true → sender_in s.threads i ≡ Some u → answer_ending (reply_finish status bytes) u (open_in s.threads u) ≡ Some y
+    → (threads : List Thread) (X : List Completion) → SetsOpen u None s.threads threads → X ≡ with_ending_in_place y (record { call = s.made + 1; thread = t; mark = mark.Ok; buffer = [] } ∷ [])
     → Steps s t (Reply i status bytes) X (record { made = s.made + 1; down = s.down; threads = threads; channels = s.channels; connections = s.connections })
 step_replied s t m i sound known status bytes u y up free held is_sender ended threads X takes is = (
   true,
   record {
-    answer = (rw (up, free, is_held s t m i sound known, held) refl, two_ended s t m i sound known (replied status bytes) u y up free is_sender ended X is);
+    answer = (rw (up, free, is_held s t m i sound known, held) refl, two_ended s t m i sound known (reply_finish status bytes) u y up free is_sender ended X is);
     follows = record {
       roster = takes.members;
       number = refl;
@@ -33,7 +33,7 @@ step_replied s t m i sound known status bytes u y up free held is_sender ended t
       open_channels = rw known (omega arith);
       connection = λ k. rw known refl;
       live_connections = rw known (omega arith);
-      open_call = answered_calls s t m i sound known (replied status bytes) u y up free is_sender ended threads takes;
+      open_call = answered_calls s t m i sound known (reply_finish status bytes) u y up free is_sender ended threads takes;
       pending = λ k. uncut s t (Reply i status bytes) (rw (up, free, is_held s t m i sound known, held) refl) refl refl refl k (sym (append-nil _));
       priority = takes.priority;
     };

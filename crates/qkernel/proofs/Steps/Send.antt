@@ -17,11 +17,11 @@ use Rattle.qmodel.specs.declared.open_call.OpenCall.{OpenCall}
 use Rattle.qmodel.specs.declared.open_call.Receipt.{Receipt}
 use Rattle.qmodel.specs.declared.open_call.Wait.TheVariants.{Answer}
 use Rattle.qstate.specs.declared.thread.Thread.{Thread}
-use Rattle.qmodel.specs.Answer.{failed, ending}
+use Rattle.qmodel.specs.Answer.{refusal_ending, ending}
 use Rattle.qstate.specs.Channels.{pending_in, way_in, SetsItems}
 use Rattle.qmodel.specs.Facts.{way, threads_of}
-use Rattle.qmodel.specs.Receivers.{newest}
-use Rattle.qmodel.specs.Rows.{message_item, takes, received, sent_over}
+use Rattle.qmodel.specs.Receivers.{newest_receiver}
+use Rattle.qmodel.specs.Rows.{message_item, takes, item_in_mark, item_sent_over}
 use Rattle.qkernel.specs.State.{State, IsSound, facts_in}
 use Rattle.qkernel.specs.Stands.{Steps}
 use Rattle.qmodel.specs.Step.{unless, held_call}
@@ -32,23 +32,23 @@ use Rattle.qmodel.proofs.Rosters.{rises, nothing, filter_map_same, only_own}
 use Rattle.qkernel.proofs.Steps.Delivering.{counted_room, count_kept, items_after, some_sent, some_way, with_item, level_of}
 use Rattle.qstate.proofs.Receivers.{ended_thread}
 use Rattle.qkernel.proofs.Steps.Common.{uncut, counted, step_refused, step_refused_alone, way-leads_to}
-use Rattle.qqueue.specs.Best.{without}
+use Rattle.qqueue.specs.Best.{without_item}
 
 -- ---- refusals
 
 pub step_send_nowhere : (s : State) (t coid : ℕ) (message reply_buffer : List ℕ) (m : Member) (X : List Completion) → member_at (members_of s.threads) t ≡ Some m → s.down ≡ false → open_in s.threads t ≡ None
-    → way_in m.process s.channels (entry_at s.connections coid) ≡ None → X ≡ failed (facts_in s) t (Send coid message reply_buffer) Badf ∷ [] → Steps s t (Send coid message reply_buffer) X (counted s)
+    → way_in m.process s.channels (entry_at s.connections coid) ≡ None → X ≡ refusal_ending (facts_in s) t (Send coid message reply_buffer) Badf ∷ [] → Steps s t (Send coid message reply_buffer) X (counted s)
 step_send_nowhere s t coid message reply_buffer m X known up free none is =
     let no_way : way (facts_in s) t coid ≡ None = way-leads_to s t m (entry_at s.connections coid) known ∙ none in
     step_refused_alone s t (Send coid message reply_buffer) Badf X (inl (rw (up, free, no_way) refl)) is
 
 pub step_send_no_memory : (s : State) (t coid : ℕ) (message reply_buffer : List ℕ) (m : Member) (h : ℕ) (new : List (ℕ × Channel)) (e : Errno) (X : List Completion) → member_at (members_of s.threads) t ≡ Some m
     → s.down ≡ false → open_in s.threads t ≡ None → way_in m.process s.channels (entry_at s.connections coid) ≡ Some h → e ≡ NoMemory → newest_in h (message_item (s.made + 1) (level_in s.threads t)) s.threads ≡ None → SetsItems h (pending_in s.channels h) s.channels new
-    → X ≡ failed (facts_in s) t (Send coid message reply_buffer) e ∷ []
+    → X ≡ refusal_ending (facts_in s) t (Send coid message reply_buffer) e ∷ []
     → Steps s t (Send coid message reply_buffer) X (record { made = s.made + 1; down = s.down; threads = s.threads; channels = new; connections = s.connections })
 step_send_no_memory s t coid message reply_buffer m h new e X known up free found want nobody sets is =
     let some_way : way (facts_in s) t coid ≡ Some h = way-leads_to s t m (entry_at s.connections coid) known ∙ found in
-    let none : newest (facts_in s) h (message_item (s.made + 1) (level_in s.threads t)) ≡ None = nobody in
+    let none : newest_receiver (facts_in s) h (message_item (s.made + 1) (level_in s.threads t)) ≡ None = nobody in
     step_refused s t (Send coid message reply_buffer) e X _ (inr (rw (up, free, some_way) refl, rw (some_way, none) refl, want)) is (counted_room s h new sets)
 
 module _ (s : State) (t coid : ℕ) (message reply_buffer : List ℕ) (m : Member) (h : ℕ) (sound : IsSound s) (known : member_at (members_of s.threads) t ≡ Some m) (up : s.down ≡ false) (free : open_in s.threads t ≡ None)
@@ -60,7 +60,7 @@ module _ (s : State) (t coid : ℕ) (message reply_buffer : List ℕ) (m : Membe
   over_way : way (facts_in s) t coid ≡ Some h
   over_way = some_way s t coid m h known found
 
-  over_sent : sent_over (entry_at s.connections coid) item ≡ Some (record { item = item; channel = h })
+  over_sent : item_sent_over (entry_at s.connections coid) item ≡ Some (record { item = item; channel = h })
   over_sent = some_sent s t coid m h known found item
 
   -- the sender's open call
@@ -71,7 +71,7 @@ module _ (s : State) (t coid : ℕ) (message reply_buffer : List ℕ) (m : Membe
       → SetsItems h (pending_in s.channels h ++ item ∷ []) s.channels channels → X ≡ []
       → Steps s t (Send coid message reply_buffer) X (record { made = s.made + 1; down = s.down; threads = threads; channels = channels; connections = s.connections })
   step_send_waits threads channels X nobody opens sets is =
-      let none : newest (facts_in s) h item ≡ None = nobody in (
+      let none : newest_receiver (facts_in s) h item ≡ None = nobody in (
         true,
         record {
           answer = (
@@ -93,8 +93,8 @@ module _ (s : State) (t coid : ℕ) (message reply_buffer : List ℕ) (m : Membe
         },
       )
 
-  module _ (r : ℕ) (y : Completion) (copied : ℕ) (newest_is_r : newest (facts_in s) h item ≡ Some r) (there : is_among (threads_of (members_of s.threads)) r ≡ true) (ended : takes item message r (open_in s.threads r) ≡ Some y)
-      (is_receipt : received y.mark ≡ Some (s.made + 1, copied)) where
+  module _ (r : ℕ) (y : Completion) (copied : ℕ) (newest_is_r : newest_receiver (facts_in s) h item ≡ Some r) (there : is_among (threads_of (members_of s.threads)) r ≡ true) (ended : takes item message r (open_in s.threads r) ≡ Some y)
+      (is_receipt : item_in_mark y.mark ≡ Some (s.made + 1, copied)) where
     apart : t ≢ r
     apart e = none-some y (sym (ap (takes item message r) (ap (open_in s.threads) (sym e) ∙ free)) ∙ ended)
 
@@ -139,7 +139,7 @@ module _ (s : State) (t coid : ℕ) (message reply_buffer : List ℕ) (m : Membe
           connection = λ k. rw known refl;
           live_connections = rw known (omega arith);
           open_call = λ u. sets_t.open_call u ∙ rw (over_way, newest_is_r, ended, is_receipt) (calls_after threads_1 takes_r u);
-          pending = λ k. uncut s t (Send coid message reply_buffer) (rw (up, free, over_way) refl) refl refl refl k (rw (over_way, newest_is_r, ended, is_receipt) (items_after s h item sound refl k ∙ ap (λ o. cond (eqb h k) (without (s.made + 1) (pending_in s.channels k ++ made_on k o)) (pending_in s.channels k ++ made_on k o)) (sym over_sent)));
+          pending = λ k. uncut s t (Send coid message reply_buffer) (rw (up, free, over_way) refl) refl refl refl k (rw (over_way, newest_is_r, ended, is_receipt) (items_after s h item sound refl k ∙ ap (λ o. cond (eqb h k) (without_item (s.made + 1) (pending_in s.channels k ++ made_on k o)) (pending_in s.channels k ++ made_on k o)) (sym over_sent)));
           priority = λ u. sets_t.priority u ∙ takes_r.priority u ∙ rw (over_way, newest_is_r, ended, is_receipt, ended_thread item message r (open_in s.threads r) y ended) refl;
         };
       },

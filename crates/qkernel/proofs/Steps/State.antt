@@ -6,7 +6,7 @@ use Rattle.qbase.specs.declared.errno.Errno.TheVariants.{Srch}
 use Rattle.qtables.specs.Entries.{entry_at}
 use Rattle.qtables.specs.Members.{member_at}
 use Rattle.qtables.specs.declared.member.Member.{Member}
-use Rattle.qmodel.specs.Answer.{failed}
+use Rattle.qmodel.specs.Answer.{refusal_ending}
 use Rattle.qmodel.specs.ThreadStates.{state_in}
 use Rattle.qmodel.specs.declared.call.Call.TheVariants.{State as Ask}
 use Rattle.qmodel.specs.declared.call.Completion.{Completion}
@@ -18,7 +18,7 @@ use Rattle.qmodel.proofs.Rosters.{among, only_own, rises}
 use Rattle.qkernel.proofs.Steps.Common.{uncut, counted, stays_free, step_refused_alone}
 
 module _ (s : State) (t target : ℕ) (m : Member) (known : member_at (members_of s.threads) t ≡ Some m) (up : s.down ≡ false) (free : open_in s.threads t ≡ None) where
-  pub step_state_nobody : (X : List Completion) → is_some (member_at (members_of s.threads) target) ≡ false → X ≡ failed (facts_in s) t (Ask target) Srch ∷ [] → Steps s t (Ask target) X (counted s)
+  pub step_state_nobody : (X : List Completion) → is_some (member_at (members_of s.threads) target) ≡ false → X ≡ refusal_ending (facts_in s) t (Ask target) Srch ∷ [] → Steps s t (Ask target) X (counted s)
   step_state_nobody X nobody is = step_refused_alone s t (Ask target) Srch X (inl (rw (up, free, nobody) refl)) is
 
   -- how the call ends

@@ -9,7 +9,7 @@ use Rattle.qtables.specs.declared.member.Member.{Member}
 use Rattle.qbase.specs.declared.errno.Errno.{Errno}
 use Rattle.qbase.specs.declared.errno.Errno.TheVariants.{Again, NoMemory}
 use Rattle.qbase.proofs.Lists.{cond_same}
-use Rattle.qmodel.specs.Answer.{MayRefuse, ending, failed, refusal, row_of}
+use Rattle.qmodel.specs.Answer.{MayRefuse, ending, refusal_ending, refusal, row_of}
 use Rattle.qmodel.specs.Facts.{Facts, threads_of}
 use Rattle.qmodel.specs.Effects.{attaches, closes, creates, detaches, makes, sets, shuts_down, unblocks, writes}
 use Rattle.qmodel.specs.Rows.{Made}
@@ -19,7 +19,7 @@ use Rattle.qmodel.specs.declared.call.Completion.{Completion}
 use Rattle.qmodel.specs.declared.open_call.OpenCall.{OpenCall}
 use Rattle.qstate.specs.declared.channel.Channel.{Channel}
 use Rattle.qstate.specs.declared.thread.Thread.{Thread}
-use Rattle.qstate.specs.Endings.{inserted_if}
+use Rattle.qstate.specs.Endings.{with_ending_if}
 use Rattle.qstate.specs.Pulses.{IsSent, IsSentIfDue, IsTurnedAway, has_room}
 use Rattle.qstate.specs.Threads.{level_in, members_of, newest_in, open_in}
 use Rattle.qstate.proofs.Inserting.{own_first, own_one}
@@ -27,7 +27,7 @@ use Rattle.qkernel.specs.State.{State, IsSound, facts_in}
 use Rattle.qkernel.specs.Stands.{Steps}
 use Rattle.qmodel.proofs.Past.OpenCalls.{unblock_none}
 use Rattle.qmodel.proofs.Rosters.{among, filter_map_same, only_own, rises}
-use Rattle.qmodel.specs.Pulses.{told, told_receipt}
+use Rattle.qmodel.specs.Pulses.{ends_receiver, pulse_receipt}
 use Rattle.qmodel.proofs.Past.Laws.{IsSettled}
 use Rattle.qkernel.proofs.Steps.Common.{Counted, counted_alone, sound_counted, sound_counted_alone, step_refused, uncut_by}
 use Rattle.qkernel.proofs.Steps.Cutting.{mine}
@@ -50,8 +50,8 @@ pub record Tells (s : State) (t : ℕ) (c : Call) (o : Option Made) : Type 0 whe
   pub passed : refusal (facts_in s) t c ≡ None
   pub made : makes (facts_in s) t c ≡ o
   pub own : (row_of (facts_in s) t c).own ≡ Some (mine s t)
-  pub ends : (u : ℕ) → (row_of (facts_in s) t c).ends u ≡ told (facts_in s) o u
-  pub receipt : (row_of (facts_in s) t c).receipt ≡ told_receipt (facts_in s) o
+  pub ends : (u : ℕ) → (row_of (facts_in s) t c).ends u ≡ ends_receiver (facts_in s) o u
+  pub receipt : (row_of (facts_in s) t c).receipt ≡ pulse_receipt (facts_in s) o
 
 -- the threads once it is kept that an unblock pulse was made, if it was
 pub record AreMarked (c : Call) (o : Option Made) (mid threads : List Thread) : Type 0 where
@@ -68,11 +68,11 @@ module _ (s : State) (t : ℕ) (c : Call) (m : Member) (o : Option Made) (sound 
   abbrev g : ℕ → Option Completion
   g u = cond (eqb u t) (Some (mine s t)) None
 
-  g_none : (u : ℕ) → is_some (told (facts_in s) o u) ≡ true → g u ≡ None
+  g_none : (u : ℕ) → is_some (ends_receiver (facts_in s) o u) ≡ true → g u ≡ None
   g_none u there = rw (ne_eqb u t (not_caller s t u o mid channels met is there)) refl
 
-  ending_is : (u : ℕ) → option_or (g u) (told (facts_in s) o u) ≡ ending (facts_in s) t c u
-  ending_is u = rw (tells.own, tells.ends u) (own_first (eqb u t) (Some (mine s t)) (told (facts_in s) o u))
+  ending_is : (u : ℕ) → option_or (g u) (ends_receiver (facts_in s) o u) ≡ ending (facts_in s) t c u
+  ending_is u = rw (tells.own, tells.ends u) (own_first (eqb u t) (Some (mine s t)) (ends_receiver (facts_in s) o u))
 
   -- the receiver of the pulse isn't marked, and neither is the caller
   unless_after : (b : Bool) (u : ℕ) (w : Option OpenCall) → after_unblock o (unblocks c) u (unless b w) ≡ unless b (after_unblock o (unblocks c) u w)
@@ -82,11 +82,11 @@ module _ (s : State) (t : ℕ) (c : Call) (m : Member) (o : Option Made) (sound 
   idle : (u : ℕ) → eqb u t ≡ true → after_unblock o (unblocks c) u (open_in s.threads u) ≡ None
   idle u same = ap (after_unblock o (unblocks c) u) (ap (open_in s.threads) (eqb-true u t same) ∙ free) ∙ unblock_none o (unblocks c) u
 
-  open_after : (u : ℕ) → after_unblock o (unblocks c) u (open_in mid u) ≡ cond (eqb u t) None (unless (is_some (told (facts_in s) o u)) (after_unblock o (unblocks c) u (open_in s.threads u)))
-  open_after u = ap (after_unblock o (unblocks c) u) (is.open_call u) ∙ unless_after (is_some (told (facts_in s) o u)) u (open_in s.threads u)
-      ∙ (elim (eqb u t) as (λ b. eqb u t ≡ b → unless (is_some (told (facts_in s) o u)) (after_unblock o (unblocks c) u (open_in s.threads u))
-      ≡ cond b None (unless (is_some (told (facts_in s) o u)) (after_unblock o (unblocks c) u (open_in s.threads u)))) [
-        | true ↦ λ same. ap (unless (is_some (told (facts_in s) o u))) (idle u same) ∙ cond_same (is_some (told (facts_in s) o u)) None
+  open_after : (u : ℕ) → after_unblock o (unblocks c) u (open_in mid u) ≡ cond (eqb u t) None (unless (is_some (ends_receiver (facts_in s) o u)) (after_unblock o (unblocks c) u (open_in s.threads u)))
+  open_after u = ap (after_unblock o (unblocks c) u) (is.open_call u) ∙ unless_after (is_some (ends_receiver (facts_in s) o u)) u (open_in s.threads u)
+      ∙ (elim (eqb u t) as (λ b. eqb u t ≡ b → unless (is_some (ends_receiver (facts_in s) o u)) (after_unblock o (unblocks c) u (open_in s.threads u))
+      ≡ cond b None (unless (is_some (ends_receiver (facts_in s) o u)) (after_unblock o (unblocks c) u (open_in s.threads u)))) [
+        | true ↦ λ same. ap (unless (is_some (ends_receiver (facts_in s) o u))) (idle u same) ∙ cond_same (is_some (ends_receiver (facts_in s) o u)) None
         | false ↦ λ other. refl
       ] refl)
 
@@ -94,7 +94,7 @@ module _ (s : State) (t : ℕ) (c : Call) (m : Member) (o : Option Made) (sound 
   settled u y e = told_settled s o u y (sym (tells.ends u) ∙ e)
 
   -- it waits, or meets a receiver
-  pub step_told : (threads : List Thread) (X : List Completion) → AreMarked c o mid threads → X ≡ inserted_if met (mine s t ∷ [])
+  pub step_told : (threads : List Thread) (X : List Completion) → AreMarked c o mid threads → X ≡ with_ending_if met (mine s t ∷ [])
       → Steps s t c X (record { made = s.made + 1; down = s.down; threads = threads; channels = channels; connections = s.connections })
   step_told threads X marked is_X =
       let q = tells.quiet in (
@@ -102,8 +102,8 @@ module _ (s : State) (t : ℕ) (c : Call) (m : Member) (o : Option Made) (sound 
         record {
           answer = (
             tells.passed,
-            is_X ∙ ap (inserted_if met) (sym (only_own ts t (Some (mine s t)) (rises (members_of s.threads) sound.roster) (among (members_of s.threads) t m known)))
-                ∙ is.endings g (λ u x e. own_one (mine s t) t u x refl e) g_none ∙ filter_map_same (λ u. option_or (g u) (told (facts_in s) o u)) (ending (facts_in s) t c) ts ending_is,
+            is_X ∙ ap (with_ending_if met) (sym (only_own ts t (Some (mine s t)) (rises (members_of s.threads) sound.roster) (among (members_of s.threads) t m known)))
+                ∙ is.endings g (λ u x e. own_one (mine s t) t u x refl e) g_none ∙ filter_map_same (λ u. option_or (g u) (ends_receiver (facts_in s) o u)) (ending (facts_in s) t c) ts ending_is,
           );
           follows = record {
             roster = marked.members ∙ is.members;
@@ -133,7 +133,7 @@ module _ (s : State) (t : ℕ) (c : Call) (h : ℕ) (item : Item) (e : Errno) (t
     | inr want ↦ counted_room s h channels want.sets
   ])
 
-  pub step_turned_away : (X : List Completion) → (has_room s.channels h ≡ false → MayRefuse (facts_in s) t c Again) → (has_room s.channels h ≡ true → newest_in h item s.threads ≡ None → MayRefuse (facts_in s) t c NoMemory) → X ≡ failed (facts_in s) t c e ∷ []
+  pub step_turned_away : (X : List Completion) → (has_room s.channels h ≡ false → MayRefuse (facts_in s) t c Again) → (has_room s.channels h ≡ true → newest_in h item s.threads ≡ None → MayRefuse (facts_in s) t c NoMemory) → X ≡ refusal_ending (facts_in s) t c e ∷ []
       → Steps s t c X (record { made = s.made + 1; down = s.down; threads = threads; channels = channels; connections = s.connections })
   step_turned_away X again memory is =
       step_refused s t c e X _ (elim (away.1) [ inl full ↦ subst (MayRefuse (facts_in s) t c) (sym full.error) (again full.room) | inr want ↦ subst (MayRefuse (facts_in s) t c) (sym want.error) (memory want.room want.nobody) ]) is only_counted

@@ -10,10 +10,10 @@ use Rattle.qbase.proofs.Lists.{eqb_same, is_among, or_none}
 use Rattle.qqueue.specs.Best.{is_pulse}
 use Rattle.qqueue.specs.declared.item.Item.{Item}
 use Rattle.qmodel.specs.Facts.{threads_of}
-use Rattle.qmodel.specs.Pulses.{full_for, told, told_receipt}
-use Rattle.qmodel.specs.Receivers.{newest}
-use Rattle.qmodel.specs.Rows.{Made, received, takes, takes_into}
-use Rattle.qmodel.specs.Step.{after_receipt, taken_by, taken_out, unless}
+use Rattle.qmodel.specs.Pulses.{refusal_if_full_for, ends_receiver, pulse_receipt}
+use Rattle.qmodel.specs.Receivers.{newest_receiver}
+use Rattle.qmodel.specs.Rows.{Made, item_in_mark, takes, takes_into}
+use Rattle.qmodel.specs.Step.{after_receipt, priority_taken, unreceived_items, unless}
 use Rattle.qmodel.specs.Past.{made_on}
 use Rattle.qmodel.specs.declared.call.Completion.{Completion}
 use Rattle.qmodel.specs.declared.open_call.OpenCall.{OpenCall}
@@ -23,7 +23,7 @@ use Rattle.qmodel.proofs.Rosters.{filter_map_same, rises}
 use Rattle.qmodel.proofs.Calls.Delivering.{ForAnItem, met_item, met_settled}
 use Rattle.qmodel.proofs.Past.Laws.{IsSettled}
 use Rattle.qstate.specs.Channels.{channel_in, ids_of, pending_in}
-use Rattle.qstate.specs.Endings.{inserted_if}
+use Rattle.qstate.specs.Endings.{with_ending_if}
 use Rattle.qstate.specs.Pulses.{IsLeft, IsMet, IsSentIfDue}
 use Rattle.qstate.specs.Threads.{level_in, members_of, open_in}
 use Rattle.qstate.specs.declared.channel.Channel.{Channel}
@@ -40,18 +40,18 @@ made_for h (Some item) = Some (record { item = item; channel = h })
 
 -- what has become of the threads and the channels, and how the call of its receiver ends
 pub record IsTold (s : State) (t : ℕ) (o : Option Made) (mid : List Thread) (channels : List (ℕ × Channel)) (met : Option Completion) : Type 0 where
-  pub room : full_for (facts_in s) o ≡ None
+  pub room : refusal_if_full_for (facts_in s) o ≡ None
   pub members : members_of mid ≡ members_of s.threads
-  pub open_call : (u : ℕ) → open_in mid u ≡ unless (is_some (told (facts_in s) o u)) (open_in s.threads u)
-  pub idle : told (facts_in s) o t ≡ None
-  pub priority : (u : ℕ) → level_in mid u ≡ unwrap_or (taken_by (facts_in s) (told_receipt (facts_in s) o) u) (level_in s.threads u)
-  pub senderless : (u : ℕ) (call : Option OpenCall) → after_receipt (told_receipt (facts_in s) o) u call ≡ call
+  pub open_call : (u : ℕ) → open_in mid u ≡ unless (is_some (ends_receiver (facts_in s) o u)) (open_in s.threads u)
+  pub idle : ends_receiver (facts_in s) o t ≡ None
+  pub priority : (u : ℕ) → level_in mid u ≡ unwrap_or (priority_taken (facts_in s) (pulse_receipt (facts_in s) o) u) (level_in s.threads u)
+  pub senderless : (u : ℕ) (call : Option OpenCall) → after_receipt (pulse_receipt (facts_in s) o) u call ≡ call
   pub ids : ids_of channels ≡ ids_of s.channels
   pub channel : (k : ℕ) → channel_in channels k ≡ channel_in s.channels k
-  pub pending : (k : ℕ) → pending_in channels k ≡ taken_out (told_receipt (facts_in s) o) k (pending_in s.channels k ++ made_on k o)
-  pub endings : (g : ℕ → Option Completion) → ((u : ℕ) (x : Completion) → g u ≡ Some x → x.thread ≡ u) → ((u : ℕ) → is_some (told (facts_in s) o u) ≡ true → g u ≡ None)
-      → inserted_if met (filter_map g (threads_of (members_of s.threads))) ≡ filter_map (λ u. option_or (g u) (told (facts_in s) o u)) (threads_of (members_of s.threads))
-  pub few : (g : ℕ → Option Completion) → ((u : ℕ) → is_some (told (facts_in s) o u) ≡ true → g u ≡ None) → is_some met ≡ true
+  pub pending : (k : ℕ) → pending_in channels k ≡ unreceived_items (pulse_receipt (facts_in s) o) k (pending_in s.channels k ++ made_on k o)
+  pub endings : (g : ℕ → Option Completion) → ((u : ℕ) (x : Completion) → g u ≡ Some x → x.thread ≡ u) → ((u : ℕ) → is_some (ends_receiver (facts_in s) o u) ≡ true → g u ≡ None)
+      → with_ending_if met (filter_map g (threads_of (members_of s.threads))) ≡ filter_map (λ u. option_or (g u) (ends_receiver (facts_in s) o u)) (threads_of (members_of s.threads))
+  pub few : (g : ℕ → Option Completion) → ((u : ℕ) → is_some (ends_receiver (facts_in s) o u) ≡ true → g u ≡ None) → is_some met ≡ true
       → length (filter_map g (threads_of (members_of s.threads))) + 1 ≤ length (threads_of (members_of s.threads))
 
 -- ---- none is due
@@ -74,12 +74,12 @@ untold s t = record {
 -- ---- one is due
 
 -- a receipt of a pulse is one of its number, with no bytes
-told_mark : (item : Item) (r : ℕ) (o : Option OpenCall) (y : Completion) → is_pulse item.what ≡ true → takes item [] r o ≡ Some y → received y.mark ≡ Some (item.number, 0)
+told_mark : (item : Item) (r : ℕ) (o : Option OpenCall) (y : Completion) → is_pulse item.what ≡ true → takes item [] r o ≡ Some y → item_in_mark y.mark ≡ Some (item.number, 0)
 told_mark item r None y pulse e = absurd (none-some y e)
 told_mark item r (Some o) y pulse e = by_wait o.wait e where
-  by_wait : (w : Wait) → takes_into item [] r o.number w ≡ Some y → received y.mark ≡ Some (item.number, 0)
+  by_wait : (w : Wait) → takes_into item [] r o.number w ≡ Some y → item_in_mark y.mark ≡ Some (item.number, 0)
   by_wait (Answer coid sent reply_buffer receipt) e = absurd (none-some y e)
-  by_wait (ForItem chid kind buffer) e = sym (ap (λ x. received x.mark) (same_Some _ y e)) ∙ rw pulse refl
+  by_wait (ForItem chid kind buffer) e = sym (ap (λ x. item_in_mark x.mark) (same_Some _ y e)) ∙ rw pulse refl
 
 module _ (s : State) (t h : ℕ) (item : Item) (sound : IsSound s) (free : open_in s.threads t ≡ None) (number : item.number ≡ s.made + 1) (mid : List Thread) (channels : List (ℕ × Channel)) where
   abbrev sent : Option Made
@@ -88,7 +88,7 @@ module _ (s : State) (t h : ℕ) (item : Item) (sound : IsSound s) (free : open_
   -- it waits
   told_left : IsLeft h item s.threads s.channels mid channels → IsTold s t sent mid channels None
   told_left left =
-      let none : newest (facts_in s) h item ≡ None = left.nobody in
+      let none : newest_receiver (facts_in s) h item ≡ None = left.nobody in
       record {
         room = rw (left.room) refl;
         members = ap members_of left.threads_are;
@@ -99,7 +99,7 @@ module _ (s : State) (t h : ℕ) (item : Item) (sound : IsSound s) (free : open_
         ids = left.sets.ids;
         channel = left.sets.channel;
         pending = λ k. left.sets.pending k ∙ rw none (with_item s h item sound number k);
-        endings = λ g own nothing. filter_map_same g (λ u. option_or (g u) (told (facts_in s) sent u)) (threads_of (members_of s.threads)) (λ u. rw none (sym (or_none (g u))));
+        endings = λ g own nothing. filter_map_same g (λ u. option_or (g u) (ends_receiver (facts_in s) sent u)) (threads_of (members_of s.threads)) (λ u. rw none (sym (or_none (g u))));
         few = λ g nothing e. absurd (true≢false (sym e));
       }
 
@@ -108,7 +108,7 @@ module _ (s : State) (t h : ℕ) (item : Item) (sound : IsSound s) (free : open_
     abbrev r : ℕ
     r = met.receiver
 
-    newest_is_r : newest (facts_in s) h item ≡ Some r
+    newest_is_r : newest_receiver (facts_in s) h item ≡ Some r
     newest_is_r = met.newest
 
     apart : t ≢ r
@@ -117,13 +117,13 @@ module _ (s : State) (t h : ℕ) (item : Item) (sound : IsSound s) (free : open_
     there : is_among (threads_of (members_of s.threads)) r ≡ true
     there = let w = newest_receives s.threads h item r met.newest in waits_among h item w.0 s.threads r w.1
 
-    told_is : (u : ℕ) → told (facts_in s) sent u ≡ cond (eqb u r) (Some y) None
+    told_is : (u : ℕ) → ends_receiver (facts_in s) sent u ≡ cond (eqb u r) (Some y) None
     told_is u = rw newest_is_r (elim (eqb u r) as (λ b. eqb u r ≡ b → cond b (takes item [] u (open_in s.threads u)) None ≡ cond b (Some y) None) [
       | true ↦ λ f. rw (eqb-true u r f) met.ended
       | false ↦ λ f. refl
     ] refl)
 
-    told_r : is_some (told (facts_in s) sent r) ≡ true
+    told_r : is_some (ends_receiver (facts_in s) sent r) ≡ true
     told_r = rw (told_is r, eqb_same r) refl
 
     -- the receiver waits no more
@@ -132,7 +132,7 @@ module _ (s : State) (t h : ℕ) (item : Item) (sound : IsSound s) (free : open_
 
     told_met : IsTold s t sent mid channels (Some y)
     told_met =
-        let mark : received y.mark ≡ Some (item.number, 0) = told_mark item r (open_in s.threads r) y pulse met.ended in
+        let mark : item_in_mark y.mark ≡ Some (item.number, 0) = told_mark item r (open_in s.threads r) y pulse met.ended in
         let thread : y.thread ≡ r = ended_thread item [] r (open_in s.threads r) y met.ended in
         record {
           room = rw (met.room) refl;
@@ -145,7 +145,7 @@ module _ (s : State) (t h : ℕ) (item : Item) (sound : IsSound s) (free : open_
           channel = λ k. ap (λ cs. channel_in cs k) met.channels_are;
           pending = λ k. ap (λ cs. pending_in cs k) met.channels_are ∙ rw (newest_is_r, met.ended, mark) (items_after s h item sound number k);
           endings = λ g own none. inserted_among y r thread g own (none r told_r) (threads_of (members_of s.threads)) (rises (members_of s.threads) sound.roster) there
-              ∙ filter_map_same (λ u. option_or (g u) (cond (eqb u r) (Some y) None)) (λ u. option_or (g u) (told (facts_in s) sent u)) (threads_of (members_of s.threads)) (λ u. ap (option_or (g u)) (sym (told_is u)));
+              ∙ filter_map_same (λ u. option_or (g u) (cond (eqb u r) (Some y) None)) (λ u. option_or (g u) (ends_receiver (facts_in s) sent u)) (threads_of (members_of s.threads)) (λ u. ap (option_or (g u)) (sym (told_is u)));
           few = λ g none e. endings_fewer g r (threads_of (members_of s.threads)) (none r told_r) there;
         }
 
@@ -167,14 +167,14 @@ is_told s t h (Some item) mid channels None sound free new sent = told_left s t 
 is_told s t h (Some item) mid channels (Some y) sound free new sent = told_met s t h item sound free new.0 mid channels y new.1 sent
 
 -- what meets the pulse isn't the caller
-pub not_caller : (s : State) (t u : ℕ) (o : Option Made) (mid : List Thread) (channels : List (ℕ × Channel)) (met : Option Completion) → IsTold s t o mid channels met → is_some (told (facts_in s) o u) ≡ true → u ≢ t
-not_caller s t u o mid channels met is there same = true≢false (sym there ∙ ap (λ v. is_some (told (facts_in s) o v)) same ∙ ap is_some is.idle)
+pub not_caller : (s : State) (t u : ℕ) (o : Option Made) (mid : List Thread) (channels : List (ℕ × Channel)) (met : Option Completion) → IsTold s t o mid channels met → is_some (ends_receiver (facts_in s) o u) ≡ true → u ≢ t
+not_caller s t u o mid channels met is there same = true≢false (sym there ∙ ap (λ v. is_some (ends_receiver (facts_in s) o v)) same ∙ ap is_some is.idle)
 
 -- what meets the pulse waits for an item
-pub told_waits : (s : State) (o : Option Made) (u : ℕ) (y : Completion) → told (facts_in s) o u ≡ Some y → ForAnItem (open_in s.threads u)
+pub told_waits : (s : State) (o : Option Made) (u : ℕ) (y : Completion) → ends_receiver (facts_in s) o u ≡ Some y → ForAnItem (open_in s.threads u)
 told_waits s None u y e = absurd (none-some y e)
 told_waits s (Some x) u y e = met_item (facts_in s) x.item [] (Some x.channel) u y e
 
-pub told_settled : (s : State) (o : Option Made) (u : ℕ) (y : Completion) → told (facts_in s) o u ≡ Some y → IsSettled (open_in s.threads u)
+pub told_settled : (s : State) (o : Option Made) (u : ℕ) (y : Completion) → ends_receiver (facts_in s) o u ≡ Some y → IsSettled (open_in s.threads u)
 told_settled s None u y e = absurd (none-some y e)
 told_settled s (Some x) u y e = met_settled (facts_in s) x.item [] (Some x.channel) u y e

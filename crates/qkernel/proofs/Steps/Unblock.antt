@@ -13,13 +13,13 @@ use Rattle.qtables.specs.Entries.{entry_at}
 use Rattle.qtables.specs.Members.{member_at}
 use Rattle.qtables.specs.declared.connection.Connection.{Connection}
 use Rattle.qtables.specs.declared.member.Member.{Member}
-use Rattle.qmodel.specs.Answer.{MayRefuse, ending, failed}
-use Rattle.qmodel.specs.Calls.Unblock.{due, due_of, due_on, ends, guard, guard_over}
+use Rattle.qmodel.specs.Answer.{MayRefuse, ending, refusal_ending}
+use Rattle.qmodel.specs.Calls.Unblock.{due_pulse, due_pulse_of_open, due_pulse_on, other_ending, guard, guard_over}
 use Rattle.qmodel.specs.Cutting.{cut_call, cut_where, is_unread_send}
 use Rattle.qmodel.specs.Facts.{is_in_process, threads_of}
-use Rattle.qmodel.specs.Pulses.{told_receipt, full}
+use Rattle.qmodel.specs.Pulses.{pulse_receipt, refusal_if_full}
 use Rattle.qmodel.specs.Rows.{unblock_item, Made}
-use Rattle.qmodel.specs.Step.{left_by, taken_out, unblocked_call}
+use Rattle.qmodel.specs.Step.{uncut_items, unreceived_items, unblocked_call}
 use Rattle.qmodel.specs.Past.{made_on}
 use Rattle.qmodel.specs.declared.call.Call.TheVariants.{Unblock}
 use Rattle.qmodel.specs.declared.call.Completion.{Completion}
@@ -32,9 +32,9 @@ use Rattle.qstate.specs.declared.held.Held.{Held}
 use Rattle.qstate.specs.declared.thread.Thread.{Thread}
 use Rattle.qstate.specs.Channels.{pending_in}
 use Rattle.qstate.specs.Cuts.{AreCut, LoseCut}
-use Rattle.qstate.specs.HeldIn.{guard_in, guarded_in, held_in}
+use Rattle.qstate.specs.HeldIn.{guard_in, guarded_message_in, held_message_in}
 use Rattle.qstate.specs.Pulses.{has_room}
-use Rattle.qmodel.specs.Receivers.{newest}
+use Rattle.qmodel.specs.Receivers.{newest_receiver}
 use Rattle.qstate.specs.Threads.{members_of, newest_in, open_in, MarksUnblocked}
 use Rattle.qkernel.specs.State.{State, IsSound, facts_in}
 use Rattle.qkernel.specs.Stands.{Steps}
@@ -49,12 +49,12 @@ use Rattle.qkernel.proofs.Steps.Told.{IsNew}
 
 -- no channel guards what the open call waits for, and no pulse is due
 record Unguarded (s : State) (o : Option OpenCall) : Type 0 where
-  none_due : due_of (facts_in s) o ≡ None
+  none_due : due_pulse_of_open (facts_in s) o ≡ None
   unguarded : (w : OpenCall) → o ≡ Some w → guard (facts_in s) w.wait ≡ None
 
 -- channel h guards it, and the pulse is the one for that message
 record Guarded (s : State) (o : Option OpenCall) (held : Held) (h : ℕ) : Type 0 where
-  due_is : due_of (facts_in s) o ≡ due_on (s.made + 1) held.rcvid held.receipt (Some h)
+  due_is : due_pulse_of_open (facts_in s) o ≡ due_pulse_on (s.made + 1) held.rcvid held.receipt (Some h)
   guarded : (w : OpenCall) → o ≡ Some w → guard (facts_in s) w.wait ≡ Some h
 
 guard_same : (s : State) (o : Option Connection) → guard_over (facts_in s) o ≡ guard_in s.channels o
@@ -69,40 +69,40 @@ some_with : (held : Held) (o : Option ℕ) (g : Held × ℕ) → option_map {U =
 some_with held None g e = absurd (none-some g e)
 some_with held (Some h) g e = let same = same_Some (held, h) g e in (ap (λ x. Some x.1) same, ap (λ x. x.0) same)
 
-none_guards : (s : State) (o : Option OpenCall) → guarded_in s.connections s.channels (held_in o) ≡ None → Unguarded s o
+none_guards : (s : State) (o : Option OpenCall) → guarded_message_in s.connections s.channels (held_message_in o) ≡ None → Unguarded s o
 none_guards s None e = record { none_due = refl; unguarded = λ w is. absurd (none-some w is) }
 none_guards s (Some o) e = by_wait o.number o.wait e where
-  by_wait : (n : ℕ) (w : Wait) → guarded_in s.connections s.channels (held_in (Some (record { number = n; wait = w }))) ≡ None → Unguarded s (Some (record { number = n; wait = w }))
+  by_wait : (n : ℕ) (w : Wait) → guarded_message_in s.connections s.channels (held_message_in (Some (record { number = n; wait = w }))) ≡ None → Unguarded s (Some (record { number = n; wait = w }))
   by_wait n (Answer coid message reply_buffer None) e = record { none_due = refl; unguarded = λ v is. ap (λ (x : OpenCall). guard (facts_in s) x.wait) (sym (same_Some _ v is)) }
   by_wait n (ForItem chid kind buffer) e = record { none_due = refl; unguarded = λ v is. ap (λ (x : OpenCall). guard (facts_in s) x.wait) (sym (same_Some _ v is)) }
   by_wait n (Answer coid message reply_buffer (Some receipt)) e =
       let none : guard_over (facts_in s) (entry_at s.connections coid) ≡ None = guard_same s (entry_at s.connections coid) ∙ none_with (record { rcvid = n; coid = coid; receipt = receipt }) (guard_in s.channels (entry_at s.connections coid)) e in
-      record { none_due = ap (due_on (s.made + 1) n receipt) none; unguarded = λ v is. ap (λ (x : OpenCall). guard (facts_in s) x.wait) (sym (same_Some _ v is)) ∙ none }
+      record { none_due = ap (due_pulse_on (s.made + 1) n receipt) none; unguarded = λ v is. ap (λ (x : OpenCall). guard (facts_in s) x.wait) (sym (same_Some _ v is)) ∙ none }
 
-one_guards : (s : State) (o : Option OpenCall) (g : Held × ℕ) → guarded_in s.connections s.channels (held_in o) ≡ Some g → Guarded s o g.0 g.1
+one_guards : (s : State) (o : Option OpenCall) (g : Held × ℕ) → guarded_message_in s.connections s.channels (held_message_in o) ≡ Some g → Guarded s o g.0 g.1
 one_guards s None g e = absurd (none-some g e)
 one_guards s (Some o) g e = by_wait o.number o.wait e where
-  by_wait : (n : ℕ) (w : Wait) → guarded_in s.connections s.channels (held_in (Some (record { number = n; wait = w }))) ≡ Some g → Guarded s (Some (record { number = n; wait = w })) g.0 g.1
+  by_wait : (n : ℕ) (w : Wait) → guarded_message_in s.connections s.channels (held_message_in (Some (record { number = n; wait = w }))) ≡ Some g → Guarded s (Some (record { number = n; wait = w })) g.0 g.1
   by_wait n (Answer coid message reply_buffer None) e = absurd (none-some g e)
   by_wait n (ForItem chid kind buffer) e = absurd (none-some g e)
   by_wait n (Answer coid message reply_buffer (Some receipt)) e =
       let k = some_with (record { rcvid = n; coid = coid; receipt = receipt }) (guard_in s.channels (entry_at s.connections coid)) g e in
       let some : guard_over (facts_in s) (entry_at s.connections coid) ≡ Some g.1 = guard_same s (entry_at s.connections coid) ∙ k.0 in
       record {
-        due_is = ap (due_on (s.made + 1) n receipt) some ∙ ap (λ (x : Held). due_on (s.made + 1) x.rcvid x.receipt (Some g.1)) k.1;
+        due_is = ap (due_pulse_on (s.made + 1) n receipt) some ∙ ap (λ (x : Held). due_pulse_on (s.made + 1) x.rcvid x.receipt (Some g.1)) k.1;
         guarded = λ v is. ap (λ (x : OpenCall). guard (facts_in s) x.wait) (sym (same_Some _ v is)) ∙ some;
       }
 
 -- ---- the step
 
 module _ (s : State) (t thread : ℕ) (m : Member) (sound : IsSound s) (known : member_at (members_of s.threads) t ≡ Some m) (up : s.down ≡ false) (free : open_in s.threads t ≡ None) where
-  pub step_unblock_refused : (X : List Completion) → is_in_process m.process (member_at (members_of s.threads) thread) ≡ false → X ≡ failed (facts_in s) t (Unblock thread) Srch ∷ []
+  pub step_unblock_refused : (X : List Completion) → is_in_process m.process (member_at (members_of s.threads) thread) ≡ false → X ≡ refusal_ending (facts_in s) t (Unblock thread) Srch ∷ []
       → Steps s t (Unblock thread) X (counted s)
   step_unblock_refused X other is = step_refused_alone s t (Unblock thread) Srch X (inl (rw (up, free, known, other) refl)) is
 
   module _ (fellow : is_in_process m.process (member_at (members_of s.threads) thread) ≡ true) where
     -- the thread's open call is cut
-    module _ (none : guarded_in s.connections s.channels (held_in (open_in s.threads thread)) ≡ None) where
+    module _ (none : guarded_message_in s.connections s.channels (held_message_in (open_in s.threads thread)) ≡ None) where
       k : Unguarded s (open_in s.threads thread)
       k = none_guards s (open_in s.threads thread) none
 
@@ -113,10 +113,10 @@ module _ (s : State) (t thread : ℕ) (m : Member) (sound : IsSound s) (known : 
         | false ↦ λ other. refl
       ] refl
 
-      ends_one : (u : ℕ) → ends (facts_in s) thread (due (facts_in s) thread) u ≡ cut_where (λ wait. eqb u thread) Intr u (open_in s.threads u)
-      ends_one u = ap (λ d. ends (facts_in s) thread d u) k.none_due ∙ cut_same u (open_in s.threads u) refl
+      ends_one : (u : ℕ) → other_ending (facts_in s) thread (due_pulse (facts_in s) thread) u ≡ cut_where (λ wait. eqb u thread) Intr u (open_in s.threads u)
+      ends_one u = ap (λ d. other_ending (facts_in s) thread d u) k.none_due ∙ cut_same u (open_in s.threads u) refl
 
-      ends_same : ends (facts_in s) thread (due (facts_in s) thread) ≡ (λ u. cut_where (λ wait. eqb u thread) Intr u (open_in s.threads u))
+      ends_same : other_ending (facts_in s) thread (due_pulse (facts_in s) thread) ≡ (λ u. cut_where (λ wait. eqb u thread) Intr u (open_in s.threads u))
       ends_same = λ i u. ends_one u i
 
       pub step_unblock_cut : (threads : List Thread) (channels : List (ℕ × Channel)) (X : List Completion) → AreCut (entry_at s.connections) (Of thread) Intr s.threads threads
@@ -141,21 +141,21 @@ module _ (s : State) (t thread : ℕ) (m : Member) (sound : IsSound s) (known : 
             open_call = λ u. open_after s t (Of thread) Intr threads u free are ∙ rw (ends_one u, k.none_due, and-false (eqb u thread)) refl;
             pending = λ h. lose.pending h
                 ∙ ap (λ (g : ℕ → Option Completion). filter (λ item. not (list_any (λ v. is_unread_send (entry_at s.connections) h item.number (open_in s.threads v) && is_some (g v)) (threads_of (members_of s.threads)))) (pending_in s.channels h)) (sym ends_same)
-                ∙ ap (left_by (facts_in s) t (Unblock thread) h) (sym (append-nil (pending_in s.channels h)))
-                ∙ ap (λ o. taken_out (told_receipt (facts_in s) o) h (left_by (facts_in s) t (Unblock thread) h (pending_in s.channels h ++ made_on h o))) (sym k.none_due);
+                ∙ ap (uncut_items (facts_in s) t (Unblock thread) h) (sym (append-nil (pending_in s.channels h)))
+                ∙ ap (λ o. unreceived_items (pulse_receipt (facts_in s) o) h (uncut_items (facts_in s) t (Unblock thread) h (pending_in s.channels h ++ made_on h o))) (sym k.none_due);
             priority = λ u. are.priority u ∙ rw (k.none_due) refl;
           };
         },
       )
 
     -- a channel guards its message
-    module _ (g : Held × ℕ) (guards : guarded_in s.connections s.channels (held_in (open_in s.threads thread)) ≡ Some g) where
+    module _ (g : Held × ℕ) (guards : guarded_message_in s.connections s.channels (held_message_in (open_in s.threads thread)) ≡ Some g) where
       q : Guarded s (open_in s.threads thread) g.0 g.1
       q = one_guards s (open_in s.threads thread) g guards
 
       -- which had its pulse
       module _ (told : g.0.receipt.unblocked ≡ true) where
-        none_due : due (facts_in s) thread ≡ None
+        none_due : due_pulse (facts_in s) thread ≡ None
         none_due = q.due_is ∙ rw told refl
 
         uncut_where : (u : ℕ) (o : Option OpenCall) → open_in s.threads u ≡ o → cut_where (λ wait. eqb u thread && not (is_some (guard (facts_in s) wait))) Intr u o ≡ None
@@ -165,8 +165,8 @@ module _ (s : State) (t thread : ℕ) (m : Member) (sound : IsSound s) (known : 
           | false ↦ λ other. refl
         ] refl
 
-        ends_none : (u : ℕ) → ends (facts_in s) thread (due (facts_in s) thread) u ≡ None
-        ends_none u = ap (λ d. ends (facts_in s) thread d u) none_due ∙ uncut_where u (open_in s.threads u) refl
+        ends_none : (u : ℕ) → other_ending (facts_in s) thread (due_pulse (facts_in s) thread) u ≡ None
+        ends_none u = ap (λ d. other_ending (facts_in s) thread d u) none_due ∙ uncut_where u (open_in s.threads u) refl
 
         pub step_unblock_again : (X : List Completion) → X ≡ mine s t ∷ [] → Steps s t (Unblock thread) X (counted s)
         step_unblock_again X is = (
@@ -194,25 +194,25 @@ module _ (s : State) (t thread : ℕ) (m : Member) (sound : IsSound s) (known : 
 
       -- which is told now, by this pulse
       module _ (first : g.0.receipt.unblocked ≡ false) (pulse : Item) (is_pulse : pulse ≡ unblock_item (s.made + 1) g.0.receipt.priority g.0.rcvid) where
-        due_is : due (facts_in s) thread ≡ Some (record { item = pulse; channel = g.1 })
+        due_is : due_pulse (facts_in s) thread ≡ Some (record { item = pulse; channel = g.1 })
         due_is = q.due_is ∙ rw (first, is_pulse) refl
 
         pub unblock_full : has_room s.channels g.1 ≡ false → MayRefuse (facts_in s) t (Unblock thread) Again
-        unblock_full full = inl (rw (up, free, known, fellow, due_is, full) refl)
+        unblock_full refusal_if_full = inl (rw (up, free, known, fellow, due_is, refusal_if_full) refl)
 
         pub unblock_memory : has_room s.channels g.1 ≡ true → newest_in g.1 pulse s.threads ≡ None → MayRefuse (facts_in s) t (Unblock thread) NoMemory
         unblock_memory room nobody =
-            let none : newest (facts_in s) g.1 pulse ≡ None = nobody in
+            let none : newest_receiver (facts_in s) g.1 pulse ≡ None = nobody in
             inr (rw (up, free, known, fellow, due_is, room) refl, rw (due_is, none) refl, refl)
 
-        pub tells_unblock : full (facts_in s) g.1 ≡ None → Tells s t (Unblock thread) (Some (record { item = pulse; channel = g.1 }))
+        pub tells_unblock : refusal_if_full (facts_in s) g.1 ≡ None → Tells s t (Unblock thread) (Some (record { item = pulse; channel = g.1 }))
         tells_unblock room = record {
           quiet = record { closes_none = refl; detaches_none = refl; stays_up = refl; creates_none = rw known refl; attaches_none = rw known refl; sets_none = refl; writes_none = refl };
           passed = rw (up, free, known, fellow, due_is, room) refl;
           made = due_is;
           own = refl;
-          ends = λ u. ap (λ d. ends (facts_in s) thread d u) due_is;
-          receipt = ap (told_receipt (facts_in s)) due_is;
+          ends = λ u. ap (λ d. other_ending (facts_in s) thread d u) due_is;
+          receipt = ap (pulse_receipt (facts_in s)) due_is;
         }
 
 -- the pulse is one of the call's number

@@ -4,7 +4,7 @@ ghost use Rattle.std.specs.Prelude.{◌≡◌, ◌++◌, List, Some, IfOk, OnOk}
 ghost use Rattle.std.specs.Option.{option_to_list};
 ghost use Rattle.qtables.specs.Entries.{entry_at};
 ghost use Rattle.qtables.specs.declared.member.Member.{Member};
-ghost use Rattle.qmodel.specs.Blocked.{told_of, blocked_at};
+ghost use Rattle.qmodel.specs.Blocked.{blocked_thread, blocked_threads_at};
 ghost use Rattle.qmodel.specs.Trace.{Trace};
 
 use super::Kernel;
@@ -21,7 +21,7 @@ fn tell(
     connections: &Connections,
     thread: &Thread,
 ) -> Result<(), AllocError>
-    ensures { OnOk result (list.new.items ≡ list.old.items ++ option_to_list (told_of (entry_at connections.now) thread.now.member.thread thread.now.open_call)) }
+    ensures { OnOk result (list.new.items ≡ list.old.items ++ option_to_list (blocked_thread (entry_at connections.now) thread.now.member.thread thread.now.open_call)) }
 {
     if let Some(call) = &thread.open_call {
         let state: ThreadState = state_of_wait(connections, &call.wait);
@@ -40,7 +40,7 @@ impl Kernel {
     /// The threads that are blocked, in rising number, for a text of what a run left. The list is all that
     /// takes memory.
     pub fn blocked(&self, alloc: Global) -> Result<Vec<Blocked>, AllocError>
-        ensures { (roster : List Member) (past : Trace) → StandsAt roster self.now past → IfOk result (λ list. list.items ≡ blocked_at roster past) }
+        ensures { (roster : List Member) (past : Trace) → StandsAt roster self.now past → IfOk result (λ list. list.items ≡ blocked_threads_at roster past) }
     {
         let mut list = Vec::new(alloc);
         for thread in &self.threads {

@@ -1,8 +1,8 @@
 //! Error.
 
 ghost use Rattle.std.specs.Prelude.{◌≡◌};
-ghost use Rattle.qmodel.specs.Calls.Error.{errored, mark_of};
-ghost use Rattle.qmodel.specs.Held.{finished};
+ghost use Rattle.qmodel.specs.Calls.Error.{error_finish, mark_of};
+ghost use Rattle.qmodel.specs.Held.{answer_ending};
 
 use super::Kernel;
 use super::turn::Turn;
@@ -29,7 +29,7 @@ fn mark(code: i32) -> Mark
 
 /// How an open Send ends that is answered with a code; none where the call is no Send.
 fn errored_to(call: Option<OpenCall>, thread: ThreadNo, code: i32) -> Option<Completion>
-    ensures { result ≡ finished (errored code) thread call }
+    ensures { result ≡ answer_ending (error_finish code) thread call }
 {
     let OpenCall { number: sent, wait } = call?;
     match wait {

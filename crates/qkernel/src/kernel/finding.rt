@@ -5,7 +5,7 @@ ghost use Rattle.qmodel.specs.Facts.{is_send};
 ghost use Rattle.qstate.specs.HeldIn.{is_held_in};
 ghost use Rattle.qmodel.specs.Facts.{is_in_process};
 ghost use Rattle.qtables.specs.Members.{member_at};
-ghost use Rattle.qstate.specs.HeldIn.{guarded_in, held_in};
+ghost use Rattle.qstate.specs.HeldIn.{guarded_message_in, held_message_in};
 ghost use Rattle.qstate.specs.Threads.{members_of, open_in, seat_in};
 
 use super::Kernel;
@@ -48,7 +48,7 @@ impl Kernel {
     /// unblock flag, and that channel.
     pub(super) fn guarded(&self, seat: usize, thread: ThreadNo) -> Option<(Held, ChannelId)>
         requires { seat_in self.now.threads thread ≡ Some seat }
-        ensures { result ≡ guarded_in self.now.connections self.now.channels (held_in (open_in self.now.threads thread)) }
+        ensures { result ≡ guarded_message_in self.now.connections self.now.channels (held_message_in (open_in self.now.threads thread)) }
     {
         guarded(
             &self.threads,

@@ -1,8 +1,8 @@
 //! Reply.
 
 ghost use Rattle.std.specs.Prelude.{◌≡◌};
-ghost use Rattle.qmodel.specs.Calls.Reply.{replied};
-ghost use Rattle.qmodel.specs.Held.{finished};
+ghost use Rattle.qmodel.specs.Calls.Reply.{reply_finish};
+ghost use Rattle.qmodel.specs.Held.{answer_ending};
 
 use super::Kernel;
 use super::turn::Turn;
@@ -21,7 +21,7 @@ fn replied_to(
     status: i64,
     bytes: &Bytes,
 ) -> Option<Completion>
-    ensures { result ≡ finished (replied status bytes.now) thread call }
+    ensures { result ≡ answer_ending (reply_finish status bytes.now) thread call }
 {
     let OpenCall { number: sent, wait } = call?;
     match wait {

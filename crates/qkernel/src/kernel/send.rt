@@ -2,7 +2,7 @@
 
 ghost use Rattle.std.specs.Prelude.{◌≡◌, Some, false, option_map, IfSome};
 ghost use Rattle.qqueue.specs.Best.{is_pulse};
-ghost use Rattle.qmodel.specs.Rows.{takes, received};
+ghost use Rattle.qmodel.specs.Rows.{takes, item_in_mark};
 
 use super::Kernel;
 use super::turn::Turn;
@@ -26,7 +26,7 @@ fn taken(
 ) -> Option<(Completion, usize)>
     requires { is_pulse item.now.what ≡ false }
     ensures ended { option_map (λ r. r.0) result ≡ takes item.now message.now thread call }
-    ensures copied { IfSome result (λ r. received r.0.mark ≡ Some (item.now.number, r.1)) }
+    ensures copied { IfSome result (λ r. item_in_mark r.0.mark ≡ Some (item.now.number, r.1)) }
 {
     let OpenCall {
         number: waited,

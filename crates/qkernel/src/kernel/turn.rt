@@ -1,7 +1,7 @@
 //! Whose turn it is, and how its call ends.
 
 ghost use Rattle.std.specs.Prelude.{◌≡◌, ◌+◌, ◌<◌, ◌^◌, [], ◌∷◌, Some};
-ghost use Rattle.qstate.specs.Endings.{inserted, inserted_if};
+ghost use Rattle.qstate.specs.Endings.{with_ending_in_place, with_ending_if};
 ghost use Rattle.qstate.specs.Threads.{seat_in, SetsOpen};
 
 use qbase::bytes::Bytes;
@@ -80,7 +80,7 @@ impl Turn {
     /// Ends the caller's call, and with it another's.
     pub(crate) fn end_both(&self, endings: &mut Endings, other: Completion)
         requires { endings.old.items ≡ [] }
-        ensures { endings.new.items ≡ inserted other (record { call = self.now.made + 1; thread = self.now.thread; mark = Mark.Ok; buffer = [] } ∷ []) }
+        ensures { endings.new.items ≡ with_ending_in_place other (record { call = self.now.made + 1; thread = self.now.thread; mark = Mark.Ok; buffer = [] } ∷ []) }
     {
         end_two(endings, self.ending(Mark::Ok), other);
     }
@@ -88,7 +88,7 @@ impl Turn {
     /// Ends the caller's call, and with it another's, if one ends.
     pub(crate) fn end_with(&self, endings: &mut Endings, other: Option<Completion>)
         requires { endings.old.items ≡ [] }
-        ensures { endings.new.items ≡ inserted_if other (record { call = self.now.made + 1; thread = self.now.thread; mark = Mark.Ok; buffer = [] } ∷ []) }
+        ensures { endings.new.items ≡ with_ending_if other (record { call = self.now.made + 1; thread = self.now.thread; mark = Mark.Ok; buffer = [] } ∷ []) }
     {
         end_with(endings, self.ending(Mark::Ok), other);
     }

@@ -8,12 +8,12 @@ use Rattle.qbase.specs.declared.errno.Errno.TheVariants.{Badf, Inval}
 use Rattle.qqueue.specs.Best.{is_pulse}
 use Rattle.qtables.specs.declared.connection.Connection.{Connection}
 use Rattle.qmodel.specs.Answer.{row_of}
-use Rattle.qmodel.specs.Calls.ConnectDetach.{connections_between, due, due_of, ends, is_own, refusal}
+use Rattle.qmodel.specs.Calls.ConnectDetach.{connections_between, due_pulse, due_pulse_over, other_ending, is_own, refusal}
 use Rattle.qmodel.specs.Cutting.{cut_where, is_over}
 use Rattle.qmodel.specs.Facts.{Facts, OpenChannel, tells_disconnect}
 use Rattle.qmodel.specs.Past.{is_unblock_for}
-use Rattle.qmodel.specs.Pulses.{full_for, told, told_receipt}
-use Rattle.qmodel.specs.Rows.{Made, Received, disconnect_item, received}
+use Rattle.qmodel.specs.Pulses.{refusal_if_full_for, ends_receiver, pulse_receipt}
+use Rattle.qmodel.specs.Rows.{Made, Received, disconnect_item, item_in_mark}
 use Rattle.qmodel.specs.declared.call.Call.TheVariants.{ConnectDetach}
 use Rattle.qmodel.specs.declared.call.Completion.{Completion}
 use Rattle.qmodel.proofs.Past.Laws.{CallLaws, IsOfOpen, IsOwn, IsReceipt, IsReceived, Passes, RowLaws}
@@ -29,7 +29,7 @@ pub record IsDue (f : Facts) (t : ℕ) (o : Option Connection) (m : Made) : Type
   pub tells : tells_disconnect (f.channel m.channel) ≡ true
   pub made : record { item = disconnect_item f.number (f.priority t) connection.process; channel = m.channel } ≡ m
 
-pub due_parts : (f : Facts) (t : ℕ) (o : Option Connection) (m : Made) → due_of f t o ≡ Some m → IsDue f t o m
+pub due_parts : (f : Facts) (t : ℕ) (o : Option Connection) (m : Made) → due_pulse_over f t o ≡ Some m → IsDue f t o m
 due_parts f t None m e = absurd (none-some m e)
 due_parts f t (Some c) m e =
     let last = tells_disconnect (f.channel c.channel) && eqb (connections_between f c.process c.channel) 1 in
@@ -46,8 +46,8 @@ due_parts f t (Some c) m e =
     ] refl e
 
 -- it is a pulse
-pub due_pulse : (f : Facts) (t k : ℕ) (m : Made) → due f t k ≡ Some m → is_pulse m.item.what ≡ true
-due_pulse f t k m e = ap (λ x. is_pulse x.item.what) (sym (due_parts f t (f.connection k) m e).made)
+pub due_is_pulse : (f : Facts) (t k : ℕ) (m : Made) → due_pulse f t k ≡ Some m → is_pulse m.item.what ≡ true
+due_is_pulse f t k m e = ap (λ x. is_pulse x.item.what) (sym (due_parts f t (f.connection k) m e).made)
 
 -- a channel that tells anything is open
 tells_open : (o : Option OpenChannel) → tells_disconnect o ≡ true → is_some o ≡ true
@@ -55,8 +55,8 @@ tells_open None e = absurd (true≢false (sym e))
 tells_open (Some c) e = refl
 
 -- an accepted ConnectDetach finds room for its pulse
-pub own_passes : (f : Facts) (t k : ℕ) → refusal f t k ≡ None → full_for f (due f t k) ≡ None
-own_passes f t k r = elim (is_own f t (f.connection k)) as (λ b. cond b (full_for f (due f t k)) (Some Inval) ≡ None → full_for f (due f t k) ≡ None) [
+pub own_passes : (f : Facts) (t k : ℕ) → refusal f t k ≡ None → refusal_if_full_for f (due_pulse f t k) ≡ None
+own_passes f t k r = elim (is_own f t (f.connection k)) as (λ b. cond b (refusal_if_full_for f (due_pulse f t k)) (Some Inval) ≡ None → refusal_if_full_for f (due_pulse f t k) ≡ None) [
   | true ↦ λ s. s
   | false ↦ λ s. absurd (none-some Inval (sym s))
 ] r
@@ -64,9 +64,9 @@ own_passes f t k r = elim (is_own f t (f.connection k)) as (λ b. cond b (full_f
 -- ---- what it ends
 
 -- another's call that it ends is cut, or meets the pulse
-pub detach_ends : (f : Facts) (k : ℕ) (o : Option Made) (u : ℕ) (y : Completion) → ends f k o u ≡ Some y → IsCutCall (is_over k) Badf u (f.open_call u) y ⊎ (told f o u ≡ Some y)
+pub detach_ends : (f : Facts) (k : ℕ) (o : Option Made) (u : ℕ) (y : Completion) → other_ending f k o u ≡ Some y → IsCutCall (is_over k) Badf u (f.open_call u) y ⊎ (ends_receiver f o u ≡ Some y)
 detach_ends f k o u y e =
-    elim (cut_where (is_over k) Badf u (f.open_call u)) as (λ x. cut_where (is_over k) Badf u (f.open_call u) ≡ x → option_or x (told f o u) ≡ Some y → IsCutCall (is_over k) Badf u (f.open_call u) y ⊎ (told f o u ≡ Some y)) [
+    elim (cut_where (is_over k) Badf u (f.open_call u)) as (λ x. cut_where (is_over k) Badf u (f.open_call u) ≡ x → option_or x (ends_receiver f o u) ≡ Some y → IsCutCall (is_over k) Badf u (f.open_call u) y ⊎ (ends_receiver f o u ≡ Some y)) [
       | None ↦ λ none s. inr s
       | Some x ↦ λ some s. inl (cut_parts (is_over k) Badf u (f.open_call u) y (some ∙ s))
     ] refl e
@@ -87,41 +87,41 @@ call_laws coid = record {
 }
 
 module _ (f : Facts) (t coid : ℕ) (p : Passes f t (ConnectDetach coid)) where
-  ended : (u : ℕ) (y : Completion) → ends f coid (due f t coid) u ≡ Some y → IsCutCall (is_over coid) Badf u (f.open_call u) y ⊎ (told f (due f t coid) u ≡ Some y)
-  ended u y e = detach_ends f coid (due f t coid) u y e
+  ended : (u : ℕ) (y : Completion) → other_ending f coid (due_pulse f t coid) u ≡ Some y → IsCutCall (is_over coid) Badf u (f.open_call u) y ⊎ (ends_receiver f (due_pulse f t coid) u ≡ Some y)
+  ended u y e = detach_ends f coid (due_pulse f t coid) u y e
 
   cut_open : (u : ℕ) (y : Completion) → IsCutCall (is_over coid) Badf u (f.open_call u) y → IsOfOpen f u y
   cut_open u y k = record { waiting = k.waiting; is = k.is; call = sym (ap (λ x. x.call) k.ending); thread = sym (ap (λ x. x.thread) k.ending) }
 
-  told_open : (o : Option Made) (u : ℕ) (y : Completion) → told f o u ≡ Some y → IsOfOpen f u y
+  told_open : (o : Option Made) (u : ℕ) (y : Completion) → ends_receiver f o u ≡ Some y → IsOfOpen f u y
   told_open None u y e = absurd (none-some y e)
   told_open (Some m) u y e = met_open f m.item [] (Some m.channel) u y e
 
-  told_one : (o : Option Made) → due f t coid ≡ o → (u : ℕ) (y : Completion) (q : ℕ × ℕ) → told f o u ≡ Some y → received y.mark ≡ Some q → IsReceipt (row_of f t (ConnectDetach coid)) u q
+  told_one : (o : Option Made) → due_pulse f t coid ≡ o → (u : ℕ) (y : Completion) (q : ℕ × ℕ) → ends_receiver f o u ≡ Some y → item_in_mark y.mark ≡ Some q → IsReceipt (row_of f t (ConnectDetach coid)) u q
   told_one None is u y q e m = absurd (none-some y e)
-  told_one (Some m) is u y q e mark = met_receipt f t (Some m.channel) (ConnectDetach coid) m.item [] None (ap (told_receipt f) is) u y q e mark
+  told_one (Some m) is u y q e mark = met_receipt f t (Some m.channel) (ConnectDetach coid) m.item [] None (ap (pulse_receipt f) is) u y q e mark
 
   -- what meets the pulse isn't cut
-  met_ends : (m : Made) → due f t coid ≡ Some m → (u : ℕ) (y : Completion) → told f (Some m) u ≡ Some y → ends f coid (due f t coid) u ≡ Some y
+  met_ends : (m : Made) → due_pulse f t coid ≡ Some m → (u : ℕ) (y : Completion) → ends_receiver f (Some m) u ≡ Some y → other_ending f coid (due_pulse f t coid) u ≡ Some y
   met_ends m is u y e =
       let k = met_item f m.item [] (Some m.channel) u y e in
       let uncut : cut_where (is_over coid) Badf u (f.open_call u) ≡ None = rw (k.is, k.waits) refl in
-      ap (λ x. option_or x (told f (due f t coid) u)) uncut ∙ ap (λ o. told f o u) is ∙ e
+      ap (λ x. option_or x (ends_receiver f (due_pulse f t coid) u)) uncut ∙ ap (λ o. ends_receiver f o u) is ∙ e
 
-  receives : (o : Option Made) → due f t coid ≡ o → (q : Received) → told_receipt f o ≡ Some q → IsReceived f t (ConnectDetach coid) q
+  receives : (o : Option Made) → due_pulse f t coid ≡ o → (q : Received) → pulse_receipt f o ≡ Some q → IsReceived f t (ConnectDetach coid) q
   receives None is q e = absurd (none-some q e)
-  receives (Some m) is q e = met_received f t (Some m.channel) (ConnectDetach coid) m.item [] None (ap (told_receipt f) is) (met_ends m is) p.idle
-      (λ h s. subst (λ k. due f t coid ≡ Some (record { item = m.item; channel = k })) (same_Some m.channel h s) is) refl q (ap (told_receipt f) is ∙ e)
+  receives (Some m) is q e = met_received f t (Some m.channel) (ConnectDetach coid) m.item [] None (ap (pulse_receipt f) is) (met_ends m is) p.idle
+      (λ h s. subst (λ k. due_pulse f t coid ≡ Some (record { item = m.item; channel = k })) (same_Some m.channel h s) is) refl q (ap (pulse_receipt f) is ∙ e)
 
   pub row_laws : RowLaws f t (ConnectDetach coid)
   row_laws = record {
     owns = λ y e. subst (IsOwn f.number t) (same_Some _ y e) (record { call = refl; thread = refl; mark = refl });
-    ends_open = λ u y e. elim (ended u y e) [ inl k ↦ cut_open u y k | inr s ↦ told_open (due f t coid) u y s ];
+    ends_open = λ u y e. elim (ended u y e) [ inl k ↦ cut_open u y k | inr s ↦ told_open (due_pulse f t coid) u y s ];
     ends_settled = λ mild. absurd (true≢false mild);
-    own_receives = λ y q e m. absurd (none-some q (ap (λ x. received x.mark) (same_Some _ y e) ∙ m));
-    ends_receives = λ u y q e m. elim (ended u y e) [ inl k ↦ absurd (none-some q (ap (λ x. received x.mark) k.ending ∙ m)) | inr s ↦ told_one (due f t coid) refl u y q s m ];
-    receives = λ q e. receives (due f t coid) refl q e;
-    sends = λ m e sent. absurd (true≢false (sym (due_pulse f t coid m e) ∙ sent));
+    own_receives = λ y q e m. absurd (none-some q (ap (λ x. item_in_mark x.mark) (same_Some _ y e) ∙ m));
+    ends_receives = λ u y q e m. elim (ended u y e) [ inl k ↦ absurd (none-some q (ap (λ x. item_in_mark x.mark) k.ending ∙ m)) | inr s ↦ told_one (due_pulse f t coid) refl u y q s m ];
+    receives = λ q e. receives (due_pulse f t coid) refl q e;
+    sends = λ m e sent. absurd (true≢false (sym (due_is_pulse f t coid m e) ∙ sent));
     makes_open = λ m e. tells_open (f.channel m.channel) (due_parts f t (f.connection coid) m e).tells;
     writes_sent = λ w e. absurd (none-some w e);
   }

@@ -8,7 +8,7 @@ use Rattle.qmodel.specs.Answer.{row_of}
 use Rattle.qmodel.specs.Cutting.{cut_call, cut_where, cuts}
 use Rattle.qmodel.specs.Facts.{Facts, sender}
 use Rattle.qmodel.specs.Effects.{makes, writes}
-use Rattle.qmodel.specs.Rows.{Written, received}
+use Rattle.qmodel.specs.Rows.{Written, item_in_mark}
 use Rattle.qmodel.specs.declared.call.Call.{Call}
 use Rattle.qmodel.specs.declared.call.Completion.{Completion}
 use Rattle.qmodel.specs.declared.open_call.OpenCall.{OpenCall}
@@ -41,7 +41,7 @@ cutting f t c is_cut e force own ends receipt made written =
       ends_open = λ u y s. let k = ended u y s in record { waiting = k.waiting; is = k.is; call = sym (ap (λ x. x.call) k.ending); thread = sym (ap (λ x. x.thread) k.ending) };
       ends_settled = λ mild u y s. absurd (true≢false (sym force ∙ mild));
       own_receives = λ y q s m. absurd (none-some q (sym (own y s).mark ∙ m));
-      ends_receives = λ u y q s m. absurd (none-some q (ap (λ x. received x.mark) (ended u y s).ending ∙ m));
+      ends_receives = λ u y q s m. absurd (none-some q (ap (λ x. item_in_mark x.mark) (ended u y s).ending ∙ m));
       receives = λ r s. absurd (none-some r (sym receipt ∙ s));
       sends = λ m s message. absurd (none-some m (sym made ∙ s));
       makes_open = λ m s. absurd (none-some m (sym made ∙ s));

@@ -8,11 +8,11 @@ use Rattle.qqueue.specs.declared.item.Item.{Item}
 use Rattle.qqueue.specs.declared.item.Kind.{Kind}
 use Rattle.qtables.specs.declared.connection.Connection.{Connection}
 use Rattle.qmodel.specs.Answer.{row_of, ending}
-use Rattle.qmodel.specs.Delivering.{meets, receiver, receipt_by, received_of}
+use Rattle.qmodel.specs.Delivering.{meets, receiver, receipt_by, receipt_when_sent}
 use Rattle.qmodel.specs.Facts.{Facts, leads_to, way}
-use Rattle.qmodel.specs.Receivers.{newest}
+use Rattle.qmodel.specs.Receivers.{newest_receiver}
 use Rattle.qmodel.specs.Effects.{asks, makes}
-use Rattle.qmodel.specs.Rows.{Received, Made, received, receipt_in, sent_over, takes, takes_into, taking}
+use Rattle.qmodel.specs.Rows.{Received, Made, item_in_mark, receipt_in, item_sent_over, takes, takes_into, receipt_ending}
 use Rattle.qmodel.specs.declared.call.Call.{Call}
 use Rattle.qmodel.specs.declared.call.Completion.{Completion}
 use Rattle.qmodel.specs.declared.open_call.OpenCall.{OpenCall}
@@ -24,7 +24,7 @@ use Rattle.qmodel.proofs.Calls.Taking.{Taken, taken_by, receipt_from, receipt_in
 use Rattle.qmodel.proofs.Ways.{leads_over}
 
 -- what goes over a connection is the item
-pub sent_item : (o : Option Connection) (item : Item) (m : Made) → sent_over o item ≡ Some m → m.item ≡ item
+pub sent_item : (o : Option Connection) (item : Item) (m : Made) → item_sent_over o item ≡ Some m → m.item ≡ item
 sent_item None item m e = absurd (none-some m e)
 sent_item (Some c) item m e = ap (λ x. x.item) (sym (same_Some _ m e))
 
@@ -50,16 +50,16 @@ met_at f item message r v y is given = rw (is, eqb_same v) given
 -- ---- the receipt
 
 -- what is sent over a way goes to its channel
-pub sent_way : (f : Facts) (t coid : ℕ) (item : Item) (h : ℕ) → way f t coid ≡ Some h → sent_over (f.connection coid) item ≡ Some (record { item = item; channel = h })
+pub sent_way : (f : Facts) (t coid : ℕ) (item : Item) (h : ℕ) → way f t coid ≡ Some h → item_sent_over (f.connection coid) item ≡ Some (record { item = item; channel = h })
 sent_way f t coid item h e =
     let l = leads_over f t (f.connection coid) h e in
-    ap (λ o. sent_over o item) l.is ∙ ap (λ k. Some (record { item = item; channel = k })) l.channel
+    ap (λ o. item_sent_over o item) l.is ∙ ap (λ k. Some (record { item = item; channel = k })) l.channel
 
 -- what goes over a way goes to an open channel
-pub goes_to_open : (f : Facts) (t : ℕ) (o : Option Connection) (h : ℕ) (item : Item) (m : Made) → leads_to f t o ≡ Some h → sent_over o item ≡ Some m → is_some (f.channel m.channel) ≡ true
+pub goes_to_open : (f : Facts) (t : ℕ) (o : Option Connection) (h : ℕ) (item : Item) (m : Made) → leads_to f t o ≡ Some h → item_sent_over o item ≡ Some m → is_some (f.channel m.channel) ≡ true
 goes_to_open f t o h item m e made =
     let l = leads_over f t o h e in
-    let same : record { item = item; channel = l.connection.channel } ≡ m = same_Some _ m (ap (λ x. sent_over x item) (sym l.is) ∙ made) in
+    let same : record { item = item; channel = l.connection.channel } ≡ m = same_Some _ m (ap (λ x. item_sent_over x item) (sym l.is) ∙ made) in
     subst (λ k. is_some (f.channel k) ≡ true) (sym l.channel ∙ ap (λ (x : Made). x.channel) same) l.is_open
 
 -- the item goes over channel h to thread v, whose call ends by y
@@ -73,7 +73,7 @@ record Sent (f : Facts) (sender : Option ℕ) (item : Item) (message : List ℕ)
   taken : Taken item.number by (f.open_call by) given
   same : receipt_from channel sender item.priority given.thread (item.number, taken.copied) ≡ q
 
-sent_on : (f : Facts) (sender : Option ℕ) (item : Item) (message : List ℕ) (h : ℕ) (r : Option ℕ) (q : Received) → received_of f sender item message (Some h) r ≡ Some q → Sent f sender item message (Some h) r q
+sent_on : (f : Facts) (sender : Option ℕ) (item : Item) (message : List ℕ) (h : ℕ) (r : Option ℕ) (q : Received) → receipt_when_sent f sender item message (Some h) r ≡ Some q → Sent f sender item message (Some h) r q
 sent_on f sender item message h None q e = absurd (none-some q e)
 sent_on f sender item message h (Some v) q e =
     elim (receipt_by f item message v) as (λ o. receipt_by f item message v ≡ o → receipt_in h sender item.priority o ≡ Some q → Sent f sender item message (Some h) (Some v) q) [
@@ -92,19 +92,19 @@ sent_on f sender item message h (Some v) q e =
           }
     ] refl e
 
-sent_over_way : (f : Facts) (sender : Option ℕ) (item : Item) (message : List ℕ) (o r : Option ℕ) (q : Received) → received_of f sender item message o r ≡ Some q → Sent f sender item message o r q
+sent_over_way : (f : Facts) (sender : Option ℕ) (item : Item) (message : List ℕ) (o r : Option ℕ) (q : Received) → receipt_when_sent f sender item message o r ≡ Some q → Sent f sender item message o r q
 sent_over_way f sender item message None r q e = absurd (none-some q e)
 sent_over_way f sender item message (Some h) r q e = sent_on f sender item message h r q e
 
 -- the receiver that is met has the receipt of the row
-met_receives : (f : Facts) (sender : Option ℕ) (item : Item) (message : List ℕ) (o : Option ℕ) (u : ℕ) (y : Completion) (p : ℕ × ℕ) → meets f item message (receiver f item o) u ≡ Some y → received y.mark ≡ Some p
-    → (q : Received) × (received_of f sender item message o (receiver f item o) ≡ Some q) × (q.by ≡ u) × (p.0 ≡ q.item) × (p.1 ≡ q.kept.copied)
+met_receives : (f : Facts) (sender : Option ℕ) (item : Item) (message : List ℕ) (o : Option ℕ) (u : ℕ) (y : Completion) (p : ℕ × ℕ) → meets f item message (receiver f item o) u ≡ Some y → item_in_mark y.mark ≡ Some p
+    → (q : Received) × (receipt_when_sent f sender item message o (receiver f item o) ≡ Some q) × (q.by ≡ u) × (p.0 ≡ q.item) × (p.1 ≡ q.kept.copied)
 met_receives f sender item message None u y p e m = absurd (none-some y e)
 met_receives f sender item message (Some h) u y p e m =
-    let k = met_by f item message (newest f h item) u y e in
+    let k = met_by f item message (newest_receiver f h item) u y e in
     let taken = taken_by item message u (f.open_call u) y k.given in (
       receipt_from h sender item.priority y.thread p,
-      ap (λ r. received_of f sender item message (Some h) r) k.receiver_is ∙ receipt_in_at h sender item.priority (receipt_by f item message u) y p k.given m,
+      ap (λ r. receipt_when_sent f sender item message (Some h) r) k.receiver_is ∙ receipt_in_at h sender item.priority (receipt_by f item message u) y p k.given m,
       taken.thread,
       refl,
       refl,
@@ -121,10 +121,10 @@ pub record ForAnItem (call : Option OpenCall) : Type 0 where
 
 -- what takes the item waits for one, and ends by taking it
 pub takes_item : (item : Item) (message : List ℕ) (u : ℕ) (call : Option OpenCall) (y : Completion) → takes item message u call ≡ Some y
-    → (w : ForAnItem call) × (taking item message u w.waiting.number w.buffer ≡ y)
+    → (w : ForAnItem call) × (receipt_ending item message u w.waiting.number w.buffer ≡ y)
 takes_item item message u None y e = absurd (none-some y e)
 takes_item item message u (Some o) y e = by_wait o.wait e where
-  by_wait : (w : Wait) → takes_into item message u o.number w ≡ Some y → (k : ForAnItem (Some (record { number = o.number; wait = w }))) × (taking item message u k.waiting.number k.buffer ≡ y)
+  by_wait : (w : Wait) → takes_into item message u o.number w ≡ Some y → (k : ForAnItem (Some (record { number = o.number; wait = w }))) × (receipt_ending item message u k.waiting.number k.buffer ≡ y)
   by_wait (Answer coid sent reply_buffer receipt) e = absurd (none-some y e)
   by_wait (ForItem chid kind buffer) e = (record { waiting = record { number = o.number; wait = ForItem chid kind buffer }; is = refl; chid = chid; kind = kind; buffer = buffer; waits = refl }, same_Some _ y e)
 
@@ -144,8 +144,8 @@ module _ (f : Facts) (item : Item) (message : List ℕ) (o : Option ℕ) where
       ap (λ v. is_settled v.wait) (same_Some w k.waiting (sym is ∙ k.is)) ∙ k.settled
 
 module _ (f : Facts) (t : ℕ) (o : Option ℕ) (c : Call) (item : Item) (message : List ℕ) (sender : Option ℕ)
-    (receipt_is : (row_of f t c).receipt ≡ received_of f sender item message o (receiver f item o)) where
-  pub met_receipt : (u : ℕ) (y : Completion) (p : ℕ × ℕ) → meets f item message (receiver f item o) u ≡ Some y → received y.mark ≡ Some p → IsReceipt (row_of f t c) u p
+    (receipt_is : (row_of f t c).receipt ≡ receipt_when_sent f sender item message o (receiver f item o)) where
+  pub met_receipt : (u : ℕ) (y : Completion) (p : ℕ × ℕ) → meets f item message (receiver f item o) u ≡ Some y → item_in_mark y.mark ≡ Some p → IsReceipt (row_of f t c) u p
   met_receipt u y p e m =
       let r = met_receives f sender item message o u y p e m in
       record { receipt = r.0; is = receipt_is ∙ r.1; by = r.2; item = r.3; copied = r.4 }
@@ -172,14 +172,14 @@ module _ (f : Facts) (t : ℕ) (o : Option ℕ) (c : Call) (item : Item) (messag
       })
 
 module _ (f : Facts) (t : ℕ) (o : Option ℕ) (c : Call) (item : Item) (message : List ℕ) (sender : Option ℕ) (ends_is : (u : ℕ) → (row_of f t c).ends u ≡ meets f item message (receiver f item o) u)
-    (receipt_is : (row_of f t c).receipt ≡ received_of f sender item message o (receiver f item o)) where
+    (receipt_is : (row_of f t c).receipt ≡ receipt_when_sent f sender item message o (receiver f item o)) where
   pub delivers_open : (u : ℕ) (y : Completion) → (row_of f t c).ends u ≡ Some y → IsOfOpen f u y
   delivers_open u y e = met_open f item message o u y (sym (ends_is u) ∙ e)
 
   pub delivers_settled : (u : ℕ) (y : Completion) → (row_of f t c).ends u ≡ Some y → IsSettled (f.open_call u)
   delivers_settled u y e = met_settled f item message o u y (sym (ends_is u) ∙ e)
 
-  pub delivers_receipt : (u : ℕ) (y : Completion) (p : ℕ × ℕ) → (row_of f t c).ends u ≡ Some y → received y.mark ≡ Some p → IsReceipt (row_of f t c) u p
+  pub delivers_receipt : (u : ℕ) (y : Completion) (p : ℕ × ℕ) → (row_of f t c).ends u ≡ Some y → item_in_mark y.mark ≡ Some p → IsReceipt (row_of f t c) u p
   delivers_receipt u y p e m = met_receipt f t o c item message sender receipt_is u y p (sym (ends_is u) ∙ e) m
 
   pub delivers_received : f.open_call t ≡ None → ((h : ℕ) → o ≡ Some h → makes f t c ≡ Some (record { item = item; channel = h })) → sender ≡ option_map (λ o. t) (asks f.number c)

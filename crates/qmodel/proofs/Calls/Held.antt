@@ -6,7 +6,7 @@ use Rattle.std.proofs.lemmas.Bool.{eqb-true, true≢false}
 use Rattle.std.proofs.lemmas.Option.{none-some, same_Some}
 use Rattle.qbase.specs.declared.errno.Errno.{Errno}
 use Rattle.qmodel.specs.Facts.{Facts, sender, threads_of}
-use Rattle.qmodel.specs.Held.{Finish, ends_sender, finished, is_held_by, is_held_for, owns_end, refusal}
+use Rattle.qmodel.specs.Held.{Finish, ends_sender, answer_ending, is_held_by, is_held_for, owns_end, refusal}
 use Rattle.qmodel.specs.declared.call.Completion.{Completion}
 use Rattle.qmodel.specs.declared.open_call.OpenCall.{OpenCall}
 use Rattle.qmodel.specs.declared.open_call.Receipt.{Receipt}
@@ -73,13 +73,13 @@ pub record SenderEnds (f : Facts) (t rcvid : ℕ) (finish : Finish) (u : ℕ) (y
   pub ending : answering rcvid u finish held.reply_buffer ≡ y
 
 -- the ending of what is held
-pub finished_held : (f : Facts) (t : ℕ) (finish : Finish) (u : ℕ) (call : Option OpenCall) (h : IsHeldFor f t call) → finished finish u call ≡ Some (answering h.waiting.number u finish h.reply_buffer)
+pub finished_held : (f : Facts) (t : ℕ) (finish : Finish) (u : ℕ) (call : Option OpenCall) (h : IsHeldFor f t call) → answer_ending finish u call ≡ Some (answering h.waiting.number u finish h.reply_buffer)
 finished_held f t finish u call h = rw (h.is_open, h.waits) refl
 
-ends_parts : (f : Facts) (finish : Finish) (r : Option ℕ) (u : ℕ) (y : Completion) → ends_sender f finish r u ≡ Some y → (r ≡ Some u) × (finished finish u (f.open_call u) ≡ Some y)
+ends_parts : (f : Facts) (finish : Finish) (r : Option ℕ) (u : ℕ) (y : Completion) → ends_sender f finish r u ≡ Some y → (r ≡ Some u) × (answer_ending finish u (f.open_call u) ≡ Some y)
 ends_parts f finish None u y e = absurd (none-some y e)
 ends_parts f finish (Some v) u y e =
-    elim (eqb u v) as (λ b. eqb u v ≡ b → cond b (finished finish u (f.open_call u)) None ≡ Some y → (Some v ≡ Some u) × (finished finish u (f.open_call u) ≡ Some y)) [
+    elim (eqb u v) as (λ b. eqb u v ≡ b → cond b (answer_ending finish u (f.open_call u)) None ≡ Some y → (Some v ≡ Some u) × (answer_ending finish u (f.open_call u) ≡ Some y)) [
       | true ↦ λ same s. (ap (λ k. Some k) (sym (eqb-true u v same)), s)
       | false ↦ λ other s. absurd (none-some y s)
     ] refl e

@@ -4,19 +4,19 @@ use Rattle.std.specs.Prelude.{ℤ, None, Some}
 use Rattle.std.proofs.lemmas.Bool.{true≢false}
 use Rattle.std.proofs.lemmas.Option.{none-some, same_Some}
 use Rattle.qqueue.specs.Best.{is_pulse}
-use Rattle.qmodel.specs.Calls.Pulse.{sent}
+use Rattle.qmodel.specs.Calls.Pulse.{sent_pulse}
 use Rattle.qmodel.specs.Facts.{Facts}
 use Rattle.qmodel.specs.Past.{is_unblock_for}
-use Rattle.qmodel.specs.Pulses.{told, told_receipt}
-use Rattle.qmodel.specs.Rows.{Made, pulse_item, received}
+use Rattle.qmodel.specs.Pulses.{ends_receiver, pulse_receipt}
+use Rattle.qmodel.specs.Rows.{Made, pulse_item, item_in_mark}
 use Rattle.qmodel.specs.declared.call.Call.TheVariants.{Pulse}
 use Rattle.qmodel.proofs.Past.Laws.{CallLaws, RowLaws, Passes, IsOwn}
 use Rattle.qmodel.proofs.Calls.Delivering.{delivers_open, delivers_settled, delivers_receipt, delivers_received, goes_to_open, sent_item, sent_way}
 use Rattle.qmodel.proofs.Ways.{pulse_way}
 
 -- it is a pulse
-pub sent_pulse : (f : Facts) (coid priority : ℕ) (code value : ℤ) (m : Made) → sent f coid priority code value ≡ Some m → is_pulse m.item.what ≡ true
-sent_pulse f coid priority code value m e = ap (λ x. is_pulse x.what) (sent_item (f.connection coid) (pulse_item f.number priority code value) m e)
+pub sent_is_pulse : (f : Facts) (coid priority : ℕ) (code value : ℤ) (m : Made) → sent_pulse f coid priority code value ≡ Some m → is_pulse m.item.what ≡ true
+sent_is_pulse f coid priority code value m e = ap (λ x. is_pulse x.what) (sent_item (f.connection coid) (pulse_item f.number priority code value) m e)
 
 pub call_laws : (coid priority : ℕ) (code value : ℤ) → CallLaws (Pulse coid priority code value)
 call_laws coid priority code value = record {
@@ -36,15 +36,15 @@ row_laws f t coid priority code value p =
     let c = Pulse coid priority code value in
     let item = pulse_item f.number priority code value in
     let w = pulse_way f t coid code p.row in
-    let goes : sent f coid priority code value ≡ Some (record { item = item; channel = w.0 }) = sent_way f t coid item w.0 w.1 in
+    let goes : sent_pulse f coid priority code value ≡ Some (record { item = item; channel = w.0 }) = sent_way f t coid item w.0 w.1 in
     record {
       owns = λ y e. subst (IsOwn f.number t) (same_Some _ y e) (record { call = refl; thread = refl; mark = refl });
-      ends_open = delivers_open f t (Some w.0) c item [] None (λ u. ap (λ o. told f o u) goes) (ap (told_receipt f) goes);
-      ends_settled = λ mild. delivers_settled f t (Some w.0) c item [] None (λ u. ap (λ o. told f o u) goes) (ap (told_receipt f) goes);
-      own_receives = λ y q e m. absurd (none-some q (ap (λ x. received x.mark) (same_Some _ y e) ∙ m));
-      ends_receives = delivers_receipt f t (Some w.0) c item [] None (λ u. ap (λ o. told f o u) goes) (ap (told_receipt f) goes);
-      receives = delivers_received f t (Some w.0) c item [] None (λ u. ap (λ o. told f o u) goes) (ap (told_receipt f) goes) p.idle (λ h is. goes ∙ ap (λ k. Some (record { item = item; channel = k })) (same_Some w.0 h is)) refl;
-      sends = λ m e no_pulse. absurd (true≢false (sym (sent_pulse f coid priority code value m e) ∙ no_pulse));
+      ends_open = delivers_open f t (Some w.0) c item [] None (λ u. ap (λ o. ends_receiver f o u) goes) (ap (pulse_receipt f) goes);
+      ends_settled = λ mild. delivers_settled f t (Some w.0) c item [] None (λ u. ap (λ o. ends_receiver f o u) goes) (ap (pulse_receipt f) goes);
+      own_receives = λ y q e m. absurd (none-some q (ap (λ x. item_in_mark x.mark) (same_Some _ y e) ∙ m));
+      ends_receives = delivers_receipt f t (Some w.0) c item [] None (λ u. ap (λ o. ends_receiver f o u) goes) (ap (pulse_receipt f) goes);
+      receives = delivers_received f t (Some w.0) c item [] None (λ u. ap (λ o. ends_receiver f o u) goes) (ap (pulse_receipt f) goes) p.idle (λ h is. goes ∙ ap (λ k. Some (record { item = item; channel = k })) (same_Some w.0 h is)) refl;
+      sends = λ m e no_pulse. absurd (true≢false (sym (sent_is_pulse f coid priority code value m e) ∙ no_pulse));
       makes_open = λ m e. goes_to_open f t (f.connection coid) w.0 item m w.1 e;
       writes_sent = λ w e. absurd (none-some w e);
     }

@@ -2,7 +2,7 @@
 use Rattle.std.proofs.Common.{ℕ, List, refl, subst}
 use Rattle.std.specs.Prelude.{ℤ}
 use Rattle.std.proofs.lemmas.Option.{none-some, same_Some}
-use Rattle.qmodel.specs.Calls.Reply.{replied}
+use Rattle.qmodel.specs.Calls.Reply.{reply_finish}
 use Rattle.qmodel.specs.Facts.{Facts}
 use Rattle.qmodel.specs.declared.call.Call.TheVariants.{Reply}
 use Rattle.qmodel.proofs.Calls.Alone.{IsPlain, waits_not}
@@ -13,5 +13,5 @@ pub call_laws : (rcvid : ℕ) (status : ℤ) (bytes : List ℕ) → CallLaws (Re
 call_laws rcvid status bytes = waits_not (Reply rcvid status bytes) (λ n. refl) (λ f t. refl)
 
 pub row_laws : (f : Facts) (t rcvid : ℕ) (status : ℤ) (bytes : List ℕ) → Passes f t (Reply rcvid status bytes) → RowLaws f t (Reply rcvid status bytes)
-row_laws f t rcvid status bytes p = answers f t (Reply rcvid status bytes) rcvid (replied status bytes) (λ buffer. refl) p.row
+row_laws f t rcvid status bytes p = answers f t (Reply rcvid status bytes) rcvid (reply_finish status bytes) (λ buffer. refl) p.row
     (λ y e. subst (IsPlain f.number t) (same_Some _ y e) (record { own = record { call = refl; thread = refl; mark = refl }; mark = refl })) (λ u. refl) refl refl (λ w e. absurd (none-some w e))

@@ -7,10 +7,10 @@ use Rattle.qbase.specs.declared.errno.Errno.TheVariants.{Intr, Srch}
 use Rattle.qqueue.specs.Best.{is_pulse}
 use Rattle.qtables.specs.declared.connection.Connection.{Connection}
 use Rattle.qmodel.specs.Answer.{row_of}
-use Rattle.qmodel.specs.Calls.Unblock.{due, due_for, due_of, due_on, ends, guard, guard_over, refusal}
+use Rattle.qmodel.specs.Calls.Unblock.{due_pulse, due_pulse_of_wait, due_pulse_of_open, due_pulse_on, other_ending, guard, guard_over, refusal}
 use Rattle.qmodel.specs.Facts.{Facts, OpenChannel, is_fellow, tells_unblock}
-use Rattle.qmodel.specs.Pulses.{full_for, told_receipt}
-use Rattle.qmodel.specs.Rows.{Made, Received, received, unblock_item}
+use Rattle.qmodel.specs.Pulses.{refusal_if_full_for, pulse_receipt}
+use Rattle.qmodel.specs.Rows.{Made, Received, item_in_mark, unblock_item}
 use Rattle.qmodel.specs.declared.call.Call.TheVariants.{Unblock}
 use Rattle.qmodel.specs.declared.call.Completion.{Completion}
 use Rattle.qmodel.specs.declared.open_call.OpenCall.{OpenCall}
@@ -50,7 +50,7 @@ record IsDueOn (n i : ℕ) (receipt : Receipt) (o : Option ℕ) (m : Made) : Typ
   first : receipt.unblocked ≡ false
   made : record { item = unblock_item n receipt.priority i; channel = channel } ≡ m
 
-due_on_parts : (n i : ℕ) (receipt : Receipt) (o : Option ℕ) (m : Made) → due_on n i receipt o ≡ Some m → IsDueOn n i receipt o m
+due_on_parts : (n i : ℕ) (receipt : Receipt) (o : Option ℕ) (m : Made) → due_pulse_on n i receipt o ≡ Some m → IsDueOn n i receipt o m
 due_on_parts n i receipt None m e = absurd (none-some m e)
 due_on_parts n i receipt (Some h) m e =
     elim (receipt.unblocked) as (λ b. receipt.unblocked ≡ b → cond b None (Some (record { item = unblock_item n receipt.priority i; channel = h })) ≡ Some m → IsDueOn n i receipt (Some h) m) [
@@ -71,7 +71,7 @@ pub record IsDue (f : Facts) (o : Option OpenCall) (m : Made) : Type 0 where
   pub first : receipt.unblocked ≡ false
   pub made : record { item = unblock_item f.number receipt.priority waiting.number; channel = m.channel } ≡ m
 
-due_waiting : (f : Facts) (i : ℕ) (w : Wait) (m : Made) → due_for f i w ≡ Some m → IsDue f (Some (record { number = i; wait = w })) m
+due_waiting : (f : Facts) (i : ℕ) (w : Wait) (m : Made) → due_pulse_of_wait f i w ≡ Some m → IsDue f (Some (record { number = i; wait = w })) m
 due_waiting f i (Answer coid message reply_buffer None) m e = absurd (none-some m e)
 due_waiting f i (ForItem chid kind buffer) m e = absurd (none-some m e)
 due_waiting f i (Answer coid message reply_buffer (Some receipt)) m e =
@@ -90,17 +90,17 @@ due_waiting f i (Answer coid message reply_buffer (Some receipt)) m e =
       made = ap (λ h. record { item = unblock_item f.number receipt.priority i; channel = h }) (sym channel) ∙ k.made;
     }
 
-pub due_parts : (f : Facts) (o : Option OpenCall) (m : Made) → due_of f o ≡ Some m → IsDue f o m
+pub due_parts : (f : Facts) (o : Option OpenCall) (m : Made) → due_pulse_of_open f o ≡ Some m → IsDue f o m
 due_parts f None m e = absurd (none-some m e)
 due_parts f (Some o) m e = due_waiting f o.number o.wait m e
 
 -- it is a pulse
-pub due_pulse : (f : Facts) (thread : ℕ) (m : Made) → due f thread ≡ Some m → is_pulse m.item.what ≡ true
-due_pulse f thread m e = ap (λ x. is_pulse x.item.what) (sym (due_parts f (f.open_call thread) m e).made)
+pub due_is_pulse : (f : Facts) (thread : ℕ) (m : Made) → due_pulse f thread ≡ Some m → is_pulse m.item.what ≡ true
+due_is_pulse f thread m e = ap (λ x. is_pulse x.item.what) (sym (due_parts f (f.open_call thread) m e).made)
 
 -- an accepted Unblock is of a thread of the caller's process, and finds room for its pulse
-pub fellow_passes : (f : Facts) (t thread : ℕ) → refusal f t thread ≡ None → full_for f (due f thread) ≡ None
-fellow_passes f t thread r = elim (is_fellow f t thread) as (λ b. cond b (full_for f (due f thread)) (Some Srch) ≡ None → full_for f (due f thread) ≡ None) [
+pub fellow_passes : (f : Facts) (t thread : ℕ) → refusal f t thread ≡ None → refusal_if_full_for f (due_pulse f thread) ≡ None
+fellow_passes f t thread r = elim (is_fellow f t thread) as (λ b. cond b (refusal_if_full_for f (due_pulse f thread)) (Some Srch) ≡ None → refusal_if_full_for f (due_pulse f thread) ≡ None) [
   | true ↦ λ s. s
   | false ↦ λ s. absurd (none-some Srch (sym s))
 ] r
@@ -133,42 +133,42 @@ is_cut f thread v wait = eqb v thread && not (is_some (guard f wait))
 
 module _ (f : Facts) (t thread : ℕ) (p : Passes f t (Unblock thread)) where
   -- with no pulse due
-  ends_cut : (due f thread ≡ None) → (u : ℕ) (y : Completion) → ends f thread (due f thread) u ≡ Some y → IsOfOpen f u y × (received y.mark ≡ None)
+  ends_cut : (due_pulse f thread ≡ None) → (u : ℕ) (y : Completion) → other_ending f thread (due_pulse f thread) u ≡ Some y → IsOfOpen f u y × (item_in_mark y.mark ≡ None)
   ends_cut none u y e =
-      let k = cut_parts (is_cut f thread u) Intr u (f.open_call u) y (ap (λ d. ends f thread d u) (sym none) ∙ e) in
-      (record { waiting = k.waiting; is = k.is; call = sym (ap (λ x. x.call) k.ending); thread = sym (ap (λ x. x.thread) k.ending) }, ap (λ x. received x.mark) (sym k.ending))
+      let k = cut_parts (is_cut f thread u) Intr u (f.open_call u) y (ap (λ d. other_ending f thread d u) (sym none) ∙ e) in
+      (record { waiting = k.waiting; is = k.is; call = sym (ap (λ x. x.call) k.ending); thread = sym (ap (λ x. x.thread) k.ending) }, ap (λ x. item_in_mark x.mark) (sym k.ending))
 
   -- with this one due
-  module _ (m : Made) (is : due f thread ≡ Some m) where
-    told_open : (u : ℕ) (y : Completion) → ends f thread (due f thread) u ≡ Some y → IsOfOpen f u y
-    told_open = delivers_open f t (Some m.channel) (Unblock thread) m.item [] None (λ u. ap (λ d. ends f thread d u) is) (ap (told_receipt f) is)
+  module _ (m : Made) (is : due_pulse f thread ≡ Some m) where
+    told_open : (u : ℕ) (y : Completion) → other_ending f thread (due_pulse f thread) u ≡ Some y → IsOfOpen f u y
+    told_open = delivers_open f t (Some m.channel) (Unblock thread) m.item [] None (λ u. ap (λ d. other_ending f thread d u) is) (ap (pulse_receipt f) is)
 
-    told_taken : (u : ℕ) (y : Completion) (q : ℕ × ℕ) → ends f thread (due f thread) u ≡ Some y → received y.mark ≡ Some q → IsReceipt (row_of f t (Unblock thread)) u q
-    told_taken = delivers_receipt f t (Some m.channel) (Unblock thread) m.item [] None (λ u. ap (λ d. ends f thread d u) is) (ap (told_receipt f) is)
+    told_taken : (u : ℕ) (y : Completion) (q : ℕ × ℕ) → other_ending f thread (due_pulse f thread) u ≡ Some y → item_in_mark y.mark ≡ Some q → IsReceipt (row_of f t (Unblock thread)) u q
+    told_taken = delivers_receipt f t (Some m.channel) (Unblock thread) m.item [] None (λ u. ap (λ d. other_ending f thread d u) is) (ap (pulse_receipt f) is)
 
-    told_received : (q : Received) → told_receipt f (due f thread) ≡ Some q → IsReceived f t (Unblock thread) q
-    told_received = delivers_received f t (Some m.channel) (Unblock thread) m.item [] None (λ u. ap (λ d. ends f thread d u) is) (ap (told_receipt f) is) p.idle
-        (λ h s. subst (λ k. due f thread ≡ Some (record { item = m.item; channel = k })) (same_Some m.channel h s) is) refl
+    told_received : (q : Received) → pulse_receipt f (due_pulse f thread) ≡ Some q → IsReceived f t (Unblock thread) q
+    told_received = delivers_received f t (Some m.channel) (Unblock thread) m.item [] None (λ u. ap (λ d. other_ending f thread d u) is) (ap (pulse_receipt f) is) p.idle
+        (λ h s. subst (λ k. due_pulse f thread ≡ Some (record { item = m.item; channel = k })) (same_Some m.channel h s) is) refl
 
   pub row_laws : RowLaws f t (Unblock thread)
   row_laws =
       record {
         owns = λ y e. subst (IsOwn f.number t) (same_Some _ y e) (record { call = refl; thread = refl; mark = refl });
-        ends_open = elim (due f thread) as (λ o. due f thread ≡ o → (u : ℕ) (y : Completion) → ends f thread (due f thread) u ≡ Some y → IsOfOpen f u y) [
+        ends_open = elim (due_pulse f thread) as (λ o. due_pulse f thread ≡ o → (u : ℕ) (y : Completion) → other_ending f thread (due_pulse f thread) u ≡ Some y → IsOfOpen f u y) [
           | None ↦ λ none u y e. (ends_cut none u y e).0
           | Some m ↦ λ is. told_open m is
         ] refl;
         ends_settled = λ mild. absurd (true≢false mild);
-        own_receives = λ y q e m. absurd (none-some q (ap (λ x. received x.mark) (same_Some _ y e) ∙ m));
-        ends_receives = elim (due f thread) as (λ o. due f thread ≡ o → (u : ℕ) (y : Completion) (q : ℕ × ℕ) → ends f thread (due f thread) u ≡ Some y → received y.mark ≡ Some q → IsReceipt (row_of f t (Unblock thread)) u q) [
+        own_receives = λ y q e m. absurd (none-some q (ap (λ x. item_in_mark x.mark) (same_Some _ y e) ∙ m));
+        ends_receives = elim (due_pulse f thread) as (λ o. due_pulse f thread ≡ o → (u : ℕ) (y : Completion) (q : ℕ × ℕ) → other_ending f thread (due_pulse f thread) u ≡ Some y → item_in_mark y.mark ≡ Some q → IsReceipt (row_of f t (Unblock thread)) u q) [
           | None ↦ λ none u y q e m. absurd (none-some q (sym (ends_cut none u y e).1 ∙ m))
           | Some m ↦ λ is. told_taken m is
         ] refl;
-        receives = elim (due f thread) as (λ o. due f thread ≡ o → (q : Received) → told_receipt f (due f thread) ≡ Some q → IsReceived f t (Unblock thread) q) [
-          | None ↦ λ none q e. absurd (none-some q (ap (told_receipt f) (sym none) ∙ e))
+        receives = elim (due_pulse f thread) as (λ o. due_pulse f thread ≡ o → (q : Received) → pulse_receipt f (due_pulse f thread) ≡ Some q → IsReceived f t (Unblock thread) q) [
+          | None ↦ λ none q e. absurd (none-some q (ap (pulse_receipt f) (sym none) ∙ e))
           | Some m ↦ λ is. told_received m is
         ] refl;
-        sends = λ m e sent. absurd (true≢false (sym (due_pulse f thread m e) ∙ sent));
+        sends = λ m e sent. absurd (true≢false (sym (due_is_pulse f thread m e) ∙ sent));
         makes_open = λ m e. let k = (due_parts f (f.open_call thread) m e).guard in tells_open (f.channel m.channel) k.tells;
         writes_sent = λ w e. absurd (none-some w e);
       }

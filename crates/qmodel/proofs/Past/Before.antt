@@ -7,7 +7,7 @@ use Rattle.qbase.specs.Laying.{lay_over}
 use Rattle.qmodel.specs.Answer.{row_of}
 use Rattle.qmodel.specs.Facts.{Facts, sender}
 use Rattle.qmodel.specs.Effects.{makes, unblocks, writes}
-use Rattle.qmodel.specs.Past.{held_with}
+use Rattle.qmodel.specs.Past.{wait_with_receipt}
 use Rattle.qmodel.specs.Rows.{Made, Received, Written, with_buffer}
 use Rattle.qmodel.specs.Step.{after_receipt, after_unblock, after_write, held_call, is_thread, unblocked_call, unblocked_wait, unless, written_call}
 use Rattle.qmodel.specs.declared.call.Call.{Call}
@@ -22,7 +22,7 @@ pub record IsBefore {A : Type 0} (g : Wait → A) (before : Option OpenCall) (o 
   pub same : g call.wait ≡ g o.wait
 
 -- before a receipt
-pub before_receipt : {A : Type 0} (g : Wait → A) → ((receipt : Receipt) (w : Wait) → g (held_with receipt w) ≡ g w) → (r : Option Received) (u : ℕ) (before : Option OpenCall) (o : OpenCall)
+pub before_receipt : {A : Type 0} (g : Wait → A) → ((receipt : Receipt) (w : Wait) → g (wait_with_receipt receipt w) ≡ g w) → (r : Option Received) (u : ℕ) (before : Option OpenCall) (o : OpenCall)
     → after_receipt r u before ≡ Some o → IsBefore g before o
 before_receipt g held None u before o e = record { call = o; is = e; same = refl }
 before_receipt g held (Some r) u before o e =
@@ -65,7 +65,7 @@ before_unblock g unblocked m (Some v) u before o e =
 
 -- this of a wait no call changes but the one that ends it
 pub record Lasts {A : Type 0} (g : Wait → A) : Type 0 where
-  pub held : (receipt : Receipt) (w : Wait) → g (held_with receipt w) ≡ g w
+  pub held : (receipt : Receipt) (w : Wait) → g (wait_with_receipt receipt w) ≡ g w
   pub buffer : (b : List ℕ → List ℕ) (w : Wait) → g (with_buffer b w) ≡ g w
   pub unblocked : (w : Wait) → g (unblocked_wait w) ≡ g w
 

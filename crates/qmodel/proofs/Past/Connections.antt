@@ -8,12 +8,12 @@ use Rattle.qtables.specs.Members.{member_at}
 use Rattle.qtables.specs.declared.connection.Connection.{Connection}
 use Rattle.qtables.specs.declared.member.Member.{Member}
 use Rattle.qmodel.specs.Answer.{row_of, Outcome}
-use Rattle.qmodel.specs.Calls.ConnectDetach.{due, is_own}
+use Rattle.qmodel.specs.Calls.ConnectDetach.{due_pulse, is_own}
 use Rattle.qmodel.specs.Facts.{Facts}
 use Rattle.qmodel.specs.Lawful.{facts_of, IsLawful, with_event}
 use Rattle.qmodel.specs.Effects.{attaches, detaches}
-use Rattle.qmodel.specs.Past.{attached, connection_at, live_connections, refuses}
-use Rattle.qmodel.specs.Pulses.{full_for}
+use Rattle.qmodel.specs.Past.{attached_connection, connection_at, live_connections, refuses}
+use Rattle.qmodel.specs.Pulses.{refusal_if_full_for}
 use Rattle.qmodel.specs.Rows.{names}
 use Rattle.qmodel.specs.Step.{connection_after, one_for}
 use Rattle.qmodel.specs.Trace.{Event, Trace}
@@ -49,7 +49,7 @@ detaches_one f t (ChannelDestroy chid) k r e = absurd (true≢false (sym e))
 detaches_one f t Shutdown k r e = absurd (true≢false (sym e))
 detaches_one f t (Unblock thread) k r e = absurd (true≢false (sym e))
 detaches_one f t (ConnectDetach coid) k r e =
-    elim (is_own f t (f.connection coid)) as (λ b. is_own f t (f.connection coid) ≡ b → cond b (full_for f (due f t coid)) (Some Inval) ≡ None → is_some (f.connection k) ≡ true) [
+    elim (is_own f t (f.connection coid)) as (λ b. is_own f t (f.connection coid) ≡ b → cond b (refusal_if_full_for f (due_pulse f t coid)) (Some Inval) ≡ None → is_some (f.connection k) ≡ true) [
       | true ↦ λ own _. subst (λ j. is_some (f.connection j) ≡ true) (eqb-true coid k e) (own_live f t (f.connection coid) own)
       | false ↦ λ own s. absurd (none-some Inval (sym s))
     ] refl r
@@ -95,5 +95,5 @@ pub live_connections_accepted : (roster : List Member) (past : Trace) (t : ℕ) 
 live_connections_accepted roster past t c X l a = count_live_accepted roster attaches detaches (detaches_live roster) detaches_alone past t c X l a
 
 -- a live connection was attached
-pub live_attached : (roster : List Member) (past : Trace) (k : ℕ) → is_some (connection_at roster past k) ≡ true → connection_at roster past k ≡ attached roster past k
-live_attached roster past k e = ap (λ b. cond b None (attached roster past k)) (live_parts roster attaches detaches past k e).standing
+pub live_attached : (roster : List Member) (past : Trace) (k : ℕ) → is_some (connection_at roster past k) ≡ true → connection_at roster past k ≡ attached_connection roster past k
+live_attached roster past k e = ap (λ b. cond b None (attached_connection roster past k)) (live_parts roster attaches detaches past k e).standing

@@ -12,8 +12,8 @@ use Rattle.qmodel.specs.Answer.{row_of, Outcome}
 use Rattle.qmodel.specs.Cutting.{is_on, is_unread_send}
 use Rattle.qmodel.specs.Facts.{Facts, is_for_answer, is_for_receipt, threads_of}
 use Rattle.qmodel.specs.Lawful.{facts_of, IsLawful, with_event}
-use Rattle.qmodel.specs.Past.{connection_at, ends, filled, is_ended, is_taken, open_call, priority_of_item, receipt_of, sender_of, with_receipt, attached}
-use Rattle.qmodel.specs.Step.{is_cut, left_by}
+use Rattle.qmodel.specs.Past.{connection_at, has_ending_of, call_by_now, is_ended, is_taken, open_call, priority_of_item, copied_count_of, sender_of, with_receipt, attached_connection}
+use Rattle.qmodel.specs.Step.{is_cut, uncut_items}
 use Rattle.qmodel.specs.Trace.{Trace}
 use Rattle.qmodel.specs.declared.call.Call.{Call}
 use Rattle.qmodel.specs.declared.call.Completion.{Completion}
@@ -74,7 +74,7 @@ none_is_cut f t c settled h i = any_never _ (threads_of f.roster) (λ s.
       | Some y ↦ λ e. rw (not_unread f.connection h i (f.open_call s) (settled s y e)) refl
     ] refl)
 
-pub none_cut : (f : Facts) (t : ℕ) (c : Call) → EndsSettled f t c → (h : ℕ) (items : List Item) → left_by f t c h items ≡ items
+pub none_cut : (f : Facts) (t : ℕ) (c : Call) → EndsSettled f t c → (h : ℕ) (items : List Item) → uncut_items f t c h items ≡ items
 none_cut f t c settled h items =
     filter_whole (λ item. not (is_cut f t c h item.number)) items (λ item. ap not (none_is_cut f t c settled h item.number))
 
@@ -100,20 +100,20 @@ sent_by roster past h item l p message =
     let going : is_ended past item.number ≡ false = pending_going roster past h item p message in
     let w = item_waits roster past item.number (record { item = p.first; channel = h }) l p.made (ap is_pulse p.what ∙ message) going in
     let unread : is_taken past item.number ≡ false = (or_parts _ _ p.stays).0 in
-    let none : receipt_of past w.block.number ≡ None = none_of (receipt_of past w.block.number) (subst (λ i. is_taken past i ≡ false) (sym w.number) unread) in
+    let none : copied_count_of past w.block.number ≡ None = none_of (copied_count_of past w.block.number) (subst (λ i. is_taken past i ≡ false) (sym w.number) unread) in
     let k = block_over roster past w.thread w.block l w.is w.answer in
     let same = same_Some k.made (record { item = p.first; channel = h }) (sym k.is_made ∙ ap (item_at roster past) w.number ∙ p.made) in
-    let answer : is_for_answer (filled past w.block).wait ≡ true = filled_answer past w.block ∙ w.answer in
-    let is_open : open_call roster past w.thread ≡ Some (filled past w.block) =
-    open_from roster past w.thread w.block w.is (subst (λ i. is_ended past i ≡ false) (sym w.number) going) ∙ ap (λ r. Some (with_receipt (priority_of_item roster past w.block.number) (is_unblocked roster past w.block.number) r (filled past w.block))) none in
+    let answer : is_for_answer (call_by_now past w.block).wait ≡ true = filled_answer past w.block ∙ w.answer in
+    let is_open : open_call roster past w.thread ≡ Some (call_by_now past w.block) =
+    open_from roster past w.thread w.block w.is (subst (λ i. is_ended past i ≡ false) (sym w.number) going) ∙ ap (λ r. Some (with_receipt (priority_of_item roster past w.block.number) (is_unblocked roster past w.block.number) r (call_by_now past w.block))) none in
     record {
       sender = w.thread;
-      waiting = filled past w.block;
+      waiting = call_by_now past w.block;
       sent = subst (λ i. sender_of past i ≡ Some w.thread) w.number (block_sender past w.thread w.block w.is w.answer);
       is_open = is_open;
       number = w.number;
-      unread = receipt_from (filled past w.block).wait answer (filled_settled past w.block ∙ block_fresh past w.thread w.block w.is ∙ ap not w.answer);
-      on = on_over (λ j. connection_at roster past j) h (filled past w.block).wait k.connection answer (over_attached roster past w.thread (filled past w.block) l is_open answer ∙ ap (λ j. attached roster past j) (buffer_over _ w.block.wait) ∙ k.is_connection) (sym k.channel ∙ ap (λ m. m.channel) same);
+      unread = receipt_from (call_by_now past w.block).wait answer (filled_settled past w.block ∙ block_fresh past w.thread w.block w.is ∙ ap not w.answer);
+      on = on_over (λ j. connection_at roster past j) h (call_by_now past w.block).wait k.connection answer (over_attached roster past w.thread (call_by_now past w.block) l is_open answer ∙ ap (λ j. attached_connection roster past j) (buffer_over _ w.block.wait) ∙ k.is_connection) (sym k.channel ∙ ap (λ m. m.channel) same);
     }
 
 -- ---- what an accepted call ends
@@ -127,18 +127,18 @@ unread_elsewhere roster past h i s waiting v is number differs = false_from_ne_t
 
 -- the Send of a pending message exactly where it is cut
 ends_sent : (roster : List Member) (past : Trace) (t : ℕ) (c : Call) (X : List Completion) (h : ℕ) (item : Item) → IsLawful roster past → Outcome true (facts_of roster past) t c X → IsPending roster past h item → is_pulse item.what ≡ false
-    → ends X item.number ≡ is_cut (facts_of roster past) t c h item.number
+    → has_ending_of X item.number ≡ is_cut (facts_of roster past) t c h item.number
 ends_sent roster past t c X h item l a p message =
     let f = facts_of roster past in
     let s = sent_by roster past h item l p message in
     let other : eqb s.sender t ≡ false = ne_eqb s.sender t (λ same. none-some s.waiting (sym (passes_of f t c X a).idle ∙ ap (open_call roster past) (sym same) ∙ s.is_open)) in
-    let ended : ends X s.waiting.number ≡ is_some ((row_of f t c).ends s.sender) = ends_other roster past t c X s.sender s.waiting l a other s.is_open in
+    let ended : has_ending_of X s.waiting.number ≡ is_some ((row_of f t c).ends s.sender) = ends_other roster past t c X s.sender s.waiting l a other s.is_open in
     let number : eqb s.waiting.number item.number ≡ true = eq-eqb _ _ s.number in
     let cut : is_cut f t c h item.number ≡ is_some ((row_of f t c).ends s.sender) =
     any_only (λ v. is_unread_send f.connection h item.number (f.open_call v) && is_some ((row_of f t c).ends v)) (threads_of roster) s.sender (known roster s.sender (open_known roster past s.sender s.waiting l s.is_open)) (λ v differs.
     ap (λ b. b && is_some ((row_of f t c).ends v)) (unread_elsewhere roster past h item.number s.sender s.waiting v s.is_open s.number differs))
     ∙ rw (s.is_open, number, s.unread, s.on) refl in
-    ap (ends X) (sym s.number) ∙ ended ∙ sym cut
+    ap (has_ending_of X) (sym s.number) ∙ ended ∙ sym cut
 
 -- no open call has the number of a pulse
 pub pulse_unread : (roster : List Member) (past : Trace) (h : ℕ) (item : Item) (v : ℕ) → IsPending roster past h item → is_pulse item.what ≡ true
@@ -159,7 +159,7 @@ no_pulse_is_cut roster past t c h item p pulse =
 pub ended_is_cut : (roster : List Member) (past : Trace) (t : ℕ) (c : Call) (X : List Completion) (h : ℕ) (item : Item) → IsLawful roster past → Outcome true (facts_of roster past) t c X → IsPending roster past h item
     → (not (is_pulse item.what) && is_ended (with_event t c X past) item.number) ≡ is_cut (facts_of roster past) t c h item.number
 ended_is_cut roster past t c X h item l a p =
-    elim (is_pulse item.what) as (λ b. is_pulse item.what ≡ b → (not b && (ends X item.number || is_ended past item.number)) ≡ is_cut (facts_of roster past) t c h item.number) [
+    elim (is_pulse item.what) as (λ b. is_pulse item.what ≡ b → (not b && (has_ending_of X item.number || is_ended past item.number)) ≡ is_cut (facts_of roster past) t c h item.number) [
       | true ↦ λ pulse. sym (no_pulse_is_cut roster past t c h item p pulse)
       | false ↦ λ message.
           let going : is_ended past item.number ≡ false = pending_going roster past h item p message in

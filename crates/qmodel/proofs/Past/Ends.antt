@@ -11,7 +11,7 @@ use Rattle.qtables.specs.declared.member.Member.{Member}
 use Rattle.qmodel.specs.Answer.{row_of, refusal, ending, Outcome, Answers}
 use Rattle.qmodel.specs.Facts.{Facts, threads_of}
 use Rattle.qmodel.specs.Lawful.{facts_of, IsLawful}
-use Rattle.qmodel.specs.Past.{ends, refuses, is_ended, newest_block, open_call}
+use Rattle.qmodel.specs.Past.{has_ending_of, refuses, is_ended, newest_block, open_call}
 use Rattle.qmodel.specs.Trace.{Trace}
 use Rattle.qmodel.specs.declared.call.Call.{Call}
 use Rattle.qmodel.specs.declared.call.Completion.{Completion}
@@ -79,11 +79,11 @@ pub refused : (roster : List Member) (past : Trace) (t : ℕ) (c : Call) (X : Li
 refused roster past t c X a = rw (a.2, eqb_same (length past + 1)) refl
 
 -- the endings of a refused call end no earlier call
-pub refused_ends : (roster : List Member) (past : Trace) (t : ℕ) (c : Call) (X : List Completion) (i : ℕ) → Outcome false (facts_of roster past) t c X → i ≢ length past + 1 → ends X i ≡ false
+pub refused_ends : (roster : List Member) (past : Trace) (t : ℕ) (c : Call) (X : List Completion) (i : ℕ) → Outcome false (facts_of roster past) t c X → i ≢ length past + 1 → has_ending_of X i ≡ false
 refused_ends roster past t c X i a other = let e : eqb (length past + 1) i ≡ false = ne_eqb _ _ (λ same. other (sym same)) in rw (a.2, e) refl
 
 -- an ending names this call or an earlier one
-pub names_below : (roster : List Member) (past : Trace) (t : ℕ) (c : Call) (X : List Completion) (i : ℕ) → Answers (facts_of roster past) t c X → length past + 1 < i → ends X i ≡ false
+pub names_below : (roster : List Member) (past : Trace) (t : ℕ) (c : Call) (X : List Completion) (i : ℕ) → Answers (facts_of roster past) t c X → length past + 1 < i → has_ending_of X i ≡ false
 names_below roster past t c X i a l = elim a [
   | inl a ↦ rw (a.1) (any_filter_map _ (ending (facts_of roster past) t c) (threads_of roster) (λ v y e.
       elim (ending_names (facts_of roster past) t c v y (laws_of (facts_of roster past) t c X a) e) [
@@ -114,7 +114,7 @@ open_known roster past u o l is = let k = open_parts roster past u o is in block
 
 -- of another thread's open call: just what its row says
 pub ends_other : (roster : List Member) (past : Trace) (t : ℕ) (c : Call) (X : List Completion) (u : ℕ) (o : OpenCall) → IsLawful roster past → Outcome true (facts_of roster past) t c X
-    → eqb u t ≡ false → open_call roster past u ≡ Some o → ends X o.number ≡ is_some ((row_of (facts_of roster past) t c).ends u)
+    → eqb u t ≡ false → open_call roster past u ≡ Some o → has_ending_of X o.number ≡ is_some ((row_of (facts_of roster past) t c).ends u)
 ends_other roster past t c X u o l a other is =
     let f = facts_of roster past in
     let laws = laws_of (facts_of roster past) t c X a in
@@ -135,7 +135,7 @@ ends_other roster past t c X u o l a other is =
 
 -- of its own number: where it ends in its own event
 pub ends_own : (roster : List Member) (past : Trace) (t : ℕ) (c : Call) (X : List Completion) → is_some (member_at roster t) ≡ true → Outcome true (facts_of roster past) t c X
-    → ends X (length past + 1) ≡ is_some (row_of (facts_of roster past) t c).own
+    → has_ending_of X (length past + 1) ≡ is_some (row_of (facts_of roster past) t c).own
 ends_own roster past t c X member a =
     let f = facts_of roster past in
     let laws = laws_of (facts_of roster past) t c X a in

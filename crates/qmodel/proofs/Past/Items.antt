@@ -11,7 +11,7 @@ use Rattle.qtables.specs.declared.member.Member.{Member}
 use Rattle.qmodel.specs.Facts.{is_for_answer}
 use Rattle.qmodel.specs.Headline.CopiedExactly.{call_at}
 use Rattle.qmodel.specs.Lawful.{facts_of}
-use Rattle.qmodel.specs.Past.{by_now, is_accepted, item_of, items, made_among, priority_before, priority_made, priority_of_item, is_closed, is_gone, pending, newest_block, worth}
+use Rattle.qmodel.specs.Past.{items_by_now, is_accepted, item_of, items, made_among, priority_before, priority_of_made, priority_of_item, is_closed, is_gone, pending_items, newest_block, worth}
 use Rattle.qmodel.specs.Effects.{asks, makes}
 use Rattle.qmodel.specs.Rows.{Made}
 use Rattle.qmodel.specs.Trace.{Event, Trace}
@@ -143,8 +143,8 @@ item_found roster (e ∷ past) i m is =
 -- ---- priorities
 
 -- an item as it is by now, where it is known as it was made
-found_now : (past : Trace) (made : List Made) (i : ℕ) (m : Made) → made_among made i ≡ Some m → priority_made (made_among (by_now past made) i) ≡ worth past m.item
-found_now past made i m is = ap priority_made (among_now past made i ∙ ap (option_map (λ (m : Made). record { item = now past m.item; channel = m.channel })) is)
+found_now : (past : Trace) (made : List Made) (i : ℕ) (m : Made) → made_among made i ≡ Some m → priority_of_made (made_among (items_by_now past made) i) ≡ worth past m.item
+found_now past made i m is = ap priority_of_made (among_now past made i ∙ ap (option_map (λ (m : Made). record { item = now past m.item; channel = m.channel })) is)
 
 pub item_priority : (roster : List Member) (past : Trace) (i : ℕ) (m : Made) → item_at roster past i ≡ Some m → priority_of_item roster past i ≡ worth past m.item
 item_priority roster past i m is = found_now past (items roster past) i m (item_found roster past i m is)
@@ -156,12 +156,12 @@ priority_newest roster e past m is = found_now (e ∷ past) (items roster (e ∷
 -- an earlier item, where the event sets nothing for its sender
 pub priority_earlier : (roster : List Member) (e : Event) (past : Trace) (i : ℕ) → i ≤ length past → SetsNone e past i → priority_of_item roster (e ∷ past) i ≡ priority_of_item roster past i
 priority_earlier roster e past i l none =
-    ap priority_made (among_now (e ∷ past) (items roster (e ∷ past)) i ∙ ap (option_map (λ (m : Made). record { item = now (e ∷ past) m.item; channel = m.channel })) (found_earlier roster e past i l))
+    ap priority_of_made (among_now (e ∷ past) (items roster (e ∷ past)) i ∙ ap (option_map (λ (m : Made). record { item = now (e ∷ past) m.item; channel = m.channel })) (found_earlier roster e past i l))
     ∙ stays (made_among (items roster past) i) refl
-    ∙ ap priority_made (sym (among_now past (items roster past) i))
+    ∙ ap priority_of_made (sym (among_now past (items roster past) i))
   where
     stays : (o : Option Made) → made_among (items roster past) i ≡ o
-        → priority_made (option_map (λ (m : Made). record { item = now (e ∷ past) m.item; channel = m.channel }) o) ≡ priority_made (option_map (λ (m : Made). record { item = now past m.item; channel = m.channel }) o)
+        → priority_of_made (option_map (λ (m : Made). record { item = now (e ∷ past) m.item; channel = m.channel }) o) ≡ priority_of_made (option_map (λ (m : Made). record { item = now past m.item; channel = m.channel }) o)
     stays None is = refl
     stays (Some m) is =
         let number : m.item.number ≡ i = found_number (items roster past) i m is in
@@ -170,7 +170,7 @@ priority_earlier roster e past i l none =
 -- the priority of an item before the event
 pub before_earlier : (roster : List Member) (e : Event) (past : Trace) (i : ℕ) → i ≤ length past → priority_before roster e past i ≡ priority_of_item roster past i
 before_earlier roster e past i l =
-    ap priority_made (among_now past (items roster (e ∷ past)) i ∙ ap (option_map (λ (m : Made). record { item = now past m.item; channel = m.channel })) (found_earlier roster e past i l) ∙ sym (among_now past (items roster past) i))
+    ap priority_of_made (among_now past (items roster (e ∷ past)) i ∙ ap (option_map (λ (m : Made). record { item = now past m.item; channel = m.channel })) (found_earlier roster e past i l) ∙ sym (among_now past (items roster past) i))
 
 pub before_newest : (roster : List Member) (e : Event) (past : Trace) (m : Made) → item_of roster e past ≡ Some m → priority_before roster e past m.item.number ≡ m.item.priority
 before_newest roster e past m is =
@@ -206,7 +206,7 @@ abbrev pub staying : List Member → Trace → ℕ → List Item
 staying roster past h = filter (λ item. not (is_gone past item)) (items_on roster past h)
 
 -- what is pending is those, each as it is by now
-pub pending_is : (roster : List Member) (past : Trace) (h : ℕ) → pending roster past h ≡ cond (is_closed past h) [] (map (now past) (staying roster past h))
+pub pending_is : (roster : List Member) (past : Trace) (h : ℕ) → pending_items roster past h ≡ cond (is_closed past h) [] (map (now past) (staying roster past h))
 pending_is roster past h = ap (cond (is_closed past h) []) (ap (filter (λ item. not (is_gone past item))) (channel_now past h (items roster past)) ∙ staying_now past (items_on roster past h))
 
 -- one that was made so
@@ -220,7 +220,7 @@ staying_all roster past h =
     (λ item k. (k.0, not-true (is_gone past item) k.1))
 
 -- what is so of each as it is by now is so of all that is pending
-pub pending_each : (P : Item → Type 0) (roster : List Member) (past : Trace) (h : ℕ) → ((item : Item) → Stands roster past h item → is_gone past item ≡ false → P (now past item)) → AllByRecursion P (pending roster past h)
+pub pending_each : (P : Item → Type 0) (roster : List Member) (past : Trace) (h : ℕ) → ((item : Item) → Stands roster past h item → is_gone past item ≡ false → P (now past item)) → AllByRecursion P (pending_items roster past h)
 pending_each P roster past h each =
     subst (AllByRecursion P) (sym (pending_is roster past h)) (
     elim (is_closed past h) as (λ b. AllByRecursion P (cond b [] (map (now past) (staying roster past h)))) [
@@ -228,9 +228,9 @@ pending_each P roster past h each =
       | false ↦ all_map P (now past) (staying roster past h) (all_more (λ item. Stands roster past h item × (is_gone past item ≡ false)) (λ item. P (now past item)) (staying roster past h) (staying_all roster past h) (λ item k. each item k.0 k.1))
     ])
 
-pub pending_all : (roster : List Member) (past : Trace) (h : ℕ) → AllByRecursion (IsPending roster past h) (pending roster past h)
+pub pending_all : (roster : List Member) (past : Trace) (h : ℕ) → AllByRecursion (IsPending roster past h) (pending_items roster past h)
 pending_all roster past h = pending_each (IsPending roster past h) roster past h (λ item at stays. record { first = item; made = at; what = refl; stays = stays })
 
 -- each has the priority that its number has by now
-pub pending_priorities : (roster : List Member) (past : Trace) (h : ℕ) → AllByRecursion (λ item. priority_of_item roster past item.number ≡ item.priority) (pending roster past h)
+pub pending_priorities : (roster : List Member) (past : Trace) (h : ℕ) → AllByRecursion (λ item. priority_of_item roster past item.number ≡ item.priority) (pending_items roster past h)
 pending_priorities roster past h = pending_each (λ item. priority_of_item roster past item.number ≡ item.priority) roster past h (λ item at stays. item_priority roster past item.number _ at)

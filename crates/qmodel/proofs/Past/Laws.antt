@@ -11,7 +11,7 @@ use Rattle.qmodel.specs.Laws.{is_for_reply}
 use Rattle.qmodel.specs.Past.{is_failure, is_unblock_for}
 use Rattle.qmodel.specs.Receiving.{sender_for}
 use Rattle.qmodel.specs.Effects.{asks, makes, unblocks, writes}
-use Rattle.qmodel.specs.Rows.{Row, Made, Received, Written, received}
+use Rattle.qmodel.specs.Rows.{Row, Made, Received, Written, item_in_mark}
 use Rattle.qmodel.specs.declared.call.Call.{Call}
 use Rattle.qmodel.specs.declared.call.Call.TheVariants.{ChannelCreate, ConnectAttach, Send, Receive, Reply, Error, Read, Write, Info, ReceivePulse, Pulse, PrioritySet, State, ChannelDestroy, Shutdown, Unblock, ConnectDetach}
 use Rattle.qmodel.specs.declared.call.Completion.{Completion}
@@ -124,14 +124,14 @@ pub record IsReceived (f : Facts) (t : ℕ) (c : Call) (r : Received) : Type 0 w
   pub source : IsNew f t c r item ⊎ IsBest f r item
   pub given : Completion
   pub is_given : ending f t c r.by ≡ Some given
-  pub mark : received given.mark ≡ Some (r.item, r.kept.copied)
+  pub mark : item_in_mark given.mark ≡ Some (r.item, r.kept.copied)
 
 pub record RowLaws (f : Facts) (t : ℕ) (c : Call) : Type 0 where
   pub owns : (y : Completion) → (row_of f t c).own ≡ Some y → IsOwn f.number t y
   pub ends_open : (u : ℕ) (y : Completion) → (row_of f t c).ends u ≡ Some y → IsOfOpen f u y
   pub ends_settled : is_forceful c ≡ false → (u : ℕ) (y : Completion) → (row_of f t c).ends u ≡ Some y → IsSettled (f.open_call u)
-  pub own_receives : (y : Completion) (p : ℕ × ℕ) → (row_of f t c).own ≡ Some y → received y.mark ≡ Some p → IsReceipt (row_of f t c) t p
-  pub ends_receives : (u : ℕ) (y : Completion) (p : ℕ × ℕ) → (row_of f t c).ends u ≡ Some y → received y.mark ≡ Some p → IsReceipt (row_of f t c) u p
+  pub own_receives : (y : Completion) (p : ℕ × ℕ) → (row_of f t c).own ≡ Some y → item_in_mark y.mark ≡ Some p → IsReceipt (row_of f t c) t p
+  pub ends_receives : (u : ℕ) (y : Completion) (p : ℕ × ℕ) → (row_of f t c).ends u ≡ Some y → item_in_mark y.mark ≡ Some p → IsReceipt (row_of f t c) u p
   pub receives : (r : Received) → (row_of f t c).receipt ≡ Some r → IsReceived f t c r
   pub sends : (m : Made) → makes f t c ≡ Some m → is_pulse m.item.what ≡ false → (row_of f t c).own ≡ None
   pub makes_open : (m : Made) → makes f t c ≡ Some m → is_some (f.channel m.channel) ≡ true

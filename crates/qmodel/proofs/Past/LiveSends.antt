@@ -10,7 +10,7 @@ use Rattle.qmodel.specs.Cutting.{is_over}
 use Rattle.qmodel.specs.Facts.{Facts, is_for_answer}
 use Rattle.qmodel.specs.Effects.{asks, attaches, detaches, makes, unblocks, writes}
 use Rattle.qmodel.specs.Lawful.{facts_of, IsLawful}
-use Rattle.qmodel.specs.Past.{attached, connection_at, open_call}
+use Rattle.qmodel.specs.Past.{attached_connection, connection_at, open_call}
 use Rattle.qmodel.specs.Rows.{names}
 use Rattle.qmodel.specs.Step.{after_receipt, after_unblock, after_write, connection_after, open_call_after, put_at, unblocked_wait, unless}
 use Rattle.qmodel.specs.Trace.{Trace}
@@ -139,5 +139,5 @@ live_over roster (e ∷ past) l u o is answer = elim (l.2) [
 ]
 
 -- the connection of an open Send is the one that was attached
-pub over_attached : (roster : List Member) (past : Trace) (u : ℕ) (o : OpenCall) → IsLawful roster past → open_call roster past u ≡ Some o → is_for_answer o.wait ≡ true → connection_at roster past (over o.wait) ≡ attached roster past (over o.wait)
+pub over_attached : (roster : List Member) (past : Trace) (u : ℕ) (o : OpenCall) → IsLawful roster past → open_call roster past u ≡ Some o → is_for_answer o.wait ≡ true → connection_at roster past (over o.wait) ≡ attached_connection roster past (over o.wait)
 over_attached roster past u o l is answer = live_attached roster past (over o.wait) (live_over roster past l u o is answer)

@@ -4,7 +4,7 @@ use Rattle.std.specs.Prelude.{Option, None, Some, filter, not, unwrap_or}
 use Rattle.std.specs.List.{AllByRecursion}
 use Rattle.std.proofs.lemmas.Bool.{eqb-true, eq-eqb, or_parts}
 use Rattle.std.proofs.lemmas.List.{map-append}
-use Rattle.qqueue.specs.Best.{is_pulse, with_priority, without}
+use Rattle.qqueue.specs.Best.{is_pulse, with_priority, without_item}
 use Rattle.qqueue.specs.declared.item.Item.{Item}
 use Rattle.qtables.specs.declared.member.Member.{Member}
 use Rattle.qmodel.specs.Answer.{Outcome}
@@ -12,9 +12,9 @@ use Rattle.qmodel.specs.Cutting.{is_unread_send}
 use Rattle.qmodel.specs.Facts.{Facts}
 use Rattle.qmodel.specs.Effects.{makes, sets}
 use Rattle.qmodel.specs.Lawful.{IsLawful, facts_of, with_event}
-use Rattle.qmodel.specs.Past.{is_gone, is_taken, made_on, set_by, worth}
+use Rattle.qmodel.specs.Past.{is_gone, is_taken, made_on, priority_set_by, worth}
 use Rattle.qmodel.specs.Rows.{Received, Setting}
-use Rattle.qmodel.specs.Step.{is_cut, left_by, moved, taken_out}
+use Rattle.qmodel.specs.Step.{is_cut, uncut_items, items_with_priority_set, unreceived_items}
 use Rattle.qmodel.specs.Trace.{Event, Trace}
 use Rattle.qmodel.specs.declared.call.Call.{Call}
 use Rattle.qmodel.specs.declared.call.Completion.{Completion}
@@ -36,13 +36,13 @@ filter_map_same p g (x ∷ items) same =
       | false ↦ filter_map_same p g items same
     ])
 
-pub left_map : (f : Facts) (t : ℕ) (c : Call) (h : ℕ) (g : Item → Item) (items : List Item) → ((x : Item) → (g x).number ≡ x.number) → left_by f t c h (map g items) ≡ map g (left_by f t c h items)
+pub left_map : (f : Facts) (t : ℕ) (c : Call) (h : ℕ) (g : Item → Item) (items : List Item) → ((x : Item) → (g x).number ≡ x.number) → uncut_items f t c h (map g items) ≡ map g (uncut_items f t c h items)
 left_map f t c h g items same = filter_map_same (λ item. not (is_cut f t c h item.number)) g items (λ x. ap (λ i. not (is_cut f t c h i)) (same x))
 
-pub out_map : (r : Option Received) (h : ℕ) (g : Item → Item) (items : List Item) → ((x : Item) → (g x).number ≡ x.number) → taken_out r h (map g items) ≡ map g (taken_out r h items)
+pub out_map : (r : Option Received) (h : ℕ) (g : Item → Item) (items : List Item) → ((x : Item) → (g x).number ≡ x.number) → unreceived_items r h (map g items) ≡ map g (unreceived_items r h items)
 out_map None h g items same = refl
 out_map (Some r) h g items same =
-    elim (eqb r.channel h) as (λ b. cond b (without r.item (map g items)) (map g items) ≡ map g (cond b (without r.item items) items)) [
+    elim (eqb r.channel h) as (λ b. cond b (without_item r.item (map g items)) (map g items) ≡ map g (cond b (without_item r.item items) items)) [
       | true ↦ filter_map_same (λ item. not (eqb item.number r.item)) g items (λ x. ap (λ i. not (eqb i r.item)) (same x))
       | false ↦ refl
     ]
@@ -59,31 +59,31 @@ mover_number f h s item = elim (is_unread_send f.connection h item.number (f.ope
 pub mover_what : (f : Facts) (h : ℕ) (s : Setting) (item : Item) → (mover f h s item).what ≡ item.what
 mover_what f h s item = elim (is_unread_send f.connection h item.number (f.open_call s.thread)) as (λ b. (cond b (with_priority s.priority item) item).what ≡ item.what) [ true ↦ refl | false ↦ refl ]
 
-pub moved_left : (f : Facts) (t : ℕ) (c : Call) (h : ℕ) (s : Option Setting) (items : List Item) → left_by f t c h (moved f h s items) ≡ moved f h s (left_by f t c h items)
+pub moved_left : (f : Facts) (t : ℕ) (c : Call) (h : ℕ) (s : Option Setting) (items : List Item) → uncut_items f t c h (items_with_priority_set f h s items) ≡ items_with_priority_set f h s (uncut_items f t c h items)
 moved_left f t c h None items = refl
 moved_left f t c h (Some s) items = left_map f t c h (mover f h s) items (mover_number f h s)
 
-pub moved_out : (f : Facts) (r : Option Received) (h : ℕ) (s : Option Setting) (items : List Item) → taken_out r h (moved f h s items) ≡ moved f h s (taken_out r h items)
+pub moved_out : (f : Facts) (r : Option Received) (h : ℕ) (s : Option Setting) (items : List Item) → unreceived_items r h (items_with_priority_set f h s items) ≡ items_with_priority_set f h s (unreceived_items r h items)
 moved_out f r h None items = refl
 moved_out f r h (Some s) items = out_map r h (mover f h s) items (mover_number f h s)
 
-pub moved_append : (f : Facts) (h : ℕ) (s : Option Setting) (xs ys : List Item) → moved f h s (xs ++ ys) ≡ moved f h s xs ++ moved f h s ys
+pub moved_append : (f : Facts) (h : ℕ) (s : Option Setting) (xs ys : List Item) → items_with_priority_set f h s (xs ++ ys) ≡ items_with_priority_set f h s xs ++ items_with_priority_set f h s ys
 moved_append f h None xs ys = refl
 moved_append f h (Some s) xs ys = map-append (mover f h s) xs ys
 
-pub moved_nothing : (f : Facts) (h : ℕ) (s : Option Setting) → moved f h s [] ≡ []
+pub moved_nothing : (f : Facts) (h : ℕ) (s : Option Setting) → items_with_priority_set f h s [] ≡ []
 moved_nothing f h None = refl
 moved_nothing f h (Some s) = refl
 
 -- what the call makes doesn't move by it
-pub moved_made : (f : Facts) (t : ℕ) (c : Call) (h : ℕ) → moved f h (sets c) (made_on h (makes f t c)) ≡ made_on h (makes f t c)
+pub moved_made : (f : Facts) (t : ℕ) (c : Call) (h : ℕ) → items_with_priority_set f h (sets c) (made_on h (makes f t c)) ≡ made_on h (makes f t c)
 moved_made f t c h = elim (sets_alone c) [
-  | inl none ↦ ap (λ s. moved f h s (made_on h (makes f t c))) none
-  | inr alone ↦ ap (λ o. moved f h (sets c) (made_on h o)) (alone.makes_none f t) ∙ moved_nothing f h (sets c) ∙ ap (made_on h) (sym (alone.makes_none f t))
+  | inl none ↦ ap (λ s. items_with_priority_set f h s (made_on h (makes f t c))) none
+  | inr alone ↦ ap (λ o. items_with_priority_set f h (sets c) (made_on h o)) (alone.makes_none f t) ∙ moved_nothing f h (sets c) ∙ ap (made_on h) (sym (alone.makes_none f t))
 ]
 
 -- what is so of items whatever their priority is so of those that moved
-pub all_moved : (P : Item → Type 0) (f : Facts) (h : ℕ) (s : Option Setting) (items : List Item) → ((priority : ℕ) (x : Item) → P x → P (with_priority priority x)) → AllByRecursion P items → AllByRecursion P (moved f h s items)
+pub all_moved : (P : Item → Type 0) (f : Facts) (h : ℕ) (s : Option Setting) (items : List Item) → ((priority : ℕ) (x : Item) → P x → P (with_priority priority x)) → AllByRecursion P items → AllByRecursion P (items_with_priority_set f h s items)
 all_moved P f h None items any all = all
 all_moved P f h (Some s) items any all =
     all_map P (mover f h s) items (all_more P (λ item. P (mover f h s item)) items all (λ item p.
@@ -107,7 +107,7 @@ moved_one roster past t c X h s item l a set at stays =
           let k = sent_by roster past h item l p message in
           let below : item.number ≤ length past = item_below roster past item.number _ at in
           let unread : is_taken past item.number ≡ false = (or_parts _ _ stays).0 in
-          let set_it : set_by e past k.sender ≡ cond (eqb s.thread k.sender) (Some s.priority) None = rw (accepted roster past t c X a, set) refl in
+          let set_it : priority_set_by e past k.sender ≡ cond (eqb s.thread k.sender) (Some s.priority) None = rw (accepted roster past t c X a, set) refl in
           let is_worth : worth (e ∷ past) item ≡ unwrap_or (cond (eqb s.thread k.sender) (Some s.priority) None) (worth past item) =
           worth_set e past item k.sender below message unread k.sent ∙ ap (λ o. unwrap_or o (worth past item)) set_it in
           ap (λ q. with_priority q item) is_worth ∙ (
@@ -140,11 +140,11 @@ same_now roster e past h items all same =
 
 -- as they are after an accepted event
 pub moved_now : (roster : List Member) (past : Trace) (t : ℕ) (c : Call) (X : List Completion) (h : ℕ) (items : List Item) → IsLawful roster past → Outcome true (facts_of roster past) t c X
-    → AllByRecursion (λ item. Stands roster past h item × (is_gone past item ≡ false)) items → map (now (with_event t c X past)) items ≡ moved (facts_of roster past) h (sets c) (map (now past) items)
+    → AllByRecursion (λ item. Stands roster past h item × (is_gone past item ≡ false)) items → map (now (with_event t c X past)) items ≡ items_with_priority_set (facts_of roster past) h (sets c) (map (now past) items)
 moved_now roster past t c X h items l a all =
     let f = facts_of roster past in
     let e : Event = record { thread = t; call = c; endings = X } in
-    elim (sets c) as (λ o. sets c ≡ o → map (now (e ∷ past)) items ≡ moved f h o (map (now past) items)) [
+    elim (sets c) as (λ o. sets c ≡ o → map (now (e ∷ past)) items ≡ items_with_priority_set f h o (map (now past) items)) [
       | None ↦ λ none. same_now roster e past h items all (λ item at. worth_stays e past item (item_below roster past item.number _ at) (sets_none e past item.number none))
       | Some s ↦ λ set.
           map_same (now (e ∷ past)) (λ item. mover f h s (now past item)) items

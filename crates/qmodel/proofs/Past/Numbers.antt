@@ -7,7 +7,7 @@ use Rattle.std.proofs.lemmas.Option.{same_Some, none-some}
 use Rattle.qtables.specs.declared.member.Member.{Member}
 use Rattle.qmodel.specs.Facts.{is_for_answer}
 use Rattle.qmodel.specs.Headline.CopiedExactly.{call_at}
-use Rattle.qmodel.specs.Past.{by_now, filled, is_accepted, is_ended, made_at, newest_block, unless_ended, with_receipt, held_with, open_call, receipt_of, priority_of_item, unblocked_among, items}
+use Rattle.qmodel.specs.Past.{items_by_now, call_by_now, is_accepted, is_ended, made_at, newest_block, unless_ended, with_receipt, wait_with_receipt, open_call, copied_count_of, priority_of_item, unblocked_among, items}
 use Rattle.qmodel.specs.Effects.{asks}
 use Rattle.qmodel.specs.Rows.{with_buffer}
 use Rattle.qmodel.specs.Trace.{Event, Trace}
@@ -126,7 +126,7 @@ pub receipt_number : (priority : ℕ) (unblocked : Bool) (r : Option ℕ) (b : O
 receipt_number priority unblocked None b = refl
 receipt_number priority unblocked (Some copied) b = refl
 
-pub held_for_answer : (receipt : Receipt) (w : Wait) → is_for_answer (held_with receipt w) ≡ is_for_answer w
+pub held_for_answer : (receipt : Receipt) (w : Wait) → is_for_answer (wait_with_receipt receipt w) ≡ is_for_answer w
 held_for_answer receipt (Answer coid message reply_buffer before) = refl
 held_for_answer receipt (ForItem chid kind buffer) = refl
 
@@ -144,27 +144,27 @@ pub buffer_settled : (f : List ℕ → List ℕ) (w : Wait) → is_settled (with
 buffer_settled f (Answer coid message reply_buffer receipt) = refl
 buffer_settled f (ForItem chid kind buffer) = refl
 
-pub filled_answer : (past : Trace) (b : OpenCall) → is_for_answer (filled past b).wait ≡ is_for_answer b.wait
+pub filled_answer : (past : Trace) (b : OpenCall) → is_for_answer (call_by_now past b).wait ≡ is_for_answer b.wait
 filled_answer past b = buffer_answer _ b.wait
 
-pub filled_settled : (past : Trace) (b : OpenCall) → is_settled (filled past b).wait ≡ is_settled b.wait
+pub filled_settled : (past : Trace) (b : OpenCall) → is_settled (call_by_now past b).wait ≡ is_settled b.wait
 filled_settled past b = buffer_settled _ b.wait
 
 -- an unblock pulse was made for message i
 abbrev pub is_unblocked : List Member → Trace → ℕ → Bool
-is_unblocked roster past i = unblocked_among (by_now past (items roster past)) i
+is_unblocked roster past i = unblocked_among (items_by_now past (items roster past)) i
 
 -- an open call is the newest blocking call of its thread, and isn't ended
 pub record IsOpen (roster : List Member) (past : Trace) (u : ℕ) (o : OpenCall) : Type 0 where
   pub block : OpenCall
   pub is : newest_block past u ≡ Some block
   pub going : is_ended past block.number ≡ false
-  pub same : o ≡ with_receipt (priority_of_item roster past block.number) (is_unblocked roster past block.number) (receipt_of past block.number) (filled past block)
+  pub same : o ≡ with_receipt (priority_of_item roster past block.number) (is_unblocked roster past block.number) (copied_count_of past block.number) (call_by_now past block)
   pub number : o.number ≡ block.number
 
 pub open_parts : (roster : List Member) (past : Trace) (u : ℕ) (o : OpenCall) → open_call roster past u ≡ Some o → IsOpen roster past u o
 open_parts roster past u o is =
-    let kept = λ (b : OpenCall). with_receipt (priority_of_item roster past b.number) (is_unblocked roster past b.number) (receipt_of past b.number) (filled past b) in
+    let kept = λ (b : OpenCall). with_receipt (priority_of_item roster past b.number) (is_unblocked roster past b.number) (copied_count_of past b.number) (call_by_now past b) in
     elim (newest_block past u) as (λ n. newest_block past u ≡ n → option_map kept (unless_ended past n) ≡ Some o → IsOpen roster past u o) [
       | None ↦ λ e at. absurd (none-some o at)
       | Some b ↦ λ e.
@@ -172,7 +172,7 @@ open_parts roster past u o is =
             | true ↦ λ h at. absurd (none-some o at)
             | false ↦ λ h at.
                 let same : o ≡ kept b = sym (same_Some (kept b) o at) in
-                record { block = b; is = e; going = h; same = same; number = ap (λ x. x.number) same ∙ receipt_number _ _ _ (filled past b) }
+                record { block = b; is = e; going = h; same = same; number = ap (λ x. x.number) same ∙ receipt_number _ _ _ (call_by_now past b) }
           ] refl
     ] refl is
 
@@ -181,7 +181,7 @@ open_below roster past u o is = let k = open_parts roster past u o is in let bel
 
 -- a newest blocking call that isn't ended is open
 pub open_from : (roster : List Member) (past : Trace) (u : ℕ) (b : OpenCall) → newest_block past u ≡ Some b → is_ended past b.number ≡ false
-    → open_call roster past u ≡ Some (with_receipt (priority_of_item roster past b.number) (is_unblocked roster past b.number) (receipt_of past b.number) (filled past b))
+    → open_call roster past u ≡ Some (with_receipt (priority_of_item roster past b.number) (is_unblocked roster past b.number) (copied_count_of past b.number) (call_by_now past b))
 open_from roster past u b is going = rw (is, going) refl
 
 -- the open calls of two threads have two numbers

@@ -12,10 +12,10 @@ use Rattle.qtables.specs.declared.member.Member.{Member}
 use Rattle.qmodel.specs.Answer.{row_of, Outcome}
 use Rattle.qmodel.specs.Facts.{Facts, sender, threads_of}
 use Rattle.qmodel.specs.Lawful.{facts_of, IsLawful, with_event}
-use Rattle.qmodel.specs.Past.{filled, refuses, ends, is_ended, is_taken, item_of, receipt_of, priority_of_item, newest_block, held_with, unless_ended, with_receipt, open_call, unblocked_among}
+use Rattle.qmodel.specs.Past.{call_by_now, refuses, has_ending_of, is_ended, is_taken, item_of, copied_count_of, priority_of_item, newest_block, wait_with_receipt, unless_ended, with_receipt, open_call, unblocked_among}
 use Rattle.qmodel.specs.Receiving.{sender_for}
 use Rattle.qmodel.specs.Effects.{asks, makes, unblocks, writes}
-use Rattle.qmodel.specs.Rows.{Made, Received, Written, written_over}
+use Rattle.qmodel.specs.Rows.{Made, Received, Written, buffer_after_write}
 use Rattle.qmodel.specs.Step.{held_call, is_thread, after_receipt, after_unblock, after_write, unblocked_call, unless, written_call, open_call_after}
 use Rattle.qmodel.specs.Trace.{Event, Trace}
 use Rattle.qmodel.specs.declared.call.Call.{Call}
@@ -55,8 +55,8 @@ kept_after : (o : Option Received) (u i priority : ℕ) (unblocked : Bool) (befo
     → Some (with_receipt priority unblocked (option_or (copied_by o i) before) b) ≡ after_receipt o u (Some (with_receipt priority unblocked before b))
 kept_after None u i priority unblocked before b h = refl
 kept_after (Some r) u i priority unblocked before b h = elim (h r refl) [
-  | inl k ↦ rw (k.item, k.sender, k.first) (ap (λ p. Some (record { number = b.number; wait = held_with (record { priority = p; copied = r.kept.copied; unblocked = unblocked }) b.wait })) (sym k.priority_is)
-      ∙ ap (λ x. Some (record { number = b.number; wait = held_with (record { priority = r.kept.priority; copied = r.kept.copied; unblocked = x }) b.wait })) (sym k.unblocked_is))
+  | inl k ↦ rw (k.item, k.sender, k.first) (ap (λ p. Some (record { number = b.number; wait = wait_with_receipt (record { priority = p; copied = r.kept.copied; unblocked = unblocked }) b.wait })) (sym k.priority_is)
+      ∙ ap (λ x. Some (record { number = b.number; wait = wait_with_receipt (record { priority = r.kept.priority; copied = r.kept.copied; unblocked = x }) b.wait })) (sym k.unblocked_is))
   | inr k ↦ rw (k.item, k.sender) refl
 ]
 
@@ -79,7 +79,7 @@ not_sender_for f item u h = elim (is_pulse item.what) as (λ b. is_thread (cond 
 
 -- an open call of another thread than the caller, and the receipt of the row
 other_holds : (roster : List Member) (past : Trace) (t : ℕ) (c : Call) (u : ℕ) (b : OpenCall) (r : Received) → IsLawful roster past → eqb u t ≡ false → newest_block past u ≡ Some b → is_ended past b.number ≡ false
-    → IsReceived (facts_of roster past) t c r → IsIts r u b.number (priority_of_item roster past b.number) (is_unblocked roster past b.number) (receipt_of past b.number) ⊎ IsOthers r u b.number
+    → IsReceived (facts_of roster past) t c r → IsIts r u b.number (priority_of_item roster past b.number) (is_unblocked roster past b.number) (copied_count_of past b.number) ⊎ IsOthers r u b.number
 other_holds roster past t c u b r l other is going k =
     let f = facts_of roster past in
     let below : b.number ≤ length past = block_below past u b is in
@@ -100,11 +100,11 @@ other_holds roster past t c u b r l other is going k =
             | inl same ↦
                 let number : k.item.number ≡ b.number = k.number ∙ eqb-true _ _ same in
                 let made = subst (λ i. item_at roster past i ≡ Some (record { item = place.first; channel = r.channel })) number place.made in
-                let sends = send_from r.item (with_receipt (priority_of_item roster past b.number) (is_unblocked roster past b.number) (receipt_of past b.number) (filled past b)) (receipt_number _ _ _ (filled past b) ∙ sym (eqb-true _ _ same)) (receipt_for_answer _ _ _ (filled past b) ∙ filled_answer past b ∙ item_answer roster past u _ b made is) in
+                let sends = send_from r.item (with_receipt (priority_of_item roster past b.number) (is_unblocked roster past b.number) (copied_count_of past b.number) (call_by_now past b)) (receipt_number _ _ _ (call_by_now past b) ∙ sym (eqb-true _ _ same)) (receipt_for_answer _ _ _ (call_by_now past b) ∙ filled_answer past b ∙ item_answer roster past u _ b made is) in
                 let found : sender f r.item ≡ Some u = sender_found f.open_call r.item (threads_of roster) u (known roster u (block_known roster past u b l is)) (rw waits sends)
-                (λ v e. let w = send_parts r.item (f.open_call v) e in open_thread roster past v u w.waiting _ w.is waits (w.number ∙ eqb-true _ _ same ∙ sym (receipt_number _ _ _ (filled past b)))) in
+                (λ v e. let w = send_parts r.item (f.open_call v) e in open_thread roster past v u w.waiting _ w.is waits (w.number ∙ eqb-true _ _ same ∙ sym (receipt_number _ _ _ (call_by_now past b)))) in
                 let message = sym (ap is_pulse place.what) ∙ item_message roster past u _ b made is in
-                let untaken = none_of (receipt_of past b.number) (subst (λ i. is_taken past i ≡ false) number (or_parts _ _ place.stays).0) in
+                let untaken = none_of (copied_count_of past b.number) (subst (λ i. is_taken past i ≡ false) number (or_parts _ _ place.stays).0) in
                 inl (record {
                   item = same;
                   sender = rw (old.sender_is ∙ message_sender f k.item message ∙ ap (sender f) k.number ∙ found) (eqb_same u);
@@ -114,7 +114,7 @@ other_holds roster past t c u b r l other is going k =
                 })
             | inr differs ↦ inr (record {
               item = differs;
-              sender = rw (old.sender_is) (not_sender_for f k.item u (not_sender f k.item.number u (λ o e n. eqb-false _ _ differs (sym (n ∙ k.number) ∙ ap (λ w. w.number) (same_Some o _ (sym e ∙ waits)) ∙ receipt_number _ _ _ (filled past b)))));
+              sender = rw (old.sender_is) (not_sender_for f k.item u (not_sender f k.item.number u (λ o e n. eqb-false _ _ differs (sym (n ∙ k.number) ∙ ap (λ w. w.number) (same_Some o _ (sym e ∙ waits)) ∙ receipt_number _ _ _ (call_by_now past b)))));
             })
           ]
     ]
@@ -147,7 +147,7 @@ own_holds roster past t c X o r l a asked k =
 
 -- what is kept of an open call's receipt, if it had one
 abbrev kept : List Member → Trace → OpenCall → OpenCall
-kept roster past o = with_receipt (priority_of_item roster past o.number) (is_unblocked roster past o.number) (receipt_of past o.number) (filled past o)
+kept roster past o = with_receipt (priority_of_item roster past o.number) (is_unblocked roster past o.number) (copied_count_of past o.number) (call_by_now past o)
 
 -- the newest blocking calls after an event
 newest_refused : (past : Trace) (t : ℕ) (c : Call) (X : List Completion) (u : ℕ) → refuses X (length past + 1) ≡ true → newest_block (with_event t c X past) u ≡ newest_block past u
@@ -170,16 +170,16 @@ open_refused roster past t c X u a =
           let below : b.number ≤ length past = block_below past u b e in
           let priority : priority_of_item roster (with_event t c X past) b.number ≡ priority_of_item roster past b.number =
           priority_earlier roster (record { thread = t; call = c; endings = X }) past b.number below (refused_sets_none (record { thread = t; call = c; endings = X }) past b.number (ap not (refused roster past t c X a))) in
-          let receipt : receipt_of (with_event t c X past) b.number ≡ receipt_of past b.number = rw (refused_receipts (facts_of roster past) t c X b.number a) refl in
+          let receipt : copied_count_of (with_event t c X past) b.number ≡ copied_count_of past b.number = rw (refused_receipts (facts_of roster past) t c X b.number a) refl in
           let ended : is_ended (with_event t c X past) b.number ≡ is_ended past b.number = rw (refused_ends roster past t c X b.number a (λ s. omega arith)) refl in
-          let written : filled (with_event t c X past) b ≡ filled past b = filled_refused (record { thread = t; call = c; endings = X }) past b (refused roster past t c X a) in
+          let written : call_by_now (with_event t c X past) b ≡ call_by_now past b = filled_refused (record { thread = t; call = c; endings = X }) past b (refused roster past t c X a) in
           let unblocked : is_unblocked roster (with_event t c X past) b.number ≡ is_unblocked roster past b.number =
           unblocked_by roster (record { thread = t; call = c; endings = X }) past b.number ∙ rw (refused roster past t c X a) (or-false (is_unblocked roster past b.number)) in
           let same : now b ≡ kept roster past b =
-          ap (λ p. with_receipt p (is_unblocked roster (with_event t c X past) b.number) (receipt_of (with_event t c X past) b.number) (filled (with_event t c X past) b)) priority
-          ∙ ap (λ x. with_receipt (priority_of_item roster past b.number) x (receipt_of (with_event t c X past) b.number) (filled (with_event t c X past) b)) unblocked
-          ∙ ap (λ r. with_receipt (priority_of_item roster past b.number) (is_unblocked roster past b.number) r (filled (with_event t c X past) b)) receipt
-          ∙ ap (with_receipt (priority_of_item roster past b.number) (is_unblocked roster past b.number) (receipt_of past b.number)) written in
+          ap (λ p. with_receipt p (is_unblocked roster (with_event t c X past) b.number) (copied_count_of (with_event t c X past) b.number) (call_by_now (with_event t c X past) b)) priority
+          ∙ ap (λ x. with_receipt (priority_of_item roster past b.number) x (copied_count_of (with_event t c X past) b.number) (call_by_now (with_event t c X past) b)) unblocked
+          ∙ ap (λ r. with_receipt (priority_of_item roster past b.number) (is_unblocked roster past b.number) r (call_by_now (with_event t c X past) b)) receipt
+          ∙ ap (with_receipt (priority_of_item roster past b.number) (is_unblocked roster past b.number) (copied_count_of past b.number)) written in
           ap (λ d. option_map now (cond d None (Some b))) ended ∙ (
           elim (is_ended past b.number) as (λ d. option_map now (cond d None (Some b)) ≡ option_map (kept roster past) (cond d None (Some b))) [ true ↦ refl | false ↦ ap Some same ])
     ] refl)
@@ -221,10 +221,10 @@ receipt_priority p q unblocked None b same = refl
 receipt_priority p q unblocked (Some copied) b same = ap (λ i. with_receipt i unblocked (Some copied) b) (same copied refl)
 
 -- a message that is received by now was so before, or the call receives it
-received_before : (roster : List Member) (past : Trace) (t : ℕ) (c : Call) (i copied : ℕ) → option_or (copied_by (row_of (facts_of roster past) t c).receipt i) (receipt_of past i) ≡ Some copied
+received_before : (roster : List Member) (past : Trace) (t : ℕ) (c : Call) (i copied : ℕ) → option_or (copied_by (row_of (facts_of roster past) t c).receipt i) (copied_count_of past i) ≡ Some copied
     → (is_taken past i ≡ true) ⊎ (is_some (row_of (facts_of roster past) t c).receipt ≡ true)
 received_before roster past t c i copied is =
-    elim ((row_of (facts_of roster past) t c).receipt) as (λ o. option_or (copied_by o i) (receipt_of past i) ≡ Some copied → (is_taken past i ≡ true) ⊎ (is_some o ≡ true)) [
+    elim ((row_of (facts_of roster past) t c).receipt) as (λ o. option_or (copied_by o i) (copied_count_of past i) ≡ Some copied → (is_taken past i ≡ true) ⊎ (is_some o ≡ true)) [
       | None ↦ λ s. inl (ap is_some s)
       | Some r ↦ λ s. inr refl
     ] is
@@ -252,32 +252,32 @@ open_other roster past t c X u l member a other =
     ≡ unless (is_some (R.ends u)) (other_after (facts_of roster past) t c u (option_map (kept roster past) (unless_ended past o)))) [
       | None ↦ λ e. sym nothing
       | Some b ↦ λ e.
-          elim (is_ended past b.number) as (λ d. is_ended past b.number ≡ d → option_map (kept roster (with_event t c X past)) (cond (ends X b.number || d) None (Some b))
+          elim (is_ended past b.number) as (λ d. is_ended past b.number ≡ d → option_map (kept roster (with_event t c X past)) (cond (has_ending_of X b.number || d) None (Some b))
           ≡ unless (is_some (R.ends u)) (other_after (facts_of roster past) t c u (option_map (kept roster past) (cond d None (Some b))))) [
-            | true ↦ λ gone. rw (or-true (ends X b.number)) (sym nothing)
+            | true ↦ λ gone. rw (or-true (has_ending_of X b.number)) (sym nothing)
             | false ↦ λ going.
                 let below : b.number ≤ length past = block_below past u b e in
-                let ended : ends X b.number ≡ is_some (R.ends u) =
-                ap (ends X) (sym (receipt_number _ _ _ (filled past b))) ∙ ends_other roster past t c X u (kept roster past b) l a other (open_from roster past u b e going) in
-                let receipt : receipt_of (with_event t c X past) b.number ≡ option_or (copied_by R.receipt b.number) (receipt_of past b.number) = rw (accepted_receipts roster past t c X b.number l member a) refl in
+                let ended : has_ending_of X b.number ≡ is_some (R.ends u) =
+                ap (has_ending_of X) (sym (receipt_number _ _ _ (call_by_now past b))) ∙ ends_other roster past t c X u (kept roster past b) l a other (open_from roster past u b e going) in
+                let receipt : copied_count_of (with_event t c X past) b.number ≡ option_or (copied_by R.receipt b.number) (copied_count_of past b.number) = rw (accepted_receipts roster past t c X b.number l member a) refl in
                 let waits = open_from roster past u b e going in
                 let old : Bool = is_unblocked roster past b.number in
                 let new : Bool = unblocked_among (option_to_list M) b.number in
                 let unblocked : is_unblocked roster (with_event t c X past) b.number ≡ (old || new) = unblocked_by roster (record { thread = t; call = c; endings = X }) past b.number ∙ rw (accepted roster past t c X a) refl in
-                let marked : new ≡ marks M (unblocks c) u = ap (unblocked_among (option_to_list M)) (sym (receipt_number _ _ _ (filled past b))) ∙ marks_it roster past t c u (kept roster past b) waits in
+                let marked : new ≡ marks M (unblocks c) u = ap (unblocked_among (option_to_list M)) (sym (receipt_number _ _ _ (call_by_now past b))) ∙ marks_it roster past t c u (kept roster past b) waits in
                 let now : Some (kept roster (with_event t c X past) b) ≡ other_after (facts_of roster past) t c u (Some (kept roster past b)) =
-                ap Some (receipt_priority (priority_of_item roster (with_event t c X past) b.number) (priority_of_item roster past b.number) (is_unblocked roster (with_event t c X past) b.number) (receipt_of (with_event t c X past) b.number) (filled (with_event t c X past) b)
+                ap Some (receipt_priority (priority_of_item roster (with_event t c X past) b.number) (priority_of_item roster past b.number) (is_unblocked roster (with_event t c X past) b.number) (copied_count_of (with_event t c X past) b.number) (call_by_now (with_event t c X past) b)
                 (λ copied some. held_priority roster past t c X b.number below (received_before roster past t c b.number copied (sym receipt ∙ some))))
-                ∙ ap (λ x. Some (with_receipt (priority_of_item roster past b.number) x (receipt_of (with_event t c X past) b.number) (filled (with_event t c X past) b))) unblocked
-                ∙ ap (λ r. Some (with_receipt (priority_of_item roster past b.number) (old || new) r (filled (with_event t c X past) b))) receipt
-                ∙ ap (λ w. Some (with_receipt (priority_of_item roster past b.number) (old || new) (option_or (copied_by R.receipt b.number) (receipt_of past b.number)) w)) (filled_accepted (record { thread = t; call = c; endings = X }) past b (accepted roster past t c X a))
-                ∙ unblocked_after M (unblocks c) u old new (priority_of_item roster past b.number) (option_or (copied_by R.receipt b.number) (receipt_of past b.number)) (changed (written_over (writes c) b.number) (filled past b)) marked
-                (λ is. some_later (copied_by R.receipt b.number) (receipt_of past b.number) (unblocked_now roster past t c b.number is).taken)
-                ∙ ap (after_unblock M (unblocks c) u) (kept_after R.receipt u b.number (priority_of_item roster past b.number) old (receipt_of past b.number) (changed (written_over (writes c) b.number) (filled past b))
+                ∙ ap (λ x. Some (with_receipt (priority_of_item roster past b.number) x (copied_count_of (with_event t c X past) b.number) (call_by_now (with_event t c X past) b))) unblocked
+                ∙ ap (λ r. Some (with_receipt (priority_of_item roster past b.number) (old || new) r (call_by_now (with_event t c X past) b))) receipt
+                ∙ ap (λ w. Some (with_receipt (priority_of_item roster past b.number) (old || new) (option_or (copied_by R.receipt b.number) (copied_count_of past b.number)) w)) (filled_accepted (record { thread = t; call = c; endings = X }) past b (accepted roster past t c X a))
+                ∙ unblocked_after M (unblocks c) u old new (priority_of_item roster past b.number) (option_or (copied_by R.receipt b.number) (copied_count_of past b.number)) (changed (buffer_after_write (writes c) b.number) (call_by_now past b)) marked
+                (λ is. some_later (copied_by R.receipt b.number) (copied_count_of past b.number) (unblocked_now roster past t c b.number is).taken)
+                ∙ ap (after_unblock M (unblocks c) u) (kept_after R.receipt u b.number (priority_of_item roster past b.number) old (copied_count_of past b.number) (changed (buffer_after_write (writes c) b.number) (call_by_now past b))
                 (λ r is. other_holds roster past t c u b r l other e going ((laws_of (facts_of roster past) t c X a).receives r is))
-                ∙ ap (after_receipt R.receipt u) (receipt_written (facts_of roster past) (writes c) u (priority_of_item roster past b.number) old (receipt_of past b.number) (filled past b) (receipt_number _ _ _ (filled past b))
-                (λ x is. written_sender roster past t c X u (kept roster past b) x a waits is ∙ ap (eqb x.message) (receipt_number _ _ _ (filled past b))))) in
-                rw (or-false (ends X b.number), ended) (
+                ∙ ap (after_receipt R.receipt u) (receipt_written (facts_of roster past) (writes c) u (priority_of_item roster past b.number) old (copied_count_of past b.number) (call_by_now past b) (receipt_number _ _ _ (call_by_now past b))
+                (λ x is. written_sender roster past t c X u (kept roster past b) x a waits is ∙ ap (eqb x.message) (receipt_number _ _ _ (call_by_now past b))))) in
+                rw (or-false (has_ending_of X b.number), ended) (
                 elim (is_some (R.ends u)) as (λ d. option_map (kept roster (with_event t c X past)) (cond d None (Some b)) ≡ unless d (other_after (facts_of roster past) t c u (Some (kept roster past b)))) [ true ↦ refl | false ↦ now ])
           ] refl
     ] refl
@@ -286,8 +286,8 @@ open_other roster past t c X u l member a other =
 still : (roster : List Member) (e : Event) (past : Trace) (o : Option OpenCall) → option_map (kept roster past) (unless_ended past o) ≡ None → option_map (kept roster (e ∷ past)) (unless_ended (e ∷ past) o) ≡ None
 still roster e past None h = refl
 still roster e past (Some b) h =
-    elim (is_ended past b.number) as (λ d. option_map (kept roster past) (cond d None (Some b)) ≡ None → option_map (kept roster (e ∷ past)) (cond (ends e.endings b.number || d) None (Some b)) ≡ None) [
-      | true ↦ λ h. rw (or-true (ends e.endings b.number)) refl
+    elim (is_ended past b.number) as (λ d. option_map (kept roster past) (cond d None (Some b)) ≡ None → option_map (kept roster (e ∷ past)) (cond (has_ending_of e.endings b.number || d) None (Some b)) ≡ None) [
+      | true ↦ λ h. rw (or-true (has_ending_of e.endings b.number)) refl
       | false ↦ λ h. absurd (none-some _ (sym h))
     ] h
 
@@ -306,14 +306,14 @@ open_own roster past t c X l member a =
           let number : o.number ≡ length past + 1 = ((call_laws c).asks_one (length past + 1) o e).number in
           let ended : is_ended (with_event t c X past) o.number ≡ is_some R.own =
           ap (is_ended (with_event t c X past)) number ∙ rw (ends_own roster past t c X member a, ended_below roster past (length past + 1) l (omega arith)) (or-false (is_some R.own)) in
-          let receipt : receipt_of (with_event t c X past) (length past + 1) ≡ option_or (copied_by R.receipt (length past + 1)) None =
+          let receipt : copied_count_of (with_event t c X past) (length past + 1) ≡ option_or (copied_by R.receipt (length past + 1)) None =
           rw (accepted_receipts roster past t c X (length past + 1) l member a, receipt_beyond roster past (length past + 1) l (omega arith)) refl in
           let unblocked : is_unblocked roster (with_event t c X past) (length past + 1) ≡ false =
           unblocked_by roster (record { thread = t; call = c; endings = X }) past (length past + 1) ∙ rw (unblocked_beyond roster past (length past + 1) (omega arith), accepted roster past t c X a) (fresh_unblocked roster past t c) in
           let now : Some (kept roster (with_event t c X past) o) ≡ after_receipt R.receipt t (Some o) =
-          ap (λ w. Some (with_receipt (priority_of_item roster (with_event t c X past) o.number) (is_unblocked roster (with_event t c X past) o.number) (receipt_of (with_event t c X past) o.number) w)) (filled_fresh roster past t c X o l (accepted roster past t c X a) e number)
-          ∙ ap (λ i. Some (with_receipt (priority_of_item roster (with_event t c X past) i) (is_unblocked roster (with_event t c X past) i) (receipt_of (with_event t c X past) i) o)) number
-          ∙ ap (λ x. Some (with_receipt (priority_of_item roster (with_event t c X past) (length past + 1)) x (receipt_of (with_event t c X past) (length past + 1)) o)) unblocked
+          ap (λ w. Some (with_receipt (priority_of_item roster (with_event t c X past) o.number) (is_unblocked roster (with_event t c X past) o.number) (copied_count_of (with_event t c X past) o.number) w)) (filled_fresh roster past t c X o l (accepted roster past t c X a) e number)
+          ∙ ap (λ i. Some (with_receipt (priority_of_item roster (with_event t c X past) i) (is_unblocked roster (with_event t c X past) i) (copied_count_of (with_event t c X past) i) o)) number
+          ∙ ap (λ x. Some (with_receipt (priority_of_item roster (with_event t c X past) (length past + 1)) x (copied_count_of (with_event t c X past) (length past + 1)) o)) unblocked
           ∙ ap (λ r. Some (with_receipt (priority_of_item roster (with_event t c X past) (length past + 1)) false r o)) receipt
           ∙ kept_after R.receipt t (length past + 1) (priority_of_item roster (with_event t c X past) (length past + 1)) false None o
           (λ r is. own_holds roster past t c X o r l a e ((laws_of (facts_of roster past) t c X a).receives r is)) in

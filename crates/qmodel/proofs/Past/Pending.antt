@@ -7,16 +7,16 @@ use Rattle.std.proofs.lemmas.Bool.{eqb-true, eqb-false, ne_eqb, true≢false, or
 use Rattle.std.proofs.lemmas.List.{map-append, append-nil}
 use Rattle.std.proofs.lemmas.List.Elements.{filter-append, filter_agree}
 use Rattle.std.proofs.lemmas.Option.{same_Some}
-use Rattle.qqueue.specs.Best.{is_pulse, with_priority, without}
+use Rattle.qqueue.specs.Best.{is_pulse, with_priority, without_item}
 use Rattle.qqueue.specs.declared.item.Item.{Item}
 use Rattle.qtables.specs.Members.{member_at}
 use Rattle.qtables.specs.declared.member.Member.{Member}
 use Rattle.qmodel.specs.Answer.{row_of, Outcome}
 use Rattle.qmodel.specs.Lawful.{facts_of, IsLawful, with_event}
-use Rattle.qmodel.specs.Past.{channel_at, ends, is_closed, is_ended, is_taken, is_gone, items, item_of, pending, receipt_among, receipt_of, open_call, made_on}
+use Rattle.qmodel.specs.Past.{channel_at, has_ending_of, is_closed, is_ended, is_taken, is_gone, items, item_of, pending_items, copied_count_among, copied_count_of, open_call, made_on}
 use Rattle.qmodel.specs.Effects.{closes, makes, sets}
 use Rattle.qmodel.specs.Rows.{Made, Received, names}
-use Rattle.qmodel.specs.Step.{is_cut, left_by, moved, taken_out, pending_after}
+use Rattle.qmodel.specs.Step.{is_cut, uncut_items, items_with_priority_set, unreceived_items, pending_after}
 use Rattle.qmodel.specs.Trace.{Event, Trace}
 use Rattle.qmodel.specs.declared.call.Call.{Call}
 use Rattle.qmodel.specs.declared.call.Completion.{Completion}
@@ -58,7 +58,7 @@ made_all P h (Some m) all =
 
 -- ---- after a refused call
 
-pub pending_refused : (roster : List Member) (past : Trace) (t : ℕ) (c : Call) (X : List Completion) (h : ℕ) → Outcome false (facts_of roster past) t c X → pending roster (with_event t c X past) h ≡ pending roster past h
+pub pending_refused : (roster : List Member) (past : Trace) (t : ℕ) (c : Call) (X : List Completion) (h : ℕ) → Outcome false (facts_of roster past) t c X → pending_items roster (with_event t c X past) h ≡ pending_items roster past h
 pending_refused roster past t c X h a =
     let e : Event = record { thread = t; call = c; endings = X } in
     let none : item_of roster e past ≡ None = rw (refused roster past t c X a) refl in
@@ -97,12 +97,12 @@ neither false false = refl
 
 -- an item that wasn't received is gone exactly where this event receives it, or ends its Send
 gone_now : (roster : List Member) (past : Trace) (t : ℕ) (c : Call) (X : List Completion) (item : Item) (cut : Bool) → IsLawful roster past → is_some (member_at roster t) ≡ true → Outcome true (facts_of roster past) t c X
-    → receipt_of past item.number ≡ None → (not (is_pulse item.what) && is_ended (with_event t c X past) item.number) ≡ cut
+    → copied_count_of past item.number ≡ None → (not (is_pulse item.what) && is_ended (with_event t c X past) item.number) ≡ cut
     → not (is_gone (with_event t c X past) item) ≡ (not cut && leaves (row_of (facts_of roster past) t c).receipt item)
 gone_now roster past t c X item cut l member a fresh ended =
     let taken : is_taken (with_event t c X past) item.number ≡ is_some (copied_by (row_of (facts_of roster past) t c).receipt item.number) =
-    ap (λ r. is_some (option_or r (receipt_of past item.number))) (accepted_receipts roster past t c X item.number l member a)
-    ∙ taken_now (copied_by (row_of (facts_of roster past) t c).receipt item.number) (receipt_of past item.number) fresh in
+    ap (λ r. is_some (option_or r (copied_count_of past item.number))) (accepted_receipts roster past t c X item.number l member a)
+    ∙ taken_now (copied_by (row_of (facts_of roster past) t c).receipt item.number) (copied_count_of past item.number) fresh in
     ap (λ b. not (is_taken (with_event t c X past) item.number || b)) ended
     ∙ ap (λ b. not (b || cut)) taken
     ∙ neither (is_some (copied_by (row_of (facts_of roster past) t c).receipt item.number)) cut
@@ -113,16 +113,16 @@ stays_gone past t c X item e =
     let ended_now = is_ended (with_event t c X past) item.number in
     elim (or_cases (is_taken past item.number) (not (is_pulse item.what) && is_ended past item.number) e) [
       | inl taken ↦ or_left (is_taken (with_event t c X past) item.number) (not (is_pulse item.what) && ended_now) (
-          elim (receipt_among X item.number) as (λ r. is_some (option_or r (receipt_of past item.number)) ≡ true) [ None ↦ taken | Some k ↦ refl ])
+          elim (copied_count_among X item.number) as (λ r. is_some (option_or r (copied_count_of past item.number)) ≡ true) [ None ↦ taken | Some k ↦ refl ])
       | inr ended ↦
           let p = and_parts (not (is_pulse item.what)) (is_ended past item.number) ended in
           or_right (is_taken (with_event t c X past) item.number) (not (is_pulse item.what) && ended_now)
-          (and_from (not (is_pulse item.what)) ended_now p.0 (or_right (ends X item.number) (is_ended past item.number) p.1))
+          (and_from (not (is_pulse item.what)) ended_now p.0 (or_right (has_ending_of X item.number) (is_ended past item.number) p.1))
     ]
 
 -- of what stood on the channel, what was pending, isn't cut and isn't received
 pending_old : (roster : List Member) (past : Trace) (t : ℕ) (c : Call) (X : List Completion) (h : ℕ) → IsLawful roster past → is_some (member_at roster t) ≡ true → Outcome true (facts_of roster past) t c X
-    → filter (λ item. not (is_gone (with_event t c X past) item)) (items_on roster past h) ≡ filter (leaves (row_of (facts_of roster past) t c).receipt) (left_by (facts_of roster past) t c h (staying roster past h))
+    → filter (λ item. not (is_gone (with_event t c X past) item)) (items_on roster past h) ≡ filter (leaves (row_of (facts_of roster past) t c).receipt) (uncut_items (facts_of roster past) t c h (staying roster past h))
 pending_old roster past t c X h l member a =
     let f = facts_of roster past in
     let R = row_of (facts_of roster past) t c in
@@ -136,7 +136,7 @@ pending_old roster past t c X h l member a =
       | true ↦ λ e. ap not (stays_gone past t c X item e)
       | false ↦ λ e.
           let p = or_parts (is_taken past item.number) (not (is_pulse item.what) && is_ended past item.number) e in
-          gone_now roster past t c X item (is_cut f t c h item.number) l member a (none_of (receipt_of past item.number) p.0)
+          gone_now roster past t c X item (is_cut f t c h item.number) l member a (none_of (copied_count_of past item.number) p.0)
           (ended_is_cut roster past t c X h item l a (standing_is roster past h item at e))
     ] refl))
     ∙ sym (filter_twice (λ item. not (is_gone past item)) stays_on (items_on roster past h))
@@ -154,11 +154,11 @@ pending_new roster past t c X h l member a =
     made_all (λ item. stays item ≡ left item) h (makes f t c) (λ m is on.
     let number : m.item.number ≡ length past + 1 = ((call_laws c).makes_one f t m is).number in
     gone_now roster past t c X m.item false l member a (receipt_beyond roster past m.item.number l (omega arith)) (
-    elim (is_pulse m.item.what) as (λ b. is_pulse m.item.what ≡ b → (not b && (ends X m.item.number || is_ended past m.item.number)) ≡ false) [
+    elim (is_pulse m.item.what) as (λ b. is_pulse m.item.what ≡ b → (not b && (has_ending_of X m.item.number || is_ended past m.item.number)) ≡ false) [
       | true ↦ λ pulse. refl
       | false ↦ λ message.
-          let own : ends X (length past + 1) ≡ false = ends_own roster past t c X member a ∙ ap is_some ((laws_of f t c X a).sends m is message) in
-          let ended : ends X m.item.number ≡ false = subst (λ i. ends X i ≡ false) (sym number) own in
+          let own : has_ending_of X (length past + 1) ≡ false = ends_own roster past t c X member a ∙ ap is_some ((laws_of f t c X a).sends m is message) in
+          let ended : has_ending_of X m.item.number ≡ false = subst (λ i. has_ending_of X i ≡ false) (sym number) own in
           rw (ended, ended_below roster past m.item.number l (omega arith)) refl
     ] refl)))
 
@@ -190,10 +190,10 @@ elsewhere roster past t c X h r L all a k other =
     ]
 
 taken_from : (o : Option Received) (h : ℕ) (L : List Item) → ((r : Received) → o ≡ Some r → eqb r.channel h ≡ false → AllByRecursion (λ item. eqb r.item item.number ≡ false) L)
-    → taken_out o h L ≡ filter (leaves o) L
+    → unreceived_items o h L ≡ filter (leaves o) L
 taken_from None h L other = sym (filter_whole (leaves None) L (λ item. refl))
 taken_from (Some r) h L other =
-    elim (eqb r.channel h) as (λ b. eqb r.channel h ≡ b → cond b (without r.item L) L ≡ filter (leaves (Some r)) L) [
+    elim (eqb r.channel h) as (λ b. eqb r.channel h ≡ b → cond b (without_item r.item L) L ≡ filter (leaves (Some r)) L) [
       | true ↦ λ e. filter_agree (λ item. not (eqb item.number r.item)) (leaves (Some r)) (λ item.
           ap not (eqb_either item.number r.item) ∙ elim (eqb r.item item.number) as (λ b. not b ≡ not (is_some (cond b (Some r.kept.copied) None))) [ true ↦ refl | false ↦ refl ]) L
       | false ↦ λ e. sym (filter_all (leaves (Some r)) L (all_more (λ item. eqb r.item item.number ≡ false) (λ item. leaves (Some r) item ≡ true) L (other r refl e) (λ item d. rw d refl)))
@@ -215,12 +215,12 @@ closed_makes roster past t c X h a closed =
           ] refl
     ] refl
 
-none_out : (o : Option Received) (h : ℕ) → taken_out o h [] ≡ []
+none_out : (o : Option Received) (h : ℕ) → unreceived_items o h [] ≡ []
 none_out None h = refl
 none_out (Some r) h = cond_same (eqb r.channel h) []
 
 -- the item that a call makes isn't a message whose Send it ends: that has an earlier number
-made_uncut : (roster : List Member) (past : Trace) (t : ℕ) (c : Call) (h : ℕ) → left_by (facts_of roster past) t c h (made_on h (makes (facts_of roster past) t c)) ≡ made_on h (makes (facts_of roster past) t c)
+made_uncut : (roster : List Member) (past : Trace) (t : ℕ) (c : Call) (h : ℕ) → uncut_items (facts_of roster past) t c h (made_on h (makes (facts_of roster past) t c)) ≡ made_on h (makes (facts_of roster past) t c)
 made_uncut roster past t c h =
     let f = facts_of roster past in
     filter_all (λ item. not (is_cut f t c h item.number)) (made_on h (makes f t c)) (made_all (λ item. not (is_cut f t c h item.number) ≡ true) h (makes f t c) (λ m is on.
@@ -235,21 +235,21 @@ made_uncut roster past t c h =
     ] refl))))
 
 left_made : (roster : List Member) (past : Trace) (t : ℕ) (c : Call) (h : ℕ) (items : List Item)
-    → left_by (facts_of roster past) t c h (items ++ made_on h (makes (facts_of roster past) t c)) ≡ left_by (facts_of roster past) t c h items ++ made_on h (makes (facts_of roster past) t c)
+    → uncut_items (facts_of roster past) t c h (items ++ made_on h (makes (facts_of roster past) t c)) ≡ uncut_items (facts_of roster past) t c h items ++ made_on h (makes (facts_of roster past) t c)
 left_made roster past t c h items =
     let f = facts_of roster past in
-    filter-append (λ item. not (is_cut f t c h item.number)) items (made_on h (makes f t c)) ∙ ap (λ l. left_by f t c h items ++ l) (made_uncut roster past t c h)
+    filter-append (λ item. not (is_cut f t c h item.number)) items (made_on h (makes f t c)) ∙ ap (λ l. uncut_items f t c h items ++ l) (made_uncut roster past t c h)
 
 -- what stays of a channel that isn't destroyed
 staying_accepted : (roster : List Member) (past : Trace) (t : ℕ) (c : Call) (X : List Completion) (h : ℕ) → IsLawful roster past → is_some (member_at roster t) ≡ true → Outcome true (facts_of roster past) t c X
     → staying roster (with_event t c X past) h
-    ≡ taken_out (row_of (facts_of roster past) t c).receipt h (left_by (facts_of roster past) t c h (staying roster past h ++ made_on h (makes (facts_of roster past) t c)))
+    ≡ unreceived_items (row_of (facts_of roster past) t c).receipt h (uncut_items (facts_of roster past) t c h (staying roster past h ++ made_on h (makes (facts_of roster past) t c)))
 staying_accepted roster past t c X h l member a =
     let f = facts_of roster past in
     let e : Event = record { thread = t; call = c; endings = X } in
     let R = row_of (facts_of roster past) t c in
     let M = made_on h (makes f t c) in
-    let L = left_by (facts_of roster past) t c h (staying roster past h) in
+    let L = uncut_items (facts_of roster past) t c h (staying roster past h) in
     let made : item_of roster e past ≡ makes f t c = rw (accepted roster past t c X a) refl in
     let stays = λ (item : Item). not (is_gone (e ∷ past) item) in
     ap (filter stays) (items_more roster e past h ∙ ap (λ o. items_on roster past h ++ made_on h o) made)
@@ -260,12 +260,12 @@ staying_accepted roster past t c X h l member a =
     ∙ sym (taken_from R.receipt h (L ++ M) (λ r is.
     elsewhere roster past t c X h r L (all_filter (IsPending roster past h) (λ item. not (is_cut f t c h item.number)) (staying roster past h)
     (all_more (λ item. Stands roster past h item × (is_gone past item ≡ false)) (IsPending roster past h) (staying roster past h) (staying_all roster past h) (λ item k. standing_is roster past h item k.0 k.1))) a ((laws_of f t c X a).receives r is)))
-    ∙ ap (taken_out R.receipt h) (sym (left_made roster past t c h (staying roster past h)))
+    ∙ ap (unreceived_items R.receipt h) (sym (left_made roster past t c h (staying roster past h)))
 
 -- what stays, each item as it is after the event
 now_accepted : (roster : List Member) (past : Trace) (t : ℕ) (c : Call) (X : List Completion) (h : ℕ) → IsLawful roster past → is_some (member_at roster t) ≡ true → Outcome true (facts_of roster past) t c X
     → map (now (with_event t c X past)) (staying roster (with_event t c X past) h)
-    ≡ moved (facts_of roster past) h (sets c) (taken_out (row_of (facts_of roster past) t c).receipt h (left_by (facts_of roster past) t c h (map (now past) (staying roster past h) ++ made_on h (makes (facts_of roster past) t c))))
+    ≡ items_with_priority_set (facts_of roster past) h (sets c) (unreceived_items (row_of (facts_of roster past) t c).receipt h (uncut_items (facts_of roster past) t c h (map (now past) (staying roster past h) ++ made_on h (makes (facts_of roster past) t c))))
 now_accepted roster past t c X h l member a =
     let f = facts_of roster past in
     let e : Event = record { thread = t; call = c; endings = X } in
@@ -277,29 +277,29 @@ now_accepted roster past t c X h l member a =
     let fresh : map after M ≡ M = unchanged after M (made_all (λ item. after item ≡ item) h (makes f t c) (λ m is on.
     ap (λ q. with_priority q m.item) (worth_newest e past m.item ((call_laws c).makes_one f t m is).number))) in
     ap (map after) (staying_accepted roster past t c X h l member a)
-    ∙ sym (out_map r h after (left_by f t c h (S ++ M)) (λ x. refl))
-    ∙ ap (taken_out r h) (sym (left_map f t c h after (S ++ M) (λ x. refl)))
-    ∙ ap (λ l. taken_out r h (left_by f t c h l)) (
+    ∙ sym (out_map r h after (uncut_items f t c h (S ++ M)) (λ x. refl))
+    ∙ ap (unreceived_items r h) (sym (left_map f t c h after (S ++ M) (λ x. refl)))
+    ∙ ap (λ l. unreceived_items r h (uncut_items f t c h l)) (
     map-append after S M
     ∙ ap (λ l. l ++ map after M) (moved_now roster past t c X h S l a (staying_all roster past h))
-    ∙ ap (λ l. moved f h (sets c) (map (now past) S) ++ l) (fresh ∙ sym (moved_made f t c h))
+    ∙ ap (λ l. items_with_priority_set f h (sets c) (map (now past) S) ++ l) (fresh ∙ sym (moved_made f t c h))
     ∙ sym (moved_append f h (sets c) (map (now past) S) M))
-    ∙ ap (taken_out r h) (moved_left f t c h (sets c) (map (now past) S ++ M))
-    ∙ moved_out f r h (sets c) (left_by f t c h (map (now past) S ++ M))
+    ∙ ap (unreceived_items r h) (moved_left f t c h (sets c) (map (now past) S ++ M))
+    ∙ moved_out f r h (sets c) (uncut_items f t c h (map (now past) S ++ M))
   where
     unchanged : (g : Item → Item) (items : List Item) → AllByRecursion (λ x. g x ≡ x) items → map g items ≡ items
     unchanged g [] same = refl
     unchanged g (x ∷ items) same = ap (λ y. y ∷ map g items) same.0 ∙ ap (λ l. x ∷ l) (unchanged g items same.1)
 
 pub pending_accepted : (roster : List Member) (past : Trace) (t : ℕ) (c : Call) (X : List Completion) (h : ℕ) → IsLawful roster past → is_some (member_at roster t) ≡ true → Outcome true (facts_of roster past) t c X
-    → pending roster (with_event t c X past) h ≡ pending_after (facts_of roster past) t c h
+    → pending_items roster (with_event t c X past) h ≡ pending_after (facts_of roster past) t c h
 pending_accepted roster past t c X h l member a =
     let f = facts_of roster past in
     let e : Event = record { thread = t; call = c; endings = X } in
     let R = row_of (facts_of roster past) t c in
     let M = made_on h (makes f t c) in
     let S = map (now past) (staying roster past h) in
-    let after = λ (items : List Item). moved f h (sets c) (taken_out R.receipt h (left_by f t c h (items ++ M))) in
+    let after = λ (items : List Item). items_with_priority_set f h (sets c) (unreceived_items R.receipt h (uncut_items f t c h (items ++ M))) in
     pending_is roster (e ∷ past) h
     ∙ ap (λ b. cond b [] (map (now (e ∷ past)) (staying roster (e ∷ past) h))) (closed_accepted roster e past h (accepted roster past t c X a)) ∙ (
     elim (names (closes c) h) as (λ d. cond (d || is_closed past h) [] (map (now (e ∷ past)) (staying roster (e ∷ past) h)) ≡ cond d [] (after (cond (is_closed past h) [] S))) [
@@ -307,8 +307,8 @@ pending_accepted roster past t c X h l member a =
       | false ↦
           elim (is_closed past h) as (λ b. is_closed past h ≡ b → cond b [] (map (now (e ∷ past)) (staying roster (e ∷ past) h)) ≡ after (cond b [] S)) [
             | true ↦ λ closed. sym (
-                ap (λ l. moved f h (sets c) (taken_out R.receipt h (left_by f t c h l))) (closed_makes roster past t c X h a closed)
-                ∙ ap (moved f h (sets c)) (none_out R.receipt h) ∙ moved_nothing f h (sets c))
+                ap (λ l. items_with_priority_set f h (sets c) (unreceived_items R.receipt h (uncut_items f t c h l))) (closed_makes roster past t c X h a closed)
+                ∙ ap (items_with_priority_set f h (sets c)) (none_out R.receipt h) ∙ moved_nothing f h (sets c))
             | false ↦ λ standing. now_accepted roster past t c X h l member a
           ] refl
     ])

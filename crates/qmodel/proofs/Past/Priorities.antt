@@ -10,10 +10,10 @@ use Rattle.qtables.specs.declared.member.Member.{Member}
 use Rattle.qmodel.specs.Answer.{row_of, ending, Outcome}
 use Rattle.qmodel.specs.Facts.{threads_of}
 use Rattle.qmodel.specs.Lawful.{facts_of, IsLawful, with_event}
-use Rattle.qmodel.specs.Past.{by_now, carried, channel_at, first_among, given_by, item_of, items, made_among, priority_of_thread, refuses, worth}
+use Rattle.qmodel.specs.Past.{items_by_now, carried_priority, channel_at, first_among, priority_from_ending, item_of, items, made_among, priority_of_thread, refuses, worth}
 use Rattle.qmodel.specs.Effects.{sets}
-use Rattle.qmodel.specs.Rows.{Made, Received, received, set_for}
-use Rattle.qmodel.specs.Step.{taken_by, priority_after}
+use Rattle.qmodel.specs.Rows.{Made, Received, item_in_mark, priority_set_for}
+use Rattle.qmodel.specs.Step.{priority_taken, priority_after}
 use Rattle.qmodel.specs.Trace.{Event, Trace}
 use Rattle.qmodel.specs.declared.call.Call.{Call}
 use Rattle.qmodel.specs.declared.call.Completion.{Completion}
@@ -64,31 +64,31 @@ ending_thread roster past t c v y laws e = elim (ending_names (facts_of roster p
 module _ (roster : List Member) (past : Trace) (t : ℕ) (c : Call) (X : List Completion) (u : ℕ) (l : IsLawful roster past) (member : is_some (member_at roster t) ≡ true) (a : Outcome true (facts_of roster past) t c X) where
   -- the priority that an item carries to its receiver
   abbrev carries : ℕ → Option ℕ
-  carries i = carried (channel_at roster past) (made_among (by_now past (items roster (with_event t c X past))) i)
+  carries i = carried_priority (channel_at roster past) (made_among (items_by_now past (items roster (with_event t c X past))) i)
 
   laws : RowLaws (facts_of roster past) t c
   laws = laws_of (facts_of roster past) t c X a
 
-  carries_it : (r : Received) → (k : IsReceived (facts_of roster past) t c r) → cond (eqb r.by u) (carries r.item) None ≡ taken_by (facts_of roster past) (Some r) u
+  carries_it : (r : Received) → (k : IsReceived (facts_of roster past) t c r) → cond (eqb r.by u) (carries r.item) None ≡ priority_taken (facts_of roster past) (Some r) u
   carries_it r k =
       let at = received_at roster past t c X r k a in
-      ap (λ o. cond (eqb r.by u) (carried (channel_at roster past) o) None) (
+      ap (λ o. cond (eqb r.by u) (carried_priority (channel_at roster past) o) None) (
       among_now past (items roster (with_event t c X past)) r.item
       ∙ ap (option_map (λ (m : Made). record { item = now past m.item; channel = m.channel })) (item_found roster (with_event t c X past) r.item _ at.at))
-      ∙ ap (λ p. taken_by (facts_of roster past) (Some (record { item = r.item; channel = r.channel; by = r.by; sender = r.sender; kept = record { priority = p; copied = r.kept.copied; unblocked = r.kept.unblocked } })) u) (at.is_worth ∙ k.priority)
+      ∙ ap (λ p. priority_taken (facts_of roster past) (Some (record { item = r.item; channel = r.channel; by = r.by; sender = r.sender; kept = record { priority = p; copied = r.kept.copied; unblocked = r.kept.unblocked } })) u) (at.is_worth ∙ k.priority)
 
   -- what an ending gives is what the row's receipt does
-  gives : (v : ℕ) (y : Completion) (q : ℕ × ℕ) → ending (facts_of roster past) t c v ≡ Some y → received y.mark ≡ Some q → given_by carries u y ≡ taken_by (facts_of roster past) (row_of (facts_of roster past) t c).receipt u
+  gives : (v : ℕ) (y : Completion) (q : ℕ × ℕ) → ending (facts_of roster past) t c v ≡ Some y → item_in_mark y.mark ≡ Some q → priority_from_ending carries u y ≡ priority_taken (facts_of roster past) (row_of (facts_of roster past) t c).receipt u
   gives v y q e m =
       let k : IsReceipt (row_of (facts_of roster past) t c) v q = ending_receives (facts_of roster past) t c v y q laws e m in
       ap (λ o. cond (eqb y.thread u) (option_and_then (λ r. carries r.0) o) None) m
       ∙ ap (λ w. cond (eqb w u) (carries q.0) None) (ending_thread roster past t c v y laws e ∙ sym k.by)
       ∙ ap (λ i. cond (eqb k.receipt.by u) (carries i) None) k.item
       ∙ carries_it k.receipt (laws.receives k.receipt k.is)
-      ∙ ap (λ o. taken_by (facts_of roster past) o u) (sym k.is)
+      ∙ ap (λ o. priority_taken (facts_of roster past) o u) (sym k.is)
 
-  none_or_it : (v : ℕ) (y : Completion) → ending (facts_of roster past) t c v ≡ Some y → (given_by carries u y ≡ None) ⊎ (given_by carries u y ≡ taken_by (facts_of roster past) (row_of (facts_of roster past) t c).receipt u)
-  none_or_it v y e = elim (received y.mark) as (λ o. received y.mark ≡ o → (given_by carries u y ≡ None) ⊎ (given_by carries u y ≡ taken_by (facts_of roster past) (row_of (facts_of roster past) t c).receipt u)) [
+  none_or_it : (v : ℕ) (y : Completion) → ending (facts_of roster past) t c v ≡ Some y → (priority_from_ending carries u y ≡ None) ⊎ (priority_from_ending carries u y ≡ priority_taken (facts_of roster past) (row_of (facts_of roster past) t c).receipt u)
+  none_or_it v y e = elim (item_in_mark y.mark) as (λ o. item_in_mark y.mark ≡ o → (priority_from_ending carries u y ≡ None) ⊎ (priority_from_ending carries u y ≡ priority_taken (facts_of roster past) (row_of (facts_of roster past) t c).receipt u)) [
     | None ↦ λ m. inl (ap (λ o. cond (eqb y.thread u) (option_and_then (λ r. carries r.0) o) None) m ∙ nothing (eqb y.thread u))
     | Some q ↦ λ m. inr (gives v y q e m)
   ] refl where
@@ -96,30 +96,30 @@ module _ (roster : List Member) (past : Trace) (t : ℕ) (c : Call) (X : List Co
     nothing true = refl
     nothing false = refl
 
-  given_accepted : first_among (given_by carries u) X ≡ taken_by (facts_of roster past) (row_of (facts_of roster past) t c).receipt u
-  given_accepted = ap (first_among (given_by carries u)) (a.1) ∙ by (taken_by (facts_of roster past) (row_of (facts_of roster past) t c).receipt u) refl where
-    by : (o : Option ℕ) → taken_by (facts_of roster past) (row_of (facts_of roster past) t c).receipt u ≡ o → first_among (given_by carries u) (filter_map (ending (facts_of roster past) t c) (threads_of roster)) ≡ o
-    by None is = among_none (given_by carries u) (ending (facts_of roster past) t c) (threads_of roster) (λ v y e. elim (none_or_it v y e) [ inl h ↦ h | inr h ↦ h ∙ is ])
+  given_accepted : first_among (priority_from_ending carries u) X ≡ priority_taken (facts_of roster past) (row_of (facts_of roster past) t c).receipt u
+  given_accepted = ap (first_among (priority_from_ending carries u)) (a.1) ∙ by (priority_taken (facts_of roster past) (row_of (facts_of roster past) t c).receipt u) refl where
+    by : (o : Option ℕ) → priority_taken (facts_of roster past) (row_of (facts_of roster past) t c).receipt u ≡ o → first_among (priority_from_ending carries u) (filter_map (ending (facts_of roster past) t c) (threads_of roster)) ≡ o
+    by None is = among_none (priority_from_ending carries u) (ending (facts_of roster past) t c) (threads_of roster) (λ v y e. elim (none_or_it v y e) [ inl h ↦ h | inr h ↦ h ∙ is ])
     by (Some p) is = from (row_of (facts_of roster past) t c).receipt refl is where
-      from : (o : Option Received) → (row_of (facts_of roster past) t c).receipt ≡ o → taken_by (facts_of roster past) o u ≡ Some p
-          → first_among (given_by carries u) (filter_map (ending (facts_of roster past) t c) (threads_of roster)) ≡ Some p
+      from : (o : Option Received) → (row_of (facts_of roster past) t c).receipt ≡ o → priority_taken (facts_of roster past) o u ≡ Some p
+          → first_among (priority_from_ending carries u) (filter_map (ending (facts_of roster past) t c) (threads_of roster)) ≡ Some p
       from None e none = absurd (none-some p none)
       from (Some r) e some =
           let k = laws.receives r e in
-          among_one (given_by carries u) (ending (facts_of roster past) t c) (threads_of roster) p (λ v y e. elim (none_or_it v y e) [ inl h ↦ inl h | inr h ↦ inr (h ∙ is) ])
+          among_one (priority_from_ending carries u) (ending (facts_of roster past) t c) (threads_of roster) p (λ v y e. elim (none_or_it v y e) [ inl h ↦ inl h | inr h ↦ inr (h ∙ is) ])
           r.by k.given (known roster r.by (given_known roster past t c r.by k.given l member laws k.is_given)) k.is_given (gives r.by k.given _ k.is_given k.mark ∙ is)
 
   pub priority_accepted : priority_of_thread roster (with_event t c X past) u ≡ priority_after (facts_of roster past) t c u
   priority_accepted =
-      ap (λ o. unwrap_or (option_or (cond (not (refuses X (length past + 1))) (set_for (sets c) u) None) o) (priority_of_thread roster past u)) given_accepted
-      ∙ ap (λ b. unwrap_or (option_or (cond (not b) (set_for (sets c) u) None) (taken_by (facts_of roster past) (row_of (facts_of roster past) t c).receipt u)) (priority_of_thread roster past u)) (accepted roster past t c X a)
+      ap (λ o. unwrap_or (option_or (cond (not (refuses X (length past + 1))) (priority_set_for (sets c) u) None) o) (priority_of_thread roster past u)) given_accepted
+      ∙ ap (λ b. unwrap_or (option_or (cond (not b) (priority_set_for (sets c) u) None) (priority_taken (facts_of roster past) (row_of (facts_of roster past) t c).receipt u)) (priority_of_thread roster past u)) (accepted roster past t c X a)
 
 -- a refused call changes no priority
 pub priority_refused : (roster : List Member) (past : Trace) (t : ℕ) (c : Call) (X : List Completion) (u : ℕ) → Outcome false (facts_of roster past) t c X
     → priority_of_thread roster (with_event t c X past) u ≡ priority_of_thread roster past u
 priority_refused roster past t c X u a =
-    ap (λ b. unwrap_or (option_or (cond (not b) (set_for (sets c) u) None) (first_among (given_by (λ i. carried (channel_at roster past) (made_among (by_now past (items roster (with_event t c X past))) i)) u) X)) (priority_of_thread roster past u)) (refused roster past t c X a)
-    ∙ ap (λ Y. unwrap_or (first_among (given_by (λ i. carried (channel_at roster past) (made_among (by_now past (items roster (with_event t c X past))) i)) u) Y) (priority_of_thread roster past u)) (a.2)
+    ap (λ b. unwrap_or (option_or (cond (not b) (priority_set_for (sets c) u) None) (first_among (priority_from_ending (λ i. carried_priority (channel_at roster past) (made_among (items_by_now past (items roster (with_event t c X past))) i)) u) X)) (priority_of_thread roster past u)) (refused roster past t c X a)
+    ∙ ap (λ Y. unwrap_or (first_among (priority_from_ending (λ i. carried_priority (channel_at roster past) (made_among (items_by_now past (items roster (with_event t c X past))) i)) u) Y) (priority_of_thread roster past u)) (a.2)
     ∙ nothing (eqb t u) where
       nothing : (b : Bool) → unwrap_or (option_or (cond b None None) None) (priority_of_thread roster past u) ≡ priority_of_thread roster past u
       nothing true = refl

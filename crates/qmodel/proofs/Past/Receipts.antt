@@ -12,8 +12,8 @@ use Rattle.qtables.specs.declared.member.Member.{Member}
 use Rattle.qmodel.specs.Answer.{row_of, ending, Outcome, Answers}
 use Rattle.qmodel.specs.Facts.{Facts, threads_of}
 use Rattle.qmodel.specs.Lawful.{facts_of, IsLawful}
-use Rattle.qmodel.specs.Past.{copied_of, first_among, priority_of_item, receipt_among, receipt_of}
-use Rattle.qmodel.specs.Rows.{Received, received}
+use Rattle.qmodel.specs.Past.{copied_count_in, first_among, priority_of_item, copied_count_among, copied_count_of}
+use Rattle.qmodel.specs.Rows.{Received, item_in_mark}
 use Rattle.qmodel.specs.Trace.{Trace}
 use Rattle.qmodel.specs.declared.call.Call.{Call}
 use Rattle.qmodel.specs.declared.call.Completion.{Completion}
@@ -51,7 +51,7 @@ among_one tell g (u ∷ us) k h v z m e q =
 
 -- ---- the receipt of an accepted call
 
-pub ending_receives : (f : Facts) (t : ℕ) (c : Call) (v : ℕ) (y : Completion) (p : ℕ × ℕ) → RowLaws f t c → ending f t c v ≡ Some y → received y.mark ≡ Some p → IsReceipt (row_of f t c) v p
+pub ending_receives : (f : Facts) (t : ℕ) (c : Call) (v : ℕ) (y : Completion) (p : ℕ × ℕ) → RowLaws f t c → ending f t c v ≡ Some y → item_in_mark y.mark ≡ Some p → IsReceipt (row_of f t c) v p
 ending_receives f t c v y p laws e m = elim (ending_names f t c v y laws e) [
   | inl h ↦ subst (λ u. IsReceipt (row_of f t c) u p) (sym h.thread) (laws.own_receives y p h.is m)
   | inr h ↦ laws.ends_receives v y p h.is m
@@ -62,15 +62,15 @@ abbrev pub copied_by : Option Received → ℕ → Option ℕ
 copied_by None i = None
 copied_by (Some r) i = cond (eqb r.item i) (Some r.kept.copied) None
 
-same_copied : (f : Facts) (t : ℕ) (c : Call) (v : ℕ) (p : ℕ × ℕ) (i : ℕ) → IsReceipt (row_of f t c) v p → copied_of i (Some p) ≡ copied_by (row_of f t c).receipt i
+same_copied : (f : Facts) (t : ℕ) (c : Call) (v : ℕ) (p : ℕ × ℕ) (i : ℕ) → IsReceipt (row_of f t c) v p → copied_count_in i (Some p) ≡ copied_by (row_of f t c).receipt i
 same_copied f t c v p i k =
     ap (λ n. cond (eqb n i) (Some p.1) None) k.item ∙ ap (λ n. cond (eqb k.receipt.item i) (Some n) None) k.copied ∙ ap (λ o. copied_by o i) (sym k.is)
 
 -- what an ending copies of item i is what the row's receipt does
 ending_copies : (f : Facts) (t : ℕ) (c : Call) (v : ℕ) (y : Completion) (i : ℕ) → RowLaws f t c → ending f t c v ≡ Some y
-    → (copied_of i (received y.mark) ≡ None) ⊎ (copied_of i (received y.mark) ≡ copied_by (row_of f t c).receipt i)
+    → (copied_count_in i (item_in_mark y.mark) ≡ None) ⊎ (copied_count_in i (item_in_mark y.mark) ≡ copied_by (row_of f t c).receipt i)
 ending_copies f t c v y i laws e =
-    elim (received y.mark) as (λ o. received y.mark ≡ o → (copied_of i o ≡ None) ⊎ (copied_of i o ≡ copied_by (row_of f t c).receipt i)) [
+    elim (item_in_mark y.mark) as (λ o. item_in_mark y.mark ≡ o → (copied_count_in i o ≡ None) ⊎ (copied_count_in i o ≡ copied_by (row_of f t c).receipt i)) [
       | None ↦ λ m. inl refl
       | Some p ↦ λ m. inr (same_copied f t c v p i (ending_receives f t c v y p laws e m))
     ] refl
@@ -84,29 +84,29 @@ given_known roster past t c v y l member laws e = elim (ending_names (facts_of r
 ]
 
 pub accepted_receipts : (roster : List Member) (past : Trace) (t : ℕ) (c : Call) (X : List Completion) (i : ℕ) → IsLawful roster past → is_some (member_at roster t) ≡ true
-    → Outcome true (facts_of roster past) t c X → receipt_among X i ≡ copied_by (row_of (facts_of roster past) t c).receipt i
+    → Outcome true (facts_of roster past) t c X → copied_count_among X i ≡ copied_by (row_of (facts_of roster past) t c).receipt i
 accepted_receipts roster past t c X i l member a =
     let f = facts_of roster past in
     let laws = laws_of (facts_of roster past) t c X a in
     let copies = λ (v : ℕ) (y : Completion) (e : ending (facts_of roster past) t c v ≡ Some y). ending_copies (facts_of roster past) t c v y i laws e in
     rw (a.1) (
-    elim ((row_of f t c).receipt) as (λ o. (row_of f t c).receipt ≡ o → receipt_among (filter_map (ending f t c) (threads_of roster)) i ≡ copied_by o i) [
-      | None ↦ λ is. among_none (λ x. copied_of i (received x.mark)) (ending f t c) (threads_of roster) (λ v y e. elim (copies v y e) [ inl h ↦ h | inr h ↦ h ∙ ap (λ o. copied_by o i) is ])
+    elim ((row_of f t c).receipt) as (λ o. (row_of f t c).receipt ≡ o → copied_count_among (filter_map (ending f t c) (threads_of roster)) i ≡ copied_by o i) [
+      | None ↦ λ is. among_none (λ x. copied_count_in i (item_in_mark x.mark)) (ending f t c) (threads_of roster) (λ v y e. elim (copies v y e) [ inl h ↦ h | inr h ↦ h ∙ ap (λ o. copied_by o i) is ])
       | Some r ↦ λ is.
           let k = laws.receives r is in
-          elim (eqb r.item i) as (λ b. eqb r.item i ≡ b → receipt_among (filter_map (ending f t c) (threads_of roster)) i ≡ cond b (Some r.kept.copied) None) [
+          elim (eqb r.item i) as (λ b. eqb r.item i ≡ b → copied_count_among (filter_map (ending f t c) (threads_of roster)) i ≡ cond b (Some r.kept.copied) None) [
             | true ↦ λ same.
                 let by : copied_by (row_of f t c).receipt i ≡ Some r.kept.copied = rw (is, same) refl in
-                among_one (λ x. copied_of i (received x.mark)) (ending f t c) (threads_of roster) r.kept.copied (λ v y e. elim (copies v y e) [ inl h ↦ inl h | inr h ↦ inr (h ∙ by) ])
+                among_one (λ x. copied_count_in i (item_in_mark x.mark)) (ending f t c) (threads_of roster) r.kept.copied (λ v y e. elim (copies v y e) [ inl h ↦ inl h | inr h ↦ inr (h ∙ by) ])
                 r.by k.given (known roster r.by (given_known roster past t c r.by k.given l member laws k.is_given)) k.is_given (rw (k.mark, same) refl)
             | false ↦ λ other.
                 let by : copied_by (row_of f t c).receipt i ≡ None = rw (is, other) refl in
-                among_none (λ x. copied_of i (received x.mark)) (ending f t c) (threads_of roster) (λ v y e. elim (copies v y e) [ inl h ↦ h | inr h ↦ h ∙ by ])
+                among_none (λ x. copied_count_in i (item_in_mark x.mark)) (ending f t c) (threads_of roster) (λ v y e. elim (copies v y e) [ inl h ↦ h | inr h ↦ h ∙ by ])
           ] refl
     ] refl)
 
 -- a refused call receives nothing
-pub refused_receipts : (f : Facts) (t : ℕ) (c : Call) (X : List Completion) (i : ℕ) → Outcome false f t c X → receipt_among X i ≡ None
+pub refused_receipts : (f : Facts) (t : ℕ) (c : Call) (X : List Completion) (i : ℕ) → Outcome false f t c X → copied_count_among X i ≡ None
 refused_receipts f t c X i a = rw (a.2) refl
 
 -- ---- which item a receipt is of
@@ -130,7 +130,7 @@ received_below roster past t c r k = elim (k.source) [
 
 -- an event receives its own item or one that was pending
 pub receipts_below : (roster : List Member) (past : Trace) (t : ℕ) (c : Call) (X : List Completion) (i : ℕ) → IsLawful roster past → is_some (member_at roster t) ≡ true
-    → Answers (facts_of roster past) t c X → length past + 1 < i → receipt_among X i ≡ None
+    → Answers (facts_of roster past) t c X → length past + 1 < i → copied_count_among X i ≡ None
 receipts_below roster past t c X i l member a above = elim a [
   | inl a ↦ accepted_receipts roster past t c X i l member a ∙ (
       elim ((row_of (facts_of roster past) t c).receipt) as (λ o. (row_of (facts_of roster past) t c).receipt ≡ o → copied_by o i ≡ None) [
@@ -143,6 +143,6 @@ receipts_below roster past t c X i l member a above = elim a [
 ]
 
 -- no item to come is received
-pub receipt_beyond : (roster : List Member) (past : Trace) (i : ℕ) → IsLawful roster past → length past < i → receipt_of past i ≡ None
+pub receipt_beyond : (roster : List Member) (past : Trace) (i : ℕ) → IsLawful roster past → length past < i → copied_count_of past i ≡ None
 receipt_beyond roster [] i l h = refl
 receipt_beyond roster (e ∷ past) i l h = rw (receipts_below roster past e.thread e.call e.endings i l.0 l.1 l.2 (omega arith)) (receipt_beyond roster past i l.0 (omega arith))

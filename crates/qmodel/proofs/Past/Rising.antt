@@ -7,7 +7,7 @@ use Rattle.qqueue.specs.Contents.{IsRising}
 use Rattle.qqueue.specs.declared.item.Item.{Item}
 use Rattle.qqueue.proofs.RisingLaws.{IsRising-push, IsRising-filter}
 use Rattle.qtables.specs.declared.member.Member.{Member}
-use Rattle.qmodel.specs.Past.{is_closed, is_gone, item_of, pending, made_on}
+use Rattle.qmodel.specs.Past.{is_closed, is_gone, item_of, pending_items, made_on}
 use Rattle.qmodel.specs.Rows.{Made}
 use Rattle.qmodel.specs.Trace.{Event, Trace}
 use Rattle.qbase.proofs.Lists.{all_map, all_more}
@@ -37,15 +37,15 @@ now_rises past [] rising = tt
 now_rises past (x ∷ items) rising = (all_map (λ y. x.number < y.number) (now past) items rising.0, now_rises past items rising.1)
 
 -- what is pending rises
-pub pending_rises : (roster : List Member) (past : Trace) (h : ℕ) → IsRising (pending roster past h)
+pub pending_rises : (roster : List Member) (past : Trace) (h : ℕ) → IsRising (pending_items roster past h)
 pending_rises roster past h = subst IsRising (sym (pending_is roster past h)) (elim (is_closed past h) as (λ b. IsRising (cond b [] (map (now past) (staying roster past h)))) [
   | true ↦ tt
   | false ↦ now_rises past (staying roster past h) (IsRising-filter (λ item. not (is_gone past item)) (items_on roster past h) (items_rise roster past h))
 ])
 
 -- and so it does with the item that the next event makes
-pub takeable_rises : (roster : List Member) (e : Event) (past : Trace) (h : ℕ) → IsRising (pending roster past h ++ made_on h (item_of roster e past))
-takeable_rises roster e past h = rising_made (pending roster past h) h (item_of roster e past) (pending_rises roster past h) (λ m is.
+pub takeable_rises : (roster : List Member) (e : Event) (past : Trace) (h : ℕ) → IsRising (pending_items roster past h ++ made_on h (item_of roster e past))
+takeable_rises roster e past h = rising_made (pending_items roster past h) h (item_of roster e past) (pending_rises roster past h) (λ m is.
     let number : m.item.number ≡ length past + 1 = (made_by roster e past m is).number in
-    all_more (IsPending roster past h) (λ y. y.number < m.item.number) (pending roster past h) (pending_all roster past h) (λ y at.
+    all_more (IsPending roster past h) (λ y. y.number < m.item.number) (pending_items roster past h) (pending_all roster past h) (λ y at.
     let below : y.number ≤ length past = item_below roster past y.number _ at.made in omega arith))

@@ -11,7 +11,7 @@ use Rattle.qmodel.specs.Facts.{is_for_answer}
 use Rattle.qmodel.specs.Effects.{makes, unblocks}
 use Rattle.qmodel.specs.Laws.{is_for_reply}
 use Rattle.qmodel.specs.Lawful.{facts_of}
-use Rattle.qmodel.specs.Past.{filled, held_with, is_taken, is_unblock_for, item_of, items, open_call, priority_of_item, receipt_among, receipt_of, unblocked_among, with_receipt}
+use Rattle.qmodel.specs.Past.{call_by_now, wait_with_receipt, is_taken, is_unblock_for, item_of, items, open_call, priority_of_item, copied_count_among, copied_count_of, unblocked_among, with_receipt}
 use Rattle.qmodel.specs.Rows.{Made}
 use Rattle.qmodel.specs.Step.{after_unblock, unblocked_call, unblocked_wait}
 use Rattle.qmodel.specs.Trace.{Event, Trace}
@@ -31,7 +31,7 @@ use Rattle.qmodel.proofs.Past.Worth.{unblocked_among_now}
 -- an open call whose message is received: the receipt is in the past
 pub held_is_taken : (roster : List Member) (past : Trace) (u : ℕ) (o : OpenCall) (k : IsOpen roster past u o) → is_for_answer o.wait ≡ true → is_settled o.wait ≡ true → is_taken past k.block.number ≡ true
 held_is_taken roster past u o k w s =
-    elim (receipt_of past k.block.number) as (λ r. o ≡ with_receipt (priority_of_item roster past k.block.number) (is_unblocked roster past k.block.number) r (filled past k.block) → is_some r ≡ true) [
+    elim (copied_count_of past k.block.number) as (λ r. o ≡ with_receipt (priority_of_item roster past k.block.number) (is_unblocked roster past k.block.number) r (call_by_now past k.block) → is_some r ≡ true) [
       | None ↦ λ same.
           absurd (true≢false (sym (ap (λ x. is_settled x.wait) (sym same) ∙ s) ∙ filled_settled past k.block ∙ block_fresh past u k.block k.is ∙ ap not (sym (filled_answer past k.block) ∙ ap (λ x. is_for_answer x.wait) (sym same) ∙ w)))
       | Some copied ↦ λ same. refl
@@ -84,8 +84,8 @@ unblocked_by roster e past i =
 
 -- what was received stays so
 received_stays : (e : Event) (past : Trace) (i : ℕ) → WasReceived past i → WasReceived (e ∷ past) i
-received_stays e past i k = let below : i ≤ length past = k.below in record { below = omega arith; taken = later (receipt_among e.endings i) } where
-  later : (o : Option ℕ) → is_some (option_or o (receipt_of past i)) ≡ true
+received_stays e past i k = let below : i ≤ length past = k.below in record { below = omega arith; taken = later (copied_count_among e.endings i) } where
+  later : (o : Option ℕ) → is_some (option_or o (copied_count_of past i)) ≡ true
   later None = k.taken
   later (Some r) = refl
 
@@ -101,7 +101,7 @@ unblocked_received roster (e ∷ past) i is = elim (or_cases _ _ (sym (unblocked
 ]
 
 -- what isn't received has no unblock pulse
-pub none_unblocked : (roster : List Member) (past : Trace) (i : ℕ) → receipt_of past i ≡ None → is_unblocked roster past i ≡ false
+pub none_unblocked : (roster : List Member) (past : Trace) (i : ℕ) → copied_count_of past i ≡ None → is_unblocked roster past i ≡ false
 none_unblocked roster past i none = elim (cases_Bool (is_unblocked roster past i)) [
   | inl is ↦ absurd (true≢false (sym (unblocked_received roster past i is).taken ∙ ap is_some none))
   | inr isnt ↦ isnt
@@ -150,7 +150,7 @@ marks_it roster past t c u o is =
     ] refl
 
 unblocked_held : (priority copied : ℕ) (unblocked : Bool) (w : Wait)
-    → held_with (record { priority = priority; copied = copied; unblocked = true }) w ≡ unblocked_wait (held_with (record { priority = priority; copied = copied; unblocked = unblocked }) w)
+    → wait_with_receipt (record { priority = priority; copied = copied; unblocked = true }) w ≡ unblocked_wait (wait_with_receipt (record { priority = priority; copied = copied; unblocked = unblocked }) w)
 unblocked_held priority copied unblocked (Answer coid message reply_buffer receipt) = refl
 unblocked_held priority copied unblocked (ForItem chid kind buffer) = refl
 

@@ -7,7 +7,7 @@ use Rattle.std.proofs.lemmas.Option.{none-some, same_Some}
 use Rattle.std.proofs.Math.Bool.{or-true}
 use Rattle.qtables.specs.Members.{member_at}
 use Rattle.qmodel.specs.Answer.{row_of}
-use Rattle.qmodel.specs.Calls.Info.{told}
+use Rattle.qmodel.specs.Calls.Info.{info_of}
 use Rattle.qmodel.specs.Facts.{Facts, is_send, sender, sender_among, threads_of}
 use Rattle.qmodel.specs.Effects.{asks}
 use Rattle.qmodel.specs.declared.call.Call.{Call}
@@ -30,7 +30,7 @@ sender_is_among open_call i (u ∷ us) s e =
     ] e
 
 -- an accepted Info tells something
-info_tells : (f : Facts) (t rcvid : ℕ) → Passes f t (Info rcvid) → is_some (told f (sender f rcvid)) ≡ true
+info_tells : (f : Facts) (t rcvid : ℕ) → Passes f t (Info rcvid) → is_some (info_of f (sender f rcvid)) ≡ true
 info_tells f t rcvid p =
     let s = has_sender f t rcvid p.row in
     let h = held_for f t rcvid s.0 p.row s.1 in
@@ -52,7 +52,7 @@ waits_or_ends f t (Reply rcvid status bytes) p e = absurd (none-some _ (sym e))
 waits_or_ends f t (Error rcvid code) p e = absurd (none-some _ (sym e))
 waits_or_ends f t (Read rcvid offset buffer) p e = absurd (none-some _ (sym e))
 waits_or_ends f t (Write rcvid offset bytes) p e = absurd (none-some _ (sym e))
-waits_or_ends f t (Info rcvid) p e = absurd (true≢false (sym (some_map _ (told f (sender f rcvid)) ∙ info_tells f t rcvid p) ∙ ap is_some e))
+waits_or_ends f t (Info rcvid) p e = absurd (true≢false (sym (some_map _ (info_of f (sender f rcvid)) ∙ info_tells f t rcvid p) ∙ ap is_some e))
 waits_or_ends f t (ReceivePulse chid) p e = refl
 waits_or_ends f t (Pulse coid priority code value) p e = absurd (none-some _ (sym e))
 waits_or_ends f t (PrioritySet thread priority) p e = absurd (none-some _ (sym e))

@@ -8,9 +8,9 @@ use Rattle.qtables.specs.declared.member.Member.{Member}
 use Rattle.qmodel.specs.Answer.{Outcome}
 use Rattle.qmodel.specs.Facts.{Facts, sender, threads_of}
 use Rattle.qmodel.specs.Lawful.{facts_of, IsLawful, with_event}
-use Rattle.qmodel.specs.Past.{filled, is_accepted, open_call, refuses, with_receipt, with_writes}
+use Rattle.qmodel.specs.Past.{call_by_now, is_accepted, open_call, refuses, with_receipt, with_writes}
 use Rattle.qmodel.specs.Effects.{asks, writes}
-use Rattle.qmodel.specs.Rows.{Written, with_buffer, written_over}
+use Rattle.qmodel.specs.Rows.{Written, with_buffer, buffer_after_write}
 use Rattle.qmodel.specs.Step.{after_write, is_thread, written_call}
 use Rattle.qmodel.specs.Trace.{Event, Trace}
 use Rattle.qmodel.specs.declared.call.Call.{Call}
@@ -29,13 +29,13 @@ use Rattle.qmodel.proofs.Past.Senders.{sender_sends}
 pub writes_refused : (e : Event) (past : Trace) (i : ℕ) (b : List ℕ) → refuses e.endings (length past + 1) ≡ true → with_writes (e ∷ past) i b ≡ with_writes past i b
 writes_refused e past i b r = rw r refl
 
-pub writes_accepted : (e : Event) (past : Trace) (i : ℕ) (b : List ℕ) → refuses e.endings (length past + 1) ≡ false → with_writes (e ∷ past) i b ≡ written_over (writes e.call) i (with_writes past i b)
+pub writes_accepted : (e : Event) (past : Trace) (i : ℕ) (b : List ℕ) → refuses e.endings (length past + 1) ≡ false → with_writes (e ∷ past) i b ≡ buffer_after_write (writes e.call) i (with_writes past i b)
 writes_accepted e past i b r = rw r refl
 
 -- a call that writes nothing leaves it
 pub writes_nothing : (e : Event) (past : Trace) (i : ℕ) (b : List ℕ) → writes e.call ≡ None → with_writes (e ∷ past) i b ≡ with_writes past i b
-writes_nothing e past i b none = elim (is_accepted e past) as (λ t. cond t (written_over (writes e.call) i (with_writes past i b)) (with_writes past i b) ≡ with_writes past i b) [
-  | true ↦ ap (λ w. written_over w i (with_writes past i b)) none
+writes_nothing e past i b none = elim (is_accepted e past) as (λ t. cond t (buffer_after_write (writes e.call) i (with_writes past i b)) (with_writes past i b) ≡ with_writes past i b) [
+  | true ↦ ap (λ w. buffer_after_write w i (with_writes past i b)) none
   | false ↦ refl
 ]
 
@@ -63,13 +63,13 @@ change_none f o h = by_wait o.wait where
   by_wait (Answer coid message reply_buffer receipt) = ap (λ b. record { number = o.number; wait = Answer coid message b receipt }) (h reply_buffer)
   by_wait (ForItem chid kind buffer) = refl
 
-pub filled_refused : (e : Event) (past : Trace) (o : OpenCall) → refuses e.endings (length past + 1) ≡ true → filled (e ∷ past) o ≡ filled past o
+pub filled_refused : (e : Event) (past : Trace) (o : OpenCall) → refuses e.endings (length past + 1) ≡ true → call_by_now (e ∷ past) o ≡ call_by_now past o
 filled_refused e past o r = change_same (with_writes (e ∷ past) o.number) (with_writes past o.number) o (λ b. writes_refused e past o.number b r)
 
-pub filled_accepted : (e : Event) (past : Trace) (o : OpenCall) → refuses e.endings (length past + 1) ≡ false → filled (e ∷ past) o ≡ changed (written_over (writes e.call) o.number) (filled past o)
+pub filled_accepted : (e : Event) (past : Trace) (o : OpenCall) → refuses e.endings (length past + 1) ≡ false → call_by_now (e ∷ past) o ≡ changed (buffer_after_write (writes e.call) o.number) (call_by_now past o)
 filled_accepted e past o r =
-    change_same (with_writes (e ∷ past) o.number) (λ b. written_over (writes e.call) o.number (with_writes past o.number b)) o (λ b. writes_accepted e past o.number b r)
-    ∙ change_twice (written_over (writes e.call) o.number) (with_writes past o.number) o
+    change_same (with_writes (e ∷ past) o.number) (λ b. buffer_after_write (writes e.call) o.number (with_writes past o.number b)) o (λ b. writes_accepted e past o.number b r)
+    ∙ change_twice (buffer_after_write (writes e.call) o.number) (with_writes past o.number) o
 
 -- ---- with a receipt
 
@@ -82,7 +82,7 @@ changed_receipt f priority unblocked (Some copied) o = by_wait o.wait where
   by_wait (ForItem chid kind buffer) = refl
 
 -- the call of thread u after a write, if it is written just where the sender is u
-written_after : (f : Facts) (w : Option Written) (u : ℕ) (o : OpenCall) → ((x : Written) → w ≡ Some x → is_thread (sender f x.message) u ≡ eqb x.message o.number) → Some (changed (written_over w o.number) o) ≡ after_write f w u (Some o)
+written_after : (f : Facts) (w : Option Written) (u : ℕ) (o : OpenCall) → ((x : Written) → w ≡ Some x → is_thread (sender f x.message) u ≡ eqb x.message o.number) → Some (changed (buffer_after_write w o.number) o) ≡ after_write f w u (Some o)
 written_after f None u o h = ap (λ x. Some x) (change_none (λ b. b) o (λ b. refl))
 written_after f (Some x) u o h = rw (h x refl) (elim (eqb x.message o.number) as (λ t. Some (changed (λ b. cond t (lay_over b x.offset x.bytes) b) o) ≡ cond t (Some (written_call x.offset x.bytes o)) (Some o)) [
   | true ↦ refl
@@ -90,9 +90,9 @@ written_after f (Some x) u o h = rw (h x refl) (elim (eqb x.message o.number) as
 ])
 
 pub receipt_written : (f : Facts) (w : Option Written) (u priority : ℕ) (unblocked : Bool) (r : Option ℕ) (o : OpenCall) → (with_receipt priority unblocked r o).number ≡ o.number → ((x : Written) → w ≡ Some x → is_thread (sender f x.message) u ≡ eqb x.message o.number)
-    → Some (with_receipt priority unblocked r (changed (written_over w o.number) o)) ≡ after_write f w u (Some (with_receipt priority unblocked r o))
+    → Some (with_receipt priority unblocked r (changed (buffer_after_write w o.number) o)) ≡ after_write f w u (Some (with_receipt priority unblocked r o))
 receipt_written f w u priority unblocked r o number h =
-    ap (λ x. Some x) (changed_receipt (written_over w o.number) priority unblocked r o ∙ ap (λ i. changed (written_over w i) (with_receipt priority unblocked r o)) (sym number))
+    ap (λ x. Some x) (changed_receipt (buffer_after_write w o.number) priority unblocked r o ∙ ap (λ i. changed (buffer_after_write w i) (with_receipt priority unblocked r o)) (sym number))
     ∙ written_after f w u (with_receipt priority unblocked r o) (λ x is. h x is ∙ ap (eqb x.message) (sym number))
 
 -- ---- whose buffer is written
@@ -116,7 +116,7 @@ writes_beyond roster [] i b l h = refl
 writes_beyond roster (e ∷ past) i b l h = elim l.2 [
   | inl a ↦
       let rest : with_writes past i b ≡ b = writes_beyond roster past i b l.0 (omega arith) in
-      writes_accepted e past i b (accepted roster past e.thread e.call e.endings a) ∙ (elim (writes e.call) as (λ w. writes e.call ≡ w → written_over w i (with_writes past i b) ≡ b) [
+      writes_accepted e past i b (accepted roster past e.thread e.call e.endings a) ∙ (elim (writes e.call) as (λ w. writes e.call ≡ w → buffer_after_write w i (with_writes past i b) ≡ b) [
         | None ↦ λ is. rest
         | Some x ↦ λ is.
             let s = (laws_of (facts_of roster past) e.thread e.call e.endings a).writes_sent x is in
@@ -129,8 +129,8 @@ writes_beyond roster (e ∷ past) i b l h = elim l.2 [
 
 -- a call that begins to wait has nothing written over its buffer
 pub filled_fresh : (roster : List Member) (past : Trace) (t : ℕ) (c : Call) (X : List Completion) (o : OpenCall) → IsLawful roster past → refuses X (length past + 1) ≡ false → asks (length past + 1) c ≡ Some o → o.number ≡ length past + 1
-    → filled (with_event t c X past) o ≡ o
+    → call_by_now (with_event t c X past) o ≡ o
 filled_fresh roster past t c X o l r asked number =
     change_none (with_writes (with_event t c X past) o.number) o (λ b.
-    writes_accepted (record { thread = t; call = c; endings = X }) past o.number b r ∙ ap (λ w. written_over w o.number (with_writes past o.number b)) ((call_laws c).waits_write (length past + 1) o asked)
+    writes_accepted (record { thread = t; call = c; endings = X }) past o.number b r ∙ ap (λ w. buffer_after_write w o.number (with_writes past o.number b)) ((call_laws c).waits_write (length past + 1) o asked)
     ∙ writes_beyond roster past o.number b l (omega (arith, number)))

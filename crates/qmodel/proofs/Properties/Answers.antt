@@ -11,9 +11,9 @@ use Rattle.qqueue.specs.declared.item.Item.{Item}
 use Rattle.qqueue.specs.declared.item.Kind.{Kind}
 use Rattle.qqueue.specs.declared.item.Kind.TheVariants.{Any, PulseOnly}
 use Rattle.qtables.specs.declared.connection.Connection.{Connection}
-use Rattle.qmodel.specs.Calls.Error.{errored, mark_of}
-use Rattle.qmodel.specs.Calls.Info.{told, telling}
-use Rattle.qmodel.specs.Calls.Reply.{replied}
+use Rattle.qmodel.specs.Calls.Error.{error_finish, mark_of}
+use Rattle.qmodel.specs.Calls.Info.{info_of, info_ending}
+use Rattle.qmodel.specs.Calls.Reply.{reply_finish}
 use Rattle.qmodel.specs.Calls.Send.{item}
 use Rattle.qmodel.specs.Held.{Finish, ends_sender, refusal}
 use Rattle.qmodel.specs.declared.call.Info.{Info as Told}
@@ -22,7 +22,7 @@ use Rattle.qmodel.specs.Cutting.{is_on}
 use Rattle.qmodel.specs.Facts.{Facts, is_for_answer, message, sender, threads_of, way}
 use Rattle.qmodel.specs.Effects.{answered_by, asks, makes, thread_of_send}
 use Rattle.qmodel.specs.Headline.AnsweredToSender.{is_answer}
-use Rattle.qmodel.specs.Rows.{Made, given, sent_over}
+use Rattle.qmodel.specs.Rows.{Made, delivery_of, item_sent_over}
 use Rattle.qmodel.specs.declared.call.Call.{Call}
 use Rattle.qmodel.specs.declared.call.Call.TheVariants.{ChannelCreate, ConnectAttach, Send, Receive, Reply, Error, Read, Write, Info, ReceivePulse, Pulse, PrioritySet, State, ChannelDestroy, Shutdown, Unblock, ConnectDetach}
 use Rattle.qmodel.specs.declared.call.Completion.{Completion}
@@ -59,7 +59,7 @@ no_answer : {P : Type 0} (x y : Completion) → x ≡ y → is_answer x.mark ≡
 no_answer x y same none e = absurd (true≢false (sym e ∙ ap (λ z. is_answer z.mark) (sym same) ∙ none))
 
 -- a receipt is no answer
-given_no_answer : (item : Item) (message buffer : List ℕ) → is_answer (given item message buffer).0 ≡ false
+given_no_answer : (item : Item) (message buffer : List ℕ) → is_answer (delivery_of item message buffer).0 ≡ false
 given_no_answer item message buffer = given_is is_answer false (λ i n. refl) item message buffer refl
 
 takes_no_answer : {P : Type 0} (f : Facts) (t chid : ℕ) (kind : Kind) (buffer : List ℕ) (y : Completion) → ReceiveTakes f t chid kind buffer y → is_answer y.mark ≡ true → P
@@ -69,7 +69,7 @@ met_no_answer : {P : Type 0} (f : Facts) (o : Option ℕ) (item : Item) (sent : 
 met_no_answer f o item sent u y s is = no_answer _ y s.ending (given_no_answer item sent s.buffer) is
 
 -- what is told is no answer
-tells_only : (n t : ℕ) (o : Option Told) (y : Completion) → option_map (telling n t) o ≡ Some y → is_answer y.mark ≡ false
+tells_only : (n t : ℕ) (o : Option Told) (y : Completion) → option_map (info_ending n t) o ≡ Some y → is_answer y.mark ≡ false
 tells_only n t None y e = absurd (none-some y e)
 tells_only n t (Some told_so) y e = ap (λ x. is_answer x.mark) (sym (same_Some _ y e))
 
@@ -84,7 +84,7 @@ own_answers f t (Reply rcvid status bytes) u y e is = no_answer _ y (same_Some _
 own_answers f t (Error rcvid code) u y e is = no_answer _ y (same_Some _ y e) refl is
 own_answers f t (Read rcvid offset buffer) u y e is = no_answer _ y (same_Some _ y e) refl is
 own_answers f t (Write rcvid offset bytes) u y e is = no_answer _ y (same_Some _ y e) refl is
-own_answers f t (Info rcvid) u y e is = absurd (true≢false (sym is ∙ tells_only f.number t (told f (sender f rcvid)) y e))
+own_answers f t (Info rcvid) u y e is = absurd (true≢false (sym is ∙ tells_only f.number t (info_of f (sender f rcvid)) y e))
 own_answers f t (PrioritySet thread level) u y e is = no_answer _ y (same_Some _ y e) refl is
 own_answers f t (State thread) u y e is = no_answer _ y (same_Some _ y e) refl is
 own_answers f t (ChannelDestroy chid) u y e is = no_answer _ y (same_Some _ y e) refl is
@@ -109,11 +109,11 @@ ends_answers f t (ChannelCreate flags) u y p e is = absurd (none-some y e)
 ends_answers f t (ConnectAttach chid) u y p e is = absurd (none-some y e)
 ends_answers f t (Send coid message reply_buffer) u y p e is = met_no_answer f (way f t coid) (item f t) message u y (delivery_meets f (way f t coid) (item f t) message u y e) is
 ends_answers f t (Pulse coid level code value) u y p e is =
-    let k = told_meets f (pulse.sent f coid level code value) u y e in met_no_answer f (Some k.made.channel) k.made.item [] u y k.meets is
+    let k = told_meets f (pulse.sent_pulse f coid level code value) u y e in met_no_answer f (Some k.made.channel) k.made.item [] u y k.meets is
 ends_answers f t (ReceivePulse chid) u y p e is = absurd (none-some y e)
 ends_answers f t (Receive chid buffer) u y p e is = absurd (none-some y e)
-ends_answers f t (Reply rcvid status bytes) u y p e is = answers_by f t (Reply rcvid status bytes) rcvid (replied status bytes) u y refl (sender_ends f t rcvid (replied status bytes) u y p.row e)
-ends_answers f t (Error rcvid code) u y p e is = answers_by f t (Error rcvid code) rcvid (errored code) u y refl (sender_ends f t rcvid (errored code) u y p.row e)
+ends_answers f t (Reply rcvid status bytes) u y p e is = answers_by f t (Reply rcvid status bytes) rcvid (reply_finish status bytes) u y refl (sender_ends f t rcvid (reply_finish status bytes) u y p.row e)
+ends_answers f t (Error rcvid code) u y p e is = answers_by f t (Error rcvid code) rcvid (error_finish code) u y refl (sender_ends f t rcvid (error_finish code) u y p.row e)
 ends_answers f t (Read rcvid offset buffer) u y p e is = absurd (none-some y e)
 ends_answers f t (Write rcvid offset bytes) u y p e is = absurd (none-some y e)
 ends_answers f t (Info rcvid) u y p e is = absurd (none-some y e)
@@ -121,13 +121,13 @@ ends_answers f t (PrioritySet thread level) u y p e is = absurd (none-some y e)
 ends_answers f t (State thread) u y p e is = absurd (none-some y e)
 ends_answers f t (ChannelDestroy chid) u y p e is = no_answer _ y (cut_parts (is_on f.connection chid) Srch u (f.open_call u) y e).ending refl is
 ends_answers f t Shutdown u y p e is = no_answer _ y (cut_parts (λ wait. true) Srch u (f.open_call u) y e).ending refl is
-ends_answers f t (Unblock thread) u y p e is = elim (unblock_ends f thread u y (unblock.due f thread) e) [
+ends_answers f t (Unblock thread) u y p e is = elim (unblock_ends f thread u y (unblock.due_pulse f thread) e) [
   | inl cut ↦ no_answer _ y cut.ending refl is
   | inr k ↦ met_no_answer f (Some k.made.channel) k.made.item [] u y k.meets is
 ]
-ends_answers f t (ConnectDetach coid) u y p e is = elim (detach_ends f coid (connect_detach.due f t coid) u y e) [
+ends_answers f t (ConnectDetach coid) u y p e is = elim (detach_ends f coid (connect_detach.due_pulse f t coid) u y e) [
   | inl cut ↦ no_answer _ y cut.ending refl is
-  | inr s ↦ let k = told_meets f (connect_detach.due f t coid) u y s in met_no_answer f (Some k.made.channel) k.made.item [] u y k.meets is
+  | inr s ↦ let k = told_meets f (connect_detach.due_pulse f t coid) u y s in met_no_answer f (Some k.made.channel) k.made.item [] u y k.meets is
 ]
 
 -- each ending that answers a message answers so
@@ -187,8 +187,8 @@ answers_one f t (Unblock thread) i p e = absurd (none-some i e)
 answers_one f t (ConnectDetach coid) i p e = absurd (none-some i e)
 answers_one f t (ReceivePulse chid) i p e = absurd (none-some i e)
 answers_one f t (Pulse coid level code value) i p e = absurd (none-some i e)
-answers_one f t (Reply rcvid status bytes) i p e = ends_one f t (Reply rcvid status bytes) rcvid (replied status bytes) i p.row (λ u. refl) (λ buffer. refl) (same_Some rcvid i e)
-answers_one f t (Error rcvid code) i p e = ends_one f t (Error rcvid code) rcvid (errored code) i p.row (λ u. refl) (λ buffer. error_answers code) (same_Some rcvid i e)
+answers_one f t (Reply rcvid status bytes) i p e = ends_one f t (Reply rcvid status bytes) rcvid (reply_finish status bytes) i p.row (λ u. refl) (λ buffer. refl) (same_Some rcvid i e)
+answers_one f t (Error rcvid code) i p e = ends_one f t (Error rcvid code) rcvid (error_finish code) i p.row (λ u. refl) (λ buffer. error_answers code) (same_Some rcvid i e)
 
 -- ---- what waits for an answer
 
@@ -213,7 +213,7 @@ send_over f t coid message reply_buffer p =
       connection = l.connection;
       is_connection = l.is;
       made = record { item = item f t; channel = l.connection.channel };
-      is_made = ap (λ o. sent_over o (item f t)) l.is;
+      is_made = ap (λ o. item_sent_over o (item f t)) l.is;
       channel = refl;
     }
 

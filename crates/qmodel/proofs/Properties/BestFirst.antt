@@ -13,7 +13,7 @@ use Rattle.qmodel.specs.Answer.{Outcome}
 use Rattle.qmodel.specs.Headline.BestFirst.{BestFirst, TakesBest, takeable}
 use Rattle.qmodel.specs.Headline.CopiedExactly.{call_at}
 use Rattle.qmodel.specs.Lawful.{facts_of, IsLawful}
-use Rattle.qmodel.specs.Past.{pending, made_on}
+use Rattle.qmodel.specs.Past.{pending_items, made_on}
 use Rattle.qmodel.specs.Trace.{Event, Trace}
 use Rattle.qmodel.specs.declared.call.Completion.{Completion}
 use Rattle.qbase.proofs.Lists.{eqb_same}
@@ -27,8 +27,8 @@ use Rattle.qmodel.proofs.Properties.Waiting.{buffer_waits_for, held_waits_for, n
 
 takes_pending : (roster : List Member) (past : Trace) (e : Event) (u : ℕ) (y : Completion) (i : ℕ) → TakesPending (facts_of roster past) e.thread e.call u y i → TakesBest roster past e y i
 takes_pending roster past e u y i k =
-    let all : takeable roster past e k.channel ≡ pending roster past k.channel =
-    ap (λ o. pending roster past k.channel ++ made_on k.channel o) (none_made roster e past k.makes_none) ∙ append-nil (pending roster past k.channel) in
+    let all : takeable roster past e k.channel ≡ pending_items roster past k.channel =
+    ap (λ o. pending_items roster past k.channel ++ made_on k.channel o) (none_made roster e past k.makes_none) ∙ append-nil (pending_items roster past k.channel) in
     record {
       call = e.call;
       channel = k.channel;
@@ -50,11 +50,11 @@ takes_made : (roster : List Member) (past : Trace) (e : Event) (u : ℕ) (y : Co
 takes_made roster past e u y i r l a k =
     let b = open_parts roster past u k.waiting k.is_open in
     let c = block_asked past u b.block b.is in
-    let all : takeable roster past e k.made.channel ≡ pending roster past k.made.channel ++ k.made.item ∷ [] =
-    ap (λ o. pending roster past k.made.channel ++ made_on k.made.channel o) (made_now roster e past k.made a k.is_made)
+    let all : takeable roster past e k.made.channel ≡ pending_items roster past k.made.channel ++ k.made.item ∷ [] =
+    ap (λ o. pending_items roster past k.made.channel ++ made_on k.made.channel o) (made_now roster e past k.made a k.is_made)
     ∙ rw (eqb_same k.made.channel) refl in
-    let best : best_of k.kind (pending roster past k.made.channel ++ k.made.item ∷ []) ≡ Some k.made.item =
-    best_behind k.kind (pending roster past k.made.channel) k.made.item (nothing_for roster past r l u k.waiting k.made.channel k.kind k.is_open k.waits) k.may in
+    let best : best_of k.kind (pending_items roster past k.made.channel ++ k.made.item ∷ []) ≡ Some k.made.item =
+    best_behind k.kind (pending_items roster past k.made.channel) k.made.item (nothing_for roster past r l u k.waiting k.made.channel k.kind k.is_open k.waits) k.may in
     record {
       call = c.call;
       channel = k.made.channel;

@@ -11,8 +11,8 @@ use Rattle.qmodel.specs.Headline.BestFirst.{takeable}
 use Rattle.qmodel.specs.Headline.CopiedExactly.{call_at}
 use Rattle.qmodel.specs.Effects.{makes, sends_over}
 use Rattle.qmodel.specs.Headline.SentOrder.{connection_of}
-use Rattle.qmodel.specs.Past.{item_of, pending, priority_before, attached, made_on}
-use Rattle.qmodel.specs.Rows.{message_item, pulse_item, Made, sent_over}
+use Rattle.qmodel.specs.Past.{item_of, pending_items, priority_before, attached_connection, made_on}
+use Rattle.qmodel.specs.Rows.{message_item, pulse_item, Made, item_sent_over}
 use Rattle.qmodel.specs.Trace.{Event, Trace}
 use Rattle.qmodel.specs.declared.call.Call.{Call}
 use Rattle.qmodel.specs.declared.call.Call.TheVariants.{ChannelCreate, ConnectAttach, Send, Receive, Reply, Error, Read, Write, Info, ReceivePulse, Pulse, PrioritySet, State, ChannelDestroy, Shutdown, Unblock, ConnectDetach}
@@ -33,8 +33,8 @@ IsMadeFor roster past h w = (first : Item) × (item_at roster past w.number ≡ 
 pub takeable_made : (roster : List Member) (past : Trace) (e : Event) (h : ℕ) → AllByRecursion (IsMadeFor roster (e ∷ past) h) (takeable roster past e h)
 takeable_made roster past e h =
     let P = IsMadeFor roster (e ∷ past) h in
-    all_append P (pending roster past h) (made_on h (item_of roster e past))
-    (all_more (IsPending roster past h) P (pending roster past h) (pending_all roster past h) (λ w at. (at.first, item_earlier roster e past w.number (item_below roster past w.number _ at.made) ∙ at.made)))
+    all_append P (pending_items roster past h) (made_on h (item_of roster e past))
+    (all_more (IsPending roster past h) P (pending_items roster past h) (pending_all roster past h) (λ w at. (at.first, item_earlier roster e past w.number (item_below roster past w.number _ at.made) ∙ at.made)))
     (made_all P h (item_of roster e past) (λ m is on. (
       m.item,
       subst (λ i. item_at roster (e ∷ past) i ≡ Some (record { item = m.item; channel = h })) (sym (made_by roster e past m is).number)
@@ -45,7 +45,7 @@ takeable_made roster past e h =
 pub takeable_priorities : (roster : List Member) (past : Trace) (e : Event) (h : ℕ) → AllByRecursion (λ w. priority_before roster e past w.number ≡ w.priority) (takeable roster past e h)
 takeable_priorities roster past e h =
     let P = λ (w : Item). priority_before roster e past w.number ≡ w.priority in
-    all_append P (pending roster past h) (made_on h (item_of roster e past))
+    all_append P (pending_items roster past h) (made_on h (item_of roster e past))
     (pending_each P roster past h (λ item at stays. before_earlier roster e past item.number (item_below roster past item.number _ at) ∙ item_priority roster past item.number _ at))
     (made_all P h (item_of roster e past) (λ m is on. before_newest roster e past m is))
 
@@ -57,9 +57,9 @@ pub record IsOver (connection : ℕ → Option Connection) (k : ℕ) (m : Made) 
   pub is : connection k ≡ Some over
   pub channel : m.channel ≡ over.channel
 
-sent_is_over : (connection : ℕ → Option Connection) (k : ℕ) (item : Item) (m : Made) → sent_over (connection k) item ≡ Some m → IsOver connection k m
+sent_is_over : (connection : ℕ → Option Connection) (k : ℕ) (item : Item) (m : Made) → item_sent_over (connection k) item ≡ Some m → IsOver connection k m
 sent_is_over connection k item m e =
-    elim (connection k) as (λ o. connection k ≡ o → sent_over o item ≡ Some m → IsOver connection k m) [
+    elim (connection k) as (λ o. connection k ≡ o → item_sent_over o item ≡ Some m → IsOver connection k m) [
       | None ↦ λ is s. absurd (none-some m s)
       | Some c ↦ λ is s. record { over = c; is = is; channel = ap (λ (x : Made). x.channel) (sym (same_Some _ m s)) }
     ] refl e
@@ -84,11 +84,11 @@ makes_over f t (Pulse coid level code value) m k e s = subst (λ i. IsOver f.con
 makes_over f t (Send coid message reply_buffer) m k e s =
     subst (λ i. IsOver f.connection i m) (same_Some coid k s) (sent_is_over f.connection coid (message_item f.number (f.priority t)) m e)
 
-pub item_over : (roster : List Member) (past : Trace) (i k : ℕ) (m : Made) → item_at roster past i ≡ Some m → connection_of past i ≡ Some k → IsOver (attached roster past) k m
+pub item_over : (roster : List Member) (past : Trace) (i k : ℕ) (m : Made) → item_at roster past i ≡ Some m → connection_of past i ≡ Some k → IsOver (attached_connection roster past) k m
 item_over roster [] i k m is over = absurd (none-some m is)
 item_over roster (e ∷ past) i k m is over =
     elim (eqb i (length past + 1)) as (λ b. cond b (item_of roster e past) (item_at roster past i) ≡ Some m
-    → option_and_then sends_over (cond b (Some e.call) (call_at past i)) ≡ Some k → IsOver (attached roster (e ∷ past)) k m) [
+    → option_and_then sends_over (cond b (Some e.call) (call_at past i)) ≡ Some k → IsOver (attached_connection roster (e ∷ past)) k m) [
       | true ↦ λ at by.
           let w = makes_over (facts_of roster past) e.thread e.call m k (item_accepted roster e past m at).1 by in
           record { over = w.over; is = made_stays _ e past k w.over (sym (live_attached roster past k (ap is_some w.is)) ∙ w.is); channel = w.channel }

@@ -16,9 +16,9 @@ use Rattle.qbase.specs.Laying.{laid_count, lay_over}
 use Rattle.qtables.specs.declared.member.Member.{Member}
 use Rattle.qmodel.specs.Answer.{row_of, ending, Answers}
 use Rattle.qmodel.specs.Effects.{buffer_of, message_sent, replies_with, writes}
-use Rattle.qmodel.specs.Calls.Error.{errored}
-use Rattle.qmodel.specs.Calls.Info.{told, telling}
-use Rattle.qmodel.specs.Calls.Reply.{replied}
+use Rattle.qmodel.specs.Calls.Error.{error_finish}
+use Rattle.qmodel.specs.Calls.Info.{info_of, info_ending}
+use Rattle.qmodel.specs.Calls.Reply.{reply_finish}
 use Rattle.qmodel.specs.Calls.Send as send
 use Rattle.qmodel.specs.Cutting.{buffer_of_wait, cut_call, is_on, is_over}
 use Rattle.qmodel.specs.Facts.{Facts, message, message_in, sender, threads_of, way}
@@ -26,7 +26,7 @@ use Rattle.qmodel.specs.Held.{Finish, refusal, reply_buffer, reply_buffer_in, re
 use Rattle.qmodel.specs.Headline.CopiedExactly.{CopiedExactly, IsCopied, buffer_at, buffer_by, call_at, message_at}
 use Rattle.qmodel.specs.Lawful.{facts_of, IsLawful}
 use Rattle.qmodel.specs.Past.{open_call, refuses}
-use Rattle.qmodel.specs.Rows.{taking, Made}
+use Rattle.qmodel.specs.Rows.{receipt_ending, Made}
 use Rattle.qmodel.specs.Trace.{Event, Trace}
 use Rattle.qmodel.specs.declared.call.Call.{Call}
 use Rattle.qmodel.specs.declared.call.Call.TheVariants.{ChannelCreate, ConnectAttach, Send, Receive, Reply, Error, Read, Write, Info, ReceivePulse, Pulse, PrioritySet, State, ChannelDestroy, Shutdown, Unblock, ConnectDetach}
@@ -55,7 +55,7 @@ use Rattle.qmodel.proofs.Properties.Rows.Telling.{Tells, told_meets, unblock_end
 use Rattle.qmodel.specs.Calls.ConnectDetach as connect_detach
 use Rattle.qmodel.specs.Calls.Unblock as unblock
 use Rattle.qmodel.specs.Calls.Pulse as pulse
-use Rattle.qmodel.proofs.Calls.Pulse.{sent_pulse}
+use Rattle.qmodel.proofs.Calls.Pulse.{sent_is_pulse}
 use Rattle.qmodel.proofs.Calls.ConnectDetach as detaching
 use Rattle.qmodel.proofs.Calls.ConnectDetach.{detach_ends}
 use Rattle.qmodel.proofs.Calls.Unblock as unblocking
@@ -138,19 +138,19 @@ as_given item buffer bytes t = cond {A = Mark × List ℕ} t (mark.Pulse item.nu
 
 -- a message is laid over the buffer, and a pulse leaves it
 taking_copied : (past : Trace) (e : Event) (m u : ℕ) (item : Item) (buffer bytes : List ℕ) (y : Completion) → buffer_at (e ∷ past) m ≡ buffer → (is_pulse item.what ≡ false → message_at (e ∷ past) item.number ≡ bytes)
-    → taking item bytes u m buffer ≡ y → IsCopied past e y y.mark
+    → receipt_ending item bytes u m buffer ≡ y → IsCopied past e y y.mark
 taking_copied past e m u item buffer bytes y b s is = subst (λ (x : Completion). IsCopied past e x x.mark) is (by (is_pulse item.what) s) where
   by : (t : Bool) → (t ≡ false → message_at (e ∷ past) item.number ≡ bytes) → IsCopied past e (record { call = m; thread = u; mark = (as_given item buffer bytes t).0; buffer = (as_given item buffer bytes t).1 }) (as_given item buffer bytes t).0
   by true s = sym b
   by false s = rw (b, s refl) (refl, refl)
 
 -- the bytes of a Reply are laid over the buffer
-replied_copied : (past : Trace) (e : Event) (m u : ℕ) (status : ℤ) (bytes buffer : List ℕ) (y : Completion) → replies_with e.call ≡ Some (status, bytes) → buffer_at (e ∷ past) m ≡ buffer → answering m u (replied status bytes) buffer ≡ y
+replied_copied : (past : Trace) (e : Event) (m u : ℕ) (status : ℤ) (bytes buffer : List ℕ) (y : Completion) → replies_with e.call ≡ Some (status, bytes) → buffer_at (e ∷ past) m ≡ buffer → answering m u (reply_finish status bytes) buffer ≡ y
     → IsCopied past e y y.mark
 replied_copied past e m u status bytes buffer y says b is = subst (λ (x : Completion). IsCopied past e x x.mark) is (bytes, says, rw b refl, rw b refl)
 
 -- an Error leaves the buffer
-errored_copied : (past : Trace) (e : Event) (m u : ℕ) (code : ℤ) (buffer : List ℕ) (y : Completion) → replies_with e.call ≡ cond (int_eq code (pos 0)) (Some (pos 0, [])) None → buffer_at (e ∷ past) m ≡ buffer → answering m u (errored code) buffer ≡ y
+errored_copied : (past : Trace) (e : Event) (m u : ℕ) (code : ℤ) (buffer : List ℕ) (y : Completion) → replies_with e.call ≡ cond (int_eq code (pos 0)) (Some (pos 0, [])) None → buffer_at (e ∷ past) m ≡ buffer → answering m u (error_finish code) buffer ≡ y
     → IsCopied past e y y.mark
 errored_copied past e m u code buffer y says b is = subst (λ (x : Completion). IsCopied past e x x.mark) is (
     elim (int_eq code (pos 0)) as (λ t. replies_with e.call ≡ cond t (Some (pos 0, [])) None → IsCopied past e (record { call = m; thread = u; mark = cond t (mark.Replied (pos 0) 0) (mark.Errored code); buffer = buffer }) (cond t (mark.Replied (pos 0) 0) (mark.Errored code))) [
@@ -163,9 +163,9 @@ plain_copied : (past : Trace) (e : Event) (y x : Completion) → x ≡ y → IsC
 plain_copied past e y x is h = subst (λ (z : Completion). IsCopied past e z z.mark) is h
 
 -- what is told gives no buffer
-told_copied : (past : Trace) (e : Event) (n t : ℕ) (o : Option Told) (y : Completion) → option_map (telling n t) o ≡ Some y → buffer_at (e ∷ past) n ≡ [] → IsCopied past e y y.mark
+told_copied : (past : Trace) (e : Event) (n t : ℕ) (o : Option Told) (y : Completion) → option_map (info_ending n t) o ≡ Some y → buffer_at (e ∷ past) n ≡ [] → IsCopied past e y y.mark
 told_copied past e n t None y is b = absurd (none-some y is)
-told_copied past e n t (Some told_so) y is b = plain_copied past e y (telling n t told_so) (same_Some _ y is) (sym b)
+told_copied past e n t (Some told_so) y is b = plain_copied past e y (info_ending n t told_so) (same_Some _ y is) (sym b)
 
 -- ---- each ending of an accepted call
 
@@ -191,7 +191,7 @@ own_copied roster past t (Read rcvid offset buffer) X y l p e =
 own_copied roster past t (Write rcvid offset bytes) X y l p e =
     plain_copied past (event t (Write rcvid offset bytes) X) y _ (same_Some _ y e) (refl, ap (λ b. laid_count b offset bytes) (held_buffer roster past t rcvid p.row))
 own_copied roster past t (Info rcvid) X y l p e =
-    told_copied past (event t (Info rcvid) X) (length past + 1) t (told (facts_of roster past) (sender (facts_of roster past) rcvid)) y e (buffer_newest (event t (Info rcvid) X) past)
+    told_copied past (event t (Info rcvid) X) (length past + 1) t (info_of (facts_of roster past) (sender (facts_of roster past) rcvid)) y e (buffer_newest (event t (Info rcvid) X) past)
 own_copied roster past t (PrioritySet thread level) X y l p e = plain_copied past (event t (PrioritySet thread level) X) y _ (same_Some _ y e) (sym (buffer_newest (event t (PrioritySet thread level) X) past))
 own_copied roster past t (State thread) X y l p e = plain_copied past (event t (State thread) X) y _ (same_Some _ y e) (sym (buffer_newest (event t (State thread) X) past))
 own_copied roster past t (ChannelDestroy chid) X y l p e = plain_copied past (event t (ChannelDestroy chid) X) y _ (same_Some _ y e) (sym (buffer_newest (event t (ChannelDestroy chid) X) past))
@@ -238,30 +238,30 @@ ends_copied roster past t (PrioritySet thread level) X u y p e = absurd (none-so
 ends_copied roster past t (State thread) X u y p e = absurd (none-some y e)
 ends_copied roster past t (ChannelDestroy chid) X u y p e = cut_copied roster past t (ChannelDestroy chid) X u y (is_on (facts_of roster past).connection chid) Srch refl (cut_parts (is_on (facts_of roster past).connection chid) Srch u (open_call roster past u) y e)
 ends_copied roster past t Shutdown X u y p e = cut_copied roster past t Shutdown X u y (λ wait. true) Srch refl (cut_parts (λ wait. true) Srch u (open_call roster past u) y e)
-ends_copied roster past t (Unblock thread) X u y p e = elim (unblock_ends (facts_of roster past) thread u y (unblock.due (facts_of roster past) thread) e) [
+ends_copied roster past t (Unblock thread) X u y p e = elim (unblock_ends (facts_of roster past) thread u y (unblock.due_pulse (facts_of roster past) thread) e) [
   | inl cut ↦ cut_copied roster past t (Unblock thread) X u y (is_cut (facts_of roster past) thread u) Intr refl cut
-  | inr k ↦ told_now roster past t (Unblock thread) X u y (unblock.due (facts_of roster past) thread) refl (λ m is. unblocking.due_pulse (facts_of roster past) thread m is) k
+  | inr k ↦ told_now roster past t (Unblock thread) X u y (unblock.due_pulse (facts_of roster past) thread) refl (λ m is. unblocking.due_is_pulse (facts_of roster past) thread m is) k
 ]
-ends_copied roster past t (ConnectDetach coid) X u y p e = elim (detach_ends (facts_of roster past) coid (connect_detach.due (facts_of roster past) t coid) u y e) [
+ends_copied roster past t (ConnectDetach coid) X u y p e = elim (detach_ends (facts_of roster past) coid (connect_detach.due_pulse (facts_of roster past) t coid) u y e) [
   | inl cut ↦ cut_copied roster past t (ConnectDetach coid) X u y (is_over coid) Badf refl cut
-  | inr s ↦ told_now roster past t (ConnectDetach coid) X u y (connect_detach.due (facts_of roster past) t coid) refl (λ m is. detaching.due_pulse (facts_of roster past) t coid m is)
-      (told_meets (facts_of roster past) (connect_detach.due (facts_of roster past) t coid) u y s)
+  | inr s ↦ told_now roster past t (ConnectDetach coid) X u y (connect_detach.due_pulse (facts_of roster past) t coid) refl (λ m is. detaching.due_is_pulse (facts_of roster past) t coid m is)
+      (told_meets (facts_of roster past) (connect_detach.due_pulse (facts_of roster past) t coid) u y s)
 ]
 ends_copied roster past t (ReceivePulse chid) X u y p e = absurd (none-some y e)
 ends_copied roster past t (Send coid sent reply_buffer) X u y p e =
     met_copied roster past t (Send coid sent reply_buffer) X u y (way (facts_of roster past) t coid) (send.item (facts_of roster past) t) sent refl (λ message. message_newest (event t (Send coid sent reply_buffer) X) past)
     (delivery_meets (facts_of roster past) (way (facts_of roster past) t coid) (send.item (facts_of roster past) t) sent u y e)
 ends_copied roster past t (Pulse coid level code value) X u y p e =
-    let o = pulse.sent (facts_of roster past) coid level code value in
-    told_now roster past t (Pulse coid level code value) X u y o refl (λ m is. sent_pulse (facts_of roster past) coid level code value m is) (told_meets (facts_of roster past) o u y e)
+    let o = pulse.sent_pulse (facts_of roster past) coid level code value in
+    told_now roster past t (Pulse coid level code value) X u y o refl (λ m is. sent_is_pulse (facts_of roster past) coid level code value m is) (told_meets (facts_of roster past) o u y e)
 ends_copied roster past t (Reply rcvid status bytes) X u y p e =
-    let r = sender_ends (facts_of roster past) t rcvid (replied status bytes) u y p.row e in
+    let r = sender_ends (facts_of roster past) t rcvid (reply_finish status bytes) u y p.row e in
     let v = event t (Reply rcvid status bytes) X in
-    replied_copied past v rcvid u status bytes r.held.reply_buffer y refl (answered_buffer roster past v t rcvid (replied status bytes) u y refl r) r.ending
+    replied_copied past v rcvid u status bytes r.held.reply_buffer y refl (answered_buffer roster past v t rcvid (reply_finish status bytes) u y refl r) r.ending
 ends_copied roster past t (Error rcvid code) X u y p e =
-    let r = sender_ends (facts_of roster past) t rcvid (errored code) u y p.row e in
+    let r = sender_ends (facts_of roster past) t rcvid (error_finish code) u y p.row e in
     let v = event t (Error rcvid code) X in
-    errored_copied past v rcvid u code r.held.reply_buffer y refl (answered_buffer roster past v t rcvid (errored code) u y refl r) r.ending
+    errored_copied past v rcvid u code r.held.reply_buffer y refl (answered_buffer roster past v t rcvid (error_finish code) u y refl r) r.ending
 
 ending_copied : (roster : List Member) (past : Trace) (t : ℕ) (c : Call) (X : List Completion) (u : ℕ) (y : Completion) → IsLawful roster past → Passes (facts_of roster past) t c
     → ending (facts_of roster past) t c u ≡ Some y → IsCopied past (event t c X) y y.mark

@@ -12,7 +12,7 @@ use Rattle.qmodel.specs.Facts.{is_for_answer, message, message_in, message_of, s
 use Rattle.qmodel.specs.Effects.{message_sent as message_in_call}
 use Rattle.qmodel.specs.Headline.CopiedExactly.{buffer_at, buffer_by, message_at}
 use Rattle.qmodel.specs.Lawful.{facts_of, IsLawful}
-use Rattle.qmodel.specs.Past.{ends, filled, held_with, is_ended, item_of, newest_block, open_call, priority_of_item, receipt_of, with_receipt, with_writes}
+use Rattle.qmodel.specs.Past.{has_ending_of, call_by_now, wait_with_receipt, is_ended, item_of, newest_block, open_call, priority_of_item, copied_count_of, with_receipt, with_writes}
 use Rattle.qmodel.specs.Facts.{Facts}
 use Rattle.qmodel.specs.Effects.{asks, makes}
 use Rattle.qmodel.specs.Rows.{pulse_item, Made, with_buffer}
@@ -33,7 +33,7 @@ use Rattle.qmodel.proofs.Past.Senders.{send_from, send_parts, sender_found}
 use Rattle.qmodel.proofs.Properties.Events.{outcome_of}
 use Rattle.qmodel.proofs.Properties.Sends.{open_filled, open_keeps}
 use Rattle.qmodel.proofs.Calls.ConnectDetach as detaching
-use Rattle.qmodel.proofs.Calls.Unblock.{due_pulse}
+use Rattle.qmodel.proofs.Calls.Unblock.{due_is_pulse}
 use Rattle.qmodel.proofs.Rosters.{known}
 
 -- ---- what a call brings is what it waits with
@@ -62,11 +62,11 @@ keeps past n (ReceivePulse chid) b e = subst (Keeps past n (ReceivePulse chid)) 
 keeps past n (Send coid message reply_buffer) b e = subst (Keeps past n (Send coid message reply_buffer)) (same_Some _ b e) (record { buffer = refl; sent = refl })
 keeps past n (Receive chid buffer) b e = subst (Keeps past n (Receive chid buffer)) (same_Some _ b e) (record { buffer = refl; sent = refl })
 
-held_buffer_of : (receipt : Receipt) (w : Wait) → buffer_of_wait (held_with receipt w) ≡ buffer_of_wait w
+held_buffer_of : (receipt : Receipt) (w : Wait) → buffer_of_wait (wait_with_receipt receipt w) ≡ buffer_of_wait w
 held_buffer_of receipt (Answer coid sent reply_buffer before) = refl
 held_buffer_of receipt (ForItem chid kind buffer) = refl
 
-held_message : (receipt : Receipt) (w : Wait) → message_of (held_with receipt w) ≡ message_of w
+held_message : (receipt : Receipt) (w : Wait) → message_of (wait_with_receipt receipt w) ≡ message_of w
 held_message receipt (Answer coid sent reply_buffer before) = refl
 held_message receipt (ForItem chid kind buffer) = refl
 
@@ -109,8 +109,8 @@ makes_message f t (PrioritySet thread level) m e message = absurd (none-some m e
 makes_message f t (State thread) m e message = absurd (none-some m e)
 makes_message f t (ChannelDestroy chid) m e message = absurd (none-some m e)
 makes_message f t Shutdown m e message = absurd (none-some m e)
-makes_message f t (Unblock thread) m e message = absurd (true≢false (sym (due_pulse f thread m e) ∙ message))
-makes_message f t (ConnectDetach coid) m e message = absurd (true≢false (sym (detaching.due_pulse f t coid m e) ∙ message))
+makes_message f t (Unblock thread) m e message = absurd (true≢false (sym (due_is_pulse f thread m e) ∙ message))
+makes_message f t (ConnectDetach coid) m e message = absurd (true≢false (sym (detaching.due_is_pulse f t coid m e) ∙ message))
 makes_message f t (ReceivePulse chid) m e message = absurd (none-some m e)
 makes_message f t (Pulse coid level code value) m e message =
     absurd (true≢false (ap (λ x. is_pulse x.what) (sym (sent_item (f.connection coid) (pulse_item f.number level code value) m e)) ∙ message))
@@ -154,7 +154,7 @@ item_waits roster (e ∷ past) i m l is message going =
             answer = w.answer;
           }
       | false ↦ λ other at.
-          let before : is_ended past i ≡ false = (or_parts (ends e.endings i) (is_ended past i) going).1 in
+          let before : is_ended past i ≡ false = (or_parts (has_ending_of e.endings i) (is_ended past i) going).1 in
           let k = item_waits roster past i m l.0 at message before in
           record {
             thread = k.thread;
@@ -174,10 +174,10 @@ pub pending_message : (roster : List Member) (past : Trace) (h : ℕ) (item : It
 pending_message roster past h item l p sent =
     let going : is_ended past item.number ≡ false = pending_going roster past h item p sent in
     let w = item_waits roster past item.number (record { item = p.first; channel = h }) l p.made (ap is_pulse p.what ∙ sent) going in
-    let o = with_receipt (priority_of_item roster past w.block.number) (is_unblocked roster past w.block.number) (receipt_of past w.block.number) (filled past w.block) in
+    let o = with_receipt (priority_of_item roster past w.block.number) (is_unblocked roster past w.block.number) (copied_count_of past w.block.number) (call_by_now past w.block) in
     let is : open_call roster past w.thread ≡ Some o = open_from roster past w.thread w.block w.is (subst (λ j. is_ended past j ≡ false) (sym w.number) going) in
-    let number : o.number ≡ item.number = receipt_number (priority_of_item roster past w.block.number) (is_unblocked roster past w.block.number) (receipt_of past w.block.number) (filled past w.block) ∙ w.number in
-    let answer : is_for_answer o.wait ≡ true = receipt_for_answer (priority_of_item roster past w.block.number) (is_unblocked roster past w.block.number) (receipt_of past w.block.number) (filled past w.block) ∙ filled_answer past w.block ∙ w.answer in
+    let number : o.number ≡ item.number = receipt_number (priority_of_item roster past w.block.number) (is_unblocked roster past w.block.number) (copied_count_of past w.block.number) (call_by_now past w.block) ∙ w.number in
+    let answer : is_for_answer o.wait ≡ true = receipt_for_answer (priority_of_item roster past w.block.number) (is_unblocked roster past w.block.number) (copied_count_of past w.block.number) (call_by_now past w.block) ∙ filled_answer past w.block ∙ w.answer in
     let sends : is_send item.number (open_call roster past w.thread) ≡ true = ap (is_send item.number) is ∙ send_from item.number o number answer in
     let found : sender (facts_of roster past) item.number ≡ Some w.thread =
     sender_found (open_call roster past) item.number (threads_of roster) w.thread (known roster w.thread (open_known roster past w.thread o l is)) sends (λ v e.

@@ -10,15 +10,15 @@ use Rattle.qqueue.specs.declared.item.Item.{Item}
 use Rattle.qqueue.specs.declared.item.Kind.{Kind}
 use Rattle.qqueue.specs.declared.item.Kind.TheVariants.{Any, PulseOnly}
 use Rattle.qmodel.specs.Answer.{row_of, ending}
-use Rattle.qmodel.specs.Calls.Error.{errored}
-use Rattle.qmodel.specs.Calls.Info.{told}
-use Rattle.qmodel.specs.Calls.Reply.{replied}
+use Rattle.qmodel.specs.Calls.Error.{error_finish}
+use Rattle.qmodel.specs.Calls.Info.{info_of}
+use Rattle.qmodel.specs.Calls.Reply.{reply_finish}
 use Rattle.qmodel.specs.Calls.Send.{item}
 use Rattle.qmodel.specs.Cutting.{is_on}
 use Rattle.qmodel.specs.Facts.{Facts, message, sender, way}
 use Rattle.qmodel.specs.Effects.{makes, receives_on}
 use Rattle.qmodel.specs.Headline.ReceivedOnce.{item_received}
-use Rattle.qmodel.specs.Rows.{Made, received}
+use Rattle.qmodel.specs.Rows.{Made, item_in_mark}
 use Rattle.qmodel.specs.declared.call.Call.{Call}
 use Rattle.qmodel.specs.declared.call.Call.TheVariants.{ChannelCreate, ConnectAttach, Send, Receive, Reply, Error, Read, Write, Info, ReceivePulse, Pulse, PrioritySet, State, ChannelDestroy, Shutdown, Unblock, ConnectDetach}
 use Rattle.qmodel.specs.declared.call.Completion.{Completion}
@@ -51,9 +51,9 @@ ending_of f t c u y e =
     ] refl e
 
 -- what an ending receives
-pub receives_it : (x : Completion) (i : ℕ) → item_received x ≡ Some i → (p : ℕ × ℕ) × (received x.mark ≡ Some p) × (p.0 ≡ i)
+pub receives_it : (x : Completion) (i : ℕ) → item_received x ≡ Some i → (p : ℕ × ℕ) × (item_in_mark x.mark ≡ Some p) × (p.0 ≡ i)
 receives_it x i e =
-    elim (received x.mark) as (λ o. option_map (λ r. r.0) o ≡ Some i → (p : ℕ × ℕ) × (o ≡ Some p) × (p.0 ≡ i)) [
+    elim (item_in_mark x.mark) as (λ o. option_map (λ r. r.0) o ≡ Some i → (p : ℕ × ℕ) × (o ≡ Some p) × (p.0 ≡ i)) [
       | None ↦ λ s. absurd (none-some i s)
       | Some p ↦ λ s. (p, refl, same_Some p.0 i s)
     ] e
@@ -94,7 +94,7 @@ TakesOne f t c u y i = TakesPending f t c u y i ⊎ TakesMade f t c u y i
 
 -- a receive that takes the best
 takes_best : (f : Facts) (t : ℕ) (c : Call) (chid : ℕ) (kind : Kind) (buffer : List ℕ) (u : ℕ) (y : Completion) (p : ℕ × ℕ) → u ≡ t → receives_on c ≡ Some (chid, kind) → makes f t c ≡ None
-    → ReceiveTakes f t chid kind buffer y → received y.mark ≡ Some p → TakesOne f t c u y p.0
+    → ReceiveTakes f t chid kind buffer y → item_in_mark y.mark ≡ Some p → TakesOne f t c u y p.0
 takes_best f t c chid kind buffer u y p same receives none r m = inl (record {
   caller = same;
   call = sym (ap (λ x. x.call) r.ending);
@@ -104,35 +104,35 @@ takes_best f t c chid kind buffer u y p same receives none r m = inl (record {
   receives = receives;
   makes_none = none;
   best = r.best;
-  number = ap (λ q. q.0) (same_Some (r.item.number, (given_received r.item (message f r.item.number) buffer).0) p (sym (given_received r.item (message f r.item.number) buffer).1 ∙ ap (λ x. received x.mark) r.ending ∙ m));
+  number = ap (λ q. q.0) (same_Some (r.item.number, (given_received r.item (message f r.item.number) buffer).0) p (sym (given_received r.item (message f r.item.number) buffer).1 ∙ ap (λ x. item_in_mark x.mark) r.ending ∙ m));
 })
 
-own_takes : (f : Facts) (t : ℕ) (c : Call) (u : ℕ) (y : Completion) (p : ℕ × ℕ) → u ≡ t → (row_of f t c).own ≡ Some y → received y.mark ≡ Some p → TakesOne f t c u y p.0
-own_takes f t (ChannelCreate flags) u y p same e m = absurd (none-some p (ap (λ x. received x.mark) (same_Some _ y e) ∙ m))
-own_takes f t (ConnectAttach chid) u y p same e m = absurd (none-some p (ap (λ x. received x.mark) (same_Some _ y e) ∙ m))
+own_takes : (f : Facts) (t : ℕ) (c : Call) (u : ℕ) (y : Completion) (p : ℕ × ℕ) → u ≡ t → (row_of f t c).own ≡ Some y → item_in_mark y.mark ≡ Some p → TakesOne f t c u y p.0
+own_takes f t (ChannelCreate flags) u y p same e m = absurd (none-some p (ap (λ x. item_in_mark x.mark) (same_Some _ y e) ∙ m))
+own_takes f t (ConnectAttach chid) u y p same e m = absurd (none-some p (ap (λ x. item_in_mark x.mark) (same_Some _ y e) ∙ m))
 own_takes f t (Send coid message reply_buffer) u y p same e m = absurd (none-some y e)
-own_takes f t (Reply rcvid status bytes) u y p same e m = absurd (none-some p (ap (λ x. received x.mark) (same_Some _ y e) ∙ m))
-own_takes f t (Error rcvid code) u y p same e m = absurd (none-some p (ap (λ x. received x.mark) (same_Some _ y e) ∙ m))
-own_takes f t (Read rcvid offset buffer) u y p same e m = absurd (none-some p (ap (λ x. received x.mark) (same_Some _ y e) ∙ m))
-own_takes f t (Write rcvid offset bytes) u y p same e m = absurd (none-some p (ap (λ x. received x.mark) (same_Some _ y e) ∙ m))
-own_takes f t (Info rcvid) u y p same e m = absurd (none-some p (sym (plain f.number t (told f (sender f rcvid)) y e).mark ∙ m))
-own_takes f t (PrioritySet thread level) u y p same e m = absurd (none-some p (ap (λ x. received x.mark) (same_Some _ y e) ∙ m))
-own_takes f t (State thread) u y p same e m = absurd (none-some p (ap (λ x. received x.mark) (same_Some _ y e) ∙ m))
-own_takes f t (ChannelDestroy chid) u y p same e m = absurd (none-some p (ap (λ x. received x.mark) (same_Some _ y e) ∙ m))
-own_takes f t Shutdown u y p same e m = absurd (none-some p (ap (λ x. received x.mark) (same_Some _ y e) ∙ m))
-own_takes f t (Unblock thread) u y p same e m = absurd (none-some p (ap (λ x. received x.mark) (same_Some _ y e) ∙ m))
-own_takes f t (ConnectDetach coid) u y p same e m = absurd (none-some p (ap (λ x. received x.mark) (same_Some _ y e) ∙ m))
-own_takes f t (Pulse coid level code value) u y p same e m = absurd (none-some p (ap (λ x. received x.mark) (same_Some _ y e) ∙ m))
+own_takes f t (Reply rcvid status bytes) u y p same e m = absurd (none-some p (ap (λ x. item_in_mark x.mark) (same_Some _ y e) ∙ m))
+own_takes f t (Error rcvid code) u y p same e m = absurd (none-some p (ap (λ x. item_in_mark x.mark) (same_Some _ y e) ∙ m))
+own_takes f t (Read rcvid offset buffer) u y p same e m = absurd (none-some p (ap (λ x. item_in_mark x.mark) (same_Some _ y e) ∙ m))
+own_takes f t (Write rcvid offset bytes) u y p same e m = absurd (none-some p (ap (λ x. item_in_mark x.mark) (same_Some _ y e) ∙ m))
+own_takes f t (Info rcvid) u y p same e m = absurd (none-some p (sym (plain f.number t (info_of f (sender f rcvid)) y e).mark ∙ m))
+own_takes f t (PrioritySet thread level) u y p same e m = absurd (none-some p (ap (λ x. item_in_mark x.mark) (same_Some _ y e) ∙ m))
+own_takes f t (State thread) u y p same e m = absurd (none-some p (ap (λ x. item_in_mark x.mark) (same_Some _ y e) ∙ m))
+own_takes f t (ChannelDestroy chid) u y p same e m = absurd (none-some p (ap (λ x. item_in_mark x.mark) (same_Some _ y e) ∙ m))
+own_takes f t Shutdown u y p same e m = absurd (none-some p (ap (λ x. item_in_mark x.mark) (same_Some _ y e) ∙ m))
+own_takes f t (Unblock thread) u y p same e m = absurd (none-some p (ap (λ x. item_in_mark x.mark) (same_Some _ y e) ∙ m))
+own_takes f t (ConnectDetach coid) u y p same e m = absurd (none-some p (ap (λ x. item_in_mark x.mark) (same_Some _ y e) ∙ m))
+own_takes f t (Pulse coid level code value) u y p same e m = absurd (none-some p (ap (λ x. item_in_mark x.mark) (same_Some _ y e) ∙ m))
 own_takes f t (Receive chid buffer) u y p same e m = takes_best f t (Receive chid buffer) chid Any buffer u y p same refl refl (receive_takes f t chid Any buffer y e) m
 own_takes f t (ReceivePulse chid) u y p same e m = takes_best f t (ReceivePulse chid) chid PulseOnly [] u y p same refl refl (receive_takes f t chid PulseOnly [] y e) m
 
 -- a receiver that takes what is delivered
 takes_met : (f : Facts) (t : ℕ) (c : Call) (o : Option ℕ) (item : Item) (message : List ℕ) (u : ℕ) (y : Completion) (p : ℕ × ℕ) → Meets f o item message u y → ((h : ℕ) → o ≡ Some h → makes f t c ≡ Some (record { item = item; channel = h }))
-    → received y.mark ≡ Some p → TakesOne f t c u y p.0
+    → item_in_mark y.mark ≡ Some p → TakesOne f t c u y p.0
 takes_met f t c o item message u y p s made m = inr (record {
   made = record { item = item; channel = s.channel };
   is_made = made s.channel s.leads;
-  number = ap (λ q. q.0) (same_Some (item.number, (given_received item message s.buffer).0) p (sym (given_received item message s.buffer).1 ∙ ap (λ x. received x.mark) s.ending ∙ m));
+  number = ap (λ q. q.0) (same_Some (item.number, (given_received item message s.buffer).0) p (sym (given_received item message s.buffer).1 ∙ ap (λ x. item_in_mark x.mark) s.ending ∙ m));
   waiting = s.waiting;
   is_open = s.is_open;
   call = sym (ap (λ x. x.call) s.ending);
@@ -142,40 +142,40 @@ takes_met f t c o item message u y p s made m = inr (record {
 })
 
 -- a receiver that takes a pulse which is due
-takes_told : (f : Facts) (t : ℕ) (c : Call) (o : Option Made) (u : ℕ) (y : Completion) (p : ℕ × ℕ) → makes f t c ≡ o → Tells f o u y → received y.mark ≡ Some p → TakesOne f t c u y p.0
+takes_told : (f : Facts) (t : ℕ) (c : Call) (o : Option Made) (u : ℕ) (y : Completion) (p : ℕ × ℕ) → makes f t c ≡ o → Tells f o u y → item_in_mark y.mark ≡ Some p → TakesOne f t c u y p.0
 takes_told f t c o u y p made k m =
     takes_met f t c (Some k.made.channel) k.made.item [] u y p k.meets (λ h s. made ∙ k.is_due ∙ ap (λ n. Some (record { item = k.made.item; channel = n })) (same_Some k.made.channel h s)) m
 
-ends_takes : (f : Facts) (t : ℕ) (c : Call) (u : ℕ) (y : Completion) (p : ℕ × ℕ) → (row_of f t c).refusal ≡ None → (row_of f t c).ends u ≡ Some y → received y.mark ≡ Some p → TakesOne f t c u y p.0
+ends_takes : (f : Facts) (t : ℕ) (c : Call) (u : ℕ) (y : Completion) (p : ℕ × ℕ) → (row_of f t c).refusal ≡ None → (row_of f t c).ends u ≡ Some y → item_in_mark y.mark ≡ Some p → TakesOne f t c u y p.0
 ends_takes f t (ChannelCreate flags) u y p r e m = absurd (none-some y e)
 ends_takes f t (ConnectAttach chid) u y p r e m = absurd (none-some y e)
 ends_takes f t (Receive chid buffer) u y p r e m = absurd (none-some y e)
 ends_takes f t (Reply rcvid status bytes) u y p r e m =
-    absurd (none-some p (sym (answer_receives f t rcvid (replied status bytes) u y (λ buffer. refl) (sender_ends f t rcvid (replied status bytes) u y r e)) ∙ m))
-ends_takes f t (Error rcvid code) u y p r e m = absurd (none-some p (sym (answer_receives f t rcvid (errored code) u y (λ buffer. no_receipt code) (sender_ends f t rcvid (errored code) u y r e)) ∙ m))
+    absurd (none-some p (sym (answer_receives f t rcvid (reply_finish status bytes) u y (λ buffer. refl) (sender_ends f t rcvid (reply_finish status bytes) u y r e)) ∙ m))
+ends_takes f t (Error rcvid code) u y p r e m = absurd (none-some p (sym (answer_receives f t rcvid (error_finish code) u y (λ buffer. no_receipt code) (sender_ends f t rcvid (error_finish code) u y r e)) ∙ m))
 ends_takes f t (Read rcvid offset buffer) u y p r e m = absurd (none-some y e)
 ends_takes f t (Write rcvid offset bytes) u y p r e m = absurd (none-some y e)
 ends_takes f t (Info rcvid) u y p r e m = absurd (none-some y e)
 ends_takes f t (PrioritySet thread level) u y p r e m = absurd (none-some y e)
 ends_takes f t (State thread) u y p r e m = absurd (none-some y e)
-ends_takes f t (ChannelDestroy chid) u y p r e m = absurd (none-some p (ap (λ x. received x.mark) (cut_parts (is_on f.connection chid) Srch u (f.open_call u) y e).ending ∙ m))
-ends_takes f t Shutdown u y p r e m = absurd (none-some p (ap (λ x. received x.mark) (cut_parts (λ wait. true) Srch u (f.open_call u) y e).ending ∙ m))
-ends_takes f t (Unblock thread) u y p r e m = elim (unblock_ends f thread u y (unblock.due f thread) e) [
-  | inl cut ↦ absurd (none-some p (ap (λ x. received x.mark) cut.ending ∙ m))
-  | inr k ↦ takes_told f t (Unblock thread) (unblock.due f thread) u y p refl k m
+ends_takes f t (ChannelDestroy chid) u y p r e m = absurd (none-some p (ap (λ x. item_in_mark x.mark) (cut_parts (is_on f.connection chid) Srch u (f.open_call u) y e).ending ∙ m))
+ends_takes f t Shutdown u y p r e m = absurd (none-some p (ap (λ x. item_in_mark x.mark) (cut_parts (λ wait. true) Srch u (f.open_call u) y e).ending ∙ m))
+ends_takes f t (Unblock thread) u y p r e m = elim (unblock_ends f thread u y (unblock.due_pulse f thread) e) [
+  | inl cut ↦ absurd (none-some p (ap (λ x. item_in_mark x.mark) cut.ending ∙ m))
+  | inr k ↦ takes_told f t (Unblock thread) (unblock.due_pulse f thread) u y p refl k m
 ]
-ends_takes f t (ConnectDetach coid) u y p r e m = elim (detach_ends f coid (connect_detach.due f t coid) u y e) [
-  | inl cut ↦ absurd (none-some p (ap (λ x. received x.mark) cut.ending ∙ m))
-  | inr s ↦ takes_told f t (ConnectDetach coid) (connect_detach.due f t coid) u y p refl (told_meets f (connect_detach.due f t coid) u y s) m
+ends_takes f t (ConnectDetach coid) u y p r e m = elim (detach_ends f coid (connect_detach.due_pulse f t coid) u y e) [
+  | inl cut ↦ absurd (none-some p (ap (λ x. item_in_mark x.mark) cut.ending ∙ m))
+  | inr s ↦ takes_told f t (ConnectDetach coid) (connect_detach.due_pulse f t coid) u y p refl (told_meets f (connect_detach.due_pulse f t coid) u y s) m
 ]
 ends_takes f t (ReceivePulse chid) u y p r e m = absurd (none-some y e)
 ends_takes f t (Send coid message reply_buffer) u y p r e m =
     takes_met f t (Send coid message reply_buffer) (way f t coid) (item f t) message u y p (delivery_meets f (way f t coid) (item f t) message u y e) (sent_way f t coid (item f t)) m
 ends_takes f t (Pulse coid level code value) u y p r e m =
-    takes_told f t (Pulse coid level code value) (pulse.sent f coid level code value) u y p refl (told_meets f (pulse.sent f coid level code value) u y e) m
+    takes_told f t (Pulse coid level code value) (pulse.sent_pulse f coid level code value) u y p refl (told_meets f (pulse.sent_pulse f coid level code value) u y e) m
 
 -- each ending that receives an item takes it so
-pub takes_one : (f : Facts) (t : ℕ) (c : Call) (u : ℕ) (y : Completion) (p : ℕ × ℕ) → (row_of f t c).refusal ≡ None → ending f t c u ≡ Some y → received y.mark ≡ Some p → TakesOne f t c u y p.0
+pub takes_one : (f : Facts) (t : ℕ) (c : Call) (u : ℕ) (y : Completion) (p : ℕ × ℕ) → (row_of f t c).refusal ≡ None → ending f t c u ≡ Some y → item_in_mark y.mark ≡ Some p → TakesOne f t c u y p.0
 takes_one f t c u y p r e m = elim (ending_of f t c u y e) [
   | inl o ↦ own_takes f t c u y p o.0 o.1 m
   | inr o ↦ ends_takes f t c u y p r o.1 m

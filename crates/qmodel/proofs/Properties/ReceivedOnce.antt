@@ -14,8 +14,8 @@ use Rattle.qmodel.specs.Answer.{ending, Answers, Outcome}
 use Rattle.qmodel.specs.Facts.{Facts, threads_of}
 use Rattle.qmodel.specs.Headline.ReceivedOnce.{AllDifferent, NoneEarly, ReceivedOnce, endings_of, calls_ended, item_received, items_received, is_made}
 use Rattle.qmodel.specs.Lawful.{facts_of, IsLawful}
-use Rattle.qmodel.specs.Past.{copied_of, ends, is_ended, is_taken, item_of, items, receipt_among, receipt_of}
-use Rattle.qmodel.specs.Rows.{Made, received}
+use Rattle.qmodel.specs.Past.{copied_count_in, has_ending_of, is_ended, is_taken, item_of, items, copied_count_among, copied_count_of}
+use Rattle.qmodel.specs.Rows.{Made, item_in_mark}
 use Rattle.qmodel.specs.Trace.{Trace}
 use Rattle.qmodel.specs.declared.call.Call.{Call}
 use Rattle.qmodel.specs.declared.call.Completion.{Completion}
@@ -64,7 +64,7 @@ event_calls roster past t c X r a = elim a [
   | inr a ↦ rw (a.2) (tt, tt)
 ]
 
-none_ends : (X : List Completion) (i : ℕ) → ends X i ≡ false → IsNoneOf i (calls_ended X)
+none_ends : (X : List Completion) (i : ℕ) → has_ending_of X i ≡ false → IsNoneOf i (calls_ended X)
 none_ends [] i e = tt
 none_ends (x ∷ X) i e = let p = or_parts _ _ e in (eqb_flip x.call i p.0, none_ends X i p.1)
 
@@ -72,7 +72,7 @@ none_ends (x ∷ X) i e = let p = or_parts _ _ e in (eqb_flip x.call i p.0, none
 unended : (past : Trace) (i : ℕ) → is_ended past i ≡ false → IsNoneOf i (calls_ended (endings_of past))
 unended [] i e = tt
 unended (e ∷ past) i is =
-    let p = or_parts (ends e.endings i) (is_ended past i) is in
+    let p = or_parts (has_ending_of e.endings i) (is_ended past i) is in
     rw (map-append (λ (x : Completion). x.call) e.endings (endings_of past))
     (all_append (λ m. eqb i m ≡ false) (calls_ended e.endings) (calls_ended (endings_of past)) (none_ends e.endings i p.0) (unended past i p.1))
 
@@ -129,13 +129,13 @@ event_items roster past t c X r a = elim a [
   | inr a ↦ rw (a.2) tt
 ]
 
-none_received : (X : List Completion) (i : ℕ) → is_some (receipt_among X i) ≡ false → IsNoneOf i (items_received X)
+none_received : (X : List Completion) (i : ℕ) → is_some (copied_count_among X i) ≡ false → IsNoneOf i (items_received X)
 none_received [] i e = tt
 none_received (x ∷ X) i e =
-    elim (received x.mark) as (λ o. is_some (option_or (copied_of i o) (receipt_among X i)) ≡ false → IsNoneOf i (cons_option (option_map (λ r. r.0) o) (items_received X))) [
+    elim (item_in_mark x.mark) as (λ o. is_some (option_or (copied_count_in i o) (copied_count_among X i)) ≡ false → IsNoneOf i (cons_option (option_map (λ r. r.0) o) (items_received X))) [
       | None ↦ λ h. none_received X i h
       | Some r ↦ λ h.
-          elim (eqb r.0 i) as (λ b. eqb r.0 i ≡ b → is_some (option_or (cond b (Some r.1) None) (receipt_among X i)) ≡ false → IsNoneOf i (r.0 ∷ items_received X)) [
+          elim (eqb r.0 i) as (λ b. eqb r.0 i ≡ b → is_some (option_or (cond b (Some r.1) None) (copied_count_among X i)) ≡ false → IsNoneOf i (r.0 ∷ items_received X)) [
             | true ↦ λ same s. absurd (true≢false s)
             | false ↦ λ other s. (eqb_flip r.0 i other, none_received X i s)
           ] refl h
@@ -145,7 +145,7 @@ none_received (x ∷ X) i e =
 untaken : (past : Trace) (i : ℕ) → is_taken past i ≡ false → IsNoneOf i (items_received (endings_of past))
 untaken [] i e = tt
 untaken (e ∷ past) i is =
-    elim (receipt_among e.endings i) as (λ o. receipt_among e.endings i ≡ o → is_some (option_or o (receipt_of past i)) ≡ false → IsNoneOf i (items_received (e.endings ++ endings_of past))) [
+    elim (copied_count_among e.endings i) as (λ o. copied_count_among e.endings i ≡ o → is_some (option_or o (copied_count_of past i)) ≡ false → IsNoneOf i (items_received (e.endings ++ endings_of past))) [
       | None ↦ λ none s. rw (filter_map-append item_received e.endings (endings_of past))
           (all_append (λ m. eqb i m ≡ false) (items_received e.endings) (items_received (endings_of past)) (none_received e.endings i (ap is_some none)) (untaken past i s))
       | Some copied ↦ λ some s. absurd (true≢false s)

@@ -13,7 +13,7 @@ use Rattle.qmodel.specs.declared.open_call.OpenCall.{OpenCall}
 use Rattle.qmodel.specs.declared.open_call.Wait.{Wait}
 use Rattle.qmodel.specs.declared.open_call.Wait.TheVariants.{Answer, Item as ForItem}
 use Rattle.qmodel.specs.Facts.{Facts, threads_of}
-use Rattle.qmodel.specs.Receivers.{first_where, is_after, is_last, is_newest, newest, newest_among, wait_for, wait_on}
+use Rattle.qmodel.specs.Receivers.{first_where, is_after, is_last_wait, is_newest, newest_receiver, newest_receiver_among, wait_for, wait_on}
 use Rattle.qbase.proofs.Lists.{eqb_same, is_among}
 
 -- the open call waits for an item of channel h, and may take this one
@@ -144,26 +144,26 @@ pub record IsNewest (open_call : ℕ → Option OpenCall) (h : ℕ) (item : Item
   pub waits : wait_on h item (open_call u) ≡ Some m
   pub last : any_after (λ v. wait_on h item (open_call v)) m ts ≡ false
 
-pub newest_parts : (open_call : ℕ → Option OpenCall) (h : ℕ) (item : Item) (ts : List ℕ) (u : ℕ) → newest_among open_call h item ts ≡ Some u → (m : ℕ) × IsNewest open_call h item ts u m
+pub newest_parts : (open_call : ℕ → Option OpenCall) (h : ℕ) (item : Item) (ts : List ℕ) (u : ℕ) → newest_receiver_among open_call h item ts ≡ Some u → (m : ℕ) × IsNewest open_call h item ts u m
 newest_parts open_call h item ts u e =
-    elim (wait_on h item (open_call u)) as (λ o. wait_on h item (open_call u) ≡ o → option_map_or (is_last open_call h item ts) o false ≡ true → (m : ℕ) × IsNewest open_call h item ts u m) [
+    elim (wait_on h item (open_call u)) as (λ o. wait_on h item (open_call u) ≡ o → option_map_or (is_last_wait open_call h item ts) o false ≡ true → (m : ℕ) × IsNewest open_call h item ts u m) [
       | None ↦ λ w s. absurd (true≢false (sym s))
       | Some m ↦ λ w s. (m, record { among = first_among_them (is_newest open_call h item ts) ts u e; waits = w; last = not-true _ s })
     ] refl (first_is (is_newest open_call h item ts) ts u e)
 
 -- the newest receiver waits on the channel
-pub newest_waits : (f : Facts) (h : ℕ) (item : Item) (r : ℕ) → newest f h item ≡ Some r → WaitsOn h item (f.open_call r)
+pub newest_waits : (f : Facts) (h : ℕ) (item : Item) (r : ℕ) → newest_receiver f h item ≡ Some r → WaitsOn h item (f.open_call r)
 newest_waits f h item r e = let n = newest_parts f.open_call h item (threads_of f.roster) r e in wait_on_is h item (f.open_call r) n.0 n.1.waits
 
 pub waiting_on : (h : ℕ) (item : Item) (call : Option OpenCall) (w : WaitsOn h item call) → wait_on h item call ≡ Some w.waiting.number
 waiting_on h item call w = rw (w.is_open, w.waits, eqb_same h, w.may) refl
 
 -- where a thread of the roster waits on the channel, there is a newest
-pub newest_there : (f : Facts) (h : ℕ) (item : Item) (u m : ℕ) → is_among (threads_of f.roster) u ≡ true → wait_on h item (f.open_call u) ≡ Some m → is_some (newest f h item) ≡ true
+pub newest_there : (f : Facts) (h : ℕ) (item : Item) (u m : ℕ) → is_among (threads_of f.roster) u ≡ true → wait_on h item (f.open_call u) ≡ Some m → is_some (newest_receiver f h item) ≡ true
 newest_there f h item u m a w =
     let ts = threads_of f.roster in
     let g = greatest (λ v. wait_on h item (f.open_call v)) ts u m a w in
     first_there (is_newest f.open_call h item ts) ts g.thread g.among (rw (g.waits, g.last) refl)
 
-pub newest_some : (f : Facts) (h : ℕ) (item : Item) (u : ℕ) → is_among (threads_of f.roster) u ≡ true → WaitsOn h item (f.open_call u) → is_some (newest f h item) ≡ true
+pub newest_some : (f : Facts) (h : ℕ) (item : Item) (u : ℕ) → is_among (threads_of f.roster) u ≡ true → WaitsOn h item (f.open_call u) → is_some (newest_receiver f h item) ≡ true
 newest_some f h item u a w = newest_there f h item u w.waiting.number a (waiting_on h item (f.open_call u) w)

@@ -11,7 +11,7 @@ use Rattle.qmodel.specs.Facts.{is_for_answer}
 use Rattle.qmodel.specs.Headline.AnsweredToSender.{channel_among}
 use Rattle.qmodel.specs.Lawful.{facts_of, IsLawful}
 use Rattle.qmodel.specs.Effects.{asks, thread_of_send}
-use Rattle.qmodel.specs.Past.{filled, is_accepted, item_of, items, made_at, newest_block, priority_of_item, receipt_of, sender_of, with_receipt, with_writes, held_with, attached}
+use Rattle.qmodel.specs.Past.{call_by_now, is_accepted, item_of, items, made_at, newest_block, priority_of_item, copied_count_of, sender_of, with_receipt, with_writes, wait_with_receipt, attached_connection}
 use Rattle.qmodel.specs.Rows.{Made, with_buffer}
 use Rattle.qmodel.specs.Trace.{Event, Trace}
 use Rattle.qmodel.specs.declared.open_call.OpenCall.{OpenCall}
@@ -74,7 +74,7 @@ block_sender (e ∷ past) u b is w = elim (begins_now e past u b is) [
 -- the connection over which a Send waits, and the item that it made, on the connection's channel
 pub record IsSentOver (roster : List Member) (past : Trace) (coid i : ℕ) : Type 0 where
   pub connection : Connection
-  pub is_connection : attached roster past coid ≡ Some connection
+  pub is_connection : attached_connection roster past coid ≡ Some connection
   pub made : Made
   pub is_made : item_at roster past i ≡ Some made
   pub channel : made.channel ≡ connection.channel
@@ -107,20 +107,20 @@ block_over roster (e ∷ past) u b l is w = elim (begins_now e past u b is) [
 -- ---- what is open
 
 -- what a receipt doesn't change of a wait is that of the call as it is written
-pub open_filled : {A : Type 0} (g : Wait → A) (roster : List Member) (past : Trace) (u : ℕ) (o : OpenCall) (k : IsOpen roster past u o) → ((receipt : Receipt) (w : Wait) → g (held_with receipt w) ≡ g w)
-    → g o.wait ≡ g (filled past k.block).wait
+pub open_filled : {A : Type 0} (g : Wait → A) (roster : List Member) (past : Trace) (u : ℕ) (o : OpenCall) (k : IsOpen roster past u o) → ((receipt : Receipt) (w : Wait) → g (wait_with_receipt receipt w) ≡ g w)
+    → g o.wait ≡ g (call_by_now past k.block).wait
 open_filled {A} g roster past u o k h =
-    elim (receipt_of past k.block.number) as (λ r. o ≡ with_receipt (priority_of_item roster past k.block.number) (is_unblocked roster past k.block.number) r (filled past k.block) → g o.wait ≡ g (filled past k.block).wait) [
+    elim (copied_count_of past k.block.number) as (λ r. o ≡ with_receipt (priority_of_item roster past k.block.number) (is_unblocked roster past k.block.number) r (call_by_now past k.block) → g o.wait ≡ g (call_by_now past k.block).wait) [
       | None ↦ λ same. ap (λ x. g x.wait) same
-      | Some copied ↦ λ same. ap (λ x. g x.wait) same ∙ h (record { priority = priority_of_item roster past k.block.number; copied = copied; unblocked = is_unblocked roster past k.block.number }) (filled past k.block).wait
+      | Some copied ↦ λ same. ap (λ x. g x.wait) same ∙ h (record { priority = priority_of_item roster past k.block.number; copied = copied; unblocked = is_unblocked roster past k.block.number }) (call_by_now past k.block).wait
     ] k.same
 
 -- what neither a receipt nor a write changes is that of the call as it began
-pub open_keeps : {A : Type 0} (g : Wait → A) (roster : List Member) (past : Trace) (u : ℕ) (o : OpenCall) (k : IsOpen roster past u o) → ((receipt : Receipt) (w : Wait) → g (held_with receipt w) ≡ g w)
+pub open_keeps : {A : Type 0} (g : Wait → A) (roster : List Member) (past : Trace) (u : ℕ) (o : OpenCall) (k : IsOpen roster past u o) → ((receipt : Receipt) (w : Wait) → g (wait_with_receipt receipt w) ≡ g w)
     → ((f : List ℕ → List ℕ) (w : Wait) → g (with_buffer f w) ≡ g w) → g o.wait ≡ g k.block.wait
 open_keeps g roster past u o k h wrote = open_filled g roster past u o k h ∙ wrote (with_writes past k.block.number) k.block.wait
 
-pub held_over : (receipt : Receipt) (w : Wait) → over (held_with receipt w) ≡ over w
+pub held_over : (receipt : Receipt) (w : Wait) → over (wait_with_receipt receipt w) ≡ over w
 held_over receipt (Answer coid message reply_buffer before) = refl
 held_over receipt (ForItem chid kind buffer) = refl
 

@@ -15,7 +15,7 @@ use Rattle.qmodel.specs.Headline.AnsweredToSender.{channel_among}
 use Rattle.qmodel.specs.Effects.{asks, attaches, closes, detaches, makes, receives_on, unblocks, writes}
 use Rattle.qmodel.specs.Headline.ShutForGood.{NoneBlockedOn, NoneReceivedFrom, ShutForGood}
 use Rattle.qmodel.specs.Lawful.{facts_of, IsLawful}
-use Rattle.qmodel.specs.Past.{attached, connection_at, held_with, is_closed, items, open_call}
+use Rattle.qmodel.specs.Past.{attached_connection, connection_at, wait_with_receipt, is_closed, items, open_call}
 use Rattle.qmodel.specs.Rows.{names, with_buffer}
 use Rattle.qmodel.specs.Step.{after_receipt, after_write, channel_after, connection_after, open_call_after, put_at, unless, after_unblock, unblocked_wait}
 use Rattle.qmodel.specs.Trace.{Event, Trace}
@@ -153,7 +153,7 @@ begins_on_open f t (ReceivePulse chid) b h r e on = own_open f t chid h r (ap (�
 abbrev pub WaitsOnOpen : Facts → Type 0
 WaitsOnOpen f = (u : ℕ) (o : OpenCall) (h : ℕ) → f.open_call u ≡ Some o → is_on f.connection h o.wait ≡ true → is_some (f.channel h) ≡ true
 
-held_on : (connection : ℕ → Option Connection) (h : ℕ) (receipt : Receipt) (w : Wait) → is_on connection h (held_with receipt w) ≡ is_on connection h w
+held_on : (connection : ℕ → Option Connection) (h : ℕ) (receipt : Receipt) (w : Wait) → is_on connection h (wait_with_receipt receipt w) ≡ is_on connection h w
 held_on connection h receipt (Answer coid message reply_buffer before) = refl
 held_on connection h receipt (ForItem chid kind buffer) = refl
 
@@ -267,8 +267,8 @@ none_received roster e past h l closed =
     (λ u y i a k is. taken_is_open roster e past u i h y a k is (sym (closed_accepted roster e past h (accepted roster past e.thread e.call e.endings a)) ∙ closed))
 
 -- an open Send's connection is as it was attached
-on_attached : (roster : List Member) (past : Trace) (h : ℕ) (w : Wait) → (is_for_answer w ≡ true → connection_at roster past (over w) ≡ attached roster past (over w))
-    → is_on (λ k. attached roster past k) h w ≡ is_on (λ k. connection_at roster past k) h w
+on_attached : (roster : List Member) (past : Trace) (h : ℕ) (w : Wait) → (is_for_answer w ≡ true → connection_at roster past (over w) ≡ attached_connection roster past (over w))
+    → is_on (λ k. attached_connection roster past k) h w ≡ is_on (λ k. connection_at roster past k) h w
 on_attached roster past h (Answer coid message reply_buffer receipt) same = ap (is_to h) (sym (same refl))
 on_attached roster past h (ForItem chid kind buffer) same = refl
 

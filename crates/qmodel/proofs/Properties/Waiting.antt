@@ -4,7 +4,7 @@ use Rattle.std.specs.Prelude.{Option, None, Some, is_some, not, filter}
 use Rattle.std.specs.List.{AllByRecursion}
 use Rattle.std.proofs.lemmas.Bool.{eqb-true, eqb-false, not-true}
 use Rattle.std.proofs.lemmas.Option.{none-some, same_Some, some_pair_parts}
-use Rattle.qqueue.specs.Best.{best_of, may_take, with_priority, without}
+use Rattle.qqueue.specs.Best.{best_of, may_take, with_priority, without_item}
 use Rattle.qqueue.specs.declared.item.Item.{Item}
 use Rattle.qqueue.specs.declared.item.Kind.{Kind}
 use Rattle.qqueue.specs.declared.item.Kind.TheVariants.{Any, PulseOnly}
@@ -13,15 +13,15 @@ use Rattle.qtables.specs.Members.{IsRoster}
 use Rattle.qtables.specs.declared.member.Member.{Member}
 use Rattle.qmodel.specs.Answer.{row_of}
 use Rattle.qmodel.specs.Calls.Send.{item}
-use Rattle.qmodel.specs.Delivering.{receiver, received_of}
-use Rattle.qmodel.specs.Receiving.{receipt_of}
+use Rattle.qmodel.specs.Delivering.{receiver, receipt_when_sent}
+use Rattle.qmodel.specs.Receiving.{own_receipt}
 use Rattle.qmodel.specs.Facts.{Facts, sender, threads_of, way}
 use Rattle.qmodel.specs.Effects.{asks, closes, makes, receives_on, sets, unblocks, writes}
 use Rattle.qmodel.specs.Lawful.{facts_of, IsLawful}
-use Rattle.qmodel.specs.Past.{held_with, made_on}
-use Rattle.qmodel.specs.Receivers.{newest}
-use Rattle.qmodel.specs.Rows.{Made, Received, names, sent_over, takes, taking, with_buffer}
-use Rattle.qmodel.specs.Step.{after_receipt, after_write, is_cut, left_by, moved, open_call_after, pending_after, taken_out, unless, after_unblock, unblocked_wait}
+use Rattle.qmodel.specs.Past.{wait_with_receipt, made_on}
+use Rattle.qmodel.specs.Receivers.{newest_receiver}
+use Rattle.qmodel.specs.Rows.{Made, Received, names, item_sent_over, takes, receipt_ending, with_buffer}
+use Rattle.qmodel.specs.Step.{after_receipt, after_write, is_cut, uncut_items, items_with_priority_set, open_call_after, pending_after, unreceived_items, unless, after_unblock, unblocked_wait}
 use Rattle.qmodel.specs.Trace.{Trace}
 use Rattle.qmodel.specs.declared.call.Call.{Call}
 use Rattle.qmodel.specs.declared.call.Call.TheVariants.{ChannelCreate, ConnectAttach, Send, Receive, Reply, Error, Read, Write, Info, ReceivePulse, Pulse, PrioritySet, State, ChannelDestroy, Shutdown, Unblock, ConnectDetach}
@@ -41,7 +41,7 @@ use Rattle.qmodel.proofs.Properties.Receivers.{WaitsOn, newest_some, newest_wait
 use Rattle.qmodel.proofs.Ways.{has_way}
 use Rattle.qmodel.proofs.Rosters.{known}
 use Rattle.qmodel.proofs.Calls.Delivering.{sent_way}
-use Rattle.qmodel.specs.Pulses.{told_receipt}
+use Rattle.qmodel.specs.Pulses.{pulse_receipt}
 
 -- ---- what a thread waits for
 
@@ -50,7 +50,7 @@ waits_for_is (Answer coid message reply_buffer receipt) h kind e = absurd (none-
 waits_for_is (ForItem chid taken buffer) h kind e = let p = some_pair_parts chid h taken kind e in (buffer, ap (λ c. ForItem c taken buffer) p.0 ∙ ap (λ k. ForItem h k buffer) p.1)
 
 -- a receipt changes nothing of it
-pub held_waits_for : (receipt : Receipt) (w : Wait) → waits_for (held_with receipt w) ≡ waits_for w
+pub held_waits_for : (receipt : Receipt) (w : Wait) → waits_for (wait_with_receipt receipt w) ≡ waits_for w
 held_waits_for receipt (Answer coid message reply_buffer before) = refl
 held_waits_for receipt (ForItem chid kind buffer) = refl
 
@@ -84,7 +84,7 @@ waits_for_asked n (Pulse coid level code value) b e = absurd (none-some b e)
 abbrev BeginsWithNone : Facts → ℕ → Call → ℕ × Kind → Type 0
 BeginsWithNone f t c p = (best_of p.1 (f.pending p.0) ≡ None) × (makes f t c ≡ None)
 
-none_to_take : (f : Facts) (t : ℕ) (buffer : List ℕ) (o : Option Item) → receipt_of f t buffer o ≡ None → o ≡ None
+none_to_take : (f : Facts) (t : ℕ) (buffer : List ℕ) (o : Option Item) → own_receipt f t buffer o ≡ None → o ≡ None
 none_to_take f t buffer None e = refl
 none_to_take f t buffer (Some item) e = absurd (none-some _ (sym e))
 
@@ -117,20 +117,20 @@ pub record IsReceivedAtOnce (f : Facts) (t : ℕ) (c : Call) (m : Made) : Type 0
   pub item : receipt.item ≡ m.item.number
 
 -- the receipt of an item by the newest receiver
-delivered_receipt : (f : Facts) (sender : Option ℕ) (item : Item) (message : List ℕ) (w : Option ℕ) (h r : ℕ) (v : WaitsOn h item (f.open_call r)) → w ≡ Some h → newest f h item ≡ Some r
-    → received_of f sender item message w (receiver f item w) ≡ Some (receipt_from h sender item.priority r (item.number, (given_received item message v.buffer).0))
+delivered_receipt : (f : Facts) (sender : Option ℕ) (item : Item) (message : List ℕ) (w : Option ℕ) (h r : ℕ) (v : WaitsOn h item (f.open_call r)) → w ≡ Some h → newest_receiver f h item ≡ Some r
+    → receipt_when_sent f sender item message w (receiver f item w) ≡ Some (receipt_from h sender item.priority r (item.number, (given_received item message v.buffer).0))
 delivered_receipt f sender item message w h r v is_way is_newest =
-    let takes_it : takes item message r (f.open_call r) ≡ Some (taking item message r v.waiting.number v.buffer) = rw (v.is_open, v.waits) refl in
-    ap (λ o. received_of f sender item message o (receiver f item o)) is_way ∙ ap (received_of f sender item message (Some h)) is_newest
-    ∙ receipt_in_at h sender item.priority (takes item message r (f.open_call r)) (taking item message r v.waiting.number v.buffer) (item.number, (given_received item message v.buffer).0) takes_it (given_received item message v.buffer).1
+    let takes_it : takes item message r (f.open_call r) ≡ Some (receipt_ending item message r v.waiting.number v.buffer) = rw (v.is_open, v.waits) refl in
+    ap (λ o. receipt_when_sent f sender item message o (receiver f item o)) is_way ∙ ap (receipt_when_sent f sender item message (Some h)) is_newest
+    ∙ receipt_in_at h sender item.priority (takes item message r (f.open_call r)) (receipt_ending item message r v.waiting.number v.buffer) (item.number, (given_received item message v.buffer).0) takes_it (given_received item message v.buffer).1
 
 delivered_at_once : (f : Facts) (t : ℕ) (c : Call) (w : Option ℕ) (item : Item) (message : List ℕ) (sender : Option ℕ) (m : Made) (u : ℕ) (o : OpenCall) (kind : Kind) → w ≡ Some m.channel → m.item ≡ item
-    → (row_of f t c).receipt ≡ received_of f sender item message w (receiver f item w) → is_among (threads_of f.roster) u ≡ true → f.open_call u ≡ Some o
+    → (row_of f t c).receipt ≡ receipt_when_sent f sender item message w (receiver f item w) → is_among (threads_of f.roster) u ≡ true → f.open_call u ≡ Some o
     → waits_for o.wait ≡ Some (m.channel, kind) → may_take kind m.item ≡ true → IsReceivedAtOnce f t c m
 delivered_at_once f t c w item message sender m u o kind is_way it receipt among is waits may =
     let b = waits_for_is o.wait m.channel kind waits in
     let on : WaitsOn m.channel item (f.open_call u) = record { waiting = o; kind = kind; buffer = b.0; is_open = is; waits = b.1; may = ap (may_take kind) (sym it) ∙ may } in
-    let r = some_of (newest f m.channel item) (newest_some f m.channel item u among on) in
+    let r = some_of (newest_receiver f m.channel item) (newest_some f m.channel item u among on) in
     let v = newest_waits f m.channel item r.0 r.1 in
     record {
       receipt = receipt_from m.channel sender item.priority r.0 (item.number, (given_received item message v.buffer).0);
@@ -140,7 +140,7 @@ delivered_at_once f t c w item message sender m u o kind is_way it receipt among
     }
 
 -- what is sent over a way is the item, to its channel
-sent_is : (f : Facts) (t coid : ℕ) (item : Item) (m : Made) (h : ℕ) → way f t coid ≡ Some h → sent_over (f.connection coid) item ≡ Some m → (way f t coid ≡ Some m.channel) × (m.item ≡ item)
+sent_is : (f : Facts) (t coid : ℕ) (item : Item) (m : Made) (h : ℕ) → way f t coid ≡ Some h → item_sent_over (f.connection coid) item ≡ Some m → (way f t coid ≡ Some m.channel) × (m.item ≡ item)
 sent_is f t coid item m h is_way made =
     let same : record { item = item; channel = h } ≡ m = same_Some _ m (sym (sent_way f t coid item h is_way) ∙ made) in
     (is_way ∙ ap (λ (x : Made). Some x.channel) same, ap (λ (x : Made). x.item) (sym same))
@@ -160,16 +160,16 @@ received_at_once f t (State thread) m u o kind p made among is waits may = absur
 received_at_once f t (ChannelDestroy chid) m u o kind p made among is waits may = absurd (none-some m made)
 received_at_once f t Shutdown m u o kind p made among is waits may = absurd (none-some m made)
 received_at_once f t (ConnectDetach coid) m u o kind p made among is waits may =
-    delivered_at_once f t (ConnectDetach coid) (Some m.channel) m.item [] None m u o kind refl refl (ap (told_receipt f) made) among is waits may
+    delivered_at_once f t (ConnectDetach coid) (Some m.channel) m.item [] None m u o kind refl refl (ap (pulse_receipt f) made) among is waits may
 received_at_once f t (Unblock thread) m u o kind p made among is waits may =
-    delivered_at_once f t (Unblock thread) (Some m.channel) m.item [] None m u o kind refl refl (ap (told_receipt f) made) among is waits may
+    delivered_at_once f t (Unblock thread) (Some m.channel) m.item [] None m u o kind refl refl (ap (pulse_receipt f) made) among is waits may
 received_at_once f t (ReceivePulse chid) m u o kind p made among is waits may = absurd (none-some m made)
 received_at_once f t (Send coid message reply_buffer) m u o kind p made among is waits may =
     let h = has_way f t coid p.row in
     let s = sent_is f t coid (item f t) m h.0 h.1 made in
     delivered_at_once f t (Send coid message reply_buffer) (way f t coid) (item f t) message (Some t) m u o kind s.0 s.1 refl among is waits may
 received_at_once f t (Pulse coid level code value) m u o kind p made among is waits may =
-    delivered_at_once f t (Pulse coid level code value) (Some m.channel) m.item [] None m u o kind refl refl (ap (told_receipt f) made) among is waits may
+    delivered_at_once f t (Pulse coid level code value) (Some m.channel) m.item [] None m u o kind refl refl (ap (pulse_receipt f) made) among is waits may
 
 -- ---- lists of items
 
@@ -183,10 +183,10 @@ all_kept_by P p (x ∷ items) all =
 
 -- what is so of each that isn't taken out is so of what is left
 all_left : (P : Item → Type 0) (o : Option Received) (h : ℕ) (items : List Item)
-    → AllByRecursion (λ w. ((r : Received) → o ≡ Some r → r.channel ≡ h → eqb w.number r.item ≡ false) → P w) items → AllByRecursion P (taken_out o h items)
+    → AllByRecursion (λ w. ((r : Received) → o ≡ Some r → r.channel ≡ h → eqb w.number r.item ≡ false) → P w) items → AllByRecursion P (unreceived_items o h items)
 all_left P None h items all = all_more (λ w. ((r : Received) → None ≡ Some r → r.channel ≡ h → eqb w.number r.item ≡ false) → P w) P items all (λ w k. k (λ r none. absurd (none-some r none)))
 all_left P (Some r) h items all =
-    elim (eqb r.channel h) as (λ b. eqb r.channel h ≡ b → AllByRecursion P (cond b (without r.item items) items)) [
+    elim (eqb r.channel h) as (λ b. eqb r.channel h ≡ b → AllByRecursion P (cond b (without_item r.item items) items)) [
       | true ↦ λ same. all_kept_by P (λ w. not (eqb w.number r.item)) items
           (all_more (λ w. ((q : Received) → Some r ≡ Some q → q.channel ≡ h → eqb w.number q.item ≡ false) → P w) (λ w. not (eqb w.number r.item) ≡ true → P w) items all
           (λ w k left. k (λ q is on. subst (λ (x : Received). eqb w.number x.item ≡ false) (same_Some r q is) (not-true (eqb w.number r.item) left))))
@@ -201,12 +201,12 @@ abbrev pub NothingFor : Facts → Type 0
 NothingFor f = (u : ℕ) (o : OpenCall) (h : ℕ) (kind : Kind) → f.open_call u ≡ Some o → waits_for o.wait ≡ Some (h, kind) → AllByRecursion (λ w. may_take kind w ≡ false) (f.pending h)
 
 -- what is so of all that isn't destroyed is so of what is pending afterwards
-all_after : (kind : Kind) (f : Facts) (t : ℕ) (c : Call) (h : ℕ) → AllByRecursion (λ w. may_take kind w ≡ false) (taken_out (row_of f t c).receipt h (left_by f t c h (f.pending h ++ made_on h (makes f t c))))
+all_after : (kind : Kind) (f : Facts) (t : ℕ) (c : Call) (h : ℕ) → AllByRecursion (λ w. may_take kind w ≡ false) (unreceived_items (row_of f t c).receipt h (uncut_items f t c h (f.pending h ++ made_on h (makes f t c))))
     → AllByRecursion (λ w. may_take kind w ≡ false) (pending_after f t c h)
 all_after kind f t c h all =
     let P = λ (w : Item). may_take kind w ≡ false in
-    let L = taken_out (row_of f t c).receipt h (left_by f t c h (f.pending h ++ made_on h (makes f t c))) in
-    elim (names (closes c) h) as (λ b. AllByRecursion P (cond b [] (moved f h (sets c) L))) [
+    let L = unreceived_items (row_of f t c).receipt h (uncut_items f t c h (f.pending h ++ made_on h (makes f t c))) in
+    elim (names (closes c) h) as (λ b. AllByRecursion P (cond b [] (items_with_priority_set f h (sets c) L))) [
       | true ↦ tt
       | false ↦ all_moved P f h (sets c) L (λ priority x none. same_kind kind priority x ∙ none) all
     ]
@@ -226,7 +226,7 @@ caller_finds_none f t c o h kind is waits =
     let none : AllByRecursion (λ (w : Item). may_take kind w ≡ false) (f.pending h) = none-may kind (f.pending h) k.0 in
     let Q = λ (w : Item). ((r : Received) → (row_of f t c).receipt ≡ Some r → r.channel ≡ h → eqb w.number r.item ≡ false) → may_take kind w ≡ false in
     let left = λ (w : Item). not (is_cut f t c h w.number) in
-    all_after kind f t c h (rw (k.1) (all_left P (row_of f t c).receipt h (left_by f t c h (f.pending h ++ []))
+    all_after kind f t c h (rw (k.1) (all_left P (row_of f t c).receipt h (uncut_items f t c h (f.pending h ++ []))
     (all_filter Q left (f.pending h ++ []) (all_append Q (f.pending h) [] (all_more P Q (f.pending h) none (λ w m _. m)) tt))))
 
 -- another thread that waits on: what it may take is received at once
@@ -236,7 +236,7 @@ other_finds_none f t c u o h kind p nothing among is waits =
     let P = λ (w : Item). may_take kind w ≡ false in
     let Q = λ (w : Item). ((r : Received) → (row_of f t c).receipt ≡ Some r → r.channel ≡ h → eqb w.number r.item ≡ false) → may_take kind w ≡ false in
     let left = λ (w : Item). not (is_cut f t c h w.number) in
-    all_after kind f t c h (all_left P (row_of f t c).receipt h (left_by f t c h (f.pending h ++ made_on h (makes f t c)))
+    all_after kind f t c h (all_left P (row_of f t c).receipt h (uncut_items f t c h (f.pending h ++ made_on h (makes f t c)))
     (all_filter Q left (f.pending h ++ made_on h (makes f t c)) (all_append Q (f.pending h) (made_on h (makes f t c))
     (all_more P Q (f.pending h) (nothing u o h kind is waits) (λ w m _. m))
     (elim (makes f t c) as (λ x. makes f t c ≡ x → AllByRecursion Q (made_on h x)) [

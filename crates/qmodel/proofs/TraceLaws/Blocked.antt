@@ -9,12 +9,12 @@ use Rattle.std.proofs.Math.Bool.{or-true}
 use Rattle.qtables.specs.Members.{member_at}
 use Rattle.qtables.specs.declared.member.Member.{Member}
 use Rattle.qmodel.specs.Answer.{row_of, ending}
-use Rattle.qmodel.specs.Endings.{gets, may_end, AreApart, BlockedUnlessEnded, CallerGetsItsOwn, EndingsAreApart, EndingsGoToBlocked, EndsOrWaits, IsDue}
+use Rattle.qmodel.specs.Endings.{gets, may_end, AreApart, BlockedUnlessEnded, CallerGetsItsOwn, EndingsAreApart, EndingsGoToBlocked, EndsOrWaits, GoesToBlocked}
 use Rattle.qmodel.specs.Facts.{Facts, sender, threads_of}
 use Rattle.qmodel.specs.Effects.{asks, makes, unblocks, writes}
 use Rattle.qmodel.specs.Laws.{blocker}
 use Rattle.qmodel.specs.Lawful.{facts_of, IsLawful}
-use Rattle.qmodel.specs.Past.{ends, is_accepted, is_ended, open_call}
+use Rattle.qmodel.specs.Past.{has_ending_of, is_accepted, is_ended, open_call}
 use Rattle.qmodel.specs.Rows.{Made, Received, Written}
 use Rattle.qmodel.specs.Step.{after_receipt, after_unblock, after_write, held_call, is_thread, open_call_after, unblocked_call, unless, written_call}
 use Rattle.qmodel.specs.Trace.{Event, Trace}
@@ -69,14 +69,14 @@ endings_are_apart roster past e r l =
     ]
 
 -- an ending of the caller
-own_due : (roster : List Member) (past : Trace) (t : ℕ) (y : Completion) → is_some (member_at roster t) ≡ true → y.thread ≡ t → IsDue roster past t y
+own_due : (roster : List Member) (past : Trace) (t : ℕ) (y : Completion) → is_some (member_at roster t) ≡ true → y.thread ≡ t → GoesToBlocked roster past t y
 own_due roster past t y member e = record { known = subst (λ u. is_some (member_at roster u) ≡ true) (sym e) member; may = rw (e, eqb_same t) refl }
 
 pub endings_go_to_blocked : EndingsGoToBlocked
 endings_go_to_blocked roster past e r l =
     let f = facts_of roster past in
     elim (l.2) [
-      | inl a ↦ subst (AllByRecursion (IsDue roster past e.thread)) (sym a.1) (all_filter_map (IsDue roster past e.thread) (ending f e.thread e.call) (threads_of roster) (λ v y is.
+      | inl a ↦ subst (AllByRecursion (GoesToBlocked roster past e.thread)) (sym a.1) (all_filter_map (GoesToBlocked roster past e.thread) (ending f e.thread e.call) (threads_of roster) (λ v y is.
           elim (ending_names f e.thread e.call v y (laws_of f e.thread e.call e.endings a) is) [
             | inl own ↦ own_due roster past e.thread y l.1 own.names.thread
             | inr other ↦ record {
@@ -84,7 +84,7 @@ endings_go_to_blocked roster past e r l =
               may = rw (other.names.thread, ap is_some other.names.is) (or-true (eqb v e.thread));
             }
           ]))
-      | inr a ↦ subst (AllByRecursion (IsDue roster past e.thread)) (sym a.2) (own_due roster past e.thread _ l.1 refl, tt)
+      | inr a ↦ subst (AllByRecursion (GoesToBlocked roster past e.thread)) (sym a.2) (own_due roster past e.thread _ l.1 refl, tt)
     ]
 
 -- ---- who is blocked after an event
@@ -177,7 +177,7 @@ record Waits (e : Event) (past : Trace) : Type 0 where
   pub accepted : is_accepted e past ≡ true
   pub blocks : blocker e ≡ Some e.thread
 
-waits : (roster : List Member) (past : Trace) (e : Event) → IsLawful roster (e ∷ past) → ends e.endings (length past + 1) ≡ false → Waits e past
+waits : (roster : List Member) (past : Trace) (e : Event) → IsLawful roster (e ∷ past) → has_ending_of e.endings (length past + 1) ≡ false → Waits e past
 waits roster past e l none =
     let f = facts_of roster past in
     elim (l.2) [
@@ -186,7 +186,7 @@ waits roster past e l none =
           let may : is_some (asks 0 e.call) ≡ true = sym (asks_any (length past + 1) e.call) ∙ waits_or_ends f e.thread e.call (passes_of f e.thread e.call e.endings a) own in
           record { accepted = rw (accepted roster past e.thread e.call e.endings a) refl; blocks = rw may refl }
       | inr a ↦
-          let own : ends e.endings (length past + 1) ≡ true = rw (a.2, eqb_same (length past + 1)) refl in
+          let own : has_ending_of e.endings (length past + 1) ≡ true = rw (a.2, eqb_same (length past + 1)) refl in
           absurd (true≢false (sym own ∙ none))
     ]
 
@@ -198,5 +198,5 @@ ends_or_waits roster past e r l = (
       (open_is_unended roster (e ∷ past) r l e.thread (length past + 1)).1 (record { blocks = made_newest blocker e past w.accepted ∙ w.blocks; going = going }),
   λ is.
       let u = (open_is_unended roster (e ∷ past) r l e.thread (length past + 1)).0 is in
-      (or_parts (ends e.endings (length past + 1)) (is_ended past (length past + 1)) u.going).0,
+      (or_parts (has_ending_of e.endings (length past + 1)) (is_ended past (length past + 1)) u.going).0,
 )

@@ -6,7 +6,7 @@ use Rattle.std.proofs.lemmas.Bool.{ne_eqb, true≢false}
 use Rattle.std.proofs.lemmas.Option.{none-some, same_Some}
 use Rattle.qbase.specs.declared.errno.Errno.{Errno}
 use Rattle.qbase.specs.declared.errno.Errno.TheVariants.{Down}
-use Rattle.qmodel.specs.Answer.{ending, failed, refusal, MayRefuse}
+use Rattle.qmodel.specs.Answer.{ending, refusal_ending, refusal, MayRefuse}
 use Rattle.qmodel.specs.Facts.{Facts, threads_of}
 use Rattle.qmodel.specs.Laws.{EndingsNameOwnCalls, EndingsRiseByThread, NothingFromDestroyed, OnlyRefusedWhenDown, RiseByThread, thread_at}
 use Rattle.qmodel.specs.Lawful.{facts_of}
@@ -39,7 +39,7 @@ down_refusal f t c e down may =
 pub only_refused_when_down : OnlyRefusedWhenDown
 only_refused_when_down roster past e r l down = elim (l.2) [
   | inl a ↦ absurd (true≢false (sym down ∙ (passes_of (facts_of roster past) e.thread e.call e.endings a).up))
-  | inr a ↦ a.2 ∙ ap (λ errno. failed (facts_of roster past) e.thread e.call errno ∷ []) (down_refusal (facts_of roster past) e.thread e.call a.0 down a.1)
+  | inr a ↦ a.2 ∙ ap (λ errno. refusal_ending (facts_of roster past) e.thread e.call errno ∷ []) (down_refusal (facts_of roster past) e.thread e.call a.0 down a.1)
 ]
 
 -- ---- in rising thread number

@@ -14,9 +14,9 @@ use Rattle.qmodel.specs.Headline.BestFirst.{TakesBest}
 use Rattle.qmodel.specs.Headline.ReceivedOnce.{item_received}
 use Rattle.qmodel.specs.Laws.{HeldIsHeldSend, IsHeldSend, blocker, is_for_reply}
 use Rattle.qmodel.specs.Lawful.{IsLawful, facts_of}
-use Rattle.qmodel.specs.Past.{copied_of, ends, filled, held_with, is_ended, is_taken, item_of, made_at, open_call, priority_of_item, receipt_among, receipt_of, with_receipt}
+use Rattle.qmodel.specs.Past.{copied_count_in, has_ending_of, call_by_now, wait_with_receipt, is_ended, is_taken, item_of, made_at, open_call, priority_of_item, copied_count_among, copied_count_of, with_receipt}
 use Rattle.qmodel.specs.Effects.{asks}
-use Rattle.qmodel.specs.Rows.{Made, received}
+use Rattle.qmodel.specs.Rows.{Made, item_in_mark}
 use Rattle.qmodel.specs.Trace.{Trace}
 use Rattle.qmodel.specs.declared.call.Completion.{Completion}
 use Rattle.qmodel.specs.declared.open_call.OpenCall.{OpenCall}
@@ -40,13 +40,13 @@ use Rattle.qmodel.proofs.TraceLaws.Unended.{asks_any, unended_newest}
 -- ---- what is taken was made
 
 -- what is so of each item that these endings receive is so of this one
-of_received : (P : ℕ → Type 0) (X : List Completion) (i copied : ℕ) → AllByRecursion (λ x. (j : ℕ) → item_received x ≡ Some j → P j) X → receipt_among X i ≡ Some copied → P i
+of_received : (P : ℕ → Type 0) (X : List Completion) (i copied : ℕ) → AllByRecursion (λ x. (j : ℕ) → item_received x ≡ Some j → P j) X → copied_count_among X i ≡ Some copied → P i
 of_received P [] i copied all e = absurd (none-some copied e)
 of_received P (x ∷ X) i copied all e =
-    elim (received x.mark) as (λ o. received x.mark ≡ o → option_or (copied_of i o) (receipt_among X i) ≡ Some copied → P i) [
+    elim (item_in_mark x.mark) as (λ o. item_in_mark x.mark ≡ o → option_or (copied_count_in i o) (copied_count_among X i) ≡ Some copied → P i) [
       | None ↦ λ is s. of_received P X i copied all.1 s
       | Some r ↦ λ is s.
-          elim (eqb r.0 i) as (λ b. eqb r.0 i ≡ b → option_or (cond b (Some r.1) None) (receipt_among X i) ≡ Some copied → P i) [
+          elim (eqb r.0 i) as (λ b. eqb r.0 i ≡ b → option_or (cond b (Some r.1) None) (copied_count_among X i) ≡ Some copied → P i) [
             | true ↦ λ same _. subst P (eqb-true r.0 i same) (all.0 r.0 (ap (option_map (λ (q : ℕ × ℕ). q.0)) is))
             | false ↦ λ other s. of_received P X i copied all.1 s
           ] refl s
@@ -55,7 +55,7 @@ of_received P (x ∷ X) i copied all e =
 taken_made : (roster : List Member) (past : Trace) (i : ℕ) → IsRoster roster → IsLawful roster past → is_taken past i ≡ true → (m : Made) × (item_at roster past i ≡ Some m)
 taken_made roster [] i r l e = absurd (true≢false (sym e))
 taken_made roster (e ∷ past) i r l taken =
-    elim (receipt_among e.endings i) as (λ o. receipt_among e.endings i ≡ o → is_some (option_or o (receipt_of past i)) ≡ true → (m : Made) × (item_at roster (e ∷ past) i ≡ Some m)) [
+    elim (copied_count_among e.endings i) as (λ o. copied_count_among e.endings i ≡ o → is_some (option_or o (copied_count_of past i)) ≡ true → (m : Made) × (item_at roster (e ∷ past) i ≡ Some m)) [
       | None ↦ λ none s. let k = taken_made roster past i r l.0 s in (k.0, item_earlier roster e past i (item_below roster past i k.0 k.1) ∙ k.1)
       | Some copied ↦ λ some s.
           of_received (λ j. (m : Made) × (item_at roster (e ∷ past) j ≡ Some m)) e.endings i copied
@@ -76,13 +76,13 @@ no_own (Some y) h = absurd (true≢false h)
 made_waits : (roster : List Member) (past : Trace) (i : ℕ) (m : Made) → IsLawful roster past → item_at roster past i ≡ Some m → is_ended past i ≡ false → (t : ℕ) × (made_at blocker past i ≡ Some t)
 made_waits roster [] i m l is going = absurd (none-some m is)
 made_waits roster (e ∷ past) i m l is going =
-    let p = or_parts (ends e.endings i) (is_ended past i) going in
+    let p = or_parts (has_ending_of e.endings i) (is_ended past i) going in
     elim (eqb i (length past + 1)) as (λ b. eqb i (length past + 1) ≡ b → cond b (item_of roster e past) (item_at roster past i) ≡ Some m → (t : ℕ) × (made_at blocker (e ∷ past) i ≡ Some t)) [
-      | true ↦ λ same at. let number : i ≡ length past + 1 = eqb-true _ _ same in now number at (subst (λ j. ends e.endings j ≡ false) number p.0)
+      | true ↦ λ same at. let number : i ≡ length past + 1 = eqb-true _ _ same in now number at (subst (λ j. has_ending_of e.endings j ≡ false) number p.0)
       | false ↦ λ other at. let k = made_waits roster past i m l.0 at p.1 in (k.0, made_stays blocker e past i k.0 k.1)
     ] refl is
   where
-    now : i ≡ length past + 1 → item_of roster e past ≡ Some m → ends e.endings (length past + 1) ≡ false → (t : ℕ) × (made_at blocker (e ∷ past) i ≡ Some t)
+    now : i ≡ length past + 1 → item_of roster e past ≡ Some m → has_ending_of e.endings (length past + 1) ≡ false → (t : ℕ) × (made_at blocker (e ∷ past) i ≡ Some t)
     now number at unended =
         let f = facts_of roster past in
         let a = item_accepted roster e past m at in
@@ -93,7 +93,7 @@ made_waits roster (e ∷ past) i m l is going =
 
 -- ---- a receipt
 
-held_for_reply : (receipt : Receipt) (w : Wait) → is_for_answer w ≡ true → is_for_reply (held_with receipt w) ≡ true
+held_for_reply : (receipt : Receipt) (w : Wait) → is_for_answer w ≡ true → is_for_reply (wait_with_receipt receipt w) ≡ true
 held_for_reply receipt (Answer coid message reply_buffer before) answer = refl
 held_for_reply receipt (ForItem chid kind buffer) answer = absurd (true≢false (sym answer))
 
@@ -121,10 +121,10 @@ held_to_send roster past i r l held =
     let made : item_at roster past k.block.number ≡ Some m.0 = ap (item_at roster past) k.number ∙ m.1 in
     let answer = item_answer roster past t.0 m.0 k.block made k.is in
     let n = k.block.number in
-    let waiting = with_receipt (priority_of_item roster past n) (is_unblocked roster past n) (receipt_of past n) (filled past k.block) in
+    let waiting = with_receipt (priority_of_item roster past n) (is_unblocked roster past n) (copied_count_of past n) (call_by_now past k.block) in
     let is_open : open_call roster past t.0 ≡ Some waiting = open_from roster past t.0 k.block k.is (subst (λ j. is_ended past j ≡ false) (sym k.number) going) in
-    let number : waiting.number ≡ i = receipt_number (priority_of_item roster past n) (is_unblocked roster past n) (receipt_of past n) (filled past k.block) ∙ k.number in
-    let reply : is_for_reply waiting.wait ≡ true = received_for_reply (priority_of_item roster past n) (is_unblocked roster past n) (receipt_of past n) (filled past k.block)
+    let number : waiting.number ≡ i = receipt_number (priority_of_item roster past n) (is_unblocked roster past n) (copied_count_of past n) (call_by_now past k.block) ∙ k.number in
+    let reply : is_for_reply waiting.wait ≡ true = received_for_reply (priority_of_item roster past n) (is_unblocked roster past n) (copied_count_of past n) (call_by_now past k.block)
     (subst (λ j. is_taken past j ≡ true) (sym k.number) p.0) (filled_answer past k.block ∙ answer) in
     record {
       thread = t.0;

@@ -14,19 +14,19 @@ use Rattle.qqueue.specs.declared.item.Kind.TheVariants.{Any, PulseOnly}
 use Rattle.qmodel.specs.Answer.{row_of, ending}
 use Rattle.qmodel.specs.Effects.{asks, buffer_of, makes, unblocks, writes}
 use Rattle.qmodel.specs.Calls.ConnectDetach as connect_detach
-use Rattle.qmodel.specs.Calls.Error.{errored}
-use Rattle.qmodel.specs.Calls.Reply.{replied}
+use Rattle.qmodel.specs.Calls.Error.{error_finish}
+use Rattle.qmodel.specs.Calls.Reply.{reply_finish}
 use Rattle.qmodel.specs.Calls.Send.{item}
 use Rattle.qmodel.specs.Calls.Unblock as unblock
-use Rattle.qmodel.specs.Calls.Info.{told, telling}
+use Rattle.qmodel.specs.Calls.Info.{info_of, info_ending}
 use Rattle.qmodel.specs.Calls.Pulse as pulse
 use Rattle.qmodel.specs.Cutting.{buffer_of_wait, is_on}
 use Rattle.qmodel.specs.Endings.{buffer_of_open, buffer_brought, EndingsKeepLength, OpenCallsKeepLength}
 use Rattle.qmodel.specs.Facts.{Facts, message, sender, threads_of, way}
 use Rattle.qmodel.specs.Held.{Finish, ends_sender, refusal}
-use Rattle.qmodel.specs.Rows.{Made, Received, Written, taking, with_buffer, written_over}
+use Rattle.qmodel.specs.Rows.{Made, Received, Written, receipt_ending, with_buffer, buffer_after_write}
 use Rattle.qmodel.specs.Step.{after_receipt, after_unblock, after_write, held_call, is_thread, open_call_after, unblocked_call, unblocked_wait, unless, written_call}
-use Rattle.qmodel.specs.Past.{filled, held_with, is_accepted, with_receipt, with_writes}
+use Rattle.qmodel.specs.Past.{call_by_now, wait_with_receipt, is_accepted, with_receipt, with_writes}
 use Rattle.qmodel.specs.declared.call.Call.{Call}
 use Rattle.qmodel.specs.declared.call.Call.TheVariants.{ChannelCreate, ConnectAttach, Send, Receive, Reply, Error, Read, Write, Info, ReceivePulse, Pulse, PrioritySet, State, ChannelDestroy, Shutdown, Unblock, ConnectDetach}
 use Rattle.qmodel.specs.declared.call.Completion.{Completion}
@@ -57,7 +57,7 @@ use Rattle.qmodel.proofs.Past.Ends.{ending_names, laws_of, passes_of}
 use Rattle.qmodel.proofs.TraceLaws.Blocked.{some_receipt}
 use Rattle.qmodel.proofs.Past.OpenCalls.{open_accepted, open_refused}
 
-taking_length : (item : Item) (message : List ℕ) (u m : ℕ) (buffer : List ℕ) → length (taking item message u m buffer).buffer ≡ length buffer
+taking_length : (item : Item) (message : List ℕ) (u m : ℕ) (buffer : List ℕ) → length (receipt_ending item message u m buffer).buffer ≡ length buffer
 taking_length item message u m buffer =
     elim (is_pulse item.what) as (λ b. length (cond {A = Mark × List ℕ} b (mark.Pulse item.number item.priority item.what, buffer) (mark.Message item.number (laid_count buffer 0 message), lay_over buffer 0 message)).1 ≡ length buffer) [
       | true ↦ refl
@@ -66,9 +66,9 @@ taking_length item message u m buffer =
 
 -- ---- the call's own ending
 
-no_buffer : (n t : ℕ) (o : Option Told) (y : Completion) → option_map (telling n t) o ≡ Some y → length y.buffer ≡ 0
+no_buffer : (n t : ℕ) (o : Option Told) (y : Completion) → option_map (info_ending n t) o ≡ Some y → length y.buffer ≡ 0
 no_buffer n t None y e = absurd (none-some y e)
-no_buffer n t (Some told) y e = ap (λ x. length x.buffer) (sym (same_Some _ y e))
+no_buffer n t (Some info_of) y e = ap (λ x. length x.buffer) (sym (same_Some _ y e))
 
 own_length : (f : Facts) (t : ℕ) (c : Call) (y : Completion) → (row_of f t c).own ≡ Some y → length y.buffer ≡ length (buffer_of c)
 own_length f t (ChannelCreate flags) y e = ap (λ x. length x.buffer) (sym (same_Some _ y e))
@@ -79,7 +79,7 @@ own_length f t (Reply rcvid status bytes) y e = ap (λ x. length x.buffer) (sym 
 own_length f t (Error rcvid code) y e = ap (λ x. length x.buffer) (sym (same_Some _ y e))
 own_length f t (Read rcvid offset buffer) y e = ap (λ x. length x.buffer) (sym (same_Some _ y e)) ∙ lay_length buffer 0 _
 own_length f t (Write rcvid offset bytes) y e = ap (λ x. length x.buffer) (sym (same_Some _ y e))
-own_length f t (Info rcvid) y e = no_buffer f.number t (told f (sender f rcvid)) y e
+own_length f t (Info rcvid) y e = no_buffer f.number t (info_of f (sender f rcvid)) y e
 own_length f t (ReceivePulse chid) y e = let k = receive_takes f t chid PulseOnly [] y e in ap (λ x. length x.buffer) (sym k.ending) ∙ taking_length k.item _ t f.number []
 own_length f t (Pulse coid priority code value) y e = ap (λ x. length x.buffer) (sym (same_Some _ y e))
 own_length f t (PrioritySet thread priority) y e = ap (λ x. length x.buffer) (sym (same_Some _ y e))
@@ -107,25 +107,25 @@ ends_length f t (ChannelCreate flags) u y p e = absurd (none-some y e)
 ends_length f t (ConnectAttach chid) u y p e = absurd (none-some y e)
 ends_length f t (Send coid message reply_buffer) u y p e = met_length f (way f t coid) (item f t) message u y (delivery_meets f (way f t coid) (item f t) message u y e)
 ends_length f t (Receive chid buffer) u y p e = absurd (none-some y e)
-ends_length f t (Reply rcvid status bytes) u y p e = answered_length f t rcvid (replied status bytes) u y (λ b. lay_length b 0 bytes) p.row e
-ends_length f t (Error rcvid code) u y p e = answered_length f t rcvid (errored code) u y (λ b. refl) p.row e
+ends_length f t (Reply rcvid status bytes) u y p e = answered_length f t rcvid (reply_finish status bytes) u y (λ b. lay_length b 0 bytes) p.row e
+ends_length f t (Error rcvid code) u y p e = answered_length f t rcvid (error_finish code) u y (λ b. refl) p.row e
 ends_length f t (Read rcvid offset buffer) u y p e = absurd (none-some y e)
 ends_length f t (Write rcvid offset bytes) u y p e = absurd (none-some y e)
 ends_length f t (Info rcvid) u y p e = absurd (none-some y e)
 ends_length f t (ReceivePulse chid) u y p e = absurd (none-some y e)
 ends_length f t (Pulse coid priority code value) u y p e =
-    let k = told_meets f (pulse.sent f coid priority code value) u y e in met_length f (Some k.made.channel) k.made.item [] u y k.meets
+    let k = told_meets f (pulse.sent_pulse f coid priority code value) u y e in met_length f (Some k.made.channel) k.made.item [] u y k.meets
 ends_length f t (PrioritySet thread priority) u y p e = absurd (none-some y e)
 ends_length f t (State thread) u y p e = absurd (none-some y e)
 ends_length f t (ChannelDestroy chid) u y p e = cut_length (is_on f.connection chid) Srch u (f.open_call u) y (cut_parts (is_on f.connection chid) Srch u (f.open_call u) y e)
 ends_length f t Shutdown u y p e = cut_length (λ wait. true) Srch u (f.open_call u) y (cut_parts (λ wait. true) Srch u (f.open_call u) y e)
-ends_length f t (Unblock thread) u y p e = elim (unblock_ends f thread u y (unblock.due f thread) e) [
+ends_length f t (Unblock thread) u y p e = elim (unblock_ends f thread u y (unblock.due_pulse f thread) e) [
   | inl cut ↦ cut_length _ _ u (f.open_call u) y cut
   | inr k ↦ met_length f (Some k.made.channel) k.made.item [] u y k.meets
 ]
-ends_length f t (ConnectDetach coid) u y p e = elim (detach_ends f coid (connect_detach.due f t coid) u y e) [
+ends_length f t (ConnectDetach coid) u y p e = elim (detach_ends f coid (connect_detach.due_pulse f t coid) u y e) [
   | inl cut ↦ cut_length _ _ u (f.open_call u) y cut
-  | inr s ↦ let k = told_meets f (connect_detach.due f t coid) u y s in met_length f (Some k.made.channel) k.made.item [] u y k.meets
+  | inr s ↦ let k = told_meets f (connect_detach.due_pulse f t coid) u y s in met_length f (Some k.made.channel) k.made.item [] u y k.meets
 ]
 
 -- ---- an event's endings
@@ -168,7 +168,7 @@ map_length : (k : OpenCall → OpenCall) → ((o : OpenCall) → length (buffer_
 map_length k h None = refl
 map_length k h (Some o) = h o
 
-held_length : (receipt : Receipt) (w : Wait) → length (buffer_of_wait (held_with receipt w)) ≡ length (buffer_of_wait w)
+held_length : (receipt : Receipt) (w : Wait) → length (buffer_of_wait (wait_with_receipt receipt w)) ≡ length (buffer_of_wait w)
 held_length receipt (Answer coid message reply_buffer before) = refl
 held_length receipt (ForItem chid kind buffer) = refl
 
@@ -227,13 +227,13 @@ open_keeps_length roster past e l idle u x is = elim (l.2) [
 
 -- ---- an open call
 
-over_length : (w : Option Written) (i : ℕ) (b : List ℕ) → length (written_over w i b) ≡ length b
+over_length : (w : Option Written) (i : ℕ) (b : List ℕ) → length (buffer_after_write w i b) ≡ length b
 over_length None i b = refl
 over_length (Some w) i b = elim (eqb w.message i) as (λ m. length (cond m (lay_over b w.offset w.bytes) b) ≡ length b) [ true ↦ lay_length b w.offset w.bytes | false ↦ refl ]
 
 writes_length : (past : Trace) (i : ℕ) (b : List ℕ) → length (with_writes past i b) ≡ length b
 writes_length [] i b = refl
-writes_length (e ∷ past) i b = elim (is_accepted e past) as (λ a. length (cond a (written_over (writes e.call) i (with_writes past i b)) (with_writes past i b)) ≡ length b) [
+writes_length (e ∷ past) i b = elim (is_accepted e past) as (λ a. length (cond a (buffer_after_write (writes e.call) i (with_writes past i b)) (with_writes past i b)) ≡ length b) [
   | true ↦ over_length (writes e.call) i (with_writes past i b) ∙ writes_length past i b
   | false ↦ writes_length past i b
 ]
@@ -254,7 +254,7 @@ open_calls_keep_length roster past r l u o is =
     record {
       call = a.call;
       is = ap (call_at past) k.number ∙ a.is;
-      same = ap (λ x. length (buffer_of_wait x.wait)) k.same ∙ kept_length _ _ _ (filled past k.block) ∙ filled_length past k.block.number k.block.wait ∙ asked;
+      same = ap (λ x. length (buffer_of_wait x.wait)) k.same ∙ kept_length _ _ _ (call_by_now past k.block) ∙ filled_length past k.block.number k.block.wait ∙ asked;
     }
 
 -- ---- what is at most so long

@@ -6,20 +6,20 @@ use Rattle.std.proofs.lemmas.List.{append-nil}
 use Rattle.std.proofs.lemmas.List.Sums.{sum_by-append}
 use Rattle.std.proofs.lemmas.Option.{none-some}
 use Rattle.qbase.specs.declared.errno.Errno.TheVariants.{Again, Badf, Inval}
-use Rattle.qqueue.specs.Best.{is_pulse, without}
+use Rattle.qqueue.specs.Best.{is_pulse, without_item}
 use Rattle.qqueue.specs.declared.item.Item.{Item}
 use Rattle.qtables.specs.declared.connection.Connection.{Connection}
 use Rattle.qmodel.specs.Calls.Pulse.{is_negative, refusal_on}
 use Rattle.qmodel.specs.Calls.ConnectDetach as connect_detach
 use Rattle.qmodel.specs.Calls.Unblock as unblock
-use Rattle.qmodel.specs.Pulses.{full, full_for, pulses_among}
+use Rattle.qmodel.specs.Pulses.{refusal_if_full, refusal_if_full_for, pulses_among}
 use Rattle.qmodel.specs.Facts.{Facts, way}
 use Rattle.qmodel.specs.Laws.{PulsesAreLimited}
 use Rattle.qmodel.specs.Lawful.{facts_of}
-use Rattle.qmodel.specs.Past.{pending, made_on}
+use Rattle.qmodel.specs.Past.{pending_items, made_on}
 use Rattle.qmodel.specs.Effects.{closes, makes, sets}
-use Rattle.qmodel.specs.Rows.{Received, Setting, message_item, names, pulse_item, sent_over, Made}
-use Rattle.qmodel.specs.Step.{is_cut, left_by, moved, pending_after, taken_out}
+use Rattle.qmodel.specs.Rows.{Received, Setting, message_item, names, pulse_item, item_sent_over, Made}
+use Rattle.qmodel.specs.Step.{is_cut, uncut_items, items_with_priority_set, pending_after, unreceived_items}
 use Rattle.qmodel.specs.Answer.{row_of}
 use Rattle.qmodel.specs.declared.call.Call.{Call}
 use Rattle.qmodel.specs.declared.call.Call.TheVariants.{ChannelCreate, ConnectAttach, Send, Receive, Reply, Error, Read, Write, Info, ReceivePulse, Pulse, PrioritySet, State, ChannelDestroy, Shutdown, Unblock, ConnectDetach}
@@ -57,18 +57,18 @@ fewer_left p (x ∷ items) =
     at_more : (b n k l : ℕ) → b ≡ n + l → k ≤ l → k ≤ b
     at_more b n k l eb le = omega (arith, eb, le)
 
-fewer_out : (o : Option Received) (h : ℕ) (items : List Item) → pulses_among (taken_out o h items) ≤ pulses_among items
+fewer_out : (o : Option Received) (h : ℕ) (items : List Item) → pulses_among (unreceived_items o h items) ≤ pulses_among items
 fewer_out None h items = omega arith
 fewer_out (Some r) h items =
-    elim (eqb r.channel h) as (λ b. pulses_among (cond b (without r.item items) items) ≤ pulses_among items) [ true ↦ fewer_left (λ item. not (eqb item.number r.item)) items | false ↦ omega arith ]
+    elim (eqb r.channel h) as (λ b. pulses_among (cond b (without_item r.item items) items) ≤ pulses_among items) [ true ↦ fewer_left (λ item. not (eqb item.number r.item)) items | false ↦ omega arith ]
 
 -- a message that moves is none
-same_moved : (f : Facts) (h : ℕ) (s : Option Setting) (items : List Item) → pulses_among (moved f h s items) ≡ pulses_among items
+same_moved : (f : Facts) (h : ℕ) (s : Option Setting) (items : List Item) → pulses_among (items_with_priority_set f h s items) ≡ pulses_among items
 same_moved f h None items = refl
 same_moved f h (Some s) [] = refl
 same_moved f h (Some s) (x ∷ items) =
-    count_first (mover f h s x) (moved f h (Some s) items)
-    ∙ ap (λ w. cond (is_pulse w) 1 0 + pulses_among (moved f h (Some s) items)) (mover_what f h s x)
+    count_first (mover f h s x) (items_with_priority_set f h (Some s) items)
+    ∙ ap (λ w. cond (is_pulse w) 1 0 + pulses_among (items_with_priority_set f h (Some s) items)) (mover_what f h s x)
     ∙ ap (λ n. cond (is_pulse x.what) 1 0 + n) (same_moved f h (Some s) items)
     ∙ sym (count_first x items)
 
@@ -85,7 +85,7 @@ nothing_more : (items : List Item) → pulses_among items ≤ 1024 → pulses_am
 nothing_more items few = subst (λ l. pulses_among l ≤ 1024) (sym (append-nil items)) few
 
 -- a message adds no pulse
-message_more : (h n priority : ℕ) (o : Option Connection) (items : List Item) → pulses_among items ≤ 1024 → pulses_among (items ++ made_on h (sent_over o (message_item n priority))) ≤ 1024
+message_more : (h n priority : ℕ) (o : Option Connection) (items : List Item) → pulses_among items ≤ 1024 → pulses_among (items ++ made_on h (item_sent_over o (message_item n priority))) ≤ 1024
 message_more h n priority None items few = nothing_more items few
 message_more h n priority (Some c) items few =
     elim (eqb c.channel h) as (λ b. pulses_among (items ++ cond b (message_item n priority ∷ []) []) ≤ 1024) [
@@ -94,7 +94,7 @@ message_more h n priority (Some c) items few =
     ]
 
 -- a channel that isn't full has room
-room_left : (f : Facts) (h : ℕ) → full f h ≡ None → nat_lt (pulses_among (f.pending h)) 1024 ≡ true
+room_left : (f : Facts) (h : ℕ) → refusal_if_full f h ≡ None → nat_lt (pulses_among (f.pending h)) 1024 ≡ true
 room_left f h r =
     elim (nat_lt (pulses_among (f.pending h)) 1024) as (λ b. nat_lt (pulses_among (f.pending h)) 1024 ≡ b → cond b None (Some Again) ≡ None → nat_lt (pulses_among (f.pending h)) 1024 ≡ true) [
       | true ↦ λ e _. e
@@ -102,17 +102,17 @@ room_left f h r =
     ] refl r
 
 -- an accepted Pulse finds room on its channel
-finds_room : (f : Facts) (code : ℤ) (o : Option ℕ) → refusal_on f code o ≡ None → (h : ℕ) × (o ≡ Some h) × (full f h ≡ None)
+finds_room : (f : Facts) (code : ℤ) (o : Option ℕ) → refusal_on f code o ≡ None → (h : ℕ) × (o ≡ Some h) × (refusal_if_full f h ≡ None)
 finds_room f code None r = absurd (none-some Badf (sym r))
 finds_room f code (Some h) r =
-    elim (is_negative code) as (λ b. cond b (Some Inval) (full f h) ≡ None → (k : ℕ) × (Some h ≡ Some k) × (full f k ≡ None)) [
+    elim (is_negative code) as (λ b. cond b (Some Inval) (refusal_if_full f h) ≡ None → (k : ℕ) × (Some h ≡ Some k) × (refusal_if_full f k ≡ None)) [
       | true ↦ λ s. absurd (none-some Inval (sym s))
       | false ↦ λ s. (h, refl, s)
     ] r
 
 -- what is left of a channel's items, with what an accepted call makes
 -- a pulse finds room that is made on a channel that isn't full
-pulse_more : (f : Facts) (h : ℕ) (items : List Item) (m : Made) → is_pulse m.item.what ≡ true → full f m.channel ≡ None → pulses_among items ≤ pulses_among (f.pending h) → pulses_among (f.pending h) ≤ 1024
+pulse_more : (f : Facts) (h : ℕ) (items : List Item) (m : Made) → is_pulse m.item.what ≡ true → refusal_if_full f m.channel ≡ None → pulses_among items ≤ pulses_among (f.pending h) → pulses_among (f.pending h) ≤ 1024
     → pulses_among (items ++ made_on h (Some m)) ≤ 1024
 pulse_more f h items m pulse room less few =
     elim (eqb m.channel h) as (λ b. eqb m.channel h ≡ b → pulses_among (items ++ cond b (m.item ∷ []) []) ≤ 1024) [
@@ -123,7 +123,7 @@ pulse_more f h items m pulse room less few =
     ] refl
 
 -- the pulse that is due, if one is
-due_more : (f : Facts) (h : ℕ) (items : List Item) (o : Option Made) → ((m : Made) → o ≡ Some m → is_pulse m.item.what ≡ true) → full_for f o ≡ None → pulses_among items ≤ pulses_among (f.pending h)
+due_more : (f : Facts) (h : ℕ) (items : List Item) (o : Option Made) → ((m : Made) → o ≡ Some m → is_pulse m.item.what ≡ true) → refusal_if_full_for f o ≡ None → pulses_among items ≤ pulses_among (f.pending h)
     → pulses_among (f.pending h) ≤ 1024 → pulses_among (items ++ made_on h o) ≤ 1024
 due_more f h items None pulse r less few = nothing_more items (omega (arith, less, few))
 due_more f h items (Some m) pulse r less few = pulse_more f h items m (pulse m refl) r less few
@@ -143,9 +143,9 @@ limited f t (PrioritySet thread level) h p items less few = nothing_more items (
 limited f t (State thread) h p items less few = nothing_more items (omega (arith, less, few))
 limited f t (ChannelDestroy chid) h p items less few = nothing_more items (omega (arith, less, few))
 limited f t Shutdown h p items less few = nothing_more items (omega (arith, less, few))
-limited f t (Unblock thread) h p items less few = due_more f h items (unblock.due f thread) (unblocking.due_pulse f thread) (unblocking.fellow_passes f t thread p.row) less few
+limited f t (Unblock thread) h p items less few = due_more f h items (unblock.due_pulse f thread) (unblocking.due_is_pulse f thread) (unblocking.fellow_passes f t thread p.row) less few
 limited f t (ConnectDetach coid) h p items less few =
-    due_more f h items (connect_detach.due f t coid) (detaching.due_pulse f t coid) (detaching.own_passes f t coid p.row) less few
+    due_more f h items (connect_detach.due_pulse f t coid) (detaching.due_is_pulse f t coid) (detaching.own_passes f t coid p.row) less few
 limited f t (Send coid message reply_buffer) h p items less few = message_more h f.number (f.priority t) (f.connection coid) items (omega (arith, less, few))
 limited f t (Pulse coid level code value) h p items less few =
     let room = finds_room f code (way f t coid) p.row in
@@ -155,17 +155,17 @@ limited f t (Pulse coid level code value) h p items less few =
 limited_after : (f : Facts) (t : ℕ) (c : Call) (h : ℕ) → Passes f t c → pulses_among (f.pending h) ≤ 1024 → pulses_among (pending_after f t c h) ≤ 1024
 limited_after f t c h p few =
     let M = made_on h (makes f t c) in
-    let L = left_by f t c h (f.pending h ++ M) in
+    let L = uncut_items f t c h (f.pending h ++ M) in
     let made : pulses_among (f.pending h ++ M) ≤ 1024 = limited f t c h p (f.pending h) (omega arith) few in
     let less : pulses_among L ≤ pulses_among (f.pending h ++ M) = fewer_left (λ item. not (is_cut f t c h item.number)) (f.pending h ++ M) in
-    let out : pulses_among (taken_out (row_of f t c).receipt h L) ≤ pulses_among L = fewer_out (row_of f t c).receipt h L in
-    let same : pulses_among (moved f h (sets c) (taken_out (row_of f t c).receipt h L)) ≡ pulses_among (taken_out (row_of f t c).receipt h L) = same_moved f h (sets c) (taken_out (row_of f t c).receipt h L) in
-    elim (names (closes c) h) as (λ b. pulses_among (cond b [] (moved f h (sets c) (taken_out (row_of f t c).receipt h L))) ≤ 1024) [ true ↦ omega arith | false ↦ omega (arith, made, less, out, same) ]
+    let out : pulses_among (unreceived_items (row_of f t c).receipt h L) ≤ pulses_among L = fewer_out (row_of f t c).receipt h L in
+    let same : pulses_among (items_with_priority_set f h (sets c) (unreceived_items (row_of f t c).receipt h L)) ≡ pulses_among (unreceived_items (row_of f t c).receipt h L) = same_moved f h (sets c) (unreceived_items (row_of f t c).receipt h L) in
+    elim (names (closes c) h) as (λ b. pulses_among (cond b [] (items_with_priority_set f h (sets c) (unreceived_items (row_of f t c).receipt h L))) ≤ 1024) [ true ↦ omega arith | false ↦ omega (arith, made, less, out, same) ]
 
 pub pulses_are_limited : PulsesAreLimited
 pulses_are_limited roster [] r l h = omega arith
 pulses_are_limited roster (e ∷ past) r l h =
-    let before : pulses_among (pending roster past h) ≤ 1024 = pulses_are_limited roster past r l.0 h in
+    let before : pulses_among (pending_items roster past h) ≤ 1024 = pulses_are_limited roster past r l.0 h in
     elim (l.2) [
       | inl a ↦
           let k = past_follows true roster past e.thread e.call e.endings r l.0 l.1 a in

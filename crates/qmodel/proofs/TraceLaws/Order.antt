@@ -18,7 +18,7 @@ use Rattle.qmodel.specs.Effects.{receives_on}
 use Rattle.qmodel.specs.Headline.BestFirst.{TakesBest, takeable}
 use Rattle.qmodel.specs.Headline.ReceivedOnce.{item_received}
 use Rattle.qmodel.specs.Laws.{FirstGoesFirst, HasPriority, TakesBeside}
-use Rattle.qmodel.specs.Past.{is_closed, is_gone, item_of, made_on, pending, priority_before}
+use Rattle.qmodel.specs.Past.{is_closed, is_gone, item_of, made_on, pending_items, priority_before}
 use Rattle.qmodel.specs.Rows.{Made}
 use Rattle.qmodel.specs.Trace.{Event, Trace}
 use Rattle.qmodel.specs.declared.call.Completion.{Completion}
@@ -96,7 +96,7 @@ module _ (roster : List Member) (past : Trace) (e : Event) (h : ℕ) (kind : Kin
   standing below = elim (is_closed past h) as (λ d. is_closed past h ≡ d → d ≡ false) [
     | false ↦ λ _. refl
     | true ↦ λ closed.
-        let nothing : pending roster past h ≡ [] = pending_is roster past h ∙ ap (λ d. cond d [] (map (now past) (staying roster past h))) closed in
+        let nothing : pending_items roster past h ≡ [] = pending_is roster past h ∙ ap (λ d. cond d [] (map (now past) (staying roster past h))) closed in
         let none : takeable roster past e h ≡ made_on h (item_of roster e past) = ap (λ l. l ++ made_on h (item_of roster e past)) nothing in
         let number : b.number ≡ length past + 1 =
         best-at (λ (v : Item). v.number ≡ length past + 1) kind (made_on h (item_of roster e past)) b (made_all (λ v. v.number ≡ length past + 1) h (item_of roster e past) (λ m is on. (made_by roster e past m is).number))
@@ -109,7 +109,7 @@ module _ (roster : List Member) (past : Trace) (e : Event) (h : ℕ) (kind : Kin
       → may_take kind first ≡ true → now past first ≢ b → comes_before b (now past first) ≡ true
   behind_one i first at stays open_still may other =
       let P = λ (v : Item). may_take kind v ≡ true → v ≢ b → comes_before b v ≡ true in
-      let waiting : AllByRecursion P (pending roster past h) = (all_parts P (pending roster past h) (made_on h (item_of roster e past)) behind).0 in
+      let waiting : AllByRecursion P (pending_items roster past h) = (all_parts P (pending_items roster past h) (made_on h (item_of roster e past)) behind).0 in
       let as_now : AllByRecursion P (map (now past) (staying roster past h)) = subst (AllByRecursion P) (pending_is roster past h ∙ ap (λ d. cond d [] (map (now past) (staying roster past h))) open_still) waiting in
       let each = all_unfilter (λ x. P (now past x)) (λ item. not (is_gone past item)) (items_on roster past h) (all_unmap P (now past) (staying roster past h) as_now) in
       standing_each (λ x. not (is_gone past x) ≡ true → P (now past x)) roster past h i first at each (ap not stays) (same_kind kind past first ∙ may) other
@@ -156,8 +156,8 @@ pub first_goes_first : FirstGoesFirst
 first_goes_first roster past later e r l h =
     let L = later ++ past in
     all_more (IsPending roster past h) (λ x. AllByRecursion (λ y. comes_before x y ≡ true → HasPriority roster L x → HasPriority roster L y
-    → AllByRecursion (λ z. TakesBeside (e ∷ L) z y.number h x → is_gone L x ≡ true) e.endings) (pending roster past h)) (pending roster past h) (pending_all roster past h) (λ x px.
+    → AllByRecursion (λ z. TakesBeside (e ∷ L) z y.number h x → is_gone L x ≡ true) e.endings) (pending_items roster past h)) (pending_items roster past h) (pending_all roster past h) (λ x px.
     all_more (IsPending roster past h) (λ y. comes_before x y ≡ true → HasPriority roster L x → HasPriority roster L y
-    → AllByRecursion (λ z. TakesBeside (e ∷ L) z y.number h x → is_gone L x ≡ true) e.endings) (pending roster past h) (pending_all roster past h) (λ y py before has_x has_y.
+    → AllByRecursion (λ z. TakesBeside (e ∷ L) z y.number h x → is_gone L x ≡ true) e.endings) (pending_items roster past h) (pending_all roster past h) (λ y py before has_x has_y.
     all_more (λ z. (i : ℕ) → item_received z ≡ Some i → TakesBest roster L e z i) (λ z. TakesBeside (e ∷ L) z y.number h x → is_gone L x ≡ true) e.endings (best_first roster (e ∷ L) r l).0 (λ z best t.
     gone_first roster past later e h x y z px py before has_x has_y (best y.number t.item) t)))

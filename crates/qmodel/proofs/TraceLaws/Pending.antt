@@ -8,7 +8,7 @@ use Rattle.qtables.specs.declared.member.Member.{Member}
 use Rattle.qmodel.specs.Facts.{is_for_answer}
 use Rattle.qmodel.specs.Laws.{is_for_reply, IsNotHeld, IsOpenSend, NonePendingIsHeld, PendingIsOpen, PendingRises}
 use Rattle.qmodel.specs.Lawful.{IsLawful}
-use Rattle.qmodel.specs.Past.{filled, is_ended, is_taken, pending, priority_of_item, receipt_of, with_receipt}
+use Rattle.qmodel.specs.Past.{call_by_now, is_ended, is_taken, pending_items, priority_of_item, copied_count_of, with_receipt}
 use Rattle.qmodel.specs.Trace.{Trace}
 use Rattle.qmodel.specs.declared.open_call.OpenCall.{OpenCall}
 use Rattle.qmodel.specs.declared.open_call.Wait.{Wait}
@@ -35,16 +35,16 @@ unread : (roster : List Member) (past : Trace) (h : ℕ) (item : Item) → IsPen
 unread roster past h item p = (or_parts _ _ p.stays).0
 
 -- an open call of the number of an item that isn't received is as it began
-as_begun : (roster : List Member) (past : Trace) (u : ℕ) (o : OpenCall) (k : IsOpen roster past u o) → is_taken past k.block.number ≡ false → o ≡ filled past k.block
-as_begun roster past u o k e = k.same ∙ ap (λ r. with_receipt (priority_of_item roster past k.block.number) (is_unblocked roster past k.block.number) r (filled past k.block)) (none_of (receipt_of past k.block.number) e)
+as_begun : (roster : List Member) (past : Trace) (u : ℕ) (o : OpenCall) (k : IsOpen roster past u o) → is_taken past k.block.number ≡ false → o ≡ call_by_now past k.block
+as_begun roster past u o k e = k.same ∙ ap (λ r. with_receipt (priority_of_item roster past k.block.number) (is_unblocked roster past k.block.number) r (call_by_now past k.block)) (none_of (copied_count_of past k.block.number) e)
 
 not_held : (roster : List Member) (past : Trace) (h : ℕ) (item : Item) → IsPending roster past h item → IsNotHeld roster past item.number
 not_held roster past h item p = record {
   unread = ap (λ b. b && not (is_ended past item.number)) (unread roster past h item p);
   unkept = λ u o is held. ne_eqb o.number item.number (λ same.
       let k = open_parts roster past u o is in
-      let begun : o ≡ filled past k.block = as_begun roster past u o k (subst (λ i. is_taken past i ≡ false) (sym same ∙ k.number) (unread roster past h item p)) in
-      let w = reply_parts (filled past k.block).wait (subst (λ (x : OpenCall). is_for_reply x.wait ≡ true) begun held) in
+      let begun : o ≡ call_by_now past k.block = as_begun roster past u o k (subst (λ i. is_taken past i ≡ false) (sym same ∙ k.number) (unread roster past h item p)) in
+      let w = reply_parts (call_by_now past k.block).wait (subst (λ (x : OpenCall). is_for_reply x.wait ≡ true) begun held) in
       true≢false (sym w.1 ∙ filled_settled past k.block ∙ block_fresh past u k.block k.is ∙ ap not (sym (filled_answer past k.block) ∙ w.0)));
 }
 
@@ -59,9 +59,9 @@ pub rises : PendingRises
 rises roster past r l h = pending_rises roster past h
 
 pub none_pending_is_held : NonePendingIsHeld
-none_pending_is_held roster past r l h = all_more (IsPending roster past h) (λ item. IsNotHeld roster past item.number) (pending roster past h) (pending_all roster past h) (not_held roster past h)
+none_pending_is_held roster past r l h = all_more (IsPending roster past h) (λ item. IsNotHeld roster past item.number) (pending_items roster past h) (pending_all roster past h) (not_held roster past h)
 
 pub pending_is_open : PendingIsOpen
 pending_is_open roster past r l h =
-    all_more (IsPending roster past h) (λ item. is_pulse item.what ≡ false → IsOpenSend roster past item.number) (pending roster past h) (pending_all roster past h)
+    all_more (IsPending roster past h) (λ item. is_pulse item.what ≡ false → IsOpenSend roster past item.number) (pending_items roster past h) (pending_all roster past h)
     (λ item p message. send_open roster past h item l p message)

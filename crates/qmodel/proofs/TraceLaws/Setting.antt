@@ -12,9 +12,9 @@ use Rattle.qmodel.specs.Answer.{Outcome}
 use Rattle.qmodel.specs.Cutting.{is_unread_send}
 use Rattle.qmodel.specs.Lawful.{IsLawful, facts_of}
 use Rattle.qmodel.specs.Laws.{OthersKeepTheirOrder, SettingMovesItsOwn, is_message_of, others_than, with_messages_at}
-use Rattle.qmodel.specs.Past.{connection_at, open_call, pending, sender_of}
+use Rattle.qmodel.specs.Past.{connection_at, open_call, pending_items, sender_of}
 use Rattle.qmodel.specs.Rows.{Setting, names}
-use Rattle.qmodel.specs.Step.{moved, pending_after}
+use Rattle.qmodel.specs.Step.{items_with_priority_set, pending_after}
 use Rattle.qmodel.specs.Trace.{Trace}
 use Rattle.qmodel.specs.declared.call.Call.TheVariants.{PrioritySet}
 use Rattle.qbase.proofs.Lists.{all_more, eqb_either}
@@ -46,13 +46,13 @@ map_same g k [] same = refl
 map_same g k (x ∷ items) same = ap (λ y. y ∷ map g items) same.0 ∙ ap (λ l. k x ∷ l) (map_same g k items same.1)
 
 -- by the facts
-moves_own : (roster : List Member) (past : Trace) (t : ℕ) (u priority h : ℕ) → IsLawful roster past → pending_after (facts_of roster past) t (PrioritySet u priority) h ≡ with_messages_at past u priority (pending roster past h)
+moves_own : (roster : List Member) (past : Trace) (t : ℕ) (u priority h : ℕ) → IsLawful roster past → pending_after (facts_of roster past) t (PrioritySet u priority) h ≡ with_messages_at past u priority (pending_items roster past h)
 moves_own roster past t u priority h l =
     let f = facts_of roster past in
     let s : Setting = record { thread = u; priority = priority } in
-    ap (moved f h (Some s)) (none_cut f t (PrioritySet u priority) (λ v y e. absurd (none-some y e)) h (pending roster past h ++ []) ∙ append-nil (pending roster past h))
-    ∙ map_same (mover f h s) (λ item. cond (is_message_of past u item) (with_priority priority item) item) (pending roster past h)
-    (all_more (IsPending roster past h) (λ item. mover f h s item ≡ cond (is_message_of past u item) (with_priority priority item) item) (pending roster past h) (pending_all roster past h)
+    ap (items_with_priority_set f h (Some s)) (none_cut f t (PrioritySet u priority) (λ v y e. absurd (none-some y e)) h (pending_items roster past h ++ []) ∙ append-nil (pending_items roster past h))
+    ∙ map_same (mover f h s) (λ item. cond (is_message_of past u item) (with_priority priority item) item) (pending_items roster past h)
+    (all_more (IsPending roster past h) (λ item. mover f h s item ≡ cond (is_message_of past u item) (with_priority priority item) item) (pending_items roster past h) (pending_all roster past h)
     (λ item p. ap (λ b. cond b (with_priority priority item) item) (unread_of roster past h item u l p)))
 
 pub setting_moves_its_own : SettingMovesItsOwn
@@ -74,4 +74,4 @@ others_same past t priority (x ∷ items) =
 
 pub others_keep_their_order : OthersKeepTheirOrder
 others_keep_their_order roster past e r l accepted t priority is h =
-    ap (others_than past t) (setting_moves_its_own roster past e r l accepted t priority is h) ∙ others_same past t priority (pending roster past h)
+    ap (others_than past t) (setting_moves_its_own roster past e r l accepted t priority is h) ∙ others_same past t priority (pending_items roster past h)

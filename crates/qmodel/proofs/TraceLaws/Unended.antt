@@ -7,7 +7,7 @@ use Rattle.std.proofs.lemmas.Option.{none-some, same_Some}
 use Rattle.qtables.specs.declared.member.Member.{Member}
 use Rattle.qmodel.specs.Laws.{blocker, IsUnended, AtMostOneOpen, OpenIsUnended}
 use Rattle.qmodel.specs.Lawful.{IsLawful}
-use Rattle.qmodel.specs.Past.{filled, ends, is_accepted, is_ended, made_at, newest_block, open_call, priority_of_item, receipt_of}
+use Rattle.qmodel.specs.Past.{call_by_now, has_ending_of, is_accepted, is_ended, made_at, newest_block, open_call, priority_of_item, copied_count_of}
 use Rattle.qmodel.specs.Effects.{asks}
 use Rattle.qmodel.specs.Trace.{Event, Trace}
 use Rattle.qmodel.specs.declared.call.Call.{Call}
@@ -88,7 +88,7 @@ unended_newest roster (e ∷ past) t i l is going =
           let k = begins e past t at in
           record { block = k.block; is = begun_newest e past t k; number = ((call_laws e.call).asks_one (length past + 1) k.block k.asked).number ∙ sym (eqb-true _ _ same) }
       | false ↦ λ other at.
-          let before : is_ended past i ≡ false = (or_parts (ends e.endings i) (is_ended past i) going).1 in
+          let before : is_ended past i ≡ false = (or_parts (has_ending_of e.endings i) (is_ended past i) going).1 in
           let k = unended_newest roster past t i l.0 at before in
           record { block = k.block; is = block_stays roster e past t k.block l k.is (subst (λ j. is_ended past j ≡ false) (sym k.number) before); number = k.number }
     ] refl is
@@ -126,7 +126,7 @@ open_unended : (roster : List Member) (past : Trace) (t i : ℕ) → IsLawful ro
 open_unended roster past t i l u =
     let k = unended_newest roster past t i l u.blocks u.going in
     ap (option_map (λ (o : OpenCall). o.number)) (open_from roster past t k.block k.is (subst (λ j. is_ended past j ≡ false) (sym k.number) u.going))
-    ∙ ap (λ n. Some n) (receipt_number (priority_of_item roster past k.block.number) (is_unblocked roster past k.block.number) (receipt_of past k.block.number) (filled past k.block) ∙ k.number)
+    ∙ ap (λ n. Some n) (receipt_number (priority_of_item roster past k.block.number) (is_unblocked roster past k.block.number) (copied_count_of past k.block.number) (call_by_now past k.block) ∙ k.number)
 
 pub open_is_unended : OpenIsUnended
 open_is_unended roster past r l t i = (unended_open roster past t i, open_unended roster past t i l)

@@ -11,7 +11,7 @@ use Rattle.qmodel.specs.Facts.{threads_of}
 use Rattle.qmodel.specs.Laws.{NewestIsGreatest, NoneIsNewest, NothingPendingForWaiting, OpenSendsAreLive}
 use Rattle.qmodel.specs.Lawful.{IsLawful, facts_of}
 use Rattle.qmodel.specs.Past.{connection_at, open_call}
-use Rattle.qmodel.specs.Receivers.{is_after, newest, wait_on}
+use Rattle.qmodel.specs.Receivers.{is_after, newest_receiver, wait_on}
 use Rattle.qmodel.specs.Trace.{Trace}
 use Rattle.qbase.proofs.Lists.{eqb_same, is_among, some_of}
 use Rattle.qmodel.proofs.Past.Ends.{open_known}
@@ -65,14 +65,14 @@ newest_is_greatest roster past r l h u item e =
 
 pub none_is_newest : NoneIsNewest
 none_is_newest roster past r l h item = (nobody, none) where
-  nobody : newest (facts_of roster past) h item ≡ None → (u : ℕ) → wait_on h item (open_call roster past u) ≡ None
+  nobody : newest_receiver (facts_of roster past) h item ≡ None → (u : ℕ) → wait_on h item (open_call roster past u) ≡ None
   nobody e u = elim (wait_on h item (open_call roster past u)) as (λ o. wait_on h item (open_call roster past u) ≡ o → o ≡ None) [
     | None ↦ λ w. refl
     | Some n ↦ λ w. absurd (true≢false (sym (newest_there (facts_of roster past) h item u n (waits_known roster past h item u n l w) w) ∙ ap is_some e))
   ] refl
 
-  none : ((u : ℕ) → wait_on h item (open_call roster past u) ≡ None) → newest (facts_of roster past) h item ≡ None
-  none all = elim (newest (facts_of roster past) h item) as (λ o. newest (facts_of roster past) h item ≡ o → o ≡ None) [
+  none : ((u : ℕ) → wait_on h item (open_call roster past u) ≡ None) → newest_receiver (facts_of roster past) h item ≡ None
+  none all = elim (newest_receiver (facts_of roster past) h item) as (λ o. newest_receiver (facts_of roster past) h item ≡ o → o ≡ None) [
     | None ↦ λ e. refl
     | Some u ↦ λ e. let k = newest_parts (open_call roster past) h item (threads_of roster) u e in absurd (none-some k.0 (sym (all u) ∙ k.1.waits))
   ] refl

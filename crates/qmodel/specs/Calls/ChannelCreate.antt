@@ -7,7 +7,7 @@ use Rattle.qmodel.specs.declared.call.Mark.TheVariants as mark
 use Rattle.qmodel.specs.Ids.{ThreadNo}
 use Rattle.qmodel.specs.Facts.{Facts}
 use Rattle.qmodel.specs.Rows.{Row, ends_none}
-use Rattle.qmodel.specs.Effect.{Effect, plain}
+use Rattle.qmodel.specs.Effect.{Effect, no_effect}
 
 -- a flag that isn't one of the three, and then 64 open channels
 abbrev pub refusal : Facts → ChannelFlags → Option Errno
@@ -25,4 +25,4 @@ row f t flags = record {
 
 -- it creates a channel
 abbrev pub effect : ChannelFlags → Effect
-effect flags = record plain { creates = Some flags }
+effect flags = record no_effect { creates = Some flags }

@@ -7,7 +7,7 @@ use Rattle.qmodel.specs.Ids.{ChannelId, ThreadNo}
 use Rattle.qmodel.specs.Cutting.{cuts, is_on}
 use Rattle.qmodel.specs.Facts.{Facts, owns}
 use Rattle.qmodel.specs.Rows.{Row}
-use Rattle.qmodel.specs.Effect.{Effect, plain}
+use Rattle.qmodel.specs.Effect.{Effect, no_effect}
 
 -- a channel that isn't open, or isn't of the thread's process
 abbrev pub refusal : Facts → ThreadNo → ChannelId → Option Errno
@@ -25,4 +25,4 @@ row f t chid = record {
 
 -- it destroys the channel
 abbrev pub effect : ChannelId → Effect
-effect chid = record plain { closes = Some chid }
+effect chid = record no_effect { closes = Some chid }

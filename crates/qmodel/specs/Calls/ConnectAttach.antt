@@ -6,7 +6,7 @@ use Rattle.qmodel.specs.declared.call.Mark.TheVariants as mark
 use Rattle.qmodel.specs.Ids.{ChannelId, ThreadNo}
 use Rattle.qmodel.specs.Facts.{Facts}
 use Rattle.qmodel.specs.Rows.{Row, ends_none}
-use Rattle.qmodel.specs.Effect.{Effect, plain}
+use Rattle.qmodel.specs.Effect.{Effect, no_effect}
 
 -- no such channel, and then 1,024 live connections
 abbrev pub refusal : Facts → ChannelId → Option Errno
@@ -24,4 +24,4 @@ row f t chid = record {
 
 -- it attaches a connection to the channel
 abbrev pub effect : ChannelId → Effect
-effect chid = record plain { attaches = Some chid }
+effect chid = record no_effect { attaches = Some chid }

@@ -7,15 +7,15 @@ use Rattle.qmodel.specs.Ids.{ReceiveId, ThreadNo}
 use Rattle.qmodel.specs.Facts.{Facts, sender}
 use Rattle.qmodel.specs.Held.{Finish, ends_sender, refusal}
 use Rattle.qmodel.specs.Rows.{Row}
-use Rattle.qmodel.specs.Effect.{Effect, plain}
+use Rattle.qmodel.specs.Effect.{Effect, no_effect}
 
 -- the code 0 is a reply of status 0 with no bytes
 abbrev pub mark_of : ℤ → Mark
 mark_of code = if int_eq code (pos 0) then mark.Replied (pos 0) 0 else mark.Errored code
 
 -- the buffer stays as it is
-abbrev pub errored : ℤ → Finish
-errored code buffer = (mark_of code, buffer)
+abbrev pub error_finish : ℤ → Finish
+error_finish code buffer = (mark_of code, buffer)
 
 -- it never blocks
 abbrev pub row : Facts → ThreadNo → ReceiveId → ℤ → Row
@@ -23,10 +23,10 @@ row f t rcvid code = record {
   refusal = refusal f t rcvid;
   takes_memory = false;
   own = Some (record { call = f.number; thread = t; mark = mark.Ok; buffer = [] });
-  ends = ends_sender f (errored code) (sender f rcvid);
+  ends = ends_sender f (error_finish code) (sender f rcvid);
   receipt = None;
 }
 
 -- it answers the message; the code 0 is a reply of status 0 with no bytes
 abbrev pub effect : ReceiveId → ℤ → Effect
-effect rcvid code = record plain { answers = Some rcvid; replies = if int_eq code (pos 0) then Some (pos 0, []) else None }
+effect rcvid code = record no_effect { answers = Some rcvid; replies = if int_eq code (pos 0) then Some (pos 0, []) else None }

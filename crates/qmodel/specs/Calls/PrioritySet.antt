@@ -6,7 +6,7 @@ use Rattle.qmodel.specs.declared.call.Mark.TheVariants as mark
 use Rattle.qmodel.specs.Ids.{Level, ThreadNo}
 use Rattle.qmodel.specs.Facts.{Facts, is_fellow}
 use Rattle.qmodel.specs.Rows.{Row, ends_none}
-use Rattle.qmodel.specs.Effect.{Effect, plain}
+use Rattle.qmodel.specs.Effect.{Effect, no_effect}
 
 -- a thread that the roster hasn't, or of another process
 abbrev pub refusal : Facts → ThreadNo → ThreadNo → Option Errno
@@ -24,4 +24,4 @@ row f t thread = record {
 
 -- it sets the thread's priority
 abbrev pub effect : ThreadNo → Level → Effect
-effect thread priority = record plain { sets = Some (record { thread = thread; priority = priority }) }
+effect thread priority = record no_effect { sets = Some (record { thread = thread; priority = priority }) }

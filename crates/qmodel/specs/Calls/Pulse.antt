@@ -5,9 +5,9 @@ use Rattle.qbase.specs.declared.errno.Errno.TheVariants.{Badf, Inval}
 use Rattle.qmodel.specs.declared.call.Mark.TheVariants as mark
 use Rattle.qmodel.specs.Ids.{ChannelId, ConnectionId, Level, ThreadNo}
 use Rattle.qmodel.specs.Facts.{Facts, way}
-use Rattle.qmodel.specs.Pulses.{full, told, told_receipt, wants_room_for}
-use Rattle.qmodel.specs.Rows.{Made, Row, pulse_item, sent_over}
-use Rattle.qmodel.specs.Effect.{Effect, plain}
+use Rattle.qmodel.specs.Pulses.{refusal_if_full, ends_receiver, pulse_receipt, wants_room_for}
+use Rattle.qmodel.specs.Rows.{Made, Row, pulse_item, item_sent_over}
+use Rattle.qmodel.specs.Effect.{Effect, no_effect}
 
 -- a code below 0
 abbrev pub is_negative : ℤ → Bool
@@ -17,26 +17,26 @@ is_negative (negsuc n) = true
 -- a code below 0, and then 1,024 pulses pending on the channel
 abbrev pub refusal_on : Facts → ℤ → Option ChannelId → Option Errno
 refusal_on f code None = Some Badf
-refusal_on f code (Some h) = if is_negative code then Some Inval else full f h
+refusal_on f code (Some h) = if is_negative code then Some Inval else refusal_if_full f h
 
 -- a connection that the thread's process hasn't, or whose channel isn't open, and then those
 abbrev pub refusal : Facts → ThreadNo → ConnectionId → ℤ → Option Errno
 refusal f t coid code = refusal_on f code (way f t coid)
 
 -- the pulse of the priority that is given, sent over the connection
-abbrev pub sent : Facts → ConnectionId → Level → ℤ → ℤ → Option Made
-sent f coid priority code value = sent_over (f.connection coid) (pulse_item f.number priority code value)
+abbrev pub sent_pulse : Facts → ConnectionId → Level → ℤ → ℤ → Option Made
+sent_pulse f coid priority code value = item_sent_over (f.connection coid) (pulse_item f.number priority code value)
 
 -- it never blocks; memory is wanted only for a pulse that waits
 abbrev pub row : Facts → ThreadNo → ConnectionId → Level → ℤ → ℤ → Row
 row f t coid priority code value = record {
   refusal = refusal f t coid code;
-  takes_memory = wants_room_for f (sent f coid priority code value);
+  takes_memory = wants_room_for f (sent_pulse f coid priority code value);
   own = Some (record { call = f.number; thread = t; mark = mark.Ok; buffer = [] });
-  ends = told f (sent f coid priority code value);
-  receipt = told_receipt f (sent f coid priority code value);
+  ends = ends_receiver f (sent_pulse f coid priority code value);
+  receipt = pulse_receipt f (sent_pulse f coid priority code value);
 }
 
 -- it makes that pulse, and sends it over the connection
 abbrev pub effect : ConnectionId → Level → ℤ → ℤ → Effect
-effect coid priority code value = record plain { makes = λ f t. sent f coid priority code value; sends_over = Some coid }
+effect coid priority code value = record no_effect { makes = λ f t. sent_pulse f coid priority code value; sends_over = Some coid }

@@ -6,7 +6,7 @@ use Rattle.qmodel.specs.Ids.{ReceiveId, ThreadNo}
 use Rattle.qmodel.specs.Facts.{Facts, message}
 use Rattle.qmodel.specs.Held.{refusal}
 use Rattle.qmodel.specs.Rows.{Row, ends_none}
-use Rattle.qmodel.specs.Effect.{Effect, plain}
+use Rattle.qmodel.specs.Effect.{Effect, no_effect}
 
 -- what stands in the message from the offset on, over the front of the buffer
 abbrev pub row : Facts → ThreadNo → ReceiveId → ℕ → List ℕ → Row
@@ -25,4 +25,4 @@ row f t rcvid offset buffer = record {
 
 -- it reads the message into its buffer
 abbrev pub effect : ReceiveId → ℕ → List ℕ → Effect
-effect rcvid offset buffer = record plain { buffer = Some buffer; reads = Some (record { message = rcvid; offset = offset; buffer = buffer }) }
+effect rcvid offset buffer = record no_effect { buffer = Some buffer; reads = Some (record { message = rcvid; offset = offset; buffer = buffer }) }

@@ -3,15 +3,15 @@ use Rattle.std.specs.Prelude.{[], Some}
 use Rattle.qqueue.specs.declared.item.Kind.TheVariants.{PulseOnly}
 use Rattle.qmodel.specs.Ids.{ChannelId, ThreadNo}
 use Rattle.qmodel.specs.Facts.{Facts}
-use Rattle.qmodel.specs.Receiving.{receiving}
+use Rattle.qmodel.specs.Receiving.{receive_row}
 use Rattle.qmodel.specs.Rows.{Row}
-use Rattle.qmodel.specs.Effect.{Effect, plain}
+use Rattle.qmodel.specs.Effect.{Effect, no_effect}
 use Rattle.qmodel.specs.declared.open_call.Wait.TheVariants.{Item as ForItem}
 
 -- it takes pulses alone, and has no buffer
 abbrev pub row : Facts → ThreadNo → ChannelId → Row
-row f t chid = receiving f t chid PulseOnly []
+row f t chid = receive_row f t chid PulseOnly []
 
 -- it waits for a pulse, and brings no buffer
 abbrev pub effect : ChannelId → Effect
-effect chid = record plain { waits = Some (ForItem chid PulseOnly []); receives_on = Some (chid, PulseOnly) }
+effect chid = record no_effect { waits = Some (ForItem chid PulseOnly []); receives_on = Some (chid, PulseOnly) }

@@ -6,11 +6,11 @@ use Rattle.qmodel.specs.Ids.{ReceiveId, ThreadNo}
 use Rattle.qmodel.specs.Facts.{Facts, sender}
 use Rattle.qmodel.specs.Held.{Finish, ends_sender, refusal}
 use Rattle.qmodel.specs.Rows.{Row}
-use Rattle.qmodel.specs.Effect.{Effect, plain}
+use Rattle.qmodel.specs.Effect.{Effect, no_effect}
 
 -- the reply over the front of the buffer
-abbrev pub replied : ℤ → List ℕ → Finish
-replied status bytes buffer = (mark.Replied status (laid_count buffer 0 bytes), lay_over buffer 0 bytes)
+abbrev pub reply_finish : ℤ → List ℕ → Finish
+reply_finish status bytes buffer = (mark.Replied status (laid_count buffer 0 bytes), lay_over buffer 0 bytes)
 
 -- it never blocks
 abbrev pub row : Facts → ThreadNo → ReceiveId → ℤ → List ℕ → Row
@@ -18,10 +18,10 @@ row f t rcvid status bytes = record {
   refusal = refusal f t rcvid;
   takes_memory = false;
   own = Some (record { call = f.number; thread = t; mark = mark.Ok; buffer = [] });
-  ends = ends_sender f (replied status bytes) (sender f rcvid);
+  ends = ends_sender f (reply_finish status bytes) (sender f rcvid);
   receipt = None;
 }
 
 -- it answers the message
 abbrev pub effect : ReceiveId → ℤ → List ℕ → Effect
-effect rcvid status bytes = record plain { answers = Some rcvid; replies = Some (status, bytes) }
+effect rcvid status bytes = record no_effect { answers = Some rcvid; replies = Some (status, bytes) }

@@ -4,10 +4,10 @@ use Rattle.qbase.specs.declared.errno.Errno.{Errno}
 use Rattle.qbase.specs.declared.errno.Errno.TheVariants.{Badf}
 use Rattle.qqueue.specs.declared.item.Item.{Item}
 use Rattle.qmodel.specs.Ids.{ConnectionId, ThreadNo}
-use Rattle.qmodel.specs.Delivering.{receiver, meets, received_of, wants_room}
+use Rattle.qmodel.specs.Delivering.{receiver, meets, receipt_when_sent, wants_room}
 use Rattle.qmodel.specs.Facts.{Facts, way}
-use Rattle.qmodel.specs.Rows.{Row, message_item, sent_over}
-use Rattle.qmodel.specs.Effect.{Effect, plain}
+use Rattle.qmodel.specs.Rows.{Row, message_item, item_sent_over}
+use Rattle.qmodel.specs.Effect.{Effect, no_effect}
 use Rattle.qmodel.specs.declared.open_call.Wait.TheVariants.{Answer}
 
 -- a connection that the thread's process hasn't, or whose channel isn't open
@@ -25,9 +25,9 @@ row f t coid message = record {
   takes_memory = wants_room f (item f t) (way f t coid);
   own = None;
   ends = meets f (item f t) message (receiver f (item f t) (way f t coid));
-  receipt = received_of f (Some t) (item f t) message (way f t coid) (receiver f (item f t) (way f t coid));
+  receipt = receipt_when_sent f (Some t) (item f t) message (way f t coid) (receiver f (item f t) (way f t coid));
 }
 
 -- it makes a message of its thread's priority, sends it over the connection, and waits for the answer
 abbrev pub effect : ConnectionId → List ℕ → List ℕ → Effect
-effect coid message reply_buffer = record plain { waits = Some (Answer coid message reply_buffer None); buffer = Some reply_buffer; makes = λ f t. sent_over (f.connection coid) (item f t); sends_over = Some coid; sends = Some message }
+effect coid message reply_buffer = record no_effect { waits = Some (Answer coid message reply_buffer None); buffer = Some reply_buffer; makes = λ f t. item_sent_over (f.connection coid) (item f t); sends_over = Some coid; sends = Some message }

@@ -6,7 +6,7 @@ use Rattle.qmodel.specs.Ids.{ThreadNo}
 use Rattle.qmodel.specs.Cutting.{cuts}
 use Rattle.qmodel.specs.Facts.{Facts}
 use Rattle.qmodel.specs.Rows.{Row}
-use Rattle.qmodel.specs.Effect.{Effect, plain}
+use Rattle.qmodel.specs.Effect.{Effect, no_effect}
 
 -- any thread may shut the kernel down
 abbrev pub row : Facts → ThreadNo → Row
@@ -20,4 +20,4 @@ row f t = record {
 
 -- it shuts the kernel down
 abbrev pub effect : Effect
-effect = record plain { shuts_down = true }
+effect = record no_effect { shuts_down = true }

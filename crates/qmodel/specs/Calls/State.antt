@@ -8,7 +8,7 @@ use Rattle.qmodel.specs.Ids.{ThreadNo}
 use Rattle.qmodel.specs.Facts.{Facts}
 use Rattle.qmodel.specs.ThreadStates.{state_in}
 use Rattle.qmodel.specs.Rows.{Row, ends_none}
-use Rattle.qmodel.specs.Effect.{Effect, plain}
+use Rattle.qmodel.specs.Effect.{Effect, no_effect}
 
 -- a thread that the roster hasn't
 abbrev pub refusal : Facts → ThreadNo → Option Errno
@@ -26,4 +26,4 @@ row f t thread = record {
 
 -- it changes nothing
 abbrev pub effect : Effect
-effect = plain
+effect = no_effect

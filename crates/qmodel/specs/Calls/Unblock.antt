@@ -13,9 +13,9 @@ use Rattle.qmodel.specs.declared.open_call.Wait.TheVariants.{Answer, Item as For
 use Rattle.qmodel.specs.Ids.{CallNo, ChannelId, ReceiveId, ThreadNo}
 use Rattle.qmodel.specs.Cutting.{cuts}
 use Rattle.qmodel.specs.Facts.{Facts, is_fellow, tells_unblock}
-use Rattle.qmodel.specs.Pulses.{full_for, told, told_receipt, wants_room_for}
+use Rattle.qmodel.specs.Pulses.{refusal_if_full_for, ends_receiver, pulse_receipt, wants_room_for}
 use Rattle.qmodel.specs.Rows.{Made, Row, unblock_item}
-use Rattle.qmodel.specs.Effect.{Effect, plain}
+use Rattle.qmodel.specs.Effect.{Effect, no_effect}
 
 -- the channel that the connection leads to, where that has the unblock flag
 abbrev pub guard_over : Facts → Option Connection → Option ChannelId
@@ -29,44 +29,44 @@ guard f (Answer coid message reply_buffer None) = None
 guard f (ForItem chid kind buffer) = None
 
 -- the pulse for message i, held with this receipt on channel h, of its priority; none where one was made
-abbrev pub due_on : CallNo → ReceiveId → Receipt → Option ChannelId → Option Made
-due_on n i receipt None = None
-due_on n i receipt (Some h) = if receipt.unblocked then None else Some (record { item = unblock_item n receipt.priority i; channel = h })
+abbrev pub due_pulse_on : CallNo → ReceiveId → Receipt → Option ChannelId → Option Made
+due_pulse_on n i receipt None = None
+due_pulse_on n i receipt (Some h) = if receipt.unblocked then None else Some (record { item = unblock_item n receipt.priority i; channel = h })
 
 -- the same of what call i waits for: it is held, on a channel with the unblock flag
-abbrev pub due_for : Facts → CallNo → Wait → Option Made
-due_for f i (Answer coid message reply_buffer (Some receipt)) = due_on f.number i receipt (guard_over f (f.connection coid))
-due_for f i (Answer coid message reply_buffer None) = None
-due_for f i (ForItem chid kind buffer) = None
+abbrev pub due_pulse_of_wait : Facts → CallNo → Wait → Option Made
+due_pulse_of_wait f i (Answer coid message reply_buffer (Some receipt)) = due_pulse_on f.number i receipt (guard_over f (f.connection coid))
+due_pulse_of_wait f i (Answer coid message reply_buffer None) = None
+due_pulse_of_wait f i (ForItem chid kind buffer) = None
 
 -- the same of a thread's open call, if it has one
-abbrev pub due_of : Facts → Option OpenCall → Option Made
-due_of f None = None
-due_of f (Some o) = due_for f o.number o.wait
+abbrev pub due_pulse_of_open : Facts → Option OpenCall → Option Made
+due_pulse_of_open f None = None
+due_pulse_of_open f (Some o) = due_pulse_of_wait f o.number o.wait
 
 -- the pulse that is due for what this thread is blocked in
-abbrev pub due : Facts → ThreadNo → Option Made
-due f thread = due_of f (f.open_call thread)
+abbrev pub due_pulse : Facts → ThreadNo → Option Made
+due_pulse f thread = due_pulse_of_open f (f.open_call thread)
 
 -- a thread that the roster hasn't, or of another process, and then 1,024 pulses pending where one is due
 abbrev pub refusal : Facts → ThreadNo → ThreadNo → Option Errno
-refusal f t thread = if is_fellow f t thread then full_for f (due f thread) else Some Srch
+refusal f t thread = if is_fellow f t thread then refusal_if_full_for f (due_pulse f thread) else Some Srch
 
 -- with no pulse due the thread's open call is cut that no channel guards; else the call of the pulse's receiver ends
-abbrev pub ends : Facts → ThreadNo → Option Made → ThreadNo → Option Completion
-ends f thread None u = cuts f (λ v wait. (v == thread) && not (is_some (guard f wait))) Intr u
-ends f thread (Some m) u = told f (Some m) u
+abbrev pub other_ending : Facts → ThreadNo → Option Made → ThreadNo → Option Completion
+other_ending f thread None u = cuts f (λ v wait. (v == thread) && not (is_some (guard f wait))) Intr u
+other_ending f thread (Some m) u = ends_receiver f (Some m) u
 
 -- it never blocks; memory is wanted only for a pulse that waits
 abbrev pub row : Facts → ThreadNo → ThreadNo → Row
 row f t thread = record {
   refusal = refusal f t thread;
-  takes_memory = wants_room_for f (due f thread);
+  takes_memory = wants_room_for f (due_pulse f thread);
   own = Some (record { call = f.number; thread = t; mark = mark.Ok; buffer = [] });
-  ends = ends f thread (due f thread);
-  receipt = told_receipt f (due f thread);
+  ends = other_ending f thread (due_pulse f thread);
+  receipt = pulse_receipt f (due_pulse f thread);
 }
 
 -- it is to unblock the thread, and makes a pulse where one is due
 abbrev pub effect : ThreadNo → Effect
-effect thread = record plain { unblocks = Some thread; makes = λ f t. due f thread }
+effect thread = record no_effect { unblocks = Some thread; makes = λ f t. due_pulse f thread }

@@ -6,7 +6,7 @@ use Rattle.qmodel.specs.Ids.{ReceiveId, ThreadNo}
 use Rattle.qmodel.specs.Facts.{Facts}
 use Rattle.qmodel.specs.Held.{refusal, reply_buffer}
 use Rattle.qmodel.specs.Rows.{Row, ends_none}
-use Rattle.qmodel.specs.Effect.{Effect, plain}
+use Rattle.qmodel.specs.Effect.{Effect, no_effect}
 
 -- how many bytes found room; what was written is read off the past calls
 abbrev pub row : Facts → ThreadNo → ReceiveId → ℕ → List ℕ → Row
@@ -20,4 +20,4 @@ row f t rcvid offset bytes = record {
 
 -- it writes over the message's reply buffer
 abbrev pub effect : ReceiveId → ℕ → List ℕ → Effect
-effect rcvid offset bytes = record plain { writes = Some (record { message = rcvid; offset = offset; bytes = bytes }) }
+effect rcvid offset bytes = record no_effect { writes = Some (record { message = rcvid; offset = offset; bytes = bytes }) }

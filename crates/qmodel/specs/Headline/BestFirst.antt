@@ -11,13 +11,13 @@ use Rattle.qmodel.specs.declared.call.Completion.{Completion}
 use Rattle.qmodel.specs.Ids.{CallNo, ChannelId}
 use Rattle.qmodel.specs.Headline.CopiedExactly.{call_at}
 use Rattle.qmodel.specs.Headline.ReceivedOnce.{item_received}
-use Rattle.qmodel.specs.Past.{pending, item_of, made_on}
+use Rattle.qmodel.specs.Past.{pending_items, item_of, made_on}
 use Rattle.qmodel.specs.Trace.{Event, Trace}
 use Rattle.qmodel.specs.Effects.{receives_on}
 
 -- what could be taken from channel h in this event: what was pending before it, and the item that it makes
 abbrev pub takeable : List Member → Trace → Event → ChannelId → List Item
-takeable roster past e h = pending roster past h ++ made_on h (item_of roster e past)
+takeable roster past e h = pending_items roster past h ++ made_on h (item_of roster e past)
 
 -- the ending receives item i as the best of what its call may take
 pub record TakesBest (roster : List Member) (past : Trace) (e : Event) (x : Completion) (i : CallNo) : Type 0 where

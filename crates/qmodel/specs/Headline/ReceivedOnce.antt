@@ -6,7 +6,7 @@ use Rattle.qtables.specs.declared.member.Member.{Member}
 use Rattle.qmodel.specs.declared.call.Completion.{Completion}
 use Rattle.qmodel.specs.Ids.{CallNo}
 use Rattle.qmodel.specs.Past.{items}
-use Rattle.qmodel.specs.Rows.{received}
+use Rattle.qmodel.specs.Rows.{item_in_mark}
 use Rattle.qmodel.specs.Trace.{Trace}
 
 -- no two of these numbers are equal
@@ -21,7 +21,7 @@ endings_of (e ∷ past) = e.endings ++ endings_of past
 
 -- the number of the item that an ending receives
 abbrev pub item_received : Completion → Option CallNo
-item_received x = option_map (λ r. r.0) (received x.mark)
+item_received x = option_map (λ r. r.0) (item_in_mark x.mark)
 
 -- the items that these endings receive
 abbrev pub items_received : List Completion → List CallNo

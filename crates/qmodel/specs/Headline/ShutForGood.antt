@@ -8,7 +8,7 @@ use Rattle.qmodel.specs.Ids.{CallNo, ChannelId, ThreadNo}
 use Rattle.qmodel.specs.Cutting.{is_on}
 use Rattle.qmodel.specs.Headline.AnsweredToSender.{channel_among}
 use Rattle.qmodel.specs.Headline.ReceivedOnce.{item_received}
-use Rattle.qmodel.specs.Past.{attached, is_closed, items, open_call}
+use Rattle.qmodel.specs.Past.{attached_connection, is_closed, items, open_call}
 use Rattle.qmodel.specs.Trace.{Trace}
 
 -- none of these endings receives an item of channel h
@@ -18,7 +18,7 @@ NoneReceivedFrom roster past h endings =
 
 -- no open call is blocked on channel h; a Send is blocked on the channel that its connection was attached to, detached or not
 abbrev pub NoneBlockedOn : List Member → Trace → ChannelId → Type 0
-NoneBlockedOn roster past h = (u : ThreadNo) (o : OpenCall) → open_call roster past u ≡ Some o → is_on (λ k. attached roster past k) h o.wait ≡ false
+NoneBlockedOn roster past h = (u : ThreadNo) (o : OpenCall) → open_call roster past u ≡ Some o → is_on (λ k. attached_connection roster past k) h o.wait ≡ false
 
 -- after each event, and in it, so it is with each channel that is destroyed by then
 abbrev pub ShutForGood : List Member → Trace → Type 0

@@ -9,7 +9,7 @@ use Rattle.qmodel.specs.declared.call.Completion.{Completion}
 use Rattle.qmodel.specs.declared.call.Mark.{Mark}
 use Rattle.qmodel.specs.declared.call.Mark.TheVariants as mark
 use Rattle.qmodel.specs.declared.open_call.Blocked.{Blocked}
-use Rattle.qmodel.specs.Blocked.{blocked_at}
+use Rattle.qmodel.specs.Blocked.{blocked_threads_at}
 use Rattle.qmodel.specs.Effects.{buffer_of}
 use Rattle.qmodel.specs.Lawful.{IsLawful, followed_by}
 use Rattle.qmodel.specs.Trace.{Event}
@@ -44,7 +44,7 @@ IsUnlawfulRun roster events = IsLawfulRun roster events → ⊥
 
 -- who is blocked after the events
 abbrev pub blocked_after : List Member → List Event → List Blocked
-blocked_after roster events = blocked_at roster (followed_by [] events)
+blocked_after roster events = blocked_threads_at roster (followed_by [] events)
 
 -- ---- other endings
 

@@ -17,7 +17,7 @@ use Rattle.qmodel.specs.declared.call.Mark.{Mark}
 use Rattle.qmodel.specs.declared.call.Mark.TheVariants as marks
 use Rattle.qmodel.specs.declared.open_call.Blocked.{Blocked}
 use Rattle.qmodel.specs.Trace.{Event, Run}
-use Rattle.qscript.specs.Printing.Words.{spaced}
+use Rattle.qscript.specs.Printing.Words.{words_with_spaces}
 use Rattle.qscript.specs.Printing.Marks.{mark_words, pulse_words}
 use Rattle.qscript.specs.Printing.Buffer.{buffer_words}
 use Rattle.qscript.specs.Printing.OpenLine.{open_text}
@@ -84,10 +84,10 @@ hexadecimal (b ∷ bytes) =
 
 -- ---- words
 
-in_row : (words : List (List ℕ)) → AllByRecursion IsOneLine words → IsOneLine (spaced words)
+in_row : (words : List (List ℕ)) → AllByRecursion IsOneLine words → IsOneLine (words_with_spaces words)
 in_row [] h = tt
 in_row (word ∷ []) h = ((λ e. omega (arith, e)), h.0)
-in_row (word ∷ next ∷ words) h = both (32 ∷ word) (spaced (next ∷ words)) ((λ e. omega (arith, e)), h.0) (in_row (next ∷ words) h.1)
+in_row (word ∷ next ∷ words) h = both (32 ∷ word) (words_with_spaces (next ∷ words)) ((λ e. omega (arith, e)), h.0) (in_row (next ∷ words) h.1)
 
 both_rows : (xs ys : List (List ℕ)) → AllByRecursion IsOneLine xs → AllByRecursion IsOneLine ys → AllByRecursion IsOneLine (xs ++ ys)
 both_rows [] ys a b = b
@@ -164,12 +164,12 @@ lines_both a b n m k e first then_more = record {
   text_is = rw (first.text_is, then_more.text_is) (sym (flat_map-append with_newline first.lines then_more.lines));
 }
 
-ended_line : (event : ℕ) (e : Completion) (shows : Bool) → IsOneLine (decimal event ++ spaced (decimal e.call ∷ decimal e.thread ∷ []) ++ spaced (mark_words e.mark) ++ spaced (ended_words e shows))
+ended_line : (event : ℕ) (e : Completion) (shows : Bool) → IsOneLine (decimal event ++ words_with_spaces (decimal e.call ∷ decimal e.thread ∷ []) ++ words_with_spaces (mark_words e.mark) ++ words_with_spaces (ended_words e shows))
 ended_line event e shows =
     let who = in_row (decimal e.call ∷ decimal e.thread ∷ []) (number e.call, (number e.thread, tt)) in
-    let front = both (decimal event) (spaced (decimal e.call ∷ decimal e.thread ∷ [])) (number event) who in
-    let marked = both (decimal event ++ spaced (decimal e.call ∷ decimal e.thread ∷ [])) (spaced (mark_words e.mark)) front (in_row (mark_words e.mark) (mark_row e.mark)) in
-    both (decimal event ++ spaced (decimal e.call ∷ decimal e.thread ∷ []) ++ spaced (mark_words e.mark)) (spaced (ended_words e shows)) marked (in_row (ended_words e shows) (ended_row e shows))
+    let front = both (decimal event) (words_with_spaces (decimal e.call ∷ decimal e.thread ∷ [])) (number event) who in
+    let marked = both (decimal event ++ words_with_spaces (decimal e.call ∷ decimal e.thread ∷ [])) (words_with_spaces (mark_words e.mark)) front (in_row (mark_words e.mark) (mark_row e.mark)) in
+    both (decimal event ++ words_with_spaces (decimal e.call ∷ decimal e.thread ∷ []) ++ words_with_spaces (mark_words e.mark)) (words_with_spaces (ended_words e shows)) marked (in_row (ended_words e shows) (ended_row e shows))
 
 event_lines : (run : Run) (event : ℕ) (xs : List Completion) → IsLines (event_text run event xs) (length xs)
 event_lines run event [] = no_lines
@@ -179,15 +179,15 @@ texts_lines : (run : Run) (n : ℕ) (es : List Event) → IsLines (texts_from ru
 texts_lines run n [] = no_lines
 texts_lines run n (e ∷ es) = lines_both (event_text run n e.endings) (texts_from run (n + 1) es) (length e.endings) (endings_in es) _ refl (event_lines run n e.endings) (texts_lines run (n + 1) es)
 
-open_line : (b : Blocked) → IsOneLine (codes "open" ++ spaced ((decimal b.number ∷ decimal b.thread ∷ []) ++ state_words b.state))
+open_line : (b : Blocked) → IsOneLine (codes "open" ++ words_with_spaces ((decimal b.number ∷ decimal b.thread ∷ []) ++ state_words b.state))
 open_line b =
     let words = (decimal b.number ∷ decimal b.thread ∷ []) ++ state_words b.state in
     let row = both_rows (decimal b.number ∷ decimal b.thread ∷ []) (state_words b.state) (number b.number, (number b.thread, tt)) (state_row b.state) in
-    both (codes "open") (spaced words) (tested (codes "open") refl) (in_row words row)
+    both (codes "open") (words_with_spaces words) (tested (codes "open") refl) (in_row words row)
 
 open_lines : (bs : List Blocked) → IsLines (flat_map open_text bs) (length bs)
 open_lines [] = no_lines
-open_lines (b ∷ bs) = one_more (codes "open" ++ spaced ((decimal b.number ∷ decimal b.thread ∷ []) ++ state_words b.state)) _ (length bs) _ (omega arith) (open_line b) (open_lines bs)
+open_lines (b ∷ bs) = one_more (codes "open" ++ words_with_spaces ((decimal b.number ∷ decimal b.thread ∷ []) ++ state_words b.state)) _ (length bs) _ (omega arith) (open_line b) (open_lines bs)
 
 pub has_lines : HasLines
 unfolding printed

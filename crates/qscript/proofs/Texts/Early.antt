@@ -11,7 +11,7 @@ use Rattle.qscript.specs.declared.fault.LineFault.TheVariants.{LongLine, BadByte
 use Rattle.qscript.specs.Reading.Steps.{◌>>=◌}
 use Rattle.qscript.specs.Reading.Line.{line_of, said_of, is_text, roster_line_of, call_line_of}
 use Rattle.qscript.specs.Reading.Words.{words_of}
-use Rattle.qscript.specs.Reading.Meaning.{is_in, placed, line_with}
+use Rattle.qscript.specs.Reading.Meaning.{is_in, line_after_roster, line_with}
 
 pub bind_ok : {A B : Type 0} (r : Result A LineFault) (f : A → Result B LineFault) (y : B) → (r >>= f) ≡ Ok y → (x : A) × (r ≡ Ok x) × (f x ≡ Ok y)
 bind_ok (Ok x) f y h = (x, refl, h)
@@ -57,7 +57,7 @@ one_guard : (b : Bool) (e : LineFault) (x l : Line) → cond b (Ok x) (Err e) �
 one_guard true e x l h = cc
 one_guard false e x l h = cc
 
-pub placed_keeps : (roster : List Member) (x l : Line) → placed roster x ≡ Ok l → x ≡ l
+pub placed_keeps : (roster : List Member) (x l : Line) → line_after_roster roster x ≡ Ok l → x ≡ l
 placed_keeps roster lines.Blank l h = cc
 placed_keeps roster (lines.Roster m) l h = two_guards (is_in m.thread roster) (nat_le 64 (length roster)) DoubleThread TooManyThreads (lines.Roster m) l h
 placed_keeps roster (lines.Call thread call) l h = one_guard (is_in thread roster) UnknownThread (lines.Call thread call) l h
@@ -69,6 +69,6 @@ line_value e = cc
 pub alone : (roster : List Member) (calls : List (ℕ × Call)) (line : List ℕ) (l : Line) → line_with roster calls line ≡ Ok l → line_of false line ≡ Ok l
 unfolding line_with
 alone roster calls line l h =
-    let b = bind_ok (line_of (nat_lt 0 (length calls)) line) (placed roster) l h in
+    let b = bind_ok (line_of (nat_lt 0 (length calls)) line) (line_after_roster roster) l h in
     let e : b.0 ≡ l = placed_keeps roster b.0 l b.2 in
     line_early (nat_lt 0 (length calls)) line l (b.1 ∙ line_value e)

@@ -15,8 +15,8 @@ use Rattle.qscript.specs.declared.reading.line.Line.TheVariants as lines
 use Rattle.qscript.specs.declared.fault.LineFault.{LineFault}
 use Rattle.qscript.specs.Reading.Words.{words_of}
 use Rattle.qscript.specs.Reading.Line.{line_of, said_of}
-use Rattle.qscript.specs.Reading.Meaning.{Faulty, Says, member_in, call_in, roster_of, calls_of, line_with, line_after, fault_in, fault_at, first_fault, unless, of_lines}
-use Rattle.qscript.specs.Reading.Laws.{is_passed_over, IsPassedOver, renumbered}
+use Rattle.qscript.specs.Reading.Meaning.{Faulty, Says, member_in, call_in, roster_of, calls_of, line_with, line_after, fault_in, fault_at, first_fault, fault_or, of_lines}
+use Rattle.qscript.specs.Reading.Laws.{is_passed_over, IsPassedOver, meaning_one_line_later}
 
 -- ---- what it says
 
@@ -151,18 +151,18 @@ first_past front back line (suc j) h =
 one_more : (k m : ℕ) → cond (nat_lt m k) m (m + 1) + 1 ≡ cond (nat_le (m + 1) k) (m + 1) (m + 1 + 1)
 one_more k m = grind (arith, common_steps)
 
-unless_shifted : (k : ℕ) (x : Option (ℕ × LineFault)) (ms : List Member) (cs : List (ℕ × Call)) → unless (shifted k x) (Says ms cs) ≡ renumbered k (unless x (Says ms cs))
+unless_shifted : (k : ℕ) (x : Option (ℕ × LineFault)) (ms : List Member) (cs : List (ℕ × Call)) → fault_or (shifted k x) (Says ms cs) ≡ meaning_one_line_later k (fault_or x (Says ms cs))
 unfolding shifted
 unless_shifted k None ms cs = refl
 unless_shifted k (Some x) ms cs = ap (λ n. Faulty n x.1) (one_more k x.0)
 
-pub lines_past : (front back : List (List ℕ)) (line : List ℕ) → IsPassedOver line → of_lines (front ++ line ∷ back) ≡ renumbered (length front) (of_lines (front ++ back))
+pub lines_past : (front back : List (List ℕ)) (line : List ℕ) → IsPassedOver line → of_lines (front ++ line ∷ back) ≡ meaning_one_line_later (length front) (of_lines (front ++ back))
 lines_past front back line h =
     let k = length front in
     let all : first_fault (front ++ line ∷ back) (length (front ++ line ∷ back)) ≡ shifted k (first_fault (front ++ back) (length (front ++ back))) =
     ap (first_fault (front ++ line ∷ back)) (length-append front (line ∷ back)) ∙ first_past front back line (length back) h
     ∙ ap (λ n. shifted k (first_fault (front ++ back) n)) (sym (length-append front back)) in
-    ap (λ x. unless x (Says (roster_of (front ++ line ∷ back)) (calls_of (front ++ line ∷ back)))) all
-    ∙ ap (λ ms. unless (shifted k (first_fault (front ++ back) (length (front ++ back)))) (Says ms (calls_of (front ++ line ∷ back)))) (roster_past front back line h)
-    ∙ ap (λ cs. unless (shifted k (first_fault (front ++ back) (length (front ++ back)))) (Says (roster_of (front ++ back)) cs)) (calls_past front back line h)
+    ap (λ x. fault_or x (Says (roster_of (front ++ line ∷ back)) (calls_of (front ++ line ∷ back)))) all
+    ∙ ap (λ ms. fault_or (shifted k (first_fault (front ++ back) (length (front ++ back)))) (Says ms (calls_of (front ++ line ∷ back)))) (roster_past front back line h)
+    ∙ ap (λ cs. fault_or (shifted k (first_fault (front ++ back) (length (front ++ back)))) (Says (roster_of (front ++ back)) cs)) (calls_past front back line h)
     ∙ unless_shifted k (first_fault (front ++ back) (length (front ++ back))) (roster_of (front ++ back)) (calls_of (front ++ back))

@@ -15,7 +15,7 @@ use Rattle.qscript.specs.declared.fault.ScriptFault.TheVariants as scripts
 use Rattle.qscript.specs.Reading.Steps.{Fails}
 use Rattle.qscript.specs.Reading.Line.{line_of}
 use Rattle.qscript.specs.Reading.Lines.{lines_of}
-use Rattle.qscript.specs.Reading.Meaning.{TooLong, Faulty, Says, meaning, of_line, IsFaultOf, member_in, call_in, roster_of, calls_of, line_with, line_after, first_fault, unless, of_lines}
+use Rattle.qscript.specs.Reading.Meaning.{TooLong, Faulty, Says, meaning, of_line, IsFaultOf, member_in, call_in, roster_of, calls_of, line_with, line_after, first_fault, fault_or, of_lines}
 use Rattle.qscript.proofs.Texts.Early.{alone}
 
 -- ---- the first lines of a list
@@ -139,7 +139,7 @@ pub not_long : (text : List ℕ) → length text ≤ 4194304 → meaning text �
 unfolding meaning
 not_long text h = rw (le-ltb 4194304 (length text) h)
 
-no_long_lines : (found : Option (ℕ × LineFault)) (ms : List Member) (cs : List (ℕ × Call)) → unless found (Says ms cs) ≡ TooLong → ⊥
+no_long_lines : (found : Option (ℕ × LineFault)) (ms : List Member) (cs : List (ℕ × Call)) → fault_or found (Says ms cs) ≡ TooLong → ⊥
 no_long_lines None ms cs e = cc
 no_long_lines (Some x) ms cs e = cc
 

@@ -9,7 +9,7 @@ use Rattle.qtables.specs.declared.member.Member.{Member}
 use Rattle.qmodel.specs.declared.call.Call.{Call}
 use Rattle.qmodel.specs.declared.call.Call.TheVariants as calls
 use Rattle.qscript.specs.declared.reading.line.Line.TheVariants as lines
-use Rattle.qscript.specs.Printing.Words.{spaced}
+use Rattle.qscript.specs.Printing.Words.{words_with_spaces}
 use Rattle.qscript.specs.Reading.Call.{call_of, verb_of, channel_verb, message_verb, thread_verb}
 use Rattle.qscript.specs.Reading.Counts.{first_of}
 use Rattle.qscript.specs.Reading.Forms.{id_of, small_of, shutdown_of, member_of, setprio_of, error_of, pulse_of, receive_of, send_of, reply_of, read_of, write_of}
@@ -96,7 +96,7 @@ not_thread n h = elim (cases_Bool (bytes_eq (decimal n) (codes "thread"))) [
 ]
 
 pub call_line_text : (thread : ℕ) (call : Call) → IsSmall thread → IsTyped call → list_all is_text (call_line thread call) ≡ true
-call_line_text thread call t h = text_both (decimal thread) (spaced (call_words call)) (word_text (decimal thread) (small_word thread t)) (row_text (call_words call) (call_are_words call h))
+call_line_text thread call t h = text_both (decimal thread) (words_with_spaces (call_words call)) (word_text (decimal thread) (small_word thread t)) (row_text (call_words call) (call_are_words call h))
 
 call_words_of : (thread : ℕ) (call : Call) → IsSmall thread → IsTyped call → words_of (call_line thread call) ≡ decimal thread ∷ call_words call
 call_words_of thread call t h = words_in_row (decimal thread) (call_words call) (small_word thread t) (call_are_words call h)
@@ -122,7 +122,7 @@ member_are_words m h = (small_word m.thread h.0, (small_word m.process h.1, (lev
 
 pub member_line_text : (m : Member) → IsTypedMember m → list_all is_text (member_line m) ≡ true
 member_line_text m h =
-    text_both (codes "thread") (spaced (decimal m.thread ∷ decimal m.process ∷ decimal m.priority ∷ [])) (word_text (codes "thread") (name_word (codes "thread") (omega arith) refl))
+    text_both (codes "thread") (words_with_spaces (decimal m.thread ∷ decimal m.process ∷ decimal m.priority ∷ [])) (word_text (codes "thread") (name_word (codes "thread") (omega arith) refl))
     (row_text (decimal m.thread ∷ decimal m.process ∷ decimal m.priority ∷ []) (member_are_words m h))
 
 three : (n : ℕ) → n < 256 → length (decimal n) ≤ 3

@@ -8,7 +8,7 @@ use Rattle.std.proofs.lemmas.List.Folds.{list_all-append}
 use Rattle.std.proofs.lemmas.List.Splits.{slice_split_none, slice_split_at}
 use Rattle.std.proofs.lemmas.List.Elements.{All-cons, All-nil}
 use Rattle.std.proofs.lemmas.Str.Parse.{tells_all_ascii_digits}
-use Rattle.qscript.specs.Printing.Words.{spaced}
+use Rattle.qscript.specs.Printing.Words.{words_with_spaces}
 use Rattle.qscript.specs.Reading.Line.{is_text}
 use Rattle.qscript.specs.Reading.Words.{words_of, is_blank}
 use Rattle.qscript.proofs.Texts.Digits.{own}
@@ -51,10 +51,10 @@ unfolding words_of
 words_before w t h = rw (slice_split_at is_blank w 32 t (no_blanks w h.1) refl) (word_kept w (slice_split is_blank t) h.0)
 
 -- words in a row
-pub words_in_row : (w : List ℕ) (ws : List (List ℕ)) → IsWord w → AllByRecursion IsWord ws → words_of (w ++ spaced ws) ≡ w ∷ ws
+pub words_in_row : (w : List ℕ) (ws : List (List ℕ)) → IsWord w → AllByRecursion IsWord ws → words_of (w ++ words_with_spaces ws) ≡ w ∷ ws
 words_in_row w [] h hs = ap words_of (append-nil w) ∙ words_alone w h
 words_in_row w (v ∷ []) h hs = words_before w v h ∙ ap (λ vs. w ∷ vs) (words_alone v hs.0)
-words_in_row w (v ∷ next ∷ ws) h hs = words_before w (v ++ spaced (next ∷ ws)) h ∙ ap (λ vs. w ∷ vs) (words_in_row v (next ∷ ws) hs.0 hs.1)
+words_in_row w (v ∷ next ∷ ws) h hs = words_before w (v ++ words_with_spaces (next ∷ ws)) h ∙ ap (λ vs. w ∷ vs) (words_in_row v (next ∷ ws) hs.0 hs.1)
 
 -- ---- the text of a line
 
@@ -76,10 +76,10 @@ pub word_text : (w : List ℕ) → IsWord w → list_all is_text w ≡ true
 word_text w h = text_of w h.1
 
 -- words in a row are text
-pub row_text : (ws : List (List ℕ)) → AllByRecursion IsWord ws → list_all is_text (spaced ws) ≡ true
+pub row_text : (ws : List (List ℕ)) → AllByRecursion IsWord ws → list_all is_text (words_with_spaces ws) ≡ true
 row_text [] h = refl
 row_text (w ∷ []) h = text_of w h.0.1
-row_text (w ∷ next ∷ ws) h = text_both w (spaced (next ∷ ws)) (text_of w h.0.1) (row_text (next ∷ ws) h.1)
+row_text (w ∷ next ∷ ws) h = text_both w (words_with_spaces (next ∷ ws)) (text_of w h.0.1) (row_text (next ∷ ws) h.1)
 
 -- ---- numbers
 

@@ -7,7 +7,7 @@ use Rattle.qmodel.specs.declared.call.Call.TheVariants.{ChannelCreate, ConnectAt
 use Rattle.qmodel.specs.declared.call.Completion.{Completion}
 use Rattle.qmodel.specs.declared.open_call.Blocked.{Blocked}
 use Rattle.qmodel.specs.Trace.{Event, Run}
-use Rattle.qscript.specs.Printing.Words.{spaced}
+use Rattle.qscript.specs.Printing.Words.{words_with_spaces}
 use Rattle.qscript.specs.Printing.Marks.{mark_words}
 use Rattle.qscript.specs.Printing.Buffer.{buffer_words}
 use Rattle.qscript.specs.Printing.OpenLine.{open_text}
@@ -48,7 +48,7 @@ ended_words e shows = if shows then buffer_words e.buffer else []
 -- one line: the event, the ended call, its thread, its mark, and its buffer if it is printed
 abbrev pub ended_text : ℕ → Completion → Bool → List ℕ
 ended_text event e shows =
-    decimal event ++ spaced (decimal e.call ∷ decimal e.thread ∷ []) ++ spaced (mark_words e.mark) ++ spaced (ended_words e shows) ++ 10 ∷ []
+    decimal event ++ words_with_spaces (decimal e.call ∷ decimal e.thread ∷ []) ++ words_with_spaces (mark_words e.mark) ++ words_with_spaces (ended_words e shows) ++ 10 ∷ []
 
 -- the line of an ending in a run
 abbrev pub ending_text : Run → ℕ → Completion → List ℕ

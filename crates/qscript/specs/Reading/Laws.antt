@@ -24,16 +24,16 @@ abbrev pub IsWhole : List ℕ → Type 0
 IsWhole text = (length text ≡ 0) ⊎ (slice_index text (length text - 1) ≡ 10)
 
 -- the meaning in a text that has one more line behind its first k
-abbrev pub renumbered : ℕ → Meaning → Meaning
-renumbered k TooLong = TooLong
-renumbered k (Faulty n f) = Faulty (if nat_le n k then n else n + 1) f
-renumbered k (Says roster calls) = Says roster calls
+abbrev pub meaning_one_line_later : ℕ → Meaning → Meaning
+meaning_one_line_later k TooLong = TooLong
+meaning_one_line_later k (Faulty n f) = Faulty (if nat_le n k then n else n + 1) f
+meaning_one_line_later k (Says roster calls) = Says roster calls
 
 -- a blank line or a comment between two lines changes only the numbers of the lines behind it
 abbrev pub PassesOver : Type 0
 PassesOver = (front line back : List ℕ) → IsWhole front → IsOneLine line → IsPassedOver (without_return line)
     → length (front ++ line ++ 10 ∷ back) ≤ most_text
-    → meaning (front ++ line ++ 10 ∷ back) ≡ renumbered (length (lines_of front)) (meaning (front ++ back))
+    → meaning (front ++ line ++ 10 ∷ back) ≡ meaning_one_line_later (length (lines_of front)) (meaning (front ++ back))
 
 -- one carriage return before a line end changes nothing
 abbrev pub DropsReturn : Type 0

@@ -49,17 +49,17 @@ abbrev pub is_in : ℕ → List Member → Bool
 is_in thread roster = list_any (λ m. m.thread == thread) roster
 
 -- a line after a roster: no thread comes twice, and only those of the roster call
-abbrev pub placed : List Member → Line → Result Line LineFault
-placed roster lines.Blank = Ok lines.Blank
-placed roster (lines.Roster m) =
+abbrev pub line_after_roster : List Member → Line → Result Line LineFault
+line_after_roster roster lines.Blank = Ok lines.Blank
+line_after_roster roster (lines.Roster m) =
     if is_in m.thread roster then Err DoubleThread
     else if nat_le 64 (length roster) then Err TooManyThreads
     else Ok (lines.Roster m)
-placed roster (lines.Call thread call) = if is_in thread roster then Ok (lines.Call thread call) else Err UnknownThread
+line_after_roster roster (lines.Call thread call) = if is_in thread roster then Ok (lines.Call thread call) else Err UnknownThread
 
 -- what a line says after a roster and calls
 unfoldable pub line_with : List Member → List (ℕ × Call) → List ℕ → Result Line LineFault
-line_with roster calls line = line_of (nat_lt 0 (length calls)) line >>= placed roster
+line_with roster calls line = line_of (nat_lt 0 (length calls)) line >>= line_after_roster roster
 
 -- what a line says that stands after some others
 unfoldable pub line_after : List (List ℕ) → List ℕ → Result Line LineFault
@@ -88,13 +88,13 @@ pub data Meaning : Type 0 where
   Says : List Member → List (ℕ × Call) → Meaning
 
 -- the fault, where there is one; lines are numbered from 1
-abbrev pub unless : Option (ℕ × LineFault) → Meaning → Meaning
-unless None m = m
-unless (Some f) m = Faulty (f.0 + 1) f.1
+abbrev pub fault_or : Option (ℕ × LineFault) → Meaning → Meaning
+fault_or None m = m
+fault_or (Some f) m = Faulty (f.0 + 1) f.1
 
 -- what some lines mean
 abbrev pub of_lines : List (List ℕ) → Meaning
-of_lines lines = unless (first_fault lines (length lines)) (Says (roster_of lines) (calls_of lines))
+of_lines lines = fault_or (first_fault lines (length lines)) (Says (roster_of lines) (calls_of lines))
 
 -- what a text means
 unfoldable pub meaning : List ℕ → Meaning

@@ -13,13 +13,13 @@ unfoldable pub digits_of : List ℕ → Option ℕ
 digits_of word = if nat_lt 0 (length word) && nat_le (length word) 20 && all_ascii_digits word then Some (digits_value 10 word) else None
 
 -- the value, where it is below the limit
-abbrev pub below : ℕ → Option ℕ → Result ℕ LineFault
-below limit None = Err BadNumber
-below limit (Some n) = if nat_lt n limit then Ok n else Err BadNumber
+abbrev pub value_below : ℕ → Option ℕ → Result ℕ LineFault
+value_below limit None = Err BadNumber
+value_below limit (Some n) = if nat_lt n limit then Ok n else Err BadNumber
 
 -- a number below the limit
 unfoldable pub number_of : ℕ → List ℕ → Result ℕ LineFault
-number_of limit word = below limit (digits_of word)
+number_of limit word = value_below limit (digits_of word)
 
 -- the level, where there is one
 abbrev pub priority_at : Option ℕ → Result ℕ LineFault
@@ -44,10 +44,10 @@ is_within limit (pos n) = nat_lt n limit
 is_within limit (negsuc n) = nat_lt n limit
 
 -- the value, where it is within the limit
-abbrev pub within : ℕ → Option ℤ → Result ℤ LineFault
-within limit None = Err BadNumber
-within limit (Some z) = if is_within limit z then Ok z else Err BadNumber
+abbrev pub value_within : ℕ → Option ℤ → Result ℤ LineFault
+value_within limit None = Err BadNumber
+value_within limit (Some z) = if is_within limit z then Ok z else Err BadNumber
 
 -- a signed number within the limit
 unfoldable pub integer_of : ℕ → List ℕ → Result ℤ LineFault
-integer_of limit word = within limit (signed_of word)
+integer_of limit word = value_within limit (signed_of word)

@@ -30,10 +30,10 @@ abbrev pub is_cross : ℕ → Bool
 is_cross b = b == 120
 
 -- the bytes of a word whose first `x` is there
-abbrev pub parted : List ℕ → Option ℕ → Result (List ℕ) LineFault
-parted word None = plain_of word
-parted word (Some at) = repeated_of (take at word) (drop (at + 1) word)
+abbrev pub bytes_of_parts : List ℕ → Option ℕ → Result (List ℕ) LineFault
+bytes_of_parts word None = plain_of word
+bytes_of_parts word (Some at) = repeated_of (take at word) (drop (at + 1) word)
 
 -- a word with an `x` says how often a byte comes, any other says the bytes
 unfoldable pub bytes_of : List ℕ → Result (List ℕ) LineFault
-bytes_of word = parted word (position is_cross word)
+bytes_of word = bytes_of_parts word (position is_cross word)

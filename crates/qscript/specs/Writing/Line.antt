@@ -5,7 +5,7 @@ use Rattle.qtables.specs.declared.member.Member.{Member}
 use Rattle.qmodel.specs.declared.call.Call.{Call}
 use Rattle.qmodel.specs.declared.call.Call.TheVariants as calls
 use Rattle.qscript.specs.Printing.Buffer.{buffer_word}
-use Rattle.qscript.specs.Printing.Words.{spaced}
+use Rattle.qscript.specs.Printing.Words.{words_with_spaces}
 
 -- a call's name and its operands
 unfoldable pub call_words : Call → List (List ℕ)
@@ -29,8 +29,8 @@ call_words (calls.ConnectDetach coid) = codes "detach" ∷ decimal coid ∷ []
 
 -- the line of a call: its thread, its name and its operands
 abbrev pub call_line : ℕ → Call → List ℕ
-call_line thread call = decimal thread ++ spaced (call_words call)
+call_line thread call = decimal thread ++ words_with_spaces (call_words call)
 
 -- the line of a thread of the roster: its number, its process and its priority
 abbrev pub member_line : Member → List ℕ
-member_line m = codes "thread" ++ spaced (decimal m.thread ∷ decimal m.process ∷ decimal m.priority ∷ [])
+member_line m = codes "thread" ++ words_with_spaces (decimal m.thread ∷ decimal m.process ∷ decimal m.priority ∷ [])

@@ -3,7 +3,7 @@
 ghost use Rattle.std.specs.Prelude.{◌≡◌, ◌++◌, ◌∷◌, [], ◌<◌, OnOk, slice_index, string_bytes};
 ghost use Rattle.std.specs.Char.{encode_utf8};
 ghost use Rattle.hex.specs.Hex.{lower_digits, encode_lower};
-ghost use Rattle.qscript.specs.Printing.Words.{spaced};
+ghost use Rattle.qscript.specs.Printing.Words.{words_with_spaces};
 ghost use Rattle.qscript.specs.Printing.Buffer.{buffer_words};
 
 use std::alloc::AllocError;
@@ -31,7 +31,7 @@ fn push_digits(out: &mut String, bytes: &[u8]) -> Result<(), AllocError>
 
 /// The bytes in small hexadecimal digits, or `-` where there are none, with a space before them.
 pub fn push_buffer(out: &mut String, bytes: &[u8]) -> Result<(), AllocError>
-    ensures { OnOk result (string_bytes out.new ≡ string_bytes out.old ++ spaced (buffer_words bytes.now)) }
+    ensures { OnOk result (string_bytes out.new ≡ string_bytes out.old ++ words_with_spaces (buffer_words bytes.now)) }
 {
     if bytes.is_empty() {
         return write!(out, " -");

@@ -2,7 +2,7 @@
 
 ghost use Rattle.std.specs.Prelude.{◌≡◌, ◌++◌, OnOk, string_bytes};
 ghost use Rattle.std.specs.List.{flat_map};
-ghost use Rattle.qscript.specs.Printing.Words.{spaced};
+ghost use Rattle.qscript.specs.Printing.Words.{words_with_spaces};
 ghost use Rattle.qscript.specs.Printing.Printed.{shows_buffer, ended_words, ended_text};
 ghost use Rattle.qscript.specs.Printing.Printer.{shows_at};
 
@@ -50,7 +50,7 @@ fn is_shown(first: u64, shown: &[bool], number: u64) -> bool
 }
 
 fn push_ended_buffer(out: &mut String, ending: &Completion, shows: bool) -> Result<(), AllocError>
-    ensures { OnOk result (string_bytes out.new ≡ string_bytes out.old ++ spaced (ended_words ending.now shows)) }
+    ensures { OnOk result (string_bytes out.new ≡ string_bytes out.old ++ words_with_spaces (ended_words ending.now shows)) }
 {
     if shows {
         return push_buffer(out, ending.buffer.as_slice());

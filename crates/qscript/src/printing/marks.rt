@@ -3,7 +3,7 @@
 ghost use Rattle.std.specs.Prelude.{◌≡◌, [], ◌∷◌, ◌++◌, OnOk, codes, decimal, string_bytes};
 ghost use Rattle.std.specs.Fmt.{signed_decimal};
 ghost use Rattle.qbase.specs.Errno.{word_of};
-ghost use Rattle.qscript.specs.Printing.Words.{spaced};
+ghost use Rattle.qscript.specs.Printing.Words.{words_with_spaces};
 ghost use Rattle.qscript.specs.Printing.Marks.{info_words, brought_words, pulse_words, told_words, mark_words};
 
 use crate::printing::operands::{number, numbers};
@@ -17,7 +17,7 @@ use std::alloc::AllocError;
 /// The mark's words, each with a space before it.
 #[tactic(auto, unfolding(crate::specs::Printing::Marks::mark_words))]
 pub fn push_mark(out: &mut String, mark: Mark) -> Result<(), AllocError>
-    ensures { OnOk result (string_bytes out.new ≡ string_bytes out.old ++ spaced (mark_words mark)) }
+    ensures { OnOk result (string_bytes out.new ≡ string_bytes out.old ++ words_with_spaces (mark_words mark)) }
 {
     match mark {
         Mark::Ok => write!(out, " ok"),
@@ -40,7 +40,7 @@ pub fn push_mark(out: &mut String, mark: Mark) -> Result<(), AllocError>
 
 /// `fail ERROR`
 fn push_failed(out: &mut String, errno: Errno) -> Result<(), AllocError>
-    ensures { OnOk result (string_bytes out.new ≡ string_bytes out.old ++ spaced (codes "fail" ∷ word_of errno ∷ [])) }
+    ensures { OnOk result (string_bytes out.new ≡ string_bytes out.old ++ words_with_spaces (codes "fail" ∷ word_of errno ∷ [])) }
 {
     let word = word(errno);
     write!(out, " fail {word}")
@@ -48,21 +48,21 @@ fn push_failed(out: &mut String, errno: Errno) -> Result<(), AllocError>
 
 /// `reply STATUS COPIED`
 fn push_replied(out: &mut String, status: i64, copied: usize) -> Result<(), AllocError>
-    ensures { OnOk result (string_bytes out.new ≡ string_bytes out.old ++ spaced (codes "reply" ∷ signed_decimal status ∷ decimal copied ∷ [])) }
+    ensures { OnOk result (string_bytes out.new ≡ string_bytes out.old ++ words_with_spaces (codes "reply" ∷ signed_decimal status ∷ decimal copied ∷ [])) }
 {
     write!(out, " reply {status} {copied}")
 }
 
 /// `error CODE`
 fn push_errored(out: &mut String, code: i32) -> Result<(), AllocError>
-    ensures { OnOk result (string_bytes out.new ≡ string_bytes out.old ++ spaced (codes "error" ∷ signed_decimal code ∷ [])) }
+    ensures { OnOk result (string_bytes out.new ≡ string_bytes out.old ++ words_with_spaces (codes "error" ∷ signed_decimal code ∷ [])) }
 {
     write!(out, " error {code}")
 }
 
 /// `info PROCESS THREAD CONNECTION MSGLEN SRCMSGLEN DSTMSGLEN PRIORITY`
 fn push_info(out: &mut String, info: Info) -> Result<(), AllocError>
-    ensures { OnOk result (string_bytes out.new ≡ string_bytes out.old ++ spaced (info_words info)) }
+    ensures { OnOk result (string_bytes out.new ≡ string_bytes out.old ++ words_with_spaces (info_words info)) }
 {
     let process = info.process.0;
     let thread = info.thread.0;
@@ -79,7 +79,7 @@ fn push_info(out: &mut String, info: Info) -> Result<(), AllocError>
 
 /// `pulse ITEM PRIORITY` and what it brings.
 fn push_pulse(out: &mut String, item: u64, priority: Priority, what: What) -> Result<(), AllocError>
-    ensures { OnOk result (string_bytes out.new ≡ string_bytes out.old ++ spaced (pulse_words item priority what)) }
+    ensures { OnOk result (string_bytes out.new ≡ string_bytes out.old ++ words_with_spaces (pulse_words item priority what)) }
 {
     let level = priority.get();
     write!(out, " pulse {item} {level}")?;
@@ -89,7 +89,7 @@ fn push_pulse(out: &mut String, item: u64, priority: Priority, what: What) -> Re
 /// `user CODE VALUE`, `unblock RECEIVE_ID` or `disconnect PROCESS`. A message is none of these, and no
 /// pulse.
 fn push_brought(out: &mut String, what: What) -> Result<(), AllocError>
-    ensures { OnOk result (string_bytes out.new ≡ string_bytes out.old ++ spaced (brought_words what)) }
+    ensures { OnOk result (string_bytes out.new ≡ string_bytes out.old ++ words_with_spaces (brought_words what)) }
 {
     match what {
         What::Message => Ok(()),
@@ -101,7 +101,7 @@ fn push_brought(out: &mut String, what: What) -> Result<(), AllocError>
 
 /// `state ready PRIORITY`, or `state STATE CHANNEL PRIORITY` where STATE is `send`, `receive` or `reply`.
 fn push_told(out: &mut String, state: ThreadState, priority: Priority) -> Result<(), AllocError>
-    ensures { OnOk result (string_bytes out.new ≡ string_bytes out.old ++ spaced (told_words state priority)) }
+    ensures { OnOk result (string_bytes out.new ≡ string_bytes out.old ++ words_with_spaces (told_words state priority)) }
 {
     let level = priority.get();
     match state {

@@ -1,7 +1,7 @@
 //! A thread that is blocked when the run is over.
 
 ghost use Rattle.std.specs.Prelude.{◌≡◌, ◌++◌, OnOk, string_bytes};
-ghost use Rattle.qscript.specs.Printing.Words.{spaced};
+ghost use Rattle.qscript.specs.Printing.Words.{words_with_spaces};
 ghost use Rattle.qscript.specs.Printing.OpenLine.{open_text};
 ghost use Rattle.qscript.specs.Printing.State.{state_words};
 
@@ -11,7 +11,7 @@ use std::alloc::AllocError;
 
 /// The state's word and its channel, each with a space before it.
 fn push_state(out: &mut String, state: ThreadState) -> Result<(), AllocError>
-    ensures { OnOk result (string_bytes out.new ≡ string_bytes out.old ++ spaced (state_words state)) }
+    ensures { OnOk result (string_bytes out.new ≡ string_bytes out.old ++ words_with_spaces (state_words state)) }
 {
     match state {
         ThreadState::Ready => write!(out, " ready"),

@@ -2,7 +2,7 @@
 
 ghost use Rattle.std.specs.Prelude.{◌≡◌, ◌++◌, [], OnOk};
 ghost use Rattle.std.specs.List.{cons_option};
-ghost use Rattle.qscript.specs.Reading.Meaning.{of_line, member_in, call_in, is_in, placed, line_with, meaning, Means};
+ghost use Rattle.qscript.specs.Reading.Meaning.{of_line, member_in, call_in, is_in, line_after_roster, line_with, meaning, Means};
 ghost use Rattle.qscript.specs.Reading.Steps.{Gives};
 
 use crate::fault::{LineFault, ParseError, ScriptFault};
@@ -58,7 +58,7 @@ fn has_thread(roster: &[Member], thread: ThreadNo) -> bool
 
 /// A line after a roster.
 fn place(roster: &[Member], said: Line) -> Result<Line, LineFault>
-    ensures { result ≡ placed roster.now said }
+    ensures { result ≡ line_after_roster roster.now said }
 {
     match said {
         Line::Blank => Ok(Line::Blank),

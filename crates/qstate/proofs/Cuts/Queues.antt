@@ -7,7 +7,7 @@ use Rattle.std.proofs.lemmas.Option.{none-some}
 use Rattle.std.proofs.lemmas.List.Elements.{filter_agree}
 use Rattle.std.proofs.Math.Bool.{and-true}
 use Rattle.qqueue.specs.declared.item.Item.{Item}
-use Rattle.qqueue.specs.Best.{without}
+use Rattle.qqueue.specs.Best.{without_item}
 use Rattle.qtables.specs.Entries.{entry_at}
 use Rattle.qtables.specs.declared.connection.Connection.{Connection}
 use Rattle.qmodel.specs.declared.open_call.OpenCall.{OpenCall}
@@ -16,8 +16,8 @@ use Rattle.qmodel.specs.declared.open_call.Wait.TheVariants.{Answer, Item as For
 use Rattle.qmodel.specs.Facts.{is_for_receipt}
 use Rattle.qmodel.specs.Cutting.{is_to, is_on, is_unread_send}
 use Rattle.qstate.specs.declared.channel.Channel.{Channel}
-use Rattle.qstate.specs.Channels.{pending_in, waiting_on, SetsItems}
-use Rattle.qstate.specs.Cuts.{unread_on_by, taken_by, is_taken_from, Lose}
+use Rattle.qstate.specs.Channels.{pending_in, items_waiting_on, SetsItems}
+use Rattle.qstate.specs.Cuts.{unread_on_by, call_if_cut, is_taken_from, Lose}
 use Rattle.qbase.proofs.Lists.{eqb_either, filter_twice, filter_whole}
 
 -- without those of which one thing is so, and then without those of which another is
@@ -42,20 +42,20 @@ loses_gone goes channels h gone others = record {
   ids = refl;
   channel = λ k. refl;
   pending = λ k. elim (eqb h k) as (λ b. eqb h k ≡ b → pending_in channels k ≡ filter (λ item. not (goes k item.number)) (pending_in channels k)) [
-    | true ↦ λ e. let empty : pending_in channels k ≡ [] = ap waiting_on (ap (entry_at channels) (sym (eqb-true h k e)) ∙ gone) in
+    | true ↦ λ e. let empty : pending_in channels k ≡ [] = ap items_waiting_on (ap (entry_at channels) (sym (eqb-true h k e)) ∙ gone) in
         subst (λ (xs : List Item). xs ≡ filter (λ item. not (goes k item.number)) xs) (sym empty) refl
     | false ↦ λ e. sym (filter_whole (λ item. not (goes k item.number)) (pending_in channels k) (λ item. not_from_false _ (others k item.number e)))
   ] refl;
 }
 
 -- an item leaves channel h
-pub loses_one : (goes : ℕ → ℕ → Bool) (channels new : List (ℕ × Channel)) (h n : ℕ) → SetsItems h (without n (pending_in channels h)) channels new → ((k i : ℕ) → goes k i ≡ (eqb n i && eqb h k)) → Lose goes channels new
+pub loses_one : (goes : ℕ → ℕ → Bool) (channels new : List (ℕ × Channel)) (h n : ℕ) → SetsItems h (without_item n (pending_in channels h)) channels new → ((k i : ℕ) → goes k i ≡ (eqb n i && eqb h k)) → Lose goes channels new
 loses_one goes channels new h n sets so = record {
   ids = sets.ids;
   channel = sets.channel;
-  pending = λ k. sets.pending k ∙ (elim (eqb k h) as (λ b. eqb k h ≡ b → cond b (without n (pending_in channels h)) (pending_in channels k) ≡ filter (λ item. not (goes k item.number)) (pending_in channels k)) [
+  pending = λ k. sets.pending k ∙ (elim (eqb k h) as (λ b. eqb k h ≡ b → cond b (without_item n (pending_in channels h)) (pending_in channels k) ≡ filter (λ item. not (goes k item.number)) (pending_in channels k)) [
     | true ↦ λ e. let here : k ≡ h = eqb-true k h e in
-        ap (λ j. without n (pending_in channels j)) (sym here)
+        ap (λ j. without_item n (pending_in channels j)) (sym here)
         ∙ filter_agree (λ item. not (eqb item.number n)) (λ item. not (goes k item.number))
         (λ item. ap not (eqb_either item.number n ∙ sym (so k item.number ∙ rw (eqb_either h k ∙ e) (and-true (eqb n item.number))))) (pending_in channels k)
     | false ↦ λ e. sym (filter_whole (λ item. not (goes k item.number)) (pending_in channels k) (λ item. not_from_false _ (so k item.number ∙ and_right _ _ (eqb_either h k ∙ e))))
@@ -79,7 +79,7 @@ unread_so connection n (Answer coid message reply_buffer (Some receipt)) h i = a
 unread_so connection n (ForItem chid kind buffer) h i = and_left _ _ (and_right (eqb n i) false refl)
 
 -- a call that isn't cut takes nothing
-pub untaken : (connection : ℕ → Option Connection) (is_cut : Wait → Bool) (o : Option OpenCall) (h i : ℕ) → taken_by is_cut o ≡ None → is_taken_from connection is_cut o h i ≡ false
+pub untaken : (connection : ℕ → Option Connection) (is_cut : Wait → Bool) (o : Option OpenCall) (h i : ℕ) → call_if_cut is_cut o ≡ None → is_taken_from connection is_cut o h i ≡ false
 untaken connection is_cut None h i none = refl
 untaken connection is_cut (Some o) h i none =
     elim (is_cut o.wait) as (λ b. cond b (Some o) None ≡ None → (is_unread_send connection h i (Some o) && b) ≡ false) [

@@ -17,7 +17,7 @@ use Rattle.qstate.specs.declared.channel.Channel.{Channel}
 use Rattle.qstate.specs.declared.cutting.Cut.{Cut}
 use Rattle.qstate.specs.declared.thread.Thread.{Thread}
 use Rattle.qstate.specs.Channels.{ids_of, channel_in, pending_in}
-use Rattle.qstate.specs.Cuts.{is_cut_by, is_cut_open, is_taken_from, is_cut_among, ending_for, with_ending, left_by, Lose, LoseCut, AreCut}
+use Rattle.qstate.specs.Cuts.{is_cut_by, is_cut_open, is_taken_from, is_cut_among, ending_for, with_ending, thread_after_cut, Lose, LoseCut, AreCut}
 use Rattle.qstate.specs.Threads.{members_of, open_in, level_in}
 use Rattle.qbase.proofs.Lists.{filter_whole}
 use Rattle.qstate.proofs.Cuts.Queues.{filter_after}
@@ -57,25 +57,25 @@ some_cut is_cut e u None = refl
 some_cut is_cut e u (Some o) = elim (is_cut o.wait) as (λ b. is_some (cond b (Some (cut_call e u o)) None) ≡ b) [ true ↦ refl | false ↦ refl ]
 
 module _ (connection : ℕ → Option Connection) (cut : Cut) (e : Errno) where
-  left_members : (threads : List Thread) → members_of (map (left_by connection cut) threads) ≡ members_of threads
+  left_members : (threads : List Thread) → members_of (map (thread_after_cut connection cut) threads) ≡ members_of threads
   left_members [] = refl
   left_members (t ∷ threads) = ap (λ ms. t.member ∷ ms) (left_members threads)
 
-  left_level : (threads : List Thread) (v : ℕ) → level_in (map (left_by connection cut) threads) v ≡ level_in threads v
+  left_level : (threads : List Thread) (v : ℕ) → level_in (map (thread_after_cut connection cut) threads) v ≡ level_in threads v
   left_level [] v = refl
   left_level (t ∷ threads) v = ap (cond (eqb t.member.thread v) t.priority) (left_level threads v)
 
-  left_calls : (threads : List Thread) (v : ℕ) → open_in (map (left_by connection cut) threads) v ≡ cond (is_some (cut_where (is_cut_by connection cut v) e v (open_in threads v))) None (open_in threads v)
+  left_calls : (threads : List Thread) (v : ℕ) → open_in (map (thread_after_cut connection cut) threads) v ≡ cond (is_some (cut_where (is_cut_by connection cut v) e v (open_in threads v))) None (open_in threads v)
   left_calls [] v = refl
   left_calls (t ∷ threads) v =
-      elim (eqb t.member.thread v) as (λ b. eqb t.member.thread v ≡ b → cond b (cond (is_cut_open (is_cut_by connection cut t.member.thread) t.open_call) None t.open_call) (open_in (map (left_by connection cut) threads) v)
+      elim (eqb t.member.thread v) as (λ b. eqb t.member.thread v ≡ b → cond b (cond (is_cut_open (is_cut_by connection cut t.member.thread) t.open_call) None t.open_call) (open_in (map (thread_after_cut connection cut) threads) v)
       ≡ cond (is_some (cut_where (is_cut_by connection cut v) e v (cond b t.open_call (open_in threads v)))) None (cond b t.open_call (open_in threads v))) [
         | true ↦ λ same. ap (λ b. cond b None t.open_call) (ap (λ u. is_cut_open (is_cut_by connection cut u) t.open_call) (eqb-true _ _ same) ∙ sym (some_cut (is_cut_by connection cut v) e v t.open_call))
         | false ↦ λ other. left_calls threads v
       ] refl
 
 -- the threads once all are passed
-pub are_cut : (connection : ℕ → Option Connection) (cut : Cut) (e : Errno) (threads : List Thread) → AreCut connection cut e threads (map (left_by connection cut) threads)
+pub are_cut : (connection : ℕ → Option Connection) (cut : Cut) (e : Errno) (threads : List Thread) → AreCut connection cut e threads (map (thread_after_cut connection cut) threads)
 are_cut connection cut e threads = record {
   members = left_members connection cut e threads;
   open_call = left_calls connection cut e threads;
@@ -193,7 +193,7 @@ module _ (connection : ℕ → Option Connection) (cut : Cut) (e : Errno) (own :
   -- ---- by places
 
   abbrev pub passed : Thread → Thread
-  passed = left_by connection cut
+  passed = thread_after_cut connection cut
 
   pub passed_on : (all items : List Thread) (i : ℕ) (d y : Thread) → items ≡ swept passed i all → i < length all → y ≡ passed (get_or items i d) → set items i y ≡ swept passed (i + 1) all
   passed_on all items i d y is l now =

@@ -7,7 +7,7 @@ use Rattle.qqueue.specs.declared.item.Item.{Item}
 use Rattle.qqueue.specs.declared.item.Kind.{Kind}
 use Rattle.qmodel.specs.Delivering.{meets, receiver}
 use Rattle.qmodel.specs.Facts.{Facts}
-use Rattle.qmodel.specs.Rows.{taking}
+use Rattle.qmodel.specs.Rows.{receipt_ending}
 use Rattle.qmodel.specs.declared.call.Completion.{Completion}
 use Rattle.qmodel.specs.declared.open_call.OpenCall.{OpenCall}
 use Rattle.qmodel.specs.declared.open_call.Wait.{Wait}
@@ -26,7 +26,7 @@ pub record Meets (f : Facts) (o : Option ℕ) (item : Item) (message : List ℕ)
   pub is_open : f.open_call u ≡ Some waiting
   pub waits : waiting.wait ≡ ForItem channel kind buffer
   pub may : may_take kind item ≡ true
-  pub ending : taking item message u waiting.number buffer ≡ y
+  pub ending : receipt_ending item message u waiting.number buffer ≡ y
 
 -- the buffer that a thread waits with, whatever it waits for
 abbrev awaited : Wait → List ℕ
@@ -55,5 +55,5 @@ delivery_meets f o item message u y e =
       is_open = w.2.is_open;
       waits = w.2.waits;
       may = w.2.may;
-      ending = subst (λ b. taking item message u w.2.waiting.number b ≡ y) (ap awaited wait) (subst (λ (v : OpenCall). taking item message u v.number p.0.buffer ≡ y) same p.1);
+      ending = subst (λ b. receipt_ending item message u w.2.waiting.number b ≡ y) (ap awaited wait) (subst (λ (v : OpenCall). receipt_ending item message u v.number p.0.buffer ≡ y) same p.1);
     }

@@ -1,6 +1,6 @@
 use Rattle.std.proofs.Common.{◌≡◌, take, map}
-use Rattle.qstate.specs.Threads.{ready}
+use Rattle.qstate.specs.Threads.{ready_thread}
 use Rattle.qstate.proofs.thread.threads_for.Given as goal
 
 abbrev pub invariant-loop-member : goal.invariant-loop-member
-invariant-loop-member l = l.threads.items ≡ map ready (take l.member-index l.members)
+invariant-loop-member l = l.threads.items ≡ map ready_thread (take l.member-index l.members)

@@ -3,7 +3,7 @@ use Rattle.std.proofs.lemmas.Result.{err_from_is_err_and}
 use Rattle.std.specs.Prelude.{None, Some, is_some}
 use Rattle.qmodel.specs.Rows.{disconnect_item}
 use Rattle.qkernel.proofs.Steps.Common.{up_to_below}
-use Rattle.qstate.specs.Endings.{inserted_if}
+use Rattle.qstate.specs.Endings.{with_ending_if}
 use Rattle.qmodel.specs.declared.call.Call.TheVariants.{ConnectDetach}
 use Rattle.qkernel.proofs.Steps.ConnectDetach.{detach_full, detach_memory, due_is, new_pulse, own_parts, room_for_one, sound_detached, step_detach_refused, step_detached}
 use Rattle.qkernel.proofs.Steps.Telling.{sound_due, sound_turned_away, step_turned_away}
@@ -51,7 +51,7 @@ returns c =
     let there = c.remove.ensures.value ∙ of.is in
     let fewer = rw there at c.remove.ensures.fewer in
     rw (← c.self.view_is, may.counted, c.remove.ensures.after) (step_detached _ c.args.turn.now.thread c.args.coid _ may.caller.known may.up may.free c.in-Some.chid of d due may.sound _ _ c.in_ok-met.met told _ _ c.cut_calls.ensures.threads c.cut_calls.ensures.channels
-    _ (rw c.remove.ensures.after at fewer) (c.end_also.ensures ∙ ap (inserted_if c.in_ok-met.met) (rw c.ending.ensures at c.cut_calls.ensures.endings)))
+    _ (rw c.remove.ensures.after at fewer) (c.end_also.ensures ∙ ap (with_ending_if c.in_ok-met.met) (rw c.ending.ensures at c.cut_calls.ensures.endings)))
 
 pub returns-in_err-met : goal.returns-in_err-met
 returns-in_err-met c =

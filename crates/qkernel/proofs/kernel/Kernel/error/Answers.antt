@@ -2,8 +2,8 @@ use Rattle.std.proofs.Common.{refl, sym, ap, ◌∙◌, w32}
 use Rattle.std.proofs.lemmas.Result.{err_from_is_err_and}
 use Rattle.std.proofs.lemmas.Int.{to_z-of_z}
 use Rattle.qmodel.specs.declared.call.Call.TheVariants.{Error}
-use Rattle.qmodel.specs.Calls.Error.{errored}
-use Rattle.qmodel.specs.Held.{finished}
+use Rattle.qmodel.specs.Calls.Error.{error_finish}
+use Rattle.qmodel.specs.Held.{answer_ending}
 use Rattle.qkernel.proofs.Steps.Held.{finished_there, step_unheld}
 use Rattle.qkernel.proofs.Steps.Error.{step_errored}
 use Rattle.qkernel.proofs.Steps.Delivering.{sound_threads}
@@ -19,7 +19,7 @@ returns-in_err-held c =
 pub unreachable-requires : goal.unreachable-requires
 unreachable-requires c =
     let is_sender = rw c.rcvid.view_is at c.take_sent-client.ensures.thread in
-    finished_there _ c.args.rcvid c.take_sent-client.result.0 (errored c.args.code) c.take_sent-client.result.1 is_sender c.take_sent-client.ensures.had
+    finished_there _ c.args.rcvid c.take_sent-client.result.0 (error_finish c.args.code) c.take_sent-client.result.1 is_sender c.take_sent-client.ensures.had
     (rw (to_z-of_z w32 c.args.code c.ranges.code) at (sym c.errored_to.ensures ∙ c.in_default.is))
 
 pub invariant_of-self : goal.invariant_of-self
@@ -32,6 +32,6 @@ returns c =
     let may = rw (← c.self.view_is) at c.requires in
     let held = rw (← c.self.view_is) at c.in_ok-held.ensures.held in
     let is_sender = rw c.rcvid.view_is at c.take_sent-client.ensures.thread in
-    let ended = ap (finished (errored c.args.code) c.take_sent-client.result.0) (sym c.take_sent-client.ensures.had) ∙ rw (to_z-of_z w32 c.args.code c.ranges.code) at (sym c.errored_to.ensures ∙ c.in-Some.is) in
+    let ended = ap (answer_ending (error_finish c.args.code) c.take_sent-client.result.0) (sym c.take_sent-client.ensures.had) ∙ rw (to_z-of_z w32 c.args.code c.ranges.code) at (sym c.errored_to.ensures ∙ c.in-Some.is) in
     rw (← c.self.view_is, may.counted) (step_errored _ c.args.turn.now.thread _ c.args.rcvid may.sound may.caller.known c.args.code c.take_sent-client.result.0 c.in-Some.ended may.up may.free held is_sender ended _ _
     c.take_sent-client.ensures.after (c.end_both.ensures))

@@ -1,6 +1,6 @@
 use Rattle.std.proofs.Common.{◌≡◌, ◌≢◌, ap, sym, ◌∙◌, subst}
 use Rattle.std.specs.List.{AllByRecursion}
-use Rattle.qqueue.specs.Best.{requeued}
+use Rattle.qqueue.specs.Best.{with_item_priority}
 use Rattle.qqueue.specs.Rings.{places_of, items_at, pulses_of}
 use Rattle.qqueue.proofs.PlaceLaws.{all_of_items, without_other, requeued_put, pulses_requeued}
 use Rattle.qqueue.proofs.lists.Lists.requeue.Goals as goal
@@ -12,7 +12,7 @@ insert-requires-clause-apart c =
     (subst (AllByRecursion (λ x. x.number ≢ number)) (sym c.take_out-item.ensures.rest) (without_other number (items_at (places_of c.args.self.now.nodes))))
 
 -- the item that is put back is the one that was taken out, of another priority
-requeued_items : (c : goal.After-self-1) → items_at (places_of c.insert.new.self.nodes) ≡ requeued c.take_out-item.result.number c.args.priority (items_at (places_of c.args.self.now.nodes))
+requeued_items : (c : goal.After-self-1) → items_at (places_of c.insert.new.self.nodes) ≡ with_item_priority c.take_out-item.result.number c.args.priority (items_at (places_of c.args.self.now.nodes))
 requeued_items c =
     let x = c.take_out-item.result in
     let left = places_of c.take_out-item.new.self.nodes in
@@ -20,7 +20,7 @@ requeued_items c =
     (subst (AllByRecursion (λ y. y.number ≢ x.number)) (sym c.take_out-item.ensures.rest) (without_other x.number (items_at (places_of c.args.self.now.nodes)))) in
     ap items_at c.insert.ensures.places.1
     ∙ requeued_put x c.args.key c.insert.ensures.places.0 c.args.priority left others
-    ∙ ap (λ places. requeued x.number c.args.priority (items_at places)) (sym c.take_out-item.ensures.places)
+    ∙ ap (λ places. with_item_priority x.number c.args.priority (items_at places)) (sym c.take_out-item.ensures.places)
 
 pub returns-clause-items : goal.returns-clause-items
 returns-clause-items c = rw c.take_out-item.ensures.item (requeued_items c)

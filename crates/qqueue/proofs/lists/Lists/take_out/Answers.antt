@@ -2,7 +2,7 @@ use Rattle.std.proofs.Common.{◌≡◌, ℕ, ◌+◌, ◌<◌, true, false, con
 use Rattle.slab.specs.Slab.{slab_len}
 use Rattle.qqueue.specs.declared.item.Item.{Item}
 use Rattle.qqueue.specs.declared.lists.Lists.{Lists}
-use Rattle.qqueue.specs.Best.{is_pulse, without}
+use Rattle.qqueue.specs.Best.{is_pulse, without_item}
 use Rattle.qqueue.specs.Kept.{first_at, IsKept}
 use Rattle.qqueue.specs.Rings.{put_place, places_of, items_at, pulses_of}
 use Rattle.qqueue.proofs.LaneLaws.{pulse_others, message_others}
@@ -48,7 +48,7 @@ close_up-requires-else-is_pulse-clause-after_there c among =
 record Left (old : Lists) (key : ℕ) (item : Item) (new : Lists) : Type 0 where
   kept : IsKept new
   places : places_of old.nodes ≡ put_place (item, key) (places_of new.nodes)
-  rest : items_at (places_of new.nodes) ≡ without item.number (items_at (places_of old.nodes))
+  rest : items_at (places_of new.nodes) ≡ without_item item.number (items_at (places_of old.nodes))
   counts : pulses_of (items_at (places_of old.nodes)) ≡ pulses_of (items_at (places_of new.nodes)) + cond (is_pulse item.what) 1 0
 
 left : (c : goal.After-result-1) → Left c.args.self.now c.args.key c.remove-node.result.item c.if-is_pulse.self

@@ -2,7 +2,7 @@ use Rattle.std.proofs.Common.{◌≡◌, ◌≢◌, ap, sym, ◌∙◌}
 use Rattle.std.specs.Prelude.{is_some}
 use Rattle.std.specs.List.{AllByRecursion}
 use Rattle.qbase.proofs.Lists.{some_of}
-use Rattle.qqueue.specs.Best.{numbered, requeued}
+use Rattle.qqueue.specs.Best.{item_of_number, with_item_priority}
 use Rattle.qqueue.specs.Rings.{places_of, items_at, item_of}
 use Rattle.qqueue.proofs.PlaceLaws.{all_places, numbered_in, numbered_nowhere, requeued_none}
 use Rattle.qqueue.proofs.KeptLaws.{placed}
@@ -14,12 +14,12 @@ nowhere c =
 
 pub returns-in-None-clause-found : goal.returns-in-None-clause-found
 returns-in-None-clause-found c =
-    ap is_some (sym (numbered_nowhere c.args.number (places_of c.self.inside.lists.nodes) (nowhere c)).0 ∙ ap (λ q. numbered c.args.number q.items) c.self.view_is)
+    ap is_some (sym (numbered_nowhere c.args.number (places_of c.self.inside.lists.nodes) (nowhere c)).0 ∙ ap (λ q. item_of_number c.args.number q.items) c.self.view_is)
 
 pub returns-in-None-clause-items : goal.returns-in-None-clause-items
 returns-in-None-clause-items c =
     ap (λ q. q.items) (sym c.self.view_is) ∙ sym (requeued_none c.args.number c.args.priority (places_of c.self.inside.lists.nodes) (nowhere c))
-    ∙ ap (λ q. requeued c.args.number c.args.priority q.items) c.self.view_is
+    ∙ ap (λ q. with_item_priority c.args.number c.args.priority q.items) c.self.view_is
 
 pub returns-in-Some-clause-found : goal.returns-in-Some-clause-found
 returns-in-Some-clause-found c =
@@ -27,6 +27,6 @@ returns-in-Some-clause-found c =
     let key = c.in-Some.key in
     let there = some_of (item_of nodes key) c.in-Some.ensures.there in
     let number : there.0.number ≡ c.args.number = rw there.1 at c.in-Some.ensures.found in
-    ap is_some (sym (ap (λ q. numbered c.args.number q.items) (sym c.self.view_is)
-    ∙ ap (λ n. numbered n (items_at (places_of nodes))) (sym number)
+    ap is_some (sym (ap (λ q. item_of_number c.args.number q.items) (sym c.self.view_is)
+    ∙ ap (λ n. item_of_number n (items_at (places_of nodes))) (sym number)
     ∙ numbered_in (there.0, key) (places_of nodes) c.self.invariant.0.rises (placed nodes key there.0 there.1)))

@@ -1,7 +1,7 @@
 use Rattle.std.proofs.Common.{◌≤◌, ◌∷◌, ◌++◌, length, ap, ◌∙◌, sym, arith, length-append}
 use Rattle.qscript.specs.Reading.Lines.{lines_of, without_return}
 use Rattle.qscript.specs.Reading.Meaning.{of_lines}
-use Rattle.qscript.specs.Reading.Laws.{renumbered}
+use Rattle.qscript.specs.Reading.Laws.{meaning_one_line_later}
 use Rattle.qscript.proofs.Texts.Joins.{lines_between, whole_lines}
 use Rattle.qscript.proofs.Texts.Passing.{lines_past}
 use Rattle.qscript.proofs.Texts.Progress.{not_long}
@@ -13,5 +13,5 @@ returns c = λ front line back whole one passed fits.
     not_long (front ++ line ++ 10 ∷ back) fits
     ∙ ap of_lines (lines_between front line back whole one)
     ∙ lines_past (lines_of front) (lines_of back) (without_return line) passed
-    ∙ ap (λ ls. renumbered (length (lines_of front)) (of_lines ls)) (sym (whole_lines front back whole))
-    ∙ ap (renumbered (length (lines_of front))) (sym (not_long (front ++ back) shorter))
+    ∙ ap (λ ls. meaning_one_line_later (length (lines_of front)) (of_lines ls)) (sym (whole_lines front back whole))
+    ∙ ap (meaning_one_line_later (length (lines_of front))) (sym (not_long (front ++ back) shorter))

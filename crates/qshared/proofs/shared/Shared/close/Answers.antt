@@ -7,7 +7,7 @@ use Rattle.qmodel.proofs.Rosters.{rises}
 use Rattle.qhandoff.specs.Words.{cells_id, count, took, left_for, AreBelow, IsRow}
 use Rattle.qmodel.specs.Laws.{RiseByThread}
 use Rattle.qshared.specs.Asking.{calls_of}
-use Rattle.qshared.specs.Due.{due, of_thread, place}
+use Rattle.qshared.specs.Due.{endings_due, of_thread, place}
 use Rattle.qshared.proofs.Leftover.{few_left, left_by_thread, left_due}
 use Rattle.qshared.proofs.Lists.{map_both, names_of}
 use Rattle.qshared.proofs.Places.{place_below}
@@ -51,7 +51,7 @@ returns-clause-rises g c =
     let ts = threads_of g.K.Tie.roster in
     let long : count c.args.self.cells ≡ length ts = ap (λ y. y.slots) c.args.self.cells_are ∙ sym h.sized ∙ sym (length-map g.K.Tie.roster (λ m. m.thread)) in
     let below : AreBelow (length ts) c.close-left.result.items = subst (λ n. AreBelow n c.close-left.result.items) long c.close-left.ensures.within in
-    let told : (t i : ℕ) → place ts t ≡ Some i → took (get_elem? (map (λ p. p.seat) c.args.ports.items) i) ++ left_for i c.close-left.result.items ≡ due (g.L.Log.past c.traced.inside.log) t =
+    let told : (t i : ℕ) → place ts t ≡ Some i → took (get_elem? (map (λ p. p.seat) c.args.ports.items) i) ++ left_for i c.close-left.result.items ≡ endings_due (g.L.Log.past c.traced.inside.log) t =
     λ t i at. ap (λ ss. took (get_elem? ss i) ++ left_for i c.close-left.result.items) (sym c.gather.ensures.seats) ∙ c.close-left.ensures.told i (subst (λ n. i < n) (sym long) (place_below ts t i at)) ∙ (h.told.tied t i at).0 in
     subst RiseByThread (sym c.without_places.ensures) (left_by_thread ts (g.L.Log.past c.traced.inside.log) c.close-left.result.items (rises g.K.Tie.roster h.rises) c.close-left.ensures.rises below (λ i. took (get_elem? (map (λ p. p.seat) c.args.ports.items) i)) told)
 
@@ -61,7 +61,7 @@ returns-clause-due g c =
     let ts = threads_of g.K.Tie.roster in
     let long : count c.args.self.cells ≡ length ts = ap (λ y. y.slots) c.args.self.cells_are ∙ sym h.sized ∙ sym (length-map g.K.Tie.roster (λ m. m.thread)) in
     let below : AreBelow (length ts) c.close-left.result.items = subst (λ n. AreBelow n c.close-left.result.items) long c.close-left.ensures.within in
-    let told : (t i : ℕ) → place ts t ≡ Some i → took (get_elem? (map (λ p. p.seat) c.args.ports.items) i) ++ left_for i c.close-left.result.items ≡ due (g.L.Log.past c.traced.inside.log) t =
+    let told : (t i : ℕ) → place ts t ≡ Some i → took (get_elem? (map (λ p. p.seat) c.args.ports.items) i) ++ left_for i c.close-left.result.items ≡ endings_due (g.L.Log.past c.traced.inside.log) t =
     λ t i at. ap (λ ss. took (get_elem? ss i) ++ left_for i c.close-left.result.items) (sym c.gather.ensures.seats) ∙ c.close-left.ensures.told i (subst (λ n. i < n) (sym long) (place_below ts t i at)) ∙ (h.told.tied t i at).0 in
-    subst (λ left. (t i : ℕ) → place ts t ≡ Some i → took (get_elem? (map (λ p. p.seat) c.args.ports.items) i) ++ of_thread t left ≡ due (g.L.Log.past c.traced.inside.log) t) (sym c.without_places.ensures)
+    subst (λ left. (t i : ℕ) → place ts t ≡ Some i → took (get_elem? (map (λ p. p.seat) c.args.ports.items) i) ++ of_thread t left ≡ endings_due (g.L.Log.past c.traced.inside.log) t) (sym c.without_places.ensures)
     (left_due ts (g.L.Log.past c.traced.inside.log) c.close-left.result.items (rises g.K.Tie.roster h.rises) c.close-left.ensures.rises below (λ i. took (get_elem? (map (λ p. p.seat) c.args.ports.items) i)) told)
