@@ -1,4 +1,5 @@
 pub mod Laying
+pub mod Parts
 pub mod Ways
 pub mod Past
 pub mod Calls

@@ -5,9 +5,11 @@ use Rattle.std.proofs.lemmas.Bool.{and_parts}
 use Rattle.std.proofs.lemmas.Option.{none-some, cond_some}
 use Rattle.qbase.specs.declared.errno.Errno.TheVariants.{Badf}
 use Rattle.qtables.specs.declared.connection.Connection.{Connection}
+use Rattle.qmodel.proofs.Parts.{refusal_on}
 use Rattle.qmodel.specs.Calls.Pulse as pulse
 use Rattle.qmodel.specs.Calls.Send as send
-use Rattle.qmodel.specs.Facts.{Facts, leads_to, way, is_of_process}
+use Rattle.qmodel.specs.Facts.{Facts, way, is_of_process}
+use Rattle.qmodel.proofs.Parts.{leads_to}
 
 -- there is a connection, it is to channel h, and that is open
 pub record Leads (f : Facts) (o : Option Connection) (h : ℕ) : Type 0 where
@@ -32,7 +34,7 @@ has_way f t coid r =
 
 pub pulse_way : (f : Facts) (t coid : ℕ) (code : ℤ) → pulse.refusal f t coid code ≡ None → (h : ℕ) × (way f t coid ≡ Some h)
 pulse_way f t coid code r =
-    elim (way f t coid) as (λ o. pulse.refusal_on f code o ≡ None → (h : ℕ) × (o ≡ Some h)) [
+    elim (way f t coid) as (λ o. refusal_on f code o ≡ None → (h : ℕ) × (o ≡ Some h)) [
       | None ↦ λ e. absurd (none-some Badf (sym e))
       | Some h ↦ λ e. (h, refl)
     ] r

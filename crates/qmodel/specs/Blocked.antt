@@ -1,5 +1,6 @@
 -- Who is blocked, in which state and on which channel.
-use Rattle.std.specs.Prelude.{List, Option, None, Some}
+use Rattle.std.specs.Option.{option_map}
+use Rattle.std.specs.Prelude.{List, Option}
 use Rattle.std.specs.List.{filter_map}
 use Rattle.qtables.specs.declared.connection.Connection.{Connection}
 use Rattle.qtables.specs.declared.member.Member.{Member}
@@ -13,8 +14,7 @@ use Rattle.qmodel.specs.Trace.{Trace}
 
 -- what is told of a thread, if it has an open call
 abbrev pub blocked_thread : (ConnectionId → Option Connection) → ThreadNo → Option OpenCall → Option Blocked
-blocked_thread connection u None = None
-blocked_thread connection u (Some o) = Some (record { number = o.number; thread = u; state = state_of connection o.wait })
+blocked_thread connection u call = option_map (λ o. record { number = o.number; thread = u; state = state_of connection o.wait }) call
 
 -- the threads that are blocked, in rising number
 abbrev pub blocked_threads_in : Facts → List Blocked

@@ -1,5 +1,6 @@
 -- Cutting: calls that are blocked are ended by force.
-use Rattle.std.specs.Prelude.{ℕ, ◌==◌, ◌&&◌, Bool, false, List, Option, None, Some, if◌then◌else◌}
+use Rattle.std.specs.Option.{option_and_then, option_map_or}
+use Rattle.std.specs.Prelude.{ℕ, ◌==◌, Bool, false, List, Option, None, Some, if◌then◌else◌}
 use Rattle.qbase.specs.declared.errno.Errno.{Errno}
 use Rattle.qtables.specs.declared.connection.Connection.{Connection}
 use Rattle.qmodel.specs.declared.call.Completion.{Completion}
@@ -7,8 +8,8 @@ use Rattle.qmodel.specs.declared.call.Mark.TheVariants as mark
 use Rattle.qmodel.specs.declared.open_call.OpenCall.{OpenCall}
 use Rattle.qmodel.specs.declared.open_call.Wait.{Wait}
 use Rattle.qmodel.specs.declared.open_call.Wait.TheVariants.{Answer, Item as ForItem}
-use Rattle.qmodel.specs.Ids.{ChannelId, ConnectionId, ReceiveId, ThreadNo}
-use Rattle.qmodel.specs.Facts.{Facts, is_for_receipt}
+use Rattle.qmodel.specs.Ids.{ChannelId, ConnectionId, ThreadNo}
+use Rattle.qmodel.specs.Facts.{Facts}
 
 -- the buffer that a wait gives back
 abbrev pub buffer_of_wait : Wait → List ℕ
@@ -17,8 +18,7 @@ buffer_of_wait (ForItem chid kind buffer) = buffer
 
 -- the connection leads to channel h
 abbrev pub is_to : ChannelId → Option Connection → Bool
-is_to h None = false
-is_to h (Some c) = c.channel == h
+is_to h connection = option_map_or (λ c. c.channel == h) connection false
 
 -- the wait is on channel h: a Send's on the channel of its connection, a receive's on the channel that it names
 abbrev pub is_on : (ConnectionId → Option Connection) → ChannelId → Wait → Bool
@@ -30,19 +30,13 @@ abbrev pub is_over : ConnectionId → Wait → Bool
 is_over k (Answer coid message reply_buffer receipt) = coid == k
 is_over k (ForItem chid kind buffer) = false
 
--- the open call is the Send of number i, blocked on channel h, and not received
-abbrev pub is_unread_send : (ConnectionId → Option Connection) → ChannelId → ReceiveId → Option OpenCall → Bool
-is_unread_send connection h i None = false
-is_unread_send connection h i (Some o) = (o.number == i) && is_for_receipt o.wait && is_on connection h o.wait
-
 -- how thread u's open call ends that is cut: it fails, and gives its buffer back as it is by now
 abbrev pub cut_call : Errno → ThreadNo → OpenCall → Completion
 cut_call e u o = record { call = o.number; thread = u; mark = mark.Failed e; buffer = buffer_of_wait o.wait }
 
 -- the same of thread u's open call, if it has one and this is so of what it waits for
 abbrev pub cut_where : (Wait → Bool) → Errno → ThreadNo → Option OpenCall → Option Completion
-cut_where is_cut e u None = None
-cut_where is_cut e u (Some o) = if is_cut o.wait then Some (cut_call e u o) else None
+cut_where is_cut e u call = option_and_then (λ o. if is_cut o.wait then Some (cut_call e u o) else None) call
 
 -- each open call is cut of which this is so, by its thread and what it waits for
 abbrev pub cuts : Facts → (ThreadNo → Wait → Bool) → Errno → ThreadNo → Option Completion

@@ -1,5 +1,5 @@
 -- Delivering: an item that is sent goes to the receiver that began to wait last, or to the channel's pending items.
-use Rattle.std.specs.Prelude.{ℕ, ◌==◌, not, is_some, Bool, List, Option, None, Some, if◌then◌else◌}
+use Rattle.std.specs.Prelude.{ℕ, ◌==◌, not, is_some, Bool, List, Option, None, if◌then◌else◌}
 use Rattle.std.specs.Option.{option_and_then}
 use Rattle.qqueue.specs.declared.item.Item.{Item}
 use Rattle.qmodel.specs.declared.call.Completion.{Completion}
@@ -10,8 +10,7 @@ use Rattle.qmodel.specs.Rows.{Received, takes, receipt_in}
 
 -- the receiver on the channel that takes the item at once
 abbrev pub receiver : Facts → Item → Option ChannelId → Option ThreadNo
-receiver f item None = None
-receiver f item (Some h) = newest_receiver f h item
+receiver f item channel = option_and_then (λ h. newest_receiver f h item) channel
 
 -- no receiver takes the item at once, so it wants memory to wait in
 abbrev pub wants_room : Facts → Item → Option ChannelId → Bool
@@ -23,10 +22,9 @@ receipt_by f item message r = takes item message r (f.open_call r)
 
 -- the receiver's call ends, and no other
 abbrev pub meets : Facts → Item → List ℕ → Option ThreadNo → ThreadNo → Option Completion
-meets f item message None u = None
-meets f item message (Some r) u = if u == r then receipt_by f item message u else None
+meets f item message receiver u = option_and_then (λ r. if u == r then receipt_by f item message u else None) receiver
 
 -- the same as a receipt of what was sent to channel h; a message has a sender that waits for its answer
 abbrev pub receipt_when_sent : Facts → Option ThreadNo → Item → List ℕ → Option ChannelId → Option ThreadNo → Option Received
-receipt_when_sent f sender item message None r = None
-receipt_when_sent f sender item message (Some h) r = receipt_in h sender item.priority (option_and_then (receipt_by f item message) r)
+receipt_when_sent f sender item message channel receiver =
+    option_and_then (λ h. receipt_in h sender item.priority (option_and_then (receipt_by f item message) receiver)) channel

@@ -13,11 +13,11 @@ pub record Reading : Type 0 where
   pub offset : ℕ
   pub buffer : List ℕ
 
--- what a call waits for where it doesn't end in its own event, and the buffer that it brings; the flags of the channel that it creates, the channel that it
--- destroys, the channel that it attaches a connection to, and the connection that it detaches; the item that it makes for a thread, by what was so before it,
--- the connection over which it sends, and the message that it sends; the channel that it receives on and what it may take; the message that it answers, and
--- the status and the bytes of a reply; what it reads and writes; the priority that it sets, and the thread that it is to unblock; and whether it shuts the
--- kernel down
+-- what a call waits for where it doesn't end in its own event, and the buffer that it brings; the flags of the channel that it creates,
+-- the channel that it destroys, the channel that it attaches a connection to, and the connection that it detaches; the item that it makes
+-- for a thread, by what was so before it, the connection over which it sends, and the message that it sends; the channel that it receives
+-- on and what it may take; the message that it answers, and the status and the bytes of a reply; what it reads and writes; the priority
+-- that it sets, and the thread that it is to unblock; and whether it shuts the kernel down
 pub record Effect : Type 0 where
   pub waits : Option Wait
   pub buffer : Option (List ℕ)

@@ -1,6 +1,6 @@
 -- What each call does to the past.
-use Rattle.std.specs.Prelude.{ℕ, ℤ, Bool, List, [], Option, None, Some, unwrap_or}
-use Rattle.std.specs.Option.{option_map}
+use Rattle.std.specs.Prelude.{ℕ, ℤ, Bool, List, [], Option, unwrap_or}
+use Rattle.std.specs.Option.{option_map, option_and_then}
 use Rattle.qqueue.specs.declared.item.Kind.{Kind}
 use Rattle.qtables.specs.declared.connection.Connection.{Connection}
 use Rattle.qtables.specs.declared.member.Member.{Member}
@@ -63,8 +63,8 @@ buffer_of c = unwrap_or (effect_of c).buffer []
 
 -- the channel that a call creates: of its thread's process, with the flags that it names
 abbrev pub creates : Option Member → Call → Option OpenChannel
-creates None c = None
-creates (Some m) c = option_map (λ flags. record { owner = m.process; flags = flags }) (effect_of c).creates
+creates member c =
+    option_and_then (λ m. option_map (λ flags. record { owner = m.process; flags = flags }) (effect_of c).creates) member
 
 -- the channel that a call destroys
 abbrev pub closes : Call → Option ChannelId
@@ -72,8 +72,8 @@ closes c = (effect_of c).closes
 
 -- the connection that a call attaches: of its thread's process, to the channel that it names
 abbrev pub attaches : Option Member → Call → Option Connection
-attaches None c = None
-attaches (Some m) c = option_map (λ h. record { process = m.process; channel = h }) (effect_of c).attaches
+attaches member c =
+    option_and_then (λ m. option_map (λ h. record { process = m.process; channel = h }) (effect_of c).attaches) member
 
 -- the connection that a call detaches
 abbrev pub detaches : Call → Option ConnectionId

@@ -1,38 +1,26 @@
 -- Messages that are held: received and not yet answered.
 use Rattle.std.specs.Prelude.{ℕ, ◌==◌, Bool, false, List, [], Option, None, Some, if◌then◌else◌}
-use Rattle.std.specs.Option.{option_and_then}
+use Rattle.std.specs.Option.{option_and_then, option_map_or}
 use Rattle.qbase.specs.declared.errno.Errno.{Errno}
 use Rattle.qbase.specs.declared.errno.Errno.TheVariants.{Srch}
-use Rattle.qtables.specs.declared.connection.Connection.{Connection}
 use Rattle.qmodel.specs.declared.call.Completion.{Completion}
 use Rattle.qmodel.specs.declared.call.Mark.{Mark}
 use Rattle.qmodel.specs.declared.open_call.OpenCall.{OpenCall}
 use Rattle.qmodel.specs.declared.open_call.Wait.{Wait}
 use Rattle.qmodel.specs.declared.open_call.Wait.TheVariants.{Answer, Item as ForItem}
 use Rattle.qmodel.specs.Ids.{CallNo, ReceiveId, ThreadNo}
-use Rattle.qmodel.specs.Facts.{Facts, owns, sender}
+use Rattle.qmodel.specs.Facts.{Facts, owns, sender, open_send}
 
 -- ---- who may work on a message
 
--- the channel of a connection is of the thread's process
-abbrev pub owns_end : Facts → ThreadNo → Option Connection → Bool
-owns_end f t None = false
-owns_end f t (Some c) = owns f t c.channel
-
 -- a message that is held, on a channel of the thread's process
 abbrev pub is_held_by : Facts → ThreadNo → Wait → Bool
-is_held_by f t (Answer coid message reply_buffer (Some receipt)) = owns_end f t (f.connection coid)
-is_held_by f t (Answer coid message reply_buffer None) = false
-is_held_by f t (ForItem chid kind buffer) = false
-
--- the same of a thread's open call, if it has one
-abbrev pub is_held_for : Facts → ThreadNo → Option OpenCall → Bool
-is_held_for f t None = false
-is_held_for f t (Some o) = is_held_by f t o.wait
+is_held_by f t (Answer coid message reply_buffer (Some receipt)) = option_map_or (λ c. owns f t c.channel) (f.connection coid) false
+is_held_by f t wait = false
 
 -- no such message is held, or its channel is another process's
 abbrev pub refusal : Facts → ThreadNo → ReceiveId → Option Errno
-refusal f t rcvid = if is_held_for f t (option_and_then f.open_call (sender f rcvid)) then None else Some Srch
+refusal f t rcvid = if option_map_or (λ o. is_held_by f t o.wait) (open_send f rcvid) false then None else Some Srch
 
 -- ---- answering
 
@@ -48,13 +36,11 @@ answer_ending_of_wait finish u m (ForItem chid kind buffer) = None
 
 -- the same of a thread's open call, if it has one
 abbrev pub answer_ending : Finish → ThreadNo → Option OpenCall → Option Completion
-answer_ending finish u None = None
-answer_ending finish u (Some o) = answer_ending_of_wait finish u o.number o.wait
+answer_ending finish u call = option_and_then (λ o. answer_ending_of_wait finish u o.number o.wait) call
 
 -- the sender's call ends, and no other
 abbrev pub ends_sender : Facts → Finish → Option ThreadNo → ThreadNo → Option Completion
-ends_sender f finish None u = None
-ends_sender f finish (Some s) u = if u == s then answer_ending finish u (f.open_call u) else None
+ends_sender f finish sender u = option_and_then (λ s. if u == s then answer_ending finish u (f.open_call u) else None) sender
 
 -- ---- what is kept of a message
 
@@ -65,9 +51,8 @@ reply_buffer_of (ForItem chid kind buffer) = []
 
 -- the reply buffer of a Send that is open
 abbrev pub reply_buffer_in : Option OpenCall → List ℕ
-reply_buffer_in None = []
-reply_buffer_in (Some o) = reply_buffer_of o.wait
+reply_buffer_in call = option_map_or (λ o. reply_buffer_of o.wait) call []
 
 -- the reply buffer of the message that was sent as number i
 abbrev pub reply_buffer : Facts → ReceiveId → List ℕ
-reply_buffer f i = reply_buffer_in (option_and_then f.open_call (sender f i))
+reply_buffer f i = reply_buffer_in (open_send f i)

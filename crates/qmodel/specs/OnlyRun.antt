@@ -19,4 +19,6 @@ HadMemory events = AllByRecursion (λ e. AllByRecursion (λ x. x.mark ≡ mark.F
 
 -- if these events had memory, then no others with the same calls that had it are lawful after the same past
 abbrev pub IsOnlyRun : List Member → Trace → List Event → Type 0
-IsOnlyRun roster past events = HadMemory events → (others : List Event) → map event_call others ≡ map event_call events → IsLawful roster (followed_by past others) → HadMemory others → others ≡ events
+IsOnlyRun roster past events =
+    HadMemory events → (others : List Event) → map event_call others ≡ map event_call events
+    → IsLawful roster (followed_by past others) → HadMemory others → others ≡ events

@@ -1,7 +1,7 @@
 -- What is searched for in the list of all past calls. The newest event stands first.
 use Rattle.std.specs.Prelude.{ℕ, ◌+◌, ◌==◌, ◌&&◌, ◌||◌, not, Bool, true, false, is_some, List, [], ◌∷◌, ◌++◌, length, map, filter, Option, None, Some, if◌then◌else◌, option_and_then, unwrap_or}
 use Rattle.std.specs.List.{list_any}
-use Rattle.std.specs.Option.{option_map, option_to_list, option_or}
+use Rattle.std.specs.Option.{option_map, option_map_or, option_to_list, option_or}
 use Rattle.qqueue.specs.Best.{is_pulse, with_priority}
 use Rattle.qqueue.specs.declared.item.Item.{Item}
 use Rattle.qqueue.specs.declared.item.What.{What}
@@ -16,7 +16,7 @@ use Rattle.qmodel.specs.declared.call.Mark.TheVariants as mark
 use Rattle.qmodel.specs.declared.open_call.OpenCall.{OpenCall}
 use Rattle.qmodel.specs.declared.open_call.Receipt.{Receipt}
 use Rattle.qmodel.specs.declared.open_call.Wait.{Wait}
-use Rattle.qmodel.specs.declared.open_call.Wait.TheVariants.{Answer, Item as ForItem}
+use Rattle.qmodel.specs.declared.open_call.Wait.TheVariants.{Answer}
 use Rattle.qmodel.specs.Ids.{CallNo, ChannelId, ConnectionId, Level, ReceiveId, ThreadNo}
 use Rattle.qmodel.specs.Trace.{Event, Trace}
 use Rattle.qmodel.specs.Facts.{Facts, OpenChannel, count_to, is_fixed}
@@ -28,16 +28,7 @@ use Rattle.qmodel.specs.Effects.{asks, attaches, closes, creates, detaches, make
 -- the mark is a failure
 abbrev pub is_failure : Mark → Bool
 is_failure (mark.Failed errno) = true
-is_failure mark.Ok = false
-is_failure (mark.Channel chid) = false
-is_failure (mark.Connection coid) = false
-is_failure (mark.Replied status copied) = false
-is_failure (mark.Message rcvid copied) = false
-is_failure (mark.Errored code) = false
-is_failure (mark.Count copied) = false
-is_failure (mark.Info info) = false
-is_failure (mark.Pulse item priority what) = false
-is_failure (mark.State state priority) = false
+is_failure other = false
 
 -- these endings refuse call n: one is of n itself, and a failure
 abbrev pub refuses : List Completion → CallNo → Bool
@@ -112,8 +103,7 @@ first_among tell (x ∷ endings) = option_or (tell x) (first_among tell endings)
 
 -- the priority of a member, 0 where there is none
 abbrev pub priority_in : Option Member → Level
-priority_in None = 0
-priority_in (Some m) = m.priority
+priority_in member = option_map_or (λ m. m.priority) member 0
 
 -- of these items the one of number i
 abbrev pub made_among : List Made → CallNo → Option Made
@@ -122,15 +112,13 @@ made_among (m ∷ made) i = if m.item.number == i then Some m else made_among ma
 
 -- the priority of an item, 0 where there is none
 abbrev pub priority_of_made : Option Made → Level
-priority_of_made None = 0
-priority_of_made (Some m) = m.item.priority
+priority_of_made made = option_map_or (λ m. m.item.priority) made 0
 
 -- ---- receipts
 
 -- the receipt that an ending is of item i: how many bytes it copied
 abbrev pub copied_count_in : CallNo → Option (CallNo × ℕ) → Option ℕ
-copied_count_in i None = None
-copied_count_in i (Some r) = if r.0 == i then Some r.1 else None
+copied_count_in i item = option_and_then (λ r. if r.0 == i then Some r.1 else None) item
 
 -- the receipt of item i among these endings
 abbrev pub copied_count_among : List Completion → CallNo → Option ℕ
@@ -167,11 +155,14 @@ priority_set_by e past t = if is_accepted e past then priority_set_for (sets e.c
 -- the priority that was set last for thread t since message i was sent and before it was received
 abbrev pub priority_set_since : Trace → ReceiveId → ThreadNo → Option Level
 priority_set_since [] i t = None
-priority_set_since (e ∷ past) i t = if i == length past + 1 then None else option_or (if is_taken past i then None else priority_set_by e past t) (priority_set_since past i t)
+priority_set_since (e ∷ past) i t =
+    if i == length past + 1 then None else option_or (if is_taken past i then None else priority_set_by e past t) (priority_set_since past i t)
 
 -- the priority of an item by now: a message has what was set last for its thread while it was pending, and else, as each pulse, what it was made with
 abbrev pub worth : Trace → Item → Level
-worth past item = if is_pulse item.what then item.priority else unwrap_or (option_and_then (priority_set_since past item.number) (sender_of past item.number)) item.priority
+worth past item =
+    if is_pulse item.what then item.priority
+    else unwrap_or (option_and_then (priority_set_since past item.number) (sender_of past item.number)) item.priority
 
 -- these items as they are by now
 abbrev pub items_by_now : Trace → List Made → List Made
@@ -188,7 +179,7 @@ newest_block (e ∷ past) t =
 -- a wait for an answer with what is kept of the message's receipt
 abbrev pub wait_with_receipt : Receipt → Wait → Wait
 wait_with_receipt receipt (Answer coid message reply_buffer before) = Answer coid message reply_buffer (Some receipt)
-wait_with_receipt receipt (ForItem chid kind buffer) = ForItem chid kind buffer
+wait_with_receipt receipt wait = wait
 
 -- a reply buffer of message i with the data of each accepted Write to it, in order
 abbrev pub with_writes : Trace → ReceiveId → List ℕ → List ℕ
@@ -197,24 +188,21 @@ with_writes (e ∷ past) i b = if is_accepted e past then buffer_after_write (wr
 
 -- a call with its reply buffer as it is by now
 abbrev pub call_by_now : Trace → OpenCall → OpenCall
-call_by_now past o = record { number = o.number; wait = with_buffer (with_writes past o.number) o.wait }
+call_by_now past o = record o { wait = with_buffer (with_writes past o.number) o.wait }
 
 -- a call, unless it is ended
 abbrev pub unless_ended : Trace → Option OpenCall → Option OpenCall
-unless_ended past None = None
-unless_ended past (Some o) = if is_ended past o.number then None else Some o
+unless_ended past call = option_and_then (λ o. if is_ended past o.number then None else Some o) call
 
 -- a call with what is kept of its message's receipt, where there was one
 abbrev pub with_receipt : Level → Bool → Option ℕ → OpenCall → OpenCall
-with_receipt priority unblocked None o = o
-with_receipt priority unblocked (Some copied) o = record { number = o.number; wait = wait_with_receipt (record { priority = priority; copied = copied; unblocked = unblocked }) o.wait }
+with_receipt priority unblocked copied o =
+    option_map_or (λ n. record o { wait = wait_with_receipt (record { priority = priority; copied = n; unblocked = unblocked }) o.wait }) copied o
 
 -- the item is an unblock pulse for message i
 abbrev pub is_unblock_for : ReceiveId → What → Bool
-is_unblock_for i what.Message = false
-is_unblock_for i (what.User code value) = false
 is_unblock_for i (what.Unblock rcvid) = rcvid == i
-is_unblock_for i (what.Disconnect process) = false
+is_unblock_for i other = false
 
 -- one of these items is an unblock pulse for message i
 abbrev pub unblocked_among : List Made → ReceiveId → Bool
@@ -223,7 +211,9 @@ unblocked_among made i = list_any (λ m. is_unblock_for i m.item.what) made
 -- the open call of thread t, of all items as they are by now
 abbrev pub open_call_by : Trace → List Made → ThreadNo → Option OpenCall
 open_call_by past made t =
-    option_map (λ o. with_receipt (priority_of_made (made_among made o.number)) (unblocked_among made o.number) (copied_count_of past o.number) (call_by_now past o)) (unless_ended past (newest_block past t))
+    option_map
+    (λ o. with_receipt (priority_of_made (made_among made o.number)) (unblocked_among made o.number) (copied_count_of past o.number) (call_by_now past o))
+    (unless_ended past (newest_block past t))
 
 -- ---- all that a row may read
 
@@ -255,26 +245,30 @@ item_by f e past = if is_accepted e past then makes f e.thread e.call else None
 
 -- the priority that a receiver of the item takes: the item's, unless its channel leaves priorities as they are
 abbrev pub carried_priority : (ChannelId → Option OpenChannel) → Option Made → Option Level
-carried_priority channel None = None
-carried_priority channel (Some m) = if is_fixed (channel m.channel) then None else Some m.item.priority
+carried_priority channel made = option_and_then (λ m. if is_fixed (channel m.channel) then None else Some m.item.priority) made
 
 -- the priority that an ending gives thread t, where each item that is received carries one or none
 abbrev pub priority_from_ending : (CallNo → Option Level) → ThreadNo → Completion → Option Level
 priority_from_ending priority t x = if x.thread == t then option_and_then (λ r. priority r.0) (item_in_mark x.mark) else None
 
--- the priority that event e gives thread t, of all that was made by then: an accepted PrioritySet sets it, or the thread receives an item, as that was before the event
+-- the priority that event e gives thread t, of all that was made by then: an accepted PrioritySet sets it, or the thread receives an item,
+-- as that was before the event
 abbrev pub priority_from_event : List Member → Event → Trace → List Made → ThreadNo → Option Level
 priority_from_event roster e past made t =
-    option_or (priority_set_by e past t) (first_among (priority_from_ending (λ i. carried_priority (channel_at roster past) (made_among (items_by_now past made) i)) t) e.endings)
+    option_or (priority_set_by e past t)
+    (first_among (priority_from_ending (λ i. carried_priority (channel_at roster past) (made_among (items_by_now past made) i)) t) e.endings)
 
 -- what is known after event e, by when these items were made: a thread's priority is what the event gave it, or else what it was
 abbrev pub knowledge_after : List Member → Event → Trace → Knowledge → List Made → Knowledge
-knowledge_after roster e past k made = record { made = made; priority = λ t. unwrap_or (priority_from_event roster e past made t) (k.priority t) }
+knowledge_after roster e past k made =
+    record { made = made; priority = λ t. unwrap_or (priority_from_event roster e past made t) (k.priority t) }
 
 -- what is known of a past: each accepted event may make an item, and a thread begins with the priority that the roster gives it
 abbrev pub knowledge_of : List Member → Trace → Knowledge
 knowledge_of roster [] = record { made = []; priority = λ t. priority_in (member_at roster t) }
-knowledge_of roster (e ∷ past) = knowledge_after roster e past (knowledge_of roster past) ((knowledge_of roster past).made ++ option_to_list (item_by (facts_by roster past (knowledge_of roster past)) e past))
+knowledge_of roster (e ∷ past) =
+    knowledge_after roster e past (knowledge_of roster past)
+    ((knowledge_of roster past).made ++ option_to_list (item_by (facts_by roster past (knowledge_of roster past)) e past))
 
 -- all items made so far, each as it was made, in rising number
 abbrev pub items : List Member → Trace → List Made
@@ -288,8 +282,7 @@ priority_of_thread roster past t = (knowledge_of roster past).priority t
 
 -- the item that is made, where it is of channel h
 abbrev pub made_on : ChannelId → Option Made → List Item
-made_on h None = []
-made_on h (Some m) = if m.channel == h then m.item ∷ [] else []
+made_on h made = option_map_or (λ m. if m.channel == h then m.item ∷ [] else []) made []
 
 -- the item that an event makes
 abbrev pub item_of : List Member → Event → Trace → Option Made

@@ -1,5 +1,6 @@
 -- Receiving: what Receive and ReceivePulse share.
-use Rattle.std.specs.Prelude.{ℕ, false, List, Option, None, Some, if◌then◌else◌}
+use Rattle.std.specs.Option.{option_and_then, option_map}
+use Rattle.std.specs.Prelude.{ℕ, List, Option, None, Some, if◌then◌else◌}
 use Rattle.qbase.specs.declared.errno.Errno.{Errno}
 use Rattle.qbase.specs.declared.errno.Errno.TheVariants.{Srch}
 use Rattle.qqueue.specs.Best.{best_of, is_pulse}
@@ -11,7 +12,7 @@ use Rattle.qmodel.specs.declared.call.Call.TheVariants.{Receive, ReceivePulse}
 use Rattle.qmodel.specs.declared.call.Completion.{Completion}
 use Rattle.qmodel.specs.Ids.{ChannelId, ThreadNo}
 use Rattle.qmodel.specs.Facts.{Facts, owns, sender, message}
-use Rattle.qmodel.specs.Rows.{Row, Received, ends_none, receipt_ending, receipt_in}
+use Rattle.qmodel.specs.Rows.{Row, Received, receipt_ending, receipt_in, empty_row}
 
 -- a channel that isn't open, or isn't of the thread's process
 abbrev pub refusal : Facts → ThreadNo → ChannelId → Option Errno
@@ -19,8 +20,7 @@ refusal f t chid = if owns f t chid then None else Some Srch
 
 -- how the call ends that takes the item into its buffer
 abbrev pub own_receipt : Facts → ThreadNo → List ℕ → Option Item → Option Completion
-own_receipt f t buffer None = None
-own_receipt f t buffer (Some item) = Some (receipt_ending item (message f item.number) t f.number buffer)
+own_receipt f t buffer item = option_map (λ i. receipt_ending i (message f i.number) t f.number buffer) item
 
 -- the thread that waits for the answer to an item: there is one only of a message
 abbrev pub sender_for : Facts → Item → Option ThreadNo
@@ -28,16 +28,13 @@ sender_for f item = if is_pulse item.what then None else sender f item.number
 
 -- the same as a receipt of what was sent
 abbrev pub receipt_when_taken : Facts → ChannelId → Option Completion → Option Item → Option Received
-receipt_when_taken f h y None = None
-receipt_when_taken f h y (Some item) = receipt_in h (sender_for f item) item.priority y
+receipt_when_taken f h ending item = option_and_then (λ i. receipt_in h (sender_for f i) i.priority ending) item
 
 -- the best item that the kind may take; with none the call is blocked until one comes
 abbrev pub receive_row : Facts → ThreadNo → ChannelId → Kind → List ℕ → Row
-receive_row f t chid kind buffer = record {
+receive_row f t chid kind buffer = record empty_row {
   refusal = refusal f t chid;
-  takes_memory = false;
   own = own_receipt f t buffer (best_of kind (f.pending chid));
-  ends = ends_none;
   receipt = receipt_when_taken f chid (own_receipt f t buffer (best_of kind (f.pending chid))) (best_of kind (f.pending chid));
 }
 

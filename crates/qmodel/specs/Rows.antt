@@ -1,5 +1,6 @@
 -- What a row of the table of calls says, and what the rows share.
-use Rattle.std.specs.Prelude.{ℕ, ℤ, ◌==◌, Bool, false, List, Option, None, Some, if◌then◌else◌}
+use Rattle.std.specs.Option.{option_and_then, option_map, option_map_or}
+use Rattle.std.specs.Prelude.{ℕ, ℤ, ◌==◌, Bool, false, List, Option, None, Some, if◌then◌else◌, []}
 use Rattle.qbase.specs.Laying.{laid_count, lay_over}
 use Rattle.qbase.specs.declared.errno.Errno.{Errno}
 use Rattle.qqueue.specs.declared.item.Item.{Item}
@@ -39,16 +40,23 @@ pub record Row : Type 0 where
   pub ends : ThreadNo → Option Completion
   pub receipt : Option Received
 
--- no other thread's call ends
-abbrev pub ends_none : ThreadNo → Option Completion
-ends_none u = None
+-- how a call ends with this mark and no buffer
+abbrev pub ends_with : CallNo → ThreadNo → Mark → Completion
+ends_with n t mark = record { call = n; thread = t; mark = mark; buffer = [] }
+
+-- a row of which nothing is refused, that takes no memory, and that ends and receives nothing
+abbrev pub empty_row : Row
+empty_row = record { refusal = None; takes_memory = false; own = None; ends = λ u. None; receipt = None }
+
+-- the row of a call that may be refused so, and else ends in its own event with this mark and no buffer
+abbrev pub plain_row : CallNo → ThreadNo → Option Errno → Mark → Row
+plain_row n t refusal mark = record empty_row { refusal = refusal; own = Some (ends_with n t mark) }
 
 -- ---- items
 
 -- the item that is sent over a connection, to its channel
 abbrev pub item_sent_over : Option Connection → Item → Option Made
-item_sent_over None item = None
-item_sent_over (Some c) item = Some (record { item = item; channel = c.channel })
+item_sent_over connection item = option_map (λ c. record { item = item; channel = c.channel }) connection
 
 -- a message of this number and priority
 abbrev pub message_item : CallNo → Level → Item
@@ -83,22 +91,19 @@ pub record Setting : Type 0 where
 
 -- the priority that is set for thread u
 abbrev pub priority_set_for : Option Setting → ThreadNo → Option Level
-priority_set_for None u = None
-priority_set_for (Some s) u = if s.thread == u then Some s.priority else None
+priority_set_for setting u = option_and_then (λ s. if s.thread == u then Some s.priority else None) setting
 
 -- ---- closing
 
 -- this is the one
 abbrev pub names : Option ℕ → ℕ → Bool
-names None h = false
-names (Some k) h = k == h
+names number h = option_map_or (λ k. k == h) number false
 
 -- ---- buffers
 
 -- the reply buffer of message i with what is written over it
 abbrev pub buffer_after_write : Option Written → ReceiveId → List ℕ → List ℕ
-buffer_after_write None i b = b
-buffer_after_write (Some w) i b = if w.message == i then lay_over b w.offset w.bytes else b
+buffer_after_write written i b = option_map_or (λ w. if w.message == i then lay_over b w.offset w.bytes else b) written b
 
 -- a wait with its reply buffer changed
 abbrev pub with_buffer : (List ℕ → List ℕ) → Wait → Wait
@@ -115,7 +120,8 @@ delivery_of item message buffer =
 
 -- the ending of call m of thread u that takes the item so
 abbrev pub receipt_ending : Item → List ℕ → ThreadNo → CallNo → List ℕ → Completion
-receipt_ending item message u m buffer = record { call = m; thread = u; mark = (delivery_of item message buffer).0; buffer = (delivery_of item message buffer).1 }
+receipt_ending item message u m buffer =
+    record { call = m; thread = u; mark = (delivery_of item message buffer).0; buffer = (delivery_of item message buffer).1 }
 
 -- how the open call of number m ends, of thread u, that takes the item into what it waits with
 abbrev pub takes_into : Item → List ℕ → ThreadNo → CallNo → Wait → Option Completion
@@ -124,29 +130,21 @@ takes_into item message u m (ForItem chid kind buffer) = Some (receipt_ending it
 
 -- how the open call of thread u ends that takes the item
 abbrev pub takes : Item → List ℕ → ThreadNo → Option OpenCall → Option Completion
-takes item message u None = None
-takes item message u (Some o) = takes_into item message u o.number o.wait
+takes item message u call = option_and_then (λ o. takes_into item message u o.number o.wait) call
 
 -- the number of the item that an ending receives, and how many bytes were copied, none of a pulse
 abbrev pub item_in_mark : Mark → Option (CallNo × ℕ)
 item_in_mark (mark.Message rcvid copied) = Some (rcvid, copied)
-item_in_mark mark.Ok = None
-item_in_mark (mark.Failed errno) = None
-item_in_mark (mark.Channel chid) = None
-item_in_mark (mark.Connection coid) = None
-item_in_mark (mark.Replied status copied) = None
-item_in_mark (mark.Errored code) = None
-item_in_mark (mark.Count copied) = None
-item_in_mark (mark.Info info) = None
 item_in_mark (mark.Pulse item priority what) = Some (item, 0)
-item_in_mark (mark.State state priority) = None
-
--- the receipt that thread u makes of an item of this channel, sender and priority
-abbrev pub receipt_at : ChannelId → Option ThreadNo → Level → ThreadNo → Option (CallNo × ℕ) → Option Received
-receipt_at h sender priority u None = None
-receipt_at h sender priority u (Some r) = Some (record { item = r.0; channel = h; by = u; sender = sender; kept = record { priority = priority; copied = r.1; unblocked = false } })
+item_in_mark other = None
 
 -- the receipt that an ending is, of an item of this channel, sender and priority
 abbrev pub receipt_in : ChannelId → Option ThreadNo → Level → Option Completion → Option Received
-receipt_in h sender priority None = None
-receipt_in h sender priority (Some y) = receipt_at h sender priority y.thread (item_in_mark y.mark)
+receipt_in h sender priority ending =
+    option_and_then (λ y. option_map (λ r. record {
+      item = r.0;
+      channel = h;
+      by = y.thread;
+      sender = sender;
+      kept = record { priority = priority; copied = r.1; unblocked = false };
+    }) (item_in_mark y.mark)) ending

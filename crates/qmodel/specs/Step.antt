@@ -1,7 +1,7 @@
 -- One call by its facts: what they are after it.
 use Rattle.std.specs.Prelude.{◌≡◌, ℕ, ◌+◌, ◌==◌, ◌&&◌, ◌||◌, not, filter, Bool, true, false, is_some, List, [], ◌++◌, map, Option, None, Some, if◌then◌else◌, unwrap_or}
 use Rattle.std.specs.List.{list_any}
-use Rattle.std.specs.Option.{option_map, option_or}
+use Rattle.std.specs.Option.{option_map, option_or, option_map_or}
 use Rattle.qbase.specs.Laying.{lay_over}
 use Rattle.qqueue.specs.Best.{with_priority, without_item}
 use Rattle.qqueue.specs.declared.item.Item.{Item}
@@ -11,10 +11,10 @@ use Rattle.qmodel.specs.declared.call.Call.{Call}
 use Rattle.qmodel.specs.declared.open_call.OpenCall.{OpenCall}
 use Rattle.qmodel.specs.declared.open_call.Receipt.{Receipt}
 use Rattle.qmodel.specs.declared.open_call.Wait.{Wait}
-use Rattle.qmodel.specs.declared.open_call.Wait.TheVariants.{Answer, Item as ForItem}
+use Rattle.qmodel.specs.declared.open_call.Wait.TheVariants.{Answer}
 use Rattle.qmodel.specs.Ids.{ChannelId, ConnectionId, Level, ReceiveId, ThreadNo}
-use Rattle.qmodel.specs.Cutting.{is_unread_send}
-use Rattle.qmodel.specs.Facts.{Facts, OpenChannel, sender, is_fixed, threads_of}
+use Rattle.qmodel.specs.Cutting.{is_on}
+use Rattle.qmodel.specs.Facts.{Facts, OpenChannel, sender, is_fixed, threads_of, is_for_receipt}
 use Rattle.qmodel.specs.Effects.{asks, attaches, closes, creates, detaches, makes, sets, shuts_down, unblocks, writes}
 use Rattle.qmodel.specs.Rows.{Made, Received, Row, Setting, Written, names, with_buffer, priority_set_for}
 use Rattle.qmodel.specs.Answer.{row_of}
@@ -40,7 +40,7 @@ connection_after f t c k = if names (detaches c) k then None else put_at (attach
 
 -- an open call whose message is received
 abbrev pub held_call : Receipt → OpenCall → OpenCall
-held_call kept o = record { number = o.number; wait = wait_with_receipt kept o.wait }
+held_call kept o = record o { wait = wait_with_receipt kept o.wait }
 
 -- this thread
 abbrev pub is_thread : Option ThreadNo → ThreadNo → Bool
@@ -54,7 +54,7 @@ after_receipt (Some r) u o = if is_thread r.sender u then option_map (held_call 
 
 -- an open call whose reply buffer is written over
 abbrev pub written_call : ℕ → List ℕ → OpenCall → OpenCall
-written_call offset bytes o = record { number = o.number; wait = with_buffer (λ b. lay_over b offset bytes) o.wait }
+written_call offset bytes o = record o { wait = with_buffer (λ b. lay_over b offset bytes) o.wait }
 
 -- what thread u waits for after a write
 abbrev pub after_write : Facts → Option Written → ThreadNo → Option OpenCall → Option OpenCall
@@ -63,14 +63,12 @@ after_write f (Some w) u o = if is_thread (sender f w.message) u then option_map
 
 -- a wait for whose message an unblock pulse is made
 abbrev pub unblocked_wait : Wait → Wait
-unblocked_wait (Answer coid message reply_buffer None) = Answer coid message reply_buffer None
-unblocked_wait (Answer coid message reply_buffer (Some receipt)) =
-    Answer coid message reply_buffer (Some (record { priority = receipt.priority; copied = receipt.copied; unblocked = true }))
-unblocked_wait (ForItem chid kind buffer) = ForItem chid kind buffer
+unblocked_wait (Answer coid message reply_buffer (Some receipt)) = Answer coid message reply_buffer (Some (record receipt { unblocked = true }))
+unblocked_wait wait = wait
 
 -- an open call for whose message an unblock pulse is made
 abbrev pub unblocked_call : OpenCall → OpenCall
-unblocked_call o = record { number = o.number; wait = unblocked_wait o.wait }
+unblocked_call o = record o { wait = unblocked_wait o.wait }
 
 -- what thread u waits for after the call that is to unblock a thread made this item
 abbrev pub after_unblock : Option Made → Option ThreadNo → ThreadNo → Option OpenCall → Option OpenCall
@@ -97,6 +95,10 @@ other_call_after f t c row u = unless (is_some (row.ends u)) (call_left_by f t c
 abbrev pub open_call_after : Facts → ThreadNo → Call → ThreadNo → Option OpenCall
 open_call_after f t c u = if u == t then own_call_after f c (row_of f t c) u else other_call_after f t c (row_of f t c) u
 
+-- the open call is the Send of number i, blocked on channel h, and not received
+abbrev pub is_unread_send : (ConnectionId → Option Connection) → ChannelId → ReceiveId → Option OpenCall → Bool
+is_unread_send connection h i call = option_map_or (λ o. (o.number == i) && is_for_receipt o.wait && is_on connection h o.wait) call false
+
 -- the items of channel h but the one that was received from it
 abbrev pub unreceived_items : Option Received → ChannelId → List Item → List Item
 unreceived_items None h items = items
@@ -113,13 +115,15 @@ uncut_items f t c h items = filter (λ item. not (is_cut f t c h item.number)) i
 -- the items of channel h, where the message of the thread that the priority is set for has it, if it waits there
 abbrev pub items_with_priority_set : Facts → ChannelId → Option Setting → List Item → List Item
 items_with_priority_set f h None items = items
-items_with_priority_set f h (Some s) items = map (λ item. if is_unread_send f.connection h item.number (f.open_call s.thread) then with_priority s.priority item else item) items
+items_with_priority_set f h (Some s) items =
+    map (λ item. if is_unread_send f.connection h item.number (f.open_call s.thread) then with_priority s.priority item else item) items
 
 -- nothing is left of a channel that is destroyed; to any other the item joins that the call makes, a message goes whose Send ends, the
 -- one that is received goes, and a message has the priority that is set for its thread
 abbrev pub pending_after : Facts → ThreadNo → Call → ChannelId → List Item
 pending_after f t c h =
-    if names (closes c) h then [] else items_with_priority_set f h (sets c) (unreceived_items (row_of f t c).receipt h (uncut_items f t c h (f.pending h ++ made_on h (makes f t c))))
+    if names (closes c) h then []
+    else items_with_priority_set f h (sets c) (unreceived_items (row_of f t c).receipt h (uncut_items f t c h (f.pending h ++ made_on h (makes f t c))))
 
 -- the priority that thread u takes by a receipt: the item's, unless its channel leaves priorities as they are
 abbrev pub priority_taken : Facts → Option Received → ThreadNo → Option Level

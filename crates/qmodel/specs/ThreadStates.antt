@@ -21,5 +21,4 @@ state_of connection (ForItem chid kind buffer) = ReceiveBlocked chid
 
 -- a thread without an open call is ready
 abbrev pub state_in : (ConnectionId → Option Connection) → Option OpenCall → ThreadState
-state_in connection None = Ready
-state_in connection (Some o) = state_of connection o.wait
+state_in connection call = option_map_or (λ o. state_of connection o.wait) call Ready

@@ -13,8 +13,8 @@ use Rattle.qmodel.specs.declared.open_call.OpenCall.{OpenCall}
 use Rattle.qmodel.specs.declared.open_call.Wait.{Wait}
 use Rattle.qmodel.specs.declared.open_call.Wait.TheVariants.{Answer, Item as ForItem}
 use Rattle.qstate.specs.declared.thread.Thread.{Thread}
-use Rattle.qmodel.specs.Facts.{threads_of}
-use Rattle.qmodel.specs.Receivers.{first_where, is_after, wait_on}
+use Rattle.qmodel.specs.Facts.{threads_of, first_where}
+use Rattle.qmodel.specs.Receivers.{is_after, wait_on}
 use Rattle.qmodel.specs.Rows.{takes, takes_into}
 use Rattle.qmodel.proofs.Properties.Receivers.{after_less, any_after, newest_parts}
 use Rattle.qstate.specs.Threads.{later_of_two, members_of, newest_in, open_in}

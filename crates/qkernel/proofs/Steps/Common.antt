@@ -24,7 +24,8 @@ use Rattle.qmodel.proofs.Past.Ends.{row_passes}
 use Rattle.qmodel.proofs.Past.Laws.{is_forceful}
 use Rattle.qmodel.proofs.Past.RowLaws.{row_laws}
 use Rattle.qstate.specs.Channels.{channel_in, pending_in, ids_of, is_of, way_in}
-use Rattle.qmodel.specs.Facts.{Facts, OpenChannel, is_in_process, is_owned_by, leads_to}
+use Rattle.qmodel.specs.Facts.{Facts, OpenChannel, is_in_process}
+use Rattle.qmodel.proofs.Parts.{is_owned_by, leads_to}
 use Rattle.qkernel.specs.State.{State, IsSound, facts_in}
 use Rattle.qkernel.specs.Stands.{Steps}
 use Rattle.qstate.specs.Threads.{members_of, open_in, level_in}

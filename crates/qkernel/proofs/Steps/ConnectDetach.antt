@@ -17,12 +17,13 @@ use Rattle.qtables.specs.Members.{member_at}
 use Rattle.qtables.specs.declared.connection.Connection.{Connection}
 use Rattle.qtables.specs.declared.member.Member.{Member}
 use Rattle.qmodel.specs.Answer.{MayRefuse, ending, refusal_ending}
-use Rattle.qmodel.specs.Calls.ConnectDetach.{connection_between, connections_between, due_pulse, due_pulse_over, is_own}
-use Rattle.qmodel.specs.Cutting.{cut_where, is_on, is_over, is_unread_send}
+use Rattle.qmodel.specs.Calls.ConnectDetach.{connection_between, connections_between, due_pulse}
+use Rattle.qmodel.proofs.Parts.{due_pulse_over, is_own}
+use Rattle.qmodel.specs.Cutting.{cut_where, is_on, is_over}
 use Rattle.qmodel.specs.Facts.{tells_disconnect, threads_of}
 use Rattle.qmodel.specs.Pulses.{refusal_if_full_for, ends_receiver, pulse_receipt}
 use Rattle.qmodel.specs.Rows.{Made, Received, disconnect_item}
-use Rattle.qmodel.specs.Step.{is_cut, uncut_items, unreceived_items, unless}
+use Rattle.qmodel.specs.Step.{is_cut, uncut_items, unreceived_items, unless, is_unread_send}
 use Rattle.qmodel.specs.Past.{made_on}
 use Rattle.qmodel.specs.declared.call.Call.TheVariants.{ConnectDetach}
 use Rattle.qmodel.specs.declared.call.Completion.{Completion}

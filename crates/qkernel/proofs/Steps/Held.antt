@@ -20,7 +20,8 @@ use Rattle.qmodel.specs.Answer.{row_of, refusal_ending}
 use Rattle.qstate.specs.Channels.{channel_in}
 use Rattle.qstate.specs.Endings.{with_ending_in_place}
 use Rattle.qmodel.specs.Facts.{is_send, sender, sender_among, threads_of}
-use Rattle.qmodel.specs.Held.{Finish, ends_sender, answer_ending, answer_ending_of_wait, is_held_for, owns_end, refusal}
+use Rattle.qmodel.specs.Held.{Finish, ends_sender, answer_ending, answer_ending_of_wait, refusal}
+use Rattle.qmodel.proofs.Parts.{owns_end, is_held_for}
 use Rattle.qstate.specs.HeldIn.{leads_to_own, is_held_over, is_held_in}
 use Rattle.qkernel.specs.State.{State, IsSound, facts_in}
 use Rattle.qkernel.specs.Stands.{Steps}

@@ -12,7 +12,6 @@ use Rattle.qtables.specs.Entries.{entry_at}
 use Rattle.qtables.specs.Members.{member_at}
 use Rattle.qtables.specs.declared.member.Member.{Member}
 use Rattle.qmodel.specs.Answer.{refusal_ending}
-use Rattle.qmodel.specs.Cutting.{is_unread_send}
 use Rattle.qmodel.specs.Facts.{is_in_process}
 use Rattle.qmodel.specs.declared.call.Call.TheVariants.{PrioritySet}
 use Rattle.qmodel.specs.declared.call.Completion.{Completion}
@@ -24,7 +23,7 @@ use Rattle.qkernel.specs.Stands.{Steps}
 use Rattle.qstate.specs.Channels.{channel_in, ids_of, pending_in}
 use Rattle.qstate.specs.Threads.{level_in, members_of, open_in, SetsLevel}
 use Rattle.qstate.specs.Unread.{MovesUnread}
-use Rattle.qmodel.specs.Step.{items_with_priority_set}
+use Rattle.qmodel.specs.Step.{items_with_priority_set, is_unread_send}
 use Rattle.qmodel.proofs.Past.Cuts.{none_cut}
 use Rattle.qmodel.proofs.Rosters.{among, only_own, rises}
 use Rattle.qbase.proofs.Lists.{all_map, all_more}

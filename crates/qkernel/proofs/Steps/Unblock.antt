@@ -14,12 +14,13 @@ use Rattle.qtables.specs.Members.{member_at}
 use Rattle.qtables.specs.declared.connection.Connection.{Connection}
 use Rattle.qtables.specs.declared.member.Member.{Member}
 use Rattle.qmodel.specs.Answer.{MayRefuse, ending, refusal_ending}
-use Rattle.qmodel.specs.Calls.Unblock.{due_pulse, due_pulse_of_open, due_pulse_on, other_ending, guard, guard_over}
-use Rattle.qmodel.specs.Cutting.{cut_call, cut_where, is_unread_send}
+use Rattle.qmodel.specs.Calls.Unblock.{due_pulse, other_ending, guard, guard_over}
+use Rattle.qmodel.proofs.Parts.{due_pulse_on, due_pulse_of_open}
+use Rattle.qmodel.specs.Cutting.{cut_call, cut_where}
 use Rattle.qmodel.specs.Facts.{is_in_process, threads_of}
 use Rattle.qmodel.specs.Pulses.{pulse_receipt, refusal_if_full}
 use Rattle.qmodel.specs.Rows.{unblock_item, Made}
-use Rattle.qmodel.specs.Step.{uncut_items, unreceived_items, unblocked_call}
+use Rattle.qmodel.specs.Step.{uncut_items, unreceived_items, unblocked_call, is_unread_send}
 use Rattle.qmodel.specs.Past.{made_on}
 use Rattle.qmodel.specs.declared.call.Call.TheVariants.{Unblock}
 use Rattle.qmodel.specs.declared.call.Completion.{Completion}

@@ -8,7 +8,8 @@ use Rattle.qbase.specs.declared.errno.Errno.TheVariants.{Badf, Inval}
 use Rattle.qqueue.specs.Best.{is_pulse}
 use Rattle.qtables.specs.declared.connection.Connection.{Connection}
 use Rattle.qmodel.specs.Answer.{row_of}
-use Rattle.qmodel.specs.Calls.ConnectDetach.{connections_between, due_pulse, due_pulse_over, other_ending, is_own, refusal}
+use Rattle.qmodel.specs.Calls.ConnectDetach.{connections_between, due_pulse, other_ending, refusal}
+use Rattle.qmodel.proofs.Parts.{due_pulse_over, is_own}
 use Rattle.qmodel.specs.Cutting.{cut_where, is_over}
 use Rattle.qmodel.specs.Facts.{Facts, OpenChannel, tells_disconnect}
 use Rattle.qmodel.specs.Past.{is_unblock_for}

@@ -9,7 +9,8 @@ use Rattle.qqueue.specs.declared.item.Kind.{Kind}
 use Rattle.qtables.specs.declared.connection.Connection.{Connection}
 use Rattle.qmodel.specs.Answer.{row_of, ending}
 use Rattle.qmodel.specs.Delivering.{meets, receiver, receipt_by, receipt_when_sent}
-use Rattle.qmodel.specs.Facts.{Facts, leads_to, way}
+use Rattle.qmodel.specs.Facts.{Facts, way}
+use Rattle.qmodel.proofs.Parts.{leads_to}
 use Rattle.qmodel.specs.Receivers.{newest_receiver}
 use Rattle.qmodel.specs.Effects.{asks, makes}
 use Rattle.qmodel.specs.Rows.{Received, Made, item_in_mark, receipt_in, item_sent_over, takes, takes_into, receipt_ending}

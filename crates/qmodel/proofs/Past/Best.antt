@@ -1,9 +1,10 @@
 -- The item that is received first among those that wait.
-use Rattle.std.proofs.Common.{◌≡◌, ◌<◌, ◌≤◌, List, [], ◌∷◌, refl, sym, subst, ◌∙◌, cond, arith, true, false}
-use Rattle.std.specs.Prelude.{None, Some, nat_lt}
+use Rattle.std.proofs.Common.{◌≡◌, ℕ, ◌<◌, ◌≤◌, List, [], ◌∷◌, refl, sym, subst, ◌∙◌, cond, arith, true, false}
+use Rattle.std.specs.Prelude.{Option, None, Some, nat_lt}
+use Rattle.std.specs.Option.{option_map}
 use Rattle.std.specs.List.{AllByRecursion}
 use Rattle.std.proofs.lemmas.Bool.{ltb-true, true≢false}
-use Rattle.std.proofs.lemmas.Option.{same_Some}
+use Rattle.std.proofs.lemmas.Option.{none-some, same_Some}
 use Rattle.qqueue.specs.Best.{best_of, first_of_two, may_take}
 use Rattle.qqueue.specs.Contents.{IsRising}
 use Rattle.qqueue.specs.declared.item.Item.{Item}
@@ -36,3 +37,8 @@ best_earliest kind (y ∷ items) x rising best =
                 ] refl same
           ] refl is
     ] refl best
+
+-- the item whose number this is
+pub some_number : (o : Option Item) (i : ℕ) → option_map (λ (x : Item). x.number) o ≡ Some i → (x : Item) × (o ≡ Some x) × (x.number ≡ i)
+some_number None i e = absurd (none-some i e)
+some_number (Some x) i e = (x, refl, same_Some x.number i e)

@@ -7,7 +7,8 @@ use Rattle.qbase.specs.declared.errno.Errno.TheVariants.{Inval}
 use Rattle.qtables.specs.Members.{member_at}
 use Rattle.qtables.specs.declared.member.Member.{Member}
 use Rattle.qmodel.specs.Answer.{row_of, Outcome}
-use Rattle.qmodel.specs.Facts.{Facts, OpenChannel, is_owned_by, owns}
+use Rattle.qmodel.specs.Facts.{Facts, OpenChannel, owns}
+use Rattle.qmodel.proofs.Parts.{is_owned_by}
 use Rattle.qmodel.specs.Lawful.{facts_of, IsLawful, with_event}
 use Rattle.qmodel.specs.Effects.{closes, creates}
 use Rattle.qmodel.specs.Past.{channel_at, is_closed, open_channels, refuses}

@@ -8,7 +8,8 @@ use Rattle.qtables.specs.Members.{member_at}
 use Rattle.qtables.specs.declared.connection.Connection.{Connection}
 use Rattle.qtables.specs.declared.member.Member.{Member}
 use Rattle.qmodel.specs.Answer.{row_of, Outcome}
-use Rattle.qmodel.specs.Calls.ConnectDetach.{due_pulse, is_own}
+use Rattle.qmodel.specs.Calls.ConnectDetach.{due_pulse}
+use Rattle.qmodel.proofs.Parts.{is_own}
 use Rattle.qmodel.specs.Facts.{Facts}
 use Rattle.qmodel.specs.Lawful.{facts_of, IsLawful, with_event}
 use Rattle.qmodel.specs.Effects.{attaches, detaches}

@@ -8,13 +8,12 @@ use Rattle.qqueue.specs.Best.{is_pulse, with_priority, without_item}
 use Rattle.qqueue.specs.declared.item.Item.{Item}
 use Rattle.qtables.specs.declared.member.Member.{Member}
 use Rattle.qmodel.specs.Answer.{Outcome}
-use Rattle.qmodel.specs.Cutting.{is_unread_send}
 use Rattle.qmodel.specs.Facts.{Facts}
 use Rattle.qmodel.specs.Effects.{makes, sets}
 use Rattle.qmodel.specs.Lawful.{IsLawful, facts_of, with_event}
 use Rattle.qmodel.specs.Past.{is_gone, is_taken, made_on, priority_set_by, worth}
 use Rattle.qmodel.specs.Rows.{Received, Setting}
-use Rattle.qmodel.specs.Step.{is_cut, uncut_items, items_with_priority_set, unreceived_items}
+use Rattle.qmodel.specs.Step.{is_cut, uncut_items, items_with_priority_set, unreceived_items, is_unread_send}
 use Rattle.qmodel.specs.Trace.{Event, Trace}
 use Rattle.qmodel.specs.declared.call.Call.{Call}
 use Rattle.qmodel.specs.declared.call.Completion.{Completion}
@@ -123,7 +122,7 @@ moved_one roster past t c X h s item l a set at stays =
           ] refl)
     ] refl
 
-map_same : (g k : Item → Item) (items : List Item) → AllByRecursion (λ x. g x ≡ k x) items → map g items ≡ map k items
+pub map_same : (g k : Item → Item) (items : List Item) → AllByRecursion (λ x. g x ≡ k x) items → map g items ≡ map k items
 map_same g k [] same = refl
 map_same g k (x ∷ items) same = ap (λ y. y ∷ map g items) same.0 ∙ ap (λ l. k x ∷ l) (map_same g k items same.1)
 

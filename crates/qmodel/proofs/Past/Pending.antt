@@ -16,7 +16,7 @@ use Rattle.qmodel.specs.Lawful.{facts_of, IsLawful, with_event}
 use Rattle.qmodel.specs.Past.{channel_at, has_ending_of, is_closed, is_ended, is_taken, is_gone, items, item_of, pending_items, copied_count_among, copied_count_of, open_call, made_on}
 use Rattle.qmodel.specs.Effects.{closes, makes, sets}
 use Rattle.qmodel.specs.Rows.{Made, Received, names}
-use Rattle.qmodel.specs.Step.{is_cut, uncut_items, items_with_priority_set, unreceived_items, pending_after}
+use Rattle.qmodel.specs.Step.{is_cut, uncut_items, items_with_priority_set, unreceived_items, pending_after, is_unread_send}
 use Rattle.qmodel.specs.Trace.{Event, Trace}
 use Rattle.qmodel.specs.declared.call.Call.{Call}
 use Rattle.qmodel.specs.declared.call.Completion.{Completion}
@@ -31,7 +31,6 @@ use Rattle.qmodel.proofs.Past.Moves.{left_map, moved_append, moved_left, moved_m
 use Rattle.qmodel.proofs.Past.Worth.{now, refused_sets_none, worth_newest, worth_stays}
 use Rattle.qmodel.proofs.Past.Receipts.{copied_by, accepted_receipts, refused_receipts, best_pending, receipt_beyond}
 use Rattle.qmodel.proofs.Past.Numbers.{open_below}
-use Rattle.qmodel.specs.Cutting.{is_unread_send}
 use Rattle.qmodel.specs.Facts.{threads_of}
 
 -- ---- the items of a channel

@@ -1,10 +1,9 @@
 -- Of what was sent over one connection and has one priority as it is received, what was sent first is received first.
-use Rattle.std.proofs.Common.{◌≡◌, ◌∙◌, ℕ, ◌≤◌, List, [], ◌∷◌, refl, ap, sym, subst, arith, true, inl, inr}
-use Rattle.std.specs.Prelude.{Option, None, Some}
+use Rattle.std.proofs.Common.{◌≡◌, ◌∙◌, ℕ, ◌≤◌, List, [], ◌∷◌, ap, sym, subst, arith, true, inl, inr}
+use Rattle.std.specs.Prelude.{Some}
 use Rattle.std.specs.List.{AllByRecursion}
-use Rattle.std.specs.Option.{option_map}
 use Rattle.std.proofs.lemmas.Bool.{cases_eq}
-use Rattle.std.proofs.lemmas.Option.{none-some, same_Some}
+use Rattle.std.proofs.lemmas.Option.{same_Some}
 use Rattle.qqueue.specs.Best.{best_of, may_take}
 use Rattle.qqueue.specs.Contents.{IsRising}
 use Rattle.qqueue.specs.declared.item.Item.{Item}
@@ -16,14 +15,14 @@ use Rattle.qtables.specs.declared.member.Member.{Member}
 use Rattle.qmodel.specs.Effects.{receives_on}
 use Rattle.qmodel.specs.Headline.BestFirst.{BestFirst, TakesBest, takeable}
 use Rattle.qmodel.specs.Headline.ReceivedOnce.{item_received}
-use Rattle.qmodel.specs.Headline.SentOrder.{IsPlainReceive, NoneSentEarlier, SentOrder, connection_of}
+use Rattle.qmodel.specs.Headline.SentOrder.{IsEarliest, SentOrder, TakesSent, connection_of}
 use Rattle.qmodel.specs.Lawful.{IsLawful}
 use Rattle.qmodel.specs.Past.{priority_before}
 use Rattle.qmodel.specs.Trace.{Event, Trace}
 use Rattle.qmodel.specs.declared.call.Call.{Call}
 use Rattle.qmodel.specs.declared.call.Call.TheVariants.{Receive}
 use Rattle.qmodel.specs.declared.call.Completion.{Completion}
-use Rattle.qmodel.proofs.Past.Best.{best_earliest}
+use Rattle.qmodel.proofs.Past.Best.{best_earliest, some_number}
 use Rattle.qbase.proofs.Lists.{all_more}
 use Rattle.qmodel.proofs.Past.Rising.{takeable_rises}
 use Rattle.qmodel.proofs.Properties.BestFirst.{best_first}
@@ -40,25 +39,24 @@ first_of_equals kind items x rising best may =
     all_more (λ w. may_take kind w ≡ true → w.priority ≡ x.priority → x.number ≤ w.number) (λ w. w.priority ≡ x.priority → x.number ≤ w.number) items
     (best_earliest kind items x rising best) (λ w earliest same. earliest (may w) same)
 
--- the item that is taken
-some_number : (o : Option Item) (i : ℕ) → option_map (λ (x : Item). x.number) o ≡ Some i → (x : Item) × (o ≡ Some x) × (x.number ≡ i)
-some_number None i e = absurd (none-some i e)
-some_number (Some x) i e = (x, refl, same_Some x.number i e)
+-- of what could be taken from one channel, nothing is earlier
+abbrev IsEarliestOn : List Member → Trace → Event → ℕ → ℕ → ℕ → Type 0
+IsEarliestOn roster past e j k h = AllByRecursion (λ w. connection_of (e ∷ past) w.number ≡ Some k → w.priority ≡ priority_before roster e past j → j ≤ w.number) (takeable roster past e h)
 
-none_sent_earlier : (roster : List Member) (past : Trace) (e : Event) (y : Completion) (j k h : ℕ) → IsPlainReceive (e ∷ past) y → TakesBest roster past e y j → connection_of (e ∷ past) j ≡ Some k → NoneSentEarlier roster past e k j h
-none_sent_earlier roster past e y j k h plain b over =
+is_earliest : (roster : List Member) (past : Trace) (e : Event) (y : Completion) (j k : ℕ) → TakesSent (e ∷ past) y j k → TakesBest roster past e y j → IsEarliest roster past e j k
+is_earliest roster past e y j k plain b h =
     let x = some_number (best_of b.kind (takeable roster past e b.channel)) j b.best in
     let at : IsMadeFor roster (e ∷ past) b.channel x.0 = best-at (IsMadeFor roster (e ∷ past) b.channel) b.kind (takeable roster past e b.channel) x.0 (takeable_made roster past e b.channel) x.1 in
-    let from = item_over roster (e ∷ past) x.0.number k (record { item = at.0; channel = b.channel }) at.1 (ap (connection_of (e ∷ past)) x.2 ∙ over) in
+    let from = item_over roster (e ∷ past) x.0.number k (record { item = at.0; channel = b.channel }) at.1 (ap (connection_of (e ∷ past)) x.2 ∙ plain.connection) in
     let priority : priority_before roster e past j ≡ x.0.priority =
     ap (priority_before roster e past) (sym x.2)
     ∙ best-at (λ (w : Item). priority_before roster e past w.number ≡ w.priority) b.kind (takeable roster past e b.channel) x.0 (takeable_priorities roster past e b.channel) x.1 in
-    elim (cases_eq h b.channel) as (λ _. NoneSentEarlier roster past e k j h) [
+    elim (cases_eq h b.channel) as (λ _. IsEarliestOn roster past e j k h) [
       | inl same ↦
-          subst (NoneSentEarlier roster past e k j) (sym same)
+          subst (IsEarliestOn roster past e j k) (sym same)
           (all_more (λ w. w.priority ≡ x.0.priority → x.0.number ≤ w.number) (λ w. connection_of (e ∷ past) w.number ≡ Some k → w.priority ≡ priority_before roster e past j → j ≤ w.number)
           (takeable roster past e b.channel)
-          (first_of_equals b.kind (takeable roster past e b.channel) x.0 (takeable_rises roster e past b.channel) x.1 (λ w. plain_takes b.call plain.0 plain.1 (b.channel, b.kind) w (same_Some b.call (Receive plain.0 plain.1) (sym b.is_call ∙ plain.2)) b.receives))
+          (first_of_equals b.kind (takeable roster past e b.channel) x.0 (takeable_rises roster e past b.channel) x.1 (λ w. plain_takes b.call plain.channel plain.buffer (b.channel, b.kind) w (same_Some b.call (Receive plain.channel plain.buffer) (sym b.is_call ∙ plain.call)) b.receives))
           (λ w first _ equal. let no_earlier : x.0.number ≤ w.number = first (equal ∙ priority) in omega (arith, x.2)))
       | inr other ↦
           all_more (IsMadeFor roster (e ∷ past) h) (λ w. connection_of (e ∷ past) w.number ≡ Some k → w.priority ≡ priority_before roster e past j → j ≤ w.number)
@@ -72,8 +70,8 @@ order_from : (roster : List Member) (past : Trace) → BestFirst roster past →
 order_from roster [] b = tt
 order_from roster (e ∷ past) b = (
   all_more (λ x. (i : ℕ) → item_received x ≡ Some i → TakesBest roster past e x i)
-      (λ x. (j k h : ℕ) → IsPlainReceive (e ∷ past) x → item_received x ≡ Some j → connection_of (e ∷ past) j ≡ Some k → NoneSentEarlier roster past e k j h) e.endings b.0
-      (λ x takes j k h plain is over. none_sent_earlier roster past e x j k h plain (takes j is) over),
+      (λ x. (j k : ℕ) → TakesSent (e ∷ past) x j k → IsEarliest roster past e j k) e.endings b.0
+      (λ x takes j k sent. is_earliest roster past e x j k sent (takes j sent.item)),
   order_from roster past b.1,
 )
 

@@ -10,7 +10,8 @@ use Rattle.qtables.specs.declared.connection.Connection.{Connection}
 use Rattle.qtables.specs.declared.member.Member.{Member}
 use Rattle.qmodel.specs.Answer.{row_of, Outcome}
 use Rattle.qmodel.specs.Cutting.{is_on, is_to}
-use Rattle.qmodel.specs.Facts.{Facts, is_for_answer, leads_to, owns}
+use Rattle.qmodel.specs.Facts.{Facts, is_for_answer, owns}
+use Rattle.qmodel.proofs.Parts.{leads_to}
 use Rattle.qmodel.specs.Headline.AnsweredToSender.{channel_among}
 use Rattle.qmodel.specs.Effects.{asks, attaches, closes, detaches, makes, receives_on, unblocks, writes}
 use Rattle.qmodel.specs.Headline.ShutForGood.{NoneBlockedOn, NoneReceivedFrom, ShutForGood}

@@ -9,7 +9,8 @@ use Rattle.qbase.specs.declared.errno.Errno.TheVariants.{Again, Badf, Inval}
 use Rattle.qqueue.specs.Best.{is_pulse, without_item}
 use Rattle.qqueue.specs.declared.item.Item.{Item}
 use Rattle.qtables.specs.declared.connection.Connection.{Connection}
-use Rattle.qmodel.specs.Calls.Pulse.{is_negative, refusal_on}
+use Rattle.qmodel.specs.Calls.Pulse.{is_negative}
+use Rattle.qmodel.proofs.Parts.{refusal_on}
 use Rattle.qmodel.specs.Calls.ConnectDetach as connect_detach
 use Rattle.qmodel.specs.Calls.Unblock as unblock
 use Rattle.qmodel.specs.Pulses.{refusal_if_full, refusal_if_full_for, pulses_among}

@@ -1,6 +1,6 @@
 -- What comes before another is received first.
 use Rattle.std.proofs.Common.{◌≡◌, ◌≢◌, ◌∙◌, ℕ, ◌+◌, ◌≤◌, List, [], ◌∷◌, ◌++◌, map, length, refl, ap, sym, subst, cond, arith, Bool, true, false, eqb}
-use Rattle.std.specs.Prelude.{Option, None, Some, filter, not}
+use Rattle.std.specs.Prelude.{Some, filter, not}
 use Rattle.std.specs.List.{AllByRecursion}
 use Rattle.std.specs.Option.{option_map}
 use Rattle.std.proofs.lemmas.Bool.{true≢false}
@@ -23,6 +23,7 @@ use Rattle.qmodel.specs.Rows.{Made}
 use Rattle.qmodel.specs.Trace.{Event, Trace}
 use Rattle.qmodel.specs.declared.call.Completion.{Completion}
 use Rattle.qbase.proofs.Lists.{all_more, eqb_same}
+use Rattle.qmodel.proofs.Past.Best.{some_number}
 use Rattle.qmodel.proofs.Past.Items.{IsPending, before_earlier, item_at, item_below, item_earlier, item_made, item_priority, items_on, made_by, pending_all, pending_is, staying}
 use Rattle.qmodel.proofs.Past.Pending.{items_more, made_all}
 use Rattle.qmodel.proofs.Past.Rising.{takeable_rises}
@@ -77,10 +78,6 @@ differ x y w v wn wp vn vp before sn sp = grind (arith, nat_tests)
 
 never_both : (x y w v : Item) → w.number ≡ y.number → w.priority ≡ y.priority → v.number ≡ x.number → v.priority ≡ x.priority → comes_before x y ≡ true → comes_before w v ≡ true → ⊥
 never_both x y w v wn wp vn vp before after = grind (arith, nat_tests)
-
-some_number : (o : Option Item) (i : ℕ) → option_map (λ (x : Item). x.number) o ≡ Some i → (x : Item) × (o ≡ Some x) × (x.number ≡ i)
-some_number None i e = absurd (none-some i e)
-some_number (Some x) i e = (x, refl, same_Some x.number i e)
 
 module _ (roster : List Member) (past : Trace) (e : Event) (h : ℕ) (kind : Kind) (b : Item) (best : best_of kind (takeable roster past e h) ≡ Some b) where
   -- each that may be taken is behind the one that is

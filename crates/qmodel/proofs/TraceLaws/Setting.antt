@@ -1,7 +1,6 @@
 -- What an accepted PrioritySet changes of what is pending.
-use Rattle.std.proofs.Common.{◌≡◌, ℕ, List, [], ◌∷◌, ◌++◌, map, refl, ap, sym, ◌∙◌, cond, true, false, eqb}
+use Rattle.std.proofs.Common.{◌≡◌, ℕ, List, [], ◌∷◌, ◌++◌, refl, ap, sym, ◌∙◌, cond, true, false, eqb}
 use Rattle.std.specs.Prelude.{Some, filter, not, ◌&&◌}
-use Rattle.std.specs.List.{AllByRecursion}
 use Rattle.std.proofs.lemmas.Bool.{eqb-true, eq-eqb}
 use Rattle.std.proofs.lemmas.List.{append-nil}
 use Rattle.std.proofs.lemmas.Option.{none-some}
@@ -9,19 +8,18 @@ use Rattle.qqueue.specs.Best.{is_pulse, with_priority}
 use Rattle.qqueue.specs.declared.item.Item.{Item}
 use Rattle.qtables.specs.declared.member.Member.{Member}
 use Rattle.qmodel.specs.Answer.{Outcome}
-use Rattle.qmodel.specs.Cutting.{is_unread_send}
 use Rattle.qmodel.specs.Lawful.{IsLawful, facts_of}
 use Rattle.qmodel.specs.Laws.{OthersKeepTheirOrder, SettingMovesItsOwn, is_message_of, others_than, with_messages_at}
 use Rattle.qmodel.specs.Past.{connection_at, open_call, pending_items, sender_of}
 use Rattle.qmodel.specs.Rows.{Setting, names}
-use Rattle.qmodel.specs.Step.{items_with_priority_set, pending_after}
+use Rattle.qmodel.specs.Step.{items_with_priority_set, pending_after, is_unread_send}
 use Rattle.qmodel.specs.Trace.{Trace}
 use Rattle.qmodel.specs.declared.call.Call.TheVariants.{PrioritySet}
 use Rattle.qbase.proofs.Lists.{all_more, eqb_either}
 use Rattle.qmodel.proofs.Past.Cuts.{none_cut, pulse_unread, sent_by, unread_elsewhere}
 use Rattle.qmodel.proofs.Past.Follows.{past_follows}
 use Rattle.qmodel.proofs.Past.Items.{IsPending, pending_all}
-use Rattle.qmodel.proofs.Past.Moves.{mover}
+use Rattle.qmodel.proofs.Past.Moves.{mover, map_same}
 use Rattle.qmodel.proofs.Properties.Events.{outcome_of}
 
 -- a pending item is what thread v waits with to be received exactly where it is a message of that thread
@@ -40,10 +38,6 @@ unread_of roster past h item v l p =
             | false ↦ λ other. unread_elsewhere roster past h item.number s.sender s.waiting v s.is_open s.number (eqb_either v s.sender ∙ other)
           ] refl)
     ] refl
-
-map_same : (g k : Item → Item) (items : List Item) → AllByRecursion (λ x. g x ≡ k x) items → map g items ≡ map k items
-map_same g k [] same = refl
-map_same g k (x ∷ items) same = ap (λ y. y ∷ map g items) same.0 ∙ ap (λ l. k x ∷ l) (map_same g k items same.1)
 
 -- by the facts
 moves_own : (roster : List Member) (past : Trace) (t : ℕ) (u priority h : ℕ) → IsLawful roster past → pending_after (facts_of roster past) t (PrioritySet u priority) h ≡ with_messages_at past u priority (pending_items roster past h)

@@ -1,12 +1,12 @@
 -- ChannelCreate: a new channel of the caller's process.
-use Rattle.std.specs.Prelude.{nat_lt, true, [], Option, None, Some, if◌then◌else◌}
+use Rattle.std.specs.Prelude.{nat_lt, true, Option, None, Some, if◌then◌else◌}
 use Rattle.qbase.specs.declared.errno.Errno.{Errno}
 use Rattle.qbase.specs.declared.errno.Errno.TheVariants.{Inval, Again}
 use Rattle.qbase.specs.declared.flags.ChannelFlags.{ChannelFlags}
 use Rattle.qmodel.specs.declared.call.Mark.TheVariants as mark
 use Rattle.qmodel.specs.Ids.{ThreadNo}
 use Rattle.qmodel.specs.Facts.{Facts}
-use Rattle.qmodel.specs.Rows.{Row, ends_none}
+use Rattle.qmodel.specs.Rows.{Row, plain_row}
 use Rattle.qmodel.specs.Effect.{Effect, no_effect}
 
 -- a flag that isn't one of the three, and then 64 open channels
@@ -15,13 +15,7 @@ refusal f flags = if nat_lt flags.0 8 then (if nat_lt f.open_channels 64 then No
 
 -- its id is its number
 abbrev pub row : Facts → ThreadNo → ChannelFlags → Row
-row f t flags = record {
-  refusal = refusal f flags;
-  takes_memory = true;
-  own = Some (record { call = f.number; thread = t; mark = mark.Channel f.number; buffer = [] });
-  ends = ends_none;
-  receipt = None;
-}
+row f t flags = record (plain_row f.number t (refusal f flags) (mark.Channel f.number)) { takes_memory = true }
 
 -- it creates a channel
 abbrev pub effect : ChannelFlags → Effect

@@ -1,11 +1,11 @@
 -- ConnectAttach: a connection of the caller's process to an open channel.
-use Rattle.std.specs.Prelude.{nat_lt, is_some, true, [], Option, None, Some, if◌then◌else◌}
+use Rattle.std.specs.Prelude.{nat_lt, is_some, true, Option, None, Some, if◌then◌else◌}
 use Rattle.qbase.specs.declared.errno.Errno.{Errno}
 use Rattle.qbase.specs.declared.errno.Errno.TheVariants.{Srch, Again}
 use Rattle.qmodel.specs.declared.call.Mark.TheVariants as mark
 use Rattle.qmodel.specs.Ids.{ChannelId, ThreadNo}
 use Rattle.qmodel.specs.Facts.{Facts}
-use Rattle.qmodel.specs.Rows.{Row, ends_none}
+use Rattle.qmodel.specs.Rows.{Row, plain_row}
 use Rattle.qmodel.specs.Effect.{Effect, no_effect}
 
 -- no such channel, and then 1,024 live connections
@@ -14,13 +14,7 @@ refusal f chid = if is_some (f.channel chid) then (if nat_lt f.live_connections 
 
 -- its id is its number
 abbrev pub row : Facts → ThreadNo → ChannelId → Row
-row f t chid = record {
-  refusal = refusal f chid;
-  takes_memory = true;
-  own = Some (record { call = f.number; thread = t; mark = mark.Connection f.number; buffer = [] });
-  ends = ends_none;
-  receipt = None;
-}
+row f t chid = record (plain_row f.number t (refusal f chid) (mark.Connection f.number)) { takes_memory = true }
 
 -- it attaches a connection to the channel
 abbrev pub effect : ChannelId → Effect

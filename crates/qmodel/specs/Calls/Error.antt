@@ -1,12 +1,12 @@
 -- Error: an answer without bytes.
-use Rattle.std.specs.Prelude.{ℤ, pos, false, [], None, Some, if◌then◌else◌}
+use Rattle.std.specs.Prelude.{ℤ, pos, [], None, Some, if◌then◌else◌}
 use Rattle.std.specs.Ordering.{int_eq}
 use Rattle.qmodel.specs.declared.call.Mark.{Mark}
 use Rattle.qmodel.specs.declared.call.Mark.TheVariants as mark
 use Rattle.qmodel.specs.Ids.{ReceiveId, ThreadNo}
 use Rattle.qmodel.specs.Facts.{Facts, sender}
 use Rattle.qmodel.specs.Held.{Finish, ends_sender, refusal}
-use Rattle.qmodel.specs.Rows.{Row}
+use Rattle.qmodel.specs.Rows.{Row, plain_row}
 use Rattle.qmodel.specs.Effect.{Effect, no_effect}
 
 -- the code 0 is a reply of status 0 with no bytes
@@ -19,13 +19,7 @@ error_finish code buffer = (mark_of code, buffer)
 
 -- it never blocks
 abbrev pub row : Facts → ThreadNo → ReceiveId → ℤ → Row
-row f t rcvid code = record {
-  refusal = refusal f t rcvid;
-  takes_memory = false;
-  own = Some (record { call = f.number; thread = t; mark = mark.Ok; buffer = [] });
-  ends = ends_sender f (error_finish code) (sender f rcvid);
-  receipt = None;
-}
+row f t rcvid code = record (plain_row f.number t (refusal f t rcvid) mark.Ok) { ends = ends_sender f (error_finish code) (sender f rcvid) }
 
 -- it answers the message; the code 0 is a reply of status 0 with no bytes
 abbrev pub effect : ReceiveId → ℤ → Effect

@@ -1,11 +1,11 @@
 -- PrioritySet: another priority for a thread of the caller's process, and for the message that it waits with to be received.
-use Rattle.std.specs.Prelude.{false, [], Option, None, Some, if◌then◌else◌}
+use Rattle.std.specs.Prelude.{Option, None, Some, if◌then◌else◌}
 use Rattle.qbase.specs.declared.errno.Errno.{Errno}
 use Rattle.qbase.specs.declared.errno.Errno.TheVariants.{Srch}
 use Rattle.qmodel.specs.declared.call.Mark.TheVariants as mark
 use Rattle.qmodel.specs.Ids.{Level, ThreadNo}
 use Rattle.qmodel.specs.Facts.{Facts, is_fellow}
-use Rattle.qmodel.specs.Rows.{Row, ends_none}
+use Rattle.qmodel.specs.Rows.{Row, plain_row}
 use Rattle.qmodel.specs.Effect.{Effect, no_effect}
 
 -- a thread that the roster hasn't, or of another process
@@ -14,13 +14,7 @@ refusal f t thread = if is_fellow f t thread then None else Some Srch
 
 -- that the priority is set, of the thread and of its pending message, is read off the past calls
 abbrev pub row : Facts → ThreadNo → ThreadNo → Row
-row f t thread = record {
-  refusal = refusal f t thread;
-  takes_memory = false;
-  own = Some (record { call = f.number; thread = t; mark = mark.Ok; buffer = [] });
-  ends = ends_none;
-  receipt = None;
-}
+row f t thread = plain_row f.number t (refusal f t thread) mark.Ok
 
 -- it sets the thread's priority
 abbrev pub effect : ThreadNo → Level → Effect

@@ -1,11 +1,11 @@
 -- Pulse: a pulse to the receiver that began to wait last, or to the channel's pending items.
-use Rattle.std.specs.Prelude.{ℤ, pos, negsuc, Bool, true, false, [], Option, None, Some, if◌then◌else◌}
+use Rattle.std.specs.Option.{option_map_or}
+use Rattle.std.specs.Prelude.{ℤ, pos, negsuc, Bool, true, false, Option, Some, if◌then◌else◌}
 use Rattle.qbase.specs.declared.errno.Errno.{Errno}
 use Rattle.qbase.specs.declared.errno.Errno.TheVariants.{Badf, Inval}
-use Rattle.qmodel.specs.declared.call.Mark.TheVariants as mark
-use Rattle.qmodel.specs.Ids.{ChannelId, ConnectionId, Level, ThreadNo}
+use Rattle.qmodel.specs.Ids.{ConnectionId, Level, ThreadNo}
 use Rattle.qmodel.specs.Facts.{Facts, way}
-use Rattle.qmodel.specs.Pulses.{refusal_if_full, ends_receiver, pulse_receipt, wants_room_for}
+use Rattle.qmodel.specs.Pulses.{refusal_if_full, ends_receiver, pulse_row}
 use Rattle.qmodel.specs.Rows.{Made, Row, pulse_item, item_sent_over}
 use Rattle.qmodel.specs.Effect.{Effect, no_effect}
 
@@ -14,14 +14,10 @@ abbrev pub is_negative : ℤ → Bool
 is_negative (pos n) = false
 is_negative (negsuc n) = true
 
--- a code below 0, and then 1,024 pulses pending on the channel
-abbrev pub refusal_on : Facts → ℤ → Option ChannelId → Option Errno
-refusal_on f code None = Some Badf
-refusal_on f code (Some h) = if is_negative code then Some Inval else refusal_if_full f h
-
--- a connection that the thread's process hasn't, or whose channel isn't open, and then those
+-- a connection that the thread's process hasn't, or whose channel isn't open, and then a code below 0, and then 1,024 pulses pending on
+-- the channel
 abbrev pub refusal : Facts → ThreadNo → ConnectionId → ℤ → Option Errno
-refusal f t coid code = refusal_on f code (way f t coid)
+refusal f t coid code = option_map_or (λ h. if is_negative code then Some Inval else refusal_if_full f h) (way f t coid) (Some Badf)
 
 -- the pulse of the priority that is given, sent over the connection
 abbrev pub sent_pulse : Facts → ConnectionId → Level → ℤ → ℤ → Option Made
@@ -29,13 +25,8 @@ sent_pulse f coid priority code value = item_sent_over (f.connection coid) (puls
 
 -- it never blocks; memory is wanted only for a pulse that waits
 abbrev pub row : Facts → ThreadNo → ConnectionId → Level → ℤ → ℤ → Row
-row f t coid priority code value = record {
-  refusal = refusal f t coid code;
-  takes_memory = wants_room_for f (sent_pulse f coid priority code value);
-  own = Some (record { call = f.number; thread = t; mark = mark.Ok; buffer = [] });
-  ends = ends_receiver f (sent_pulse f coid priority code value);
-  receipt = pulse_receipt f (sent_pulse f coid priority code value);
-}
+row f t coid priority code value =
+    pulse_row f t (refusal f t coid code) (sent_pulse f coid priority code value) (ends_receiver f (sent_pulse f coid priority code value))
 
 -- it makes that pulse, and sends it over the connection
 abbrev pub effect : ConnectionId → Level → ℤ → ℤ → Effect

@@ -1,28 +1,26 @@
 -- Read: bytes of a held message, from an offset on.
-use Rattle.std.specs.Prelude.{ℕ, false, List, drop, None, Some}
+use Rattle.std.specs.Prelude.{ℕ, List, drop, Some}
 use Rattle.qbase.specs.Laying.{laid_count, lay_over}
 use Rattle.qmodel.specs.declared.call.Mark.TheVariants as mark
 use Rattle.qmodel.specs.Ids.{ReceiveId, ThreadNo}
 use Rattle.qmodel.specs.Facts.{Facts, message}
 use Rattle.qmodel.specs.Held.{refusal}
-use Rattle.qmodel.specs.Rows.{Row, ends_none}
+use Rattle.qmodel.specs.Rows.{Row, empty_row}
 use Rattle.qmodel.specs.Effect.{Effect, no_effect}
 
 -- what stands in the message from the offset on, over the front of the buffer
 abbrev pub row : Facts → ThreadNo → ReceiveId → ℕ → List ℕ → Row
-row f t rcvid offset buffer = record {
+row f t rcvid offset buffer = record empty_row {
   refusal = refusal f t rcvid;
-  takes_memory = false;
   own = Some (record {
     call = f.number;
     thread = t;
     mark = mark.Count (laid_count buffer 0 (drop offset (message f rcvid)));
     buffer = lay_over buffer 0 (drop offset (message f rcvid));
   });
-  ends = ends_none;
-  receipt = None;
 }
 
 -- it reads the message into its buffer
 abbrev pub effect : ReceiveId → ℕ → List ℕ → Effect
-effect rcvid offset buffer = record no_effect { buffer = Some buffer; reads = Some (record { message = rcvid; offset = offset; buffer = buffer }) }
+effect rcvid offset buffer =
+    record no_effect { buffer = Some buffer; reads = Some (record { message = rcvid; offset = offset; buffer = buffer }) }

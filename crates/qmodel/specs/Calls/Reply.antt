@@ -1,11 +1,11 @@
 -- Reply: the answer to a message that was received and not yet answered.
-use Rattle.std.specs.Prelude.{ℕ, ℤ, false, List, [], None, Some}
+use Rattle.std.specs.Prelude.{ℕ, ℤ, List, Some}
 use Rattle.qbase.specs.Laying.{laid_count, lay_over}
 use Rattle.qmodel.specs.declared.call.Mark.TheVariants as mark
 use Rattle.qmodel.specs.Ids.{ReceiveId, ThreadNo}
 use Rattle.qmodel.specs.Facts.{Facts, sender}
 use Rattle.qmodel.specs.Held.{Finish, ends_sender, refusal}
-use Rattle.qmodel.specs.Rows.{Row}
+use Rattle.qmodel.specs.Rows.{Row, plain_row}
 use Rattle.qmodel.specs.Effect.{Effect, no_effect}
 
 -- the reply over the front of the buffer
@@ -14,13 +14,8 @@ reply_finish status bytes buffer = (mark.Replied status (laid_count buffer 0 byt
 
 -- it never blocks
 abbrev pub row : Facts → ThreadNo → ReceiveId → ℤ → List ℕ → Row
-row f t rcvid status bytes = record {
-  refusal = refusal f t rcvid;
-  takes_memory = false;
-  own = Some (record { call = f.number; thread = t; mark = mark.Ok; buffer = [] });
-  ends = ends_sender f (reply_finish status bytes) (sender f rcvid);
-  receipt = None;
-}
+row f t rcvid status bytes =
+    record (plain_row f.number t (refusal f t rcvid) mark.Ok) { ends = ends_sender f (reply_finish status bytes) (sender f rcvid) }
 
 -- it answers the message
 abbrev pub effect : ReceiveId → ℤ → List ℕ → Effect

@@ -6,7 +6,7 @@ use Rattle.qqueue.specs.declared.item.Item.{Item}
 use Rattle.qmodel.specs.Ids.{ConnectionId, ThreadNo}
 use Rattle.qmodel.specs.Delivering.{receiver, meets, receipt_when_sent, wants_room}
 use Rattle.qmodel.specs.Facts.{Facts, way}
-use Rattle.qmodel.specs.Rows.{Row, message_item, item_sent_over}
+use Rattle.qmodel.specs.Rows.{Row, message_item, item_sent_over, empty_row}
 use Rattle.qmodel.specs.Effect.{Effect, no_effect}
 use Rattle.qmodel.specs.declared.open_call.Wait.TheVariants.{Answer}
 
@@ -20,14 +20,19 @@ item f t = message_item f.number (f.priority t)
 
 -- the sender is blocked until its message is answered; memory is wanted only for a message that waits
 abbrev pub row : Facts → ThreadNo → ConnectionId → List ℕ → Row
-row f t coid message = record {
+row f t coid message = record empty_row {
   refusal = refusal f t coid;
   takes_memory = wants_room f (item f t) (way f t coid);
-  own = None;
   ends = meets f (item f t) message (receiver f (item f t) (way f t coid));
   receipt = receipt_when_sent f (Some t) (item f t) message (way f t coid) (receiver f (item f t) (way f t coid));
 }
 
 -- it makes a message of its thread's priority, sends it over the connection, and waits for the answer
 abbrev pub effect : ConnectionId → List ℕ → List ℕ → Effect
-effect coid message reply_buffer = record no_effect { waits = Some (Answer coid message reply_buffer None); buffer = Some reply_buffer; makes = λ f t. item_sent_over (f.connection coid) (item f t); sends_over = Some coid; sends = Some message }
+effect coid message reply_buffer = record no_effect {
+  waits = Some (Answer coid message reply_buffer None);
+  buffer = Some reply_buffer;
+  makes = λ f t. item_sent_over (f.connection coid) (item f t);
+  sends_over = Some coid;
+  sends = Some message;
+}

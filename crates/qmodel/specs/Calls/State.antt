@@ -1,5 +1,5 @@
 -- State: a thread's state and priority.
-use Rattle.std.specs.Prelude.{[], Option, None, Some, false, is_some, if◌then◌else◌}
+use Rattle.std.specs.Prelude.{Option, None, Some, is_some, if◌then◌else◌}
 use Rattle.qbase.specs.declared.errno.Errno.{Errno}
 use Rattle.qbase.specs.declared.errno.Errno.TheVariants.{Srch}
 use Rattle.qtables.specs.Members.{member_at}
@@ -7,7 +7,7 @@ use Rattle.qmodel.specs.declared.call.Mark.TheVariants as mark
 use Rattle.qmodel.specs.Ids.{ThreadNo}
 use Rattle.qmodel.specs.Facts.{Facts}
 use Rattle.qmodel.specs.ThreadStates.{state_in}
-use Rattle.qmodel.specs.Rows.{Row, ends_none}
+use Rattle.qmodel.specs.Rows.{Row, plain_row}
 use Rattle.qmodel.specs.Effect.{Effect, no_effect}
 
 -- a thread that the roster hasn't
@@ -16,13 +16,7 @@ refusal f thread = if is_some (member_at f.roster thread) then None else Some Sr
 
 -- any thread may ask for any
 abbrev pub row : Facts → ThreadNo → ThreadNo → Row
-row f t thread = record {
-  refusal = refusal f thread;
-  takes_memory = false;
-  own = Some (record { call = f.number; thread = t; mark = mark.State (state_in f.connection (f.open_call thread)) (f.priority thread); buffer = [] });
-  ends = ends_none;
-  receipt = None;
-}
+row f t thread = plain_row f.number t (refusal f thread) (mark.State (state_in f.connection (f.open_call thread)) (f.priority thread))
 
 -- it changes nothing
 abbrev pub effect : Effect

@@ -1,22 +1,16 @@
 -- Write: bytes over the reply buffer of a held message's sender, from an offset on.
-use Rattle.std.specs.Prelude.{ℕ, false, List, [], None, Some}
+use Rattle.std.specs.Prelude.{ℕ, List, Some}
 use Rattle.qbase.specs.Laying.{laid_count}
 use Rattle.qmodel.specs.declared.call.Mark.TheVariants as mark
 use Rattle.qmodel.specs.Ids.{ReceiveId, ThreadNo}
 use Rattle.qmodel.specs.Facts.{Facts}
 use Rattle.qmodel.specs.Held.{refusal, reply_buffer}
-use Rattle.qmodel.specs.Rows.{Row, ends_none}
+use Rattle.qmodel.specs.Rows.{Row, plain_row}
 use Rattle.qmodel.specs.Effect.{Effect, no_effect}
 
 -- how many bytes found room; what was written is read off the past calls
 abbrev pub row : Facts → ThreadNo → ReceiveId → ℕ → List ℕ → Row
-row f t rcvid offset bytes = record {
-  refusal = refusal f t rcvid;
-  takes_memory = false;
-  own = Some (record { call = f.number; thread = t; mark = mark.Count (laid_count (reply_buffer f rcvid) offset bytes); buffer = [] });
-  ends = ends_none;
-  receipt = None;
-}
+row f t rcvid offset bytes = plain_row f.number t (refusal f t rcvid) (mark.Count (laid_count (reply_buffer f rcvid) offset bytes))
 
 -- it writes over the message's reply buffer
 abbrev pub effect : ReceiveId → ℕ → List ℕ → Effect

@@ -1,4 +1,5 @@
 -- A message is answered at most once, by a call that may answer it, and to the thread that sent it.
+use Rattle.std.specs.Option.{option_map_or}
 use Rattle.std.specs.Prelude.{◌≡◌, ℕ, ◌==◌, ◌&&◌, not, Bool, true, false, List, [], ◌∷◌, count_by, Option, None, Some, if◌then◌else◌}
 use Rattle.std.specs.List.{AllByRecursion}
 use Rattle.qtables.specs.declared.member.Member.{Member}
@@ -22,28 +23,15 @@ abbrev pub channel_among : List Made → CallNo → Option ChannelId
 channel_among [] i = None
 channel_among (m ∷ made) i = if m.item.number == i then Some m.channel else channel_among made i
 
--- the thread's process owns this channel
-abbrev pub owns_that : List Member → Trace → ThreadNo → Option ChannelId → Bool
-owns_that roster past t None = false
-owns_that roster past t (Some h) = owns (facts_of roster past) t h
-
 -- the thread's process owns the channel of message i
 abbrev pub owns_channel_of : List Member → Trace → ThreadNo → ReceiveId → Bool
-owns_channel_of roster past t i = owns_that roster past t (channel_among (items roster past) i)
+owns_channel_of roster past t i = option_map_or (λ h. owns (facts_of roster past) t h) (channel_among (items roster past) i) false
 
 -- the mark is an answer
 abbrev pub is_answer : Mark → Bool
 is_answer (mark.Replied status copied) = true
 is_answer (mark.Errored code) = true
-is_answer mark.Ok = false
-is_answer (mark.Failed errno) = false
-is_answer (mark.Channel chid) = false
-is_answer (mark.Connection coid) = false
-is_answer (mark.Message rcvid copied) = false
-is_answer (mark.Count copied) = false
-is_answer (mark.Info info) = false
-is_answer (mark.Pulse item priority what) = false
-is_answer (mark.State state priority) = false
+is_answer other = false
 
 -- the ending is an answer to the message that the event's call names: while it was held, by a thread of the process that owns its channel,
 -- and to its sender

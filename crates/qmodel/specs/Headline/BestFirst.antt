@@ -31,4 +31,5 @@ pub record TakesBest (roster : List Member) (past : Trace) (e : Event) (x : Comp
 -- so it is with each receipt of each event
 abbrev pub BestFirst : List Member → Trace → Type 0
 BestFirst roster [] = Unit {0}
-BestFirst roster (e ∷ past) = AllByRecursion (λ x. (i : CallNo) → item_received x ≡ Some i → TakesBest roster past e x i) e.endings × BestFirst roster past
+BestFirst roster (e ∷ past) =
+    AllByRecursion (λ x. (i : CallNo) → item_received x ≡ Some i → TakesBest roster past e x i) e.endings × BestFirst roster past

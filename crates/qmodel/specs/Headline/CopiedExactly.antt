@@ -31,34 +31,25 @@ buffer_at past i = option_map_or (buffer_by past i) (call_at past i) []
 abbrev pub message_at : Trace → ReceiveId → List ℕ
 message_at past i = option_map_or message_sent (call_at past i) []
 
--- what is counted of a call that reads: the bytes of the message from the offset on that it lays over its buffer; of one that writes: those that it lays over the
--- reply buffer from the offset on; no other call counts
+-- what is counted of a call that reads: the bytes of the message from the offset on that it lays over its buffer; of one that writes:
+-- those that it lays over the reply buffer from the offset on; no other call counts
 abbrev pub IsCountOf : Trace → Option Reading → Option Written → Completion → ℕ → Type 0
 IsCountOf past (Some r) w x copied =
-    (x.buffer ≡ lay_over r.buffer 0 (drop r.offset (message_at past r.message))) × (copied ≡ laid_count r.buffer 0 (drop r.offset (message_at past r.message)))
+    (x.buffer ≡ lay_over r.buffer 0 (drop r.offset (message_at past r.message)))
+    × (copied ≡ laid_count r.buffer 0 (drop r.offset (message_at past r.message)))
 IsCountOf past None (Some w) x copied = (x.buffer ≡ []) × (copied ≡ laid_count (buffer_at past w.message) w.offset w.bytes)
 IsCountOf past None None x copied = ⊥
-
--- the same of this call
-abbrev pub IsCounted : Trace → Call → Completion → ℕ → Type 0
-IsCounted past c x copied = IsCountOf past (effect_of c).reads (effect_of c).writes x copied
 
 -- a receipt lays the message over the front of the receiver's buffer, a reply its bytes over the front of the sender's reply buffer, each to
 -- the shorter length and with that count; a Read and a Write copy what they count; any other ending gives the buffer as it is by then
 abbrev pub IsCopied : Trace → Event → Completion → Mark → Type 0
 IsCopied past e x (mark.Message rcvid copied) =
-    (x.buffer ≡ lay_over (buffer_at (e ∷ past) x.call) 0 (message_at (e ∷ past) rcvid)) × (copied ≡ laid_count (buffer_at (e ∷ past) x.call) 0 (message_at (e ∷ past) rcvid))
+    (x.buffer ≡ lay_over (buffer_at (e ∷ past) x.call) 0 (message_at (e ∷ past) rcvid))
+    × (copied ≡ laid_count (buffer_at (e ∷ past) x.call) 0 (message_at (e ∷ past) rcvid))
 IsCopied past e x (mark.Replied status copied) = (bytes : List ℕ) × (replies_with e.call ≡ Some (status, bytes))
     × (x.buffer ≡ lay_over (buffer_at (e ∷ past) x.call) 0 bytes) × (copied ≡ laid_count (buffer_at (e ∷ past) x.call) 0 bytes)
-IsCopied past e x (mark.Count copied) = IsCounted past e.call x copied
-IsCopied past e x mark.Ok = x.buffer ≡ buffer_at (e ∷ past) x.call
-IsCopied past e x (mark.Failed errno) = x.buffer ≡ buffer_at (e ∷ past) x.call
-IsCopied past e x (mark.Channel chid) = x.buffer ≡ buffer_at (e ∷ past) x.call
-IsCopied past e x (mark.Connection coid) = x.buffer ≡ buffer_at (e ∷ past) x.call
-IsCopied past e x (mark.Errored code) = x.buffer ≡ buffer_at (e ∷ past) x.call
-IsCopied past e x (mark.Info info) = x.buffer ≡ buffer_at (e ∷ past) x.call
-IsCopied past e x (mark.Pulse item priority what) = x.buffer ≡ buffer_at (e ∷ past) x.call
-IsCopied past e x (mark.State state priority) = x.buffer ≡ buffer_at (e ∷ past) x.call
+IsCopied past e x (mark.Count copied) = IsCountOf past (effect_of e.call).reads (effect_of e.call).writes x copied
+IsCopied past e x other = x.buffer ≡ buffer_at (e ∷ past) x.call
 
 -- so it is with each ending of each event
 abbrev pub CopiedExactly : Trace → Type 0

@@ -17,19 +17,24 @@ use Rattle.qmodel.specs.Effects.{sends_over}
 abbrev pub connection_of : Trace → CallNo → Option ConnectionId
 connection_of past i = option_and_then sends_over (call_at past i)
 
--- of all that could be taken from channel h, what was sent over connection k and had the priority of item j before the event isn't earlier than j
-abbrev pub NoneSentEarlier : List Member → Trace → Event → ConnectionId → CallNo → ChannelId → Type 0
-NoneSentEarlier roster past e k j h = AllByRecursion
+-- the ending is one of a Receive, which takes messages and pulses; it takes item j, which was sent over connection k
+pub record TakesSent (past : Trace) (x : Completion) (j : CallNo) (k : ConnectionId) : Type 0 where
+  pub channel : ChannelId
+  pub buffer : List ℕ
+  pub call : call_at past x.call ≡ Some (Receive channel buffer)
+  pub item : item_received x ≡ Some j
+  pub connection : connection_of past j ≡ Some k
+
+-- of what could be taken from any channel, nothing that was sent over connection k and had the priority of item j before the event
+-- is earlier than j
+abbrev pub IsEarliest : List Member → Trace → Event → CallNo → ConnectionId → Type 0
+IsEarliest roster past e j k = (h : ChannelId) → AllByRecursion
     (λ item. connection_of (e ∷ past) item.number ≡ Some k → item.priority ≡ priority_before roster e past j → j ≤ item.number)
     (takeable roster past e h)
 
--- the ending is one of a Receive, which takes messages and pulses
-abbrev pub IsPlainReceive : Trace → Completion → Type 0
-IsPlainReceive past x = (chid : ChannelId) × (buffer : List ℕ) × (call_at past x.call ≡ Some (Receive chid buffer))
-
--- so it is with each receipt by a Receive, of each event, of an item that was sent over a connection, on every channel
+-- so it is with each receipt by a Receive, of each event, of an item that was sent over a connection
 abbrev pub SentOrder : List Member → Trace → Type 0
 SentOrder roster [] = Unit {0}
 SentOrder roster (e ∷ past) =
-    AllByRecursion (λ x. (j : CallNo) (k : ConnectionId) (h : ChannelId) → IsPlainReceive (e ∷ past) x → item_received x ≡ Some j
-    → connection_of (e ∷ past) j ≡ Some k → NoneSentEarlier roster past e k j h) e.endings × SentOrder roster past
+    AllByRecursion (λ x. (j : CallNo) (k : ConnectionId) → TakesSent (e ∷ past) x j k → IsEarliest roster past e j k) e.endings
+    × SentOrder roster past

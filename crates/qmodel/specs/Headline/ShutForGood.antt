@@ -18,7 +18,8 @@ NoneReceivedFrom roster past h endings =
 
 -- no open call is blocked on channel h; a Send is blocked on the channel that its connection was attached to, detached or not
 abbrev pub NoneBlockedOn : List Member → Trace → ChannelId → Type 0
-NoneBlockedOn roster past h = (u : ThreadNo) (o : OpenCall) → open_call roster past u ≡ Some o → is_on (λ k. attached_connection roster past k) h o.wait ≡ false
+NoneBlockedOn roster past h =
+    (u : ThreadNo) (o : OpenCall) → open_call roster past u ≡ Some o → is_on (λ k. attached_connection roster past k) h o.wait ≡ false
 
 -- after each event, and in it, so it is with each channel that is destroyed by then
 abbrev pub ShutForGood : List Member → Trace → Type 0
