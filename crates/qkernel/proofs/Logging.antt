@@ -1,11 +1,11 @@
 -- A log of events: what its entries and endings say.
-use Rattle.std.proofs.Common.{◌≡◌, ℕ, ◌-◌, ◌≤◌, List, [], ◌∷◌, ◌++◌, length, map, take, drop, refl, ap, sym, ◌∙◌, arith, length-append}
+use Rattle.std.proofs.Common.{◌≡◌, ℕ, ◌-◌, ◌≤◌, List, [], ◌∷◌, ◌++◌, length, map, take, drop, refl, ap, sym, ◌∙◌, arith}
 use Rattle.std.specs.Prelude.{slice_range}
 use Rattle.std.proofs.lemmas.List.{append-nil, drop-append-le, take-append-drop}
 use Rattle.std.proofs.lemmas.Grind.{common_steps}
 use Rattle.qmodel.specs.declared.call.Completion.{Completion}
 use Rattle.qkernel.specs.declared.trace.Entry.{Entry}
-use Rattle.qkernel.specs.Kept.{entry_call, event_of, events_of, logged_by, AllWithin, IsKept}
+use Rattle.qkernel.specs.Kept.{entry_call, events_of, logged_by, AllWithin, IsKept}
 
 -- ---- more endings
 

@@ -13,7 +13,7 @@ use Rattle.qmodel.specs.OnlyRun.{event_call}
 use Rattle.qkernel.specs.Stands.{AnswersAtTraces}
 use Rattle.qkernel.specs.State.{State}
 use Rattle.qstate.specs.Threads.{members_of, blocked_count}
-use Rattle.qmodel.specs.Trace.{Event, Trace}
+use Rattle.qmodel.specs.Trace.{Event}
 use Rattle.qmodel.proofs.Following.{followed_push}
 use Rattle.qmodel.proofs.OnlyRun.{only_run}
 use Rattle.qmodel.proofs.Properties.All.{has_properties}

@@ -20,7 +20,7 @@ use Rattle.qstate.specs.declared.channel.Channel.{Channel}
 use Rattle.qstate.specs.declared.thread.Thread.{Thread}
 use Rattle.qkernel.specs.State.{State, IsSound, facts_in}
 use Rattle.qkernel.specs.Stands.{Steps}
-use Rattle.qstate.specs.Channels.{channel_in, ids_of, pending_in}
+use Rattle.qstate.specs.Channels.{pending_in}
 use Rattle.qstate.specs.Threads.{level_in, members_of, open_in, SetsLevel}
 use Rattle.qstate.specs.Unread.{MovesUnread}
 use Rattle.qmodel.specs.Step.{items_with_priority_set, is_unread_send}

@@ -1,5 +1,4 @@
 use Rattle.std.proofs.Common.{ap, ◌∙◌}
-use Rattle.qmodel.specs.Trace.{Event}
 use Rattle.qkernel.proofs.Logging.{within_all, events_all}
 use Rattle.qkernel.proofs.event_log.EventLog.into_trace.Goals as goal
 
