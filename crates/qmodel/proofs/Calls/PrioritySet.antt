@@ -26,19 +26,4 @@ pub record SetsAlone (c : Call) : Type 0 where
 
 pub sets_alone : (c : Call) → (sets c ≡ None) ⊎ SetsAlone c
 sets_alone (PrioritySet thread priority) = inr (record { makes_none = λ f t. refl; receives_none = λ f t. refl })
-sets_alone (ChannelCreate flags) = inl refl
-sets_alone (ConnectAttach chid) = inl refl
-sets_alone (Send coid message reply_buffer) = inl refl
-sets_alone (Receive chid buffer) = inl refl
-sets_alone (Reply rcvid status bytes) = inl refl
-sets_alone (Error rcvid code) = inl refl
-sets_alone (Read rcvid offset buffer) = inl refl
-sets_alone (Write rcvid offset bytes) = inl refl
-sets_alone (Info rcvid) = inl refl
-sets_alone (ReceivePulse chid) = inl refl
-sets_alone (Pulse coid priority code value) = inl refl
-sets_alone (State thread) = inl refl
-sets_alone (ChannelDestroy chid) = inl refl
-sets_alone Shutdown = inl refl
-sets_alone (Unblock thread) = inl refl
-sets_alone (ConnectDetach coid) = inl refl
+sets_alone c = inl refl

@@ -30,48 +30,18 @@ owned_open f t (Some c) e = refl
 
 -- an accepted call destroys a channel that is open
 pub closes_open : (f : Facts) (t : ℕ) (c : Call) (h : ℕ) → (row_of f t c).refusal ≡ None → names (closes c) h ≡ true → is_some (f.channel h) ≡ true
-closes_open f t (ChannelCreate flags) h r e = absurd (true≢false (sym e))
-closes_open f t (ConnectAttach chid) h r e = absurd (true≢false (sym e))
-closes_open f t (Send coid message reply_buffer) h r e = absurd (true≢false (sym e))
-closes_open f t (Receive chid buffer) h r e = absurd (true≢false (sym e))
-closes_open f t (Reply rcvid status bytes) h r e = absurd (true≢false (sym e))
-closes_open f t (Error rcvid code) h r e = absurd (true≢false (sym e))
-closes_open f t (Read rcvid offset buffer) h r e = absurd (true≢false (sym e))
-closes_open f t (Write rcvid offset bytes) h r e = absurd (true≢false (sym e))
-closes_open f t (Info rcvid) h r e = absurd (true≢false (sym e))
-closes_open f t (ReceivePulse chid) h r e = absurd (true≢false (sym e))
-closes_open f t (Pulse coid priority code value) h r e = absurd (true≢false (sym e))
-closes_open f t (PrioritySet thread priority) h r e = absurd (true≢false (sym e))
-closes_open f t (State thread) h r e = absurd (true≢false (sym e))
-closes_open f t Shutdown h r e = absurd (true≢false (sym e))
-closes_open f t (Unblock thread) h r e = absurd (true≢false (sym e))
-closes_open f t (ConnectDetach coid) h r e = absurd (true≢false (sym e))
 closes_open f t (ChannelDestroy chid) h r e =
     elim (owns f t chid) as (λ b. owns f t chid ≡ b → cond b None (Some Inval) ≡ None → is_some (f.channel h) ≡ true) [
       | true ↦ λ own _. subst (λ k. is_some (f.channel k) ≡ true) (eqb-true chid h e) (owned_open f t (f.channel chid) own)
       | false ↦ λ own s. absurd (none-some Inval (sym s))
     ] refl r
+closes_open f t c h r e = absurd (true≢false (sym e))
 
 -- and creates none
 pub closes_alone : (m : Option Member) (c : Call) (h : ℕ) → closes c ≡ Some h → creates m c ≡ None
 closes_alone None c h e = refl
 closes_alone (Some m) (ChannelCreate flags) h e = absurd (none-some h e)
-closes_alone (Some m) (ConnectAttach chid) h e = refl
-closes_alone (Some m) (Send coid message reply_buffer) h e = refl
-closes_alone (Some m) (Receive chid buffer) h e = refl
-closes_alone (Some m) (Reply rcvid status bytes) h e = refl
-closes_alone (Some m) (Error rcvid code) h e = refl
-closes_alone (Some m) (Read rcvid offset buffer) h e = refl
-closes_alone (Some m) (Write rcvid offset bytes) h e = refl
-closes_alone (Some m) (Info rcvid) h e = refl
-closes_alone (Some m) (ReceivePulse chid) h e = refl
-closes_alone (Some m) (Pulse coid priority code value) h e = refl
-closes_alone (Some m) (PrioritySet thread priority) h e = refl
-closes_alone (Some m) (State thread) h e = refl
-closes_alone (Some m) (ChannelDestroy chid) h e = refl
-closes_alone (Some m) Shutdown h e = refl
-closes_alone (Some m) (Unblock thread) h e = refl
-closes_alone (Some m) (ConnectDetach coid) h e = refl
+closes_alone (Some m) c h e = refl
 
 -- ---- the channels after one more event
 

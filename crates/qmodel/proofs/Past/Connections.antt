@@ -33,48 +33,18 @@ own_live f t (Some c) e = refl
 
 -- an accepted call detaches a connection that is live
 detaches_one : (f : Facts) (t : ℕ) (c : Call) (k : ℕ) → (row_of f t c).refusal ≡ None → names (detaches c) k ≡ true → is_some (f.connection k) ≡ true
-detaches_one f t (ChannelCreate flags) k r e = absurd (true≢false (sym e))
-detaches_one f t (ConnectAttach chid) k r e = absurd (true≢false (sym e))
-detaches_one f t (Send coid message reply_buffer) k r e = absurd (true≢false (sym e))
-detaches_one f t (Receive chid buffer) k r e = absurd (true≢false (sym e))
-detaches_one f t (Reply rcvid status bytes) k r e = absurd (true≢false (sym e))
-detaches_one f t (Error rcvid code) k r e = absurd (true≢false (sym e))
-detaches_one f t (Read rcvid offset buffer) k r e = absurd (true≢false (sym e))
-detaches_one f t (Write rcvid offset bytes) k r e = absurd (true≢false (sym e))
-detaches_one f t (Info rcvid) k r e = absurd (true≢false (sym e))
-detaches_one f t (ReceivePulse chid) k r e = absurd (true≢false (sym e))
-detaches_one f t (Pulse coid level code value) k r e = absurd (true≢false (sym e))
-detaches_one f t (PrioritySet thread priority) k r e = absurd (true≢false (sym e))
-detaches_one f t (State thread) k r e = absurd (true≢false (sym e))
-detaches_one f t (ChannelDestroy chid) k r e = absurd (true≢false (sym e))
-detaches_one f t Shutdown k r e = absurd (true≢false (sym e))
-detaches_one f t (Unblock thread) k r e = absurd (true≢false (sym e))
 detaches_one f t (ConnectDetach coid) k r e =
     elim (is_own f t (f.connection coid)) as (λ b. is_own f t (f.connection coid) ≡ b → cond b (refusal_if_full_for f (due_pulse f t coid)) (Some Inval) ≡ None → is_some (f.connection k) ≡ true) [
       | true ↦ λ own _. subst (λ j. is_some (f.connection j) ≡ true) (eqb-true coid k e) (own_live f t (f.connection coid) own)
       | false ↦ λ own s. absurd (none-some Inval (sym s))
     ] refl r
+detaches_one f t c k r e = absurd (true≢false (sym e))
 
 -- and attaches none
 detaches_alone : (m : Option Member) (c : Call) (k : ℕ) → detaches c ≡ Some k → attaches m c ≡ None
 detaches_alone None c k e = refl
-detaches_alone (Some m) (ChannelCreate flags) k e = refl
 detaches_alone (Some m) (ConnectAttach chid) k e = absurd (none-some k e)
-detaches_alone (Some m) (Send coid message reply_buffer) k e = refl
-detaches_alone (Some m) (Receive chid buffer) k e = refl
-detaches_alone (Some m) (Reply rcvid status bytes) k e = refl
-detaches_alone (Some m) (Error rcvid code) k e = refl
-detaches_alone (Some m) (Read rcvid offset buffer) k e = refl
-detaches_alone (Some m) (Write rcvid offset bytes) k e = refl
-detaches_alone (Some m) (Info rcvid) k e = refl
-detaches_alone (Some m) (ReceivePulse chid) k e = refl
-detaches_alone (Some m) (Pulse coid level code value) k e = refl
-detaches_alone (Some m) (PrioritySet thread priority) k e = refl
-detaches_alone (Some m) (State thread) k e = refl
-detaches_alone (Some m) (ChannelDestroy chid) k e = refl
-detaches_alone (Some m) Shutdown k e = refl
-detaches_alone (Some m) (Unblock thread) k e = refl
-detaches_alone (Some m) (ConnectDetach coid) k e = refl
+detaches_alone (Some m) c k e = refl
 
 -- ---- the connections after one more event
 

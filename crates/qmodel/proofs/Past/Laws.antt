@@ -59,19 +59,7 @@ is_forceful (ChannelDestroy chid) = true
 is_forceful Shutdown = true
 is_forceful (Unblock thread) = true
 is_forceful (ConnectDetach coid) = true
-is_forceful (ChannelCreate flags) = false
-is_forceful (ConnectAttach chid) = false
-is_forceful (Send coid message reply_buffer) = false
-is_forceful (Receive chid buffer) = false
-is_forceful (Reply rcvid status bytes) = false
-is_forceful (Error rcvid code) = false
-is_forceful (Read rcvid offset buffer) = false
-is_forceful (Write rcvid offset bytes) = false
-is_forceful (Info rcvid) = false
-is_forceful (ReceivePulse chid) = false
-is_forceful (Pulse coid priority code value) = false
-is_forceful (PrioritySet thread priority) = false
-is_forceful (State thread) = false
+is_forceful c = false
 
 -- nothing refuses the call: the kernel isn't shut down, its thread isn't blocked, and its row refuses nothing
 pub record Passes (f : Facts) (t : ℕ) (c : Call) : Type 0 where

@@ -32,23 +32,8 @@ use Rattle.qmodel.proofs.Properties.Sends.{buffer_over, held_over}
 
 -- a call that detaches a connection waits for nothing
 detaches_only : (n : ℕ) (c : Call) (b : OpenCall) (k : ℕ) → names (detaches c) k ≡ true → asks n c ≡ Some b → ⊥
-detaches_only n (ChannelCreate flags) b k d e = absurd (true≢false (sym d))
-detaches_only n (ConnectAttach chid) b k d e = absurd (true≢false (sym d))
-detaches_only n (Send coid message reply_buffer) b k d e = absurd (true≢false (sym d))
-detaches_only n (Receive chid buffer) b k d e = absurd (true≢false (sym d))
-detaches_only n (Reply rcvid status bytes) b k d e = absurd (true≢false (sym d))
-detaches_only n (Error rcvid code) b k d e = absurd (true≢false (sym d))
-detaches_only n (Read rcvid offset buffer) b k d e = absurd (true≢false (sym d))
-detaches_only n (Write rcvid offset bytes) b k d e = absurd (true≢false (sym d))
-detaches_only n (Info rcvid) b k d e = absurd (true≢false (sym d))
-detaches_only n (ReceivePulse chid) b k d e = absurd (true≢false (sym d))
-detaches_only n (Pulse coid level code value) b k d e = absurd (true≢false (sym d))
-detaches_only n (PrioritySet thread priority) b k d e = absurd (true≢false (sym d))
-detaches_only n (State thread) b k d e = absurd (true≢false (sym d))
-detaches_only n (ChannelDestroy chid) b k d e = absurd (true≢false (sym d))
-detaches_only n Shutdown b k d e = absurd (true≢false (sym d))
-detaches_only n (Unblock thread) b k d e = absurd (true≢false (sym d))
 detaches_only n (ConnectDetach coid) b k d e = none-some b e
+detaches_only n c b k d e = absurd (true≢false (sym d))
 
 is_over_it : (k : ℕ) (w : Wait) → is_for_answer w ≡ true → eqb (over w) k ≡ true → is_over k w ≡ true
 is_over_it k (Answer coid message reply_buffer receipt) e same = same
@@ -56,25 +41,10 @@ is_over_it k (ForItem chid kind buffer) e same = absurd (true≢false (sym e))
 
 -- it ends each Send over that connection
 detaching_ends : (f : Facts) (t : ℕ) (c : Call) (u : ℕ) (o : OpenCall) → f.open_call u ≡ Some o → is_for_answer o.wait ≡ true → names (detaches c) (over o.wait) ≡ true → is_some ((row_of f t c).ends u) ≡ true
-detaching_ends f t (ChannelCreate flags) u o is answer d = absurd (true≢false (sym d))
-detaching_ends f t (ConnectAttach chid) u o is answer d = absurd (true≢false (sym d))
-detaching_ends f t (Send coid message reply_buffer) u o is answer d = absurd (true≢false (sym d))
-detaching_ends f t (Receive chid buffer) u o is answer d = absurd (true≢false (sym d))
-detaching_ends f t (Reply rcvid status bytes) u o is answer d = absurd (true≢false (sym d))
-detaching_ends f t (Error rcvid code) u o is answer d = absurd (true≢false (sym d))
-detaching_ends f t (Read rcvid offset buffer) u o is answer d = absurd (true≢false (sym d))
-detaching_ends f t (Write rcvid offset bytes) u o is answer d = absurd (true≢false (sym d))
-detaching_ends f t (Info rcvid) u o is answer d = absurd (true≢false (sym d))
-detaching_ends f t (ReceivePulse chid) u o is answer d = absurd (true≢false (sym d))
-detaching_ends f t (Pulse coid level code value) u o is answer d = absurd (true≢false (sym d))
-detaching_ends f t (PrioritySet thread priority) u o is answer d = absurd (true≢false (sym d))
-detaching_ends f t (State thread) u o is answer d = absurd (true≢false (sym d))
-detaching_ends f t (ChannelDestroy chid) u o is answer d = absurd (true≢false (sym d))
-detaching_ends f t Shutdown u o is answer d = absurd (true≢false (sym d))
-detaching_ends f t (Unblock thread) u o is answer d = absurd (true≢false (sym d))
 detaching_ends f t (ConnectDetach coid) u o is answer d =
     let over_it : is_over coid o.wait ≡ true = is_over_it coid o.wait answer (eq-eqb (over o.wait) coid (sym (eqb-true coid (over o.wait) d))) in
     rw (is, over_it) refl
+detaching_ends f t c u o is answer d = absurd (true≢false (sym d))
 
 -- ---- what lasts of a wait
 

@@ -44,20 +44,8 @@ some_map k None = refl
 some_map k (Some x) = refl
 
 pub waits_or_ends : (f : Facts) (t : ℕ) (c : Call) → Passes f t c → (row_of f t c).own ≡ None → is_some (asks f.number c) ≡ true
-waits_or_ends f t (ChannelCreate flags) p e = absurd (none-some _ (sym e))
-waits_or_ends f t (ConnectAttach chid) p e = absurd (none-some _ (sym e))
 waits_or_ends f t (Send coid message reply_buffer) p e = refl
 waits_or_ends f t (Receive chid buffer) p e = refl
-waits_or_ends f t (Reply rcvid status bytes) p e = absurd (none-some _ (sym e))
-waits_or_ends f t (Error rcvid code) p e = absurd (none-some _ (sym e))
-waits_or_ends f t (Read rcvid offset buffer) p e = absurd (none-some _ (sym e))
-waits_or_ends f t (Write rcvid offset bytes) p e = absurd (none-some _ (sym e))
 waits_or_ends f t (Info rcvid) p e = absurd (true≢false (sym (some_map _ (info_of f (sender f rcvid)) ∙ info_tells f t rcvid p) ∙ ap is_some e))
 waits_or_ends f t (ReceivePulse chid) p e = refl
-waits_or_ends f t (Pulse coid priority code value) p e = absurd (none-some _ (sym e))
-waits_or_ends f t (PrioritySet thread priority) p e = absurd (none-some _ (sym e))
-waits_or_ends f t (State thread) p e = absurd (none-some _ (sym e))
-waits_or_ends f t (ChannelDestroy chid) p e = absurd (none-some _ (sym e))
-waits_or_ends f t Shutdown p e = absurd (none-some _ (sym e))
-waits_or_ends f t (Unblock thread) p e = absurd (none-some _ (sym e))
-waits_or_ends f t (ConnectDetach coid) p e = absurd (none-some _ (sym e))
+waits_or_ends f t c p e = absurd (none-some _ (sym e))

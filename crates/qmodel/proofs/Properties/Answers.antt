@@ -74,23 +74,11 @@ tells_only n t None y e = absurd (none-some y e)
 tells_only n t (Some told_so) y e = ap (λ x. is_answer x.mark) (sym (same_Some _ y e))
 
 own_answers : (f : Facts) (t : ℕ) (c : Call) (u : ℕ) (y : Completion) → (row_of f t c).own ≡ Some y → is_answer y.mark ≡ true → AnswersHeld f t c u y
-own_answers f t (ChannelCreate flags) u y e is = no_answer _ y (same_Some _ y e) refl is
-own_answers f t (ConnectAttach chid) u y e is = no_answer _ y (same_Some _ y e) refl is
 own_answers f t (Send coid message reply_buffer) u y e is = absurd (none-some y e)
 own_answers f t (Receive chid buffer) u y e is = takes_no_answer f t chid Any buffer y (receive_takes f t chid Any buffer y e) is
 own_answers f t (ReceivePulse chid) u y e is = takes_no_answer f t chid PulseOnly [] y (receive_takes f t chid PulseOnly [] y e) is
-own_answers f t (Pulse coid level code value) u y e is = no_answer _ y (same_Some _ y e) refl is
-own_answers f t (Reply rcvid status bytes) u y e is = no_answer _ y (same_Some _ y e) refl is
-own_answers f t (Error rcvid code) u y e is = no_answer _ y (same_Some _ y e) refl is
-own_answers f t (Read rcvid offset buffer) u y e is = no_answer _ y (same_Some _ y e) refl is
-own_answers f t (Write rcvid offset bytes) u y e is = no_answer _ y (same_Some _ y e) refl is
 own_answers f t (Info rcvid) u y e is = absurd (true≢false (sym is ∙ tells_only f.number t (info_of f (sender f rcvid)) y e))
-own_answers f t (PrioritySet thread level) u y e is = no_answer _ y (same_Some _ y e) refl is
-own_answers f t (State thread) u y e is = no_answer _ y (same_Some _ y e) refl is
-own_answers f t (ChannelDestroy chid) u y e is = no_answer _ y (same_Some _ y e) refl is
-own_answers f t Shutdown u y e is = no_answer _ y (same_Some _ y e) refl is
-own_answers f t (Unblock thread) u y e is = no_answer _ y (same_Some _ y e) refl is
-own_answers f t (ConnectDetach coid) u y e is = no_answer _ y (same_Some _ y e) refl is
+own_answers f t c u y e is = no_answer _ y (same_Some _ y e) refl is
 
 -- the Send that a call ends is the one that it names
 answers_by : (f : Facts) (t : ℕ) (c : Call) (rcvid : ℕ) (finish : Finish) (u : ℕ) (y : Completion) → answered_by c ≡ Some rcvid → SenderEnds f t rcvid finish u y → AnswersHeld f t c u y
@@ -105,20 +93,11 @@ answers_by f t c rcvid finish u y named r =
     }
 
 ends_answers : (f : Facts) (t : ℕ) (c : Call) (u : ℕ) (y : Completion) → Passes f t c → (row_of f t c).ends u ≡ Some y → is_answer y.mark ≡ true → AnswersHeld f t c u y
-ends_answers f t (ChannelCreate flags) u y p e is = absurd (none-some y e)
-ends_answers f t (ConnectAttach chid) u y p e is = absurd (none-some y e)
 ends_answers f t (Send coid message reply_buffer) u y p e is = met_no_answer f (way f t coid) (item f t) message u y (delivery_meets f (way f t coid) (item f t) message u y e) is
 ends_answers f t (Pulse coid level code value) u y p e is =
     let k = told_meets f (pulse.sent_pulse f coid level code value) u y e in met_no_answer f (Some k.made.channel) k.made.item [] u y k.meets is
-ends_answers f t (ReceivePulse chid) u y p e is = absurd (none-some y e)
-ends_answers f t (Receive chid buffer) u y p e is = absurd (none-some y e)
 ends_answers f t (Reply rcvid status bytes) u y p e is = answers_by f t (Reply rcvid status bytes) rcvid (reply_finish status bytes) u y refl (sender_ends f t rcvid (reply_finish status bytes) u y p.row e)
 ends_answers f t (Error rcvid code) u y p e is = answers_by f t (Error rcvid code) rcvid (error_finish code) u y refl (sender_ends f t rcvid (error_finish code) u y p.row e)
-ends_answers f t (Read rcvid offset buffer) u y p e is = absurd (none-some y e)
-ends_answers f t (Write rcvid offset bytes) u y p e is = absurd (none-some y e)
-ends_answers f t (Info rcvid) u y p e is = absurd (none-some y e)
-ends_answers f t (PrioritySet thread level) u y p e is = absurd (none-some y e)
-ends_answers f t (State thread) u y p e is = absurd (none-some y e)
 ends_answers f t (ChannelDestroy chid) u y p e is = no_answer _ y (cut_parts (is_on f.connection chid) Srch u (f.open_call u) y e).ending refl is
 ends_answers f t Shutdown u y p e is = no_answer _ y (cut_parts (λ wait. true) Srch u (f.open_call u) y e).ending refl is
 ends_answers f t (Unblock thread) u y p e is = elim (unblock_ends f thread u y (unblock.due_pulse f thread) e) [
@@ -129,6 +108,7 @@ ends_answers f t (ConnectDetach coid) u y p e is = elim (detach_ends f coid (con
   | inl cut ↦ no_answer _ y cut.ending refl is
   | inr s ↦ let k = told_meets f (connect_detach.due_pulse f t coid) u y s in met_no_answer f (Some k.made.channel) k.made.item [] u y k.meets is
 ]
+ends_answers f t c u y p e is = absurd (none-some y e)
 
 -- each ending that answers a message answers so
 pub answers_held : (f : Facts) (t : ℕ) (c : Call) (u : ℕ) (y : Completion) → Passes f t c → ending f t c u ≡ Some y → is_answer y.mark ≡ true → AnswersHeld f t c u y
@@ -172,23 +152,9 @@ error_answers : (code : ℤ) → is_answer (mark_of code) ≡ true
 error_answers code = elim (int_eq code (pos 0)) as (λ b. is_answer (cond b (mark.Replied (pos 0) 0) (mark.Errored code)) ≡ true) [ true ↦ refl | false ↦ refl ]
 
 pub answers_one : (f : Facts) (t : ℕ) (c : Call) (i : ℕ) → Passes f t c → answered_by c ≡ Some i → AnswersOne f t c i
-answers_one f t (ChannelCreate flags) i p e = absurd (none-some i e)
-answers_one f t (ConnectAttach chid) i p e = absurd (none-some i e)
-answers_one f t (Send coid message reply_buffer) i p e = absurd (none-some i e)
-answers_one f t (Receive chid buffer) i p e = absurd (none-some i e)
-answers_one f t (Read rcvid offset buffer) i p e = absurd (none-some i e)
-answers_one f t (Write rcvid offset bytes) i p e = absurd (none-some i e)
-answers_one f t (Info rcvid) i p e = absurd (none-some i e)
-answers_one f t (PrioritySet thread level) i p e = absurd (none-some i e)
-answers_one f t (State thread) i p e = absurd (none-some i e)
-answers_one f t (ChannelDestroy chid) i p e = absurd (none-some i e)
-answers_one f t Shutdown i p e = absurd (none-some i e)
-answers_one f t (Unblock thread) i p e = absurd (none-some i e)
-answers_one f t (ConnectDetach coid) i p e = absurd (none-some i e)
-answers_one f t (ReceivePulse chid) i p e = absurd (none-some i e)
-answers_one f t (Pulse coid level code value) i p e = absurd (none-some i e)
 answers_one f t (Reply rcvid status bytes) i p e = ends_one f t (Reply rcvid status bytes) rcvid (reply_finish status bytes) i p.row (λ u. refl) (λ buffer. refl) (same_Some rcvid i e)
 answers_one f t (Error rcvid code) i p e = ends_one f t (Error rcvid code) rcvid (error_finish code) i p.row (λ u. refl) (λ buffer. error_answers code) (same_Some rcvid i e)
+answers_one f t c i p e = absurd (none-some i e)
 
 -- ---- what waits for an answer
 
@@ -218,41 +184,15 @@ send_over f t coid message reply_buffer p =
     }
 
 pub sends_over : (f : Facts) (t : ℕ) (c : Call) (b : OpenCall) → Passes f t c → asks f.number c ≡ Some b → is_for_answer b.wait ≡ true → SendsOver f t c (over b.wait)
-sends_over f t (ChannelCreate flags) b p e w = absurd (none-some b e)
-sends_over f t (ConnectAttach chid) b p e w = absurd (none-some b e)
-sends_over f t (Reply rcvid status bytes) b p e w = absurd (none-some b e)
-sends_over f t (Error rcvid code) b p e w = absurd (none-some b e)
-sends_over f t (Read rcvid offset buffer) b p e w = absurd (none-some b e)
-sends_over f t (Write rcvid offset bytes) b p e w = absurd (none-some b e)
-sends_over f t (Info rcvid) b p e w = absurd (none-some b e)
-sends_over f t (PrioritySet thread level) b p e w = absurd (none-some b e)
-sends_over f t (State thread) b p e w = absurd (none-some b e)
-sends_over f t (ChannelDestroy chid) b p e w = absurd (none-some b e)
-sends_over f t Shutdown b p e w = absurd (none-some b e)
-sends_over f t (Unblock thread) b p e w = absurd (none-some b e)
-sends_over f t (ConnectDetach coid) b p e w = absurd (none-some b e)
-sends_over f t (Pulse coid level code value) b p e w = absurd (none-some b e)
 sends_over f t (ReceivePulse chid) b p e w = absurd (true≢false (sym w ∙ ap (λ o. is_for_answer o.wait) (sym (same_Some _ b e))))
 sends_over f t (Receive chid buffer) b p e w = absurd (true≢false (sym w ∙ ap (λ o. is_for_answer o.wait) (sym (same_Some _ b e))))
 sends_over f t (Send coid message reply_buffer) b p e w =
     subst (SendsOver f t (Send coid message reply_buffer)) (ap (λ o. over o.wait) (same_Some _ b e)) (send_over f t coid message reply_buffer p)
+sends_over f t c b p e w = absurd (none-some b e)
 
 -- and its thread is the caller
 pub sends_by : (n t : ℕ) (c : Call) (b : OpenCall) → asks n c ≡ Some b → is_for_answer b.wait ≡ true → thread_of_send t c ≡ Some t
-sends_by n t (ChannelCreate flags) b e w = absurd (none-some b e)
-sends_by n t (ConnectAttach chid) b e w = absurd (none-some b e)
 sends_by n t (Send coid message reply_buffer) b e w = refl
 sends_by n t (Receive chid buffer) b e w = absurd (true≢false (sym w ∙ ap (λ o. is_for_answer o.wait) (sym (same_Some _ b e))))
-sends_by n t (Reply rcvid status bytes) b e w = absurd (none-some b e)
-sends_by n t (Error rcvid code) b e w = absurd (none-some b e)
-sends_by n t (Read rcvid offset buffer) b e w = absurd (none-some b e)
-sends_by n t (Write rcvid offset bytes) b e w = absurd (none-some b e)
-sends_by n t (Info rcvid) b e w = absurd (none-some b e)
-sends_by n t (PrioritySet thread level) b e w = absurd (none-some b e)
-sends_by n t (State thread) b e w = absurd (none-some b e)
-sends_by n t (ChannelDestroy chid) b e w = absurd (none-some b e)
-sends_by n t Shutdown b e w = absurd (none-some b e)
-sends_by n t (Unblock thread) b e w = absurd (none-some b e)
-sends_by n t (ConnectDetach coid) b e w = absurd (none-some b e)
-sends_by n t (Pulse coid level code value) b e w = absurd (none-some b e)
 sends_by n t (ReceivePulse chid) b e w = absurd (true≢false (sym w ∙ ap (λ o. is_for_answer o.wait) (sym (same_Some _ b e))))
+sends_by n t c b e w = absurd (none-some b e)

@@ -65,24 +65,10 @@ sent_is_over connection k item m e =
     ] refl e
 
 makes_over : (f : Facts) (t : ℕ) (c : Call) (m : Made) (k : ℕ) → makes f t c ≡ Some m → sends_over c ≡ Some k → IsOver f.connection k m
-makes_over f t (ChannelCreate flags) m k e s = absurd (none-some k s)
-makes_over f t (ConnectAttach chid) m k e s = absurd (none-some k s)
-makes_over f t (Receive chid buffer) m k e s = absurd (none-some k s)
-makes_over f t (Reply rcvid status bytes) m k e s = absurd (none-some k s)
-makes_over f t (Error rcvid code) m k e s = absurd (none-some k s)
-makes_over f t (Read rcvid offset buffer) m k e s = absurd (none-some k s)
-makes_over f t (Write rcvid offset bytes) m k e s = absurd (none-some k s)
-makes_over f t (Info rcvid) m k e s = absurd (none-some k s)
-makes_over f t (PrioritySet thread level) m k e s = absurd (none-some k s)
-makes_over f t (State thread) m k e s = absurd (none-some k s)
-makes_over f t (ChannelDestroy chid) m k e s = absurd (none-some k s)
-makes_over f t Shutdown m k e s = absurd (none-some k s)
-makes_over f t (Unblock thread) m k e s = absurd (none-some k s)
-makes_over f t (ConnectDetach coid) m k e s = absurd (none-some k s)
-makes_over f t (ReceivePulse chid) m k e s = absurd (none-some k s)
 makes_over f t (Pulse coid level code value) m k e s = subst (λ i. IsOver f.connection i m) (same_Some coid k s) (sent_is_over f.connection coid (pulse_item f.number level code value) m e)
 makes_over f t (Send coid message reply_buffer) m k e s =
     subst (λ i. IsOver f.connection i m) (same_Some coid k s) (sent_is_over f.connection coid (message_item f.number (f.priority t)) m e)
+makes_over f t c m k e s = absurd (none-some k s)
 
 pub item_over : (roster : List Member) (past : Trace) (i k : ℕ) (m : Made) → item_at roster past i ≡ Some m → connection_of past i ≡ Some k → IsOver (attached_connection roster past) k m
 item_over roster [] i k m is over = absurd (none-some m is)

@@ -78,22 +78,7 @@ message_earlier e past i l = ap (λ c. option_map_or message_sent c []) (call_ea
 -- a call that writes nothing leaves the buffers of earlier calls
 buffer_stays : (e : Event) (past : Trace) (i : ℕ) (c : Call) → writes e.call ≡ None → buffer_by (e ∷ past) i c ≡ buffer_by past i c
 buffer_stays e past i (Send coid message reply_buffer) none = writes_nothing e past i reply_buffer none
-buffer_stays e past i (ChannelCreate flags) none = refl
-buffer_stays e past i (ConnectAttach chid) none = refl
-buffer_stays e past i (Receive chid buffer) none = refl
-buffer_stays e past i (Reply rcvid status bytes) none = refl
-buffer_stays e past i (Error rcvid code) none = refl
-buffer_stays e past i (Read rcvid offset buffer) none = refl
-buffer_stays e past i (Write rcvid offset bytes) none = refl
-buffer_stays e past i (Info rcvid) none = refl
-buffer_stays e past i (PrioritySet thread level) none = refl
-buffer_stays e past i (State thread) none = refl
-buffer_stays e past i (ChannelDestroy chid) none = refl
-buffer_stays e past i Shutdown none = refl
-buffer_stays e past i (Unblock thread) none = refl
-buffer_stays e past i (ConnectDetach coid) none = refl
-buffer_stays e past i (ReceivePulse chid) none = refl
-buffer_stays e past i (Pulse coid level code value) none = refl
+buffer_stays e past i c none = refl
 
 buffer_earlier : (e : Event) (past : Trace) (i : ℕ) → i ≤ length past → writes e.call ≡ None → buffer_at (e ∷ past) i ≡ buffer_at past i
 buffer_earlier e past i l none =
@@ -181,26 +166,16 @@ best_copied roster past t c X y chid kind buffer l brought r =
 
 own_copied : (roster : List Member) (past : Trace) (t : ℕ) (c : Call) (X : List Completion) (y : Completion) → IsLawful roster past → Passes (facts_of roster past) t c → (row_of (facts_of roster past) t c).own ≡ Some y
     → IsCopied past (event t c X) y y.mark
-own_copied roster past t (ChannelCreate flags) X y l p e = plain_copied past (event t (ChannelCreate flags) X) y _ (same_Some _ y e) (sym (buffer_newest (event t (ChannelCreate flags) X) past))
-own_copied roster past t (ConnectAttach chid) X y l p e = plain_copied past (event t (ConnectAttach chid) X) y _ (same_Some _ y e) (sym (buffer_newest (event t (ConnectAttach chid) X) past))
 own_copied roster past t (Send coid sent reply_buffer) X y l p e = absurd (none-some y e)
-own_copied roster past t (Reply rcvid status bytes) X y l p e = plain_copied past (event t (Reply rcvid status bytes) X) y _ (same_Some _ y e) (sym (buffer_newest (event t (Reply rcvid status bytes) X) past))
-own_copied roster past t (Error rcvid code) X y l p e = plain_copied past (event t (Error rcvid code) X) y _ (same_Some _ y e) (sym (buffer_newest (event t (Error rcvid code) X) past))
 own_copied roster past t (Read rcvid offset buffer) X y l p e =
     plain_copied past (event t (Read rcvid offset buffer) X) y _ (same_Some _ y e) (rw (held_message roster past t rcvid p.row) (refl, refl))
 own_copied roster past t (Write rcvid offset bytes) X y l p e =
     plain_copied past (event t (Write rcvid offset bytes) X) y _ (same_Some _ y e) (refl, ap (λ b. laid_count b offset bytes) (held_buffer roster past t rcvid p.row))
 own_copied roster past t (Info rcvid) X y l p e =
     told_copied past (event t (Info rcvid) X) (length past + 1) t (info_of (facts_of roster past) (sender (facts_of roster past) rcvid)) y e (buffer_newest (event t (Info rcvid) X) past)
-own_copied roster past t (PrioritySet thread level) X y l p e = plain_copied past (event t (PrioritySet thread level) X) y _ (same_Some _ y e) (sym (buffer_newest (event t (PrioritySet thread level) X) past))
-own_copied roster past t (State thread) X y l p e = plain_copied past (event t (State thread) X) y _ (same_Some _ y e) (sym (buffer_newest (event t (State thread) X) past))
-own_copied roster past t (ChannelDestroy chid) X y l p e = plain_copied past (event t (ChannelDestroy chid) X) y _ (same_Some _ y e) (sym (buffer_newest (event t (ChannelDestroy chid) X) past))
-own_copied roster past t Shutdown X y l p e = plain_copied past (event t Shutdown X) y _ (same_Some _ y e) (sym (buffer_newest (event t Shutdown X) past))
-own_copied roster past t (Unblock thread) X y l p e = plain_copied past (event t (Unblock thread) X) y _ (same_Some _ y e) (sym (buffer_newest (event t (Unblock thread) X) past))
-own_copied roster past t (ConnectDetach coid) X y l p e = plain_copied past (event t (ConnectDetach coid) X) y _ (same_Some _ y e) (sym (buffer_newest (event t (ConnectDetach coid) X) past))
-own_copied roster past t (Pulse coid level code value) X y l p e = plain_copied past (event t (Pulse coid level code value) X) y _ (same_Some _ y e) (sym (buffer_newest (event t (Pulse coid level code value) X) past))
 own_copied roster past t (Receive chid buffer) X y l p e = best_copied roster past t (Receive chid buffer) X y chid Any buffer l (buffer_newest (event t (Receive chid buffer) X) past) (receive_takes (facts_of roster past) t chid Any buffer y e)
 own_copied roster past t (ReceivePulse chid) X y l p e = best_copied roster past t (ReceivePulse chid) X y chid PulseOnly [] l (buffer_newest (event t (ReceivePulse chid) X) past) (receive_takes (facts_of roster past) t chid PulseOnly [] y e)
+own_copied roster past t c X y l p e = plain_copied past (event t c X) y _ (same_Some _ y e) (sym (buffer_newest (event t c X) past))
 
 -- the buffer of the Send that is answered
 answered_buffer : (roster : List Member) (past : Trace) (v : Event) (t rcvid : ℕ) (finish : Finish) (u : ℕ) (y : Completion) → writes v.call ≡ None → (r : SenderEnds (facts_of roster past) t rcvid finish u y)
@@ -228,14 +203,6 @@ told_now roster past t c X u y o none pulse k =
 
 ends_copied : (roster : List Member) (past : Trace) (t : ℕ) (c : Call) (X : List Completion) (u : ℕ) (y : Completion) → Passes (facts_of roster past) t c → (row_of (facts_of roster past) t c).ends u ≡ Some y
     → IsCopied past (event t c X) y y.mark
-ends_copied roster past t (ChannelCreate flags) X u y p e = absurd (none-some y e)
-ends_copied roster past t (ConnectAttach chid) X u y p e = absurd (none-some y e)
-ends_copied roster past t (Receive chid buffer) X u y p e = absurd (none-some y e)
-ends_copied roster past t (Read rcvid offset buffer) X u y p e = absurd (none-some y e)
-ends_copied roster past t (Write rcvid offset bytes) X u y p e = absurd (none-some y e)
-ends_copied roster past t (Info rcvid) X u y p e = absurd (none-some y e)
-ends_copied roster past t (PrioritySet thread level) X u y p e = absurd (none-some y e)
-ends_copied roster past t (State thread) X u y p e = absurd (none-some y e)
 ends_copied roster past t (ChannelDestroy chid) X u y p e = cut_copied roster past t (ChannelDestroy chid) X u y (is_on (facts_of roster past).connection chid) Srch refl (cut_parts (is_on (facts_of roster past).connection chid) Srch u (open_call roster past u) y e)
 ends_copied roster past t Shutdown X u y p e = cut_copied roster past t Shutdown X u y (λ wait. true) Srch refl (cut_parts (λ wait. true) Srch u (open_call roster past u) y e)
 ends_copied roster past t (Unblock thread) X u y p e = elim (unblock_ends (facts_of roster past) thread u y (unblock.due_pulse (facts_of roster past) thread) e) [
@@ -247,7 +214,6 @@ ends_copied roster past t (ConnectDetach coid) X u y p e = elim (detach_ends (fa
   | inr s ↦ told_now roster past t (ConnectDetach coid) X u y (connect_detach.due_pulse (facts_of roster past) t coid) refl (λ m is. detaching.due_is_pulse (facts_of roster past) t coid m is)
       (told_meets (facts_of roster past) (connect_detach.due_pulse (facts_of roster past) t coid) u y s)
 ]
-ends_copied roster past t (ReceivePulse chid) X u y p e = absurd (none-some y e)
 ends_copied roster past t (Send coid sent reply_buffer) X u y p e =
     met_copied roster past t (Send coid sent reply_buffer) X u y (way (facts_of roster past) t coid) (send.item (facts_of roster past) t) sent refl (λ message. message_newest (event t (Send coid sent reply_buffer) X) past)
     (delivery_meets (facts_of roster past) (way (facts_of roster past) t coid) (send.item (facts_of roster past) t) sent u y e)
@@ -262,6 +228,7 @@ ends_copied roster past t (Error rcvid code) X u y p e =
     let r = sender_ends (facts_of roster past) t rcvid (error_finish code) u y p.row e in
     let v = event t (Error rcvid code) X in
     errored_copied past v rcvid u code r.held.reply_buffer y refl (answered_buffer roster past v t rcvid (error_finish code) u y refl r) r.ending
+ends_copied roster past t c X u y p e = absurd (none-some y e)
 
 ending_copied : (roster : List Member) (past : Trace) (t : ℕ) (c : Call) (X : List Completion) (u : ℕ) (y : Completion) → IsLawful roster past → Passes (facts_of roster past) t c
     → ending (facts_of roster past) t c u ≡ Some y → IsCopied past (event t c X) y y.mark
@@ -277,22 +244,7 @@ refused_buffer : (roster : List Member) (past : Trace) (t : ℕ) (c : Call) (X :
 refused_buffer roster past t c X l r = brought c ∙ sym (buffer_newest (event t c X) past) where
   brought : (d : Call) → buffer_of d ≡ buffer_by (event t c X ∷ past) (length past + 1) d
   brought (Send coid message reply_buffer) = sym (writes_refused (event t c X) past (length past + 1) reply_buffer r ∙ writes_beyond roster past (length past + 1) reply_buffer l (omega arith))
-  brought (ChannelCreate flags) = refl
-  brought (ConnectAttach chid) = refl
-  brought (Receive chid buffer) = refl
-  brought (Reply rcvid status bytes) = refl
-  brought (Error rcvid code) = refl
-  brought (Read rcvid offset buffer) = refl
-  brought (Write rcvid offset bytes) = refl
-  brought (Info rcvid) = refl
-  brought (PrioritySet thread level) = refl
-  brought (State thread) = refl
-  brought (ChannelDestroy chid) = refl
-  brought Shutdown = refl
-  brought (Unblock thread) = refl
-  brought (ConnectDetach coid) = refl
-  brought (ReceivePulse chid) = refl
-  brought (Pulse coid level code value) = refl
+  brought d = refl
 
 all_copied : (roster : List Member) (past : Trace) (t : ℕ) (c : Call) (X : List Completion) → IsLawful roster past → Answers (facts_of roster past) t c X
     → AllByRecursion (λ x. IsCopied past (event t c X) x x.mark) X

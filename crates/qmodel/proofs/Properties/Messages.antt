@@ -44,23 +44,10 @@ pub record Keeps (past : Trace) (n : ℕ) (c : Call) (b : OpenCall) : Type 0 whe
   pub sent : message_in_call c ≡ message_of b.wait
 
 pub keeps : (past : Trace) (n : ℕ) (c : Call) (b : OpenCall) → asks n c ≡ Some b → Keeps past n c b
-keeps past n (ChannelCreate flags) b e = absurd (none-some b e)
-keeps past n (ConnectAttach chid) b e = absurd (none-some b e)
-keeps past n (Reply rcvid status bytes) b e = absurd (none-some b e)
-keeps past n (Error rcvid code) b e = absurd (none-some b e)
-keeps past n (Read rcvid offset buffer) b e = absurd (none-some b e)
-keeps past n (Write rcvid offset bytes) b e = absurd (none-some b e)
-keeps past n (Info rcvid) b e = absurd (none-some b e)
-keeps past n (PrioritySet thread level) b e = absurd (none-some b e)
-keeps past n (State thread) b e = absurd (none-some b e)
-keeps past n (ChannelDestroy chid) b e = absurd (none-some b e)
-keeps past n Shutdown b e = absurd (none-some b e)
-keeps past n (Unblock thread) b e = absurd (none-some b e)
-keeps past n (ConnectDetach coid) b e = absurd (none-some b e)
-keeps past n (Pulse coid level code value) b e = absurd (none-some b e)
 keeps past n (ReceivePulse chid) b e = subst (Keeps past n (ReceivePulse chid)) (same_Some _ b e) (record { buffer = refl; sent = refl })
 keeps past n (Send coid message reply_buffer) b e = subst (Keeps past n (Send coid message reply_buffer)) (same_Some _ b e) (record { buffer = refl; sent = refl })
 keeps past n (Receive chid buffer) b e = subst (Keeps past n (Receive chid buffer)) (same_Some _ b e) (record { buffer = refl; sent = refl })
+keeps past n c b e = absurd (none-some b e)
 
 held_buffer_of : (receipt : Receipt) (w : Wait) → buffer_of_wait (wait_with_receipt receipt w) ≡ buffer_of_wait w
 held_buffer_of receipt (Answer coid sent reply_buffer before) = refl
@@ -97,21 +84,8 @@ pub record IsMessage (n : ℕ) (c : Call) (m : Made) : Type 0 where
   pub answer : is_for_answer begins.wait ≡ true
 
 pub makes_message : (f : Facts) (t : ℕ) (c : Call) (m : Made) → makes f t c ≡ Some m → is_pulse m.item.what ≡ false → IsMessage f.number c m
-makes_message f t (ChannelCreate flags) m e message = absurd (none-some m e)
-makes_message f t (ConnectAttach chid) m e message = absurd (none-some m e)
-makes_message f t (Receive chid buffer) m e message = absurd (none-some m e)
-makes_message f t (Reply rcvid status bytes) m e message = absurd (none-some m e)
-makes_message f t (Error rcvid code) m e message = absurd (none-some m e)
-makes_message f t (Read rcvid offset buffer) m e message = absurd (none-some m e)
-makes_message f t (Write rcvid offset bytes) m e message = absurd (none-some m e)
-makes_message f t (Info rcvid) m e message = absurd (none-some m e)
-makes_message f t (PrioritySet thread level) m e message = absurd (none-some m e)
-makes_message f t (State thread) m e message = absurd (none-some m e)
-makes_message f t (ChannelDestroy chid) m e message = absurd (none-some m e)
-makes_message f t Shutdown m e message = absurd (none-some m e)
 makes_message f t (Unblock thread) m e message = absurd (true≢false (sym (due_is_pulse f thread m e) ∙ message))
 makes_message f t (ConnectDetach coid) m e message = absurd (true≢false (sym (detaching.due_is_pulse f t coid m e) ∙ message))
-makes_message f t (ReceivePulse chid) m e message = absurd (none-some m e)
 makes_message f t (Pulse coid level code value) m e message =
     absurd (true≢false (ap (λ x. is_pulse x.what) (sym (sent_item (f.connection coid) (pulse_item f.number level code value) m e)) ∙ message))
 makes_message f t (Send coid sent reply_buffer) m e message = record {
@@ -119,6 +93,7 @@ makes_message f t (Send coid sent reply_buffer) m e message = record {
   asked = refl;
   answer = refl;
 }
+makes_message f t c m e message = absurd (none-some m e)
 
 -- the call of number i is the newest blocking call of a thread, and waits for an answer
 pub record IsWaiting (past : Trace) (i : ℕ) : Type 0 where

@@ -108,23 +108,11 @@ takes_best f t c chid kind buffer u y p same receives none r m = inl (record {
 })
 
 own_takes : (f : Facts) (t : ℕ) (c : Call) (u : ℕ) (y : Completion) (p : ℕ × ℕ) → u ≡ t → (row_of f t c).own ≡ Some y → item_in_mark y.mark ≡ Some p → TakesOne f t c u y p.0
-own_takes f t (ChannelCreate flags) u y p same e m = absurd (none-some p (ap (λ x. item_in_mark x.mark) (same_Some _ y e) ∙ m))
-own_takes f t (ConnectAttach chid) u y p same e m = absurd (none-some p (ap (λ x. item_in_mark x.mark) (same_Some _ y e) ∙ m))
 own_takes f t (Send coid message reply_buffer) u y p same e m = absurd (none-some y e)
-own_takes f t (Reply rcvid status bytes) u y p same e m = absurd (none-some p (ap (λ x. item_in_mark x.mark) (same_Some _ y e) ∙ m))
-own_takes f t (Error rcvid code) u y p same e m = absurd (none-some p (ap (λ x. item_in_mark x.mark) (same_Some _ y e) ∙ m))
-own_takes f t (Read rcvid offset buffer) u y p same e m = absurd (none-some p (ap (λ x. item_in_mark x.mark) (same_Some _ y e) ∙ m))
-own_takes f t (Write rcvid offset bytes) u y p same e m = absurd (none-some p (ap (λ x. item_in_mark x.mark) (same_Some _ y e) ∙ m))
 own_takes f t (Info rcvid) u y p same e m = absurd (none-some p (sym (plain f.number t (info_of f (sender f rcvid)) y e).mark ∙ m))
-own_takes f t (PrioritySet thread level) u y p same e m = absurd (none-some p (ap (λ x. item_in_mark x.mark) (same_Some _ y e) ∙ m))
-own_takes f t (State thread) u y p same e m = absurd (none-some p (ap (λ x. item_in_mark x.mark) (same_Some _ y e) ∙ m))
-own_takes f t (ChannelDestroy chid) u y p same e m = absurd (none-some p (ap (λ x. item_in_mark x.mark) (same_Some _ y e) ∙ m))
-own_takes f t Shutdown u y p same e m = absurd (none-some p (ap (λ x. item_in_mark x.mark) (same_Some _ y e) ∙ m))
-own_takes f t (Unblock thread) u y p same e m = absurd (none-some p (ap (λ x. item_in_mark x.mark) (same_Some _ y e) ∙ m))
-own_takes f t (ConnectDetach coid) u y p same e m = absurd (none-some p (ap (λ x. item_in_mark x.mark) (same_Some _ y e) ∙ m))
-own_takes f t (Pulse coid level code value) u y p same e m = absurd (none-some p (ap (λ x. item_in_mark x.mark) (same_Some _ y e) ∙ m))
 own_takes f t (Receive chid buffer) u y p same e m = takes_best f t (Receive chid buffer) chid Any buffer u y p same refl refl (receive_takes f t chid Any buffer y e) m
 own_takes f t (ReceivePulse chid) u y p same e m = takes_best f t (ReceivePulse chid) chid PulseOnly [] u y p same refl refl (receive_takes f t chid PulseOnly [] y e) m
+own_takes f t c u y p same e m = absurd (none-some p (ap (λ x. item_in_mark x.mark) (same_Some _ y e) ∙ m))
 
 -- a receiver that takes what is delivered
 takes_met : (f : Facts) (t : ℕ) (c : Call) (o : Option ℕ) (item : Item) (message : List ℕ) (u : ℕ) (y : Completion) (p : ℕ × ℕ) → Meets f o item message u y → ((h : ℕ) → o ≡ Some h → makes f t c ≡ Some (record { item = item; channel = h }))
@@ -147,17 +135,9 @@ takes_told f t c o u y p made k m =
     takes_met f t c (Some k.made.channel) k.made.item [] u y p k.meets (λ h s. made ∙ k.is_due ∙ ap (λ n. Some (record { item = k.made.item; channel = n })) (same_Some k.made.channel h s)) m
 
 ends_takes : (f : Facts) (t : ℕ) (c : Call) (u : ℕ) (y : Completion) (p : ℕ × ℕ) → (row_of f t c).refusal ≡ None → (row_of f t c).ends u ≡ Some y → item_in_mark y.mark ≡ Some p → TakesOne f t c u y p.0
-ends_takes f t (ChannelCreate flags) u y p r e m = absurd (none-some y e)
-ends_takes f t (ConnectAttach chid) u y p r e m = absurd (none-some y e)
-ends_takes f t (Receive chid buffer) u y p r e m = absurd (none-some y e)
 ends_takes f t (Reply rcvid status bytes) u y p r e m =
     absurd (none-some p (sym (answer_receives f t rcvid (reply_finish status bytes) u y (λ buffer. refl) (sender_ends f t rcvid (reply_finish status bytes) u y r e)) ∙ m))
 ends_takes f t (Error rcvid code) u y p r e m = absurd (none-some p (sym (answer_receives f t rcvid (error_finish code) u y (λ buffer. no_receipt code) (sender_ends f t rcvid (error_finish code) u y r e)) ∙ m))
-ends_takes f t (Read rcvid offset buffer) u y p r e m = absurd (none-some y e)
-ends_takes f t (Write rcvid offset bytes) u y p r e m = absurd (none-some y e)
-ends_takes f t (Info rcvid) u y p r e m = absurd (none-some y e)
-ends_takes f t (PrioritySet thread level) u y p r e m = absurd (none-some y e)
-ends_takes f t (State thread) u y p r e m = absurd (none-some y e)
 ends_takes f t (ChannelDestroy chid) u y p r e m = absurd (none-some p (ap (λ x. item_in_mark x.mark) (cut_parts (is_on f.connection chid) Srch u (f.open_call u) y e).ending ∙ m))
 ends_takes f t Shutdown u y p r e m = absurd (none-some p (ap (λ x. item_in_mark x.mark) (cut_parts (λ wait. true) Srch u (f.open_call u) y e).ending ∙ m))
 ends_takes f t (Unblock thread) u y p r e m = elim (unblock_ends f thread u y (unblock.due_pulse f thread) e) [
@@ -168,11 +148,11 @@ ends_takes f t (ConnectDetach coid) u y p r e m = elim (detach_ends f coid (conn
   | inl cut ↦ absurd (none-some p (ap (λ x. item_in_mark x.mark) cut.ending ∙ m))
   | inr s ↦ takes_told f t (ConnectDetach coid) (connect_detach.due_pulse f t coid) u y p refl (told_meets f (connect_detach.due_pulse f t coid) u y s) m
 ]
-ends_takes f t (ReceivePulse chid) u y p r e m = absurd (none-some y e)
 ends_takes f t (Send coid message reply_buffer) u y p r e m =
     takes_met f t (Send coid message reply_buffer) (way f t coid) (item f t) message u y p (delivery_meets f (way f t coid) (item f t) message u y e) (sent_way f t coid (item f t)) m
 ends_takes f t (Pulse coid level code value) u y p r e m =
     takes_told f t (Pulse coid level code value) (pulse.sent_pulse f coid level code value) u y p refl (told_meets f (pulse.sent_pulse f coid level code value) u y e) m
+ends_takes f t c u y p r e m = absurd (none-some y e)
 
 -- each ending that receives an item takes it so
 pub takes_one : (f : Facts) (t : ℕ) (c : Call) (u : ℕ) (y : Completion) (p : ℕ × ℕ) → (row_of f t c).refusal ≡ None → ending f t c u ≡ Some y → item_in_mark y.mark ≡ Some p → TakesOne f t c u y p.0

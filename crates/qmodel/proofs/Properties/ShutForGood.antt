@@ -51,68 +51,25 @@ record DestroysAlone (c : Call) : Type 0 where
   makes_none : (f : Facts) (t : ℕ) → makes f t c ≡ None
 
 destroys_alone : (c : Call) (h : ℕ) → names (closes c) h ≡ true → DestroysAlone c
-destroys_alone (ChannelCreate flags) h e = absurd (true≢false (sym e))
-destroys_alone (ConnectAttach chid) h e = absurd (true≢false (sym e))
-destroys_alone (Send coid message reply_buffer) h e = absurd (true≢false (sym e))
-destroys_alone (Receive chid buffer) h e = absurd (true≢false (sym e))
-destroys_alone (Reply rcvid status bytes) h e = absurd (true≢false (sym e))
-destroys_alone (Error rcvid code) h e = absurd (true≢false (sym e))
-destroys_alone (Read rcvid offset buffer) h e = absurd (true≢false (sym e))
-destroys_alone (Write rcvid offset bytes) h e = absurd (true≢false (sym e))
-destroys_alone (Info rcvid) h e = absurd (true≢false (sym e))
-destroys_alone (ReceivePulse chid) h e = absurd (true≢false (sym e))
-destroys_alone (Pulse coid level code value) h e = absurd (true≢false (sym e))
-destroys_alone (PrioritySet thread level) h e = absurd (true≢false (sym e))
-destroys_alone (State thread) h e = absurd (true≢false (sym e))
-destroys_alone Shutdown h e = absurd (true≢false (sym e))
-destroys_alone (Unblock thread) h e = absurd (true≢false (sym e))
-destroys_alone (ConnectDetach coid) h e = absurd (true≢false (sym e))
 destroys_alone (ChannelDestroy chid) h e = record { asks_none = λ n. refl; receives_none = refl; makes_none = λ f t. refl }
+destroys_alone c h e = absurd (true≢false (sym e))
 
 -- a call that may wait attaches nothing
 waits_only : (n : ℕ) (m : Option Member) (c : Call) (b : OpenCall) → asks n c ≡ Some b → attaches m c ≡ None
-waits_only n m (ChannelCreate flags) b e = absurd (none-some b e)
-waits_only n m (ConnectAttach chid) b e = absurd (none-some b e)
-waits_only n m (Reply rcvid status bytes) b e = absurd (none-some b e)
-waits_only n m (Error rcvid code) b e = absurd (none-some b e)
-waits_only n m (Read rcvid offset buffer) b e = absurd (none-some b e)
-waits_only n m (Write rcvid offset bytes) b e = absurd (none-some b e)
-waits_only n m (Info rcvid) b e = absurd (none-some b e)
-waits_only n m (Pulse coid level code value) b e = absurd (none-some b e)
-waits_only n m (PrioritySet thread level) b e = absurd (none-some b e)
-waits_only n m (State thread) b e = absurd (none-some b e)
-waits_only n m (ChannelDestroy chid) b e = absurd (none-some b e)
-waits_only n m Shutdown b e = absurd (none-some b e)
-waits_only n m (Unblock thread) b e = absurd (none-some b e)
-waits_only n m (ConnectDetach coid) b e = absurd (none-some b e)
 waits_only n None (Send coid message reply_buffer) b e = refl
 waits_only n (Some m) (Send coid message reply_buffer) b e = refl
 waits_only n None (Receive chid buffer) b e = refl
 waits_only n (Some m) (Receive chid buffer) b e = refl
 waits_only n None (ReceivePulse chid) b e = refl
 waits_only n (Some m) (ReceivePulse chid) b e = refl
+waits_only n m c b e = absurd (none-some b e)
 
 -- a call that destroys a channel ends each call that is blocked on it
 closing_ends : (f : Facts) (t : ℕ) (c : Call) (h u : ℕ) (o : OpenCall) → names (closes c) h ≡ true → f.open_call u ≡ Some o → is_on f.connection h o.wait ≡ true → is_some ((row_of f t c).ends u) ≡ true
-closing_ends f t (ChannelCreate flags) h u o e is on = absurd (true≢false (sym e))
-closing_ends f t (ConnectAttach chid) h u o e is on = absurd (true≢false (sym e))
-closing_ends f t (Send coid message reply_buffer) h u o e is on = absurd (true≢false (sym e))
-closing_ends f t (Receive chid buffer) h u o e is on = absurd (true≢false (sym e))
-closing_ends f t (Reply rcvid status bytes) h u o e is on = absurd (true≢false (sym e))
-closing_ends f t (Error rcvid code) h u o e is on = absurd (true≢false (sym e))
-closing_ends f t (Read rcvid offset buffer) h u o e is on = absurd (true≢false (sym e))
-closing_ends f t (Write rcvid offset bytes) h u o e is on = absurd (true≢false (sym e))
-closing_ends f t (Info rcvid) h u o e is on = absurd (true≢false (sym e))
-closing_ends f t (ReceivePulse chid) h u o e is on = absurd (true≢false (sym e))
-closing_ends f t (Pulse coid level code value) h u o e is on = absurd (true≢false (sym e))
-closing_ends f t (PrioritySet thread level) h u o e is on = absurd (true≢false (sym e))
-closing_ends f t (State thread) h u o e is on = absurd (true≢false (sym e))
-closing_ends f t Shutdown h u o e is on = absurd (true≢false (sym e))
-closing_ends f t (Unblock thread) h u o e is on = absurd (true≢false (sym e))
-closing_ends f t (ConnectDetach coid) h u o e is on = absurd (true≢false (sym e))
 closing_ends f t (ChannelDestroy chid) h u o e is on =
     let on_it : is_on f.connection chid o.wait ≡ true = ap (λ k. is_on f.connection k o.wait) (eqb-true chid h e) ∙ on in
     rw (is, on_it) refl
+closing_ends f t c h u o e is on = absurd (true≢false (sym e))
 
 -- what leads to channel h for the thread leads to an open channel
 way_to_open : (f : Facts) (t h k : ℕ) (o : Option Connection) → leads_to f t o ≡ Some k → is_to h o ≡ true → is_some (f.channel h) ≡ true
@@ -130,23 +87,10 @@ own_open f t chid h r on =
 
 -- a call begins to wait on an open channel
 begins_on_open : (f : Facts) (t : ℕ) (c : Call) (b : OpenCall) (h : ℕ) → (row_of f t c).refusal ≡ None → asks f.number c ≡ Some b → is_on f.connection h b.wait ≡ true → is_some (f.channel h) ≡ true
-begins_on_open f t (ChannelCreate flags) b h r e on = absurd (none-some b e)
-begins_on_open f t (ConnectAttach chid) b h r e on = absurd (none-some b e)
-begins_on_open f t (Reply rcvid status bytes) b h r e on = absurd (none-some b e)
-begins_on_open f t (Error rcvid code) b h r e on = absurd (none-some b e)
-begins_on_open f t (Read rcvid offset buffer) b h r e on = absurd (none-some b e)
-begins_on_open f t (Write rcvid offset bytes) b h r e on = absurd (none-some b e)
-begins_on_open f t (Info rcvid) b h r e on = absurd (none-some b e)
-begins_on_open f t (Pulse coid level code value) b h r e on = absurd (none-some b e)
-begins_on_open f t (PrioritySet thread level) b h r e on = absurd (none-some b e)
-begins_on_open f t (State thread) b h r e on = absurd (none-some b e)
-begins_on_open f t (ChannelDestroy chid) b h r e on = absurd (none-some b e)
-begins_on_open f t Shutdown b h r e on = absurd (none-some b e)
-begins_on_open f t (Unblock thread) b h r e on = absurd (none-some b e)
-begins_on_open f t (ConnectDetach coid) b h r e on = absurd (none-some b e)
 begins_on_open f t (Send coid message reply_buffer) b h r e on = let w = has_way f t coid r in way_to_open f t h w.0 (f.connection coid) w.1 (ap (λ o. is_on f.connection h o.wait) (same_Some _ b e) ∙ on)
 begins_on_open f t (Receive chid buffer) b h r e on = own_open f t chid h r (ap (λ o. is_on f.connection h o.wait) (same_Some _ b e) ∙ on)
 begins_on_open f t (ReceivePulse chid) b h r e on = own_open f t chid h r (ap (λ o. is_on f.connection h o.wait) (same_Some _ b e) ∙ on)
+begins_on_open f t c b h r e on = absurd (none-some b e)
 
 -- ---- what is blocked
 

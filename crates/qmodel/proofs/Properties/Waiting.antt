@@ -60,23 +60,10 @@ buffer_waits_for f (ForItem chid kind buffer) = refl
 
 -- a call waits for what it receives on
 pub waits_for_asked : (n : ℕ) (c : Call) (b : OpenCall) → asks n c ≡ Some b → receives_on c ≡ waits_for b.wait
-waits_for_asked n (ChannelCreate flags) b e = absurd (none-some b e)
-waits_for_asked n (ConnectAttach chid) b e = absurd (none-some b e)
-waits_for_asked n (Reply rcvid status bytes) b e = absurd (none-some b e)
-waits_for_asked n (Error rcvid code) b e = absurd (none-some b e)
-waits_for_asked n (Read rcvid offset buffer) b e = absurd (none-some b e)
-waits_for_asked n (Write rcvid offset bytes) b e = absurd (none-some b e)
-waits_for_asked n (Info rcvid) b e = absurd (none-some b e)
-waits_for_asked n (PrioritySet thread level) b e = absurd (none-some b e)
-waits_for_asked n (State thread) b e = absurd (none-some b e)
-waits_for_asked n (ChannelDestroy chid) b e = absurd (none-some b e)
-waits_for_asked n Shutdown b e = absurd (none-some b e)
-waits_for_asked n (Unblock thread) b e = absurd (none-some b e)
-waits_for_asked n (ConnectDetach coid) b e = absurd (none-some b e)
 waits_for_asked n (Send coid message reply_buffer) b e = ap (λ o. waits_for o.wait) (same_Some _ b e)
 waits_for_asked n (Receive chid buffer) b e = ap (λ o. waits_for o.wait) (same_Some _ b e)
 waits_for_asked n (ReceivePulse chid) b e = ap (λ o. waits_for o.wait) (same_Some _ b e)
-waits_for_asked n (Pulse coid level code value) b e = absurd (none-some b e)
+waits_for_asked n c b e = absurd (none-some b e)
 
 -- ---- by each call's row
 
@@ -89,25 +76,12 @@ none_to_take f t buffer None e = refl
 none_to_take f t buffer (Some item) e = absurd (none-some _ (sym e))
 
 begins_with_none : (f : Facts) (t : ℕ) (c : Call) (b : OpenCall) (p : ℕ × Kind) → asks f.number c ≡ Some b → waits_for b.wait ≡ Some p → (row_of f t c).own ≡ None → BeginsWithNone f t c p
-begins_with_none f t (ChannelCreate flags) b p e w own = absurd (none-some b e)
-begins_with_none f t (ConnectAttach chid) b p e w own = absurd (none-some b e)
-begins_with_none f t (Reply rcvid status bytes) b p e w own = absurd (none-some b e)
-begins_with_none f t (Error rcvid code) b p e w own = absurd (none-some b e)
-begins_with_none f t (Read rcvid offset buffer) b p e w own = absurd (none-some b e)
-begins_with_none f t (Write rcvid offset bytes) b p e w own = absurd (none-some b e)
-begins_with_none f t (Info rcvid) b p e w own = absurd (none-some b e)
-begins_with_none f t (PrioritySet thread level) b p e w own = absurd (none-some b e)
-begins_with_none f t (State thread) b p e w own = absurd (none-some b e)
-begins_with_none f t (ChannelDestroy chid) b p e w own = absurd (none-some b e)
-begins_with_none f t Shutdown b p e w own = absurd (none-some b e)
-begins_with_none f t (Unblock thread) b p e w own = absurd (none-some b e)
-begins_with_none f t (ConnectDetach coid) b p e w own = absurd (none-some b e)
 begins_with_none f t (Send coid message reply_buffer) b p e w own = absurd (none-some p (ap (λ o. waits_for o.wait) (same_Some _ b e) ∙ w))
-begins_with_none f t (Pulse coid level code value) b p e w own = absurd (none-some b e)
 begins_with_none f t (Receive chid buffer) b p e w own =
     subst (BeginsWithNone f t (Receive chid buffer)) (same_Some (chid, Any) p (ap (λ o. waits_for o.wait) (same_Some _ b e) ∙ w)) (none_to_take f t buffer (best_of Any (f.pending chid)) own, refl)
 begins_with_none f t (ReceivePulse chid) b p e w own =
     subst (BeginsWithNone f t (ReceivePulse chid)) (same_Some (chid, PulseOnly) p (ap (λ o. waits_for o.wait) (same_Some _ b e) ∙ w)) (none_to_take f t [] (best_of PulseOnly (f.pending chid)) own, refl)
+begins_with_none f t c b p e w own = absurd (none-some b e)
 
 -- an item that a thread waits for is received at once
 pub record IsReceivedAtOnce (f : Facts) (t : ℕ) (c : Call) (m : Made) : Type 0 where
@@ -147,29 +121,17 @@ sent_is f t coid item m h is_way made =
 
 received_at_once : (f : Facts) (t : ℕ) (c : Call) (m : Made) (u : ℕ) (o : OpenCall) (kind : Kind) → Passes f t c → makes f t c ≡ Some m
     → is_among (threads_of f.roster) u ≡ true → f.open_call u ≡ Some o → waits_for o.wait ≡ Some (m.channel, kind) → may_take kind m.item ≡ true → IsReceivedAtOnce f t c m
-received_at_once f t (ChannelCreate flags) m u o kind p made among is waits may = absurd (none-some m made)
-received_at_once f t (ConnectAttach chid) m u o kind p made among is waits may = absurd (none-some m made)
-received_at_once f t (Receive chid buffer) m u o kind p made among is waits may = absurd (none-some m made)
-received_at_once f t (Reply rcvid status bytes) m u o kind p made among is waits may = absurd (none-some m made)
-received_at_once f t (Error rcvid code) m u o kind p made among is waits may = absurd (none-some m made)
-received_at_once f t (Read rcvid offset buffer) m u o kind p made among is waits may = absurd (none-some m made)
-received_at_once f t (Write rcvid offset bytes) m u o kind p made among is waits may = absurd (none-some m made)
-received_at_once f t (Info rcvid) m u o kind p made among is waits may = absurd (none-some m made)
-received_at_once f t (PrioritySet thread level) m u o kind p made among is waits may = absurd (none-some m made)
-received_at_once f t (State thread) m u o kind p made among is waits may = absurd (none-some m made)
-received_at_once f t (ChannelDestroy chid) m u o kind p made among is waits may = absurd (none-some m made)
-received_at_once f t Shutdown m u o kind p made among is waits may = absurd (none-some m made)
 received_at_once f t (ConnectDetach coid) m u o kind p made among is waits may =
     delivered_at_once f t (ConnectDetach coid) (Some m.channel) m.item [] None m u o kind refl refl (ap (pulse_receipt f) made) among is waits may
 received_at_once f t (Unblock thread) m u o kind p made among is waits may =
     delivered_at_once f t (Unblock thread) (Some m.channel) m.item [] None m u o kind refl refl (ap (pulse_receipt f) made) among is waits may
-received_at_once f t (ReceivePulse chid) m u o kind p made among is waits may = absurd (none-some m made)
 received_at_once f t (Send coid message reply_buffer) m u o kind p made among is waits may =
     let h = has_way f t coid p.row in
     let s = sent_is f t coid (item f t) m h.0 h.1 made in
     delivered_at_once f t (Send coid message reply_buffer) (way f t coid) (item f t) message (Some t) m u o kind s.0 s.1 refl among is waits may
 received_at_once f t (Pulse coid level code value) m u o kind p made among is waits may =
     delivered_at_once f t (Pulse coid level code value) (Some m.channel) m.item [] None m u o kind refl refl (ap (pulse_receipt f) made) among is waits may
+received_at_once f t c m u o kind p made among is waits may = absurd (none-some m made)
 
 -- ---- lists of items
 

@@ -71,23 +71,12 @@ no_buffer n t None y e = absurd (none-some y e)
 no_buffer n t (Some info_of) y e = ap (λ x. length x.buffer) (sym (same_Some _ y e))
 
 own_length : (f : Facts) (t : ℕ) (c : Call) (y : Completion) → (row_of f t c).own ≡ Some y → length y.buffer ≡ length (buffer_of c)
-own_length f t (ChannelCreate flags) y e = ap (λ x. length x.buffer) (sym (same_Some _ y e))
-own_length f t (ConnectAttach chid) y e = ap (λ x. length x.buffer) (sym (same_Some _ y e))
 own_length f t (Send coid message reply_buffer) y e = absurd (none-some y e)
 own_length f t (Receive chid buffer) y e = let k = receive_takes f t chid Any buffer y e in ap (λ x. length x.buffer) (sym k.ending) ∙ taking_length k.item _ t f.number buffer
-own_length f t (Reply rcvid status bytes) y e = ap (λ x. length x.buffer) (sym (same_Some _ y e))
-own_length f t (Error rcvid code) y e = ap (λ x. length x.buffer) (sym (same_Some _ y e))
 own_length f t (Read rcvid offset buffer) y e = ap (λ x. length x.buffer) (sym (same_Some _ y e)) ∙ lay_length buffer 0 _
-own_length f t (Write rcvid offset bytes) y e = ap (λ x. length x.buffer) (sym (same_Some _ y e))
 own_length f t (Info rcvid) y e = no_buffer f.number t (info_of f (sender f rcvid)) y e
 own_length f t (ReceivePulse chid) y e = let k = receive_takes f t chid PulseOnly [] y e in ap (λ x. length x.buffer) (sym k.ending) ∙ taking_length k.item _ t f.number []
-own_length f t (Pulse coid priority code value) y e = ap (λ x. length x.buffer) (sym (same_Some _ y e))
-own_length f t (PrioritySet thread priority) y e = ap (λ x. length x.buffer) (sym (same_Some _ y e))
-own_length f t (State thread) y e = ap (λ x. length x.buffer) (sym (same_Some _ y e))
-own_length f t (ChannelDestroy chid) y e = ap (λ x. length x.buffer) (sym (same_Some _ y e))
-own_length f t Shutdown y e = ap (λ x. length x.buffer) (sym (same_Some _ y e))
-own_length f t (Unblock thread) y e = ap (λ x. length x.buffer) (sym (same_Some _ y e))
-own_length f t (ConnectDetach coid) y e = ap (λ x. length x.buffer) (sym (same_Some _ y e))
+own_length f t c y e = ap (λ x. length x.buffer) (sym (same_Some _ y e))
 
 -- ---- another thread's ending
 
@@ -103,20 +92,11 @@ answered_length f t rcvid finish u y keeps r e =
     ap (λ x. length x.buffer) (sym k.ending) ∙ keeps k.held.reply_buffer ∙ ap (λ w. length (buffer_of_wait w)) (sym k.held.waits) ∙ ap (λ x. length (buffer_of_open x)) (sym k.held.is_open)
 
 ends_length : (f : Facts) (t : ℕ) (c : Call) (u : ℕ) (y : Completion) → Passes f t c → (row_of f t c).ends u ≡ Some y → length y.buffer ≡ length (buffer_of_open (f.open_call u))
-ends_length f t (ChannelCreate flags) u y p e = absurd (none-some y e)
-ends_length f t (ConnectAttach chid) u y p e = absurd (none-some y e)
 ends_length f t (Send coid message reply_buffer) u y p e = met_length f (way f t coid) (item f t) message u y (delivery_meets f (way f t coid) (item f t) message u y e)
-ends_length f t (Receive chid buffer) u y p e = absurd (none-some y e)
 ends_length f t (Reply rcvid status bytes) u y p e = answered_length f t rcvid (reply_finish status bytes) u y (λ b. lay_length b 0 bytes) p.row e
 ends_length f t (Error rcvid code) u y p e = answered_length f t rcvid (error_finish code) u y (λ b. refl) p.row e
-ends_length f t (Read rcvid offset buffer) u y p e = absurd (none-some y e)
-ends_length f t (Write rcvid offset bytes) u y p e = absurd (none-some y e)
-ends_length f t (Info rcvid) u y p e = absurd (none-some y e)
-ends_length f t (ReceivePulse chid) u y p e = absurd (none-some y e)
 ends_length f t (Pulse coid priority code value) u y p e =
     let k = told_meets f (pulse.sent_pulse f coid priority code value) u y e in met_length f (Some k.made.channel) k.made.item [] u y k.meets
-ends_length f t (PrioritySet thread priority) u y p e = absurd (none-some y e)
-ends_length f t (State thread) u y p e = absurd (none-some y e)
 ends_length f t (ChannelDestroy chid) u y p e = cut_length (is_on f.connection chid) Srch u (f.open_call u) y (cut_parts (is_on f.connection chid) Srch u (f.open_call u) y e)
 ends_length f t Shutdown u y p e = cut_length (λ wait. true) Srch u (f.open_call u) y (cut_parts (λ wait. true) Srch u (f.open_call u) y e)
 ends_length f t (Unblock thread) u y p e = elim (unblock_ends f thread u y (unblock.due_pulse f thread) e) [
@@ -127,6 +107,7 @@ ends_length f t (ConnectDetach coid) u y p e = elim (detach_ends f coid (connect
   | inl cut ↦ cut_length _ _ u (f.open_call u) y cut
   | inr s ↦ let k = told_meets f (connect_detach.due_pulse f t coid) u y s in met_length f (Some k.made.channel) k.made.item [] u y k.meets
 ]
+ends_length f t c u y p e = absurd (none-some y e)
 
 -- ---- an event's endings
 
@@ -146,23 +127,10 @@ endings_keep_length roster past e r l =
 -- ---- what a thread waits with afterwards
 
 asked_length : (n : ℕ) (c : Call) → is_some (asks n c) ≡ true → length (buffer_of_open (asks n c)) ≡ length (buffer_of c)
-asked_length n (ChannelCreate flags) e = absurd (true≢false (sym e))
-asked_length n (ConnectAttach chid) e = absurd (true≢false (sym e))
 asked_length n (Send coid message reply_buffer) e = refl
 asked_length n (Receive chid buffer) e = refl
-asked_length n (Reply rcvid status bytes) e = absurd (true≢false (sym e))
-asked_length n (Error rcvid code) e = absurd (true≢false (sym e))
-asked_length n (Read rcvid offset buffer) e = absurd (true≢false (sym e))
-asked_length n (Write rcvid offset bytes) e = absurd (true≢false (sym e))
-asked_length n (Info rcvid) e = absurd (true≢false (sym e))
 asked_length n (ReceivePulse chid) e = refl
-asked_length n (Pulse coid priority code value) e = absurd (true≢false (sym e))
-asked_length n (PrioritySet thread priority) e = absurd (true≢false (sym e))
-asked_length n (State thread) e = absurd (true≢false (sym e))
-asked_length n (ChannelDestroy chid) e = absurd (true≢false (sym e))
-asked_length n Shutdown e = absurd (true≢false (sym e))
-asked_length n (Unblock thread) e = absurd (true≢false (sym e))
-asked_length n (ConnectDetach coid) e = absurd (true≢false (sym e))
+asked_length n c e = absurd (true≢false (sym e))
 
 map_length : (k : OpenCall → OpenCall) → ((o : OpenCall) → length (buffer_of_wait (k o).wait) ≡ length (buffer_of_wait o.wait)) → (o : Option OpenCall) → length (buffer_of_open (option_map k o)) ≡ length (buffer_of_open o)
 map_length k h None = refl

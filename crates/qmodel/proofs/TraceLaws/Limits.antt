@@ -131,19 +131,6 @@ due_more f h items (Some m) pulse r less few = pulse_more f h items m (pulse m r
 
 limited : (f : Facts) (t : ℕ) (c : Call) (h : ℕ) → Passes f t c → (items : List Item) → pulses_among items ≤ pulses_among (f.pending h) → pulses_among (f.pending h) ≤ 1024
     → pulses_among (items ++ made_on h (makes f t c)) ≤ 1024
-limited f t (ChannelCreate flags) h p items less few = nothing_more items (omega (arith, less, few))
-limited f t (ConnectAttach chid) h p items less few = nothing_more items (omega (arith, less, few))
-limited f t (Receive chid buffer) h p items less few = nothing_more items (omega (arith, less, few))
-limited f t (Reply rcvid status bytes) h p items less few = nothing_more items (omega (arith, less, few))
-limited f t (Error rcvid code) h p items less few = nothing_more items (omega (arith, less, few))
-limited f t (Read rcvid offset buffer) h p items less few = nothing_more items (omega (arith, less, few))
-limited f t (Write rcvid offset bytes) h p items less few = nothing_more items (omega (arith, less, few))
-limited f t (Info rcvid) h p items less few = nothing_more items (omega (arith, less, few))
-limited f t (ReceivePulse chid) h p items less few = nothing_more items (omega (arith, less, few))
-limited f t (PrioritySet thread level) h p items less few = nothing_more items (omega (arith, less, few))
-limited f t (State thread) h p items less few = nothing_more items (omega (arith, less, few))
-limited f t (ChannelDestroy chid) h p items less few = nothing_more items (omega (arith, less, few))
-limited f t Shutdown h p items less few = nothing_more items (omega (arith, less, few))
 limited f t (Unblock thread) h p items less few = due_more f h items (unblock.due_pulse f thread) (unblocking.due_is_pulse f thread) (unblocking.fellow_passes f t thread p.row) less few
 limited f t (ConnectDetach coid) h p items less few =
     due_more f h items (connect_detach.due_pulse f t coid) (detaching.due_is_pulse f t coid) (detaching.own_passes f t coid p.row) less few
@@ -152,6 +139,7 @@ limited f t (Pulse coid level code value) h p items less few =
     let room = finds_room f code (way f t coid) p.row in
     let x = pulse_item f.number level code value in
     subst (λ o. pulses_among (items ++ made_on h o) ≤ 1024) (sym (sent_way f t coid x room.0 room.1)) (pulse_more f h items (record { item = x; channel = room.0 }) refl room.2 less few)
+limited f t c h p items less few = nothing_more items (omega (arith, less, few))
 
 limited_after : (f : Facts) (t : ℕ) (c : Call) (h : ℕ) → Passes f t c → pulses_among (f.pending h) ≤ 1024 → pulses_among (pending_after f t c h) ≤ 1024
 limited_after f t c h p few =

@@ -21,23 +21,8 @@ use Rattle.qmodel.proofs.Properties.Sends.{begins_now, made_newest, made_stays}
 
 -- whether a call may wait is no matter of its number
 pub asks_any : (n : ℕ) (c : Call) → is_some (asks n c) ≡ is_some (asks 0 c)
-asks_any n (ChannelCreate flags) = refl
-asks_any n (ConnectAttach chid) = refl
 asks_any n (Send coid message reply_buffer) = refl
-asks_any n (Receive chid buffer) = refl
-asks_any n (Reply rcvid status bytes) = refl
-asks_any n (Error rcvid code) = refl
-asks_any n (Read rcvid offset buffer) = refl
-asks_any n (Write rcvid offset bytes) = refl
-asks_any n (Info rcvid) = refl
-asks_any n (PrioritySet thread level) = refl
-asks_any n (State thread) = refl
-asks_any n (ChannelDestroy chid) = refl
-asks_any n Shutdown = refl
-asks_any n (Unblock thread) = refl
-asks_any n (ConnectDetach coid) = refl
-asks_any n (ReceivePulse chid) = refl
-asks_any n (Pulse coid priority code value) = refl
+asks_any n c = refl
 
 -- ---- a call that begins to wait
 
