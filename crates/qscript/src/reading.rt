@@ -8,5 +8,4 @@ pub mod line;
 pub mod lines;
 pub mod number;
 pub mod script;
-pub mod verb;
 pub mod words;

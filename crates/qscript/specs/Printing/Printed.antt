@@ -1,9 +1,9 @@
 -- The text of a run.
-use Rattle.std.specs.Prelude.{ℕ, ◌+◌, ◌-◌, ◌&&◌, nat_le, Bool, true, false, List, [], ◌∷◌, ◌++◌, Option, Some, None, if◌then◌else◌, slice_get, decimal}
+use Rattle.std.specs.Prelude.{ℕ, ◌+◌, ◌-◌, ◌&&◌, nat_le, Bool, true, false, List, [], ◌∷◌, ◌++◌, Option, Some, None, is_some, if◌then◌else◌, slice_get, decimal}
 use Rattle.std.specs.List.{flat_map}
 use Rattle.std.specs.Option.{option_map}
 use Rattle.qmodel.specs.declared.call.Call.{Call}
-use Rattle.qmodel.specs.declared.call.Call.TheVariants.{ChannelCreate, ConnectAttach, Send, Receive, Reply, Error, Read, Write, Info, ReceivePulse, Pulse, PrioritySet, State, ChannelDestroy, Shutdown, Unblock, ConnectDetach}
+use Rattle.qmodel.specs.Effects.{effect_of}
 use Rattle.qmodel.specs.declared.call.Completion.{Completion}
 use Rattle.qmodel.specs.declared.open_call.Blocked.{Blocked}
 use Rattle.qmodel.specs.Trace.{Event, Run}
@@ -12,25 +12,9 @@ use Rattle.qscript.specs.Printing.Marks.{mark_words}
 use Rattle.qscript.specs.Printing.Buffer.{buffer_words}
 use Rattle.qscript.specs.Printing.OpenLine.{open_text}
 
--- whether a call's buffer is printed when it ends
+-- whether a call's buffer is printed when it ends: that of each call that brings one, which are Send, Receive and Read
 abbrev pub shows_buffer : Call → Bool
-shows_buffer (ChannelCreate flags) = false
-shows_buffer (ConnectAttach chid) = false
-shows_buffer (Send coid message reply_buffer) = true
-shows_buffer (Receive chid buffer) = true
-shows_buffer (Reply rcvid status bytes) = false
-shows_buffer (Error rcvid code) = false
-shows_buffer (Read rcvid offset buffer) = true
-shows_buffer (Write rcvid offset bytes) = false
-shows_buffer (Info rcvid) = false
-shows_buffer (ReceivePulse chid) = false
-shows_buffer (Pulse coid priority code value) = false
-shows_buffer (PrioritySet thread priority) = false
-shows_buffer (State thread) = false
-shows_buffer (ChannelDestroy chid) = false
-shows_buffer Shutdown = false
-shows_buffer (Unblock thread) = false
-shows_buffer (ConnectDetach coid) = false
+shows_buffer c = is_some (effect_of c).buffer
 
 -- the call of this number, which is that of the event of this number, among a run's events up to another
 abbrev pub call_by : Run → ℕ → ℕ → Option Call

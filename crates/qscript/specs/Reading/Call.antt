@@ -4,12 +4,12 @@ use Rattle.std.specs.Str.{bytes_eq}
 use Rattle.std.specs.Option.{option_or}
 use Rattle.qmodel.specs.declared.call.Call.{Call}
 use Rattle.qmodel.specs.declared.call.Call.TheVariants as calls
-use Rattle.qscript.specs.declared.reading.verb.Verb.{Verb}
-use Rattle.qscript.specs.declared.reading.verb.Verb.TheVariants as verbs
+use Rattle.qscript.specs.declared.reading.call.Verb.{Verb}
+use Rattle.qscript.specs.declared.reading.call.Verb.TheVariants as verbs
 use Rattle.qscript.specs.declared.fault.LineFault.{LineFault}
 use Rattle.qscript.specs.declared.fault.LineFault.TheVariants.{UnknownWord}
 use Rattle.qscript.specs.Reading.Steps.{◌>>=◌}
-use Rattle.qscript.specs.Reading.Forms.{id_of, small_of, shutdown_of, setprio_of, error_of, pulse_of, receive_of, send_of, reply_of, read_of, write_of}
+use Rattle.qscript.specs.Reading.Forms.{id_of, small_of, nothing_of, setprio_of, error_of, pulse_of, receive_of, send_of, reply_of, read_of, write_of}
 
 -- the verb that a word is, of a call on channels and connections
 unfoldable pub channel_verb : List ℕ → Option Verb
@@ -63,7 +63,7 @@ call_by (Some verbs.Pulse) operands = pulse_of operands
 call_by (Some verbs.SetPrio) operands = setprio_of operands
 call_by (Some verbs.State) operands = small_of operands >>= (λ thread. Ok (calls.State thread))
 call_by (Some verbs.Destroy) operands = id_of operands >>= (λ channel. Ok (calls.ChannelDestroy channel))
-call_by (Some verbs.Shutdown) operands = shutdown_of operands
+call_by (Some verbs.Shutdown) operands = nothing_of operands >>= (λ none. Ok calls.Shutdown)
 call_by (Some verbs.Unblock) operands = small_of operands >>= (λ thread. Ok (calls.Unblock thread))
 call_by (Some verbs.Detach) operands = id_of operands >>= (λ connection. Ok (calls.ConnectDetach connection))
 call_by None operands = Err UnknownWord

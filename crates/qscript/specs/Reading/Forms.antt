@@ -19,9 +19,9 @@ unfoldable pub small_of : List (List ℕ) → Result ℕ LineFault
 small_of operands = one_of operands >>= number_of 256
 
 -- no operands
-unfoldable pub shutdown_of : List (List ℕ) → Result Call LineFault
-shutdown_of [] = Ok calls.Shutdown
-shutdown_of (word ∷ words) = Err WordCount
+unfoldable pub nothing_of : List (List ℕ) → Result (Unit {0}) LineFault
+nothing_of [] = Ok tt
+nothing_of (word ∷ words) = Err WordCount
 
 -- a thread, its process and its base priority
 unfoldable pub member_of : List (List ℕ) → Result Member LineFault

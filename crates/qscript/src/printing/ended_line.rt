@@ -15,25 +15,10 @@ use std::alloc::AllocError;
 pub fn shows(call: &Call) -> bool
     ensures { result ≡ shows_buffer call.now }
 {
-    match call {
-        Call::ChannelCreate(_) => false,
-        Call::ConnectAttach(_) => false,
-        Call::Send { .. } => true,
-        Call::Receive { .. } => true,
-        Call::Reply { .. } => false,
-        Call::Error { .. } => false,
-        Call::Read { .. } => true,
-        Call::Write { .. } => false,
-        Call::Info(_) => false,
-        Call::ReceivePulse(_) => false,
-        Call::Pulse { .. } => false,
-        Call::PrioritySet { .. } => false,
-        Call::State(_) => false,
-        Call::ChannelDestroy(_) => false,
-        Call::Shutdown => false,
-        Call::Unblock(_) => false,
-        Call::ConnectDetach(_) => false,
-    }
+    matches!(
+        call,
+        Call::Send { .. } | Call::Receive { .. } | Call::Read { .. }
+    )
 }
 
 /// Whether the buffer of the call of this number is printed, where it is told which are from the first call on.

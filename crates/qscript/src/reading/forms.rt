@@ -1,7 +1,7 @@
 //! The operands of a line, from the left.
 
 ghost use Rattle.std.specs.Prelude.{◌≡◌};
-ghost use Rattle.qscript.specs.Reading.Forms.{id_of, small_of, shutdown_of, member_of, setprio_of, error_of, pulse_of, receive_of, send_of, reply_of, read_of, write_of};
+ghost use Rattle.qscript.specs.Reading.Forms.{id_of, small_of, nothing_of, member_of, setprio_of, error_of, pulse_of, receive_of, send_of, reply_of, read_of, write_of};
 ghost use Rattle.qscript.specs.Reading.Steps.{Gives};
 ghost use Rattle.qscript.specs.Reading.Words.{words_of};
 
@@ -33,13 +33,13 @@ pub fn one_small(operands: &[u8]) -> Result<u8, LineFault>
 }
 
 /// No operands.
-#[tactic(auto, unfolding(crate::specs::Reading::Forms::shutdown_of))]
-pub fn shutdown(operands: &[u8]) -> Result<Call, ParseError>
-    ensures { Gives result (shutdown_of (words_of operands.now)) }
+#[tactic(auto, unfolding(crate::specs::Reading::Forms::nothing_of))]
+pub fn nothing(operands: &[u8]) -> Result<(), LineFault>
+    ensures { result ≡ nothing_of (words_of operands.now) }
 {
     match next_word(operands) {
-        None => Ok(Call::Shutdown),
-        Some(_) => Err(ParseError::Fault(LineFault::WordCount)),
+        None => Ok(()),
+        Some(_) => Err(LineFault::WordCount),
     }
 }
 

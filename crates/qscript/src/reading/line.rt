@@ -7,10 +7,9 @@ ghost use Rattle.qscript.specs.Reading.Steps.{Gives};
 ghost use Rattle.qscript.specs.Reading.Words.{words_of};
 
 use crate::fault::{LineFault, ParseError};
-use crate::reading::call::call_named;
+use crate::reading::call::{call_named, is};
 use crate::reading::forms::member;
 use crate::reading::number::small;
-use crate::reading::verb::is;
 use crate::reading::words::{first, next_word};
 use qbase::ids::ThreadNo;
 use qkernel::call::Call;
