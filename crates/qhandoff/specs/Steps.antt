@@ -18,6 +18,7 @@ module _ {T : Type 0} where
   abbrev pub seated_desk : ℕ → ℕ → Desk T
   seated_desk k n = record { seats = k; lines = replicate n idle_line }
 
+  -- what the first seat knows as the cells are made: no thread's seat is split off
   abbrev pub first_view : ℕ → View T
   first_view n = Kernel (seated_desk 0 n)
 
@@ -36,6 +37,7 @@ module _ {T : Type 0} where
   desk_in (Kernel d) = d
   desk_in v = seated_desk 0 0
 
+  -- what a thread's seat knows, by its view
   abbrev pub hand_in : View T → Hand T
   hand_in (Thread h) = h
   hand_in v = new_hand 0
@@ -60,6 +62,7 @@ module _ {T : Type 0} where
   abbrev pub joined_at : Desk T → ℕ → List T → Desk T
   joined_at d t ts = with_line d t (record (line d t) { taken = Some ts })
 
+  -- the same, of what a thread's seat took
   abbrev pub joined_desk : Desk T → Hand T → Desk T
   joined_desk d h = joined_at d h.thread h.taken
 

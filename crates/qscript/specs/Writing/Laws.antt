@@ -13,10 +13,11 @@ use Rattle.qscript.specs.TextLimit.{most_text}
 use Rattle.qscript.specs.Writing.Line.{call_line}
 use Rattle.qscript.specs.Writing.Text.{script_text}
 
--- a number of a byte, and one of 64 bits
+-- a number of a byte
 abbrev pub IsSmall : ℕ → Type 0
 IsSmall n = n < 256
 
+-- a number of 64 bits
 abbrev pub IsNumber : ℕ → Type 0
 IsNumber n = n < 2 ^ 64
 
