@@ -9,7 +9,8 @@ use Rattle.qmodel.specs.declared.call.Call.{Call}
 use Rattle.qmodel.specs.declared.call.Completion.{Completion}
 use Rattle.qmodel.specs.declared.open_call.OpenCall.{OpenCall}
 use Rattle.qstate.specs.declared.thread.Thread.{Thread}
-use Rattle.qmodel.specs.Answer.{row_of, ending, Outcome}
+use Rattle.qmodel.specs.Answer.{ending, Outcome}
+use Rattle.qmodel.specs.Calls.{row_of}
 use Rattle.qmodel.specs.Facts.{Facts, sender, threads_of}
 use Rattle.qmodel.specs.Effects.{makes, unblocks, writes}
 use Rattle.qmodel.specs.Rows.{Received, Written, Made}
@@ -19,7 +20,7 @@ use Rattle.qmodel.specs.Step.{Follows, unless, after_receipt, after_write, is_th
 use Rattle.qstate.specs.Threads.{members_of, open_in, blocked_count}
 use Rattle.qmodel.proofs.Past.Ends.{row_passes}
 use Rattle.qmodel.proofs.Past.Laws.{RowLaws}
-use Rattle.qmodel.proofs.Past.RowLaws.{row_laws}
+use Rattle.qmodel.proofs.Calls.{row_laws}
 use Rattle.qbase.proofs.Lists.{is_among}
 use Rattle.qmodel.proofs.Rosters.{Rises, rises, not_among}
 use Rattle.qstate.proofs.Senders.{own_open}

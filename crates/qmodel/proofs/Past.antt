@@ -17,7 +17,6 @@ pub mod Pending
 pub mod Priorities
 pub mod Receipts
 pub mod Rising
-pub mod RowLaws
 pub mod Senders
 pub mod Unblocked
 pub mod Waits

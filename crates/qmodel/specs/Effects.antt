@@ -5,49 +5,11 @@ use Rattle.qqueue.specs.declared.item.Kind.{Kind}
 use Rattle.qtables.specs.declared.connection.Connection.{Connection}
 use Rattle.qtables.specs.declared.member.Member.{Member}
 use Rattle.qmodel.specs.declared.call.Call.{Call}
-use Rattle.qmodel.specs.declared.call.Call.TheVariants.{ChannelCreate, ConnectAttach, Send, Receive, Reply, Error, Read, Write, Info, ReceivePulse, Pulse, PrioritySet, State, ChannelDestroy, Shutdown, Unblock, ConnectDetach}
 use Rattle.qmodel.specs.declared.open_call.OpenCall.{OpenCall}
 use Rattle.qmodel.specs.Ids.{CallNo, ChannelId, ConnectionId, ReceiveId, ThreadNo}
-use Rattle.qmodel.specs.Effect.{Effect}
+use Rattle.qmodel.specs.Calls.{effect_of}
 use Rattle.qmodel.specs.Facts.{Facts, OpenChannel}
 use Rattle.qmodel.specs.Rows.{Made, Setting, Written}
-use Rattle.qmodel.specs.Calls.ChannelCreate as channel_create
-use Rattle.qmodel.specs.Calls.ConnectAttach as connect_attach
-use Rattle.qmodel.specs.Calls.Send as send
-use Rattle.qmodel.specs.Calls.Receive as receive
-use Rattle.qmodel.specs.Calls.Reply as reply
-use Rattle.qmodel.specs.Calls.Error as error
-use Rattle.qmodel.specs.Calls.Read as read
-use Rattle.qmodel.specs.Calls.Write as write
-use Rattle.qmodel.specs.Calls.Info as info
-use Rattle.qmodel.specs.Calls.ReceivePulse as receive_pulse
-use Rattle.qmodel.specs.Calls.Pulse as pulse
-use Rattle.qmodel.specs.Calls.PrioritySet as priority_set
-use Rattle.qmodel.specs.Calls.State as state
-use Rattle.qmodel.specs.Calls.ChannelDestroy as channel_destroy
-use Rattle.qmodel.specs.Calls.Shutdown as shutdown
-use Rattle.qmodel.specs.Calls.Unblock as unblock
-use Rattle.qmodel.specs.Calls.ConnectDetach as connect_detach
-
--- the effect of a call
-abbrev pub effect_of : Call → Effect
-effect_of (ChannelCreate flags) = channel_create.effect flags
-effect_of (ConnectAttach chid) = connect_attach.effect chid
-effect_of (Send coid message reply_buffer) = send.effect coid message reply_buffer
-effect_of (Receive chid buffer) = receive.effect chid buffer
-effect_of (Reply rcvid status bytes) = reply.effect rcvid status bytes
-effect_of (Error rcvid code) = error.effect rcvid code
-effect_of (Read rcvid offset buffer) = read.effect rcvid offset buffer
-effect_of (Write rcvid offset bytes) = write.effect rcvid offset bytes
-effect_of (Info rcvid) = info.effect
-effect_of (ReceivePulse chid) = receive_pulse.effect chid
-effect_of (Pulse coid priority code value) = pulse.effect coid priority code value
-effect_of (PrioritySet thread priority) = priority_set.effect thread priority
-effect_of (State thread) = state.effect
-effect_of (ChannelDestroy chid) = channel_destroy.effect chid
-effect_of Shutdown = shutdown.effect
-effect_of (Unblock thread) = unblock.effect thread
-effect_of (ConnectDetach coid) = connect_detach.effect coid
 
 -- ---- waiting, and buffers
 

@@ -17,7 +17,7 @@ use Rattle.qmodel.specs.Cutting.{is_on}
 use Rattle.qmodel.specs.Facts.{Facts, OpenChannel, sender, is_fixed, threads_of, is_for_receipt}
 use Rattle.qmodel.specs.Effects.{asks, attaches, closes, creates, detaches, makes, sets, shuts_down, unblocks, writes}
 use Rattle.qmodel.specs.Rows.{Made, Received, Row, Setting, Written, names, with_buffer, priority_set_for}
-use Rattle.qmodel.specs.Answer.{row_of}
+use Rattle.qmodel.specs.Calls.{row_of}
 use Rattle.qmodel.specs.Past.{wait_with_receipt, made_on}
 
 -- a look-up with one more record at n

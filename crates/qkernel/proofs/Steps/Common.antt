@@ -14,7 +14,8 @@ use Rattle.qstate.specs.declared.channel.Channel.{Channel}
 use Rattle.qstate.specs.declared.thread.Thread.{Thread}
 use Rattle.qbase.specs.declared.errno.Errno.{Errno}
 use Rattle.qqueue.specs.declared.item.Item.{Item}
-use Rattle.qmodel.specs.Answer.{MayRefuse, refusal_ending, refusal, row_of}
+use Rattle.qmodel.specs.Answer.{MayRefuse, refusal_ending, refusal}
+use Rattle.qmodel.specs.Calls.{row_of}
 use Rattle.qmodel.specs.Effects.{closes, makes, sets}
 use Rattle.qmodel.specs.Rows.{names}
 use Rattle.qmodel.specs.Step.{uncut_items, items_with_priority_set, pending_after, unreceived_items}
@@ -22,7 +23,7 @@ use Rattle.qmodel.specs.Past.{made_on}
 use Rattle.qmodel.proofs.Past.Cuts.{EndsSettled, none_cut}
 use Rattle.qmodel.proofs.Past.Ends.{row_passes}
 use Rattle.qmodel.proofs.Past.Laws.{is_forceful}
-use Rattle.qmodel.proofs.Past.RowLaws.{row_laws}
+use Rattle.qmodel.proofs.Calls.{row_laws}
 use Rattle.qstate.specs.Channels.{channel_in, pending_in, ids_of, is_of, way_in}
 use Rattle.qmodel.specs.Facts.{Facts, OpenChannel, is_in_process}
 use Rattle.qmodel.proofs.Parts.{is_owned_by, leads_to}

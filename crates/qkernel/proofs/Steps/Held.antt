@@ -16,7 +16,8 @@ use Rattle.qmodel.specs.declared.open_call.OpenCall.{OpenCall}
 use Rattle.qmodel.specs.declared.open_call.Wait.{Wait}
 use Rattle.qmodel.specs.declared.open_call.Wait.TheVariants.{Answer, Item as ForItem}
 use Rattle.qstate.specs.declared.thread.Thread.{Thread}
-use Rattle.qmodel.specs.Answer.{row_of, refusal_ending}
+use Rattle.qmodel.specs.Answer.{refusal_ending}
+use Rattle.qmodel.specs.Calls.{row_of}
 use Rattle.qstate.specs.Channels.{channel_in}
 use Rattle.qstate.specs.Endings.{with_ending_in_place}
 use Rattle.qmodel.specs.Facts.{is_send, sender, sender_among, threads_of}

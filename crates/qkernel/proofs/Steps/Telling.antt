@@ -9,7 +9,8 @@ use Rattle.qtables.specs.declared.member.Member.{Member}
 use Rattle.qbase.specs.declared.errno.Errno.{Errno}
 use Rattle.qbase.specs.declared.errno.Errno.TheVariants.{Again, NoMemory}
 use Rattle.qbase.proofs.Lists.{cond_same}
-use Rattle.qmodel.specs.Answer.{MayRefuse, ending, refusal_ending, refusal, row_of}
+use Rattle.qmodel.specs.Answer.{MayRefuse, ending, refusal_ending, refusal}
+use Rattle.qmodel.specs.Calls.{row_of}
 use Rattle.qmodel.specs.Facts.{Facts, threads_of}
 use Rattle.qmodel.specs.Effects.{attaches, closes, creates, detaches, makes, sets, shuts_down, unblocks, writes}
 use Rattle.qmodel.specs.Rows.{Made}

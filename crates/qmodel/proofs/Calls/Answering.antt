@@ -2,7 +2,7 @@
 use Rattle.std.proofs.Common.{◌≡◌, ◌∙◌, ℕ, List, ap, sym}
 use Rattle.std.specs.Prelude.{None, Some}
 use Rattle.std.proofs.lemmas.Option.{none-some, same_Some}
-use Rattle.qmodel.specs.Answer.{row_of}
+use Rattle.qmodel.specs.Calls.{row_of}
 use Rattle.qmodel.specs.Facts.{Facts, sender}
 use Rattle.qmodel.specs.Held.{Finish, ends_sender, refusal}
 use Rattle.qmodel.specs.Effects.{makes, writes}

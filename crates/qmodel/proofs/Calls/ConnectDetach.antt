@@ -7,7 +7,7 @@ use Rattle.std.specs.Option.{option_or}
 use Rattle.qbase.specs.declared.errno.Errno.TheVariants.{Badf, Inval}
 use Rattle.qqueue.specs.Best.{is_pulse}
 use Rattle.qtables.specs.declared.connection.Connection.{Connection}
-use Rattle.qmodel.specs.Answer.{row_of}
+use Rattle.qmodel.specs.Calls.{row_of}
 use Rattle.qmodel.specs.Calls.ConnectDetach.{connections_between, due_pulse, other_ending, refusal}
 use Rattle.qmodel.proofs.Parts.{due_pulse_over, is_own}
 use Rattle.qmodel.specs.Cutting.{cut_where, is_over}

@@ -4,7 +4,7 @@ use Rattle.std.specs.Prelude.{Bool, Option, None, Some}
 use Rattle.std.proofs.lemmas.Bool.{true≢false}
 use Rattle.std.proofs.lemmas.Option.{none-some, same_Some}
 use Rattle.qbase.specs.declared.errno.Errno.{Errno}
-use Rattle.qmodel.specs.Answer.{row_of}
+use Rattle.qmodel.specs.Calls.{row_of}
 use Rattle.qmodel.specs.Cutting.{cut_call, cut_where, cuts}
 use Rattle.qmodel.specs.Facts.{Facts, sender}
 use Rattle.qmodel.specs.Effects.{makes, writes}

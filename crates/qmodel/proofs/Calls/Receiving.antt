@@ -5,7 +5,7 @@ use Rattle.std.proofs.lemmas.Option.{none-some, same_Some}
 use Rattle.qqueue.specs.Best.{best_of}
 use Rattle.qqueue.specs.declared.item.Item.{Item}
 use Rattle.qqueue.specs.declared.item.Kind.{Kind}
-use Rattle.qmodel.specs.Answer.{row_of}
+use Rattle.qmodel.specs.Calls.{row_of}
 use Rattle.qmodel.specs.Facts.{Facts, message}
 use Rattle.qmodel.specs.Receiving.{own_receipt, receipt_when_taken, sender_for}
 use Rattle.qmodel.specs.Effects.{asks, makes, writes}

@@ -6,7 +6,7 @@ use Rattle.std.proofs.lemmas.Option.{none-some, same_Some}
 use Rattle.qbase.specs.declared.errno.Errno.TheVariants.{Intr, Srch}
 use Rattle.qqueue.specs.Best.{is_pulse}
 use Rattle.qtables.specs.declared.connection.Connection.{Connection}
-use Rattle.qmodel.specs.Answer.{row_of}
+use Rattle.qmodel.specs.Calls.{row_of}
 use Rattle.qmodel.specs.Calls.Unblock.{due_pulse, due_pulse_of_wait, other_ending, guard, guard_over, refusal}
 use Rattle.qmodel.proofs.Parts.{due_pulse_on, due_pulse_of_open}
 use Rattle.qmodel.specs.Facts.{Facts, OpenChannel, is_fellow, tells_unblock}

@@ -6,7 +6,8 @@ use Rattle.std.proofs.lemmas.Option.{none-some}
 use Rattle.qbase.specs.declared.errno.Errno.TheVariants.{Inval}
 use Rattle.qtables.specs.Members.{member_at}
 use Rattle.qtables.specs.declared.member.Member.{Member}
-use Rattle.qmodel.specs.Answer.{row_of, Outcome}
+use Rattle.qmodel.specs.Answer.{Outcome}
+use Rattle.qmodel.specs.Calls.{row_of}
 use Rattle.qmodel.specs.Facts.{Facts, OpenChannel, owns}
 use Rattle.qmodel.proofs.Parts.{is_owned_by}
 use Rattle.qmodel.specs.Lawful.{facts_of, IsLawful, with_event}

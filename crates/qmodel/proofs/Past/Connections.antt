@@ -7,7 +7,8 @@ use Rattle.qbase.specs.declared.errno.Errno.TheVariants.{Inval}
 use Rattle.qtables.specs.Members.{member_at}
 use Rattle.qtables.specs.declared.connection.Connection.{Connection}
 use Rattle.qtables.specs.declared.member.Member.{Member}
-use Rattle.qmodel.specs.Answer.{row_of, Outcome}
+use Rattle.qmodel.specs.Answer.{Outcome}
+use Rattle.qmodel.specs.Calls.{row_of}
 use Rattle.qmodel.specs.Calls.ConnectDetach.{due_pulse}
 use Rattle.qmodel.proofs.Parts.{is_own}
 use Rattle.qmodel.specs.Facts.{Facts}

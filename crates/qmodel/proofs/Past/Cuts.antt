@@ -8,7 +8,8 @@ use Rattle.qqueue.specs.Best.{is_pulse}
 use Rattle.qqueue.specs.declared.item.Item.{Item}
 use Rattle.qtables.specs.declared.connection.Connection.{Connection}
 use Rattle.qtables.specs.declared.member.Member.{Member}
-use Rattle.qmodel.specs.Answer.{row_of, Outcome}
+use Rattle.qmodel.specs.Answer.{Outcome}
+use Rattle.qmodel.specs.Calls.{row_of}
 use Rattle.qmodel.specs.Cutting.{is_on}
 use Rattle.qmodel.specs.Facts.{Facts, is_for_answer, is_for_receipt, threads_of}
 use Rattle.qmodel.specs.Lawful.{facts_of, IsLawful, with_event}

@@ -8,7 +8,8 @@ use Rattle.std.proofs.Math.Bool.{and-false}
 use Rattle.qbase.specs.declared.errno.Errno.TheVariants.{Down, Busy}
 use Rattle.qtables.specs.Members.{member_at}
 use Rattle.qtables.specs.declared.member.Member.{Member}
-use Rattle.qmodel.specs.Answer.{row_of, refusal, ending, Outcome, Answers}
+use Rattle.qmodel.specs.Answer.{refusal, ending, Outcome, Answers}
+use Rattle.qmodel.specs.Calls.{row_of}
 use Rattle.qmodel.specs.Facts.{Facts, threads_of}
 use Rattle.qmodel.specs.Lawful.{facts_of, IsLawful}
 use Rattle.qmodel.specs.Past.{has_ending_of, refuses, is_ended, newest_block, open_call}
@@ -18,7 +19,7 @@ use Rattle.qmodel.specs.declared.call.Completion.{Completion}
 use Rattle.qmodel.specs.declared.open_call.OpenCall.{OpenCall}
 use Rattle.qbase.proofs.Lists.{eqb_same, any_filter_map, any_filter_map_at, all_filter_map}
 use Rattle.qmodel.proofs.Past.Laws.{Passes, RowLaws, IsOwn, IsOfOpen}
-use Rattle.qmodel.proofs.Past.RowLaws.{row_laws}
+use Rattle.qmodel.proofs.Calls.{row_laws}
 use Rattle.qmodel.proofs.Past.Numbers.{block_cases, open_parts, open_below, open_thread}
 use Rattle.qmodel.proofs.Rosters.{known}
 

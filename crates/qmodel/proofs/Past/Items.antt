@@ -19,7 +19,7 @@ use Rattle.qmodel.specs.declared.call.Call.{Call}
 use Rattle.qmodel.specs.declared.open_call.OpenCall.{OpenCall}
 use Rattle.qbase.proofs.Lists.{eqb_same, all_append, all_map, all_more, all_passing}
 use Rattle.qmodel.proofs.Past.Laws.{MakesItem}
-use Rattle.qmodel.proofs.Past.RowLaws.{call_laws}
+use Rattle.qmodel.proofs.Calls.{call_laws}
 use Rattle.qmodel.proofs.Past.Numbers.{call_below, call_earlier, call_newest, block_asked}
 use Rattle.qmodel.proofs.Past.Worth.{SetsNone, among_now, channel_now, now, staying_now, worth_beyond, worth_newest, worth_stays}
 

@@ -5,7 +5,8 @@ use Rattle.qqueue.specs.Best.{best_of, is_pulse}
 use Rattle.qqueue.specs.declared.item.Item.{Item}
 use Rattle.qqueue.specs.declared.item.Kind.{Kind}
 use Rattle.qqueue.specs.declared.item.What.TheVariants as what
-use Rattle.qmodel.specs.Answer.{row_of, ending}
+use Rattle.qmodel.specs.Answer.{ending}
+use Rattle.qmodel.specs.Calls.{row_of}
 use Rattle.qmodel.specs.Facts.{Facts, sender, is_for_answer}
 use Rattle.qmodel.specs.Laws.{is_for_reply}
 use Rattle.qmodel.specs.Past.{is_failure, is_unblock_for}

@@ -18,7 +18,7 @@ use Rattle.qmodel.specs.declared.open_call.Wait.{Wait}
 use Rattle.qmodel.specs.declared.open_call.Wait.TheVariants.{Answer, Item as ForItem}
 use Rattle.qbase.proofs.Lists.{eqb_same}
 use Rattle.qmodel.proofs.Past.Laws.{is_settled}
-use Rattle.qmodel.proofs.Past.RowLaws.{call_laws}
+use Rattle.qmodel.proofs.Calls.{call_laws}
 
 -- ---- what an event makes
 

@@ -11,7 +11,8 @@ use Rattle.qqueue.specs.Best.{is_pulse, with_priority, without_item}
 use Rattle.qqueue.specs.declared.item.Item.{Item}
 use Rattle.qtables.specs.Members.{member_at}
 use Rattle.qtables.specs.declared.member.Member.{Member}
-use Rattle.qmodel.specs.Answer.{row_of, Outcome}
+use Rattle.qmodel.specs.Answer.{Outcome}
+use Rattle.qmodel.specs.Calls.{row_of}
 use Rattle.qmodel.specs.Lawful.{facts_of, IsLawful, with_event}
 use Rattle.qmodel.specs.Past.{channel_at, has_ending_of, is_closed, is_ended, is_taken, is_gone, items, item_of, pending_items, copied_count_among, copied_count_of, open_call, made_on}
 use Rattle.qmodel.specs.Effects.{closes, makes, sets}
@@ -24,7 +25,7 @@ use Rattle.qbase.proofs.Lists.{cond_same, eqb_either, none_of, all_append, all_f
 use Rattle.qmodel.proofs.Past.Laws.{IsReceived}
 use Rattle.qmodel.proofs.Past.Channels.{closed_accepted, closed_refused}
 use Rattle.qmodel.proofs.Past.Cuts.{ended_is_cut}
-use Rattle.qmodel.proofs.Past.RowLaws.{call_laws}
+use Rattle.qmodel.proofs.Calls.{call_laws}
 use Rattle.qmodel.proofs.Past.Ends.{laws_of, accepted, refused, refused_ends, ended_below, ends_own}
 use Rattle.qmodel.proofs.Past.Items.{IsPending, Stands, items_on, pending_is, stands_all, standing_is, staying, staying_all, item_at, item_below}
 use Rattle.qmodel.proofs.Past.Moves.{left_map, moved_append, moved_left, moved_made, moved_nothing, moved_now, moved_out, out_map, same_now}

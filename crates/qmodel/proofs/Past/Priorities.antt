@@ -7,7 +7,8 @@ use Rattle.std.specs.Option.{option_map, option_or}
 use Rattle.qqueue.specs.declared.item.Item.{Item}
 use Rattle.qtables.specs.Members.{member_at}
 use Rattle.qtables.specs.declared.member.Member.{Member}
-use Rattle.qmodel.specs.Answer.{row_of, ending, Outcome}
+use Rattle.qmodel.specs.Answer.{ending, Outcome}
+use Rattle.qmodel.specs.Calls.{row_of}
 use Rattle.qmodel.specs.Facts.{threads_of}
 use Rattle.qmodel.specs.Lawful.{facts_of, IsLawful, with_event}
 use Rattle.qmodel.specs.Past.{items_by_now, carried_priority, channel_at, first_among, priority_from_ending, item_of, items, made_among, priority_of_thread, refuses, worth}
@@ -21,7 +22,7 @@ use Rattle.qmodel.proofs.Past.Ends.{accepted, ending_names, laws_of, refused}
 use Rattle.qmodel.proofs.Past.Items.{item_at, item_below, item_earlier, item_found, item_newest, item_priority}
 use Rattle.qmodel.proofs.Past.Laws.{RowLaws, IsReceipt, IsReceived}
 use Rattle.qmodel.proofs.Past.Receipts.{among_none, among_one, best_pending, best_priority, ending_receives, given_known}
-use Rattle.qmodel.proofs.Past.RowLaws.{call_laws}
+use Rattle.qmodel.proofs.Calls.{call_laws}
 use Rattle.qmodel.proofs.Past.Worth.{among_now, now, worth_beyond}
 use Rattle.qmodel.proofs.Rosters.{known}
 

@@ -9,7 +9,8 @@ use Rattle.qqueue.specs.declared.item.Kind.{Kind}
 use Rattle.qqueue.proofs.OrderLaws.{best-at}
 use Rattle.qtables.specs.Members.{member_at}
 use Rattle.qtables.specs.declared.member.Member.{Member}
-use Rattle.qmodel.specs.Answer.{row_of, ending, Outcome, Answers}
+use Rattle.qmodel.specs.Answer.{ending, Outcome, Answers}
+use Rattle.qmodel.specs.Calls.{row_of}
 use Rattle.qmodel.specs.Facts.{Facts, threads_of}
 use Rattle.qmodel.specs.Lawful.{facts_of, IsLawful}
 use Rattle.qmodel.specs.Past.{copied_count_in, first_among, priority_of_item, copied_count_among, copied_count_of}
@@ -19,7 +20,7 @@ use Rattle.qmodel.specs.declared.call.Call.{Call}
 use Rattle.qmodel.specs.declared.call.Completion.{Completion}
 use Rattle.qbase.proofs.Lists.{is_among}
 use Rattle.qmodel.proofs.Past.Laws.{RowLaws, IsReceipt, IsReceived}
-use Rattle.qmodel.proofs.Past.RowLaws.{call_laws}
+use Rattle.qmodel.proofs.Calls.{call_laws}
 use Rattle.qmodel.proofs.Past.Ends.{laws_of, ending_names, open_known}
 use Rattle.qmodel.proofs.Past.Items.{IsPending, pending_all, pending_priorities, item_below}
 use Rattle.qmodel.proofs.Rosters.{known}

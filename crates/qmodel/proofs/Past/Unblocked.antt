@@ -21,7 +21,7 @@ use Rattle.qmodel.specs.declared.open_call.Wait.{Wait}
 use Rattle.qmodel.specs.declared.open_call.Wait.TheVariants.{Answer, Item as ForItem}
 use Rattle.qbase.proofs.Lists.{eqb_same}
 use Rattle.qmodel.proofs.Past.Laws.{is_settled}
-use Rattle.qmodel.proofs.Past.RowLaws.{call_laws}
+use Rattle.qmodel.proofs.Calls.{call_laws}
 use Rattle.qmodel.proofs.Past.Numbers.{IsOpen, block_fresh, filled_answer, filled_settled, open_below, open_parts, open_thread, is_unblocked}
 use Rattle.qmodel.proofs.Past.Items.{item_accepted}
 use Rattle.qmodel.proofs.Past.Worth.{unblocked_among_now}

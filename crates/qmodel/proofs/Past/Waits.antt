@@ -6,7 +6,7 @@ use Rattle.std.proofs.lemmas.Bool.{true≢false}
 use Rattle.std.proofs.lemmas.Option.{none-some, same_Some}
 use Rattle.std.proofs.Math.Bool.{or-true}
 use Rattle.qtables.specs.Members.{member_at}
-use Rattle.qmodel.specs.Answer.{row_of}
+use Rattle.qmodel.specs.Calls.{row_of}
 use Rattle.qmodel.specs.Calls.Info.{info_of}
 use Rattle.qmodel.specs.Facts.{Facts, is_send, sender, sender_among, threads_of}
 use Rattle.qmodel.specs.Effects.{asks}

@@ -14,7 +14,8 @@ use Rattle.qqueue.specs.declared.item.Kind.{Kind}
 use Rattle.qqueue.specs.declared.item.Kind.TheVariants.{Any, PulseOnly}
 use Rattle.qbase.specs.Laying.{laid_count, lay_over}
 use Rattle.qtables.specs.declared.member.Member.{Member}
-use Rattle.qmodel.specs.Answer.{row_of, ending, Answers}
+use Rattle.qmodel.specs.Answer.{ending, Answers}
+use Rattle.qmodel.specs.Calls.{row_of}
 use Rattle.qmodel.specs.Effects.{buffer_of, message_sent, replies_with, writes}
 use Rattle.qmodel.specs.Calls.Error.{error_finish}
 use Rattle.qmodel.specs.Calls.Info.{info_of, info_ending}

@@ -28,7 +28,7 @@ use Rattle.qmodel.proofs.Past.Ends.{open_known, passes_of}
 use Rattle.qmodel.proofs.Past.Items.{item_accepted, IsPending, item_at}
 use Rattle.qbase.proofs.Lists.{eqb_same}
 use Rattle.qmodel.proofs.Past.Numbers.{blocks, blocks_thread, block_asked, filled_answer, open_from, open_parts, open_thread, receipt_for_answer, receipt_number, is_unblocked}
-use Rattle.qmodel.proofs.Past.RowLaws.{call_laws}
+use Rattle.qmodel.proofs.Calls.{call_laws}
 use Rattle.qmodel.proofs.Past.Senders.{send_from, send_parts, sender_found}
 use Rattle.qmodel.proofs.Properties.Events.{outcome_of}
 use Rattle.qmodel.proofs.Properties.Sends.{open_filled, open_keeps}

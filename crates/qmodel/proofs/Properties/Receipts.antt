@@ -9,7 +9,8 @@ use Rattle.qqueue.specs.Best.{best_of, may_take}
 use Rattle.qqueue.specs.declared.item.Item.{Item}
 use Rattle.qqueue.specs.declared.item.Kind.{Kind}
 use Rattle.qqueue.specs.declared.item.Kind.TheVariants.{Any, PulseOnly}
-use Rattle.qmodel.specs.Answer.{row_of, ending}
+use Rattle.qmodel.specs.Answer.{ending}
+use Rattle.qmodel.specs.Calls.{row_of}
 use Rattle.qmodel.specs.Calls.Error.{error_finish}
 use Rattle.qmodel.specs.Calls.Info.{info_of}
 use Rattle.qmodel.specs.Calls.Reply.{reply_finish}

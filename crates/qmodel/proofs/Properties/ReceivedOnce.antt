@@ -21,7 +21,7 @@ use Rattle.qmodel.specs.declared.call.Call.{Call}
 use Rattle.qmodel.specs.declared.call.Completion.{Completion}
 use Rattle.qmodel.proofs.Past.Ends.{ending_names, laws_of, not_ended, other_below}
 use Rattle.qmodel.proofs.Past.Items.{IsPending, item_at, item_below, item_earlier, item_newest, made_by}
-use Rattle.qmodel.proofs.Past.RowLaws.{call_laws}
+use Rattle.qmodel.proofs.Calls.{call_laws}
 use Rattle.qbase.proofs.Lists.{all_append, all_map, all_more}
 use Rattle.qmodel.proofs.Past.Numbers.{open_thread}
 use Rattle.qmodel.proofs.Past.Receipts.{best_pending, ending_receives, receipt_beyond}

@@ -22,7 +22,7 @@ use Rattle.qmodel.proofs.Past.Ends.{passes_of}
 use Rattle.qmodel.proofs.Past.Items.{item_at, item_below, item_earlier, item_newest, items_below, made_by}
 use Rattle.qbase.proofs.Lists.{eqb_same, all_more}
 use Rattle.qmodel.proofs.Past.Numbers.{IsOpen, blocks, blocks_thread, buffer_answer, held_for_answer, made_below, is_unblocked}
-use Rattle.qmodel.proofs.Past.RowLaws.{call_laws}
+use Rattle.qmodel.proofs.Calls.{call_laws}
 use Rattle.qmodel.proofs.Properties.Answers.{over, sends_by, sends_over}
 use Rattle.qmodel.proofs.Properties.Events.{made_now, outcome_of}
 use Rattle.qmodel.proofs.Past.Connections.{live_attached}

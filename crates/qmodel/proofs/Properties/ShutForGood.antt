@@ -8,7 +8,8 @@ use Rattle.qqueue.specs.Best.{best_of}
 use Rattle.qtables.specs.Members.{IsRoster, member_at}
 use Rattle.qtables.specs.declared.connection.Connection.{Connection}
 use Rattle.qtables.specs.declared.member.Member.{Member}
-use Rattle.qmodel.specs.Answer.{row_of, Outcome}
+use Rattle.qmodel.specs.Answer.{Outcome}
+use Rattle.qmodel.specs.Calls.{row_of}
 use Rattle.qmodel.specs.Cutting.{is_on, is_to}
 use Rattle.qmodel.specs.Facts.{Facts, is_for_answer, owns}
 use Rattle.qmodel.proofs.Parts.{leads_to}

@@ -11,7 +11,7 @@ use Rattle.qqueue.specs.declared.item.Kind.TheVariants.{Any, PulseOnly}
 use Rattle.qqueue.proofs.OrderLaws.{none-may}
 use Rattle.qtables.specs.Members.{IsRoster}
 use Rattle.qtables.specs.declared.member.Member.{Member}
-use Rattle.qmodel.specs.Answer.{row_of}
+use Rattle.qmodel.specs.Calls.{row_of}
 use Rattle.qmodel.specs.Calls.Send.{item}
 use Rattle.qmodel.specs.Delivering.{receiver, receipt_when_sent}
 use Rattle.qmodel.specs.Receiving.{own_receipt}

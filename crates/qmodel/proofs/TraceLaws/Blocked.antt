@@ -8,7 +8,8 @@ use Rattle.std.proofs.lemmas.Option.{none-some}
 use Rattle.std.proofs.Math.Bool.{or-true}
 use Rattle.qtables.specs.Members.{member_at}
 use Rattle.qtables.specs.declared.member.Member.{Member}
-use Rattle.qmodel.specs.Answer.{row_of, ending}
+use Rattle.qmodel.specs.Answer.{ending}
+use Rattle.qmodel.specs.Calls.{row_of}
 use Rattle.qmodel.specs.Endings.{gets, may_end, AreApart, BlockedUnlessEnded, CallerGetsItsOwn, EndingsAreApart, EndingsGoToBlocked, EndsOrWaits, GoesToBlocked}
 use Rattle.qmodel.specs.Facts.{Facts, sender, threads_of}
 use Rattle.qmodel.specs.Effects.{asks, makes, unblocks, writes}

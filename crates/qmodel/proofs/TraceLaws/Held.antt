@@ -7,7 +7,7 @@ use Rattle.std.proofs.lemmas.Bool.{and_from, and_parts, eqb-true, not-true, not_
 use Rattle.std.proofs.lemmas.Option.{none-some, same_Some}
 use Rattle.qtables.specs.Members.{IsRoster}
 use Rattle.qtables.specs.declared.member.Member.{Member}
-use Rattle.qmodel.specs.Answer.{row_of}
+use Rattle.qmodel.specs.Calls.{row_of}
 use Rattle.qmodel.specs.Facts.{is_for_answer, is_send, sender, threads_of}
 use Rattle.qmodel.specs.Headline.AnsweredToSender.{is_held}
 use Rattle.qmodel.specs.Headline.BestFirst.{TakesBest}

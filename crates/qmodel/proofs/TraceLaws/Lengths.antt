@@ -11,7 +11,8 @@ use Rattle.qbase.specs.declared.errno.Errno.TheVariants.{Srch}
 use Rattle.qqueue.specs.Best.{is_pulse}
 use Rattle.qqueue.specs.declared.item.Item.{Item}
 use Rattle.qqueue.specs.declared.item.Kind.TheVariants.{Any, PulseOnly}
-use Rattle.qmodel.specs.Answer.{row_of, ending}
+use Rattle.qmodel.specs.Answer.{ending}
+use Rattle.qmodel.specs.Calls.{row_of}
 use Rattle.qmodel.specs.Effects.{asks, buffer_of, makes, unblocks, writes}
 use Rattle.qmodel.specs.Calls.ConnectDetach as connect_detach
 use Rattle.qmodel.specs.Calls.Error.{error_finish}

@@ -21,7 +21,7 @@ use Rattle.qmodel.specs.Past.{pending_items, made_on}
 use Rattle.qmodel.specs.Effects.{closes, makes, sets}
 use Rattle.qmodel.specs.Rows.{Received, Setting, message_item, names, pulse_item, item_sent_over, Made}
 use Rattle.qmodel.specs.Step.{is_cut, uncut_items, items_with_priority_set, pending_after, unreceived_items}
-use Rattle.qmodel.specs.Answer.{row_of}
+use Rattle.qmodel.specs.Calls.{row_of}
 use Rattle.qmodel.specs.declared.call.Call.{Call}
 use Rattle.qmodel.specs.declared.call.Call.TheVariants.{ChannelCreate, ConnectAttach, Send, Receive, Reply, Error, Read, Write, Info, ReceivePulse, Pulse, PrioritySet, State, ChannelDestroy, Shutdown, Unblock, ConnectDetach}
 use Rattle.qmodel.proofs.Past.Ends.{passes_of}

@@ -15,7 +15,7 @@ use Rattle.qmodel.specs.declared.call.Call.TheVariants.{ChannelCreate, ConnectAt
 use Rattle.qmodel.specs.declared.open_call.OpenCall.{OpenCall}
 use Rattle.qbase.proofs.Lists.{eqb_same}
 use Rattle.qmodel.proofs.Past.Numbers.{open_from, open_parts, receipt_number, is_unblocked}
-use Rattle.qmodel.proofs.Past.RowLaws.{call_laws}
+use Rattle.qmodel.proofs.Calls.{call_laws}
 use Rattle.qmodel.proofs.Properties.Messages.{block_stays}
 use Rattle.qmodel.proofs.Properties.Sends.{begins_now, made_newest, made_stays}
 

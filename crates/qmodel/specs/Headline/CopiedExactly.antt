@@ -11,7 +11,8 @@ use Rattle.qmodel.specs.Ids.{CallNo, ReceiveId}
 use Rattle.qmodel.specs.Past.{with_writes}
 use Rattle.qmodel.specs.Trace.{Event, Trace}
 use Rattle.qmodel.specs.Effect.{Reading}
-use Rattle.qmodel.specs.Effects.{effect_of, buffer_of, message_sent, replies_with}
+use Rattle.qmodel.specs.Effects.{buffer_of, message_sent, replies_with}
+use Rattle.qmodel.specs.Calls.{effect_of}
 use Rattle.qmodel.specs.Rows.{Written}
 
 -- the call of number i
