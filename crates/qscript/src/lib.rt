@@ -2,6 +2,7 @@
 //! run that was made elsewhere.
 #![tactic(auto)]
 
+mod explaining;
 pub mod fault;
 pub mod printing;
 mod reading;
@@ -10,4 +11,6 @@ mod transfer;
 pub mod watched;
 pub mod writing;
 
+pub use explaining::explanation::{Explanation, explain};
+pub use explaining::grammar::{CALLS, Form, Operand, ROSTER};
 pub use reading::script::{MOST_TEXT, Script, parse};

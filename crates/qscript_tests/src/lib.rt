@@ -3,6 +3,8 @@
 #![tactic(auto)]
 
 #[cfg(test)]
+mod explaining;
+#[cfg(test)]
 mod parsing;
 #[cfg(test)]
 mod tests;

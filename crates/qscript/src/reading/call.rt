@@ -17,7 +17,7 @@ use std::alloc::Global;
 
 /// A word that names a call.
 #[derive(Clone, Copy)]
-enum Verb {
+pub enum Verb {
     Create,
     Attach,
     Send,
@@ -110,7 +110,7 @@ fn thread_verb(word: &[u8]) -> Option<Verb>
 
 /// The verb that a word is.
 #[tactic(auto, unfolding(crate::specs::Reading::Call::verb_of))]
-fn verb_named(word: &[u8]) -> Option<Verb>
+pub fn verb_named(word: &[u8]) -> Option<Verb>
     ensures { result ≡ verb_of word.now }
 {
     if let Some(verb) = channel_verb(word) {
