@@ -1,150 +1,41 @@
 //! The command line.
 
+use crate::texts::{
+    ABOUT, CHECK_ABOUT, CHECK_EXAMPLE, CHECK_LONG, EXAMPLE, SCRIPT_ABOUT, SCRIPT_EXAMPLE,
+    SCRIPT_LONG, SERVE_ABOUT, SERVE_EXAMPLE, SERVE_LONG, VERSION,
+};
 use clap::{Arg, ArgAction, ArgMatches, Command, Error, value_parser};
 use qserve::settings::Settings;
 use std::alloc::{AllocError, Global};
 
+/// A script that is to be run.
+#[derive(Drop)]
+pub struct ScriptRun {
+    /// Its file; `None` where it is on standard input.
+    pub file: Option<String>,
+    /// Whether a fault is to be explained.
+    pub explain: bool,
+}
+
+/// A folder of scripts that is to be checked.
+#[derive(Drop)]
+pub struct CheckRun {
+    /// The folder.
+    pub folder: String,
+    /// Whether a fault is to be explained.
+    pub explain: bool,
+}
+
 /// What the program is asked to do.
 #[derive(Drop)]
 pub enum Action {
-    /// To run the script on standard input.
-    Script,
+    /// To run a script.
+    Script(ScriptRun),
+    /// To compare what the scripts of a folder print with their traces.
+    Check(CheckRun),
     /// To run a server with its clients, and to record what the kernel did in files of this name, if there is one.
     Serve(Settings, Option<String>),
 }
-
-const ABOUT: &str = "A kernel of synchronous messages, after QNX Neutrino's";
-
-const EXAMPLE: &str = "Example:
-  $ printf 'thread 1 1 10\\n1 create 0\\n' | qdemo script
-  1 1 1 channel 1
-
-A script goes in on standard input, and what its calls are answered comes out on
-standard output. 'qdemo help script' describes the lines of both.";
-
-const SCRIPT_ABOUT: &str = "Runs the script on standard input and prints what its calls answer";
-
-const SCRIPT_LONG: &str = "Runs the script on standard input and prints what its calls answer.
-
-A script is a line for each thread, with its process and its priority, and
-then a line for each kernel call, with the thread that makes it. The calls are
-numbered from 1; a channel, a connection and a receive id have the number of
-the call that made them.
-
-  thread THREAD PROCESS PRIORITY
-  THREAD create FLAGS
-  THREAD attach CHANNEL
-  THREAD detach CONNECTION
-  THREAD send CONNECTION MESSAGE REPLY_BUFFER
-  THREAD receive CHANNEL BUFFER
-  THREAD reply RECEIVE_ID STATUS DATA
-  THREAD error RECEIVE_ID CODE
-  THREAD read RECEIVE_ID OFFSET BUFFER
-  THREAD write RECEIVE_ID OFFSET DATA
-  THREAD info RECEIVE_ID
-  THREAD receivepulse CHANNEL
-  THREAD pulse CONNECTION PRIORITY CODE VALUE
-  THREAD setprio THREAD PRIORITY
-  THREAD unblock THREAD
-  THREAD state THREAD
-  THREAD destroy CHANNEL
-  THREAD shutdown
-
-A THREAD and a PROCESS are 0 to 255, a PRIORITY is 1 to 255, FLAGS are the sum
-of 1 (FIXED_PRIORITY), 2 (UNBLOCK) and 4 (DISCONNECT), and the CODE of a pulse
-is 0 to 127. Bytes are hexadecimal digits (0aff), so many equal ones (16x00), or
-- for none. Empty lines and lines whose first word begins with # are passed over.
-A line has at most 4,096 bytes and a script 4,194,304.
-
-For each call that ends the output has a line: the number of the call that
-ended it, its own number, its thread, how it ended, and the buffer of a Send,
-Receive or Read. It ended as one of these:
-
-  ok
-  fail ERROR
-  channel ID
-  connection ID
-  message RECEIVE_ID COPIED
-  pulse NUMBER PRIORITY user CODE VALUE
-  pulse NUMBER PRIORITY unblock RECEIVE_ID
-  pulse NUMBER PRIORITY disconnect PROCESS
-  reply STATUS COPIED
-  error CODE
-  count COPIED
-  state STATE CHANNEL PRIORITY
-  state ready PRIORITY
-  info PROCESS THREAD CONNECTION MSGLEN SRCMSGLEN DSTMSGLEN PRIORITY
-
-Then comes a line for each thread that is blocked at the end, where STATE is
-send, receive or reply:
-
-  open CALL THREAD STATE CHANNEL";
-
-const SCRIPT_EXAMPLE: &str = "Example:
-  input            output
-  thread 1 1 10
-  thread 2 2 20
-  1 create 0       1 1 1 channel 1
-  2 attach 1       2 2 2 connection 2
-  2 send 2 - -
-  1 receive 1 -    4 4 1 message 3 0 -
-  1 reply 3 0 -    5 5 1 ok
-                   5 3 2 reply 0 0 -
-
-Status: 0; 1 for a faulty script; 2 for a faulty command line; 3 where reading,
-writing or memory fails.";
-
-const SERVE_ABOUT: &str = "Runs a server and its clients on threads, and prints what they did";
-
-const SERVE_LONG: &str = "Runs a server and its clients on threads, and prints what they did.
-
-Each client makes its rounds: it sends a pulse, and then a message for the echo
-service or for the sum service, waits for the answer and checks it. The servers
-receive on one channel.
-
-With --hold the server keeps the first message until it has received a second, so
-that two clients are blocked at once.
-
-The output has five lines: how many messages the clients sent, how many the
-servers answered, how many pulses they counted, the sum of all that the sum
-service answered, and how many kernel calls were made.
-
-  sent S
-  answered A
-  pulses P
-  sum X
-  events E
-
-With --time five more follow: how many seconds the run took, how many round trips
-there were in a second, and how many nanoseconds the shortest of them took, half
-of them at most, and 99 of a hundred at most. A round trip is from the call of
-a client's send until its answer is collected.
-
-  seconds S
-  rate R
-  least L
-  median M
-  ninety-ninth N
-
-With --record what the kernel did is written into two files before the lines are
-printed: NAME.txt, a script that makes the same calls in the same order, and
-NAME.trace, what each call was answered. 'qdemo script < NAME.txt' prints
-NAME.trace byte for byte, in one thread. A script has at most 4,194,304 bytes; of a
-run that would be longer no file is written.
-
-Where standard error is a terminal, a line on it shows how far a run is that takes
-more than half a second. It is gone at the end, and --quiet leaves it out.";
-
-const SERVE_EXAMPLE: &str = "Example:
-  $ qdemo serve --clients 2 --servers 1 --rounds 1
-  sent 2
-  answered 2
-  pulses 2
-  sum 8
-  events 20
-
-Status: 0; 2 for a faulty command line, or a run that is too long to be recorded; 3
-where writing or memory fails; 4 where a worker fails.";
 
 fn serve_command<'a>(alloc: Global) -> Result<Command<'a>, AllocError> {
     let clients = Arg::new(alloc, "clients")
@@ -194,17 +85,68 @@ fn serve_command<'a>(alloc: Global) -> Result<Command<'a>, AllocError> {
         .arg(record)
 }
 
-fn command<'a>(alloc: Global) -> Result<Command<'a>, AllocError> {
-    let script = Command::new(alloc, "script")
+/// The option to explain faults.
+fn explain_option<'a>(alloc: Global) -> Arg<'a> {
+    Arg::new(alloc, "explain")
+        .long("explain")
+        .action(ArgAction::SetTrue)
+        .help("Show the part of a faulty line that is at fault, and what was wanted there")
+}
+
+fn script_command<'a>(alloc: Global) -> Result<Command<'a>, AllocError> {
+    let file = Arg::new(alloc, "file")
+        .value_name("FILE")
+        .help("The script's file; none or - is standard input");
+    Command::new(alloc, "script")
         .about(SCRIPT_ABOUT)
         .long_about(SCRIPT_LONG)
-        .after_help(SCRIPT_EXAMPLE);
+        .after_help(SCRIPT_EXAMPLE)
+        .arg(file)?
+        .arg(explain_option(alloc))
+}
+
+fn check_command<'a>(alloc: Global) -> Result<Command<'a>, AllocError> {
+    let folder = Arg::new(alloc, "folder")
+        .value_name("FOLDER")
+        .required(true)
+        .help("The folder of the scripts and their traces");
+    Command::new(alloc, "check")
+        .about(CHECK_ABOUT)
+        .long_about(CHECK_LONG)
+        .after_help(CHECK_EXAMPLE)
+        .arg(folder)?
+        .arg(explain_option(alloc))
+}
+
+fn command<'a>(alloc: Global) -> Result<Command<'a>, AllocError> {
     Command::new(alloc, "qdemo")
+        .version(VERSION)
         .about(ABOUT)
         .after_help(EXAMPLE)
         .subcommand_required(true)
-        .subcommand(script)?
+        .subcommand(script_command(alloc)?)?
+        .subcommand(check_command(alloc)?)?
         .subcommand(serve_command(alloc)?)
+}
+
+/// Which script these words ask for.
+fn script_of(alloc: Global, matches: &ArgMatches<'_>) -> Result<ScriptRun, AllocError> {
+    let file = match matches.get_str("file") {
+        Some("-") | None => None,
+        Some(name) => Some(String::from_str(alloc, name)?),
+    };
+    Ok(ScriptRun {
+        file,
+        explain: matches.get_flag("explain"),
+    })
+}
+
+/// Which folder these words ask for.
+fn folder_of(alloc: Global, matches: &ArgMatches<'_>) -> Result<CheckRun, AllocError> {
+    Ok(CheckRun {
+        folder: String::from_str(alloc, matches.get_str("folder").unwrap_or("."))?,
+        explain: matches.get_flag("explain"),
+    })
 }
 
 /// How large a demonstration these words ask for. Each number has a default.
@@ -233,8 +175,17 @@ fn record_of(alloc: Global, matches: &ArgMatches<'_>) -> Result<Option<String>, 
 pub fn action_of(alloc: Global, words: &[String]) -> Result<Action, Error> {
     let command = command(alloc)?;
     let matches = command.try_get_matches_from(words)?;
-    match matches.subcommand_matches("serve") {
-        Some(serve) => Ok(Action::Serve(settings_of(serve), record_of(alloc, serve)?)),
-        None => Ok(Action::Script),
+    if let Some(serve) = matches.subcommand_matches("serve") {
+        return Ok(Action::Serve(settings_of(serve), record_of(alloc, serve)?));
+    }
+    if let Some(check) = matches.subcommand_matches("check") {
+        return Ok(Action::Check(folder_of(alloc, check)?));
+    }
+    match matches.subcommand_matches("script") {
+        Some(script) => Ok(Action::Script(script_of(alloc, script)?)),
+        None => Ok(Action::Script(ScriptRun {
+            file: None,
+            explain: false,
+        })),
     }
 }

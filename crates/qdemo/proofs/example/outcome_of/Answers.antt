@@ -1,7 +1,7 @@
 use Rattle.std.proofs.Common.{◌≡◌, [], sym, ◌∙◌, rules}
 use Rattle.std.proofs.lemmas.Slice.Eq.{bytes_eq-Decides}
-use Rattle.qexamples.proofs.Told.{told}
-use Rattle.qexamples.proofs.example.outcome_of.Goals as goal
+use Rattle.qdemo.proofs.Told.{told}
+use Rattle.qdemo.proofs.example.outcome_of.Goals as goal
 
 -- what was printed is the trace, and it is the text of the run
 pub returns-then-eq : goal.returns-then-eq

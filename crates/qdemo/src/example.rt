@@ -3,6 +3,7 @@
 ghost use Rattle.std.specs.Prelude.{◌≡◌};
 ghost use Rattle.qscript.specs.Script.{Runs};
 
+use crate::difference::{Difference, difference_of};
 use qscript::fault::ScriptFault;
 use qscript::script::script;
 use qscript::watched::Watched;
@@ -15,7 +16,7 @@ pub enum Outcome {
     /// It printed its trace.
     Same,
     /// It printed something else from this line on.
-    Differs(usize),
+    Differs(Difference),
     /// It printed nothing.
     Fault(ScriptFault),
 }
@@ -24,7 +25,10 @@ impl fmt::Display for Outcome {
     fn fmt<W: fmt::Write>(&self, f: &mut fmt::Formatter<W>) -> fmt::Result {
         match self {
             Outcome::Same => write!(f, "as its trace says"),
-            Outcome::Differs(line) => write!(f, "differs from its trace at line {line}"),
+            Outcome::Differs(difference) => {
+                let line = difference.line();
+                write!(f, "differs from its trace at line {line}\n{difference}")
+            }
             Outcome::Fault(fault) => write!(f, "{fault}"),
         }
     }
@@ -42,22 +46,10 @@ pub fn outcome_of(alloc: Global, input: &[u8], trace: &[u8]) -> Outcome
     }
     let printed = writer.into_inner();
     if printed.as_slice() == trace {
-        Outcome::Same
-    } else {
-        Outcome::Differs(first_difference(printed.as_slice(), trace))
+        return Outcome::Same;
     }
-}
-
-/// The number of the first line in which two texts differ.
-fn first_difference(found: &[u8], wanted: &[u8]) -> usize {
-    let mut line = 1usize;
-    for (a, b) in found.iter().zip(wanted) {
-        if a != b {
-            break;
-        }
-        if *a == b'\n' {
-            line = line.saturating_add(1);
-        }
+    match difference_of(alloc, printed.as_slice(), trace) {
+        Ok(difference) => Outcome::Differs(difference),
+        Err(_) => Outcome::Fault(ScriptFault::NoMemory),
     }
-    line
 }

@@ -1,0 +1,74 @@
+//! Where two texts differ.
+
+use std::alloc::{AllocError, Global};
+use std::fmt;
+
+/// The first line in which two texts differ, with what stands there in each.
+#[derive(Debug, Drop)]
+pub struct Difference {
+    line: usize,
+    found: String,
+    wanted: String,
+}
+
+impl Difference {
+    /// The number of the line, counted from 1.
+    pub fn line(&self) -> usize {
+        self.line
+    }
+}
+
+/// The two lines.
+impl fmt::Display for Difference {
+    fn fmt<W: fmt::Write>(&self, f: &mut fmt::Formatter<W>) -> fmt::Result {
+        let found = &self.found;
+        let wanted = &self.wanted;
+        write!(f, "  found:  {found}\n  wanted: {wanted}")
+    }
+}
+
+/// The first line in which two texts differ.
+pub fn difference_of(alloc: Global, found: &[u8], wanted: &[u8]) -> Result<Difference, AllocError> {
+    let line = first_difference(found, wanted);
+    Ok(Difference {
+        line,
+        found: shown_line(alloc, found, line)?,
+        wanted: shown_line(alloc, wanted, line)?,
+    })
+}
+
+/// The number of the first line in which two texts differ.
+fn first_difference(found: &[u8], wanted: &[u8]) -> usize {
+    let mut line = 1usize;
+    for (a, b) in found.iter().zip(wanted) {
+        if a != b {
+            break;
+        }
+        if *a == b'\n' {
+            line = line.saturating_add(1);
+        }
+    }
+    line
+}
+
+/// The line of this number as it is shown: a byte that doesn't print as `?`, and the end of the text as
+/// such.
+fn shown_line(alloc: Global, text: &[u8], number: usize) -> Result<String, AllocError> {
+    let mut shown = String::new(alloc);
+    let mut line = 1usize;
+    for byte in text {
+        if line > number {
+            return Ok(shown);
+        }
+        match *byte {
+            b'\n' => line = line.saturating_add(1),
+            0x20..=0x7e if line == number => shown.push(*byte as char)?,
+            _ if line == number => shown.push('?')?,
+            _ => {}
+        }
+    }
+    if line <= number {
+        shown.push_str("(end of text)")?;
+    }
+    Ok(shown)
+}

@@ -1,0 +1,48 @@
+//! Runs a server and its clients.
+
+use crate::ending::{closed, told};
+use crate::files::RecordFiles;
+use crate::streams::Outlet;
+use qscript::watched::Watched;
+use qserve::fault::ServeFault;
+use qserve::recording::{Forget, Store};
+use qserve::serve::serve;
+use qserve::settings::Settings;
+use std::io;
+use std::process::ExitCode;
+use std::rt::{Clock, Files};
+use std::sync::Wait;
+use std::thread::Threads;
+
+/// Runs a server and its clients, and records what the kernel did where there is a name for it.
+pub fn run_serve<R: Files + Print + Eprint + AllocGlobal + Threads + Wait + Clock + Sync>(
+    rt: &R,
+    settings: Settings,
+    record: Option<String>,
+) -> ExitCode {
+    match record {
+        Some(name) => serve_with(rt, settings, &mut RecordFiles::new(rt, name.as_str())),
+        None => serve_with(rt, settings, &mut Forget),
+    }
+}
+
+/// Runs a server and its clients, and stores their recording. The command line allows no other settings than those that
+/// fit.
+fn serve_with<R: Print + Eprint + AllocGlobal + Threads + Wait + Clock + Sync, S: Store>(
+    rt: &R,
+    settings: Settings,
+    store: &mut S,
+) -> ExitCode {
+    if !settings.fit() {
+        return told(rt, "worker failed", 3);
+    }
+    let mut writer = Watched::new(Outlet::new(io::writer(rt)));
+    match serve(rt, rt.alloc(), settings, store, &mut writer) {
+        Ok(()) => ExitCode::SUCCESS,
+        Err(ServeFault::Write) if writer.into_inner().is_closed() => closed(),
+        Err(fault) => {
+            let status = fault.status();
+            told(rt, fault, status)
+        }
+    }
+}

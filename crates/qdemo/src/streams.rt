@@ -1,0 +1,95 @@
+//! A reader and a writer that remember what the system said.
+
+use std::alloc::Global;
+use std::io;
+use std::io::{Read, Write};
+
+/// A reader that remembers why a read failed. It also keeps what was read, where that is wanted; where
+/// there is no memory for it, nothing is kept.
+#[derive(Drop)]
+pub struct Source<R> {
+    inner: R,
+    error: Option<io::Error>,
+    kept: Option<Vec<u8>>,
+}
+
+impl<R> Source<R> {
+    /// Reads from here, and keeps what is read or doesn't.
+    pub fn new(alloc: Global, inner: R, keeps: bool) -> Self {
+        Source {
+            inner,
+            error: None,
+            kept: if keeps { Some(Vec::new(alloc)) } else { None },
+        }
+    }
+
+    /// Why the last failed read failed.
+    pub fn error(&self) -> Option<io::Error> {
+        self.error
+    }
+
+    /// What was read, if it is kept.
+    pub fn text(&self) -> Option<&[u8]> {
+        match &self.kept {
+            Some(kept) => Some(kept.as_slice()),
+            None => None,
+        }
+    }
+
+    /// Keeps these bytes behind those that are kept.
+    fn keep(&mut self, bytes: &[u8]) {
+        let Some(kept) = &mut self.kept else {
+            return;
+        };
+        if kept.extend_from_slice(bytes).is_err() {
+            self.kept = None;
+        }
+    }
+}
+
+impl<R: Read> Read for Source<R> {
+    fn read(&mut self, buf: &mut [u8]) -> io::Result<usize> {
+        let result = self.inner.read(buf);
+        match &result {
+            Ok(count) => self.keep(&buf[..*count]),
+            Err(error) => self.error = Some(*error),
+        }
+        result
+    }
+}
+
+/// A writer that remembers whether a write failed since nobody reads any more what is written.
+#[derive(Drop)]
+pub struct Outlet<W> {
+    inner: W,
+    closed: bool,
+}
+
+impl<W> Outlet<W> {
+    /// Writes here.
+    pub fn new(inner: W) -> Self {
+        Outlet {
+            inner,
+            closed: false,
+        }
+    }
+
+    /// Whether a write found that nobody reads.
+    pub fn is_closed(&self) -> bool {
+        self.closed
+    }
+}
+
+impl<W: Write> Write for Outlet<W> {
+    fn write(&mut self, buf: &[u8]) -> io::Result<usize> {
+        let result = self.inner.write(buf);
+        if let Err(error) = &result {
+            self.closed = self.closed || error.kind() == io::ErrorKind::BrokenPipe;
+        }
+        result
+    }
+
+    fn flush(&mut self) -> io::Result<()> {
+        self.inner.flush()
+    }
+}
