@@ -1,0 +1,23 @@
+# Completion of qdemo for fish. Made by tools/manual from the help of the program.
+complete -c qdemo -f
+complete -c qdemo -n '__fish_use_subcommand' -s h -l help -d 'Print help'
+complete -c qdemo -n '__fish_use_subcommand' -s V -l version -d 'Print version'
+complete -c qdemo -n __fish_use_subcommand -a script -d 'Runs a script and prints what its calls answer'
+complete -c qdemo -n __fish_use_subcommand -a check -d 'Runs the scripts of a folder and compares what they print with their traces'
+complete -c qdemo -n __fish_use_subcommand -a serve -d 'Runs a server and its clients on threads, and prints what they did'
+complete -c qdemo -n __fish_use_subcommand -a help -d 'Print the help of a command'
+complete -c qdemo -n '__fish_seen_subcommand_from help' -a 'script check serve'
+complete -c qdemo -n '__fish_seen_subcommand_from script' -l explain -d 'Show the part of a faulty line that is at fault, and what was wanted there'
+complete -c qdemo -n '__fish_seen_subcommand_from script' -s h -l help -d 'Print help (see more with \'--help\')'
+complete -c qdemo -n '__fish_seen_subcommand_from script' -F
+complete -c qdemo -n '__fish_seen_subcommand_from check' -l explain -d 'Show the part of a faulty line that is at fault, and what was wanted there'
+complete -c qdemo -n '__fish_seen_subcommand_from check' -s h -l help -d 'Print help (see more with \'--help\')'
+complete -c qdemo -n '__fish_seen_subcommand_from check' -a '(__fish_complete_directories)'
+complete -c qdemo -n '__fish_seen_subcommand_from serve' -l clients -x -d 'How many clients, 1 to 32 [default: 2]'
+complete -c qdemo -n '__fish_seen_subcommand_from serve' -l servers -x -d 'How many servers, 1 to 16 [default: 1]'
+complete -c qdemo -n '__fish_seen_subcommand_from serve' -l rounds -x -d 'How many rounds each client makes, 1 to 1000 [default: 1]'
+complete -c qdemo -n '__fish_seen_subcommand_from serve' -l hold -d 'Keep the first message until there is a second'
+complete -c qdemo -n '__fish_seen_subcommand_from serve' -l time -d 'Print how long the run and its round trips took'
+complete -c qdemo -n '__fish_seen_subcommand_from serve' -l quiet -d 'Show no progress'
+complete -c qdemo -n '__fish_seen_subcommand_from serve' -l record -r -F -d 'Write NAME.txt, a script of the kernel\'s calls, and NAME.trace'
+complete -c qdemo -n '__fish_seen_subcommand_from serve' -s h -l help -d 'Print help (see more with \'--help\')'
