@@ -137,7 +137,7 @@ module _ (s : State) (t coid : ℕ) (m : Member) (known : member_at (members_of 
           )
 
       -- what is cut once the pulse is sent
-      module _ (sound : IsSound s) (mid : List Thread) (between : List (ℕ × Channel)) (met : Option Completion) (is : IsTold s t (made_for h d) mid connection_between met) where
+      module _ (sound : IsSound s) (mid : List Thread) (between : List (ℕ × Channel)) (met : Option Completion) (is : IsTold s t (made_for h d) mid between met) where
         abbrev o : Option Made
         o = made_for h d
 
@@ -177,7 +177,7 @@ module _ (s : State) (t coid : ℕ) (m : Member) (known : member_at (members_of 
         g_none : (u : ℕ) → is_some (ends_receiver (facts_in s) o u) ≡ true → g u ≡ None
         g_none u there = g_is u ∙ (elim (ends_receiver (facts_in s) o u) as (λ x. ends_receiver (facts_in s) o u ≡ x → is_some x ≡ true → cond (eqb u t) (Some (mine s t)) (cut u) ≡ None) [
           | None ↦ λ e some. absurd (true≢false (sym some))
-          | Some y ↦ λ e some. rw (ne_eqb u t (not_caller s t u o mid connection_between met is there), met_uncut u y e) refl
+          | Some y ↦ λ e some. rw (ne_eqb u t (not_caller s t u o mid between met is there), met_uncut u y e) refl
         ] refl there)
 
         ending_is : (u : ℕ) → option_or (g u) (ends_receiver (facts_in s) o u) ≡ ending (facts_in s) t (ConnectDetach coid) u
@@ -186,7 +186,7 @@ module _ (s : State) (t coid : ℕ) (m : Member) (known : member_at (members_of 
         pub room_for_one : length s.threads ≤ 64 → is_some met ≡ true → length (filter_map g (threads_of (members_of mid))) < 64
         room_for_one few some = rw (is.members) (let fewer : length (filter_map g ts) + 1 ≤ length ts = is.few g g_none some in let as_many : length ts ≡ length s.threads = length-map (members_of s.threads) (λ m. m.thread) ∙ length-map s.threads (λ t. t.member) in omega arith)
 
-        module _ (threads : List Thread) (now : List (ℕ × Channel)) (are : AreCut (entry_at s.connections) (Over coid) Badf mid threads) (lose : LoseCut (entry_at s.connections) (Over coid) Badf mid connection_between now) where
+        module _ (threads : List Thread) (now : List (ℕ × Channel)) (are : AreCut (entry_at s.connections) (Over coid) Badf mid threads) (lose : LoseCut (entry_at s.connections) (Over coid) Badf mid between now) where
           abbrev pub detached : State
           detached = record { made = s.made + 1; down = s.down; threads = threads; channels = now; connections = without_entry s.connections coid }
 
@@ -215,7 +215,7 @@ module _ (s : State) (t coid : ℕ) (m : Member) (known : member_at (members_of 
 
           pending_is : (k : ℕ) → pending_in now k ≡ unreceived_items (pulse_receipt (facts_in s) o) k (uncut_items (facts_in s) t (ConnectDetach coid) k (pending_in s.channels k ++ made_on k o))
           pending_is k = lose.pending k
-              ∙ filter_agree (λ (item : Item). not (is_cut_among (entry_at s.connections) (Over coid) Badf mid k item.number)) (λ item. not (is_cut (facts_in s) t (ConnectDetach coid) k item.number)) (λ item. ap not (cut_is k item.number)) (pending_in connection_between k)
+              ∙ filter_agree (λ (item : Item). not (is_cut_among (entry_at s.connections) (Over coid) Badf mid k item.number)) (λ item. not (is_cut (facts_in s) t (ConnectDetach coid) k item.number)) (λ item. ap not (cut_is k item.number)) (pending_in between k)
               ∙ ap (uncut_items (facts_in s) t (ConnectDetach coid) k) (is.pending k)
               ∙ taken_filtered (λ item. not (is_cut (facts_in s) t (ConnectDetach coid) k item.number)) (pulse_receipt (facts_in s) o) k (pending_in s.channels k ++ made_on k o)
 
@@ -244,7 +244,7 @@ module _ (s : State) (t coid : ℕ) (m : Member) (known : member_at (members_of 
             },
           )
 
-          pub sound_detached : IsSound (record { made = s.made + 1; down = s.down; threads = mid; channels = connection_between; connections = s.connections }) → IsSound detached
+          pub sound_detached : IsSound (record { made = s.made + 1; down = s.down; threads = mid; channels = between; connections = s.connections }) → IsSound detached
           sound_detached ends_receiver =
               let k = sound_less _ s.down (Over coid) Badf threads now ends_receiver are lose in
               record {
