@@ -1,0 +1,95 @@
+-- Rows that are made one after another.
+use Rattle.std.proofs.Common.{◌≡◌, ℕ, ◌+◌, List, [], ◌∷◌, ◌++◌, length, length-append, map, refl, ap, sym, subst, ◌∙◌, append_assoc, append-nil, true, arith}
+use Rattle.std.specs.Prelude.{is_some}
+use Rattle.std.proofs.lemmas.List.{map-append}
+use Rattle.qtables.specs.Members.{member_at}
+use Rattle.qtables.specs.declared.member.Member.{Member}
+use Rattle.std.specs.List.{filter_map}
+use Rattle.qmodel.specs.declared.call.Call.{Call}
+use Rattle.qmodel.specs.declared.call.Completion.{Completion}
+use Rattle.qchart.specs.Arrows.{arrow_of}
+use Rattle.qmodel.proofs.Following.{followed_push}
+use Rattle.qmodel.specs.Blocked.{blocked_at}
+use Rattle.qmodel.specs.Lawful.{IsLawful, followed_by}
+use Rattle.qmodel.specs.OnlyRun.{event_call}
+use Rattle.qmodel.specs.Trace.{Event, Trace}
+use Rattle.qstate.specs.Threads.{members_of}
+use Rattle.qkernel.specs.Runs.{RunsAtTraces}
+use Rattle.qkernel.specs.Stands.{AnswersAtTraces, StandsAt}
+use Rattle.qkernel.specs.State.{State}
+use Rattle.qchart.specs.declared.row.Row.{Row}
+use Rattle.qchart.specs.Rows.{HasRows, TellsBlocked, arrows_from, blocked_from, event_arrows, event_thread, row_arrows, row_blocked, row_thread}
+
+-- one event more
+runs_more : (old mid new : State) (events : List Event) (e : Event) → RunsAtTraces old events mid → is_some (member_at (members_of mid.threads) e.thread) ≡ true → AnswersAtTraces mid e.thread e.call e.endings new
+    → RunsAtTraces old (events ++ e ∷ []) new
+runs_more old mid new events e run known step = λ roster past l st.
+    let now = run roster past l st in
+    let next = step roster (followed_by past events) now.0 now.1 in
+    let among : is_some (member_at roster e.thread) ≡ true = subst (λ r. is_some (member_at r e.thread) ≡ true) now.1.roster_is known in
+    rw (followed_push past events e) ((now.0, among, next.0), next.1)
+
+-- the arrows of one event more
+arrows_push : (before : List ℕ) (events : List Event) (e : Event) → arrows_from before (events ++ e ∷ []) ≡ arrows_from before events ++ event_arrows (before ++ map event_thread events) e ∷ []
+arrows_push before [] e = ap (λ callers. event_arrows callers e ∷ []) (sym (append-nil before))
+arrows_push before (x ∷ events) e =
+    let after = arrows_push (before ++ x.thread ∷ []) events e in
+    let callers = append_assoc before (x.thread ∷ []) (map event_thread events) in
+    ap (λ rest. event_arrows before x ∷ rest) (after ∙ ap (λ cs. arrows_from (before ++ x.thread ∷ []) events ++ event_arrows cs e ∷ []) callers)
+
+-- who is blocked after one event more
+blocked_push : (roster : List Member) (past : Trace) (events : List Event) (e : Event)
+    → blocked_from roster past (events ++ e ∷ []) ≡ blocked_from roster past events ++ blocked_at roster (followed_by past (events ++ e ∷ [])) ∷ []
+blocked_push roster past [] e = refl
+blocked_push roster past (x ∷ events) e = ap (λ rest. blocked_at roster (x ∷ past) ∷ rest) (blocked_push roster (x ∷ past) events e)
+
+-- the rows so far: the roster stayed as it was, and these threads made the calls
+pub record Going (old : State) (calls : List (ℕ × Call)) (now : State) (drawn : List Row) (threads : List ℕ) : Type 0 where
+  pub rows : HasRows old calls now drawn
+  pub callers : threads ≡ map event_thread rows.events
+  pub members : members_of now.threads ≡ members_of old.threads
+  pub made : now.made ≡ old.made + length calls
+
+-- no rows
+pub going_none : (old : State) → Going old [] old [] []
+going_none old = record {
+  rows = record { events = []; ran = λ roster past lawful stands. (lawful, stands); made = refl; threads = refl; arrows = refl; blocked = λ roster past lawful stands. refl };
+  callers = refl;
+  members = refl;
+  made = omega arith;
+}
+
+-- what a row tells of one call by a kernel in this state after these callers' calls, and the state that the kernel is left in
+pub record IsRowOf (old : State) (before : List ℕ) (t : ℕ) (c : Call) (row : Row) (new : State) : Type 0 where
+  pub endings : List Completion
+  pub answers : AnswersAtTraces old t c endings new
+  pub thread : row.thread ≡ t
+  pub arrows : row.arrows.items ≡ filter_map (arrow_of (before ++ t ∷ []) t) endings
+  pub blocked : TellsBlocked new row.blocked.items
+
+-- one row more
+pub going_more : (old : State) (calls : List (ℕ × Call)) (mid new : State) (rows : List Row) (callers : List ℕ) (t : ℕ) (c : Call) (row : Row) → Going old calls mid rows callers
+    → is_some (member_at (members_of mid.threads) t) ≡ true → IsRowOf mid callers t c row new → members_of new.threads ≡ members_of mid.threads → new.made ≡ mid.made + 1
+    → Going old (calls ++ (t, c) ∷ []) new (rows ++ row ∷ []) (callers ++ t ∷ [])
+going_more old calls mid new rows callers t c row g known is members made =
+    let e : Event = record { thread = t; call = c; endings = is.endings } in
+    let events = g.rows.events in
+    let ran = runs_more old mid new events e g.rows.ran known is.answers in
+    let own : row_arrows row ≡ event_arrows (map event_thread events) e = is.arrows ∙ ap (λ cs. event_arrows cs e) g.callers in
+    record {
+      rows = record {
+        events = events ++ e ∷ [];
+        ran = ran;
+        made = map-append event_call events (e ∷ []) ∙ ap (λ cs. cs ++ (t, c) ∷ []) g.rows.made;
+        threads = map-append row_thread rows (row ∷ []) ∙ ap (λ ts. ts ++ row.thread ∷ []) g.rows.threads ∙ ap (λ u. map event_thread events ++ u ∷ []) is.thread ∙ sym (map-append event_thread events (e ∷ []));
+        arrows = map-append row_arrows rows (row ∷ []) ∙ ap (λ rest. rest ++ row_arrows row ∷ []) g.rows.arrows ∙ ap (λ own. arrows_from [] events ++ own ∷ []) own ∙ sym (arrows_push [] events e);
+        blocked = λ roster past lawful stands.
+            let now = ran roster past lawful stands in
+            map-append row_blocked rows (row ∷ []) ∙ ap (λ bs. bs ++ row_blocked row ∷ []) (g.rows.blocked roster past lawful stands)
+            ∙ ap (λ own. blocked_from roster past events ++ own ∷ []) (is.blocked roster (followed_by past (events ++ e ∷ [])) now.1)
+            ∙ sym (blocked_push roster past events e);
+      };
+      callers = ap (λ cs. cs ++ t ∷ []) g.callers ∙ sym (map-append event_thread events (e ∷ []));
+      members = members ∙ g.members;
+      made = omega (arith, made, g.made, length-append calls ((t, c) ∷ []));
+    }

@@ -1,0 +1,43 @@
+-- The chart of a script.
+use Rattle.std.specs.Prelude.{◌≡◌, ℕ, ◌<◌, ◌≤◌, List, [], length}
+use Rattle.std.specs.List.Sorted.{IsPermutation}
+use Rattle.qtables.specs.declared.member.Member.{Member}
+use Rattle.qmodel.specs.declared.call.Call.{Call}
+use Rattle.qmodel.specs.Trace.{Run}
+use Rattle.qmodel.specs.declared.open_call.Blocked.{Blocked}
+use Rattle.qscript.specs.Enrolled.{enrolled}
+use Rattle.qscript.specs.Reading.Meaning.{meaning, Says, IsFaultOf}
+use Rattle.qscript.specs.Script.{IsRunOf}
+use Rattle.qchart.specs.declared.chart.Chart.{Chart}
+use Rattle.qchart.specs.declared.fault.ChartFault.{ChartFault}
+use Rattle.qchart.specs.declared.fault.ChartFault.TheVariants.{Script, TooManyCalls}
+use Rattle.qchart.specs.Rows.{IsDrawn}
+
+-- the chart of a run of these calls, which is lawful from the first call on: a line for each thread, and a row for each event that tells of it
+pub record IsChartOf (roster : List Member) (calls : List (ℕ × Call)) (chart : Chart) : Type 0 where
+  pub run : Run
+  pub left : List Blocked
+  pub ran : IsRunOf roster calls run left
+  pub lines : IsPermutation roster chart.lifelines.items
+  pub drawn : IsDrawn (enrolled [] roster) run.events chart.rows.items
+
+-- the chart of what a text says, which is at most 400 calls
+pub record IsCharted (text : List ℕ) (chart : Chart) : Type 0 where
+  pub roster : List Member
+  pub calls : List (ℕ × Call)
+  pub meant : meaning text ≡ Says roster calls
+  pub few : length calls ≤ 400
+  pub charted : IsChartOf roster calls chart
+
+-- a text says so many calls, over 400
+pub record HasTooMany (text : List ℕ) (count : ℕ) : Type 0 where
+  pub roster : List Member
+  pub calls : List (ℕ × Call)
+  pub meant : meaning text ≡ Says roster calls
+  pub counted : length calls ≡ count
+  pub many : 400 < count
+
+-- why a text has no chart: its own fault, or want of memory; or else too many calls
+abbrev pub IsChartFault : List ℕ → ChartFault → Type 0
+IsChartFault text (Script fault) = IsFaultOf fault (meaning text)
+IsChartFault text (TooManyCalls count) = HasTooMany text count

@@ -1,0 +1,4 @@
+pub mod Fault
+pub mod Arrows
+pub mod Rows
+pub mod Charts

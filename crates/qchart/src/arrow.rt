@@ -1,0 +1,78 @@
+//! The arrows of a chart: what went from one thread to another.
+
+ghost use Rattle.std.specs.Prelude.{◌≡◌, IfOk};
+ghost use Rattle.std.specs.List.{filter_map};
+ghost use Rattle.qchart.specs.Arrows.{caller_of, arrow_of, arrow_by};
+
+use qbase::ids::ThreadNo;
+use qkernel::call::{Completion, Mark};
+use std::alloc::{AllocError, Global};
+
+/// What an arrow stands for.
+#[derive(Clone, Copy, Debug, PartialEq, Eq)]
+pub enum What {
+    /// A message that is received.
+    Message,
+    /// A pulse that is received.
+    Pulse,
+    /// An answer with this status.
+    Reply(i64),
+    /// An answer with this code.
+    Error(i32),
+}
+
+/// Something that went from one thread to another, or from a thread to itself.
+#[derive(Clone, Copy, Debug, PartialEq, Eq)]
+pub struct Arrow {
+    /// The number of the call that sent the message or made the pulse. An answer has its message's number.
+    pub number: u64,
+    pub from: ThreadNo,
+    pub to: ThreadNo,
+    pub what: What,
+}
+
+/// Who made the call of a number, where these threads made the calls from 1 on; `None` where it isn't among them.
+pub fn caller_of(callers: &[ThreadNo], number: u64) -> Option<ThreadNo>
+    ensures { result ≡ caller_of callers.now number }
+{
+    if number == 0 {
+        return None;
+    }
+    callers.get((number - 1) as usize).copied()
+}
+
+/// The arrow of an ending of the newest call, which this thread made: from a sender to who receives, or from who
+/// answers to the sender.
+#[tactic(auto, unfolding(crate::specs::Arrows::arrow_by))]
+pub fn arrow_of(callers: &[ThreadNo], caller: ThreadNo, ending: &Completion) -> Option<Arrow>
+    ensures { result ≡ arrow_of callers.now caller ending.now }
+{
+    let (number, from, what) = match ending.mark {
+        Mark::Message { rcvid, .. } => (rcvid.0, caller_of(callers, rcvid.0)?, What::Message),
+        Mark::Pulse { item, .. } => (item, caller_of(callers, item)?, What::Pulse),
+        Mark::Replied { status, .. } => (ending.call, caller, What::Reply(status)),
+        Mark::Errored(code) => (ending.call, caller, What::Error(code)),
+        _ => return None,
+    };
+    Some(Arrow {
+        number,
+        from,
+        to: ending.thread,
+        what,
+    })
+}
+
+/// The arrows of an event whose call this thread made, in the order of its endings.
+pub fn arrows_of(
+    alloc: Global,
+    callers: &[ThreadNo],
+    caller: ThreadNo,
+    endings: &[Completion],
+) -> Result<Vec<Arrow>, AllocError>
+    ensures { IfOk result (λ arrows. arrows.items ≡ filter_map (arrow_of callers.now caller) endings.now) }
+{
+    endings
+        .iter()
+        .filter_map(|ending| arrow_of(callers, caller, ending))
+        .collect(alloc)
+}

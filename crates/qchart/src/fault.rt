@@ -1,0 +1,58 @@
+//! Why there is no chart.
+
+ghost use Rattle.std.specs.Prelude.{◌≡◌};
+ghost use Rattle.qscript.specs.declared.fault.ScriptFault.TheVariants.{NoMemory};
+ghost use Rattle.qchart.specs.declared.fault.ChartFault.TheVariants.{Script};
+ghost use Rattle.qchart.specs.Fault.{status_of};
+
+use qscript::fault::ScriptFault;
+use std::alloc::{AllocError, AllocFailed};
+use thiserror::Error;
+
+/// Why a script has no chart.
+#[derive(Debug, Drop, Error)]
+pub enum ChartFault {
+    /// It is faulty, or there is no memory for its run or its chart.
+    #[error("{0}")]
+    Script(ScriptFault),
+    /// It has so many calls, over 400.
+    #[error("too many calls for a chart: {0}, and 400 at most can be drawn")]
+    TooManyCalls(usize),
+}
+
+impl From<ScriptFault> for ChartFault {
+    ghost from_gives = { λ f e. e ≡ Script f };
+
+    fn from(fault: ScriptFault) -> ChartFault {
+        ChartFault::Script(fault)
+    }
+}
+
+impl From<AllocError> for ChartFault {
+    ghost from_gives = { λ _ e. e ≡ Script NoMemory };
+
+    fn from(_e: AllocError) -> ChartFault {
+        ChartFault::Script(ScriptFault::NoMemory)
+    }
+}
+
+impl<T: Drop> From<AllocFailed<T>> for ChartFault {
+    ghost from_gives = { λ _ e. e ≡ Script NoMemory };
+
+    fn from(_e: AllocFailed<T>) -> ChartFault {
+        ChartFault::Script(ScriptFault::NoMemory)
+    }
+}
+
+impl ChartFault {
+    /// The status that the program ends with: 1 where the script is at fault or has too many calls, 3 where
+    /// something else failed.
+    pub fn status(&self) -> u8
+        ensures { result ≡ status_of self.now }
+    {
+        match self {
+            ChartFault::Script(fault) => fault.status(),
+            ChartFault::TooManyCalls(_) => 1,
+        }
+    }
+}

@@ -1,0 +1,43 @@
+//! Where the words of a row stand.
+
+use crate::arrow::Arrow;
+use crate::chart::Chart;
+use crate::row::Row;
+
+/// A side of a thread's line.
+#[derive(Clone, Copy, Debug, PartialEq, Eq)]
+pub enum Side {
+    Left,
+    Right,
+}
+
+/// The side of the line of an arrow's sender on which the arrow leaves it: to the right where it goes back to the same
+/// line.
+pub fn leaves_at(chart: &Chart, arrow: &Arrow) -> Side {
+    if chart.column(arrow.to) < chart.column(arrow.from) {
+        Side::Left
+    } else {
+        Side::Right
+    }
+}
+
+/// The side of the caller's line on which a row's words stand: beside the arrow that the call sends, and away from the
+/// one that it receives.
+pub fn words_side(chart: &Chart, row: &Row) -> Side {
+    let Some(arrow) = row.arrows.first() else {
+        return Side::Right;
+    };
+    if is_sent(row, arrow) {
+        return leaves_at(chart, arrow);
+    }
+    if arrow.to == row.thread && chart.column(arrow.from) >= chart.column(arrow.to) {
+        return Side::Left;
+    }
+    Side::Right
+}
+
+/// Whether the row's own call sends what the arrow stands for, to another thread: then the row's words are the
+/// arrow's.
+pub fn is_sent(row: &Row, arrow: &Arrow) -> bool {
+    arrow.from == row.thread && arrow.to != row.thread
+}

@@ -1,0 +1,43 @@
+//! How long a thread is in each state.
+
+use crate::chart::Chart;
+use qbase::ids::ThreadNo;
+use qbase::state::ThreadState;
+use std::alloc::{AllocError, Global};
+
+/// A state of a thread from a call to another.
+#[derive(Clone, Copy, Debug)]
+pub struct Bar {
+    pub state: ThreadState,
+    /// The number of the call after which it is in the state; 0 for the begin.
+    pub after: usize,
+    /// The number of the call that ends the state; `None` where it lasts to the end.
+    pub until: Option<usize>,
+}
+
+/// The states of a thread one after another. It is ready at the begin.
+pub fn bars_of(alloc: Global, chart: &Chart, thread: ThreadNo) -> Result<Vec<Bar>, AllocError> {
+    let mut bars = Vec::new(alloc);
+    let mut state = ThreadState::Ready;
+    let mut after = 0usize;
+    let mut number = 0usize;
+    for row in &chart.rows {
+        number = number.saturating_add(1);
+        let next = row.state_of(thread);
+        if next != state {
+            bars.push(Bar {
+                state,
+                after,
+                until: Some(number),
+            })?;
+            state = next;
+            after = number;
+        }
+    }
+    bars.push(Bar {
+        state,
+        after,
+        until: None,
+    })?;
+    Ok(bars)
+}
