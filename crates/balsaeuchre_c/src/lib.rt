@@ -1,109 +1,80 @@
-//! The kernel for C and for Rust: a static library over `qkernel`. `include/qnx.h` is its header.
+//! The kernel for C and for Rust, as a static library. `foreign/include/balsaeuchre.h` is its header, and says what a
+//! caller owes.
 #![tactic(auto)]
 
-ghost use Rattle.std.specs.Prelude.{◌≡◌, ◌≤◌, length};
-ghost use Rattle.balsaeuchre_c.specs.Events.{Happens};
+ghost use Rattle.std.specs.Prelude.{◌≡◌, ◌≤◌, length, Some};
+ghost use Rattle.qbase.specs.declared.errno.Errno.{Errno};
 ghost use Rattle.qstate.specs.Threads.{members_of};
+ghost use Rattle.balsaeuchre_c.specs.declared.session.Session.{Session};
+ghost use Rattle.balsaeuchre_c.specs.declared.error.TheConstants.{ERRNOS};
+ghost use Rattle.balsaeuchre_c.specs.Calling.{CallError, IsEvent};
+ghost use Rattle.balsaeuchre_c.specs.Numbers.{numbered};
+ghost use Rattle.balsaeuchre_c.specs.Opening.{IsNewOf, NewError};
 
+mod calling;
+mod error;
 mod handle;
-mod plain;
+mod kind;
+mod opening;
+mod request;
+mod roster;
+mod row;
 mod session;
+mod telling;
 
-use arrayvec::ArrayVec;
+use error::errno_number;
 use handle::Handle;
-use plain::{QnxCall, QnxDone, QnxEnding, QnxThread};
-use qbase::errno::Errno;
-use qbase::ids::{ProcessNo, ThreadNo};
-use qbase::laying::lay;
-use qbase::priority::Priority;
-use qkernel::endings::Endings;
-use qkernel::kernel::Kernel;
-use qtables::roster::Roster;
-use session::Session;
+use request::Request;
+use roster::Thread;
+use row::Row;
 use std::alloc::Global;
 use std::ptr::NonNull;
+use telling::Done;
 
-/// The roster of these threads.
-fn roster_of(alloc: Global, threads: &[QnxThread]) -> Result<Roster, Errno> {
-    let mut roster = Roster::new(alloc);
-    for thread in threads {
-        let priority = Priority::new(thread.priority).ok_or(Errno::Inval)?;
-        roster.add(ThreadNo(thread.thread), ProcessNo(thread.process), priority)?;
-    }
-    Ok(roster)
-}
-
-/// A new kernel on the heap.
-fn made(alloc: Global, threads: &[QnxThread]) -> Result<Box<Session, Global>, Errno> {
-    let roster = roster_of(alloc, threads)?;
-    let kernel = Kernel::new(alloc, &roster)?;
-    let session = Session {
-        kernel,
-        endings: ArrayVec::new_in(alloc),
-    };
-    Box::new(alloc, session).map_err(|_| Errno::NoMemory)
-}
-
-/// Copies the endings out, as many as there are rows, and their buffers one behind another.
-fn tell(list: &Endings, rows: &mut [QnxEnding], bytes: &mut [u8], done: &mut QnxDone)
-    ensures { done.new.endings ≡ length list.now.items }
-{
-    let mut at = 0;
-    for (row, ending) in rows.iter_mut().zip(list.iter()) {
-        let count = lay(bytes, at, ending.buffer.as_slice());
-        *row = plain::shown(ending, at, count);
-        at = at.saturating_add(count);
-    }
-    done.endings = list.len();
-    done.bytes = at;
-}
-
-/// Makes a kernel of these threads. 0, or why not; then nothing is written.
+/// Makes a kernel of these threads, and writes where it lies: 0, or an error's number, and nothing is written.
 #[unsafe(no_mangle)]
-pub extern "C" fn qnx_open(alloc: Global, threads: &[QnxThread], out: &mut *mut u8) -> u32 {
-    match made(alloc, threads) {
-        Ok(kernel) => {
-            *out = NonNull::from_mut(Box::leak(kernel)).cast::<u8>().as_ptr();
+pub extern "C" fn balsaeuchre_new(alloc: Global, threads: &[Thread], out: &mut *mut u8) -> u32
+    ensures made { result ≡ 0 → (session : Session) × IsNewOf threads.now session }
+    ensures refused { 1 ≤ result → (errno : Errno) × (numbered ERRNOS result ≡ Some errno) × NewError threads.now errno }
+{
+    match opening::new_session(alloc, threads) {
+        Ok(session) => {
+            *out = NonNull::from_mut(Box::leak(session)).cast::<u8>().as_ptr();
             0
         }
-        Err(errno) => u32::from(plain::number(errno)),
+        Err(errno) => u32::from(errno_number(errno)),
     }
 }
 
 /// Frees a kernel.
 #[unsafe(no_mangle)]
-pub extern "C" fn qnx_close(kernel: Handle) {
+pub extern "C" fn balsaeuchre_free(kernel: Handle) {
     drop(kernel.into_box());
 }
 
-/// Makes a call. 0, and the endings of its event; or why it is no event.
+/// Makes one call: 0, and the endings of its event are written, in rising thread number; or an error's number, and
+/// nothing is changed or written.
 #[unsafe(no_mangle)]
-pub extern "C" fn qnx_call(
+pub extern "C" fn balsaeuchre_make_call(
     alloc: Global,
     kernel: &mut Handle,
-    call: &QnxCall,
+    request: &Request,
     sent: &[u8],
     room: &[u8],
-    endings: &mut [QnxEnding],
+    rows: &mut [Row],
     bytes: &mut [u8],
-    done: &mut QnxDone,
+    done: &mut Done,
 ) -> u32
-    // What is proved of a lawful caller: an event at every lawful trace, or nothing changes.
-    ensures event { result ≡ 0 → Happens kernel.old.session.kernel call.now.thread done.new.endings kernel.new.session.kernel }
-    ensures refused { 1 ≤ result → kernel.new.session.kernel ≡ kernel.old.session.kernel }
+    ensures event { result ≡ 0 → IsEvent kernel.old.session request.now sent.now room.now kernel.new.session done.new }
+    ensures refused { 1 ≤ result → (errno : Errno) × (numbered ERRNOS result ≡ Some errno) × CallError kernel.old.session request.now sent.now room.now (length rows.old) errno }
+
+    // What stays: all where the call is no event, and the roster.
+    ensures unchanged { 1 ≤ result → (kernel.new.session ≡ kernel.old.session) × (rows.new ≡ rows.old) × (bytes.new ≡ bytes.old) × (done.new ≡ done.old) }
     ensures roster { members_of kernel.new.session.kernel.threads ≡ members_of kernel.old.session.kernel.threads }
 {
-    match plain::call_of(alloc, call, sent, room) {
-        Err(errno) => u32::from(plain::number(errno)),
-        Ok(made) => {
-            let session = kernel.get_mut();
-            match session.call(ThreadNo(call.thread), made) {
-                Err(errno) => u32::from(plain::number(errno)),
-                Ok(()) => {
-                    tell(&session.endings, endings, bytes, done);
-                    0
-                }
-            }
-        }
+    let session = kernel.get_mut();
+    match calling::make_call(alloc, session, request, sent, room, rows, bytes, done) {
+        Ok(()) => 0,
+        Err(errno) => u32::from(errno_number(errno)),
     }
 }

@@ -18,11 +18,13 @@ pub struct Session {
 }
 
 impl Session {
-    /// Makes a call. Ok is an event, whose endings stand in the list; an error is none.
+    /// Makes a call. Ok is an event, whose endings stand in the list in rising thread number; an error is
+    /// none.
     pub fn call(&mut self, thread: ThreadNo, call: Call) -> Result<(), Errno>
         ensures event { IfOk result (λ _. AnswersAtTraces self.old.kernel thread call self.new.endings.items self.new.kernel) }
         ensures roster { members_of self.new.kernel.threads ≡ members_of self.old.kernel.threads }
-        ensures unchanged { IfErr result (λ _. self.new.kernel ≡ self.old.kernel) }
+        ensures error { IfErr result (λ errno. DispatchError self.old.kernel thread errno) }
+        ensures unchanged { IfErr result (λ _. self.new ≡ self.old) }
     {
         if !self.kernel.knows(thread) {
             return Err(Errno::NoThread);

@@ -1,0 +1,9 @@
+-- Laws of numbers.
+use Rattle.std.proofs.Common.{◌≡◌, ℕ, ◌-◌, List, refl, Bool, true, false, arith}
+use Rattle.std.proofs.lemmas.Bool.Decides.{nat_tests}
+use Rattle.std.specs.Prelude.{slice_get}
+use Rattle.balsaeuchre_c.specs.Numbers.{numbered}
+
+-- a number that isn't 0 names what stands in the place below it
+pub numbered-at : {X : Type 0} (things : List X) (n : ℕ) → (n ≡ 0 → ⊥) → numbered things n ≡ slice_get things (n - 1)
+numbered-at things n some = grind (arith, nat_tests)

@@ -1,0 +1,6 @@
+-- Things that are numbered from 1 on.
+use Rattle.std.specs.Prelude.{ℕ, ◌-◌, ◌==◌, List, Option, None, slice_get, if◌then◌else◌}
+
+-- the thing of a number in a list whose first is number 1
+abbrev pub numbered : {X : Type 0} → List X → ℕ → Option X
+numbered things number = if number == 0 then None else slice_get things (number - 1)

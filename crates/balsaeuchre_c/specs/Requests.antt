@@ -1,0 +1,40 @@
+-- The call that a request means.
+use Rattle.std.specs.Prelude.{◌≡◌, ℕ, true, is_some, List, Option, None, Some, option_map, option_and_then, ◌⊎◌}
+use Rattle.qbase.specs.Priority.{priority_of}
+use Rattle.qbase.specs.declared.errno.Errno.{Errno}
+use Rattle.qbase.specs.declared.errno.Errno.TheVariants.{Inval, NoMemory}
+use Rattle.qmodel.specs.declared.call.Call.{Call}
+use Rattle.qmodel.specs.declared.call.Call.TheVariants as call
+use Rattle.balsaeuchre_c.specs.declared.kind.Kind.{Kind}
+use Rattle.balsaeuchre_c.specs.declared.kind.Kind.TheVariants.{ChannelCreate, ConnectAttach, Send, Receive, Reply, Error, Read, Write, Info, ReceivePulse, Pulse, PrioritySet, State, ChannelDestroy, Shutdown, Unblock, ConnectDetach}
+use Rattle.balsaeuchre_c.specs.declared.kind.TheConstants.{KINDS}
+use Rattle.balsaeuchre_c.specs.declared.request.Request.{Request}
+use Rattle.balsaeuchre_c.specs.Numbers.{numbered}
+
+-- what a request of this kind means, with the bytes that it brings and its buffer; none where it names the priority 0
+abbrev pub call_as : Kind → Request → List ℕ → List ℕ → Option Call
+call_as ChannelCreate r sent room = Some (call.ChannelCreate (record { 0 = r.flags }))
+call_as ConnectAttach r sent room = Some (call.ConnectAttach r.id)
+call_as Send r sent room = Some (call.Send r.id sent room)
+call_as Receive r sent room = Some (call.Receive r.id room)
+call_as Reply r sent room = Some (call.Reply r.id r.status sent)
+call_as Error r sent room = Some (call.Error r.id r.code)
+call_as Read r sent room = Some (call.Read r.id r.offset room)
+call_as Write r sent room = Some (call.Write r.id r.offset sent)
+call_as Info r sent room = Some (call.Info r.id)
+call_as ReceivePulse r sent room = Some (call.ReceivePulse r.id)
+call_as Pulse r sent room = option_map (λ priority. call.Pulse r.id priority r.pulse_code r.value) (priority_of r.priority)
+call_as PrioritySet r sent room = option_map (λ priority. call.PrioritySet r.target priority) (priority_of r.priority)
+call_as State r sent room = Some (call.State r.target)
+call_as ChannelDestroy r sent room = Some (call.ChannelDestroy r.id)
+call_as Shutdown r sent room = Some call.Shutdown
+call_as Unblock r sent room = Some (call.Unblock r.target)
+call_as ConnectDetach r sent room = Some (call.ConnectDetach r.id)
+
+-- what a request means; none where no kind has its number either
+abbrev pub call_of : Request → List ℕ → List ℕ → Option Call
+call_of r sent room = option_and_then (λ kind. call_as kind r sent room) (numbered KINDS r.kind)
+
+-- why there is no call where this is meant: nothing is, or else there is no memory
+abbrev pub IsRefusedAs : Option Call → Errno → Type 0
+IsRefusedAs meant errno = ((meant ≡ None) × (errno ≡ Inval)) ⊎ ((is_some meant ≡ true) × (errno ≡ NoMemory))

@@ -1,0 +1,47 @@
+//! Making a call.
+
+ghost use Rattle.std.specs.Prelude.{◌≡◌, length, IfOk, IfErr};
+ghost use Rattle.qstate.specs.Threads.{members_of};
+ghost use Rattle.balsaeuchre_c.specs.Calling.{CallError, IsEvent};
+
+use crate::request::Request;
+use crate::row::Row;
+use crate::session::Session;
+use crate::telling::{Done, tell};
+use qbase::errno::Errno;
+use qbase::ids::ThreadNo;
+use std::alloc::Global;
+
+/// How many rows a call needs: an event has at most as many endings.
+const ROW_LIMIT: usize = 64;
+
+/// Makes the call that a request means, and writes what ended.
+pub fn make_call(
+    alloc: Global,
+    session: &mut Session,
+    request: &Request,
+    sent: &[u8],
+    room: &[u8],
+    rows: &mut [Row],
+    bytes: &mut [u8],
+    done: &mut Done,
+) -> Result<(), Errno>
+    ensures event { IfOk result (λ _. IsEvent session.old request.now sent.now room.now session.new done.new) }
+    ensures roster { members_of session.new.kernel.threads ≡ members_of session.old.kernel.threads }
+    ensures error { IfErr result (λ errno. CallError session.old request.now sent.now room.now (length rows.old) errno) }
+    ensures unchanged { IfErr result (λ _. (session.new ≡ session.old) × (rows.new ≡ rows.old) × (bytes.new ≡ bytes.old) × (done.new ≡ done.old)) }
+{
+    if rows.len() < ROW_LIMIT {
+        return Err(Errno::Inval);
+    }
+    match request.call(alloc, sent, room) {
+        Ok(call) => match session.call(ThreadNo(request.thread), call) {
+            Ok(()) => {
+                *done = tell(session.endings.as_slice(), rows, bytes);
+                Ok(())
+            }
+            Err(errno) => Err(errno),
+        },
+        Err(errno) => Err(errno),
+    }
+}

@@ -1,0 +1,41 @@
+//! The numbers of errors.
+
+ghost use Rattle.std.specs.Prelude.{◌≡◌, ◌≤◌, Some};
+ghost use Rattle.balsaeuchre_c.specs.Numbers.{numbered};
+
+use qbase::errno::Errno;
+
+/// The errors, numbered from 1 on.
+pub const ERRNOS: [Errno; 11] = [
+    Errno::Srch,
+    Errno::Badf,
+    Errno::Inval,
+    Errno::Again,
+    Errno::Intr,
+    Errno::Busy,
+    Errno::NoMemory,
+    Errno::Down,
+    Errno::Exhausted,
+    Errno::TraceFull,
+    Errno::NoThread,
+];
+
+/// The number of an error.
+pub fn errno_number(errno: Errno) -> u8
+    ensures value { numbered ERRNOS result ≡ Some errno }
+    ensures low { 1 ≤ result }
+{
+    match errno {
+        Errno::Srch => 1,
+        Errno::Badf => 2,
+        Errno::Inval => 3,
+        Errno::Again => 4,
+        Errno::Intr => 5,
+        Errno::Busy => 6,
+        Errno::NoMemory => 7,
+        Errno::Down => 8,
+        Errno::Exhausted => 9,
+        Errno::TraceFull => 10,
+        Errno::NoThread => 11,
+    }
+}

@@ -1,0 +1,33 @@
+//! A new kernel.
+
+ghost use Rattle.std.specs.Prelude.{MatchResult};
+ghost use Rattle.balsaeuchre_c.specs.Opening.{IsNewOf, NewError};
+
+use crate::roster::{Thread, roster_of};
+use crate::session::Session;
+use arrayvec::ArrayVec;
+use qbase::errno::Errno;
+use qkernel::kernel::Kernel;
+use std::alloc::Global;
+
+/// A kernel of these threads, on the heap.
+pub fn new_session(alloc: Global, threads: &[Thread]) -> Result<Box<Session, Global>, Errno>
+    ensures { MatchResult result (λ session. IsNewOf threads.now session.value) (NewError threads.now) }
+{
+    match roster_of(alloc, threads) {
+        Ok(roster) => match Kernel::new(alloc, &roster) {
+            Ok(kernel) => {
+                let session = Session {
+                    kernel,
+                    endings: ArrayVec::new_in(alloc),
+                };
+                match Box::new(alloc, session) {
+                    Ok(boxed) => Ok(boxed),
+                    Err(_) => Err(Errno::NoMemory),
+                }
+            }
+            Err(errno) => Err(errno),
+        },
+        Err(errno) => Err(errno),
+    }
+}

@@ -1,0 +1,46 @@
+//! The threads of a kernel as C writes them.
+
+ghost use Rattle.std.specs.Prelude.{◌≡◌, [], None, Some, MatchResult};
+ghost use Rattle.balsaeuchre_c.specs.Opening.{member_of, roster_from, thread_refusal};
+ghost use Rattle.qtables.specs.Members.{joined};
+
+use qbase::errno::Errno;
+use qbase::ids::{ProcessNo, ThreadNo};
+use qbase::priority::Priority;
+use qtables::roster::Roster;
+use std::alloc::Global;
+
+/// A thread of the roster.
+#[repr(C)]
+#[derive(Clone, Copy)]
+pub struct Thread {
+    /// Its number, 0 to 255.
+    pub thread: u8,
+    /// Its process, 0 to 255.
+    pub process: u8,
+    /// The priority that it begins with, 1 to 255.
+    pub priority: u8,
+}
+
+fn add(roster: &mut Roster, thread: &Thread) -> Result<(), Errno>
+    ensures { MatchResult result
+        (λ _. (thread_refusal roster.old thread.now ≡ None) × (roster.new ≡ joined (member_of thread.now) roster.old))
+        (λ errno. thread_refusal roster.old thread.now ≡ Some errno) }
+{
+    match Priority::new(thread.priority) {
+        Some(priority) => roster.add(ThreadNo(thread.thread), ProcessNo(thread.process), priority),
+        None => Err(Errno::Inval),
+    }
+}
+
+/// The roster of these threads; takes no memory. `Inval` where one has the priority 0 or stands twice, `Again`
+/// where there are more than 64, whichever comes first.
+pub fn roster_of(alloc: Global, threads: &[Thread]) -> Result<Roster, Errno>
+    ensures { result ≡ roster_from [] threads.now }
+{
+    let mut roster = Roster::new(alloc);
+    for thread in threads {
+        add(&mut roster, thread)?;
+    }
+    Ok(roster)
+}

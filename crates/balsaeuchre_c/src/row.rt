@@ -1,0 +1,224 @@
+//! An ending as C reads it: numbers alone.
+
+ghost use Rattle.std.specs.Prelude.{◌≡◌, ℕ, Some};
+ghost use Rattle.qmodel.specs.declared.call.Completion.{Completion};
+ghost use Rattle.balsaeuchre_c.specs.Rows.{mark_of, IsOf, Tells};
+
+use crate::error::errno_number;
+use qbase::errno::Errno;
+use qbase::priority::Priority;
+use qbase::state::ThreadState;
+use qkernel::call::{Completion, Info, Mark};
+use qqueue::item::What;
+
+/// How a call ended. `mark` says which fields hold something; the others are 0.
+#[repr(C)]
+#[derive(Clone, Copy)]
+pub struct Row {
+    /// The number of the ended call; the first call of a kernel is 1.
+    pub call: u64,
+    /// The thread that made it.
+    pub thread: u8,
+    /// The number of the mark, 1 to 11.
+    pub mark: u8,
+    /// The error's number, 1 to 11.
+    pub errno: u8,
+    /// A priority, 1 to 255.
+    pub priority: u8,
+    /// A thread's state, 1 to 4.
+    pub state: u8,
+    /// What a pulse brings, 1 to 4.
+    pub what: u8,
+    /// A pulse's code.
+    pub pulse_code: i8,
+    /// A process.
+    pub process: u8,
+    /// A pulse's value, or an Error's code.
+    pub value: i32,
+    /// The thread that sent a message.
+    pub sender: u8,
+    /// A channel, a connection, or the number of the call that made a pulse.
+    pub id: u64,
+    /// A receive id.
+    pub rcvid: u64,
+    /// A Reply's status.
+    pub status: i64,
+    /// How many bytes were copied.
+    pub count: usize,
+    /// How many bytes a message has.
+    pub srcmsglen: usize,
+    /// How many bytes a sender's reply buffer has.
+    pub dstmsglen: usize,
+    /// Where the buffer begins in the room for bytes.
+    pub start: usize,
+    /// How many bytes the buffer has.
+    pub length: usize,
+    /// How many of them were written: all, or as many as there was room for.
+    pub written: usize,
+}
+
+impl Row {
+    /// The row of an ending but for its mark, whose buffer begins at a place of the room, and of which so many
+    /// bytes were written.
+    fn unmarked(ending: &Completion, start: usize, written: usize) -> Row
+        ensures { IsOf result ending.now start written }
+    {
+        Row {
+            call: ending.call,
+            thread: ending.thread.0,
+            mark: 0,
+            errno: 0,
+            priority: 0,
+            state: 0,
+            what: 0,
+            pulse_code: 0,
+            process: 0,
+            value: 0,
+            sender: 0,
+            id: 0,
+            rcvid: 0,
+            status: 0,
+            count: 0,
+            srcmsglen: 0,
+            dstmsglen: 0,
+            start,
+            length: ending.buffer.len(),
+            written,
+        }
+    }
+
+    fn errno(self, errno: Errno) -> Row
+        ensures mark { mark_of result ≡ Some (Mark.Failed errno) }
+        ensures same { (ending : Completion) → (start written : ℕ) → IsOf self ending start written → IsOf result ending start written }
+    {
+        Row {
+            mark: 2,
+            errno: errno_number(errno),
+            ..self
+        }
+    }
+
+    fn info(self, info: Info) -> Row
+        ensures mark { mark_of result ≡ Some (Mark.Info info) }
+        ensures same { (ending : Completion) → (start written : ℕ) → IsOf self ending start written → IsOf result ending start written }
+    {
+        Row {
+            mark: 9,
+            process: info.process.0,
+            sender: info.thread.0,
+            priority: info.priority.get(),
+            id: info.connection.0,
+            count: info.msglen,
+            srcmsglen: info.srcmsglen,
+            dstmsglen: info.dstmsglen,
+            ..self
+        }
+    }
+
+    fn pulse(self, item: u64, priority: Priority, what: What) -> Row
+        ensures mark { mark_of result ≡ Some (Mark.Pulse item priority what) }
+        ensures same { (ending : Completion) → (start written : ℕ) → IsOf self ending start written → IsOf result ending start written }
+    {
+        let row = Row {
+            mark: 10,
+            id: item,
+            priority: priority.get(),
+            ..self
+        };
+        match what {
+            What::Message => Row { what: 1, ..row },
+            What::User { code, value } => Row {
+                what: 2,
+                pulse_code: code,
+                value,
+                ..row
+            },
+            What::Unblock(rcvid) => Row {
+                what: 3,
+                rcvid: rcvid.0,
+                ..row
+            },
+            What::Disconnect(process) => Row {
+                what: 4,
+                process: process.0,
+                ..row
+            },
+        }
+    }
+
+    fn state(self, state: ThreadState, priority: Priority) -> Row
+        ensures mark { mark_of result ≡ Some (Mark.State state priority) }
+        ensures same { (ending : Completion) → (start written : ℕ) → IsOf self ending start written → IsOf result ending start written }
+    {
+        let (number, chid) = match state {
+            ThreadState::Ready => (1, 0),
+            ThreadState::SendBlocked(chid) => (2, chid.0),
+            ThreadState::ReceiveBlocked(chid) => (3, chid.0),
+            ThreadState::ReplyBlocked(chid) => (4, chid.0),
+        };
+        Row {
+            mark: 11,
+            state: number,
+            id: chid,
+            priority: priority.get(),
+            ..self
+        }
+    }
+
+    fn marked(self, mark: Mark) -> Row
+        ensures mark { mark_of result ≡ Some mark }
+        ensures same { (ending : Completion) → (start written : ℕ) → IsOf self ending start written → IsOf result ending start written }
+    {
+        match mark {
+            Mark::Ok => Row { mark: 1, ..self },
+            Mark::Failed(errno) => self.errno(errno),
+            Mark::Channel(chid) => Row {
+                mark: 3,
+                id: chid.0,
+                ..self
+            },
+            Mark::Connection(coid) => Row {
+                mark: 4,
+                id: coid.0,
+                ..self
+            },
+            Mark::Replied { status, copied } => Row {
+                mark: 5,
+                status,
+                count: copied,
+                ..self
+            },
+            Mark::Message { rcvid, copied } => Row {
+                mark: 6,
+                rcvid: rcvid.0,
+                count: copied,
+                ..self
+            },
+            Mark::Errored(code) => Row {
+                mark: 7,
+                value: code,
+                ..self
+            },
+            Mark::Count(count) => Row {
+                mark: 8,
+                count,
+                ..self
+            },
+            Mark::Info(info) => self.info(info),
+            Mark::Pulse {
+                item,
+                priority,
+                what,
+            } => self.pulse(item, priority, what),
+            Mark::State { state, priority } => self.state(state, priority),
+        }
+    }
+
+    /// The row of an ending, whose buffer begins at a place of the room for bytes, and of which so many were
+    /// written.
+    pub fn of(ending: &Completion, start: usize, written: usize) -> Row
+        ensures { Tells result ending.now start written }
+    {
+        Row::unmarked(ending, start, written).marked(ending.mark)
+    }
+}
