@@ -100,8 +100,9 @@ static void show_pulses(uint64_t chid, uint64_t coid) {
     show("state", balsaeuchre_thread_state(&kernel, SERVER, OTHER, &event));
     show("connect detach", balsaeuchre_connect_detach(&kernel, CLIENT, coid, &event));
     show("receive", balsaeuchre_receive(&kernel, SERVER, chid, NULL, 0, &event));
-    show("receive", balsaeuchre_receive(&kernel, SERVER, chid, "++", 2, &event));
     show("channel destroy", balsaeuchre_channel_destroy(&kernel, SERVER, chid, &event));
+    show("channel create", balsaeuchre_channel_create(&kernel, SERVER, 0, &event));
+    show("receive", balsaeuchre_receive(&kernel, SERVER, event.rows[0].id, "++", 2, &event));
     show("shutdown", balsaeuchre_shutdown(&kernel, CLIENT, &event));
 }
 
@@ -116,16 +117,20 @@ static void show_run(void) {
     show_pulses(chid, coid);
 }
 
+static void show_answer(const char *what, uint32_t error) {
+    printf("%s: %s\n", what, error_names[error]);
+}
+
 /* What a wrong handle, request or roster is answered. */
 static void show_refusals(void) {
     const balsaeuchre_thread one[] = {{1, 1, 1}, {1, 2, 3}};
     balsaeuchre none = BALSAEUCHRE_NONE;
     show("no such kind", balsaeuchre_make_plain(&kernel, balsaeuchre_request_of(18, SERVER, 0), &event));
-    show("open again", balsaeuchre_open(one, 1, &kernel));
-    show("thread twice", balsaeuchre_open(one, 2, &none));
+    show_answer("open again", balsaeuchre_open(one, 1, &kernel));
+    show_answer("thread twice", balsaeuchre_open(one, 2, &none));
     show("call of none", balsaeuchre_shutdown(&none, 1, &event));
-    show("close", balsaeuchre_close(&kernel));
-    show("close again", balsaeuchre_close(&kernel));
+    show_answer("close", balsaeuchre_close(&kernel));
+    show_answer("close again", balsaeuchre_close(&kernel));
     show("call of a closed one", balsaeuchre_shutdown(&kernel, SERVER, &event));
 }
 

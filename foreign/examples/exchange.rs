@@ -102,8 +102,11 @@ fn show_pulses(k: &mut Kernel, chid: u64, coid: u64) {
     show("state", k.call(SERVER, Call::State { thread: OTHER }));
     show("connect detach", k.call(CLIENT, Call::ConnectDetach { coid }));
     show("receive", k.call(SERVER, Call::Receive { chid, buffer: b"" }));
-    show("receive", k.call(SERVER, Call::Receive { chid, buffer: b"++" }));
     show("channel destroy", k.call(SERVER, Call::ChannelDestroy { chid }));
+    let Some(Mark::Channel { chid }) = show("channel create", k.call(SERVER, Call::ChannelCreate { flags: 0 })) else {
+        panic!("no channel");
+    };
+    show("receive", k.call(SERVER, Call::Receive { chid, buffer: b"++" }));
     show("shutdown", k.call(CLIENT, Call::Shutdown));
 }
 
