@@ -1,10 +1,11 @@
 //! The command line.
 
 use crate::texts::{
-    ABOUT, CHECK_ABOUT, CHECK_EXAMPLE, CHECK_LONG, EXAMPLE, SCRIPT_ABOUT, SCRIPT_EXAMPLE,
-    SCRIPT_LONG, SERVE_ABOUT, SERVE_EXAMPLE, SERVE_LONG, VERSION,
+    ABOUT, CHART_ABOUT, CHART_EXAMPLE, CHART_LONG, CHECK_ABOUT, CHECK_EXAMPLE, CHECK_LONG, EXAMPLE,
+    SCRIPT_ABOUT, SCRIPT_EXAMPLE, SCRIPT_LONG, SERVE_ABOUT, SERVE_EXAMPLE, SERVE_LONG, VERSION,
 };
 use clap::{Arg, ArgAction, ArgMatches, Command, Error, value_parser};
+use qchart::drawing::Style;
 use qserve::settings::Settings;
 use std::alloc::{AllocError, Global};
 
@@ -26,6 +27,17 @@ pub struct CheckRun {
     pub explain: bool,
 }
 
+/// A script whose run is to be drawn.
+#[derive(Drop)]
+pub struct ChartRun {
+    /// Its file; `None` where it is on standard input.
+    pub file: Option<String>,
+    /// The drawing's file; `None` where it is printed.
+    pub output: Option<String>,
+    /// How it is drawn.
+    pub style: Style,
+}
+
 /// What the program is asked to do.
 #[derive(Drop)]
 pub enum Action {
@@ -33,6 +45,8 @@ pub enum Action {
     Script(ScriptRun),
     /// To compare what the scripts of a folder print with their traces.
     Check(CheckRun),
+    /// To draw the run of a script.
+    Chart(ChartRun),
     /// To run a server with its clients, and to record what the kernel did in files of this name, if there is one.
     Serve(Settings, Option<String>),
 }
@@ -118,6 +132,28 @@ fn check_command<'a>(alloc: Global) -> Result<Command<'a>, AllocError> {
         .arg(explain_option(alloc))
 }
 
+fn chart_command<'a>(alloc: Global) -> Result<Command<'a>, AllocError> {
+    let file = Arg::new(alloc, "file")
+        .value_name("FILE")
+        .help("The script's file; none or - is standard input");
+    let output = Arg::new(alloc, "output")
+        .short('o')
+        .long("output")
+        .value_name("FILE")
+        .help("Write the drawing into this file; none or - is standard output");
+    let text = Arg::new(alloc, "text")
+        .long("text")
+        .action(ArgAction::SetTrue)
+        .help("Draw in columns of text, and not as SVG");
+    Command::new(alloc, "chart")
+        .about(CHART_ABOUT)
+        .long_about(CHART_LONG)
+        .after_help(CHART_EXAMPLE)
+        .arg(file)?
+        .arg(output)?
+        .arg(text)
+}
+
 fn command<'a>(alloc: Global) -> Result<Command<'a>, AllocError> {
     Command::new(alloc, "qdemo")
         .version(VERSION)
@@ -126,18 +162,41 @@ fn command<'a>(alloc: Global) -> Result<Command<'a>, AllocError> {
         .subcommand_required(true)
         .subcommand(script_command(alloc)?)?
         .subcommand(check_command(alloc)?)?
+        .subcommand(chart_command(alloc)?)?
         .subcommand(serve_command(alloc)?)
+}
+
+/// The file that these words name, if they name one; `-` is none.
+fn file_of(
+    alloc: Global,
+    matches: &ArgMatches<'_>,
+    name: &str,
+) -> Result<Option<String>, AllocError> {
+    match matches.get_str(name) {
+        Some("-") | None => Ok(None),
+        Some(path) => Ok(Some(String::from_str(alloc, path)?)),
+    }
 }
 
 /// Which script these words ask for.
 fn script_of(alloc: Global, matches: &ArgMatches<'_>) -> Result<ScriptRun, AllocError> {
-    let file = match matches.get_str("file") {
-        Some("-") | None => None,
-        Some(name) => Some(String::from_str(alloc, name)?),
-    };
     Ok(ScriptRun {
-        file,
+        file: file_of(alloc, matches, "file")?,
         explain: matches.get_flag("explain"),
+    })
+}
+
+/// Which drawing these words ask for.
+fn chart_of(alloc: Global, matches: &ArgMatches<'_>) -> Result<ChartRun, AllocError> {
+    let style = if matches.get_flag("text") {
+        Style::Text
+    } else {
+        Style::Svg
+    };
+    Ok(ChartRun {
+        file: file_of(alloc, matches, "file")?,
+        output: file_of(alloc, matches, "output")?,
+        style,
     })
 }
 
@@ -180,6 +239,9 @@ pub fn action_of(alloc: Global, words: &[String]) -> Result<Action, Error> {
     }
     if let Some(check) = matches.subcommand_matches("check") {
         return Ok(Action::Check(folder_of(alloc, check)?));
+    }
+    if let Some(chart) = matches.subcommand_matches("chart") {
+        return Ok(Action::Chart(chart_of(alloc, chart)?));
     }
     match matches.subcommand_matches("script") {
         Some(script) => Ok(Action::Script(script_of(alloc, script)?)),

@@ -1,6 +1,7 @@
 //! A kernel of synchronous messages: run from a script, and by a server and its clients on threads.
 #![tactic(auto)]
 
+mod charts;
 mod check;
 mod command;
 mod difference;
@@ -14,6 +15,7 @@ mod streams;
 mod tests;
 mod texts;
 
+use charts::run_chart;
 use check::run_check;
 use clap::Error;
 use clap::error::ErrorKind;
@@ -38,6 +40,7 @@ fn main(rt: HostRuntime) -> ExitCode {
     match action_of(rt.alloc(), words.as_slice()) {
         Ok(Action::Script(run)) => run_script(&rt, &run),
         Ok(Action::Check(run)) => run_check(&rt, &run),
+        Ok(Action::Chart(run)) => run_chart(&rt, &run),
         Ok(Action::Serve(settings, record)) => {
             run_serve(&rt, shown(settings, rt.stderr().is_terminal()), record)
         }

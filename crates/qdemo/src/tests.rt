@@ -1,11 +1,12 @@
 //! What a command line is answered: the texts, and with which status.
 
-use crate::command::{Action, CheckRun, ScriptRun, action_of};
+use crate::command::{Action, ChartRun, CheckRun, ScriptRun, action_of};
 use crate::difference::difference_of;
 use crate::example::{Outcome, outcome_of};
 use crate::streams::{Outlet, Source};
 use crate::texts::SCRIPT_LONG;
 use clap::Error;
+use qchart::drawing::Style;
 use qscript::{CALLS, ROSTER};
 use qserve::settings::Settings;
 use std::alloc::Global;
@@ -50,6 +51,30 @@ fn a_script_is_asked_for(rt: HostRuntime) {
     assert!(rt; run.explain);
     let file = run.file.expect(&rt, "a file");
     assert_eq!(rt; file.as_str(), "a/b.txt");
+}
+
+/// The drawing that these words ask for.
+fn chart_run(rt: &impl Abort, alloc: Global, words: &[&str]) -> ChartRun {
+    let Ok(Action::Chart(run)) = answer(rt, alloc, words) else {
+        panic!(rt; "another answer")
+    };
+    run
+}
+
+#[test]
+fn a_drawing_is_asked_for(rt: HostRuntime) {
+    let run = chart_run(&rt, rt.alloc(), &["chart"]);
+    assert!(rt; run.file.is_none() && run.output.is_none() && run.style == Style::Svg);
+    let run = chart_run(
+        &rt,
+        rt.alloc(),
+        &["chart", "a.txt", "-o", "a.svg", "--text"],
+    );
+    assert!(rt; run.style == Style::Text);
+    let file = run.file.expect(&rt, "a file");
+    assert_eq!(rt; file.as_str(), "a.txt");
+    let output = run.output.expect(&rt, "a file");
+    assert_eq!(rt; output.as_str(), "a.svg");
 }
 
 /// The folder that these words ask for.

@@ -139,6 +139,25 @@ Status: 0 where all are the same; 1 where one differs or is faulty; 2 for a faul
 command line; 3 where a file can't be read, there is no script, or writing or
 memory fails.";
 
+/// What `chart` does, in a line.
+pub const CHART_ABOUT: &str =
+    "Draws the run of a script: its threads, messages, answers and pulses";
+
+/// What `chart` does.
+pub const CHART_LONG: &str = "Draws the run of a script: its threads, messages, answers and pulses.
+
+A line goes down for each thread, with its state as a bar, and an arrow for each
+message, answer and pulse, in the row of the call in which it arrives. The drawing
+is SVG, which a browser shows, or columns of text. docs/CHARTS.md says how to read
+it. A script may have 400 calls at most; 'qdemo help script' describes scripts.";
+
+/// Below the help of `chart`.
+pub const CHART_EXAMPLE: &str = "Example:
+  $ qdemo chart first-message.txt -o run.svg
+
+Status: 0; 1 for a faulty script, or one of too many calls; 2 for a faulty command
+line; 3 where reading, writing or memory fails; 141 where nobody reads the output.";
+
 /// What `serve` does, in a line.
 pub const SERVE_ABOUT: &str = "Runs a server and its clients on threads, and prints what they did";
 
