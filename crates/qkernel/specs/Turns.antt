@@ -5,7 +5,7 @@ use Rattle.qtables.specs.Members.{member_at}
 use Rattle.qmodel.specs.declared.call.Call.{Call}
 use Rattle.qmodel.specs.declared.call.Completion.{Completion}
 use Rattle.qmodel.specs.declared.call.Mark.TheVariants as mark
-use Rattle.qstate.specs.Threads.{members_of, open_in, level_in, seat_in}
+use Rattle.qstate.specs.Threads.{members_of, open_in, seat_in}
 use Rattle.qstate.specs.declared.thread.Thread.{Thread}
 use Rattle.qkernel.specs.State.{State, IsSound}
 use Rattle.qkernel.specs.Stands.{Steps}
@@ -15,12 +15,11 @@ use Rattle.qkernel.specs.declared.kernel.turn.Turn.{Turn}
 abbrev pub state_before : Turn → State → State
 state_before turn s = record { made = turn.made; down = s.down; threads = s.threads; channels = s.channels; connections = s.connections }
 
--- the turn is that of the thread at its seat among these, of its process and with its priority
+-- the turn is that of the thread at its seat among these, and of its process
 pub record IsTurnIn (threads : List Thread) (turn : Turn) : Type 0 where
   pub seat : seat_in threads turn.thread ≡ Some turn.seat
   pub began : ℕ
   pub known : member_at (members_of threads) turn.thread ≡ Some (record { thread = turn.thread; process = turn.process; priority = began })
-  pub priority : turn.priority ≡ level_in threads turn.thread
 
 -- the call of this turn may be made: it is counted and nothing else is done yet, no call has ended, the kernel isn't shut down, and the caller isn't blocked
 pub record MayCall (s : State) (turn : Turn) (endings : List Completion) : Type 0 where

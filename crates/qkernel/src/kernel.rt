@@ -32,7 +32,7 @@ use qbase::ids::ThreadNo;
 use qmodel::call::Call;
 use qstate::channel::Channel;
 use qstate::endings::{Endings, refuse};
-use qstate::thread::{Thread, is_blocked, level_of, member_of, seat_of, threads_for};
+use qstate::thread::{Thread, is_blocked, member_of, seat_of, threads_for};
 use qtables::channels::Channels;
 use qtables::connections::Connections;
 use qtables::roster::Roster;
@@ -117,7 +117,6 @@ impl Kernel {
             seat,
             thread,
             process: member_of(&self.threads, seat, thread).process,
-            priority: level_of(&self.threads, seat, thread),
             alloc: self.alloc,
         }
     }

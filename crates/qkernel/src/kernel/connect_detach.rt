@@ -49,7 +49,8 @@ impl Kernel {
             return Err(Errno::Inval);
         };
         let last = tells_detached(&self.connections, &self.channels, turn.process, chid);
-        let due = pulse_for(last, turn.made + 1, turn.priority, turn.process);
+        let priority = self.priority_of(turn);
+        let due = pulse_for(last, turn.made + 1, priority, turn.process);
         let met = send_due(&mut self.threads, &mut self.channels, chid, due)?;
         cut_calls(
             &mut self.threads,

@@ -6,16 +6,25 @@ ghost use Rattle.qstate.specs.HeldIn.{is_held_in};
 ghost use Rattle.qmodel.specs.Facts.{is_in_process};
 ghost use Rattle.qtables.specs.Members.{member_at};
 ghost use Rattle.qstate.specs.HeldIn.{guarded_message_in, held_message_in};
-ghost use Rattle.qstate.specs.Threads.{members_of, open_in, seat_in};
+ghost use Rattle.qstate.specs.Threads.{level_in, members_of, open_in, seat_in};
 
 use super::Kernel;
 use super::turn::Turn;
 use qbase::errno::Errno;
 use qbase::ids::{ChannelId, ReceiveId, ThreadNo};
+use qbase::priority::Priority;
 use qstate::held::{Held, guarded, held_seat};
-use qstate::thread::seat_in_process;
+use qstate::thread::{level_of, seat_in_process};
 
 impl Kernel {
+    /// The caller's priority.
+    pub(super) fn priority_of(&self, turn: &Turn) -> Priority
+        requires { seat_in self.now.threads turn.now.thread ≡ Some turn.now.seat }
+        ensures { result ≡ level_in self.now.threads turn.now.thread }
+    {
+        level_of(&self.threads, turn.seat, turn.thread)
+    }
+
     /// Where the thread stands whose message is held under this id on a channel of the caller's process;
     /// `Srch` where there is none.
     pub(super) fn held_seat(&self, turn: &Turn, rcvid: ReceiveId) -> Result<usize, Errno>

@@ -1,20 +1,22 @@
 //! Send.
 
-ghost use Rattle.std.specs.Prelude.{◌≡◌, Some, false, option_map, IfSome};
+ghost use Rattle.std.specs.Prelude.{◌≡◌, Some, false, true, is_some, option_map, IfSome};
 ghost use Rattle.qqueue.specs.Best.{is_pulse};
 ghost use Rattle.qmodel.specs.Rows.{takes, item_in_mark};
+ghost use Rattle.qstate.specs.Threads.{open_in, Wakes};
 
 use super::Kernel;
 use super::turn::Turn;
 use qbase::bytes::Bytes;
 use qbase::errno::Errno;
 use qbase::ids::{ConnectionId, ReceiveId, ThreadNo};
+use qbase::priority::Priority;
 use qmodel::call::{Call, Completion, Mark};
 use qmodel::open_call::{OpenCall, Receipt, Wait};
 use qqueue::item::{Item, What};
 use qstate::channel::{carried, enqueue, way};
 use qstate::endings::{Endings, end_one};
-use qstate::thread::{newest_receiver, wake};
+use qstate::thread::{Thread, newest_receiver, wake};
 
 /// How the open call of a thread ends that takes a message, and how many bytes were copied; none where it
 /// doesn't wait for an item.
@@ -51,6 +53,34 @@ fn taken(
     }
 }
 
+/// Wakes a thread, which takes the message: how its call ends, and what is kept of the receipt.
+fn meet(
+    threads: &mut Vec<Thread>,
+    receiver: ThreadNo,
+    level: Option<Priority>,
+    item: &Item,
+    message: &Bytes,
+) -> (Completion, Receipt)
+    requires message { is_pulse item.now.what ≡ false }
+    requires waits { is_some (takes item.now message.now receiver (open_in threads.old.items receiver)) ≡ true }
+    ensures ended { takes item.now message.now receiver (open_in threads.old.items receiver) ≡ Some result.0 }
+    ensures copied { item_in_mark result.0.mark ≡ Some (item.now.number, result.1.copied) }
+    ensures receipt { result.1 ≡ record { priority = item.now.priority; copied = result.1.copied; unblocked = false } }
+    ensures after { Wakes receiver level threads.old.items threads.new.items }
+{
+    let call = wake(threads, receiver, level);
+    let Some(met) = taken(call, receiver, item, message) else {
+        unreachable!();
+    };
+    let (ended, copied) = met;
+    let receipt = Receipt {
+        priority: item.priority,
+        copied,
+        unblocked: false,
+    };
+    (ended, receipt)
+}
+
 impl Kernel {
     ghost use Rattle.qkernel.specs.Turns.{MayCall, Makes};
 
@@ -70,9 +100,10 @@ impl Kernel {
         let Some(chid) = way(&self.connections, &self.channels, turn.process, coid) else {
             return turn.refuse(endings, Errno::Badf, reply_buffer);
         };
+        let priority = self.priority_of(turn);
         let item = Item {
             number: turn.made + 1,
-            priority: turn.priority,
+            priority,
             what: What::Message,
         };
         let receipt = match newest_receiver(&self.threads, chid, &item) {
@@ -83,18 +114,11 @@ impl Kernel {
                 None
             }
             Some(receiver) => {
-                let level = carried(&self.channels, chid, turn.priority);
-                let call = wake(&mut self.threads, receiver, level);
-                let Some(met) = taken(call, receiver, &item, &message) else {
-                    unreachable!();
-                };
-                let (completion, copied) = met;
-                end_one(endings, completion);
-                Some(Receipt {
-                    priority: turn.priority,
-                    copied,
-                    unblocked: false,
-                })
+                let level = carried(&self.channels, chid, priority);
+                let met = meet(&mut self.threads, receiver, level, &item, &message);
+                let (ended, receipt) = met;
+                end_one(endings, ended);
+                Some(receipt)
             }
         };
         let wait = Wait::Answer {

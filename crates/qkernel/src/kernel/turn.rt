@@ -7,10 +7,9 @@ ghost use Rattle.qstate.specs.Threads.{seat_in, SetsOpen};
 use qbase::bytes::Bytes;
 use qbase::errno::Errno;
 use qbase::ids::{ProcessNo, ThreadNo};
-use qbase::priority::Priority;
 use qmodel::call::{Completion, Mark};
 use qmodel::open_call::{OpenCall, Wait};
-use qstate::endings::{Endings, end_one, end_two, end_with};
+use qstate::endings::{Endings, end_one, end_own, end_two, end_with, own_ending};
 use qstate::thread::{Thread, block};
 use std::alloc::Global;
 
@@ -25,8 +24,6 @@ pub(crate) struct Turn {
     pub(crate) thread: ThreadNo,
     /// The caller's process.
     pub(crate) process: ProcessNo,
-    /// The caller's priority.
-    pub(crate) priority: Priority,
     /// The allocator, for a buffer of no bytes.
     pub(crate) alloc: Global,
     ghost few: { made < 2 ^ 40 },
@@ -37,12 +34,7 @@ impl Turn {
     pub(crate) fn ending(&self, mark: Mark) -> Completion
         ensures { result ≡ record { call = self.now.made + 1; thread = self.now.thread; mark = mark; buffer = [] } }
     {
-        Completion {
-            call: self.made + 1,
-            thread: self.thread,
-            mark,
-            buffer: Bytes::new(self.alloc),
-        }
+        own_ending(self.alloc, self.made + 1, self.thread, mark)
     }
 
     /// Ends the caller's call, and no other.
@@ -50,7 +42,7 @@ impl Turn {
         requires { endings.old.items ≡ [] }
         ensures { endings.new.items ≡ record { call = self.now.made + 1; thread = self.now.thread; mark = mark; buffer = [] } ∷ [] }
     {
-        end_one(endings, self.ending(mark));
+        end_own(endings, self.alloc, self.made + 1, self.thread, mark);
     }
 
     /// Ends the caller's call, which gets its buffer back, and no other.

@@ -13,28 +13,30 @@ use Rattle.qkernel.proofs.Steps.Told.{is_told, made_for, newest_due}
 pub cut_calls-requires-clause-few : goal.cut_calls-requires-clause-few
 cut_calls-requires-clause-few c =
     let may = rw (← c.self.view_is) at c.requires in
-    let new = new_pulse (c.args.turn.now.made + 1) c.args.turn.now.priority c.args.turn.now.process c.tells_detached-last.result c.pulse_for-due.result c.pulse_for-due.ensures in
+    let new = new_pulse (c.args.turn.now.made + 1) c.priority_of-priority.result c.args.turn.now.process c.tells_detached-last.result c.pulse_for-due.result c.pulse_for-due.ensures in
     (sound_due _ c.in-Some.chid c.pulse_for-due.result _ _ c.in_ok-met.met may.sound new c.in_ok-met.ensures.ok).few
 
 pub end_also-requires : goal.end_also-requires
 end_also-requires c =
     let may = rw (← c.self.view_is) at c.requires in
+    let prio = rw (← c.self.view_is) at c.priority_of-priority.ensures in
     let of = own_parts c.args.turn.now.process c.in-Some.chid _ (sym c.own_connection.ensures ∙ c.in-Some.is) in
     let d = c.pulse_for-due.result in
-    let pulsed = c.pulse_for-due.ensures ∙ ap (λ p. cond c.tells_detached-last.result (Some (disconnect_item (c.args.turn.now.made + 1) p c.args.turn.now.process)) None) may.caller.priority in
+    let pulsed = c.pulse_for-due.ensures ∙ ap (λ p. cond c.tells_detached-last.result (Some (disconnect_item (c.args.turn.now.made + 1) p c.args.turn.now.process)) None) prio in
     let due = due_is _ c.args.turn.now.thread c.args.coid _ may.caller.known may.up may.free c.in-Some.chid of c.tells_detached-last.result may.sound c.tells_detached-last.ensures ∙ ap (made_for c.in-Some.chid) (sym pulsed) in
-    let new = new_pulse (c.args.turn.now.made + 1) c.args.turn.now.priority c.args.turn.now.process c.tells_detached-last.result d c.pulse_for-due.ensures in
+    let new = new_pulse (c.args.turn.now.made + 1) c.priority_of-priority.result c.args.turn.now.process c.tells_detached-last.result d c.pulse_for-due.ensures in
     let told = is_told _ c.args.turn.now.thread c.in-Some.chid d _ _ c.in_ok-met.met may.sound may.free new c.in_ok-met.ensures.ok in
     rw (rw c.ending.ensures at c.cut_calls.ensures.endings) (room_for_one _ c.args.turn.now.thread c.args.coid _ may.caller.known may.up may.free c.in-Some.chid of d due may.sound _ _ c.in_ok-met.met told may.sound.few)
 
 pub invariant_of-self-2 : goal.invariant_of-self-2
 invariant_of-self-2 c =
     let may = rw (← c.self.view_is) at c.requires in
+    let prio = rw (← c.self.view_is) at c.priority_of-priority.ensures in
     let of = own_parts c.args.turn.now.process c.in-Some.chid _ (sym c.own_connection.ensures ∙ c.in-Some.is) in
     let d = c.pulse_for-due.result in
-    let pulsed = c.pulse_for-due.ensures ∙ ap (λ p. cond c.tells_detached-last.result (Some (disconnect_item (c.args.turn.now.made + 1) p c.args.turn.now.process)) None) may.caller.priority in
+    let pulsed = c.pulse_for-due.ensures ∙ ap (λ p. cond c.tells_detached-last.result (Some (disconnect_item (c.args.turn.now.made + 1) p c.args.turn.now.process)) None) prio in
     let due = due_is _ c.args.turn.now.thread c.args.coid _ may.caller.known may.up may.free c.in-Some.chid of c.tells_detached-last.result may.sound c.tells_detached-last.ensures ∙ ap (made_for c.in-Some.chid) (sym pulsed) in
-    let new = new_pulse (c.args.turn.now.made + 1) c.args.turn.now.priority c.args.turn.now.process c.tells_detached-last.result d c.pulse_for-due.ensures in
+    let new = new_pulse (c.args.turn.now.made + 1) c.priority_of-priority.result c.args.turn.now.process c.tells_detached-last.result d c.pulse_for-due.ensures in
     let told = is_told _ c.args.turn.now.thread c.in-Some.chid d _ _ c.in_ok-met.met may.sound may.free new c.in_ok-met.ensures.ok in
     rw (may.counted, c.remove.ensures.after) (sound_detached _ c.args.turn.now.thread c.args.coid _ may.caller.known may.up may.free c.in-Some.chid of d due may.sound _ _ c.in_ok-met.met told _ _ c.cut_calls.ensures.threads c.cut_calls.ensures.channels
     (sound_due _ c.in-Some.chid d _ _ c.in_ok-met.met may.sound new c.in_ok-met.ensures.ok))
@@ -42,11 +44,12 @@ invariant_of-self-2 c =
 pub returns : goal.returns
 returns c =
     let may = rw (← c.self.view_is) at c.requires in
+    let prio = rw (← c.self.view_is) at c.priority_of-priority.ensures in
     let of = own_parts c.args.turn.now.process c.in-Some.chid _ (sym c.own_connection.ensures ∙ c.in-Some.is) in
     let d = c.pulse_for-due.result in
-    let pulsed = c.pulse_for-due.ensures ∙ ap (λ p. cond c.tells_detached-last.result (Some (disconnect_item (c.args.turn.now.made + 1) p c.args.turn.now.process)) None) may.caller.priority in
+    let pulsed = c.pulse_for-due.ensures ∙ ap (λ p. cond c.tells_detached-last.result (Some (disconnect_item (c.args.turn.now.made + 1) p c.args.turn.now.process)) None) prio in
     let due = due_is _ c.args.turn.now.thread c.args.coid _ may.caller.known may.up may.free c.in-Some.chid of c.tells_detached-last.result may.sound c.tells_detached-last.ensures ∙ ap (made_for c.in-Some.chid) (sym pulsed) in
-    let new = new_pulse (c.args.turn.now.made + 1) c.args.turn.now.priority c.args.turn.now.process c.tells_detached-last.result d c.pulse_for-due.ensures in
+    let new = new_pulse (c.args.turn.now.made + 1) c.priority_of-priority.result c.args.turn.now.process c.tells_detached-last.result d c.pulse_for-due.ensures in
     let told = is_told _ c.args.turn.now.thread c.in-Some.chid d _ _ c.in_ok-met.met may.sound may.free new c.in_ok-met.ensures.ok in
     let there = c.remove.ensures.value ∙ of.is in
     let fewer = rw there at c.remove.ensures.fewer in
@@ -56,9 +59,10 @@ returns c =
 pub returns-in_err-met : goal.returns-in_err-met
 returns-in_err-met c =
     let may = rw (← c.self.view_is) at c.requires in
+    let prio = rw (← c.self.view_is) at c.priority_of-priority.ensures in
     let of = own_parts c.args.turn.now.process c.in-Some.chid _ (sym c.own_connection.ensures ∙ c.in-Some.is) in
     let d = c.pulse_for-due.result in
-    let pulsed = c.pulse_for-due.ensures ∙ ap (λ p. cond c.tells_detached-last.result (Some (disconnect_item (c.args.turn.now.made + 1) p c.args.turn.now.process)) None) may.caller.priority in
+    let pulsed = c.pulse_for-due.ensures ∙ ap (λ p. cond c.tells_detached-last.result (Some (disconnect_item (c.args.turn.now.made + 1) p c.args.turn.now.process)) None) prio in
     let due = due_is _ c.args.turn.now.thread c.args.coid _ may.caller.known may.up may.free c.in-Some.chid of c.tells_detached-last.result may.sound c.tells_detached-last.ensures ∙ ap (made_for c.in-Some.chid) (sym pulsed) in
     let away = c.in_err-met.ensures.err in
     let p = err_from_is_err_and c.from_residual.result c.from_residual.ensures.1 in
@@ -82,5 +86,5 @@ invariant_of-self c =
 pub send_due-requires-clause-newest : goal.send_due-requires-clause-newest
 send_due-requires-clause-newest c =
     let may = rw (← c.self.view_is) at c.requires in
-    let new = new_pulse (c.args.turn.now.made + 1) c.args.turn.now.priority c.args.turn.now.process c.tells_detached-last.result c.pulse_for-due.result c.pulse_for-due.ensures in
+    let new = new_pulse (c.args.turn.now.made + 1) c.priority_of-priority.result c.args.turn.now.process c.tells_detached-last.result c.pulse_for-due.result c.pulse_for-due.ensures in
     newest_due (c.args.turn.now.made + 1) c.pulse_for-due.result _ new (up_to_below (λ x. x.number) c.args.turn.now.made _ (may.sound.items c.in-Some.chid))

@@ -6,5 +6,4 @@ returns-clause-caller c = record {
   seat = c.requires.seat;
   began = c.member_of.result.priority;
   known = rw (← c.self.view_is) (caller_known c.args.thread _ c.member_of.result (rw c.deref.ensures.value at c.member_of.ensures));
-  priority = rw (← c.self.view_is) (rw c.deref-2.ensures.value at c.level_of.ensures);
 }
