@@ -16,7 +16,10 @@ pub struct Chart {
 impl Chart {
     /// Where a thread's line stands, from 0 at the left; 0 also where it has none.
     pub fn column(&self, thread: ThreadNo) -> usize {
-        let place = self.lifelines.iter().position(|member| member.thread == thread);
+        let place = self
+            .lifelines
+            .iter()
+            .position(|member| member.thread == thread);
         place.unwrap_or(0)
     }
 

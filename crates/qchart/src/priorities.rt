@@ -94,11 +94,7 @@ impl Priorities {
 
     /// The priority that an ending of the newest call gives a thread: an accepted PrioritySet sets it, and who
     /// receives takes the item's, unless its channel leaves priorities as they are.
-    fn given_by(
-        &self,
-        callers: &[ThreadNo],
-        ending: &Completion,
-    ) -> Option<Level> {
+    fn given_by(&self, callers: &[ThreadNo], ending: &Completion) -> Option<Level> {
         match ending.mark {
             Mark::Ok => match self.bearing_of(ending.call) {
                 Bearing::Sets(thread, priority) => Some(Level { thread, priority }),
@@ -129,7 +125,10 @@ impl Priorities {
 
     fn bearing_of(&self, number: u64) -> Bearing {
         let place = number.saturating_sub(1) as usize;
-        self.bearings.get(place).copied().unwrap_or(Bearing::Nothing)
+        self.bearings
+            .get(place)
+            .copied()
+            .unwrap_or(Bearing::Nothing)
     }
 
     fn of_thread(&self, thread: ThreadNo) -> Option<Priority> {
@@ -139,7 +138,10 @@ impl Priorities {
 
     /// Gives a thread this priority, and answers whether it had another.
     fn change(&mut self, given: &Level) -> bool {
-        let place = self.levels.iter().position(|level| level.thread == given.thread);
+        let place = self
+            .levels
+            .iter()
+            .position(|level| level.thread == given.thread);
         let Some(place) = place else {
             return false;
         };

@@ -97,11 +97,7 @@ impl Course {
 }
 
 /// The words of the newest call, of this number, with what its thread got at once.
-fn with_result(
-    words: String,
-    number: u64,
-    endings: &[Completion],
-) -> Result<String, AllocError> {
+fn with_result(words: String, number: u64, endings: &[Completion]) -> Result<String, AllocError> {
     let mut words = words;
     if let Some(own) = endings.iter().find(|ending| ending.call == number) {
         push_result(&mut words, own.mark)?;
@@ -110,11 +106,7 @@ fn with_result(
 }
 
 /// The calls but the newest, of this number, that an event ended by force.
-fn cuts_of(
-    alloc: Global,
-    number: u64,
-    endings: &[Completion],
-) -> Result<Vec<Cut>, AllocError> {
+fn cuts_of(alloc: Global, number: u64, endings: &[Completion]) -> Result<Vec<Cut>, AllocError> {
     endings
         .iter()
         .filter_map(|ending| cut_of(number, ending))

@@ -70,7 +70,9 @@ fn push_process(
     first: usize,
     last: usize,
 ) -> Result<(), AllocError> {
-    let x = sheet.x(first).saturating_sub(sheet::HEAD_HALF.saturating_add(6));
+    let x = sheet
+        .x(first)
+        .saturating_sub(sheet::HEAD_HALF.saturating_add(6));
     let width = sheet
         .x(last)
         .saturating_add(sheet::HEAD_HALF.saturating_add(6))
@@ -170,7 +172,15 @@ fn push_row(
             let x = sheet.x(sheet.chart.column(arrow.from));
             let side = leaves_at(sheet.chart, arrow);
             let room = if arrow.from == arrow.to { 30 } else { 14 };
-            push_words(out, "words", x, y.saturating_sub(5), side, room, words.as_str())?;
+            push_words(
+                out,
+                "words",
+                x,
+                y.saturating_sub(5),
+                side,
+                room,
+                words.as_str(),
+            )?;
         }
     }
     push_call(out, sheet, y, row)?;
@@ -273,7 +283,10 @@ fn push_arrow(
     if is_sent(row, arrow) {
         return Ok(());
     }
-    write!(out, "<circle class=\"ring\" cx=\"{from}\" cy=\"{y}\" r=\"4\"/>")
+    write!(
+        out,
+        "<circle class=\"ring\" cx=\"{from}\" cy=\"{y}\" r=\"4\"/>"
+    )
 }
 
 fn push_loop(out: &mut String, class: &str, x: usize, y: usize) -> Result<(), AllocError> {

@@ -153,7 +153,11 @@ impl Page<'_> {
             return line.put(from.saturating_add(4), words);
         }
         if from < to {
-            line.fill(from.saturating_add(1), to.saturating_sub(1), shaft(arrow.what))?;
+            line.fill(
+                from.saturating_add(1),
+                to.saturating_sub(1),
+                shaft(arrow.what),
+            )?;
             line.put(from.saturating_add(1), tail)?;
             line.put(to.saturating_sub(1), ">")?;
             line.put_spaced(from.saturating_add(3), words)

@@ -36,7 +36,8 @@ fn expect_fault(
 
 #[test]
 fn a_message_and_its_answer(rt: HostRuntime) {
-    let script = b"thread 1 1 10\nthread 2 2 20\n1 create 0\n2 attach 1\n2 send 2 - -\n1 receive 1 -\n1 reply 3 0 -\n";
+    let script =
+        b"thread 1 1 10\nthread 2 2 20\n1 create 0\n2 attach 1\n2 send 2 - -\n1 receive 1 -\n1 reply 3 0 -\n";
     let wanted = "\
 call  thread 1 (process 1)           thread 2 (process 2)
       priority 10                    priority 20
@@ -102,7 +103,8 @@ call  thread 1 (process 1)           thread 3 (process 1)           thread 2 (pr
 
 #[test]
 fn an_arrow_leaves_the_states_that_it_crosses(rt: HostRuntime) {
-    let script = b"thread 1 1 10\nthread 2 2 20\nthread 3 3 5\n1 create 1\n3 attach 1\n2 attach 1\n2 send 3 - -\n3 send 2 - -\n1 receive 1 -\n1 receive 1 -\n";
+    let script =
+        b"thread 1 1 10\nthread 2 2 20\nthread 3 3 5\n1 create 1\n3 attach 1\n2 attach 1\n2 send 3 - -\n3 send 2 - -\n1 receive 1 -\n1 receive 1 -\n";
     let wanted = "\
 call  thread 1 (process 1)           thread 2 (process 2)           thread 3 (process 3)
       priority 10                    priority 20                    priority 5
@@ -120,7 +122,13 @@ call  thread 1 (process 1)           thread 2 (process 2)           thread 3 (pr
 
 #[test]
 fn faulty_scripts_have_no_chart(rt: HostRuntime) -> Result<(), Fail> {
-    expect_fault(&rt, rt.alloc(), b"thread 1 1 10\n1 creat 0\n", "line 2: unknown word", 1)
+    expect_fault(
+        &rt,
+        rt.alloc(),
+        b"thread 1 1 10\n1 creat 0\n",
+        "line 2: unknown word",
+        1,
+    )
 }
 
 #[test]

@@ -42,7 +42,8 @@ text { font: 11px Verdana, 'DejaVu Sans', sans-serif; fill: #111 }
 ";
 
 /// The signs of the states and of the arrows, in two lines.
-pub const LEGEND: &str = "<rect class=\"ready\" x=\"0\" y=\"0\" width=\"14\" height=\"18\"/><text x=\"20\" y=\"13\">ready</text>
+pub const LEGEND: &str =
+    "<rect class=\"ready\" x=\"0\" y=\"0\" width=\"14\" height=\"18\"/><text x=\"20\" y=\"13\">ready</text>
 <rect class=\"send\" x=\"90\" y=\"0\" width=\"14\" height=\"18\"/><text x=\"110\" y=\"13\">SEND-blocked</text>
 <rect class=\"receive\" x=\"230\" y=\"0\" width=\"14\" height=\"18\"/><text x=\"250\" y=\"13\">RECEIVE-blocked</text>
 <rect class=\"reply\" x=\"390\" y=\"0\" width=\"14\" height=\"18\"/><text x=\"410\" y=\"13\">REPLY-blocked</text>
