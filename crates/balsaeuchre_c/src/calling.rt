@@ -26,7 +26,7 @@ pub fn make_call(
     bytes: &mut [u8],
     done: &mut Done,
 ) -> Result<(), Errno>
-    ensures event { IfOk result (λ _. IsEvent session.old request.now sent.now room.now session.new done.new) }
+    ensures event { IfOk result (λ _. IsEvent session.old request.now sent.now room.now session.new rows.new bytes.old bytes.new done.new) }
     ensures roster { members_of session.new.kernel.threads ≡ members_of session.old.kernel.threads }
     ensures error { IfErr result (λ errno. CallError session.old request.now sent.now room.now (length rows.old) errno) }
     ensures unchanged { IfErr result (λ _. (session.new ≡ session.old) × (rows.new ≡ rows.old) × (bytes.new ≡ bytes.old) × (done.new ≡ done.old)) }

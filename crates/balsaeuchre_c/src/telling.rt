@@ -1,6 +1,7 @@
 //! Endings, written for C.
 
 ghost use Rattle.std.specs.Prelude.{◌≡◌, ◌≤◌, length};
+ghost use Rattle.balsaeuchre_c.specs.Telling.{IsTold};
 
 use crate::row::Row;
 use qbase::laying::lay;
@@ -18,7 +19,7 @@ pub struct Done {
 /// bytes, cut at its end.
 pub fn tell(endings: &[Completion], rows: &mut [Row], bytes: &mut [u8]) -> Done
     requires { length endings.now ≤ length rows.old }
-    ensures { result.endings ≡ length endings.now }
+    ensures { IsTold endings.now rows.new bytes.old bytes.new result }
 {
     let mut start = 0;
     for (place, ending) in endings.iter().enumerate() {

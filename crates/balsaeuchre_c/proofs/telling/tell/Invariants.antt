@@ -1,5 +1,5 @@
-use Rattle.std.proofs.Common.{◌≤◌, length}
+use Rattle.balsaeuchre_c.proofs.Tellings.{IsToldTo}
 use Rattle.balsaeuchre_c.proofs.telling.tell.Given as goal
 
 abbrev pub invariant-loop-place : goal.invariant-loop-place
-invariant-loop-place l = l.start ≤ length l.bytes
+invariant-loop-place l = IsToldTo l.endings l.rows l.initial.bytes l.bytes l.place l.start
