@@ -1,0 +1,10 @@
+use Rattle.std.specs.Prelude.{map}
+use Rattle.balsaeuchre.specs.Threads.{members_of}
+use Rattle.balsaeuchre.specs.Words.{cells_id}
+use Rattle.balsaeuchre_uses.proofs.two_threads.on_two_threads.Given as goal
+
+abbrev pub ghosts-run-K-Ledger : goal.ghosts-run-K-Ledger
+ghosts-run-K-Ledger g a = record { name = a.parts.blank.name; parts = a.parts.blank.parts }
+
+abbrev pub ghosts-run-K-Tie : goal.ghosts-run-K-Tie
+ghosts-run-K-Tie g a = record { roster = members_of a.parts.kernel.threads; cells = cells_id a.parts.cells; lists = map (λ h. h.name) a.parts.heard.items }

@@ -1,0 +1,57 @@
+//! Uses of the kernel as a library, each on one page. The program makes all of them, and prints how the calls ended.
+#![tactic(auto)]
+
+mod calls;
+mod carried;
+mod fault;
+mod first_message;
+mod kept_waiting;
+mod one_thread;
+mod shutdown;
+mod timeout;
+mod two_threads;
+
+use balsaeuchre::{Completion, Trace};
+use std::io;
+use std::test::Fail;
+
+/// Prints an ending: the number of the ended call, its thread, how it ended, and the buffer that came back.
+fn show(rt: &impl Print, ending: &Completion) -> io::Result<()> {
+    let (call, thread, mark) = (ending.call, ending.thread.0, ending.mark);
+    let buffer = ending.buffer.as_slice();
+    println!(rt; "  call {call} of thread {thread}: {mark:?} {buffer:?}")
+}
+
+/// Prints the endings of a run under its name.
+fn show_all(rt: &impl Print, name: &str, trace: &Trace) -> io::Result<()> {
+    println!(rt; "{name}")?;
+    for k in 0..trace.len() {
+        for ending in trace.endings(k) {
+            show(rt, ending)?;
+        }
+    }
+    Ok(())
+}
+
+fn main(rt: HostRuntime) -> Result<(), Fail> {
+    let alloc = rt.alloc();
+    show_all(
+        &rt,
+        "first message",
+        &first_message::first_message(alloc, b"hello", b"world")?,
+    )?;
+    println!(rt; "one thread")?;
+    show(&rt, &one_thread::echoed(alloc, b"hello")?)?;
+    let messages = 3;
+    let trace = two_threads::on_two_threads(&rt, alloc, messages)?;
+    println!(rt; "two threads\n  {messages} messages, {} calls", trace.len())?;
+    println!(rt; "kept waiting")?;
+    for ending in &kept_waiting::kept_waiting(alloc)? {
+        show(&rt, ending)?;
+    }
+    show_all(&rt, "timeout, cut", &timeout::cut(alloc)?)?;
+    show_all(&rt, "timeout, told", &timeout::told(alloc)?)?;
+    show_all(&rt, "priority carried", &carried::carried(alloc)?)?;
+    show_all(&rt, "shut down", &shutdown::shut_down(alloc)?)?;
+    Ok(())
+}
