@@ -3,7 +3,7 @@ use Rattle.std.specs.Prelude.{◌≡◌, is_some, List, [], ◌∷◌, Option, N
 use Rattle.qbase.specs.Priority.{priority_of}
 use Rattle.qbase.specs.declared.errno.Errno.{Errno}
 use Rattle.qbase.specs.declared.errno.Errno.TheVariants.{Inval, NoMemory}
-use Rattle.qtables.specs.Members.{join_refusal, joined}
+use Rattle.qtables.specs.Members.{join_refusal, with_member}
 use Rattle.qtables.specs.declared.member.Member.{Member}
 use Rattle.qkernel.specs.Stands.{StandsAt}
 use Rattle.balsaeuchre_c.specs.declared.roster.Thread.{Thread}
@@ -25,7 +25,7 @@ unless (Some errno) members = Err errno
 -- the members with these threads besides, or why the first that may not join may not
 abbrev pub roster_from : List Member → List Thread → Result (List Member) Errno
 roster_from members [] = Ok members
-roster_from members (t ∷ threads) = unless (thread_refusal members t) (roster_from (joined (member_of t) members) threads)
+roster_from members (t ∷ threads) = unless (thread_refusal members t) (roster_from (with_member (member_of t) members) threads)
 
 -- a kernel of these threads that stands where no call has been made
 pub record IsNewOf (threads : List Thread) (session : Session) : Type 0 where

@@ -2,7 +2,7 @@
 
 ghost use Rattle.std.specs.Prelude.{◌≡◌, [], None, Some, MatchResult};
 ghost use Rattle.balsaeuchre_c.specs.Opening.{member_of, roster_from, thread_refusal};
-ghost use Rattle.qtables.specs.Members.{joined};
+ghost use Rattle.qtables.specs.Members.{with_member};
 
 use qbase::errno::Errno;
 use qbase::ids::{ProcessNo, ThreadNo};
@@ -24,7 +24,7 @@ pub struct Thread {
 
 fn add(roster: &mut Roster, thread: &Thread) -> Result<(), Errno>
     ensures { MatchResult result
-        (λ _. (thread_refusal roster.old thread.now ≡ None) × (roster.new ≡ joined (member_of thread.now) roster.old))
+        (λ _. (thread_refusal roster.old thread.now ≡ None) × (roster.new ≡ with_member (member_of thread.now) roster.old))
         (λ errno. thread_refusal roster.old thread.now ≡ Some errno) }
 {
     match Priority::new(thread.priority) {

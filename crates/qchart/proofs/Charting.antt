@@ -4,27 +4,27 @@ use Rattle.std.specs.List.Sorted.{IsPermutation}
 use Rattle.qtables.specs.Members.{IsRoster}
 use Rattle.qtables.specs.declared.member.Member.{Member}
 use Rattle.qmodel.specs.declared.call.Call.{Call}
-use Rattle.qmodel.specs.Blocked.{blocked_at}
+use Rattle.qmodel.specs.Blocked.{blocked_threads_at}
 use Rattle.qmodel.specs.Lawful.{followed_by}
 use Rattle.qmodel.specs.Trace.{Run}
 use Rattle.qkernel.specs.Stands.{StandsAt}
 use Rattle.qkernel.specs.State.{State}
 use Rattle.qkernel.proofs.Running.{headline_of}
-use Rattle.qscript.specs.Enrolled.{enrolled}
+use Rattle.qscript.specs.Enrolled.{roster_with}
 use Rattle.qchart.specs.declared.chart.Chart.{Chart}
 use Rattle.qchart.specs.Charts.{IsChartOf}
 use Rattle.qchart.specs.Rows.{HasRows}
 
-pub charted : (roster : List Member) (calls : List (ℕ × Call)) (old new : State) (chart : Chart) → IsRoster (enrolled [] roster) → StandsAt (enrolled [] roster) old []
+pub charted : (roster : List Member) (calls : List (ℕ × Call)) (old new : State) (chart : Chart) → IsRoster (roster_with [] roster) → StandsAt (roster_with [] roster) old []
     → HasRows old calls new chart.rows.items → IsPermutation roster chart.lifelines.items → IsChartOf roster calls chart
 charted roster calls old new chart rises stands has lines =
     let run : Run = record { first = 1; events = has.events } in
     let first : 1 ≡ old.made + 1 = omega (arith, stands.made) in
-    let well = headline_of old new 1 has.events (subst IsRoster (sym stands.roster_is) rises) first has.ran (enrolled [] roster) [] tt stands in
+    let well = headline_of old new 1 has.events (subst IsRoster (sym stands.roster_is) rises) first has.ran (roster_with [] roster) [] tt stands in
     record {
       run = run;
-      left = blocked_at (enrolled [] roster) (followed_by [] has.events);
+      left = blocked_threads_at (roster_with [] roster) (followed_by [] has.events);
       ran = record { rising = well.rising; first = refl; made = has.made; lawful = well.lawful; properties = well.properties; left = refl };
       lines = lines;
-      drawn = record { threads = has.threads; arrows = has.arrows; blocked = has.blocked (enrolled [] roster) [] tt stands };
+      drawn = record { threads = has.threads; arrows = has.arrows; blocked = has.blocked (roster_with [] roster) [] tt stands };
     }

@@ -9,7 +9,7 @@ use Rattle.qmodel.specs.declared.call.Call.{Call}
 use Rattle.qmodel.specs.declared.call.Completion.{Completion}
 use Rattle.qchart.specs.Arrows.{arrow_of}
 use Rattle.qmodel.proofs.Following.{followed_push}
-use Rattle.qmodel.specs.Blocked.{blocked_at}
+use Rattle.qmodel.specs.Blocked.{blocked_threads_at}
 use Rattle.qmodel.specs.Lawful.{IsLawful, followed_by}
 use Rattle.qmodel.specs.OnlyRun.{event_call}
 use Rattle.qmodel.specs.Trace.{Event, Trace}
@@ -39,9 +39,9 @@ arrows_push before (x ∷ events) e =
 
 -- who is blocked after one event more
 blocked_push : (roster : List Member) (past : Trace) (events : List Event) (e : Event)
-    → blocked_from roster past (events ++ e ∷ []) ≡ blocked_from roster past events ++ blocked_at roster (followed_by past (events ++ e ∷ [])) ∷ []
+    → blocked_from roster past (events ++ e ∷ []) ≡ blocked_from roster past events ++ blocked_threads_at roster (followed_by past (events ++ e ∷ [])) ∷ []
 blocked_push roster past [] e = refl
-blocked_push roster past (x ∷ events) e = ap (λ rest. blocked_at roster (x ∷ past) ∷ rest) (blocked_push roster (x ∷ past) events e)
+blocked_push roster past (x ∷ events) e = ap (λ rest. blocked_threads_at roster (x ∷ past) ∷ rest) (blocked_push roster (x ∷ past) events e)
 
 -- the rows so far: the roster stayed as it was, and these threads made the calls
 pub record Going (old : State) (calls : List (ℕ × Call)) (now : State) (drawn : List Row) (threads : List ℕ) : Type 0 where

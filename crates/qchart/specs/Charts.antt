@@ -5,7 +5,7 @@ use Rattle.qtables.specs.declared.member.Member.{Member}
 use Rattle.qmodel.specs.declared.call.Call.{Call}
 use Rattle.qmodel.specs.Trace.{Run}
 use Rattle.qmodel.specs.declared.open_call.Blocked.{Blocked}
-use Rattle.qscript.specs.Enrolled.{enrolled}
+use Rattle.qscript.specs.Enrolled.{roster_with}
 use Rattle.qscript.specs.Reading.Meaning.{meaning, Says, IsFaultOf}
 use Rattle.qscript.specs.Script.{IsRunOf}
 use Rattle.qchart.specs.declared.chart.Chart.{Chart}
@@ -19,7 +19,7 @@ pub record IsChartOf (roster : List Member) (calls : List (ℕ × Call)) (chart 
   pub left : List Blocked
   pub ran : IsRunOf roster calls run left
   pub lines : IsPermutation roster chart.lifelines.items
-  pub drawn : IsDrawn (enrolled [] roster) run.events chart.rows.items
+  pub drawn : IsDrawn (roster_with [] roster) run.events chart.rows.items
 
 -- the chart of what a text says, which is at most 400 calls
 pub record IsCharted (text : List ℕ) (chart : Chart) : Type 0 where

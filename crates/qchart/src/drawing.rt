@@ -2,7 +2,7 @@
 
 ghost use Rattle.std.specs.Prelude.{◌≡◌, [], IfOk, IfErr};
 ghost use Rattle.std.specs.List.Sorted.{IsPermutation};
-ghost use Rattle.qscript.specs.Enrolled.{enrolled, AllJoin};
+ghost use Rattle.qscript.specs.Enrolled.{roster_with, AllJoin};
 ghost use Rattle.qscript.specs.Script.{CanRun};
 ghost use Rattle.qchart.specs.Charts.{IsChartOf, IsCharted, IsChartFault};
 
@@ -75,7 +75,7 @@ fn chart_of(alloc: Global, script: Script) -> Result<Chart, AllocError>
 #[tactic(auto, using(qscript::proofs::Joining::joins_at, qscript::proofs::Joining::enrolled_next))]
 fn roster_of(alloc: Global, members: &[Member]) -> Roster
     requires { AllJoin [] members.now }
-    ensures { result ≡ enrolled [] members.now }
+    ensures { result ≡ roster_with [] members.now }
 {
     let mut roster = Roster::new(alloc);
     'joining: for member in members {
