@@ -1,2 +1,4 @@
 pub mod Written
 pub mod FirstMessage
+pub mod ShutDown
+pub mod Timeout

@@ -1,0 +1,14 @@
+use Rattle.std.proofs.Common.{◌≡◌, map, refl, ap, ◌∙◌}
+use Rattle.qmodel.specs.Worked.Runs.{flags_of}
+use Rattle.balsaeuchre.specs.OnlyRun.{event_call}
+use Rattle.balsaeuchre_uses.specs.Timeout.{roster, cut_events}
+use Rattle.balsaeuchre_uses.proofs.Lawful.{cut_lawful, cut_memory}
+use Rattle.balsaeuchre_uses.proofs.RunLemmas.{run_of}
+use Rattle.balsaeuchre_uses.proofs.timeout.cut.Goals as goal
+
+pub returns : goal.returns
+returns c =
+    let calls : map event_call c.in_ok-run.field-0.events ≡ map event_call cut_events =
+    let flags : c.of.result ≡ flags_of 0 = ap (λ n. flags_of n) c.of.ensures in
+    c.in_ok-run.ensures.told ∙ c.in_ok-push.ensures.items ∙ rw (c.in_ok-calls.ensures, c.reply.ensures, flags) refl in
+    run_of roster cut_events c.in_ok-run.field-0 c.in_ok-kernel.ensures c.in_ok-run.ensures.headline calls cut_lawful cut_memory
