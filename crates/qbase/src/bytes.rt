@@ -39,6 +39,7 @@ impl Bytes {
     }
 
     /// A copy of these bytes.
+    /// `first_message.rt` of `crates/balsaeuchre_uses` makes messages and buffers so.
     pub fn copied(alloc: Global, bytes: &[u8]) -> Result<Bytes, AllocError>
         ensures { IfOk result (λ copy. copy ≡ bytes.now) }
     {

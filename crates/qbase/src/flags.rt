@@ -40,6 +40,7 @@ impl Flags for ChannelFlags {
 
 impl ChannelFlags {
     /// The flags of these bits, known or not.
+    /// A channel with none has `ChannelFlags::of(0)`.
     pub fn of(bits: u8) -> ChannelFlags
         ensures { result.0 ≡ bits }
     {

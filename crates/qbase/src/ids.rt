@@ -30,6 +30,7 @@ impl Model for ProcessNo {
 }
 
 /// A channel's id: the number of the call that created it. It is never given again (own profile).
+/// A `ChannelCreate` ends with it in its mark.
 #[derive(Clone, Copy, Debug, PartialEq, Eq)]
 pub struct ChannelId(pub u64);
 
@@ -42,6 +43,7 @@ impl Model for ChannelId {
 }
 
 /// A connection's id: the number of the call that attached it. It is never given again (own profile).
+/// A `ConnectAttach` ends with it in its mark.
 #[derive(Clone, Copy, Debug, PartialEq, Eq)]
 pub struct ConnectionId(pub u64);
 
@@ -54,6 +56,7 @@ impl Model for ConnectionId {
 }
 
 /// The receive id of a message: the number of the call that sent it (own profile; `MsgReceive`'s rcvid).
+/// A receipt ends with it in its mark.
 #[derive(Clone, Copy, Debug, PartialEq, Eq)]
 pub struct ReceiveId(pub u64);
 

@@ -24,6 +24,7 @@ impl Model for Priority {
 
 impl Priority {
     /// The priority of a number; `None` for 0 alone.
+    /// `carried.rt` of `crates/balsaeuchre_uses` makes three.
     pub fn new(level: u8) -> Option<Priority>
         ensures { result ≡ priority_of level }
     {

@@ -45,6 +45,7 @@ pub const CALL_LIMIT: u64 = 1 << 40;
 
 /// A kernel: its threads, its channels and its connections. Contracts see its content as a record of
 /// lists; what it answers is said of the list of all past calls.
+/// `one_thread.rt` of `crates/balsaeuchre_uses` shows how one is made and used.
 #[derive(Drop)]
 pub struct Kernel {
     alloc: Global,
@@ -72,6 +73,7 @@ impl Kernel {
 
     /// A kernel without channels, all threads of the roster ready at the priority that they begin with. The
     /// room for thread records and open calls is made here; `NoMemory` is the only error.
+    /// `first_message.rt` of `crates/balsaeuchre_uses` begins with it.
     pub fn new(alloc: Global, roster: &Roster) -> Result<Kernel, Errno>
         ensures stands { IfOk result (λ kernel. StandsAt roster.now kernel []) }
         ensures error { IfErr result (λ e. e ≡ Errno.NoMemory) }
@@ -208,6 +210,7 @@ impl Kernel {
     /// Makes one call of a thread of the roster, and puts its endings, in rising thread number, into a list
     /// that is lent and may be used again once it is emptied. For a loop over many calls; `dispatch` is the
     /// same with a list of its own.
+    /// `run` uses it so.
     pub fn step(&mut self, thread: ThreadNo, call: Call, endings: &mut Endings)
         requires known { is_some (member_at (members_of self.old.threads) thread) ≡ true }
         requires limit { self.old.made < 2 ^ 40 }
@@ -230,6 +233,7 @@ impl Kernel {
     /// Makes one call. Every `Ok` is an event, whose number is one more than the last, and holds the endings
     /// that it brought, in rising thread number. An `Err` is no event: it gives the call back and changes
     /// nothing.
+    /// `one_thread.rt` and `kept_waiting.rt` of `crates/balsaeuchre_uses` use it.
     pub fn dispatch(&mut self, thread: ThreadNo, call: Call) -> Result<Endings, (Errno, Call)>
         ensures event { IfOk result (λ endings. AnswersAtTraces self.old thread call endings.items self.new) }
         ensures refused { IfOk result (λ endings. LeavesIfRefused self.old thread call endings.items self.new) }
@@ -252,6 +256,7 @@ impl Kernel {
     }
 
     /// Whether the thread is in the roster.
+    /// `run` asks it before it makes any call.
     pub fn knows(&self, thread: ThreadNo) -> bool
         ensures { result ≡ is_some (member_at (members_of self.now.threads) thread) }
     {
@@ -259,6 +264,7 @@ impl Kernel {
     }
 
     /// How many calls were made.
+    /// It is the number of the last event.
     pub fn made(&self) -> u64
         ensures value { result ≡ self.now.made }
 
@@ -269,6 +275,7 @@ impl Kernel {
     }
 
     /// Whether it is shut down: every further call is refused with `Down`.
+    /// `shutdown.rt` of `crates/balsaeuchre_uses` shows a call after it.
     pub fn is_down(&self) -> bool
         ensures { result ≡ self.now.down }
     {

@@ -77,6 +77,7 @@ fn run_all(kernel: &mut Kernel, log: &mut EventLog, mut calls: Vec<(ThreadNo, Ca
 /// Makes the calls in order. The trace and the copies of the calls that it keeps are made first, so that
 /// an `Err` leaves the kernel as it was: `NoThread` if a thread of the list isn't in the roster, else
 /// `Exhausted` if the list would pass 2^40 calls, else `NoMemory`. The list is then dropped.
+/// `first_message.rt` of `crates/balsaeuchre_uses` is a whole use of it.
 pub fn run(kernel: &mut Kernel, calls: Vec<(ThreadNo, Call)>) -> Result<Trace, Errno>
     ensures headline { IfOk result (λ trace. Headline kernel.old trace kernel.new) }
     ensures ok { OnOk result (AllKnown (members_of kernel.old.threads) calls.items × (kernel.old.made + length calls.items ≤ 2 ^ 40)) }

@@ -19,6 +19,7 @@ pub(crate) struct Entry {
 
 /// The calls of a run in order, each with its endings. Contracts see the number of the first event and
 /// the list of the events.
+/// `main.rt` of `crates/balsaeuchre_uses` prints one.
 #[derive(Debug, Drop)]
 pub struct Trace {
     first: u64,

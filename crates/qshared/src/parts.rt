@@ -106,6 +106,7 @@ const TRACE_LIMIT: u32 = 1 << 20;
 impl Parts {
     /// The parts of a kernel for these threads, whose trace has at most so many events: `Inval` unless that is 2 to
     /// 1,048,576, and else `NoMemory` where one of them found no memory.
+    /// `two_threads.rt` of `crates/balsaeuchre_uses` hands them to a function over `K: Tie`.
     pub fn new(alloc: Global, roster: &Roster, trace_limit: u32) -> Result<Parts, Errno>
         ensures roster { IfOk result (λ p. members_of p.kernel.threads ≡ roster.now) }
         ensures limit { IfOk result (λ p. p.limit ≡ trace_limit) }
@@ -118,6 +119,7 @@ impl Parts {
     }
 
     /// The parts of a kernel for these threads that keeps no past. `NoMemory` is the only error.
+    /// `qroundtrips` measures such a kernel.
     pub fn unkept(alloc: Global, roster: &Roster) -> Result<Parts, Errno>
         ensures roster { IfOk result (λ p. members_of p.kernel.threads ≡ roster.now) }
         ensures error { IfErr result (λ e. e ≡ Errno.NoMemory) }

@@ -24,6 +24,7 @@ use std::sync::ledger::Share;
 const LOOKS: u32 = 30;
 
 /// What a port answers a call.
+/// `two_threads.rt` of `crates/balsaeuchre_uses` turns it into an ending or a fault.
 #[derive(Debug, Drop)]
 pub enum Called {
     /// It is an event and ended in it; the port took this ending.
@@ -35,6 +36,7 @@ pub enum Called {
 }
 
 /// One thread's way to the kernel. There is one for each thread, and it has no copy.
+/// `two_threads.rt` of `crates/balsaeuchre_uses` has two of them.
 #[derive(Drop)]
 pub struct Port<K: Tie> {
     pub(crate) thread: ThreadNo,
@@ -82,6 +84,7 @@ impl<K: Tie> Port<K> {
     /// isn't collected, `TraceFull` where one event of the limit is left and the call isn't Shutdown, and `NoMemory`
     /// where there was none for the trace, which is never so for Shutdown. A thread that the roster lacks would get
     /// `NoThread` before all these, but has no port.
+    /// `two_threads.rt` of `crates/balsaeuchre_uses` calls it, and waits where the call is blocked.
     pub fn call<L: Log, R: Wait>(&mut self, shared: &Shared<K, L>, rt: &R, call: Call) -> Called
         ensures came { Came K.roster L.refuses self.old.thread call result }
         ensures calls { self.new.calls ≡ self.old.calls + (if is_call result then 1 else 0) }
@@ -125,6 +128,7 @@ impl<K: Tie> Port<K> {
     }
 
     /// Takes what was put for the thread, if anything was. It takes no lock and no memory, and waits for nobody.
+    /// `qroundtrips` polls the two ports of one thread.
     pub fn poll<L: Log>(&mut self, shared: &Shared<K, L>) -> Option<Completion>
         ensures taken { MatchOption result (taken self.new.seat ≡ taken self.old.seat) (λ x. taken self.new.seat ≡ taken self.old.seat ++ x ∷ []) }
         ensures pending { MatchOption result (self.new.pending ≡ self.old.pending) (λ x. self.new.pending ≡ false) }
@@ -156,6 +160,7 @@ impl<K: Tie> Port<K> {
 
     /// Takes what was put for the thread once it is put: polls for some microseconds, and then sleeps until it is
     /// woken.
+    /// `two_threads.rt` of `crates/balsaeuchre_uses` waits so.
     pub fn wait<L: Log, R: Wait>(&mut self, shared: &Shared<K, L>, rt: &R) -> Completion
         requires { self.old.pending ≡ true }
         ensures taken { taken self.new.seat ≡ taken self.old.seat ++ result ∷ [] }

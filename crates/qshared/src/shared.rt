@@ -184,6 +184,7 @@ impl<K: Tie, L: Log> Shared<K, L> {
     }
 
     /// Whether these are all ports of the kernel, in rising thread number.
+    /// It is asked before `finish`, as in `two_threads.rt` of `crates/balsaeuchre_uses`.
     pub fn all(&self, ports: &[Port<K>]) -> bool
         ensures { IsTrue result ↔ AreAll (λ p. thread_of p.seat) K.cells.slots ports.now }
     {
@@ -273,7 +274,7 @@ fn opened_unkept<K: Tie>(
 
 impl<K: Tie> Shared<K, Kept<K>> {
     /// Opens a kernel of these parts that keeps its past in memory, with a port for each thread, in rising thread
-    /// number. `NoMemory` is the only error, and drops the parts.
+    /// number. `NoMemory` is the only error, and drops the parts. `two_threads.rt` of `crates/balsaeuchre_uses` opens one.
     pub fn open(alloc: Global, parts: Parts) -> Result<(Shared<K, Kept<K>>, Vec<Port<K>>), Errno>
         requires named { AreParts K.roster K.cells K.lists K.name K.parts parts }
         ensures ports { IfOk result (λ r. AreAll (λ p. thread_of p.seat) K.cells.slots r.1.items) }

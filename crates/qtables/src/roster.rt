@@ -16,6 +16,7 @@ pub const THREAD_LIMIT: usize = 64;
 
 /// The threads, each with its process and the priority that it begins with. Contracts see the members in
 /// rising thread number.
+/// `first_message.rt` of `crates/balsaeuchre_uses` makes one.
 #[derive(Drop)]
 pub struct Roster {
     members: ArrayVec<Member, THREAD_LIMIT, Global>,
@@ -46,6 +47,7 @@ impl Roster {
     }
 
     /// Adds a thread; takes no memory. `Inval` where it is there, then `Again` where there are 64.
+    /// `first_message.rt` of `crates/balsaeuchre_uses` adds two.
     pub fn add(
         &mut self,
         thread: ThreadNo,
