@@ -1,12 +1,20 @@
-use Rattle.std.proofs.Common.{◌≡◌, ℕ, ◌+◌, [], ◌∷◌, ◌++◌, length, length-append, ap, ◌∙◌, append_assoc, arith}
+use Rattle.std.proofs.Common.{rules, ◌≡◌, ℕ, ◌+◌, [], ◌∷◌, ◌++◌, length, length-append, ap, ◌∙◌, append_assoc, arith}
 use Rattle.std.specs.Prelude.{is_some, true}
 use Rattle.std.specs.Vec.Iter.{into_iter_items}
 use Rattle.qtables.specs.Members.{member_at}
 use Rattle.qmodel.specs.declared.call.Call.{Call}
 use Rattle.qstate.specs.Threads.{members_of}
 use Rattle.qscript.proofs.Making.{next_known}
-use Rattle.qchart.proofs.Making.{IsRowOf, going_more}
+use Rattle.qchart.proofs.Making.{IsRowOf, going_more, going_none}
 use Rattle.qchart.proofs.run.rows_of.Goals as goal
+
+pub calls-init : goal.calls-init
+calls-init c = record {
+  going = rw (c.new-rows.ensures.items, c.new.ensures.items) (going_none c.args.kernel.now);
+  left = search rules;
+  count = search rules;
+  emptied = search rules;
+}
 
 pub next_row-requires-clause-known : goal.next_row-requires-clause-known
 next_row-requires-clause-known c =
