@@ -8,8 +8,10 @@ use Rattle.std.specs.contracts.impls.GlobalAllocator.TheImpl.{ghosts}
 use Rattle.balsaeuchre_c.specs.declared.session.Session.{Session}
 use Rattle.balsaeuchre_c.specs.contracts.session.Session.{the_row}
 
+-- what a handle owns that leads to this session
 abbrev pub handle_owns : Global → Ptr → Session → Fml
 handle_owns alloc = box_owns (ghosts.dealloc_token alloc) the_row
 
+-- how a session lies in memory
 abbrev pub session_coded : Coded Session
 session_coded = the_row.coded

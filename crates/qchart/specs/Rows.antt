@@ -37,9 +37,11 @@ blocked_from roster past (e ∷ events) = blocked_threads_at roster (e ∷ past)
 abbrev pub row_thread : Row → ℕ
 row_thread row = row.thread
 
+-- its arrows
 abbrev pub row_arrows : Row → List Arrow
 row_arrows row = row.arrows.items
 
+-- the threads that are blocked after it
 abbrev pub row_blocked : Row → List Blocked
 row_blocked row = row.blocked.items
 
