@@ -1,5 +1,5 @@
 -- Laws of numbers.
-use Rattle.std.proofs.Common.{◌≡◌, ℕ, ◌-◌, List, refl, Bool, true, false, arith}
+use Rattle.std.proofs.Common.{◌≡◌, ℕ, ◌-◌, List, arith}
 use Rattle.std.proofs.lemmas.Bool.Decides.{nat_tests}
 use Rattle.std.specs.Prelude.{slice_get}
 use Rattle.balsaeuchre_c.specs.Numbers.{numbered}

@@ -1,13 +1,13 @@
 -- Laws of what is told.
-use Rattle.std.proofs.Common.{◌≡◌, ℕ, ◌+◌, ◌-◌, ◌<◌, ◌≤◌, min, Bool, true, false, leb, List, [], ◌∷◌, ◌++◌, length, take, drop, get_or, refl, sym, ap, inl, inr, zero-add, ◌∙◌, subst, arith, zero, suc}
+use Rattle.std.proofs.Common.{◌≡◌, ℕ, ◌+◌, ◌-◌, ◌<◌, ◌≤◌, min, List, [], ◌∷◌, ◌++◌, length, take, drop, get_or, refl, sym, ap, inl, inr, zero-add, ◌∙◌, subst, arith, zero, suc}
 use borrow.Author.Count.{below_more}
 use Rattle.std.proofs.Math.ListN.{set}
-use Rattle.std.proofs.Math.Seq.{take-suc, take-append-add, take-append_seam, take-length}
+use Rattle.std.proofs.Math.Seq.{take-append-add, take-append_seam, take-length}
 use Rattle.std.proofs.lemmas.List.{length-append, length-take, length-take-le, length-drop, take-append-le, append-nil, drop_all, take-append-drop}
 use Rattle.std.proofs.lemmas.Bool.Decides.{leb_tells}
 use Rattle.std.proofs.lemmas.Grind.{flat_map-append}
 use Rattle.std.proofs.lemmas.Slice.{drop-append-drop}
-use Rattle.std.specs.Prelude.{Option, Some, None, slice_get, flat_map}
+use Rattle.std.specs.Prelude.{Option, Some, slice_get}
 use Rattle.qbase.specs.Laying.{laid_count, lay_over}
 use Rattle.qmodel.specs.declared.call.Completion.{Completion}
 use Rattle.balsaeuchre_c.specs.declared.row.Row.{Row}

@@ -1,4 +1,4 @@
-use Rattle.std.proofs.Common.{◌≡◌, ◌-◌, sym, ap, ◌∙◌}
+use Rattle.std.proofs.Common.{◌-◌, sym, ap, ◌∙◌}
 use Rattle.std.specs.Prelude.{slice_get}
 use Rattle.core.proofs.slice.Searches.{copied_from_item}
 use Rattle.balsaeuchre_c.specs.declared.kind.TheConstants.{KINDS}

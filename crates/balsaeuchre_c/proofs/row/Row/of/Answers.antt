@@ -1,4 +1,3 @@
-use Rattle.balsaeuchre_c.specs.Rows.{Tells}
 use Rattle.balsaeuchre_c.proofs.row.Row.of.Goals as goal
 
 pub returns : goal.returns
