@@ -4,13 +4,16 @@ _qdemo() {
     [ "$COMP_CWORD" -gt 1 ] && command="${COMP_WORDS[1]}"
     COMPREPLY=()
     case "$command" in
-        "") options="script check serve help -h --help -V --version" ;;
-        help) options="script check serve" ;;
+        "") options="script check chart serve help -h --help -V --version" ;;
+        help) options="script check chart serve" ;;
         script) options="--explain -h --help" ;;
         check) options="--explain -h --help" ;;
+        chart) options="-o --output --text -h --help" ;;
         serve) options="--clients --servers --rounds --hold --time --quiet --record -h --help" ;;
     esac
     case "$command $before" in
+        "chart --output")
+            mapfile -t COMPREPLY < <(compgen -f -- "$word"); return ;;
         "serve --clients") return ;;
         "serve --servers") return ;;
         "serve --rounds") return ;;
@@ -23,6 +26,8 @@ _qdemo() {
             [ "${word#-}" = "$word" ] && mapfile -t COMPREPLY < <(compgen -f -- "$word") ;;
         check)
             [ "${word#-}" = "$word" ] && mapfile -t COMPREPLY < <(compgen -d -- "$word") ;;
+        chart)
+            [ "${word#-}" = "$word" ] && mapfile -t COMPREPLY < <(compgen -f -- "$word") ;;
     esac
 }
 complete -o filenames -F _qdemo qdemo
