@@ -116,7 +116,7 @@ call  thread 1 (process 1)           thread 2 (process 2)           thread 3 (pr
    6  | receive on 1                 P                              S
       |<------------------- send 4 -oP                              S
    7  | receive on 1                 P                              P
-      |<-----------------------------P--------------------- send 5 -oP";
+      |<-----------------------------P-------------------- send 5 -oP";
     expect_text(&rt, rt.alloc(), script, wanted);
 }
 
