@@ -4,6 +4,7 @@ use Rattle.qbase.specs.declared.errno.Errno.TheVariants.{Srch, Down}
 use Rattle.balsaeuchre.specs.Lawful.{IsLawful, followed_by}
 use Rattle.balsaeuchre.specs.OnlyRun.{HadMemory}
 use Rattle.balsaeuchre_uses.specs.FirstMessage as first
+use Rattle.balsaeuchre_uses.specs.ThreeThreads as three
 use Rattle.balsaeuchre_uses.specs.ShutDown as shut
 use Rattle.balsaeuchre_uses.specs.Timeout as timeout
 
@@ -14,7 +15,7 @@ first_lawful message answer =
 pub first_memory : (message answer : List ℕ) → HadMemory (first.events message answer)
 first_memory message answer = ((λ h. cc, tt), ((λ h. cc, tt), (tt, ((λ h. cc, tt), ((λ h. cc, (λ h. cc, tt)), tt)))))
 
-pub shut_down_lawful : IsLawful shut.roster (followed_by [] shut.events)
+pub shut_down_lawful : IsLawful three.roster (followed_by [] shut.events)
 shut_down_lawful =
     ((((((((((tt, search, inl (refl, refl)), search, inl (refl, refl)), search, inl (refl, refl)), search, inl (refl, refl)), search, inl (refl, refl)), search, inl (refl, refl)), search, inl (refl, refl)), search, inl (refl, refl)), search, inl (refl, refl)), search, inr (Down, inl refl, refl))
 
@@ -22,14 +23,14 @@ pub shut_down_memory : HadMemory shut.events
 shut_down_memory =
     ((λ h. cc, tt), ((λ h. cc, tt), (tt, ((λ h. cc, tt), (tt, ((λ h. cc, (λ h. cc, tt)), ((λ h. cc, (λ h. cc, tt)), ((λ h. cc, tt), ((λ h. cc, tt), ((λ h. cc, tt), tt))))))))))
 
-pub cut_lawful : IsLawful timeout.roster (followed_by [] timeout.cut_events)
+pub cut_lawful : IsLawful three.roster (followed_by [] timeout.cut_events)
 cut_lawful =
     ((((((tt, search, inl (refl, refl)), search, inl (refl, refl)), search, inl (refl, refl)), search, inl (refl, refl)), search, inl (refl, refl)), search, inr (Srch, inl refl, refl))
 
 pub cut_memory : HadMemory timeout.cut_events
 cut_memory = ((λ h. cc, tt), ((λ h. cc, tt), (tt, ((λ h. cc, tt), ((λ h. cc, (λ h. cc, tt)), ((λ h. cc, tt), tt))))))
 
-pub told_lawful : IsLawful timeout.roster (followed_by [] timeout.told_events)
+pub told_lawful : IsLawful three.roster (followed_by [] timeout.told_events)
 told_lawful =
     (((((((tt, search, inl (refl, refl)), search, inl (refl, refl)), search, inl (refl, refl)), search, inl (refl, refl)), search, inl (refl, refl)), search, inl (refl, refl)), search, inl (refl, refl))
 

@@ -1,4 +1,5 @@
 pub mod Written
 pub mod FirstMessage
+pub mod ThreeThreads
 pub mod ShutDown
 pub mod Timeout

@@ -1,15 +1,10 @@
 -- A clean shutdown, written out.
 use Rattle.std.specs.Prelude.{List, [], ◌∷◌, pos}
 use Rattle.qbase.specs.declared.errno.Errno.TheVariants.{Srch, Down}
-use Rattle.qtables.specs.declared.member.Member.{Member}
 use Rattle.qmodel.specs.declared.call.Call.TheVariants.{ChannelCreate, ConnectAttach, Send, Receive, Reply, ChannelDestroy, ConnectDetach, Shutdown}
 use Rattle.qmodel.specs.declared.call.Mark.TheVariants as mark
-use Rattle.qmodel.specs.Worked.Runs.{member, event, ended, flags_of}
+use Rattle.qmodel.specs.Worked.Runs.{event, ended, flags_of}
 use Rattle.balsaeuchre.specs.Trace.{Event}
-
--- a server, and a process of two clients
-abbrev pub roster : List Member
-roster = member 1 1 1 ∷ member 2 2 1 ∷ member 3 2 1 ∷ []
 
 -- message 3 is answered, message 5 ends with the channel, and the last call is refused
 abbrev pub events : List Event

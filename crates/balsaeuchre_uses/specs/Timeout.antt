@@ -4,15 +4,10 @@ use Rattle.qbase.specs.declared.errno.Errno.TheVariants.{Srch, Intr}
 use Rattle.qqueue.specs.declared.item.What.TheVariants as what
 use Rattle.qbase.specs.declared.flags.ChannelFlags.{ChannelFlags}
 use Rattle.qmodel.specs.declared.call.Call.{Call}
-use Rattle.qtables.specs.declared.member.Member.{Member}
 use Rattle.qmodel.specs.declared.call.Call.TheVariants.{ChannelCreate, ConnectAttach, Send, Receive, Reply, Error, ReceivePulse, Unblock}
 use Rattle.qmodel.specs.declared.call.Mark.TheVariants as mark
-use Rattle.qmodel.specs.Worked.Runs.{member, event, ended, flags_of}
+use Rattle.qmodel.specs.Worked.Runs.{event, ended, flags_of}
 use Rattle.balsaeuchre.specs.Trace.{Event}
-
--- a server, and a process of a client and its timer
-abbrev pub roster : List Member
-roster = member 1 1 1 ∷ member 2 2 1 ∷ member 3 2 1 ∷ []
 
 -- the server holds message 3, and the timer unblocks its sender
 abbrev pub begun : ChannelFlags → List (ℕ × Call)

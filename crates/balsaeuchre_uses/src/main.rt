@@ -8,6 +8,7 @@ mod first_message;
 mod kept_waiting;
 mod one_thread;
 mod shutdown;
+mod three_threads;
 mod timeout;
 mod two_threads;
 

@@ -1,66 +1,15 @@
 //! A timeout by `Unblock`. A client's message is received and not answered, and another thread of the client's process
 //! gives up for it. What comes of that is the server's choice, by the flags of its channel.
 
-ghost use Rattle.std.specs.Prelude.{◌≡◌, [], pos, IfOk};
-ghost use Rattle.balsaeuchre.specs.Stands.{StandsAt};
-ghost use Rattle.balsaeuchre_uses.specs.Timeout.{roster, begun, cut_events, told_events};
+ghost use Rattle.std.specs.Prelude.{◌≡◌, IfOk};
+ghost use Rattle.balsaeuchre_uses.specs.ThreeThreads.{roster};
+ghost use Rattle.balsaeuchre_uses.specs.Timeout.{begun, cut_events, told_events};
 ghost use Rattle.balsaeuchre_uses.specs.Written.{IsRunOf};
 
 use crate::fault::Fault;
-use balsaeuchre::{
-    Bytes, Call, ChannelFlags, ChannelId, ConnectionId, Kernel, Priority, ProcessNo, ReceiveId,
-    Roster, ThreadNo, Trace, run,
-};
+use crate::three_threads::{CLIENT, FELLOW, SERVER, kernel_of_three, receive, reply, send};
+use balsaeuchre::{Call, ChannelFlags, ChannelId, ConnectionId, ReceiveId, ThreadNo, Trace, run};
 use std::alloc::Global;
-
-const SERVER: ThreadNo = ThreadNo(1);
-
-const CLIENT: ThreadNo = ThreadNo(2);
-
-const TIMER: ThreadNo = ThreadNo(3);
-
-/// A server, and a process of a client and its timer.
-fn kernel_of_three(alloc: Global) -> Result<Kernel, Fault>
-    ensures { IfOk result (λ kernel. StandsAt roster kernel []) }
-{
-    let mut roster = Roster::new(alloc);
-    roster.add(SERVER, ProcessNo(1), Priority::lowest())?;
-    roster.add(CLIENT, ProcessNo(2), Priority::lowest())?;
-    roster.add(TIMER, ProcessNo(2), Priority::lowest())?;
-    Ok(Kernel::new(alloc, &roster)?)
-}
-
-/// An empty message over connection 2.
-fn send(alloc: Global) -> Call
-    ensures { result ≡ Call.Send 2 [] [] }
-{
-    Call::Send {
-        coid: ConnectionId(2),
-        message: Bytes::new(alloc),
-        reply_buffer: Bytes::new(alloc),
-    }
-}
-
-/// A receive on channel 1, with no room for bytes.
-fn receive(alloc: Global) -> Call
-    ensures { result ≡ Call.Receive 1 [] }
-{
-    Call::Receive {
-        chid: ChannelId(1),
-        buffer: Bytes::new(alloc),
-    }
-}
-
-/// An answer without bytes to message 3.
-fn reply(alloc: Global) -> Call
-    ensures { result ≡ Call.Reply 3 (pos 0) [] }
-{
-    Call::Reply {
-        rcvid: ReceiveId(3),
-        status: 0,
-        bytes: Bytes::new(alloc),
-    }
-}
 
 /// The calls 1 to 4, by which the server holds message 3, and call 5, which is the timeout.
 fn until_the_timeout(alloc: Global, flags: ChannelFlags) -> Result<Vec<(ThreadNo, Call)>, Fault>
@@ -71,7 +20,7 @@ fn until_the_timeout(alloc: Global, flags: ChannelFlags) -> Result<Vec<(ThreadNo
         (CLIENT, Call::ConnectAttach(ChannelId(1))),
         (CLIENT, send(alloc)),
         (SERVER, receive(alloc)),
-        (TIMER, Call::Unblock(CLIENT)),
+        (FELLOW, Call::Unblock(CLIENT)),
     ]?;
     Ok(calls)
 }

@@ -5,7 +5,8 @@ ghost use Rattle.std.specs.Prelude.{ℕ};
 
 use std::marker::Model;
 
-/// The number of a thread, 0 to 255; a roster has at most 64 of them.
+/// The number of a thread, 0 to 255; a roster has at most 64 of them. `first_message.rt` of `crates/balsaeuchre_uses`
+/// names two.
 #[derive(Clone, Copy, Debug, PartialEq, Eq)]
 pub struct ThreadNo(pub u8);
 
@@ -17,7 +18,8 @@ impl Model for ThreadNo {
     ghost inverse = { λ n. record { 0 = n } };
 }
 
-/// The number of a process, 0 to 255. Threads of one process share its channels and connections.
+/// The number of a process, 0 to 255. Threads of one process share its channels and connections, as the client and its
+/// fellow do in `timeout.rt` of `crates/balsaeuchre_uses`.
 #[derive(Clone, Copy, Debug, PartialEq, Eq)]
 pub struct ProcessNo(pub u8);
 

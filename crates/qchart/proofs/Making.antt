@@ -17,17 +17,9 @@ use Rattle.qstate.specs.Threads.{members_of}
 use Rattle.qkernel.specs.Runs.{RunsAtTraces}
 use Rattle.qkernel.specs.Stands.{AnswersAtTraces, StandsAt}
 use Rattle.qkernel.specs.State.{State}
+use Rattle.qkernel.proofs.Running.{runs_more}
 use Rattle.qchart.specs.declared.row.Row.{Row}
 use Rattle.qchart.specs.Rows.{HasRows, TellsBlocked, arrows_from, blocked_from, event_arrows, event_thread, row_arrows, row_blocked, row_thread}
-
--- one event more
-runs_more : (old mid new : State) (events : List Event) (e : Event) → RunsAtTraces old events mid → is_some (member_at (members_of mid.threads) e.thread) ≡ true → AnswersAtTraces mid e.thread e.call e.endings new
-    → RunsAtTraces old (events ++ e ∷ []) new
-runs_more old mid new events e run known step = λ roster past l st.
-    let now = run roster past l st in
-    let next = step roster (followed_by past events) now.0 now.1 in
-    let among : is_some (member_at roster e.thread) ≡ true = subst (λ r. is_some (member_at r e.thread) ≡ true) now.1.roster_is known in
-    rw (followed_push past events e) ((now.0, among, next.0), next.1)
 
 -- the arrows of one event more
 arrows_push : (before : List ℕ) (events : List Event) (e : Event) → arrows_from before (events ++ e ∷ []) ≡ arrows_from before events ++ event_arrows (before ++ map event_thread events) e ∷ []

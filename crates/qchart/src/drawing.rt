@@ -1,8 +1,7 @@
 //! A script's chart, from its text to the text of the drawing.
 
-ghost use Rattle.std.specs.Prelude.{◌≡◌, [], IfOk, IfErr};
+ghost use Rattle.std.specs.Prelude.{IfOk, IfErr};
 ghost use Rattle.std.specs.List.Sorted.{IsPermutation};
-ghost use Rattle.qscript.specs.Enrolled.{roster_with, AllJoin};
 ghost use Rattle.qscript.specs.Script.{CanRun};
 ghost use Rattle.qchart.specs.Charts.{IsChartOf, IsCharted, IsChartFault};
 
@@ -12,9 +11,9 @@ use crate::run::rows_of;
 use crate::svg::svg_of;
 use crate::text::text_of;
 use qkernel::kernel::Kernel;
+use qscript::script::roster_with_all;
 use qscript::{Script, parse};
 use qtables::member::Member;
-use qtables::roster::Roster;
 use std::alloc::{AllocError, Global};
 
 /// How many calls a chart may have.
@@ -61,7 +60,7 @@ fn chart_of(alloc: Global, script: Script) -> Result<Chart, AllocError>
     requires { CanRun script.roster.items script.calls.items }
     ensures { IfOk result (IsChartOf script.roster.items script.calls.items) }
 {
-    let roster = roster_of(alloc, script.roster.as_slice());
+    let roster = roster_with_all(alloc, script.roster.as_slice());
     let mut kernel = match Kernel::new(alloc, &roster) {
         Ok(kernel) => kernel,
         Err(_) => return Err(AllocError),
@@ -69,22 +68,6 @@ fn chart_of(alloc: Global, script: Script) -> Result<Chart, AllocError>
     let rows = rows_of(alloc, &mut kernel, roster.members(), script.calls)?;
     let lifelines = by_process(script.roster)?;
     Ok(Chart { lifelines, rows })
-}
-
-/// The roster of these threads.
-#[tactic(auto, using(qscript::proofs::Joining::joins_at, qscript::proofs::Joining::enrolled_next))]
-fn roster_of(alloc: Global, members: &[Member]) -> Roster
-    requires { AllJoin [] members.now }
-    ensures { result ≡ roster_with [] members.now }
-{
-    let mut roster = Roster::new(alloc);
-    'joining: for member in members {
-        match roster.add(member.thread, member.process, member.priority) {
-            Ok(()) => {}
-            Err(_) => unreachable!("each thread comes once, and there are at most 64"),
-        }
-    }
-    roster
 }
 
 /// The threads in the order of their processes, and those of a process in rising number.

@@ -23,13 +23,14 @@ use Rattle.qmodel.proofs.Properties.All.{has_properties}
 runs_none : (s : State) → RunsAtTraces s [] s
 runs_none s = λ roster past l st. (l, st)
 
-runs_more : (old mid new : State) (events : List Event) (t : ℕ) (c : Call) (X : List Completion) → RunsAtTraces old events mid → is_some (member_at (members_of mid.threads) t) ≡ true → AnswersAtTraces mid t c X new
-    → RunsAtTraces old (events ++ record { thread = t; call = c; endings = X } ∷ []) new
-runs_more old mid new events t c X run known step = λ roster past l st.
+-- one event more
+pub runs_more : (old mid new : State) (events : List Event) (e : Event) → RunsAtTraces old events mid → is_some (member_at (members_of mid.threads) e.thread) ≡ true → AnswersAtTraces mid e.thread e.call e.endings new
+    → RunsAtTraces old (events ++ e ∷ []) new
+runs_more old mid new events e run known step = λ roster past l st.
     let now = run roster past l st in
     let next = step roster (followed_by past events) now.0 now.1 in
-    let among : is_some (member_at roster t) ≡ true = subst (λ r. is_some (member_at r t) ≡ true) now.1.roster_is known in
-    rw (followed_push past events (record { thread = t; call = c; endings = X })) ((now.0, among, next.0), next.1)
+    let among : is_some (member_at roster e.thread) ≡ true = subst (λ r. is_some (member_at r e.thread) ≡ true) now.1.roster_is known in
+    rw (followed_push past events e) ((now.0, among, next.0), next.1)
 
 -- ---- the run so far, where the calls to come are todo
 
@@ -86,7 +87,7 @@ module _ (old : State) (calls : List (ℕ × Call)) (now : State) (log : Logged)
         let next : with_next (record log { endings = log.endings ++ X; ending_room = log.ending_room - length X })
         ≡ record { events = log.events ++ as_event q X ∷ []; noted = todo; endings = []; call_room = log.call_room; ending_room = log.ending_room - length X } = rw (r.noted, mine) refl in
         rw next (record {
-          ran = runs_more old now new log.events q.0 q.1 X r.ran next_known step;
+          ran = runs_more old now new log.events (as_event q X) r.ran next_known step;
           told = told_push log.events q X todo ∙ r.told;
           noted = refl;
           none = refl;

@@ -35,10 +35,10 @@ abbrev pub Makes : State → Turn → Call → List Completion → State → Typ
 Makes old turn c endings new = Steps (state_before turn old) turn.thread c endings new
 
 -- how the call of this turn ends that is refused and gives no buffer back
-abbrev pub refused : Turn → Errno → Completion
-refused turn e = record { call = turn.made + 1; thread = turn.thread; mark = mark.Failed e; buffer = [] }
+abbrev pub turn_refusal : Turn → Errno → Completion
+turn_refusal turn e = record { call = turn.made + 1; thread = turn.thread; mark = mark.Failed e; buffer = [] }
 
 -- the call is made with these endings; or it is refused with an error, and none is put yet
 abbrev pub MakesOrRefuses : {T : Type 0} → State → Turn → Call → Result T Errno → List Completion → State → Type 0
 MakesOrRefuses old turn c (Ok done) endings new = Makes old turn c endings new
-MakesOrRefuses old turn c (Err e) endings new = (endings ≡ []) × Makes old turn c (refused turn e ∷ []) new
+MakesOrRefuses old turn c (Err e) endings new = (endings ≡ []) × Makes old turn c (turn_refusal turn e ∷ []) new

@@ -14,18 +14,11 @@ use Rattle.qstate.specs.Threads.{members_of}
 use Rattle.qkernel.specs.Runs.{RunsAtTraces, AllKnown}
 use Rattle.qkernel.specs.Stands.{AnswersAtTraces}
 use Rattle.qkernel.specs.State.{State}
+use Rattle.qkernel.proofs.Running.{runs_more}
 use Rattle.qscript.specs.Printing.Laws.{with_more}
 use Rattle.qscript.specs.Printing.Printed.{shows_buffer}
 use Rattle.qscript.specs.Printing.Printer.{HasPrinted, HasRun}
 use Rattle.qscript.specs.declared.printing.printer.Printer.{Printer}
-
-runs_more : (old mid new : State) (events : List Event) (e : Event) → RunsAtTraces old events mid → is_some (member_at (members_of mid.threads) e.thread) ≡ true → AnswersAtTraces mid e.thread e.call e.endings new
-    → RunsAtTraces old (events ++ e ∷ []) new
-runs_more old mid new events e run known step = λ roster past l st.
-    let now = run roster past l st in
-    let next = step roster (followed_by past events) now.0 now.1 in
-    let among : is_some (member_at roster e.thread) ≡ true = subst (λ r. is_some (member_at r e.thread) ≡ true) now.1.roster_is known in
-    rw (followed_push past events e) ((now.0, among, next.0), next.1)
 
 -- the run so far: these calls were made, and the roster stayed as it was
 pub record Going (old : State) (calls : List (ℕ × Call)) (now : State) (p : Printer) : Type 0 where

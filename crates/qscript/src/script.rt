@@ -24,9 +24,9 @@ use qtables::roster::Roster;
 use std::alloc::{AllocError, Global};
 use std::io::{Read, Write};
 
-/// The roster of these threads.
+/// The roster of these threads. Each comes once, and there are at most 64.
 #[tactic(auto, using(crate::proofs::Joining::joins_at, crate::proofs::Joining::enrolled_next))]
-fn roster_of(alloc: Global, members: &[Member]) -> Roster
+pub fn roster_with_all(alloc: Global, members: &[Member]) -> Roster
     requires { AllJoin [] members.now }
     ensures { result ≡ roster_with [] members.now }
 {
@@ -68,7 +68,7 @@ fn run_text(alloc: Global, script: Script) -> Result<String, ScriptFault>
     ensures ok { IfOk result (λ text. IsTextOfRun script.roster.items script.calls.items (string_bytes text)) }
     ensures err { IfErr result (λ e. e ≡ ScriptFault.NoMemory) }
 {
-    let roster = roster_of(alloc, script.roster.as_slice());
+    let roster = roster_with_all(alloc, script.roster.as_slice());
     let mut kernel = match Kernel::new(alloc, &roster) {
         Ok(kernel) => kernel,
         Err(_) => return Err(ScriptFault::NoMemory),

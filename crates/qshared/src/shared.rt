@@ -289,6 +289,7 @@ impl<K: Tie> Shared<K, Kept<K>> {
 
     /// Closes the kernel, once all ports are handed in: its trace, how many events each port made, and the endings
     /// that weren't collected. What a port took, followed by what is left for its thread, is what is due to it.
+    /// `two_threads.rt` of `crates/balsaeuchre_uses` closes one.
     pub fn finish(self, ports: Vec<Port<K>>) -> Report
         requires named { K.parts ≡ K.cells.slots }
         requires all { AreAll (λ p. thread_of p.seat) K.cells.slots ports.items }
@@ -310,7 +311,8 @@ impl<K: Tie> Shared<K, Kept<K>> {
 
 impl<K: Tie> Shared<K, Unkept<K>> {
     /// Opens a kernel of these parts that keeps no past, with a port for each thread, in rising thread number. The
-    /// limit of the parts has no meaning for it. `NoMemory` is the only error, and drops the parts.
+    /// limit of the parts has no meaning for it. `NoMemory` is the only error, and drops the parts. `course.rt` of
+    /// `crates/qroundtrips` opens and closes one.
     pub fn open(alloc: Global, parts: Parts) -> Result<(Shared<K, Unkept<K>>, Vec<Port<K>>), Errno>
         requires named { AreParts K.roster K.cells K.lists K.name K.parts parts }
         ensures ports { IfOk result (λ r. AreAll (λ p. thread_of p.seat) K.cells.slots r.1.items) }

@@ -1,4 +1,4 @@
-use Rattle.std.proofs.Common.{◌≡◌, List, map, refl, ap, ◌∙◌}
+use Rattle.std.proofs.Common.{◌≡◌, map, refl, ap, ◌∙◌}
 use Rattle.qmodel.specs.Worked.Runs.{flags_of}
 use Rattle.balsaeuchre.specs.OnlyRun.{event_call}
 use Rattle.balsaeuchre_uses.specs.FirstMessage.{roster, events}

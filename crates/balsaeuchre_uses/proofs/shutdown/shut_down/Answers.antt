@@ -1,7 +1,8 @@
 use Rattle.std.proofs.Common.{◌≡◌, map, refl, ap, ◌∙◌}
 use Rattle.qmodel.specs.Worked.Runs.{flags_of}
 use Rattle.balsaeuchre.specs.OnlyRun.{event_call}
-use Rattle.balsaeuchre_uses.specs.ShutDown.{roster, events}
+use Rattle.balsaeuchre_uses.specs.ThreeThreads.{roster}
+use Rattle.balsaeuchre_uses.specs.ShutDown.{events}
 use Rattle.balsaeuchre_uses.proofs.Lawful.{shut_down_lawful, shut_down_memory}
 use Rattle.balsaeuchre_uses.proofs.RunLemmas.{run_of}
 use Rattle.balsaeuchre_uses.proofs.shutdown.shut_down.Goals as goal

@@ -1,7 +1,8 @@
 use Rattle.std.proofs.Common.{◌≡◌, map, refl, ap, ◌∙◌}
 use Rattle.qmodel.specs.Worked.Runs.{flags_of}
 use Rattle.balsaeuchre.specs.OnlyRun.{event_call}
-use Rattle.balsaeuchre_uses.specs.Timeout.{roster, cut_events}
+use Rattle.balsaeuchre_uses.specs.ThreeThreads.{roster}
+use Rattle.balsaeuchre_uses.specs.Timeout.{cut_events}
 use Rattle.balsaeuchre_uses.proofs.Lawful.{cut_lawful, cut_memory}
 use Rattle.balsaeuchre_uses.proofs.RunLemmas.{run_of}
 use Rattle.balsaeuchre_uses.proofs.timeout.cut.Goals as goal

@@ -7,7 +7,7 @@ use Rattle.qchart.proofs.drawing.chart_of.Goals as goal
 
 pub rows_of-requires-clause-known : goal.rows_of-requires-clause-known
 rows_of-requires-clause-known c =
-    let roster = c.roster_of-roster.ensures ∙ ap (roster_with []) c.as_slice.ensures.value in
+    let roster = c.roster_with_all-roster.ensures ∙ ap (roster_with []) c.as_slice.ensures.value in
     rw (c.in-Ok.ensures.stands.roster_is, roster) c.requires.callers
 
 pub rows_of-requires-clause-limit : goal.rows_of-requires-clause-limit
@@ -15,7 +15,7 @@ rows_of-requires-clause-limit c = omega (arith, c.in-Ok.ensures.stands.made, c.r
 
 pub returns : goal.returns
 returns c =
-    let roster = c.roster_of-roster.ensures ∙ ap (roster_with []) c.as_slice.ensures.value in
+    let roster = c.roster_with_all-roster.ensures ∙ ap (roster_with []) c.as_slice.ensures.value in
     let stands : StandsAt (roster_with [] c.args.script.roster.items) c.in-Ok.kernel [] = rw (← roster) c.in-Ok.ensures.stands in
     let rises : IsRoster (roster_with [] c.args.script.roster.items) = subst IsRoster (c.members.ensures.all ∙ roster) c.members.ensures.rising in
     charted c.args.script.roster.items c.args.script.calls.items c.in-Ok.kernel c.rows_of.new.kernel (record { lifelines = c.in_ok-lifelines.lifelines; rows = c.in_ok-rows.rows }) rises stands c.in_ok-rows.ensures c.in_ok-lifelines.ensures

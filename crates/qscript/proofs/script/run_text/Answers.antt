@@ -7,7 +7,7 @@ use Rattle.qscript.proofs.script.run_text.Goals as goal
 
 pub run_calls-requires-clause-known : goal.run_calls-requires-clause-known
 run_calls-requires-clause-known c =
-    let roster = c.roster_of-roster.ensures ∙ ap (roster_with []) c.as_slice.ensures.value in
+    let roster = c.roster_with_all-roster.ensures ∙ ap (roster_with []) c.as_slice.ensures.value in
     rw (c.in-Ok.ensures.stands.roster_is, roster) c.requires.callers
 
 pub run_calls-requires-clause-limit : goal.run_calls-requires-clause-limit
@@ -23,7 +23,7 @@ run_calls-requires-clause-begun c = record {
 
 pub returns-clause-ok : goal.returns-clause-ok
 returns-clause-ok c =
-    let roster = c.roster_of-roster.ensures ∙ ap (roster_with []) c.as_slice.ensures.value in
+    let roster = c.roster_with_all-roster.ensures ∙ ap (roster_with []) c.as_slice.ensures.value in
     let stands : StandsAt (roster_with [] c.args.script.roster.items) c.in-Ok.kernel [] = rw (← roster) c.in-Ok.ensures.stands in
     text_of_calls c.args.script.roster.items c.args.script.calls.items c.in-Ok.kernel c.run_calls.new.kernel c.run_calls.new.printer c.in_ok-blocked.blocked.items _ stands c.made.ensures.sound.roster
     c.in_ok-run_calls.ensures c.in_ok-blocked.ensures (λ run so_far. c.in_ok-text.ensures run so_far ∙ ap (λ b. printed run b) c.as_slice-2.ensures.value)

@@ -1,6 +1,6 @@
 use Rattle.std.proofs.Common.{◌≡◌, refl}
-use Rattle.balsaeuchre_uses.specs.Timeout.{roster}
-use Rattle.balsaeuchre_uses.proofs.timeout.kernel_of_three.Goals as goal
+use Rattle.balsaeuchre_uses.specs.ThreeThreads.{roster}
+use Rattle.balsaeuchre_uses.proofs.three_threads.kernel_of_three.Goals as goal
 
 pub returns : goal.returns
 returns c =

@@ -1,8 +1,0 @@
-use Rattle.std.proofs.Common.{◌≡◌, refl}
-use Rattle.balsaeuchre_uses.specs.ShutDown.{roster}
-use Rattle.balsaeuchre_uses.proofs.shutdown.kernel_of_three.Goals as goal
-
-pub returns : goal.returns
-returns c =
-    let members : c.add-3.new.self ≡ roster = rw (c.in_ok-add-3.ensures.ok, c.in_ok-add-2.ensures.ok, c.in_ok-add.ensures.ok, c.new-roster.ensures, c.lowest.ensures, c.lowest-2.ensures, c.lowest-3.ensures) refl in
-    rw (← members) c.in_ok-new.ensures.stands

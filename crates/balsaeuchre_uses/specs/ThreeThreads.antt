@@ -1,0 +1,8 @@
+-- The roster of the uses with three threads.
+use Rattle.std.specs.Prelude.{List, [], ◌∷◌}
+use Rattle.qtables.specs.declared.member.Member.{Member}
+use Rattle.qmodel.specs.Worked.Runs.{member}
+
+-- a server, and a process of a client and another thread
+abbrev pub roster : List Member
+roster = member 1 1 1 ∷ member 2 2 1 ∷ member 3 2 1 ∷ []

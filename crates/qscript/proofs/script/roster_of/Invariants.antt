@@ -1,6 +1,0 @@
-use Rattle.std.proofs.Common.{◌≡◌, [], take}
-use Rattle.qscript.specs.Enrolled.{roster_with}
-use Rattle.qscript.proofs.script.roster_of.Given as goal
-
-abbrev pub invariant-joining : goal.invariant-joining
-invariant-joining l = l.roster ≡ roster_with [] (take l.member-index l.members)
