@@ -7,6 +7,7 @@ use Rattle.balsaeuchre_uses.specs.FirstMessage as first
 use Rattle.balsaeuchre_uses.specs.ThreeThreads as three
 use Rattle.balsaeuchre_uses.specs.ShutDown as shut
 use Rattle.balsaeuchre_uses.specs.Timeout as timeout
+use Rattle.balsaeuchre_uses.specs.Carried as carried
 
 pub first_lawful : (message answer : List ℕ) → IsLawful first.roster (followed_by [] (first.events message answer))
 first_lawful message answer =
@@ -36,3 +37,11 @@ told_lawful =
 
 pub told_memory : HadMemory timeout.told_events
 told_memory = ((λ h. cc, tt), ((λ h. cc, tt), (tt, ((λ h. cc, tt), ((λ h. cc, tt), ((λ h. cc, tt), ((λ h. cc, (λ h. cc, tt)), tt)))))))
+
+pub carried_lawful : IsLawful carried.roster (followed_by [] carried.events)
+carried_lawful =
+    (((((((((((((tt, search, inl (refl, refl)), search, inl (refl, refl)), search, inl (refl, refl)), search, inl (refl, refl)), search, inl (refl, refl)), search, inl (refl, refl)), search, inl (refl, refl)), search, inl (refl, refl)), search, inl (refl, refl)), search, inl (refl, refl)), search, inl (refl, refl)), search, inl (refl, refl)), search, inl (refl, refl))
+
+pub carried_memory : HadMemory carried.events
+carried_memory =
+    ((λ h. cc, tt), ((λ h. cc, tt), ((λ h. cc, tt), ((λ h. cc, tt), ((λ h. cc, tt), (tt, (tt, ((λ h. cc, tt), (tt, ((λ h. cc, tt), ((λ h. cc, tt), ((λ h. cc, (λ h. cc, tt)), ((λ h. cc, (λ h. cc, tt)), tt)))))))))))))

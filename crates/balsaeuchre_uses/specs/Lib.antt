@@ -2,4 +2,5 @@ pub mod Written
 pub mod FirstMessage
 pub mod ThreeThreads
 pub mod ShutDown
+pub mod Carried
 pub mod Timeout

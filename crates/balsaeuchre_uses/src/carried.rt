@@ -1,6 +1,11 @@
 //! A priority carried through two servers. An urgent client asks a server, which asks a store for it: both work at the
 //! client's priority, and the request at the store goes before one that was sent first and is less urgent.
 
+ghost use Rattle.std.specs.Prelude.{◌≡◌, [], pos, IfOk};
+ghost use Rattle.balsaeuchre.specs.Stands.{StandsAt};
+ghost use Rattle.balsaeuchre_uses.specs.Carried.{roster, events};
+ghost use Rattle.balsaeuchre_uses.specs.Written.{IsRunOf};
+
 use crate::fault::Fault;
 use balsaeuchre::{
     Bytes, Call, ChannelFlags, ChannelId, ConnectionId, Kernel, Priority, ProcessNo, ReceiveId,
@@ -16,11 +21,23 @@ const URGENT: ThreadNo = ThreadNo(3);
 
 const MIDDLING: ThreadNo = ThreadNo(4);
 
+/// The priority of a number; a fault for 0.
+fn level(number: u8) -> Result<Priority, Fault>
+    ensures { IfOk result (λ priority. priority ≡ number) }
+{
+    match Priority::new(number) {
+        Some(priority) => Ok(priority),
+        None => Err(Fault::Unexpected),
+    }
+}
+
 /// Four threads, each a process of its own: the store and the server of priority 10, the clients of 40 and 20.
-fn kernel_of_four(alloc: Global) -> Result<Kernel, Fault> {
-    let low = Priority::new(10).ok_or(Fault::Unexpected)?;
-    let high = Priority::new(40).ok_or(Fault::Unexpected)?;
-    let middling = Priority::new(20).ok_or(Fault::Unexpected)?;
+fn kernel_of_four(alloc: Global) -> Result<Kernel, Fault>
+    ensures { IfOk result (λ kernel. StandsAt roster kernel []) }
+{
+    let low = level(10)?;
+    let high = level(40)?;
+    let middling = level(20)?;
     let mut roster = Roster::new(alloc);
     roster.add(STORE, ProcessNo(1), low)?;
     roster.add(SERVER, ProcessNo(2), low)?;
@@ -30,7 +47,9 @@ fn kernel_of_four(alloc: Global) -> Result<Kernel, Fault> {
 }
 
 /// An empty message over a connection.
-fn send(alloc: Global, coid: ConnectionId) -> Call {
+fn send(alloc: Global, coid: ConnectionId) -> Call
+    ensures { result ≡ Call.Send coid [] [] }
+{
     Call::Send {
         coid,
         message: Bytes::new(alloc),
@@ -39,7 +58,9 @@ fn send(alloc: Global, coid: ConnectionId) -> Call {
 }
 
 /// A receive on a channel, with no room for bytes.
-fn receive(alloc: Global, chid: ChannelId) -> Call {
+fn receive(alloc: Global, chid: ChannelId) -> Call
+    ensures { result ≡ Call.Receive chid [] }
+{
     Call::Receive {
         chid,
         buffer: Bytes::new(alloc),
@@ -47,7 +68,9 @@ fn receive(alloc: Global, chid: ChannelId) -> Call {
 }
 
 /// An answer without bytes.
-fn reply(alloc: Global, rcvid: ReceiveId) -> Call {
+fn reply(alloc: Global, rcvid: ReceiveId) -> Call
+    ensures { result ≡ Call.Reply rcvid (pos 0) [] }
+{
     Call::Reply {
         rcvid,
         status: 0,
@@ -56,7 +79,9 @@ fn reply(alloc: Global, rcvid: ReceiveId) -> Call {
 }
 
 /// The middling client's request waits at the store, and then the urgent client asks the server.
-pub fn carried(alloc: Global) -> Result<Trace, Fault> {
+pub fn carried(alloc: Global) -> Result<Trace, Fault>
+    ensures { IfOk result (λ trace. IsRunOf roster events trace) }
+{
     let mut kernel = kernel_of_four(alloc)?;
     let calls = vec![in alloc;
         (STORE, Call::ChannelCreate(ChannelFlags::of(0))),

@@ -1,0 +1,17 @@
+-- proofs/carried/carried/Answers.antt
+use Rattle.std.proofs.Common.{◌≡◌, map, refl, ap, ◌∙◌}
+use Rattle.qmodel.specs.Worked.Runs.{flags_of}
+use Rattle.balsaeuchre.specs.OnlyRun.{event_call}
+use Rattle.balsaeuchre_uses.specs.Carried.{roster, events}
+use Rattle.balsaeuchre_uses.proofs.Lawful.{carried_lawful, carried_memory}
+use Rattle.balsaeuchre_uses.proofs.RunLemmas.{run_of}
+use Rattle.balsaeuchre_uses.proofs.carried.carried.Goals as goal
+
+pub returns : goal.returns
+returns c =
+    let told : map event_call c.in_ok-run.field-0.events ≡ map event_call events =
+    let flags : c.of.result ≡ flags_of 0 = ap (λ n. flags_of n) c.of.ensures in
+    let flags-2 : c.of-2.result ≡ flags_of 0 = ap (λ n. flags_of n) c.of-2.ensures in
+    c.in_ok-run.ensures.told ∙ c.in_ok-calls.ensures.items
+    ∙ rw (c.send.ensures, c.send-2.ensures, c.send-3.ensures, c.receive.ensures, c.receive-2.ensures, c.reply.ensures, c.reply-2.ensures, flags, flags-2) refl in
+    run_of roster events c.in_ok-run.field-0 c.in_ok-kernel.ensures c.in_ok-run.ensures.headline told carried_lawful carried_memory
