@@ -14,10 +14,10 @@ pub use Rattle.qmodel.specs.Lawful
 pub use Rattle.qmodel.specs.OnlyRun
 pub use Rattle.qmodel.specs.Properties
 -- the kernel at its past, and a run of it
-pub use Rattle.qstate.specs.Threads
-pub use Rattle.qkernel.specs.State
+pub use Rattle.qstate.specs.Thread
+pub use Rattle.qkernel.specs.Kernel
 pub use Rattle.qkernel.specs.Stands
-pub use Rattle.qkernel.specs.Runs
+pub use Rattle.qkernel.specs.Run
 -- the shared kernel and its ports
 pub use Rattle.qhandoff.specs.Words
 pub use Rattle.qshared.specs.Asking

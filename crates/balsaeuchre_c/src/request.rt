@@ -41,7 +41,7 @@ pub struct Request {
     pub offset: usize,
 }
 
-fn copied(alloc: Global, bytes: &[u8]) -> Result<Bytes, Errno>
+fn copy_bytes(alloc: Global, bytes: &[u8]) -> Result<Bytes, Errno>
     ensures { MatchResult result (λ copy. copy ≡ bytes.now) (λ errno. errno ≡ Errno.NoMemory) }
 {
     let Ok(copy) = Bytes::copied(alloc, bytes) else {
@@ -58,8 +58,8 @@ impl Request {
     {
         Ok(Call::Send {
             coid: ConnectionId(self.id),
-            message: copied(alloc, sent)?,
-            reply_buffer: copied(alloc, room)?,
+            message: copy_bytes(alloc, sent)?,
+            reply_buffer: copy_bytes(alloc, room)?,
         })
     }
 
@@ -70,7 +70,7 @@ impl Request {
     {
         Ok(Call::Receive {
             chid: ChannelId(self.id),
-            buffer: copied(alloc, room)?,
+            buffer: copy_bytes(alloc, room)?,
         })
     }
 
@@ -82,7 +82,7 @@ impl Request {
         Ok(Call::Reply {
             rcvid: ReceiveId(self.id),
             status: self.status,
-            bytes: copied(alloc, sent)?,
+            bytes: copy_bytes(alloc, sent)?,
         })
     }
 
@@ -94,7 +94,7 @@ impl Request {
         Ok(Call::Read {
             rcvid: ReceiveId(self.id),
             offset: self.offset,
-            buffer: copied(alloc, room)?,
+            buffer: copy_bytes(alloc, room)?,
         })
     }
 
@@ -106,7 +106,7 @@ impl Request {
         Ok(Call::Write {
             rcvid: ReceiveId(self.id),
             offset: self.offset,
-            bytes: copied(alloc, sent)?,
+            bytes: copy_bytes(alloc, sent)?,
         })
     }
 

@@ -60,7 +60,7 @@ pub struct Row {
 impl Row {
     /// The row of an ending but for its mark, whose buffer begins at a place of the room, and of which so many
     /// bytes were written.
-    fn unmarked(ending: &Completion, start: usize, written: usize) -> Row
+    fn without_mark(ending: &Completion, start: usize, written: usize) -> Row
         ensures { IsOf result ending.now start written }
     {
         Row {
@@ -165,7 +165,7 @@ impl Row {
         }
     }
 
-    fn marked(self, mark: Mark) -> Row
+    fn with_mark(self, mark: Mark) -> Row
         ensures mark { mark_of result ≡ Some mark }
         ensures same { (ending : Completion) → (start written : ℕ) → IsOf self ending start written → IsOf result ending start written }
     {
@@ -219,6 +219,6 @@ impl Row {
     pub fn of(ending: &Completion, start: usize, written: usize) -> Row
         ensures { Tells result ending.now start written }
     {
-        Row::unmarked(ending, start, written).marked(ending.mark)
+        Row::without_mark(ending, start, written).with_mark(ending.mark)
     }
 }

@@ -2,7 +2,7 @@
 
 ghost use Rattle.std.specs.Prelude.{◌≡◌, IfOk, IfErr};
 ghost use Rattle.qkernel.specs.Stands.{AnswersAtTraces, DispatchError};
-ghost use Rattle.qstate.specs.Threads.{members_of};
+ghost use Rattle.qstate.specs.Thread.{members_of};
 
 use qbase::errno::Errno;
 use qbase::ids::ThreadNo;

@@ -3,9 +3,9 @@ use Rattle.std.proofs.Common.{◌≡◌, List, [], map, sym}
 use Rattle.qtables.specs.declared.member.Member.{Member}
 use Rattle.balsaeuchre.specs.Lawful.{IsLawful, followed_by}
 use Rattle.balsaeuchre.specs.OnlyRun.{event_call, HadMemory}
-use Rattle.balsaeuchre.specs.Runs.{Headline, IsWellRun}
+use Rattle.balsaeuchre.specs.Run.{Headline, IsWellRun}
 use Rattle.balsaeuchre.specs.Stands.{StandsAt}
-use Rattle.balsaeuchre.specs.State.{State}
+use Rattle.balsaeuchre.specs.Kernel.{State}
 use Rattle.balsaeuchre.specs.Trace.{Event, Run}
 use Rattle.balsaeuchre_uses.specs.Written.{IsRunOf}
 

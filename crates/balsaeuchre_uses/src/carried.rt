@@ -79,7 +79,7 @@ fn reply(alloc: Global, rcvid: ReceiveId) -> Call
 }
 
 /// The middling client's request waits at the store, and then the urgent client asks the server.
-pub fn carried(alloc: Global) -> Result<Trace, Fault>
+pub fn carry_priority(alloc: Global) -> Result<Trace, Fault>
     ensures { IfOk result (λ trace. IsRunOf roster events trace) }
 {
     let mut kernel = kernel_of_four(alloc)?;

@@ -3,7 +3,7 @@
 
 ghost use Rattle.std.specs.Prelude.{◌≡◌, ◌++◌, [], ◌∷◌, true, false, IfOk, IfSome, IfNone, OnErr, Some, None, if◌then◌else◌};
 
-use crate::calls::{blocked, done, ending_of, made};
+use crate::calls::{block, complete, ending_of, make};
 use crate::fault::Fault;
 use balsaeuchre::{
     Bytes, Call, ChannelFlags, ChannelId, Completion, ConnectionId, Kernel, Mark, Priority,
@@ -78,7 +78,7 @@ fn kernel_of_three(alloc: Global) -> Result<Kernel, Fault> {
 
 /// A client attaches to the channel.
 fn attach(kernel: &mut Kernel, client: ThreadNo, chid: ChannelId) -> Result<ConnectionId, Fault> {
-    match done(kernel, client, Call::ConnectAttach(chid))?.mark {
+    match complete(kernel, client, Call::ConnectAttach(chid))?.mark {
         Mark::Connection(ConnectionId(number)) => Ok(ConnectionId(number)),
         _ => Err(Fault::Unexpected),
     }
@@ -97,7 +97,7 @@ fn wish(
         message: Bytes::copied(alloc, &[wish])?,
         reply_buffer: Bytes::new(alloc),
     };
-    blocked(kernel, client, send)
+    block(kernel, client, send)
 }
 
 /// The server answers a message. It gives the ending of the client's Send.
@@ -112,7 +112,7 @@ fn answer(
         status: 0,
         bytes: Bytes::new(alloc),
     };
-    let mut endings = made(kernel, SERVER, reply)?;
+    let mut endings = make(kernel, SERVER, reply)?;
     while let Some(ending) = endings.pop() {
         if ending.thread != SERVER {
             clients.push(ending)?;
@@ -130,7 +130,7 @@ fn serve_one(
     clients: &mut Vec<Completion>,
 ) -> Result<(), Fault> {
     let buffer = Bytes::copied(alloc, &[0])?;
-    let received = done(kernel, SERVER, Call::Receive { chid, buffer })?;
+    let received = complete(kernel, SERVER, Call::Receive { chid, buffer })?;
     let Mark::Message {
         rcvid: ReceiveId(number),
         ..
@@ -158,7 +158,7 @@ fn serve_one(
 pub fn kept_waiting(alloc: Global) -> Result<Vec<Completion>, Fault> {
     let mut kernel = kernel_of_three(alloc)?;
     let create = Call::ChannelCreate(ChannelFlags::of(0));
-    let Mark::Channel(ChannelId(number)) = done(&mut kernel, SERVER, create)?.mark else {
+    let Mark::Channel(ChannelId(number)) = complete(&mut kernel, SERVER, create)?.mark else {
         return Err(Fault::Unexpected);
     };
     let chid = ChannelId(number);

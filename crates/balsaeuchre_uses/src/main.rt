@@ -42,7 +42,7 @@ fn main(rt: HostRuntime) -> Result<(), Fail> {
         &first_message::first_message(alloc, b"hello", b"world")?,
     )?;
     println!(rt; "one thread")?;
-    show(&rt, &one_thread::echoed(alloc, b"hello")?)?;
+    show(&rt, &one_thread::echo(alloc, b"hello")?)?;
     let messages = 3;
     let trace = two_threads::on_two_threads(&rt, alloc, messages)?;
     println!(rt; "two threads\n  {messages} messages, {} calls", trace.len())?;
@@ -50,9 +50,9 @@ fn main(rt: HostRuntime) -> Result<(), Fail> {
     for ending in &kept_waiting::kept_waiting(alloc)? {
         show(&rt, ending)?;
     }
-    show_all(&rt, "timeout, cut", &timeout::cut(alloc)?)?;
-    show_all(&rt, "timeout, told", &timeout::told(alloc)?)?;
-    show_all(&rt, "priority carried", &carried::carried(alloc)?)?;
+    show_all(&rt, "timeout, cut", &timeout::without_flag(alloc)?)?;
+    show_all(&rt, "timeout, told", &timeout::with_flag(alloc)?)?;
+    show_all(&rt, "priority carried", &carried::carry_priority(alloc)?)?;
     show_all(&rt, "shut down", &shutdown::shut_down(alloc)?)?;
     Ok(())
 }

@@ -1,7 +1,7 @@
 //! A server and a client in one thread. Each call goes to the kernel by `dispatch`, and each ending that comes back
 //! names its thread: the server's Reply brings the server's ending and that of the client's Send.
 
-use crate::calls::{blocked, done, ending_of, made};
+use crate::calls::{block, complete, ending_of, make};
 use crate::fault::Fault;
 use balsaeuchre::{
     Bytes, Call, ChannelFlags, ChannelId, Completion, ConnectionId, Kernel, Mark, Priority,
@@ -24,7 +24,7 @@ fn kernel_of_two(alloc: Global) -> Result<Kernel, Fault> {
 /// The server creates a channel.
 fn create(kernel: &mut Kernel) -> Result<ChannelId, Fault> {
     let call = Call::ChannelCreate(ChannelFlags::of(0));
-    match done(kernel, SERVER, call)?.mark {
+    match complete(kernel, SERVER, call)?.mark {
         Mark::Channel(ChannelId(number)) => Ok(ChannelId(number)),
         _ => Err(Fault::Unexpected),
     }
@@ -32,7 +32,7 @@ fn create(kernel: &mut Kernel) -> Result<ChannelId, Fault> {
 
 /// The client attaches to it.
 fn attach(kernel: &mut Kernel, chid: ChannelId) -> Result<ConnectionId, Fault> {
-    match done(kernel, CLIENT, Call::ConnectAttach(chid))?.mark {
+    match complete(kernel, CLIENT, Call::ConnectAttach(chid))?.mark {
         Mark::Connection(ConnectionId(number)) => Ok(ConnectionId(number)),
         _ => Err(Fault::Unexpected),
     }
@@ -45,7 +45,7 @@ fn receive(
     chid: ChannelId,
 ) -> Result<(ReceiveId, Bytes), Fault> {
     let buffer = Bytes::copied(alloc, &[0; 8])?;
-    let received = done(kernel, SERVER, Call::Receive { chid, buffer })?;
+    let received = complete(kernel, SERVER, Call::Receive { chid, buffer })?;
     match received.mark {
         Mark::Message {
             rcvid: ReceiveId(number),
@@ -57,7 +57,7 @@ fn receive(
 
 /// The client sends a message, and the server answers it with the bytes that it received. It gives the ending of the
 /// client's Send.
-pub fn echoed(alloc: Global, message: &[u8]) -> Result<Completion, Fault> {
+pub fn echo(alloc: Global, message: &[u8]) -> Result<Completion, Fault> {
     let mut kernel = kernel_of_two(alloc)?;
     let chid = create(&mut kernel)?;
     let coid = attach(&mut kernel, chid)?;
@@ -66,13 +66,13 @@ pub fn echoed(alloc: Global, message: &[u8]) -> Result<Completion, Fault> {
         message: Bytes::copied(alloc, message)?,
         reply_buffer: Bytes::copied(alloc, &[0; 8])?,
     };
-    blocked(&mut kernel, CLIENT, send)?;
+    block(&mut kernel, CLIENT, send)?;
     let (rcvid, bytes) = receive(alloc, &mut kernel, chid)?;
     let reply = Call::Reply {
         rcvid,
         status: 0,
         bytes,
     };
-    let endings = made(&mut kernel, SERVER, reply)?;
+    let endings = make(&mut kernel, SERVER, reply)?;
     ending_of(endings, CLIENT).ok_or(Fault::Unexpected)
 }

@@ -26,7 +26,7 @@ fn until_the_timeout(alloc: Global, flags: ChannelFlags) -> Result<Vec<(ThreadNo
 }
 
 /// Without a flag the Send ends at once, with `Intr`, and the server's answer comes too late.
-pub fn cut(alloc: Global) -> Result<Trace, Fault>
+pub fn without_flag(alloc: Global) -> Result<Trace, Fault>
     ensures { IfOk result (λ trace. IsRunOf roster cut_events trace) }
 {
     let mut kernel = kernel_of_three(alloc)?;
@@ -37,7 +37,7 @@ pub fn cut(alloc: Global) -> Result<Trace, Fault>
 
 /// With the flag `UNBLOCK` the client stays blocked, and the server gets a pulse that names the message. It lets the
 /// client go with a code of its own.
-pub fn told(alloc: Global) -> Result<Trace, Fault>
+pub fn with_flag(alloc: Global) -> Result<Trace, Fault>
     ensures { IfOk result (λ trace. IsRunOf roster told_events trace) }
 {
     let mut kernel = kernel_of_three(alloc)?;

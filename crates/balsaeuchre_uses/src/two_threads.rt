@@ -25,7 +25,7 @@ struct Worked<K: Tie> {
 }
 
 /// How a call ended, at once or after a wait.
-fn ended<K: Tie, L: Log, R: Wait>(
+fn make_call<K: Tie, L: Log, R: Wait>(
     rt: &R,
     shared: &Shared<K, L>,
     port: &mut Port<K>,
@@ -49,7 +49,7 @@ fn echo_all<K: Tie, L: Log, R: Wait>(
     let mut answered: u32 = 0;
     for _ in rt.forever() {
         let buffer = Bytes::copied(alloc, &[0; 8])?;
-        let received = ended(rt, shared, port, Call::Receive { chid, buffer })?;
+        let received = make_call(rt, shared, port, Call::Receive { chid, buffer })?;
         let number = match received.mark {
             Mark::Message {
                 rcvid: ReceiveId(number),
@@ -66,7 +66,7 @@ fn echo_all<K: Tie, L: Log, R: Wait>(
             status: 0,
             bytes: received.buffer,
         };
-        ended(rt, shared, port, reply)?;
+        make_call(rt, shared, port, reply)?;
         answered = answered.saturating_add(1);
     }
     unreachable!()
@@ -81,7 +81,7 @@ fn send_all<K: Tie, L: Log, R: Wait>(
     chid: ChannelId,
     messages: u32,
 ) -> Result<u32, Fault> {
-    let attached = ended(rt, shared, port, Call::ConnectAttach(chid))?;
+    let attached = make_call(rt, shared, port, Call::ConnectAttach(chid))?;
     let Mark::Connection(ConnectionId(number)) = attached.mark else {
         return Err(Fault::Unexpected);
     };
@@ -93,12 +93,12 @@ fn send_all<K: Tie, L: Log, R: Wait>(
             message: Bytes::copied(alloc, &bytes)?,
             reply_buffer: Bytes::copied(alloc, &[0; 8])?,
         };
-        let answer = ended(rt, shared, port, send)?;
+        let answer = make_call(rt, shared, port, send)?;
         if answer.buffer.as_slice() != bytes.as_slice() {
             return Err(Fault::Unexpected);
         }
     }
-    ended(rt, shared, port, Call::ConnectDetach(coid))?;
+    make_call(rt, shared, port, Call::ConnectDetach(coid))?;
     Ok(messages)
 }
 
@@ -149,7 +149,7 @@ fn run<K: Tie + Send + Sync, R: Threads + Wait + Sync>(
         return Err(Fault::Unexpected);
     };
     let create = Call::ChannelCreate(ChannelFlags::DISCONNECT);
-    let Mark::Channel(ChannelId(number)) = ended(rt, &shared, &mut own, create)?.mark else {
+    let Mark::Channel(ChannelId(number)) = make_call(rt, &shared, &mut own, create)?.mark else {
         return Err(Fault::Unexpected);
     };
     let chid = ChannelId(number);

@@ -8,7 +8,7 @@ use Rattle.qmodel.specs.Blocked.{blocked_threads_at}
 use Rattle.qmodel.specs.Lawful.{followed_by}
 use Rattle.qmodel.specs.Trace.{Run}
 use Rattle.qkernel.specs.Stands.{StandsAt}
-use Rattle.qkernel.specs.State.{State}
+use Rattle.qkernel.specs.Kernel.{State}
 use Rattle.qkernel.proofs.Running.{headline_of}
 use Rattle.qscript.specs.Enrolled.{roster_with}
 use Rattle.qchart.specs.declared.chart.Chart.{Chart}

@@ -13,10 +13,10 @@ use Rattle.qmodel.specs.Blocked.{blocked_threads_at}
 use Rattle.qmodel.specs.Lawful.{IsLawful, followed_by}
 use Rattle.qmodel.specs.OnlyRun.{event_call}
 use Rattle.qmodel.specs.Trace.{Event, Trace}
-use Rattle.qstate.specs.Threads.{members_of}
-use Rattle.qkernel.specs.Runs.{RunsAtTraces}
+use Rattle.qstate.specs.Thread.{members_of}
+use Rattle.qkernel.specs.Run.{RunsAtTraces}
 use Rattle.qkernel.specs.Stands.{AnswersAtTraces, StandsAt}
-use Rattle.qkernel.specs.State.{State}
+use Rattle.qkernel.specs.Kernel.{State}
 use Rattle.qkernel.proofs.Running.{runs_more}
 use Rattle.qchart.specs.declared.row.Row.{Row}
 use Rattle.qchart.specs.Rows.{HasRows, TellsBlocked, arrows_from, blocked_from, event_arrows, event_thread, row_arrows, row_blocked, row_thread}

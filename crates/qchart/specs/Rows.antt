@@ -8,9 +8,9 @@ use Rattle.qmodel.specs.declared.open_call.Blocked.{Blocked}
 use Rattle.qmodel.specs.Blocked.{blocked_threads_at}
 use Rattle.qmodel.specs.OnlyRun.{event_call}
 use Rattle.qmodel.specs.Trace.{Event, Trace}
-use Rattle.qkernel.specs.Runs.{RunsAtTraces}
+use Rattle.qkernel.specs.Run.{RunsAtTraces}
 use Rattle.qkernel.specs.Stands.{StandsAt}
-use Rattle.qkernel.specs.State.{State}
+use Rattle.qkernel.specs.Kernel.{State}
 use Rattle.qchart.specs.declared.arrow.Arrow.{Arrow}
 use Rattle.qchart.specs.declared.row.Row.{Row}
 use Rattle.qchart.specs.Arrows.{arrow_of}

@@ -15,27 +15,35 @@ pub fn call_words(alloc: Global, number: u64, call: &Call) -> Result<String, All
         Call::Send { .. } => format!(in alloc; "send {number}"),
         Call::Pulse { .. } => format!(in alloc; "pulse {number}"),
         Call::Shutdown => format!(in alloc; "shutdown"),
-        Call::ConnectAttach(chid) => numbered(alloc, "attach to", chid.0),
-        Call::ConnectDetach(coid) => numbered(alloc, "detach", coid.0),
-        Call::ChannelDestroy(chid) => numbered(alloc, "destroy", chid.0),
-        Call::Receive { chid, .. } => numbered(alloc, "receive on", chid.0),
-        Call::ReceivePulse(chid) => numbered(alloc, "receivepulse on", chid.0),
-        Call::Read { rcvid, .. } => numbered(alloc, "read", rcvid.0),
-        Call::Write { rcvid, .. } => numbered(alloc, "write", rcvid.0),
-        Call::Info(rcvid) => numbered(alloc, "info", rcvid.0),
-        Call::State(thread) => numbered(alloc, "state of", u64::from(thread.0)),
-        Call::Unblock(thread) => numbered(alloc, "unblock", u64::from(thread.0)),
-        Call::Reply { rcvid, status, .. } => answered(alloc, "reply", rcvid.0, "status", *status),
-        Call::Error { rcvid, code } => answered(alloc, "error", rcvid.0, "code", i64::from(*code)),
-        Call::PrioritySet { thread, priority } => set(alloc, thread.0, *priority),
+        Call::ConnectAttach(chid) => number_label(alloc, "attach to", chid.0),
+        Call::ConnectDetach(coid) => number_label(alloc, "detach", coid.0),
+        Call::ChannelDestroy(chid) => number_label(alloc, "destroy", chid.0),
+        Call::Receive { chid, .. } => number_label(alloc, "receive on", chid.0),
+        Call::ReceivePulse(chid) => number_label(alloc, "receivepulse on", chid.0),
+        Call::Read { rcvid, .. } => number_label(alloc, "read", rcvid.0),
+        Call::Write { rcvid, .. } => number_label(alloc, "write", rcvid.0),
+        Call::Info(rcvid) => number_label(alloc, "info", rcvid.0),
+        Call::State(thread) => number_label(alloc, "state of", u64::from(thread.0)),
+        Call::Unblock(thread) => number_label(alloc, "unblock", u64::from(thread.0)),
+        Call::Reply { rcvid, status, .. } => answer_label(
+            alloc, "reply", rcvid.0, "status", *status,
+        ),
+        Call::Error { rcvid, code } => answer_label(
+            alloc,
+            "error",
+            rcvid.0,
+            "code",
+            i64::from(*code),
+        ),
+        Call::PrioritySet { thread, priority } => priority_label(alloc, thread.0, *priority),
     }
 }
 
-fn numbered(alloc: Global, name: &str, number: u64) -> Result<String, AllocError> {
+fn number_label(alloc: Global, name: &str, number: u64) -> Result<String, AllocError> {
     format!(in alloc; "{name} {number}")
 }
 
-fn answered(
+fn answer_label(
     alloc: Global,
     name: &str,
     number: u64,
@@ -45,7 +53,7 @@ fn answered(
     format!(in alloc; "{name} {number} {kind} {value}")
 }
 
-fn set(alloc: Global, thread: u8, priority: Priority) -> Result<String, AllocError> {
+fn priority_label(alloc: Global, thread: u8, priority: Priority) -> Result<String, AllocError> {
     let level = priority.get();
     format!(in alloc; "setprio of {thread} to {level}")
 }
@@ -89,10 +97,10 @@ pub fn state_name(state: ThreadState) -> &'static str {
 pub fn arrow_words(alloc: Global, arrow: &Arrow) -> Result<String, AllocError> {
     let number = arrow.number;
     match arrow.what {
-        What::Message => numbered(alloc, "send", number),
-        What::Pulse => numbered(alloc, "pulse", number),
-        What::Reply(status) => answered(alloc, "reply", number, "status", status),
-        What::Error(code) => answered(alloc, "error", number, "code", i64::from(code)),
+        What::Message => number_label(alloc, "send", number),
+        What::Pulse => number_label(alloc, "pulse", number),
+        What::Reply(status) => answer_label(alloc, "reply", number, "status", status),
+        What::Error(code) => answer_label(alloc, "error", number, "code", i64::from(code)),
     }
 }
 

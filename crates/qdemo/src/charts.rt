@@ -1,7 +1,7 @@
 //! Draws the run of a script, into a file or on standard output.
 
 use crate::command::ChartRun;
-use crate::ending::{failed, told, unread, unwritten};
+use crate::ending::{end_failed, end_unread, end_unwritten, end_with};
 use qchart::drawing::drawing;
 use std::io::Read;
 use std::process::ExitCode;
@@ -16,13 +16,13 @@ pub fn run_chart<R: Files + Input + Print + Eprint + AllocGlobal>(
     match &run.file {
         Some(name) => match fs::read(rt, name.as_str()) {
             Ok(text) => draw(rt, run, text.as_slice()),
-            Err(error) => unread(rt, name.as_str(), error),
+            Err(error) => end_unread(rt, name.as_str(), error),
         },
         None => {
             let mut text = Vec::new(rt.alloc());
             match rt.reader().read_to_end(&mut text) {
                 Ok(_) => draw(rt, run, text.as_slice()),
-                Err(_) => failed(rt, "read failed"),
+                Err(_) => end_failed(rt, "read failed"),
             }
         }
     }
@@ -34,22 +34,22 @@ fn draw<R: Files + Print + Eprint + AllocGlobal>(rt: &R, run: &ChartRun, text: &
         Ok(drawn) => drawn,
         Err(fault) => {
             let status = fault.status();
-            return told(rt, format_args!("{fault}"), status);
+            return end_with(rt, format_args!("{fault}"), status);
         }
     };
     match &run.output {
         Some(name) => match fs::write(rt, name.as_str(), drawn.as_str()) {
             Ok(()) => ExitCode::SUCCESS,
-            Err(error) => unread(rt, name.as_str(), error),
+            Err(error) => end_unread(rt, name.as_str(), error),
         },
-        None => match put(rt, drawn.as_str()) {
+        None => match print_drawing(rt, drawn.as_str()) {
             Ok(()) => ExitCode::SUCCESS,
-            Err(error) => unwritten(rt, error),
+            Err(error) => end_unwritten(rt, error),
         },
     }
 }
 
 /// Prints the drawing as it is.
-fn put(rt: &impl Print, drawn: &str) -> io::Result<()> {
+fn print_drawing(rt: &impl Print, drawn: &str) -> io::Result<()> {
     print!(rt; "{drawn}")
 }

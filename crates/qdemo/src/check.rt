@@ -1,7 +1,7 @@
 //! Compares what each script of a folder prints with the trace that stands beside it.
 
 use crate::command::CheckRun;
-use crate::ending::{failed, unread, unwritten};
+use crate::ending::{end_failed, end_unread, end_unwritten};
 use crate::example::{Outcome, outcome_of};
 use qscript::explain;
 use qscript::fault::ScriptFault;
@@ -43,13 +43,13 @@ pub fn run_check<R: Files + Print + Eprint + AllocGlobal + Clone + Drop>(
     match check_all(rt, run) {
         Ok(true) => ExitCode::SUCCESS,
         Ok(false) => ExitCode::FAILURE,
-        Err(CheckFault::NoMemory) => failed(rt, "out of memory"),
-        Err(CheckFault::Unread(path, error)) => unread(rt, path.as_str(), error),
+        Err(CheckFault::NoMemory) => end_failed(rt, "out of memory"),
+        Err(CheckFault::Unread(path, error)) => end_unread(rt, path.as_str(), error),
         Err(CheckFault::NoScript) => {
             let folder = run.folder.as_str();
-            failed(rt, format_args!("{folder}: no file NAME.txt"))
+            end_failed(rt, format_args!("{folder}: no file NAME.txt"))
         }
-        Err(CheckFault::Unwritten(error)) => unwritten(rt, error),
+        Err(CheckFault::Unwritten(error)) => end_unwritten(rt, error),
     }
 }
 

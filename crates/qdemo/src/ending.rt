@@ -8,31 +8,31 @@ use std::process::ExitCode;
 const CLOSED: u8 = 141;
 
 /// Where nobody reads the output any more: without a word.
-pub fn closed() -> ExitCode {
+pub fn end_quietly() -> ExitCode {
     ExitCode::from(CLOSED)
 }
 
 /// With one line of why, and this status.
-pub fn told<D: Display + Drop>(rt: &impl Eprint, why: D, status: u8) -> ExitCode {
+pub fn end_with<D: Display + Drop>(rt: &impl Eprint, why: D, status: u8) -> ExitCode {
     let _ = eprintln!(rt; "qdemo: {why}");
     ExitCode::from(status)
 }
 
 /// Where reading, writing or memory fails.
-pub fn failed<D: Display + Drop>(rt: &impl Eprint, why: D) -> ExitCode {
-    told(rt, why, 3)
+pub fn end_failed<D: Display + Drop>(rt: &impl Eprint, why: D) -> ExitCode {
+    end_with(rt, why, 3)
 }
 
 /// Where this file or folder can't be read.
-pub fn unread(rt: &impl Eprint, path: &str, error: io::Error) -> ExitCode {
-    failed(rt, format_args!("{path}: {error}"))
+pub fn end_unread(rt: &impl Eprint, path: &str, error: io::Error) -> ExitCode {
+    end_failed(rt, format_args!("{path}: {error}"))
 }
 
 /// Where standard output can't be written.
-pub fn unwritten(rt: &impl Eprint, error: io::Error) -> ExitCode {
+pub fn end_unwritten(rt: &impl Eprint, error: io::Error) -> ExitCode {
     match error.kind() {
-        io::ErrorKind::BrokenPipe => closed(),
-        io::ErrorKind::OutOfMemory => failed(rt, "out of memory"),
-        _ => failed(rt, "write failed"),
+        io::ErrorKind::BrokenPipe => end_quietly(),
+        io::ErrorKind::OutOfMemory => end_failed(rt, "out of memory"),
+        _ => end_failed(rt, "write failed"),
     }
 }

@@ -20,7 +20,7 @@ use check::run_check;
 use clap::Error;
 use clap::error::ErrorKind;
 use command::{Action, action_of};
-use ending::{failed, told, unwritten};
+use ending::{end_failed, end_unwritten, end_with};
 use qserve::settings::Settings;
 use scripts::run_script;
 use serving::run_serve;
@@ -31,37 +31,41 @@ use std::{env, io};
 fn main(rt: HostRuntime) -> ExitCode {
     let arguments = match env::args(&rt) {
         Ok(arguments) => arguments,
-        Err(error) => return refused(&rt, error.kind()),
+        Err(error) => return end_unread_arguments(&rt, error.kind()),
     };
     let words: Result<Vec<String>, _> = arguments.collect(rt.alloc());
     let Ok(words) = words else {
-        return failed(&rt, "out of memory");
+        return end_failed(&rt, "out of memory");
     };
     match action_of(rt.alloc(), words.as_slice()) {
         Ok(Action::Script(run)) => run_script(&rt, &run),
         Ok(Action::Check(run)) => run_check(&rt, &run),
         Ok(Action::Chart(run)) => run_chart(&rt, &run),
         Ok(Action::Serve(settings, record)) => {
-            run_serve(&rt, shown(settings, rt.stderr().is_terminal()), record)
+            run_serve(
+                &rt,
+                with_progress(settings, rt.stderr().is_terminal()),
+                record,
+            )
         }
-        Err(error) => answered(&rt, &error),
+        Err(error) => end_without_action(&rt, &error),
     }
 }
 
 /// Ends a program whose words ask for no action: with the help text that they want, or with what is wrong
 /// with them. A fault of the command line has its status also where its text can't be written.
-fn answered<R: Print + Eprint>(rt: &R, error: &Error) -> ExitCode {
+fn end_without_action<R: Print + Eprint>(rt: &R, error: &Error) -> ExitCode {
     if error.kind() == ErrorKind::OutOfMemory {
-        return failed(rt, "out of memory");
+        return end_failed(rt, "out of memory");
     }
     match error.print(rt) {
-        Err(fault) if !error.use_stderr() => unwritten(rt, fault),
+        Err(fault) if !error.use_stderr() => end_unwritten(rt, fault),
         _ => ExitCode::from(error.exit_code() as u8),
     }
 }
 
 /// The settings, with progress only where standard error is a terminal.
-fn shown(settings: Settings, terminal: bool) -> Settings {
+fn with_progress(settings: Settings, terminal: bool) -> Settings {
     Settings {
         progress: settings.progress && terminal,
         ..settings
@@ -69,9 +73,9 @@ fn shown(settings: Settings, terminal: bool) -> Settings {
 }
 
 /// Ends a program whose arguments can't be read: one of them isn't UTF-8, or there is no memory.
-fn refused(rt: &impl Eprint, kind: io::ErrorKind) -> ExitCode {
+fn end_unread_arguments(rt: &impl Eprint, kind: io::ErrorKind) -> ExitCode {
     if kind == io::ErrorKind::OutOfMemory {
-        return failed(rt, "out of memory");
+        return end_failed(rt, "out of memory");
     }
-    told(rt, "an argument is not UTF-8", 2)
+    end_with(rt, "an argument is not UTF-8", 2)
 }

@@ -1,7 +1,7 @@
 //! Runs a script, from a file or from standard input.
 
 use crate::command::ScriptRun;
-use crate::ending::{closed, told, unread};
+use crate::ending::{end_quietly, end_unread, end_with};
 use crate::streams::{Outlet, Source};
 use qscript::explain;
 use qscript::fault::{LineFault, ScriptFault};
@@ -22,7 +22,7 @@ pub fn run_script<R: Files + Input + Print + Eprint + AllocGlobal>(
     };
     match fs::open(rt, name.as_str()) {
         Ok(file) => run_from(rt, run, file),
-        Err(error) => unread(rt, name.as_str(), error),
+        Err(error) => end_unread(rt, name.as_str(), error),
     }
 }
 
@@ -36,23 +36,23 @@ fn run_from<R: Print + Eprint + AllocGlobal, S: Read + Drop>(
     let mut writer = Watched::new(Outlet::new(io::writer(rt)));
     match script(rt.alloc(), &mut reader, &mut writer) {
         Ok(()) => ExitCode::SUCCESS,
-        Err(ScriptFault::Write) if writer.into_inner().is_closed() => closed(),
-        Err(fault) => refused(rt, run, fault, &reader.into_inner()),
+        Err(ScriptFault::Write) if writer.into_inner().is_closed() => end_quietly(),
+        Err(fault) => end_faulty(rt, run, fault, &reader.into_inner()),
     }
 }
 
 /// Ends a run of a script that has no run, and says why.
-fn refused<R: Eprint + AllocGlobal, S>(
+fn end_faulty<R: Eprint + AllocGlobal, S>(
     rt: &R,
     run: &ScriptRun,
     fault: ScriptFault,
     source: &Source<S>,
 ) -> ExitCode {
     if let (ScriptFault::Read, Some(name), Some(error)) = (&fault, &run.file, source.error()) {
-        return unread(rt, name.as_str(), error);
+        return end_unread(rt, name.as_str(), error);
     }
     let status = fault.status();
-    let code = told(rt, format_args!("{fault}"), status);
+    let code = end_with(rt, format_args!("{fault}"), status);
     if let (ScriptFault::Line { number, fault }, Some(text)) = (&fault, source.text()) {
         explain_fault(rt, text, *number, *fault);
     }

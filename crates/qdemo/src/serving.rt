@@ -1,6 +1,6 @@
 //! Runs a server and its clients.
 
-use crate::ending::{closed, told};
+use crate::ending::{end_quietly, end_with};
 use crate::files::RecordFiles;
 use crate::streams::Outlet;
 use qscript::watched::Watched;
@@ -34,15 +34,15 @@ fn serve_with<R: Print + Eprint + AllocGlobal + Threads + Wait + Clock + Sync, S
     store: &mut S,
 ) -> ExitCode {
     if !settings.fit() {
-        return told(rt, "worker failed", 3);
+        return end_with(rt, "worker failed", 3);
     }
     let mut writer = Watched::new(Outlet::new(io::writer(rt)));
     match serve(rt, rt.alloc(), settings, store, &mut writer) {
         Ok(()) => ExitCode::SUCCESS,
-        Err(ServeFault::Write) if writer.into_inner().is_closed() => closed(),
+        Err(ServeFault::Write) if writer.into_inner().is_closed() => end_quietly(),
         Err(fault) => {
             let status = fault.status();
-            told(rt, fault, status)
+            end_with(rt, fault, status)
         }
     }
 }

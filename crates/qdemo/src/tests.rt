@@ -27,7 +27,7 @@ fn answer(rt: &impl Abort, alloc: Global, words: &[&str]) -> Result<Action, Erro
 }
 
 /// The status for words that ask for no action, and the text.
-fn told(rt: &impl Abort, alloc: Global, words: &[&str]) -> (i32, String) {
+fn text_for(rt: &impl Abort, alloc: Global, words: &[&str]) -> (i32, String) {
     let error = answer(rt, alloc, words).err().expect(rt, "a text");
     let text = format!(in alloc; "{error}").expect(rt, "room");
     (error.exit_code(), text)
@@ -91,14 +91,14 @@ fn a_check_is_asked_for(rt: HostRuntime) {
     assert_eq!(rt; run.folder.as_str(), "a");
     assert!(rt; !run.explain);
     assert!(rt; check_run(&rt, rt.alloc(), &["check", ".", "--explain"]).explain);
-    let (status, _) = told(&rt, rt.alloc(), &["check"]);
+    let (status, _) = text_for(&rt, rt.alloc(), &["check"]);
     assert_eq!(rt; status, 2);
 }
 
 #[test]
 fn the_version_is_told(rt: HostRuntime) {
     for word in ["--version", "-V"] {
-        let (status, text) = told(&rt, rt.alloc(), &[word]);
+        let (status, text) = text_for(&rt, rt.alloc(), &[word]);
         assert_eq!(rt; status, 0);
         assert_eq!(rt; text.as_str(), "qdemo 0.9.0\n");
     }
@@ -256,25 +256,25 @@ fn a_recording_is_asked_for(rt: HostRuntime) {
     };
     assert!(rt; settings.record);
     assert_eq!(rt; name.as_str(), "a/run");
-    let (status, _) = told(&rt, rt.alloc(), &["serve", "--record"]);
+    let (status, _) = text_for(&rt, rt.alloc(), &["serve", "--record"]);
     assert_eq!(rt; status, 2);
 }
 
 #[test]
 fn a_number_out_of_range_has_status_2(rt: HostRuntime) {
     for option in ["--clients=0", "--clients=33", "--servers=0", "--servers=17"] {
-        let (status, _) = told(&rt, rt.alloc(), &["serve", option]);
+        let (status, _) = text_for(&rt, rt.alloc(), &["serve", option]);
         assert_eq!(rt; status, 2);
     }
     for option in ["--rounds=0", "--rounds=1001", "--rounds=x", "--many"] {
-        let (status, _) = told(&rt, rt.alloc(), &["serve", option]);
+        let (status, _) = text_for(&rt, rt.alloc(), &["serve", option]);
         assert_eq!(rt; status, 2);
     }
 }
 
 #[test]
 fn help_of_the_server_has_its_options_and_an_example(rt: HostRuntime) {
-    let (status, text) = told(&rt, rt.alloc(), &["help", "serve"]);
+    let (status, text) = text_for(&rt, rt.alloc(), &["help", "serve"]);
     assert_eq!(rt; status, 0);
     for line in [
         "--clients <N>",
@@ -295,7 +295,7 @@ fn help_of_the_server_has_its_options_and_an_example(rt: HostRuntime) {
 
 #[test]
 fn help_says_what_goes_in_and_out(rt: HostRuntime) {
-    let (status, text) = told(&rt, rt.alloc(), &["--help"]);
+    let (status, text) = text_for(&rt, rt.alloc(), &["--help"]);
     assert_eq!(rt; status, 0);
     assert!(rt; text.as_str().contains("Usage: qdemo <COMMAND>"));
     assert!(rt;
@@ -306,7 +306,7 @@ fn help_says_what_goes_in_and_out(rt: HostRuntime) {
 
 #[test]
 fn help_of_a_script_has_flags_marks_errors_and_an_example(rt: HostRuntime) {
-    let (status, text) = told(&rt, rt.alloc(), &["help", "script"]);
+    let (status, text) = text_for(&rt, rt.alloc(), &["help", "script"]);
     assert_eq!(rt; status, 0);
     let lines = [
         "1 (FIXED_PRIORITY), 2 (UNBLOCK) and 4 (DISCONNECT)",
@@ -324,14 +324,14 @@ fn help_of_a_script_has_flags_marks_errors_and_an_example(rt: HostRuntime) {
 
 #[test]
 fn a_faulty_command_line_has_status_2(rt: HostRuntime) {
-    let (status, text) = told(&rt, rt.alloc(), &[]);
+    let (status, text) = text_for(&rt, rt.alloc(), &[]);
     assert_eq!(rt; status, 2);
     assert!(rt; text.as_str().contains("requires a subcommand"));
-    let (status, text) = told(&rt, rt.alloc(), &["scripts"]);
+    let (status, text) = text_for(&rt, rt.alloc(), &["scripts"]);
     assert_eq!(rt; status, 2);
     assert!(rt; text.as_str().contains("unrecognized subcommand 'scripts'"));
     for words in [["script", "a", "b"], ["check", "a", "b"]] {
-        let (status, text) = told(&rt, rt.alloc(), &words);
+        let (status, text) = text_for(&rt, rt.alloc(), &words);
         assert_eq!(rt; status, 2);
         assert!(rt; text.as_str().contains("unexpected argument 'b'"));
     }

@@ -53,10 +53,10 @@ A THREAD and a PROCESS are 0 to 255, a PRIORITY is 1 to 255, and the greater goe
 first. FLAGS are the sum of 1 (FIXED_PRIORITY), 2 (UNBLOCK) and 4 (DISCONNECT). An
 id and an OFFSET are below 2^64, a STATUS is a signed number of 64 bits, and a
 VALUE and the CODE of an error are signed numbers of 32 bits. The CODE of a pulse
-is 0 to 127. Bytes (MESSAGE, DATA, a BUFFER) are hexadecimal digits (0aff), up to
-4,096 equal ones (16x00), or - for none. Empty lines and lines whose first word
-begins with # are passed over. A script has at most 64 threads and 4,194,304
-bytes, and a line 4,096.
+is -128 to 127, and the kernel refuses one below 0 (inval). Bytes (MESSAGE, DATA,
+a BUFFER) are hexadecimal digits (0aff), up to 4,096 equal ones (16x00), or - for
+none. Empty lines and lines whose first word begins with # are passed over. A
+script has at most 64 threads and 4,194,304 bytes, and a line 4,096.
 
 For each call that ends the output has a line: the number of the call that
 ended it, its own number, its thread, how it ended, and the buffer of a Send,
@@ -112,7 +112,7 @@ pub const SCRIPT_EXAMPLE: &str = "Example:
                    5 3 2 reply 0 0 -
 
 Status: 0; 1 for a faulty script; 2 for a faulty command line; 3 where reading,
-writing or memory fails.";
+writing or memory fails; 141 where nobody reads the output.";
 
 /// What `check` does, in a line.
 pub const CHECK_ABOUT: &str =
@@ -137,7 +137,7 @@ pub const CHECK_EXAMPLE: &str = "Example:
 
 Status: 0 where all are the same; 1 where one differs or is faulty; 2 for a faulty
 command line; 3 where a file can't be read, there is no script, or writing or
-memory fails.";
+memory fails; 141 where nobody reads the output.";
 
 /// What `chart` does, in a line.
 pub const CHART_ABOUT: &str =

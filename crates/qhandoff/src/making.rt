@@ -38,7 +38,7 @@ fn next_seat<T: Drop>(
 }
 
 /// So many idle cells, with the room for `close`.
-fn made<T: Drop>(alloc: Global, threads: usize) -> Result<Made<T>, AllocError>
+fn make_cells<T: Drop>(alloc: Global, threads: usize) -> Result<Made<T>, AllocError>
     requires { threads ≤ 64 }
     ensures cells { IfOk result (λ r. (count r.0 ≡ threads) × IsKernelOf r.0 r.1 × (desk r.1 ≡ seated_desk threads threads)) }
     ensures seats { IfOk result (λ r. (length r.2.items ≡ threads) × IsRow (cells_id r.0) r.2.items × ((k : ℕ) → took (get_elem? r.2.items k) ≡ [])) }
@@ -69,7 +69,7 @@ impl<T: Drop> Cells<T> {
         if threads > LIMIT {
             return Err(Errno::Inval);
         }
-        let Ok(made) = made(alloc, threads) else {
+        let Ok(made) = make_cells(alloc, threads) else {
             return Err(Errno::NoMemory);
         };
         Ok(made)

@@ -11,8 +11,8 @@ use Rattle.qtables.specs.declared.member.Member.{Member}
 use Rattle.qmodel.specs.Blocked.{blocked_thread, blocked_threads_in, blocked_threads_at}
 use Rattle.qmodel.specs.Facts.{threads_of}
 use Rattle.qkernel.specs.Stands.{StandsAt}
-use Rattle.qkernel.specs.State.{State, facts_in}
-use Rattle.qstate.specs.Threads.{members_of, open_in}
+use Rattle.qkernel.specs.Kernel.{State, facts_in}
+use Rattle.qstate.specs.Thread.{members_of, open_in}
 use Rattle.qmodel.specs.Trace.{Trace}
 use Rattle.qmodel.specs.declared.open_call.Blocked.{Blocked}
 use Rattle.qmodel.specs.declared.open_call.OpenCall.{OpenCall}

@@ -6,13 +6,13 @@ use Rattle.qtables.specs.Members.{member_at, IsRoster}
 use Rattle.qmodel.specs.declared.call.Call.{Call}
 use Rattle.qmodel.specs.declared.call.Completion.{Completion}
 use Rattle.qstate.specs.declared.thread.Thread.{Thread}
-use Rattle.qkernel.specs.Logged.{Logged, with_next}
+use Rattle.qkernel.specs.EventLog.{Logged, with_next}
 use Rattle.qmodel.specs.Lawful.{followed_by}
-use Rattle.qkernel.specs.Runs.{RunsAtTraces, AllKnown, Headline}
+use Rattle.qkernel.specs.Run.{RunsAtTraces, AllKnown, Headline}
 use Rattle.qmodel.specs.OnlyRun.{event_call}
 use Rattle.qkernel.specs.Stands.{AnswersAtTraces}
-use Rattle.qkernel.specs.State.{State}
-use Rattle.qstate.specs.Threads.{members_of, blocked_count}
+use Rattle.qkernel.specs.Kernel.{State}
+use Rattle.qstate.specs.Thread.{members_of, blocked_count}
 use Rattle.qmodel.specs.Trace.{Event}
 use Rattle.qmodel.proofs.Following.{followed_push}
 use Rattle.qmodel.proofs.OnlyRun.{only_run}

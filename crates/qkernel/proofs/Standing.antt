@@ -15,9 +15,9 @@ use Rattle.qmodel.specs.Laws.{IsOnlyCounted}
 use Rattle.qmodel.specs.Lawful.{facts_of, with_event}
 use Rattle.qmodel.specs.Past.{is_failure, priority_in}
 use Rattle.qkernel.specs.Stands.{StandsAt, Step, Steps, AnswersAtTraces, LeavesIfRefused}
-use Rattle.qkernel.specs.State.{State, IsSound, facts_in}
+use Rattle.qkernel.specs.Kernel.{State, IsSound, facts_in}
 use Rattle.qmodel.specs.Step.{Follows}
-use Rattle.qstate.specs.Threads.{members_of, open_in, level_in, ready_thread}
+use Rattle.qstate.specs.Thread.{members_of, open_in, level_in, ready_thread}
 use Rattle.qmodel.specs.Trace.{Trace}
 use Rattle.qbase.proofs.Lists.{all_filter_map}
 use Rattle.qmodel.proofs.Past.Ends.{ending_names, laws_of}

@@ -4,7 +4,7 @@ use Rattle.std.specs.List.{AllByRecursion}
 use Rattle.qmodel.specs.declared.call.Completion.{Completion}
 use Rattle.qmodel.specs.declared.call.Call.{Call}
 use Rattle.qkernel.specs.declared.trace.Entry.{Entry}
-use Rattle.qkernel.specs.Logged.{Logged}
+use Rattle.qkernel.specs.EventLog.{Logged}
 use Rattle.qmodel.specs.Trace.{Event}
 
 -- the event of an entry, whose endings stand between two places of the list of all

@@ -1,6 +1,6 @@
-pub mod Logged
+pub mod EventLog
 pub mod Kept
-pub mod State
+pub mod Kernel
 pub mod Stands
-pub mod Turns
-pub mod Runs
+pub mod Turn
+pub mod Run

@@ -8,13 +8,13 @@ use Rattle.qtables.specs.declared.member.Member.{Member}
 use Rattle.qmodel.specs.declared.call.Call.{Call}
 use Rattle.qmodel.specs.declared.call.Completion.{Completion}
 use Rattle.qmodel.specs.Answer.{Outcome, Answers, refusal_ending}
-use Rattle.qstate.specs.Channels.{channel_in, pending_in}
+use Rattle.qstate.specs.Channel.{channel_in, pending_in}
 use Rattle.qmodel.specs.Laws.{IsOnlyCounted}
 use Rattle.qmodel.specs.Lawful.{IsLawful, facts_of, with_event}
 use Rattle.qmodel.specs.Past.{is_down, channel_at, open_channels, connection_at, live_connections, open_call, pending_items, priority_of_thread}
-use Rattle.qkernel.specs.State.{State, facts_in}
+use Rattle.qkernel.specs.Kernel.{State, facts_in}
 use Rattle.qmodel.specs.Step.{Follows}
-use Rattle.qstate.specs.Threads.{members_of, open_in, level_in}
+use Rattle.qstate.specs.Thread.{members_of, open_in, level_in}
 use Rattle.qmodel.specs.Trace.{Trace}
 
 -- the kernel's roster, count of calls, whether it is shut down, channels, connections, pending items, open calls and priorities are those of the trace

@@ -2,7 +2,7 @@
 
 ghost use Rattle.std.specs.Prelude.{◌≡◌, ◌+◌, ◌-◌, ◌<◌, ◌≤◌, ◌++◌, [], ◌∷◌, length, IfOk, IsOk, OnOk, vec_len, vec_capacity};
 ghost use Rattle.arrayvec.specs.ArrayVec.{array_vec_len};
-ghost use Rattle.qkernel.specs.Logged.{with_next};
+ghost use Rattle.qkernel.specs.EventLog.{with_next};
 
 use crate::trace::{Entry, Trace};
 use qbase::ids::ThreadNo;
@@ -28,7 +28,7 @@ pub struct EventLog {
 impl Model for EventLog {
     ghost use Rattle.std.specs.Prelude.{◌-◌};
     ghost use Rattle.std.specs.Vec.{vec_len, vec_capacity};
-    ghost use Rattle.qkernel.specs.Logged.{Logged};
+    ghost use Rattle.qkernel.specs.EventLog.{Logged};
 
     ghost Value = { Logged };
 

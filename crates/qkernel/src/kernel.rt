@@ -2,7 +2,7 @@
 
 ghost use Rattle.std.specs.Prelude.{◌≡◌, ◌+◌, ◌<◌, ◌≤◌, ◌^◌, ◌↔◌, [], length, None, Some, is_some, true, false, IsTrue, if◌then◌else◌, IfOk, IfErr, OnOk};
 ghost use Rattle.qtables.specs.Members.{member_at};
-ghost use Rattle.qstate.specs.Threads.{members_of, open_in, seat_in, blocked_count};
+ghost use Rattle.qstate.specs.Thread.{members_of, open_in, seat_in, blocked_count};
 
 mod blocked;
 mod channel_create;
@@ -57,7 +57,7 @@ pub struct Kernel {
 }
 
 impl Model for Kernel {
-    ghost use Rattle.qkernel.specs.State.{State, IsSound};
+    ghost use Rattle.qkernel.specs.Kernel.{State, IsSound};
 
     ghost Value = { State };
 
@@ -68,8 +68,8 @@ impl Model for Kernel {
 
 impl Kernel {
     ghost use Rattle.qkernel.specs.Stands.{Steps, StandsAt, AnswersAtTraces, DispatchError, LeavesIfRefused};
-    ghost use Rattle.qkernel.specs.State.{IsSound};
-    ghost use Rattle.qkernel.specs.Turns.{IsTurnIn, MayCall, MakesOrRefuses};
+    ghost use Rattle.qkernel.specs.Kernel.{IsSound};
+    ghost use Rattle.qkernel.specs.Turn.{IsTurnIn, MayCall, MakesOrRefuses};
 
     /// A kernel without channels, all threads of the roster ready at the priority that they begin with. The
     /// room for thread records and open calls is made here; `NoMemory` is the only error.

@@ -2,9 +2,9 @@
 
 ghost use Rattle.std.specs.Prelude.{◌≡◌, ◌+◌, ◌<◌, ◌≤◌, ◌^◌, [], length, map, true, IfOk, IfErr, OnOk, OnErr, vec_len};
 ghost use Rattle.std.specs.List.{AllByRecursion};
-ghost use Rattle.qkernel.specs.Runs.{Headline, RunsAtTraces, AllKnown, RunError};
+ghost use Rattle.qkernel.specs.Run.{Headline, RunsAtTraces, AllKnown, RunError};
 ghost use Rattle.qmodel.specs.OnlyRun.{event_call};
-ghost use Rattle.qstate.specs.Threads.{blocked_count, members_of};
+ghost use Rattle.qstate.specs.Thread.{blocked_count, members_of};
 
 use crate::event_log::EventLog;
 use crate::kernel::{CALL_LIMIT, Kernel};

@@ -9,7 +9,7 @@ use Rattle.qmodel.specs.declared.open_call.OpenCall.{OpenCall}
 use Rattle.qmodel.specs.Ids.{ConnectionId, ThreadNo}
 use Rattle.qmodel.specs.Facts.{Facts, threads_of}
 use Rattle.qmodel.specs.Lawful.{facts_of}
-use Rattle.qmodel.specs.ThreadStates.{state_of}
+use Rattle.qmodel.specs.ThreadState.{state_of}
 use Rattle.qmodel.specs.Trace.{Trace}
 
 -- what is told of a thread, if it has an open call

@@ -1,6 +1,6 @@
 pub mod Ids
 pub mod Trace
-pub mod ThreadStates
+pub mod ThreadState
 pub mod Facts
 pub mod Rows
 pub mod Effect

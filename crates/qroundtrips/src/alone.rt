@@ -1,7 +1,7 @@
 //! The same round trips by one thread, which has the port of a client and that of a server and never waits.
 
 use crate::course::Rounds;
-use crate::workers::{Done, attached, is_answered, receive_call, reply_call, send_call};
+use crate::workers::{Done, attach, is_answered, receive_call, reply_call, send_call};
 use qkernel::call::Call;
 use qshared::log::Log;
 use qshared::port::{Called, Port};
@@ -46,7 +46,7 @@ fn rounds_of<K: Tie, L: Log, R: Wait>(
     client: &mut Port<K>,
     rounds: u32,
 ) -> u64 {
-    let Some(coid) = attached(rt, shared, client) else {
+    let Some(coid) = attach(rt, shared, client) else {
         return 0;
     };
     let mut answers: u64 = 0;

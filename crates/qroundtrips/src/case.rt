@@ -15,7 +15,7 @@ impl Case {
     /// The case that these words name: one client, server and round at least, and 64 threads at most; or `alone` and the
     /// rounds, for one thread with the ports of a client and a server. The last word `unkept` is for a kernel that keeps
     /// no past.
-    pub fn named(words: &[String]) -> Option<Case> {
+    pub fn from_words(words: &[String]) -> Option<Case> {
         let (words, kept) = match words {
             [words @ .., past] if past.as_str() == "unkept" => (words, false),
             _ => (words, true),

@@ -4,7 +4,7 @@ ghost use Rattle.qshared.specs.Naming.{AreParts};
 
 use crate::alone::alone;
 use crate::case::Case;
-use crate::workers::{Done, Task, ended, work};
+use crate::workers::{Done, Task, make_call, work};
 use qbase::errno::Errno;
 use qbase::flags::ChannelFlags;
 use qbase::ids::{ProcessNo, ThreadNo};
@@ -147,7 +147,7 @@ fn all_rounds<K: Tie + Send + Sync, L: Log + Send, R: Threads + Wait + Clock + S
 }
 
 /// Adds up what the threads did, and takes their ports.
-fn told<K: Tie>(
+fn add_up<K: Tie>(
     all: Vec<Done<K>>,
     ports: &mut Vec<Port<K>>,
     outcome: &mut Outcome,
@@ -177,7 +177,7 @@ fn course<K: Tie + Send + Sync, L: Log + Send, R: Threads + Wait + Clock + Sync>
         return Err(Stopped::Unready);
     };
     let create = Call::ChannelCreate(ChannelFlags::of(0));
-    if ended(rt, shared, first, create).is_none() {
+    if make_call(rt, shared, first, create).is_none() {
         return Err(Stopped::Unready);
     }
     let mut outcome = Outcome {
@@ -195,8 +195,8 @@ fn course<K: Tie + Send + Sync, L: Log + Send, R: Threads + Wait + Clock + Sync>
     };
     outcome.nanoseconds = nanoseconds.ok_or(Stopped::Unready)?;
     let mut ports = Vec::new(alloc);
-    told(servers, &mut ports, &mut outcome)?;
-    told(clients, &mut ports, &mut outcome)?;
+    add_up(servers, &mut ports, &mut outcome)?;
+    add_up(clients, &mut ports, &mut outcome)?;
     Ok((ports, outcome))
 }
 
@@ -210,7 +210,7 @@ fn sum_of(counts: &[u64]) -> u64 {
 }
 
 /// Each round was answered.
-fn answered(outcome: Outcome, case: Case) -> Result<Outcome, Stopped> {
+fn check_answered(outcome: Outcome, case: Case) -> Result<Outcome, Stopped> {
     if outcome.round_trips != case.clients as u64 * case.rounds as u64 {
         return Err(Stopped::Unanswered);
     }
@@ -235,7 +235,7 @@ fn run<K: Tie + Send + Sync, R: Threads + Wait + Clock + Sync>(
     if events / 3 < outcome.round_trips {
         return Err(Stopped::Unanswered);
     }
-    answered(outcome, case)
+    check_answered(outcome, case)
 }
 
 /// A course over a kernel of these parts that keeps no past.
@@ -256,11 +256,11 @@ fn run_unkept<K: Tie + Send + Sync, R: Threads + Wait + Clock + Sync>(
     if sum_of(tally.calls.as_slice()) / 3 < outcome.round_trips {
         return Err(Stopped::Unanswered);
     }
-    answered(outcome, case)
+    check_answered(outcome, case)
 }
 
 /// What the rounds of a case take.
-pub fn measured<R: Threads + Wait + Clock + Sync>(
+pub fn measure<R: Threads + Wait + Clock + Sync>(
     rt: &R,
     alloc: Global,
     case: Case,

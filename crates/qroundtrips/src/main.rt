@@ -27,15 +27,15 @@ fn main(rt: HostRuntime) -> Result<ExitCode, Fail> {
     let words: Result<Vec<String>, _> = env::args(&rt)?.skip(1).collect(rt.alloc());
     let words = words?;
     if words.is_empty() {
-        let outcome = course::measured(&rt, rt.alloc(), FEW)?;
+        let outcome = course::measure(&rt, rt.alloc(), FEW)?;
         println!(rt; "{} round trips", outcome.round_trips)?;
         return Ok(ExitCode::SUCCESS);
     }
-    let Some(case) = Case::named(words.as_slice()) else {
+    let Some(case) = Case::from_words(words.as_slice()) else {
         let _ = eprintln!(rt; "usage: qroundtrips CLIENTS SERVERS|alone ROUNDS [unkept]");
         return Ok(ExitCode::from(2));
     };
-    let outcome = course::measured(&rt, rt.alloc(), case)?;
+    let outcome = course::measure(&rt, rt.alloc(), case)?;
     let hundredths = outcome.nanoseconds / 10 / (outcome.round_trips.max(1) as u128);
     let (whole, rest) = (hundredths / 100, hundredths % 100);
     println!(rt; "{whole}.{rest:02} us")?;

@@ -28,7 +28,7 @@ pub struct Done<K: Tie> {
 }
 
 /// Makes a call and collects how it ends, unless it is refused.
-pub fn ended<K: Tie, L: Log, R: Wait>(
+pub fn make_call<K: Tie, L: Log, R: Wait>(
     rt: &R,
     shared: &Shared<K, L>,
     port: &mut Port<K>,
@@ -42,12 +42,12 @@ pub fn ended<K: Tie, L: Log, R: Wait>(
 }
 
 /// Attaches the client to the channel.
-pub fn attached<K: Tie, L: Log, R: Wait>(
+pub fn attach<K: Tie, L: Log, R: Wait>(
     rt: &R,
     shared: &Shared<K, L>,
     port: &mut Port<K>,
 ) -> Option<u64> {
-    match ended(rt, shared, port, Call::ConnectAttach(CHANNEL))?.mark {
+    match make_call(rt, shared, port, Call::ConnectAttach(CHANNEL))?.mark {
         Mark::Connection(ConnectionId(number)) => Some(number),
         _ => None,
     }
@@ -96,7 +96,7 @@ pub fn reply_call(alloc: Global, received: &Completion) -> Option<Call> {
 }
 
 /// Sends 4 bytes, and whether the same 4 came back.
-fn sent<K: Tie, L: Log, R: Wait>(
+fn send_once<K: Tie, L: Log, R: Wait>(
     rt: &R,
     alloc: Global,
     shared: &Shared<K, L>,
@@ -104,7 +104,7 @@ fn sent<K: Tie, L: Log, R: Wait>(
     coid: u64,
     message: [u8; 4],
 ) -> Option<bool> {
-    let completion = ended(rt, shared, port, send_call(alloc, coid, message)?)?;
+    let completion = make_call(rt, shared, port, send_call(alloc, coid, message)?)?;
     Some(is_answered(&completion, message))
 }
 
@@ -117,13 +117,13 @@ fn send_all<K: Tie, L: Log, R: Wait>(
     rounds: u32,
 ) -> u64 {
     let number = port.thread().0;
-    let Some(coid) = attached(rt, shared, port) else {
+    let Some(coid) = attach(rt, shared, port) else {
         return 0;
     };
     let mut answers: u64 = 0;
     for round in 0..rounds {
         let [_, high, middle, low] = round.to_be_bytes();
-        if sent(rt, alloc, shared, port, coid, [number, high, middle, low]) != Some(true) {
+        if send_once(rt, alloc, shared, port, coid, [number, high, middle, low]) != Some(true) {
             break;
         }
         answers = answers.saturating_add(1);
@@ -132,14 +132,14 @@ fn send_all<K: Tie, L: Log, R: Wait>(
 }
 
 /// Receives a message and replies. None where nothing more comes.
-fn served<K: Tie, L: Log, R: Wait>(
+fn serve_once<K: Tie, L: Log, R: Wait>(
     rt: &R,
     alloc: Global,
     shared: &Shared<K, L>,
     port: &mut Port<K>,
 ) -> Option<()> {
-    let received = ended(rt, shared, port, receive_call(alloc)?)?;
-    ended(rt, shared, port, reply_call(alloc, &received)?)?;
+    let received = make_call(rt, shared, port, receive_call(alloc)?)?;
+    make_call(rt, shared, port, reply_call(alloc, &received)?)?;
     Some(())
 }
 
@@ -151,7 +151,7 @@ fn serve_all<K: Tie, L: Log, R: Wait>(
     port: &mut Port<K>,
 ) {
     for _ in rt.forever() {
-        if served(rt, alloc, shared, port).is_none() {
+        if serve_once(rt, alloc, shared, port).is_none() {
             break;
         }
     }

@@ -10,10 +10,10 @@ use Rattle.qmodel.specs.Lawful.{followed_by}
 use Rattle.qmodel.specs.OnlyRun.{event_call}
 use Rattle.qmodel.specs.Trace.{Event, Run}
 use Rattle.qmodel.proofs.Following.{followed_push}
-use Rattle.qstate.specs.Threads.{members_of}
-use Rattle.qkernel.specs.Runs.{RunsAtTraces, AllKnown}
+use Rattle.qstate.specs.Thread.{members_of}
+use Rattle.qkernel.specs.Run.{RunsAtTraces, AllKnown}
 use Rattle.qkernel.specs.Stands.{AnswersAtTraces}
-use Rattle.qkernel.specs.State.{State}
+use Rattle.qkernel.specs.Kernel.{State}
 use Rattle.qkernel.proofs.Running.{runs_more}
 use Rattle.qscript.specs.Printing.Laws.{with_more}
 use Rattle.qscript.specs.Printing.Printed.{shows_buffer}

@@ -7,11 +7,11 @@ use Rattle.qmodel.specs.declared.open_call.Blocked.{Blocked}
 use Rattle.qmodel.specs.Blocked.{blocked_threads_at}
 use Rattle.qmodel.specs.Lawful.{followed_by}
 use Rattle.qmodel.specs.OnlyRun.{event_call}
-use Rattle.qkernel.specs.Runs.{IsWellRun}
+use Rattle.qkernel.specs.Run.{IsWellRun}
 use Rattle.qkernel.specs.Stands.{StandsAt}
-use Rattle.qkernel.specs.State.{State}
+use Rattle.qkernel.specs.Kernel.{State}
 use Rattle.qkernel.proofs.Running.{headline_of}
-use Rattle.qstate.specs.Threads.{members_of}
+use Rattle.qstate.specs.Thread.{members_of}
 use Rattle.qmodel.specs.Trace.{Event, Run, Trace}
 use Rattle.qscript.specs.Enrolled.{roster_with}
 use Rattle.qscript.specs.Printing.Printed.{printed}

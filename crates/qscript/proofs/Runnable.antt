@@ -16,7 +16,7 @@ use Rattle.qscript.specs.declared.reading.line.Line.TheVariants as lines
 use Rattle.qscript.specs.declared.fault.LineFault.{LineFault}
 use Rattle.qscript.specs.declared.fault.LineFault.TheVariants.{DoubleThread, TooManyThreads, UnknownThread}
 use Rattle.qscript.specs.Enrolled.{roster_with, AllJoin}
-use Rattle.qkernel.specs.Runs.{AllKnown}
+use Rattle.qkernel.specs.Run.{AllKnown}
 use Rattle.qscript.specs.Script.{CanRun}
 use Rattle.qscript.specs.Reading.Line.{line_of}
 use Rattle.qscript.specs.Reading.Lines.{lines_of, is_newline, without_return, without_last_end}

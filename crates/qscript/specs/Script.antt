@@ -8,7 +8,7 @@ use Rattle.qmodel.specs.declared.open_call.Blocked.{Blocked}
 use Rattle.qmodel.specs.Blocked.{blocked_threads_at}
 use Rattle.qmodel.specs.Trace.{Run}
 use Rattle.qmodel.specs.OnlyRun.{HadMemory, event_call}
-use Rattle.qkernel.specs.Runs.{AllKnown}
+use Rattle.qkernel.specs.Run.{AllKnown}
 use Rattle.qmodel.specs.Properties.{HasProperties}
 use Rattle.qmodel.specs.Lawful.{IsLawful, followed_by}
 use Rattle.qscript.specs.declared.fault.LineFault.{LineFault}

@@ -65,7 +65,7 @@ impl Request {
 }
 
 /// Makes a call, and waits for its ending.
-fn ended<E: Endpoint, R: Wait>(
+fn make_call<E: Endpoint, R: Wait>(
     rt: &R,
     port: &mut E,
     call: Call,
@@ -86,8 +86,12 @@ fn fault_of(mark: Mark) -> WorkerFault {
 }
 
 /// A call that only does what it says.
-fn done<E: Endpoint, R: Wait>(rt: &R, port: &mut E, call: Call) -> Result<(), WorkerFault> {
-    let completion = ended(rt, port, call)?;
+fn make_simple_call<E: Endpoint, R: Wait>(
+    rt: &R,
+    port: &mut E,
+    call: Call,
+) -> Result<(), WorkerFault> {
+    let completion = make_call(rt, port, call)?;
     match completion.mark {
         Mark::Ok => Ok(()),
         mark => Err(fault_of(mark)),
@@ -100,7 +104,7 @@ pub fn channel_create<E: Endpoint, R: Wait>(
     port: &mut E,
     flags: ChannelFlags,
 ) -> Result<ChannelId, WorkerFault> {
-    let mark = ended(rt, port, Call::ChannelCreate(flags))?.mark;
+    let mark = make_call(rt, port, Call::ChannelCreate(flags))?.mark;
     match mark {
         Mark::Channel(chid) => Ok(chid),
         _ => Err(fault_of(mark)),
@@ -113,7 +117,7 @@ pub fn channel_destroy<E: Endpoint, R: Wait>(
     port: &mut E,
     chid: ChannelId,
 ) -> Result<(), WorkerFault> {
-    done(rt, port, Call::ChannelDestroy(chid))
+    make_simple_call(rt, port, Call::ChannelDestroy(chid))
 }
 
 /// Attaches the caller's process to a channel.
@@ -122,7 +126,7 @@ pub fn connect_attach<E: Endpoint, R: Wait>(
     port: &mut E,
     chid: ChannelId,
 ) -> Result<ConnectionId, WorkerFault> {
-    let mark = ended(rt, port, Call::ConnectAttach(chid))?.mark;
+    let mark = make_call(rt, port, Call::ConnectAttach(chid))?.mark;
     match mark {
         Mark::Connection(coid) => Ok(coid),
         _ => Err(fault_of(mark)),
@@ -135,7 +139,7 @@ pub fn connect_detach<E: Endpoint, R: Wait>(
     port: &mut E,
     coid: ConnectionId,
 ) -> Result<(), WorkerFault> {
-    done(rt, port, Call::ConnectDetach(coid))
+    make_simple_call(rt, port, Call::ConnectDetach(coid))
 }
 
 /// Sends a message, and waits for its answer in a reply buffer.
@@ -152,7 +156,7 @@ pub fn msg_send<E: Endpoint, R: Wait>(
         message: Bytes::copied(alloc, message)?,
         reply_buffer: Bytes::copied(alloc, reply_buffer)?,
     };
-    let completion = ended(rt, port, call)?;
+    let completion = make_call(rt, port, call)?;
     match completion.mark {
         Mark::Replied { status, copied } => Ok(Answer {
             status,
@@ -176,7 +180,7 @@ pub fn msg_send_pulse<E: Endpoint, R: Wait>(
         code: pulse.code,
         value: pulse.value,
     };
-    done(rt, port, call)
+    make_simple_call(rt, port, call)
 }
 
 /// Takes a message or a pulse of a channel, and waits for one where there is none. The buffer is zeros.
@@ -191,7 +195,7 @@ pub fn msg_receive<E: Endpoint, R: Wait>(
         chid,
         buffer: Bytes::copied(alloc, buffer)?,
     };
-    received_in(ended(rt, port, call)?)
+    received_in(make_call(rt, port, call)?)
 }
 
 /// What the ending of a receive says.
@@ -228,7 +232,7 @@ pub fn msg_reply<E: Endpoint, R: Wait>(
         status,
         bytes: Bytes::copied(alloc, bytes)?,
     };
-    done(rt, port, call)
+    make_simple_call(rt, port, call)
 }
 
 /// Answers a message with a code that isn't 0, and no bytes.
@@ -238,10 +242,10 @@ pub fn msg_error<E: Endpoint, R: Wait>(
     rcvid: ReceiveId,
     code: i32,
 ) -> Result<(), WorkerFault> {
-    done(rt, port, Call::Error { rcvid, code })
+    make_simple_call(rt, port, Call::Error { rcvid, code })
 }
 
 /// Ends every open call, and has every later one refused. Another thread may have done so before.
 pub fn shutdown<E: Endpoint, R: Wait>(rt: &R, port: &mut E) -> Result<(), WorkerFault> {
-    done(rt, port, Call::Shutdown)
+    make_simple_call(rt, port, Call::Shutdown)
 }

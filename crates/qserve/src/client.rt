@@ -44,7 +44,7 @@ fn make_rounds<E: Endpoint, R: Wait>(
         msg_send_pulse(rt, port, coid, count_pulse(round))?;
         let message = message_of(number, round);
         let answer = msg_send(rt, alloc, port, coid, &message, &[0; REPLY_LENGTH])?;
-        tally.sent(sum_in(&message, &answer)?);
+        tally.count_sent(sum_in(&message, &answer)?);
     }
     connect_detach(rt, port, coid)?;
     Ok(tally)

@@ -45,9 +45,9 @@ fn hold_and_serve<E: Endpoint, R: Wait>(
     let first = next_request(rt, alloc, port, chid, &mut tally)?;
     let second = polled_request(rt, alloc, port, chid, &mut tally)?;
     answer(rt, alloc, port, &first)?;
-    tally.answered();
+    tally.count_answered();
     answer(rt, alloc, port, &second)?;
-    tally.answered();
+    tally.count_answered();
     Ok(tally.plus(serve_all(rt, alloc, port, chid)?))
 }
 
@@ -91,7 +91,7 @@ fn request_in(item: Received, tally: &mut Tally) -> Result<Option<Request>, Work
     match item {
         Received::Message(request) => Ok(Some(request)),
         Received::Pulse { code: COUNT, .. } => {
-            tally.counted();
+            tally.count_pulse();
             Ok(None)
         }
         Received::Pulse { .. } => Err(WorkerFault::Unexpected),
@@ -112,13 +112,13 @@ fn polled_receive<E: Endpoint, R: Wait>(
     };
     match port.call(rt, call) {
         Called::Done(completion) => received_in(completion),
-        Called::Blocked => received_in(polled(port, polls)?),
+        Called::Blocked => received_in(poll_some(port, polls)?),
         Called::Refused(errno, _) => Err(WorkerFault::from(errno)),
     }
 }
 
 /// Polls for the ending of the blocked call, at most so many times.
-fn polled<E: Endpoint>(port: &mut E, polls: &mut u32) -> Result<Completion, WorkerFault> {
+fn poll_some<E: Endpoint>(port: &mut E, polls: &mut u32) -> Result<Completion, WorkerFault> {
     let backoff = Backoff::new();
     'polling: while *polls > 0 {
         if let Some(completion) = port.poll() {

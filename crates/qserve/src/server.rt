@@ -37,9 +37,9 @@ pub fn serve_all<E: Endpoint, R: Wait>(
         match msg_receive(rt, alloc, port, chid, &[0; REQUEST_LENGTH])? {
             Received::Message(request) => {
                 answer(rt, alloc, port, &request)?;
-                tally.answered();
+                tally.count_answered();
             }
-            Received::Pulse { code: COUNT, .. } => tally.counted(),
+            Received::Pulse { code: COUNT, .. } => tally.count_pulse(),
             Received::Pulse { code: STOP, .. } => return Ok(tally),
             Received::Pulse { .. } => return Err(WorkerFault::Unexpected),
         }

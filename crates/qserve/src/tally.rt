@@ -37,18 +37,18 @@ impl Tally {
     }
 
     /// One message was sent, and its answer adds this to the sums.
-    pub fn sent(&mut self, sum: u64) {
+    pub fn count_sent(&mut self, sum: u64) {
         self.sent = self.sent.saturating_add(1);
         self.sum = self.sum.saturating_add(sum);
     }
 
     /// One message was answered.
-    pub fn answered(&mut self) {
+    pub fn count_answered(&mut self) {
         self.answered = self.answered.saturating_add(1);
     }
 
     /// One pulse was counted.
-    pub fn counted(&mut self) {
+    pub fn count_pulse(&mut self) {
         self.pulses = self.pulses.saturating_add(1);
     }
 }

@@ -49,7 +49,7 @@ impl<'c, C: Clock> Stopwatch<'c, C> {
     }
 
     /// An ending was collected.
-    fn collected(&mut self) {
+    fn note_ending(&mut self) {
         let Some(start) = self.start.take() else {
             return;
         };
@@ -93,20 +93,20 @@ impl<'c, E: Endpoint, C: Clock> Endpoint for Timed<'c, E, C> {
         self.stopwatch.called(&call);
         let called = self.inner.call(rt, call);
         if matches!(called, Called::Done(_)) {
-            self.stopwatch.collected();
+            self.stopwatch.note_ending();
         }
         called
     }
 
     fn poll(&mut self) -> Option<Completion> {
         let completion = self.inner.poll()?;
-        self.stopwatch.collected();
+        self.stopwatch.note_ending();
         Some(completion)
     }
 
     fn wait<R: Wait>(&mut self, rt: &R) -> Completion {
         let completion = self.inner.wait(rt);
-        self.stopwatch.collected();
+        self.stopwatch.note_ending();
         completion
     }
 }

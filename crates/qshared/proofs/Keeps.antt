@@ -18,7 +18,7 @@ use Rattle.qmodel.specs.Trace.{Trace}
 use Rattle.qmodel.proofs.Rosters.{among_member, known}
 use Rattle.qmodel.proofs.TraceLaws.Blocked.{caller_gets_its_own, endings_are_apart}
 use Rattle.qkernel.specs.Stands.{AnswersAtTraces}
-use Rattle.qkernel.specs.State.{State}
+use Rattle.qkernel.specs.Kernel.{State}
 use Rattle.qhandoff.specs.declared.view.Desk.{Desk}
 use Rattle.qhandoff.specs.Rule.{line}
 use Rattle.qhandoff.specs.Steps.{opened_desk, cancelled_desk, IsBusy}

@@ -23,7 +23,7 @@ use Rattle.qmodel.proofs.Past.Ends.{accepted}
 use Rattle.qmodel.proofs.Rosters.{known}
 use Rattle.qmodel.proofs.TraceLaws.Blocked.{blocked_unless_ended, endings_are_apart, endings_go_to_blocked}
 use Rattle.qmodel.proofs.TraceLaws.Lengths.{after_fits, ending_fits}
-use Rattle.qkernel.specs.Logged.{Logged, with_next}
+use Rattle.qkernel.specs.EventLog.{Logged, with_next}
 use Rattle.qshared.specs.Due.{place}
 use Rattle.qshared.specs.Rooms.{KeptPast, admits_kept, refuses_kept, HasRoomFor, HasRooms, MayCopy, Copied, IsKept}
 use Rattle.qshared.proofs.Places.{place_below, place_same, place_some}

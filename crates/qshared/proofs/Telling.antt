@@ -19,7 +19,7 @@ use Rattle.qmodel.proofs.Properties.All.{has_properties}
 use Rattle.qmodel.proofs.Rosters.{among_member, known}
 use Rattle.qmodel.proofs.TraceLaws.Blocked.{blocked_unless_ended, endings_go_to_blocked}
 use Rattle.qkernel.specs.Stands.{StandsAt}
-use Rattle.qkernel.specs.State.{State}
+use Rattle.qkernel.specs.Kernel.{State}
 use Rattle.qhandoff.specs.declared.view.Desk.{Desk}
 use Rattle.qhandoff.specs.declared.view.Line.{Line}
 use Rattle.qhandoff.specs.Rule.{idle_line, line}

@@ -8,7 +8,7 @@ use Rattle.qmodel.specs.Lawful.{IsLawful}
 use Rattle.qmodel.specs.Properties.{HasProperties}
 use Rattle.qmodel.specs.Trace.{Trace}
 use Rattle.qkernel.specs.Stands.{StandsAt}
-use Rattle.qkernel.specs.State.{State}
+use Rattle.qkernel.specs.Kernel.{State}
 use Rattle.qhandoff.specs.declared.view.Desk.{Desk}
 use Rattle.qshared.specs.Due.{IsTied}
 

@@ -4,7 +4,7 @@ use mathlib.Core.Option.{some}
 use lib.ListN.{get_elem?}
 use Rattle.atomic_table.specs.Seated.{TableId}
 use Rattle.qtables.specs.declared.member.Member.{Member}
-use Rattle.qstate.specs.Threads.{members_of}
+use Rattle.qstate.specs.Thread.{members_of}
 use Rattle.qhandoff.specs.Words.{cells_id}
 use Rattle.qshared.specs.declared.parts.Parts.{Parts}
 

@@ -13,7 +13,7 @@ use Rattle.qmodel.specs.Facts.{threads_of}
 use Rattle.qmodel.specs.Lawful.{followed_by}
 use Rattle.qmodel.specs.Past.{is_down, open_call}
 use Rattle.qmodel.specs.Trace.{Trace}
-use Rattle.qkernel.specs.Logged.{Logged}
+use Rattle.qkernel.specs.EventLog.{Logged}
 use Rattle.qshared.specs.Due.{place}
 
 -- what contracts see of a kept past: the past, the call that was noted last, whether it isn't made yet, and how many events there may be

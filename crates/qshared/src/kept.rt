@@ -84,7 +84,7 @@ fn copy_one(
         call: ending.call,
         thread: ending.thread,
         mark: ending.mark,
-        buffer: room.filled(ending.buffer.as_slice()),
+        buffer: room.fill(ending.buffer.as_slice()),
     });
 }
 

@@ -2,7 +2,7 @@
 ghost use Rattle.std.specs.Prelude.{◌≡◌, ◌≤◌, ◌^◌, ◌⊎◌, ◌<◌, ℕ, [], length, map, IfOk, IfErr};
 ghost use lib.ListN.{get_elem?};
 ghost use Rattle.qmodel.specs.Facts.{threads_of};
-ghost use Rattle.qstate.specs.Threads.{members_of};
+ghost use Rattle.qstate.specs.Thread.{members_of};
 ghost use Rattle.qkernel.specs.Stands.{StandsAt};
 ghost use Rattle.qhandoff.specs.Steps.{seated_desk};
 ghost use Rattle.qhandoff.specs.Words.{cells_id, kernel_id, count, desk, took, IsRow};
@@ -69,7 +69,7 @@ fn lists(alloc: Global, many: usize) -> Result<(Vec<Asked>, Vec<Heard>), AllocEr
 }
 
 /// The parts of a kernel for these threads, with this limit.
-fn made(alloc: Global, roster: &Roster, limit: usize) -> Result<Parts, Errno>
+fn make_parts(alloc: Global, roster: &Roster, limit: usize) -> Result<Parts, Errno>
     requires limit { (2 ≤ limit) × (limit ≤ 2 ^ 20) }
     ensures roster { IfOk result (λ p. members_of p.kernel.threads ≡ roster.now) }
     ensures limit { IfOk result (λ p. p.limit ≡ limit) }
@@ -115,7 +115,7 @@ impl Parts {
         if trace_limit < 2 || trace_limit > TRACE_LIMIT {
             return Err(Errno::Inval);
         }
-        made(alloc, roster, trace_limit as usize)
+        make_parts(alloc, roster, trace_limit as usize)
     }
 
     /// The parts of a kernel for these threads that keeps no past. `NoMemory` is the only error.
@@ -124,6 +124,6 @@ impl Parts {
         ensures roster { IfOk result (λ p. members_of p.kernel.threads ≡ roster.now) }
         ensures error { IfErr result (λ e. e ≡ Errno.NoMemory) }
     {
-        made(alloc, roster, TRACE_LIMIT as usize)
+        make_parts(alloc, roster, TRACE_LIMIT as usize)
     }
 }

@@ -247,7 +247,7 @@ impl<K: Tie, L: Log> Shared<K, L> {
 }
 
 /// A kernel of these parts that keeps its past in memory.
-fn opened<K: Tie>(
+fn open_kept<K: Tie>(
     alloc: Global,
     parts: Parts,
 ) -> Result<(Shared<K, Kept<K>>, Vec<Port<K>>), AllocError>
@@ -281,7 +281,7 @@ impl<K: Tie> Shared<K, Kept<K>> {
         ensures new { IfOk result (λ r. (k : ℕ) (p : _) → get_elem? r.1.items k ≡ some p → (p.calls ≡ 0) × (p.pending ≡ false) × (taken p.seat ≡ []) × (p.asked.calls ≡ [])) }
         ensures error { IfErr result (λ e. e ≡ Errno.NoMemory) }
     {
-        match opened(alloc, parts) {
+        match open_kept(alloc, parts) {
             Ok(opened) => Ok(opened),
             Err(_) => Err(Errno::NoMemory),
         }

@@ -1,7 +1,7 @@
 //! A kernel with its past, and the kernel's seat of the cells.
 ghost use Rattle.std.specs.Prelude.{◌≡◌, ◌≤◌, ◌^◌, [], length, if◌then◌else◌};
 ghost use Rattle.qmodel.specs.Facts.{threads_of};
-ghost use Rattle.qstate.specs.Threads.{members_of};
+ghost use Rattle.qstate.specs.Thread.{members_of};
 ghost use Rattle.qkernel.specs.Stands.{StandsAt};
 ghost use Rattle.qhandoff.specs.Steps.{seated_desk};
 ghost use Rattle.qhandoff.specs.Words.{cells_id, kernel_id, desk};
@@ -50,7 +50,7 @@ impl<K: Tie, L: Log> Model for Traced<K, L> {
 }
 
 // What a call came to that is an event.
-fn ended(own: bool) -> Performed
+fn ended_or_open(own: bool) -> Performed
     ensures { result ≡ (if own then Performed.Ended else Performed.Open) }
 {
     if own {
@@ -129,6 +129,6 @@ impl<K: Tie, L: Log> Traced<K, L> {
             thread,
             &mut self.woken,
         );
-        ended(own)
+        ended_or_open(own)
     }
 }

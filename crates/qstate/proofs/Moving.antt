@@ -16,7 +16,7 @@ use Rattle.qmodel.specs.declared.open_call.Wait.TheVariants.{Answer, Item as For
 use Rattle.qbase.proofs.Lists.{eqb_either}
 use Rattle.qstate.specs.declared.channel.Channel.{Channel}
 use Rattle.qstate.specs.declared.unread.Unread.{Unread}
-use Rattle.qstate.specs.Channels.{SetsItems, channel_in, pending_in}
+use Rattle.qstate.specs.Channel.{SetsItems, channel_in, pending_in}
 use Rattle.qstate.specs.Unread.{MovesUnread, unread_in, unread_of}
 
 -- ---- an open call and what waits on a channel

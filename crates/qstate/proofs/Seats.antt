@@ -9,7 +9,7 @@ use Rattle.qtables.specs.Members.{member_at}
 use Rattle.qtables.specs.declared.member.Member.{Member}
 use Rattle.qmodel.specs.Facts.{is_in_process}
 use Rattle.qstate.specs.declared.thread.Thread.{Thread}
-use Rattle.qstate.specs.Threads.{members_of, open_in, level_in, seat_in, SetsOpen, SetsLevel, Wakes, MarksUnblocked}
+use Rattle.qstate.specs.Thread.{members_of, open_in, level_in, seat_in, SetsOpen, SetsLevel, Wakes, MarksUnblocked}
 use Rattle.qmodel.specs.Step.{unblocked_call}
 use Rattle.std.specs.Option.{option_map}
 

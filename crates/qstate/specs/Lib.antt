@@ -1,7 +1,7 @@
-pub mod Threads
-pub mod Channels
-pub mod HeldIn
+pub mod Thread
+pub mod Channel
+pub mod Held
 pub mod Unread
 pub mod Pulses
 pub mod Endings
-pub mod Cuts
+pub mod Cutting

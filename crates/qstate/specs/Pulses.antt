@@ -9,8 +9,8 @@ use Rattle.qmodel.specs.Pulses.{pulses_among}
 use Rattle.qmodel.specs.Rows.{takes}
 use Rattle.qstate.specs.declared.channel.Channel.{Channel}
 use Rattle.qstate.specs.declared.thread.Thread.{Thread}
-use Rattle.qstate.specs.Channels.{channel_in, pending_in, SetsItems}
-use Rattle.qstate.specs.Threads.{newest_in, open_in, Wakes}
+use Rattle.qstate.specs.Channel.{channel_in, pending_in, SetsItems}
+use Rattle.qstate.specs.Thread.{newest_in, open_in, Wakes}
 
 -- fewer than 1,024 pulses wait on channel h
 abbrev pub has_room : List (ℕ × Channel) → ℕ → Bool

@@ -9,7 +9,7 @@ use Rattle.qmodel.specs.declared.open_call.Wait.{Wait}
 use Rattle.qmodel.specs.declared.open_call.Wait.TheVariants.{Answer, Item as ForItem}
 use Rattle.qstate.specs.declared.channel.Channel.{Channel}
 use Rattle.qstate.specs.declared.unread.Unread.{Unread}
-use Rattle.qstate.specs.Channels.{channel_in, ids_of, pending_in}
+use Rattle.qstate.specs.Channel.{channel_in, ids_of, pending_in}
 
 -- the message of call n whose receipt is waited for
 abbrev pub unread_of : ℕ → Wait → Option Unread

@@ -5,7 +5,7 @@ ghost use Rattle.std.specs.List.{AllByRecursion};
 ghost use Rattle.qqueue.specs.Best.{best_of, with_item_priority, without_item};
 ghost use Rattle.qmodel.specs.Pulses.{pulses_among};
 ghost use Rattle.qmodel.specs.Facts.{is_fixed, tells_disconnect, tells_unblock};
-ghost use Rattle.qstate.specs.Channels.{channel_in, own_channel_in, pending_in, is_of, room_in, way_in, ClosesIn, SetsItems};
+ghost use Rattle.qstate.specs.Channel.{channel_in, own_channel_in, pending_in, is_of, room_in, way_in, ClosesIn, SetsItems};
 ghost use Rattle.qtables.specs.Entries.{entry_at};
 
 use qbase::errno::Errno;
@@ -106,7 +106,7 @@ pub fn pulses_on(channels: &Channels<Channel>, chid: ChannelId) -> usize
 
 /// The priority that a receiver on the channel takes of an item of this priority: none where the channel
 /// leaves its receivers' priorities as they are.
-pub fn carried(
+pub fn carried_priority(
     channels: &Channels<Channel>,
     chid: ChannelId,
     priority: Priority,

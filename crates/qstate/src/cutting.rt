@@ -6,8 +6,8 @@ ghost use Rattle.qtables.specs.Members.{IsRoster};
 ghost use Rattle.qmodel.specs.Cutting.{buffer_of_wait, is_on, is_over, cut_call, cut_where};
 ghost use Rattle.qmodel.specs.Step.{is_unread_send};
 ghost use Rattle.qmodel.specs.Facts.{threads_of};
-ghost use Rattle.qstate.specs.Cuts.{is_cut_by, ending_for, with_ending, thread_unless_cut, unread_over_by, unread_on_by, call_if_cut, is_taken_from, Lose, AreCut, LoseCut};
-ghost use Rattle.qstate.specs.Threads.{members_of, open_in};
+ghost use Rattle.qstate.specs.Cutting.{is_cut_by, ending_for, with_ending, thread_unless_cut, unread_over_by, unread_on_by, call_if_cut, is_taken_from, Lose, AreCut, LoseCut};
+ghost use Rattle.qstate.specs.Thread.{members_of, open_in};
 
 use crate::channel::Channel;
 use crate::endings::Endings;
@@ -115,7 +115,7 @@ fn into_buffer(wait: Wait) -> Bytes
 }
 
 /// How a thread's open call ends that is cut.
-fn failed(call: OpenCall, thread: ThreadNo, errno: Errno) -> Completion
+fn cut_ending(call: OpenCall, thread: ThreadNo, errno: Errno) -> Completion
     ensures { result ≡ cut_call errno thread call }
 {
     Completion {
@@ -153,7 +153,7 @@ fn cut_thread(
 {
     let call = take_cut(thread, connections, cut)?;
     take_message(channels, connections, &call);
-    Some(failed(call, thread.member.thread, errno))
+    Some(cut_ending(call, thread.member.thread, errno))
 }
 
 /// Ends the call of a thread: the caller's own so, as it was handed in, and another's if it is cut.
@@ -180,7 +180,7 @@ fn end_thread(
 }
 
 /// Puts an ending, if there is one, behind all others.
-fn put(endings: &mut Endings, ending: Option<Completion>)
+fn push_ending(endings: &mut Endings, ending: Option<Completion>)
     requires { length endings.old.items < 64 }
     ensures { endings.new.items ≡ with_ending endings.old.items ending }
 {
@@ -227,6 +227,6 @@ pub fn cut_calls(
             caller,
             &mut left,
         );
-        put(endings, ending);
+        push_ending(endings, ending);
     }
 }

@@ -6,10 +6,10 @@ ghost use Rattle.qtables.specs.Members.{IsRoster};
 ghost use Rattle.qmodel.specs.Calls.Info.{info_of_open};
 ghost use Rattle.qmodel.specs.Facts.{is_send, message_in};
 ghost use Rattle.qmodel.specs.Held.{reply_buffer_in, reply_buffer_of};
-ghost use Rattle.qstate.specs.HeldIn.{guarded_message_in, held_message_in, is_held_in};
+ghost use Rattle.qstate.specs.Held.{guarded_message_in, held_message_in, is_held_in};
 ghost use Rattle.qmodel.specs.Rows.{with_buffer};
 ghost use Rattle.qmodel.specs.Step.{unblocked_call, unblocked_wait, written_call};
-ghost use Rattle.qstate.specs.Threads.{members_of, open_in, seat_in, sender_in, sent_call, SetsOpen, ChangesSender, MarksUnblocked};
+ghost use Rattle.qstate.specs.Thread.{members_of, open_in, seat_in, sender_in, sent_call, SetsOpen, ChangesSender, MarksUnblocked};
 
 use crate::channel::{Channel, owns, tells_unblock};
 use crate::thread::{Thread, sender_seat};
@@ -33,7 +33,7 @@ pub struct Held {
 
 /// The message that the thread at a seat waits for the answer to and that is held on a channel with the
 /// unblock flag, and that channel.
-pub fn guarded(
+pub fn guarded_message(
     threads: &[Thread],
     connections: &Connections,
     channels: &Channels<Channel>,
@@ -43,7 +43,7 @@ pub fn guarded(
     requires { seat_in threads.now thread ≡ Some seat }
     ensures { result ≡ guarded_message_in connections.now channels.now (held_message_in (open_in threads.now thread)) }
 {
-    let held = threads[seat].held()?;
+    let held = threads[seat].held_message()?;
     let connection = connections.get(held.coid)?;
     if tells_unblock(channels, connection.channel) {
         Some((held, connection.channel))
@@ -145,7 +145,7 @@ fn mark_wait(wait: &mut Wait)
 
 impl Thread {
     /// The message that it waits for the answer to, where that is held.
-    pub fn held(&self) -> Option<Held>
+    pub fn held_message(&self) -> Option<Held>
         ensures { result ≡ held_message_in self.now.open_call }
     {
         let call = self.open_call.as_ref()?;

@@ -5,11 +5,11 @@ ghost use Rattle.std.specs.List.{AllByRecursion};
 ghost use Rattle.qqueue.specs.Best.{is_pulse};
 ghost use Rattle.qtables.specs.Members.{IsRoster};
 ghost use Rattle.qmodel.specs.Rows.{takes};
-ghost use Rattle.qstate.specs.Channels.{channel_in, pending_in};
+ghost use Rattle.qstate.specs.Channel.{channel_in, pending_in};
 ghost use Rattle.qstate.specs.Pulses.{IsSent, IsSentIfDue, IsTurnedAway, IsUnsent};
-ghost use Rattle.qstate.specs.Threads.{members_of};
+ghost use Rattle.qstate.specs.Thread.{members_of};
 
-use crate::channel::{Channel, carried, enqueue, pulses_on};
+use crate::channel::{Channel, carried_priority, enqueue, pulses_on};
 use crate::thread::{Thread, newest_receiver, wake};
 use qbase::errno::Errno;
 use qbase::ids::{ChannelId, ThreadNo};
@@ -22,7 +22,7 @@ use qtables::channels::Channels;
 pub const PULSE_LIMIT: usize = 1024;
 
 /// How the open call of a thread ends that takes a pulse; none where it doesn't wait for an item.
-fn told(call: Option<OpenCall>, thread: ThreadNo, item: &Item) -> Option<Completion>
+fn ending_with_pulse(call: Option<OpenCall>, thread: ThreadNo, item: &Item) -> Option<Completion>
     requires { is_pulse item.now.what ≡ true }
     ensures { result ≡ takes item.now [] thread call }
 {
@@ -65,9 +65,9 @@ pub fn send_pulse(
         enqueue(channels, chid, item)?;
         return Ok(None);
     };
-    let level = carried(channels, chid, item.priority);
+    let level = carried_priority(channels, chid, item.priority);
     let call = wake(threads, receiver, level);
-    let Some(ended) = told(call, receiver, &item) else {
+    let Some(ended) = ending_with_pulse(call, receiver, &item) else {
         unreachable!();
     };
     Ok(Some(ended))

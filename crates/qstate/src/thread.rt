@@ -7,7 +7,7 @@ ghost use Rattle.qqueue.specs.Best.{is_pulse};
 ghost use Rattle.qmodel.specs.Facts.{is_in_process, is_send, message_in};
 ghost use Rattle.qmodel.specs.Rows.{delivery_of};
 ghost use Rattle.qmodel.specs.Step.{held_call};
-ghost use Rattle.qstate.specs.Threads.{members_of, open_in, seat_in, level_in, ready_thread, newest_in, later_of_two, held_over_in, message_from, SetsOpen, SetsLevel, Wakes, ChangesSender, HandsOver};
+ghost use Rattle.qstate.specs.Thread.{members_of, open_in, seat_in, level_in, ready_thread, newest_in, later_of_two, held_over_in, message_from, SetsOpen, SetsLevel, Wakes, ChangesSender, HandsOver};
 ghost use Rattle.qmodel.specs.Receivers.{wait_on};
 
 use qbase::bytes::Bytes;

@@ -1,7 +1,7 @@
 //! Messages that are sent and not yet received: with such a message its thread is SEND-blocked.
 
 ghost use Rattle.std.specs.Prelude.{◌≡◌, Some};
-ghost use Rattle.qstate.specs.Threads.{open_in, seat_in};
+ghost use Rattle.qstate.specs.Thread.{open_in, seat_in};
 ghost use Rattle.qstate.specs.Unread.{unread_in, MovesUnread};
 
 use crate::channel::{Channel, requeue};

@@ -13,13 +13,13 @@ use Rattle.qmodel.specs.Facts.{owns}
 use Rattle.qmodel.specs.Step.{uncut_items}
 use Rattle.qmodel.specs.declared.call.Call.TheVariants.{ChannelDestroy}
 use Rattle.qmodel.specs.declared.call.Completion.{Completion}
-use Rattle.qstate.specs.Channels.{ClosesIn, channel_in, is_of, pending_in}
-use Rattle.qstate.specs.Cuts.{AreCut, LoseCut}
-use Rattle.qstate.specs.Threads.{members_of, open_in}
+use Rattle.qstate.specs.Channel.{ClosesIn, channel_in, is_of, pending_in}
+use Rattle.qstate.specs.Cutting.{AreCut, LoseCut}
+use Rattle.qstate.specs.Thread.{members_of, open_in}
 use Rattle.qstate.specs.declared.channel.Channel.{Channel}
 use Rattle.qstate.specs.declared.cutting.Cut.TheVariants.{On}
 use Rattle.qstate.specs.declared.thread.Thread.{Thread}
-use Rattle.qkernel.specs.State.{State, IsSound, facts_in}
+use Rattle.qkernel.specs.Kernel.{State, IsSound, facts_in}
 use Rattle.qkernel.specs.Stands.{Steps}
 use Rattle.qkernel.proofs.Steps.Common.{counted, count_same, owned_by_member, step_refused_alone}
 use Rattle.qkernel.proofs.Steps.Cutting.{endings_cut, open_after, sound_cut}

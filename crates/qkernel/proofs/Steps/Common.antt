@@ -24,12 +24,12 @@ use Rattle.qmodel.proofs.Past.Cuts.{EndsSettled, none_cut}
 use Rattle.qmodel.proofs.Past.Ends.{row_passes}
 use Rattle.qmodel.proofs.Past.Laws.{is_forceful}
 use Rattle.qmodel.proofs.Calls.{row_laws}
-use Rattle.qstate.specs.Channels.{channel_in, pending_in, ids_of, is_of, way_in}
+use Rattle.qstate.specs.Channel.{channel_in, pending_in, ids_of, is_of, way_in}
 use Rattle.qmodel.specs.Facts.{Facts, OpenChannel, is_in_process}
 use Rattle.qmodel.proofs.Parts.{is_owned_by, leads_to}
-use Rattle.qkernel.specs.State.{State, IsSound, facts_in}
+use Rattle.qkernel.specs.Kernel.{State, IsSound, facts_in}
 use Rattle.qkernel.specs.Stands.{Steps}
-use Rattle.qstate.specs.Threads.{members_of, open_in, level_in}
+use Rattle.qstate.specs.Thread.{members_of, open_in, level_in}
 
 -- ---- refused calls
 

@@ -31,13 +31,13 @@ use Rattle.qmodel.specs.declared.open_call.Wait.TheVariants.{Item as ForItem}
 use Rattle.qstate.specs.declared.channel.Channel.{Channel}
 use Rattle.qstate.specs.declared.cutting.Cut.TheVariants.{Over}
 use Rattle.qstate.specs.declared.thread.Thread.{Thread}
-use Rattle.qstate.specs.Channels.{channel_in, own_channel_in, pending_in}
-use Rattle.qstate.specs.Cuts.{AreCut, LoseCut, ending_for, is_cut_among}
+use Rattle.qstate.specs.Channel.{channel_in, own_channel_in, pending_in}
+use Rattle.qstate.specs.Cutting.{AreCut, LoseCut, ending_for, is_cut_among}
 use Rattle.qstate.specs.Endings.{with_ending_if}
 use Rattle.qstate.specs.Pulses.{has_room}
 use Rattle.qmodel.specs.Receivers.{newest_receiver}
-use Rattle.qstate.specs.Threads.{level_in, members_of, newest_in, open_in}
-use Rattle.qkernel.specs.State.{State, IsSound, facts_in}
+use Rattle.qstate.specs.Thread.{level_in, members_of, newest_in, open_in}
+use Rattle.qkernel.specs.Kernel.{State, IsSound, facts_in}
 use Rattle.qkernel.specs.Stands.{Steps}
 use Rattle.qtables.proofs.LookUps.{entry_at-without_entry}
 use Rattle.qmodel.proofs.Calls.Cutting.{cut_parts}

@@ -10,13 +10,13 @@ use Rattle.qmodel.specs.Cutting.{cut_where}
 use Rattle.qmodel.specs.Facts.{threads_of}
 use Rattle.qmodel.specs.declared.call.Completion.{Completion}
 use Rattle.qmodel.specs.declared.call.Mark.TheVariants as mark
-use Rattle.qstate.specs.Channels.{pending_in}
-use Rattle.qstate.specs.Cuts.{AreCut, LoseCut, ending_for, is_cut_among, is_cut_by}
-use Rattle.qstate.specs.Threads.{members_of, open_in}
+use Rattle.qstate.specs.Channel.{pending_in}
+use Rattle.qstate.specs.Cutting.{AreCut, LoseCut, ending_for, is_cut_among, is_cut_by}
+use Rattle.qstate.specs.Thread.{members_of, open_in}
 use Rattle.qstate.specs.declared.channel.Channel.{Channel}
 use Rattle.qstate.specs.declared.cutting.Cut.{Cut}
 use Rattle.qstate.specs.declared.thread.Thread.{Thread}
-use Rattle.qkernel.specs.State.{State, IsSound}
+use Rattle.qkernel.specs.Kernel.{State, IsSound}
 use Rattle.qbase.proofs.Lists.{all_filter}
 use Rattle.qkernel.proofs.Steps.Common.{counted, sound_counted_alone}
 use Rattle.qkernel.proofs.Steps.Delivering.{sound_kept}

@@ -18,16 +18,16 @@ use Rattle.qmodel.specs.declared.open_call.Wait.TheVariants.{Answer, Item as For
 use Rattle.qstate.specs.declared.thread.Thread.{Thread}
 use Rattle.qmodel.specs.Answer.{refusal_ending}
 use Rattle.qmodel.specs.Calls.{row_of}
-use Rattle.qstate.specs.Channels.{channel_in}
+use Rattle.qstate.specs.Channel.{channel_in}
 use Rattle.qstate.specs.Endings.{with_ending_in_place}
 use Rattle.qmodel.specs.Facts.{is_send, sender, sender_among, threads_of}
 use Rattle.qmodel.specs.Held.{Finish, ends_sender, answer_ending, answer_ending_of_wait, refusal}
 use Rattle.qmodel.proofs.Parts.{owns_end, is_held_for}
-use Rattle.qstate.specs.HeldIn.{leads_to_own, is_held_over, is_held_in}
-use Rattle.qkernel.specs.State.{State, IsSound, facts_in}
+use Rattle.qstate.specs.Held.{leads_to_own, is_held_over, is_held_in}
+use Rattle.qkernel.specs.Kernel.{State, IsSound, facts_in}
 use Rattle.qkernel.specs.Stands.{Steps}
 use Rattle.qmodel.specs.Step.{unless}
-use Rattle.qstate.specs.Threads.{members_of, open_in, held_over_in, sender_in, sent_call, SetsOpen}
+use Rattle.qstate.specs.Thread.{members_of, open_in, held_over_in, sender_in, sent_call, SetsOpen}
 use Rattle.qstate.proofs.Inserting.{two_endings}
 use Rattle.qbase.proofs.Lists.{is_among, cond_same}
 use Rattle.qmodel.proofs.Rosters.{rises, among, filter_map_same}

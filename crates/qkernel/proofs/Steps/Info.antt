@@ -17,10 +17,10 @@ use Rattle.qstate.specs.declared.thread.Thread.{Thread}
 use Rattle.qmodel.specs.declared.call.Info.{Info as Told}
 use Rattle.qmodel.specs.Calls.Info.{info_of, info_of_open, info_ending}
 use Rattle.qmodel.specs.Facts.{is_send, sender, threads_of}
-use Rattle.qstate.specs.HeldIn.{is_held_in}
-use Rattle.qkernel.specs.State.{State, IsSound, facts_in}
+use Rattle.qstate.specs.Held.{is_held_in}
+use Rattle.qkernel.specs.Kernel.{State, IsSound, facts_in}
 use Rattle.qkernel.specs.Stands.{Steps}
-use Rattle.qstate.specs.Threads.{held_over_in, members_of, open_in}
+use Rattle.qstate.specs.Thread.{held_over_in, members_of, open_in}
 use Rattle.qstate.proofs.Seats.{first_member, first_open}
 use Rattle.qstate.proofs.Senders.{first_there, held_there, sender_of_held, sender_there}
 use Rattle.qmodel.proofs.Rosters.{among, only_own, rises}

@@ -18,10 +18,10 @@ use Rattle.qmodel.specs.declared.call.Completion.{Completion}
 use Rattle.qmodel.specs.declared.call.Mark.TheVariants as mark
 use Rattle.qstate.specs.declared.channel.Channel.{Channel}
 use Rattle.qstate.specs.declared.thread.Thread.{Thread}
-use Rattle.qkernel.specs.State.{State, IsSound, facts_in}
+use Rattle.qkernel.specs.Kernel.{State, IsSound, facts_in}
 use Rattle.qkernel.specs.Stands.{Steps}
-use Rattle.qstate.specs.Channels.{pending_in}
-use Rattle.qstate.specs.Threads.{level_in, members_of, open_in, SetsLevel}
+use Rattle.qstate.specs.Channel.{pending_in}
+use Rattle.qstate.specs.Thread.{level_in, members_of, open_in, SetsLevel}
 use Rattle.qstate.specs.Unread.{MovesUnread}
 use Rattle.qmodel.specs.Step.{items_with_priority_set, is_unread_send}
 use Rattle.qmodel.proofs.Past.Cuts.{none_cut}

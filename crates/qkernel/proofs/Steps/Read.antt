@@ -7,10 +7,10 @@ use Rattle.qtables.specs.declared.member.Member.{Member}
 use Rattle.qmodel.specs.declared.call.Call.TheVariants.{Read}
 use Rattle.qmodel.specs.declared.call.Completion.{Completion}
 use Rattle.qmodel.specs.declared.call.Mark.TheVariants as mark
-use Rattle.qstate.specs.HeldIn.{is_held_in}
-use Rattle.qkernel.specs.State.{State, IsSound}
+use Rattle.qstate.specs.Held.{is_held_in}
+use Rattle.qkernel.specs.Kernel.{State, IsSound}
 use Rattle.qkernel.specs.Stands.{Steps}
-use Rattle.qstate.specs.Threads.{members_of, message_from, open_in}
+use Rattle.qstate.specs.Thread.{members_of, message_from, open_in}
 use Rattle.qmodel.proofs.Rosters.{among, only_own, rises}
 use Rattle.qkernel.proofs.Steps.Common.{uncut, counted, stays_free}
 use Rattle.qkernel.proofs.Steps.Held.{is_held}

@@ -18,15 +18,15 @@ use Rattle.qmodel.specs.declared.open_call.Receipt.{Receipt}
 use Rattle.qmodel.specs.declared.open_call.Wait.TheVariants.{Answer}
 use Rattle.qstate.specs.declared.thread.Thread.{Thread}
 use Rattle.qmodel.specs.Answer.{refusal_ending, ending}
-use Rattle.qstate.specs.Channels.{pending_in, way_in, SetsItems}
+use Rattle.qstate.specs.Channel.{pending_in, way_in, SetsItems}
 use Rattle.qmodel.specs.Facts.{way, threads_of}
 use Rattle.qmodel.specs.Receivers.{newest_receiver}
 use Rattle.qmodel.specs.Rows.{message_item, takes, item_in_mark, item_sent_over}
-use Rattle.qkernel.specs.State.{State, IsSound, facts_in}
+use Rattle.qkernel.specs.Kernel.{State, IsSound, facts_in}
 use Rattle.qkernel.specs.Stands.{Steps}
 use Rattle.qmodel.specs.Step.{unless, held_call}
 use Rattle.qmodel.specs.Past.{made_on}
-use Rattle.qstate.specs.Threads.{members_of, open_in, level_in, newest_in, SetsOpen, Wakes}
+use Rattle.qstate.specs.Thread.{members_of, open_in, level_in, newest_in, SetsOpen, Wakes}
 use Rattle.qbase.proofs.Lists.{is_among, cond_same}
 use Rattle.qmodel.proofs.Rosters.{rises, nothing, filter_map_same, only_own}
 use Rattle.qkernel.proofs.Steps.Delivering.{counted_room, count_kept, items_after, some_sent, some_way, with_item, level_of}

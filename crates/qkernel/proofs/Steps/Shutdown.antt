@@ -9,13 +9,13 @@ use Rattle.qtables.specs.declared.member.Member.{Member}
 use Rattle.qmodel.specs.Step.{uncut_items}
 use Rattle.qmodel.specs.declared.call.Call.TheVariants.{Shutdown}
 use Rattle.qmodel.specs.declared.call.Completion.{Completion}
-use Rattle.qstate.specs.Channels.{pending_in}
-use Rattle.qstate.specs.Cuts.{AreCut, LoseCut}
-use Rattle.qstate.specs.Threads.{members_of, open_in}
+use Rattle.qstate.specs.Channel.{pending_in}
+use Rattle.qstate.specs.Cutting.{AreCut, LoseCut}
+use Rattle.qstate.specs.Thread.{members_of, open_in}
 use Rattle.qstate.specs.declared.channel.Channel.{Channel}
 use Rattle.qstate.specs.declared.cutting.Cut.TheVariants.{All}
 use Rattle.qstate.specs.declared.thread.Thread.{Thread}
-use Rattle.qkernel.specs.State.{State, facts_in}
+use Rattle.qkernel.specs.Kernel.{State, facts_in}
 use Rattle.qkernel.specs.Stands.{Steps}
 use Rattle.qkernel.proofs.Steps.Cutting.{endings_cut, open_after}
 use Rattle.qkernel.proofs.Steps.Delivering.{count_kept}

@@ -22,15 +22,15 @@ use Rattle.qmodel.specs.declared.open_call.Wait.TheVariants.{Answer, Item as For
 use Rattle.qmodel.proofs.Rosters.{filter_map_same, rises}
 use Rattle.qmodel.proofs.Calls.Delivering.{ForAnItem, met_item, met_settled}
 use Rattle.qmodel.proofs.Past.Laws.{IsSettled}
-use Rattle.qstate.specs.Channels.{channel_in, ids_of, pending_in}
+use Rattle.qstate.specs.Channel.{channel_in, ids_of, pending_in}
 use Rattle.qstate.specs.Endings.{with_ending_if}
 use Rattle.qstate.specs.Pulses.{IsLeft, IsMet, IsSentIfDue}
-use Rattle.qstate.specs.Threads.{level_in, members_of, open_in}
+use Rattle.qstate.specs.Thread.{level_in, members_of, open_in}
 use Rattle.qstate.specs.declared.channel.Channel.{Channel}
 use Rattle.qstate.specs.declared.thread.Thread.{Thread}
 use Rattle.qstate.proofs.Inserting.{endings_fewer, inserted_among}
 use Rattle.qstate.proofs.Receivers.{ended_thread, newest_receives, waits_among}
-use Rattle.qkernel.specs.State.{State, IsSound, facts_in}
+use Rattle.qkernel.specs.Kernel.{State, IsSound, facts_in}
 use Rattle.qkernel.proofs.Steps.Delivering.{items_after, with_item}
 
 -- the item that is due, with its channel

@@ -31,13 +31,13 @@ use Rattle.qstate.specs.declared.channel.Channel.{Channel}
 use Rattle.qstate.specs.declared.cutting.Cut.TheVariants.{Of}
 use Rattle.qstate.specs.declared.held.Held.{Held}
 use Rattle.qstate.specs.declared.thread.Thread.{Thread}
-use Rattle.qstate.specs.Channels.{pending_in}
-use Rattle.qstate.specs.Cuts.{AreCut, LoseCut}
-use Rattle.qstate.specs.HeldIn.{guard_in, guarded_message_in, held_message_in}
+use Rattle.qstate.specs.Channel.{pending_in}
+use Rattle.qstate.specs.Cutting.{AreCut, LoseCut}
+use Rattle.qstate.specs.Held.{guard_in, guarded_message_in, held_message_in}
 use Rattle.qstate.specs.Pulses.{has_room}
 use Rattle.qmodel.specs.Receivers.{newest_receiver}
-use Rattle.qstate.specs.Threads.{members_of, newest_in, open_in, MarksUnblocked}
-use Rattle.qkernel.specs.State.{State, IsSound, facts_in}
+use Rattle.qstate.specs.Thread.{members_of, newest_in, open_in, MarksUnblocked}
+use Rattle.qkernel.specs.Kernel.{State, IsSound, facts_in}
 use Rattle.qkernel.specs.Stands.{Steps}
 use Rattle.qmodel.proofs.Rosters.{among, filter_map_same, only_own, rises}
 use Rattle.qkernel.proofs.Steps.Common.{counted, stays_free, step_refused_alone, uncut_by}

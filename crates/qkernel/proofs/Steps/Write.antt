@@ -11,11 +11,11 @@ use Rattle.qmodel.specs.declared.call.Completion.{Completion}
 use Rattle.qmodel.specs.declared.call.Mark.TheVariants as mark
 use Rattle.qstate.specs.declared.thread.Thread.{Thread}
 use Rattle.qmodel.specs.Held.{reply_buffer_in}
-use Rattle.qstate.specs.HeldIn.{is_held_in}
+use Rattle.qstate.specs.Held.{is_held_in}
 use Rattle.qmodel.specs.Step.{is_thread, written_call}
-use Rattle.qkernel.specs.State.{State, IsSound}
+use Rattle.qkernel.specs.Kernel.{State, IsSound}
 use Rattle.qkernel.specs.Stands.{Steps}
-use Rattle.qstate.specs.Threads.{members_of, open_in, sender_in, sent_call, ChangesSender}
+use Rattle.qstate.specs.Thread.{members_of, open_in, sender_in, sent_call, ChangesSender}
 use Rattle.qbase.proofs.Lists.{cond_same}
 use Rattle.qmodel.proofs.Rosters.{among, only_own, rises}
 use Rattle.qkernel.proofs.Steps.Common.{uncut}

@@ -2,18 +2,18 @@
 
 ghost use Rattle.std.specs.Prelude.{◌≡◌, Some, true, false, position, IfOk, IfErr};
 ghost use Rattle.qmodel.specs.Facts.{is_send};
-ghost use Rattle.qstate.specs.HeldIn.{is_held_in};
+ghost use Rattle.qstate.specs.Held.{is_held_in};
 ghost use Rattle.qmodel.specs.Facts.{is_in_process};
 ghost use Rattle.qtables.specs.Members.{member_at};
-ghost use Rattle.qstate.specs.HeldIn.{guarded_message_in, held_message_in};
-ghost use Rattle.qstate.specs.Threads.{level_in, members_of, open_in, seat_in};
+ghost use Rattle.qstate.specs.Held.{guarded_message_in, held_message_in};
+ghost use Rattle.qstate.specs.Thread.{level_in, members_of, open_in, seat_in};
 
 use super::Kernel;
 use super::turn::Turn;
 use qbase::errno::Errno;
 use qbase::ids::{ChannelId, ReceiveId, ThreadNo};
 use qbase::priority::Priority;
-use qstate::held::{Held, guarded, held_seat};
+use qstate::held::{Held, guarded_message, held_seat};
 use qstate::thread::{level_of, seat_in_process};
 
 impl Kernel {
@@ -55,11 +55,11 @@ impl Kernel {
 
     /// The message that the thread at a seat waits for the answer to and that is held on a channel with the
     /// unblock flag, and that channel.
-    pub(super) fn guarded(&self, seat: usize, thread: ThreadNo) -> Option<(Held, ChannelId)>
+    pub(super) fn guarded_message(&self, seat: usize, thread: ThreadNo) -> Option<(Held, ChannelId)>
         requires { seat_in self.now.threads thread ≡ Some seat }
         ensures { result ≡ guarded_message_in self.now.connections self.now.channels (held_message_in (open_in self.now.threads thread)) }
     {
-        guarded(
+        guarded_message(
             &self.threads,
             &self.connections,
             &self.channels,

@@ -8,7 +8,7 @@ use qmodel::call::{Call, Mark};
 use qstate::endings::Endings;
 
 impl Kernel {
-    ghost use Rattle.qkernel.specs.Turns.{MayCall, MakesOrRefuses};
+    ghost use Rattle.qkernel.specs.Turn.{MayCall, MakesOrRefuses};
 
     /// Tells of a held message. Changes nothing, never blocks, and takes no memory.
     pub(super) fn info(

@@ -11,12 +11,12 @@ use qbase::ids::ChannelId;
 use qmodel::call::Call;
 use qmodel::open_call::Wait;
 use qqueue::item::Kind;
-use qstate::channel::{carried, owns, take_best};
+use qstate::channel::{carried_priority, owns, take_best};
 use qstate::endings::Endings;
 use qstate::thread::{hand_item, set_level};
 
 impl Kernel {
-    ghost use Rattle.qkernel.specs.Turns.{MayCall, Makes};
+    ghost use Rattle.qkernel.specs.Turn.{MayCall, Makes};
 
     /// Takes the best message or pulse of a channel, or blocks until one comes; takes no memory.
     pub(super) fn receive(
@@ -54,7 +54,7 @@ impl Kernel {
             }
             Some(item) => {
                 let mut buffer = buffer;
-                let level = carried(&self.channels, chid, item.priority);
+                let level = carried_priority(&self.channels, chid, item.priority);
                 let mark = hand_item(&mut self.threads, item, &mut buffer);
                 set_level(&mut self.threads, turn.seat, turn.thread, level);
                 turn.give_back(endings, mark, buffer);

@@ -40,7 +40,7 @@ fn replied_to(
 }
 
 impl Kernel {
-    ghost use Rattle.qkernel.specs.Turns.{MayCall, MakesOrRefuses};
+    ghost use Rattle.qkernel.specs.Turn.{MayCall, MakesOrRefuses};
 
     /// Answers a held message: its sender's call ends. Never blocks, and takes no memory.
     pub(super) fn reply(

@@ -1,9 +1,9 @@
 //! Send.
 
-ghost use Rattle.std.specs.Prelude.{◌≡◌, Some, false, true, is_some, option_map, IfSome};
+ghost use Rattle.std.specs.Prelude.{◌≡◌, ◌+◌, ◌<◌, ◌^◌, Some, false, true, is_some, option_map, IfSome};
 ghost use Rattle.qqueue.specs.Best.{is_pulse};
 ghost use Rattle.qmodel.specs.Rows.{takes, item_in_mark};
-ghost use Rattle.qstate.specs.Threads.{open_in, Wakes};
+ghost use Rattle.qstate.specs.Thread.{open_in, Wakes};
 
 use super::Kernel;
 use super::turn::Turn;
@@ -14,13 +14,25 @@ use qbase::priority::Priority;
 use qmodel::call::{Call, Completion, Mark};
 use qmodel::open_call::{OpenCall, Receipt, Wait};
 use qqueue::item::{Item, What};
-use qstate::channel::{carried, enqueue, way};
+use qstate::channel::{carried_priority, enqueue, way};
 use qstate::endings::{Endings, end_one};
 use qstate::thread::{Thread, newest_receiver, wake};
 
+/// The message that a turn sends, whose number is the turn's.
+fn message_item(turn: &Turn, priority: Priority) -> Item
+    requires { turn.now.made < 2 ^ 40 }
+    ensures { result ≡ record { number = turn.now.made + 1; priority = priority; what = What.Message } }
+{
+    Item {
+        number: turn.made + 1,
+        priority,
+        what: What::Message,
+    }
+}
+
 /// How the open call of a thread ends that takes a message, and how many bytes were copied; none where it
 /// doesn't wait for an item.
-fn taken(
+fn ending_with_message(
     call: Option<OpenCall>,
     thread: ThreadNo,
     item: &Item,
@@ -69,7 +81,7 @@ fn meet(
     ensures after { Wakes receiver level threads.old.items threads.new.items }
 {
     let call = wake(threads, receiver, level);
-    let Some(met) = taken(call, receiver, item, message) else {
+    let Some(met) = ending_with_message(call, receiver, item, message) else {
         unreachable!();
     };
     let (ended, copied) = met;
@@ -82,7 +94,7 @@ fn meet(
 }
 
 impl Kernel {
-    ghost use Rattle.qkernel.specs.Turns.{MayCall, Makes};
+    ghost use Rattle.qkernel.specs.Turn.{MayCall, Makes};
 
     /// Sends a message: to the receiver that began to wait last, or into the channel's queue, whose room is
     /// all that takes memory. The caller stays blocked until it is answered.
@@ -100,12 +112,7 @@ impl Kernel {
         let Some(chid) = way(&self.connections, &self.channels, turn.process, coid) else {
             return turn.refuse(endings, Errno::Badf, reply_buffer);
         };
-        let priority = self.priority_of(turn);
-        let item = Item {
-            number: turn.made + 1,
-            priority,
-            what: What::Message,
-        };
+        let item = message_item(turn, self.priority_of(turn));
         let receipt = match newest_receiver(&self.threads, chid, &item) {
             None => {
                 if let Err(errno) = enqueue(&mut self.channels, chid, item) {
@@ -114,9 +121,8 @@ impl Kernel {
                 None
             }
             Some(receiver) => {
-                let level = carried(&self.channels, chid, priority);
-                let met = meet(&mut self.threads, receiver, level, &item, &message);
-                let (ended, receipt) = met;
+                let level = carried_priority(&self.channels, chid, item.priority);
+                let (ended, receipt) = meet(&mut self.threads, receiver, level, &item, &message);
                 end_one(endings, ended);
                 Some(receipt)
             }

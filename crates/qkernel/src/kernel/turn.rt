@@ -2,7 +2,7 @@
 
 ghost use Rattle.std.specs.Prelude.{◌≡◌, ◌+◌, ◌<◌, ◌^◌, [], ◌∷◌, Some};
 ghost use Rattle.qstate.specs.Endings.{with_ending_in_place, with_ending_if};
-ghost use Rattle.qstate.specs.Threads.{seat_in, SetsOpen};
+ghost use Rattle.qstate.specs.Thread.{seat_in, SetsOpen};
 
 use qbase::bytes::Bytes;
 use qbase::errno::Errno;

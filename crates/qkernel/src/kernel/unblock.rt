@@ -26,7 +26,7 @@ fn pulse_for(number: u64, held: &Held) -> Item
 }
 
 impl Kernel {
-    ghost use Rattle.qkernel.specs.Turns.{MayCall, MakesOrRefuses};
+    ghost use Rattle.qkernel.specs.Turn.{MayCall, MakesOrRefuses};
 
     /// Ends what a thread of the caller's process is blocked in, with `Intr`; but a message that is held on a
     /// channel with the unblock flag stays, and its server gets a pulse, once. Of a thread that isn't blocked
@@ -42,7 +42,7 @@ impl Kernel {
         ensures { MakesOrRefuses self.old turn.now (Call.Unblock target) result endings.new.items self.new }
     {
         let there = self.fellow_seat(turn, target)?;
-        let Some(guarded) = self.guarded(there, target) else {
+        let Some(guarded) = self.guarded_message(there, target) else {
             cut_calls(
                 &mut self.threads,
                 &mut self.channels,

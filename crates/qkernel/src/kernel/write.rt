@@ -10,7 +10,7 @@ use qstate::endings::Endings;
 use qstate::held::write_sent;
 
 impl Kernel {
-    ghost use Rattle.qkernel.specs.Turns.{MayCall, MakesOrRefuses};
+    ghost use Rattle.qkernel.specs.Turn.{MayCall, MakesOrRefuses};
 
     /// Copies bytes over the reply buffer of a held message's sender, which stays blocked; an offset at or
     /// past the buffer's end copies nothing. Never blocks, and takes no memory.

@@ -6,7 +6,7 @@ use Rattle.qtables.specs.Members.{member_at}
 use Rattle.qmodel.specs.declared.call.Mark.TheVariants as mark
 use Rattle.qmodel.specs.Ids.{ThreadNo}
 use Rattle.qmodel.specs.Facts.{Facts}
-use Rattle.qmodel.specs.ThreadStates.{state_in}
+use Rattle.qmodel.specs.ThreadState.{state_in}
 use Rattle.qmodel.specs.Rows.{Row, plain_row}
 use Rattle.qmodel.specs.Effect.{Effect, no_effect}
 

@@ -3,8 +3,8 @@ use Rattle.std.specs.Prelude.{◌≡◌, ℕ, ◌+◌, ◌-◌, ◌&&◌, nat_le
 use Rattle.qmodel.specs.OnlyRun.{event_call}
 use Rattle.qmodel.specs.Trace.{Event, Run}
 use Rattle.qmodel.specs.declared.call.Call.{Call}
-use Rattle.qkernel.specs.Runs.{RunsAtTraces}
-use Rattle.qkernel.specs.State.{State}
+use Rattle.qkernel.specs.Run.{RunsAtTraces}
+use Rattle.qkernel.specs.Kernel.{State}
 use Rattle.qscript.specs.Printing.Printed.{shows_buffer, texts_from}
 use Rattle.qscript.specs.declared.printing.printer.Printer.{Printer}
 

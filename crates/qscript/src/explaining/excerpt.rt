@@ -27,7 +27,7 @@ impl fmt::Display for Excerpt {
 }
 
 /// How a byte of a line is shown.
-fn shown(byte: u8) -> char {
+fn shown_byte(byte: u8) -> char {
     match byte {
         b'\t' => ' ',
         0x20..=0x7e => byte as char,
@@ -42,7 +42,7 @@ fn shown_line(alloc: Global, line: &[u8], from: usize) -> Result<String, AllocEr
         text.push_str("..")?;
     }
     for byte in line.iter().skip(from).take(MOST_SHOWN) {
-        text.push(shown(*byte))?;
+        text.push(shown_byte(*byte))?;
     }
     if line.len().saturating_sub(from) > MOST_SHOWN {
         text.push_str("..")?;

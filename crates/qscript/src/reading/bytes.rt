@@ -29,7 +29,7 @@ fn plain(alloc: Global, word: &[u8]) -> Result<Bytes, ParseError>
 
 /// So many equal bytes.
 #[tactic(auto, unfolding(crate::specs::Reading::Operand::repeated_of))]
-fn repeated(alloc: Global, count: &[u8], pair: &[u8]) -> Result<Bytes, ParseError>
+fn repeated_bytes(alloc: Global, count: &[u8], pair: &[u8]) -> Result<Bytes, ParseError>
     ensures { Gives result (repeated_of count.now pair.now) }
 {
     let fault = Err(ParseError::Fault(LineFault::BadBytes));
@@ -58,7 +58,7 @@ pub fn bytes_said(alloc: Global, word: &[u8]) -> Result<Bytes, ParseError>
     ensures { Gives result (bytes_of word.now) }
 {
     match cross(word) {
-        Some(at) => repeated(alloc, &word[..at], &word[at + 1..]),
+        Some(at) => repeated_bytes(alloc, &word[..at], &word[at + 1..]),
         None => plain(alloc, word),
     }
 }

@@ -63,7 +63,7 @@ pub fn priority(word: &[u8]) -> Result<Priority, LineFault>
 
 /// The value of digits, with a minus sign or without.
 #[tactic(auto, unfolding(crate::specs::Reading::Number::signed_of))]
-fn signed(word: &[u8]) -> Option<i128>
+fn signed_number(word: &[u8]) -> Option<i128>
     ensures { result ≡ signed_of word.now }
 {
     match word {
@@ -83,7 +83,7 @@ fn signed(word: &[u8]) -> Option<i128>
 pub fn wide(word: &[u8]) -> Result<i64, LineFault>
     ensures { result ≡ integer_of (2 ^ 63) word.now }
 {
-    match signed(word) {
+    match signed_number(word) {
         Some(value) if value >= i64::MIN as i128 && value <= i64::MAX as i128 => Ok(value as i64),
         _ => Err(LineFault::BadNumber),
     }
@@ -94,7 +94,7 @@ pub fn wide(word: &[u8]) -> Result<i64, LineFault>
 pub fn narrow(word: &[u8]) -> Result<i32, LineFault>
     ensures { result ≡ integer_of (2 ^ 31) word.now }
 {
-    match signed(word) {
+    match signed_number(word) {
         Some(value) if value >= i32::MIN as i128 && value <= i32::MAX as i128 => Ok(value as i32),
         _ => Err(LineFault::BadNumber),
     }
@@ -105,7 +105,7 @@ pub fn narrow(word: &[u8]) -> Result<i32, LineFault>
 pub fn byte(word: &[u8]) -> Result<i8, LineFault>
     ensures { result ≡ integer_of (2 ^ 7) word.now }
 {
-    match signed(word) {
+    match signed_number(word) {
         Some(value) if value >= i8::MIN as i128 && value <= i8::MAX as i128 => Ok(value as i8),
         _ => Err(LineFault::BadNumber),
     }

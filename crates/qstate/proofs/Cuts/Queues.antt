@@ -17,8 +17,8 @@ use Rattle.qmodel.specs.Facts.{is_for_receipt}
 use Rattle.qmodel.specs.Cutting.{is_to, is_on}
 use Rattle.qmodel.specs.Step.{is_unread_send}
 use Rattle.qstate.specs.declared.channel.Channel.{Channel}
-use Rattle.qstate.specs.Channels.{pending_in, items_waiting_on, SetsItems}
-use Rattle.qstate.specs.Cuts.{unread_on_by, call_if_cut, is_taken_from, Lose}
+use Rattle.qstate.specs.Channel.{pending_in, items_waiting_on, SetsItems}
+use Rattle.qstate.specs.Cutting.{unread_on_by, call_if_cut, is_taken_from, Lose}
 use Rattle.qbase.proofs.Lists.{eqb_either, filter_twice, filter_whole}
 
 -- without those of which one thing is so, and then without those of which another is

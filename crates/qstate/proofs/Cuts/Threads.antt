@@ -17,9 +17,9 @@ use Rattle.qmodel.specs.Facts.{threads_of}
 use Rattle.qstate.specs.declared.channel.Channel.{Channel}
 use Rattle.qstate.specs.declared.cutting.Cut.{Cut}
 use Rattle.qstate.specs.declared.thread.Thread.{Thread}
-use Rattle.qstate.specs.Channels.{ids_of, channel_in, pending_in}
-use Rattle.qstate.specs.Cuts.{is_cut_by, is_cut_open, is_taken_from, is_cut_among, ending_for, with_ending, thread_after_cut, Lose, LoseCut, AreCut}
-use Rattle.qstate.specs.Threads.{members_of, open_in, level_in}
+use Rattle.qstate.specs.Channel.{ids_of, channel_in, pending_in}
+use Rattle.qstate.specs.Cutting.{is_cut_by, is_cut_open, is_taken_from, is_cut_among, ending_for, with_ending, thread_after_cut, Lose, LoseCut, AreCut}
+use Rattle.qstate.specs.Thread.{members_of, open_in, level_in}
 use Rattle.qbase.proofs.Lists.{filter_whole}
 use Rattle.qstate.proofs.Cuts.Queues.{filter_after}
 use Rattle.qstate.proofs.Senders.{own_open}

@@ -1,5 +1,5 @@
 use Rattle.std.specs.Prelude.{map}
-use Rattle.balsaeuchre.specs.Threads.{members_of}
+use Rattle.balsaeuchre.specs.Thread.{members_of}
 use Rattle.balsaeuchre.specs.Words.{cells_id}
 use Rattle.balsaeuchre_uses.proofs.two_threads.on_two_threads.Given as goal
 

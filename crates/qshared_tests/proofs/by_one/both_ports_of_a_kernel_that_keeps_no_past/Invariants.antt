@@ -1,5 +1,5 @@
 use Rattle.std.specs.Prelude.{map}
-use Rattle.qstate.specs.Threads.{members_of}
+use Rattle.qstate.specs.Thread.{members_of}
 use Rattle.qhandoff.specs.Words.{cells_id}
 use Rattle.qshared_tests.proofs.by_one.both_ports_of_a_kernel_that_keeps_no_past.Given as goal
 

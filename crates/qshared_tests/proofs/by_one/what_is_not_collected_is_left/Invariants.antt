@@ -1,5 +1,5 @@
 use Rattle.std.specs.Prelude.{map}
-use Rattle.qstate.specs.Threads.{members_of}
+use Rattle.qstate.specs.Thread.{members_of}
 use Rattle.qhandoff.specs.Words.{cells_id}
 use Rattle.qshared_tests.proofs.by_one.what_is_not_collected_is_left.Given as goal
 

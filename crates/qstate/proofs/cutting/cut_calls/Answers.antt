@@ -18,8 +18,8 @@ end_thread-ending-requires c =
       idle = idle_here (entry_at c.args.connections.now) c.args.cut c.args.errno c.args.own c.args.threads.now.items c.loop-thread.thread-items c.loop-thread.thread-index c.thread-item.result c.args.channels.now c.loop-thread.channels c.loop-thread.left c.loop-thread.endings.items so.threads l so.so_far c.caller_of-caller.result c.caller_of-caller.ensures;
     }
 
-pub put-requires : goal.put-requires
-put-requires c = omega (arith, ap length c.deref_mut-thread-items.ensures.value)
+pub push_ending-requires : goal.push_ending-requires
+push_ending-requires c = omega (arith, ap length c.deref_mut-thread-items.ensures.value)
 
 pub loop-thread-preserved : goal.loop-thread-preserved
 loop-thread-preserved c =
@@ -27,9 +27,9 @@ loop-thread-preserved c =
     let l : c.loop-thread.thread-index < length c.args.threads.now.items = omega (arith, ap length c.deref_mut-thread-items.ensures.value) in
     record {
       threads = passed_on (entry_at c.args.connections.now) c.args.cut c.args.errno c.args.own c.args.threads.now.items c.loop-thread.thread-items c.loop-thread.thread-index c.thread-item.result c.end_thread-ending.new.thread so.threads l c.end_thread-ending.ensures.thread;
-      few = rw c.put.ensures (omega (arith, few_more c.loop-thread.endings.items c.end_thread-ending.result));
+      few = rw c.push_ending.ensures (omega (arith, few_more c.loop-thread.endings.items c.end_thread-ending.result));
       so_far = sweeps_step (entry_at c.args.connections.now) c.args.cut c.args.errno c.args.own c.args.threads.now.items c.loop-thread.thread-items c.loop-thread.thread-index c.thread-item.result c.args.channels.now c.loop-thread.channels c.loop-thread.left c.loop-thread.endings.items so.threads l so.so_far c.caller_of-caller.result c.caller_of-caller.ensures
-          c.end_thread-ending.new.channels c.end_thread-ending.new.own c.end_thread-ending.result c.put.new.endings.items c.end_thread-ending.ensures.channels c.end_thread-ending.ensures.own c.end_thread-ending.ensures.ending c.put.ensures;
+          c.end_thread-ending.new.channels c.end_thread-ending.new.own c.end_thread-ending.result c.push_ending.new.endings.items c.end_thread-ending.ensures.channels c.end_thread-ending.ensures.own c.end_thread-ending.ensures.ending c.push_ending.ensures;
     }
 
 pub returns-clause-endings : goal.returns-clause-endings

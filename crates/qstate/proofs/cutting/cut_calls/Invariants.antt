@@ -1,6 +1,6 @@
 use Rattle.std.proofs.Common.{◌≡◌, ◌≤◌, length, drop}
 use Rattle.qtables.specs.Entries.{entry_at}
-use Rattle.qstate.specs.Cuts.{thread_after_cut}
+use Rattle.qstate.specs.Cutting.{thread_after_cut}
 use Rattle.qstate.proofs.Cuts.Threads.{swept, Sweeps}
 use Rattle.qstate.proofs.cutting.cut_calls.Given as goal
 

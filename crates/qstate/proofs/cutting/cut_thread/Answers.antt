@@ -1,6 +1,6 @@
 use Rattle.std.proofs.Common.{sym}
 use Rattle.qtables.specs.Entries.{entry_at}
-use Rattle.qstate.specs.Cuts.{is_cut_by}
+use Rattle.qstate.specs.Cutting.{is_cut_by}
 use Rattle.qstate.proofs.Cuts.Queues.{loses_nothing, untaken}
 use Rattle.qstate.proofs.cutting.cut_thread.Goals as goal
 

@@ -1,6 +1,6 @@
 use Rattle.std.proofs.Common.{ap, sym}
 use Rattle.qtables.specs.Entries.{entry_at}
-use Rattle.qstate.specs.Cuts.{is_cut_by, is_taken_from}
+use Rattle.qstate.specs.Cutting.{is_cut_by, is_taken_from}
 use Rattle.qstate.proofs.Cuts.Queues.{loses_nothing}
 use Rattle.qstate.proofs.cutting.end_thread.Goals as goal
 

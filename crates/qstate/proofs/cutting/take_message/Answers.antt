@@ -2,7 +2,7 @@ use Rattle.std.proofs.Common.{ap, sym, ◌∙◌}
 use Rattle.std.proofs.lemmas.Bool.{and_right}
 use Rattle.qqueue.specs.Best.{without_item}
 use Rattle.qtables.specs.Entries.{entry_at}
-use Rattle.qstate.specs.Channels.{items_waiting_on}
+use Rattle.qstate.specs.Channel.{items_waiting_on}
 use Rattle.qstate.proofs.ChannelWrites.{sets_items}
 use Rattle.qstate.proofs.Cuts.Queues.{loses_nothing, loses_gone, loses_one, waits_so, unread_so}
 use Rattle.qstate.proofs.cutting.take_message.Goals as goal

@@ -1,5 +1,5 @@
 use Rattle.std.proofs.Common.{ap, set, sym, subst, ◌∙◌, None, Some}
-use Rattle.qstate.specs.Threads.{SetsOpen}
+use Rattle.qstate.specs.Thread.{SetsOpen}
 use Rattle.qstate.proofs.Seats.{first_open, sets_open}
 use Rattle.qstate.proofs.Senders.{first_there, sender_there}
 use Rattle.qstate.proofs.held.take_sent.Goals as goal

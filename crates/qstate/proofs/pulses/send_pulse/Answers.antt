@@ -1,6 +1,6 @@
 use Rattle.std.proofs.Common.{[], sym, ◌∙◌}
 use Rattle.qtables.specs.Members.{IsRoster}
-use Rattle.qstate.specs.Threads.{members_of}
+use Rattle.qstate.specs.Thread.{members_of}
 use Rattle.qstate.proofs.Receivers.{met_there, newest_receives, waits_open}
 use Rattle.qstate.proofs.pulses.send_pulse.Goals as goal
 
@@ -16,4 +16,4 @@ unreachable-requires c =
     let roster : IsRoster (members_of c.deref.result.now) = rw (c.deref.ensures.value) c.requires.roster in
     let newest = rw c.deref.ensures.value at (sym (c.newest_receiver.ensures roster) ∙ c.in-Some.is) in
     let waits = newest_receives c.args.threads.now.items c.args.chid c.args.item c.in-Some.receiver newest in
-    met_there c.args.chid waits.0 _ [] _ _ c.wake-call.result c.told.result waits.1 c.wake-call.ensures.had c.told.ensures c.in_default-told.is
+    met_there c.args.chid waits.0 _ [] _ _ c.wake-call.result c.ending_with_pulse.result waits.1 c.wake-call.ensures.had c.ending_with_pulse.ensures c.in_default-ending_with_pulse.is

@@ -1,5 +1,5 @@
 use Rattle.std.proofs.Common.{◌≡◌, take, map}
-use Rattle.qstate.specs.Threads.{ready_thread}
+use Rattle.qstate.specs.Thread.{ready_thread}
 use Rattle.qstate.proofs.thread.threads_for.Given as goal
 
 abbrev pub invariant-loop-member : goal.invariant-loop-member

@@ -4,7 +4,7 @@ use Rattle.std.proofs.lemmas.Int.{to_z-of_z}
 use Rattle.std.specs.Prelude.{Some}
 use Rattle.qmodel.specs.Rows.{pulse_item}
 use Rattle.qmodel.specs.declared.call.Call.TheVariants.{Pulse}
-use Rattle.qkernel.specs.State.{State}
+use Rattle.qkernel.specs.Kernel.{State}
 use Rattle.qkernel.proofs.Steps.Pulse.{natural, pulse_full, pulse_memory, tells_pulse}
 use Rattle.qkernel.proofs.Steps.Telling.{none_marked, sound_due, sound_turned_away, step_told, step_turned_away}
 use Rattle.qkernel.proofs.kernel.Kernel.pulse.Goals as goal

@@ -36,4 +36,4 @@ returns-in-Some c =
     let may = rw (← c.self.view_is) at c.requires.may in
     let ended = rw (c.hand_item-mark.ensures.mark, c.hand_item-mark.ensures.buffer) at c.give_back.ensures in
     rw (← c.self.view_is, may.counted) (step_receive_takes _ c.args.turn.now.thread c.args.chid c.args.kind c.args.buffer _ may.sound may.caller.known may.up may.free (sym c.if-not-owns.ensures) c.requires.buffer c.in-Some.item (sym c.in-Some.ensures.best) _ _ _ _
-    c.hand_item-mark.ensures.kept (rw c.carried-level.ensures at c.set_level.ensures) c.in-Some.ensures.taken ended)
+    c.hand_item-mark.ensures.kept (rw c.carried_priority-level.ensures at c.set_level.ensures) c.in-Some.ensures.taken ended)

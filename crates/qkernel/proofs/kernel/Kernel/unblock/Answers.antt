@@ -24,7 +24,7 @@ pub returns-in_default : goal.returns-in_default
 returns-in_default c =
     let may = rw (← c.self.view_is) at c.requires in
     let fellow = rw (← c.self.view_is) at c.in_ok-there.ensures.fellow in
-    let none = rw (← c.self.view_is) at (sym c.guarded.ensures ∙ c.in_default.is) in
+    let none = rw (← c.self.view_is) at (sym c.guarded_message.ensures ∙ c.in_default.is) in
     rw (← c.self.view_is, may.counted) (step_unblock_cut _ c.args.turn.now.thread c.args.target _ may.sound may.caller.known may.up may.free fellow none _ _ _ c.cut_calls.ensures.threads c.cut_calls.ensures.channels
     (rw c.ending.ensures at c.cut_calls.ensures.endings))
 
@@ -34,7 +34,7 @@ pub returns-then-held : goal.returns-then-held
 returns-then-held c =
     let may = rw (← c.self.view_is) at c.requires in
     let fellow = rw (← c.self.view_is) at c.in_ok-there.ensures.fellow in
-    let guards = rw (← c.self.view_is) at (sym c.guarded.ensures ∙ c.in-Some.is) in
+    let guards = rw (← c.self.view_is) at (sym c.guarded_message.ensures ∙ c.in-Some.is) in
     rw (← c.self.view_is, may.counted) (step_unblock_again _ c.args.turn.now.thread c.args.target _ may.sound may.caller.known may.up may.free fellow c.in-Some.guarded guards c.if-held.true _ c.end.ensures)
 
 -- ---- its server is told
@@ -72,7 +72,7 @@ pub returns : goal.returns
 returns c =
     let may = rw (← c.self.view_is) at c.requires in
     let fellow = rw (← c.self.view_is) at c.in_ok-there.ensures.fellow in
-    let guards = rw (← c.self.view_is) at (sym c.guarded.ensures ∙ c.in-Some.is) in
+    let guards = rw (← c.self.view_is) at (sym c.guarded_message.ensures ∙ c.in-Some.is) in
     let g = c.in-Some.guarded in
     let pulse = c.pulse_for-pulse.result in
     let new = new_pulse (c.args.turn.now.made + 1) _ _ pulse c.pulse_for-pulse.ensures in
@@ -85,7 +85,7 @@ pub returns-in_err-met : goal.returns-in_err-met
 returns-in_err-met c =
     let may = rw (← c.self.view_is) at c.requires in
     let fellow = rw (← c.self.view_is) at c.in_ok-there.ensures.fellow in
-    let guards = rw (← c.self.view_is) at (sym c.guarded.ensures ∙ c.in-Some.is) in
+    let guards = rw (← c.self.view_is) at (sym c.guarded_message.ensures ∙ c.in-Some.is) in
     let g = c.in-Some.guarded in
     let pulse = c.pulse_for-pulse.result in
     let p = err_from_is_err_and c.from_residual-in_err-met.result c.from_residual-in_err-met.ensures.1 in

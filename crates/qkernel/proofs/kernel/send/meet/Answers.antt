@@ -17,7 +17,7 @@ wake-call-requires c = takes_open c.args.item.now c.args.message.now c.args.rece
 
 pub unreachable-requires : goal.unreachable-requires
 unreachable-requires c =
-    true≢false (sym c.requires.waits ∙ ap (λ o. is_some (takes c.args.item.now c.args.message.now c.args.receiver o)) (sym c.wake-call.ensures.had) ∙ ap is_some (sym c.taken.ensures.ended) ∙ ap (λ x. is_some (option_map (λ y. y.0) x)) c.in_default.is)
+    true≢false (sym c.requires.waits ∙ ap (λ o. is_some (takes c.args.item.now c.args.message.now c.args.receiver o)) (sym c.wake-call.ensures.had) ∙ ap is_some (sym c.ending_with_message.ensures.ended) ∙ ap (λ x. is_some (option_map (λ y. y.0) x)) c.in_default.is)
 
 pub returns-clause-ended : goal.returns-clause-ended
 returns-clause-ended c = ap (takes c.args.item.now c.args.message.now c.args.receiver) (sym c.wake-call.ensures.had) ∙ sym c.in-Some.ensures.ended

@@ -104,7 +104,7 @@ returns-clause-performs g c =
     let opened = c.if-not-open.ensures.desk in
     let wide : length (desk c.self.inside.seat).lines ≡ g.K.Tie.cells.slots = c.self.inside.seat.knows.1 ∙ ap (λ z. z.slots) c.self.invariant.0 in
     let past = c.event.ensures.event ∙ ap (λ k. with_event c.args.thread k c.step.new.endings.items (g.L.Log.past c.note.new.self)) c.in_default-note.ensures.noted.0 ∙ ap (λ p. with_event c.args.thread c.args.call c.step.new.endings.items p) c.note.ensures.same.0 in
-    rw (← c.self.view_is, c.ended.ensures, c.hand_out-own.ensures.own, past) (performs _ _ _ _ _ _ _ c.self.invariant.2 c.args.thread c.in-Some.place at up opened.1 wide c.in_default-note.ensures.few c.args.call c.step.new.endings.items c.step.new.self c.step.ensures.event g.L.Log.refuses g.L.Log.admits _ _ _ c.in_default-note.ensures.admitted)
+    rw (← c.self.view_is, c.ended_or_open.ensures, c.hand_out-own.ensures.own, past) (performs _ _ _ _ _ _ _ c.self.invariant.2 c.args.thread c.in-Some.place at up opened.1 wide c.in_default-note.ensures.few c.args.call c.step.new.endings.items c.step.new.self c.step.ensures.event g.L.Log.refuses g.L.Log.admits _ _ _ c.in_default-note.ensures.admitted)
 
 pub note-requires : goal.note-requires
 note-requires g c = record {

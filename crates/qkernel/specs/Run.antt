@@ -10,8 +10,8 @@ use Rattle.qmodel.specs.Lawful.{IsLawful, followed_by}
 use Rattle.qmodel.specs.OnlyRun.{IsOnlyRun}
 use Rattle.qmodel.specs.Properties.{HasProperties}
 use Rattle.qkernel.specs.Stands.{StandsAt}
-use Rattle.qkernel.specs.State.{State}
-use Rattle.qstate.specs.Threads.{members_of}
+use Rattle.qkernel.specs.Kernel.{State}
+use Rattle.qstate.specs.Thread.{members_of}
 use Rattle.qmodel.specs.Trace.{Event, Trace, Run}
 
 -- each of these calls is of a thread of the roster

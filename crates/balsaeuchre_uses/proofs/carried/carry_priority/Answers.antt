@@ -5,7 +5,7 @@ use Rattle.balsaeuchre.specs.OnlyRun.{event_call}
 use Rattle.balsaeuchre_uses.specs.Carried.{roster, events}
 use Rattle.balsaeuchre_uses.proofs.Lawful.{carried_lawful, carried_memory}
 use Rattle.balsaeuchre_uses.proofs.RunLemmas.{run_of}
-use Rattle.balsaeuchre_uses.proofs.carried.carried.Goals as goal
+use Rattle.balsaeuchre_uses.proofs.carried.carry_priority.Goals as goal
 
 pub returns : goal.returns
 returns c =

@@ -1,7 +1,7 @@
 use Rattle.std.specs.Prelude.{map}
-use Rattle.qstate.specs.Threads.{members_of}
+use Rattle.qstate.specs.Thread.{members_of}
 use Rattle.qhandoff.specs.Words.{cells_id}
-use Rattle.qroundtrips.proofs.course.measured.Given as goal
+use Rattle.qroundtrips.proofs.course.measure.Given as goal
 
 abbrev pub ghosts-run-K-Ledger : goal.ghosts-run-K-Ledger
 ghosts-run-K-Ledger g a = record { name = a.parts.blank.name; parts = a.parts.blank.parts }

@@ -5,7 +5,7 @@ use Rattle.balsaeuchre_uses.specs.ThreeThreads.{roster}
 use Rattle.balsaeuchre_uses.specs.Timeout.{cut_events}
 use Rattle.balsaeuchre_uses.proofs.Lawful.{cut_lawful, cut_memory}
 use Rattle.balsaeuchre_uses.proofs.RunLemmas.{run_of}
-use Rattle.balsaeuchre_uses.proofs.timeout.cut.Goals as goal
+use Rattle.balsaeuchre_uses.proofs.timeout.without_flag.Goals as goal
 
 pub returns : goal.returns
 returns c =

@@ -5,7 +5,7 @@ use lib.ListN.{get_elem?}
 use Rattle.qhandoff.specs.Words.{took, IsRow}
 use Rattle.qhandoff.proofs.Starting.{starts}
 use Rattle.qhandoff.proofs.Rows.{row_more, took_more}
-use Rattle.qhandoff.proofs.making.made.Goals as goal
+use Rattle.qhandoff.proofs.making.make_cells.Goals as goal
 
 pub vacant-requires : goal.vacant-requires
 vacant-requires g c = starts _ _ (search rules)

@@ -5,9 +5,9 @@ use Rattle.qtables.specs.Members.{member_at}
 use Rattle.qmodel.specs.declared.call.Call.{Call}
 use Rattle.qmodel.specs.declared.call.Completion.{Completion}
 use Rattle.qmodel.specs.declared.call.Mark.TheVariants as mark
-use Rattle.qstate.specs.Threads.{members_of, open_in, seat_in}
+use Rattle.qstate.specs.Thread.{members_of, open_in, seat_in}
 use Rattle.qstate.specs.declared.thread.Thread.{Thread}
-use Rattle.qkernel.specs.State.{State, IsSound}
+use Rattle.qkernel.specs.Kernel.{State, IsSound}
 use Rattle.qkernel.specs.Stands.{Steps}
 use Rattle.qkernel.specs.declared.kernel.turn.Turn.{Turn}
 

@@ -4,7 +4,7 @@ use Rattle.balsaeuchre_uses.specs.ThreeThreads.{roster}
 use Rattle.balsaeuchre_uses.specs.Timeout.{told_events}
 use Rattle.balsaeuchre_uses.proofs.Lawful.{told_lawful, told_memory}
 use Rattle.balsaeuchre_uses.proofs.RunLemmas.{run_of}
-use Rattle.balsaeuchre_uses.proofs.timeout.told.Goals as goal
+use Rattle.balsaeuchre_uses.proofs.timeout.with_flag.Goals as goal
 
 pub returns : goal.returns
 returns c =

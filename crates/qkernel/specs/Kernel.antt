@@ -6,9 +6,9 @@ use Rattle.qtables.specs.Members.{IsRoster}
 use Rattle.qtables.specs.declared.connection.Connection.{Connection}
 use Rattle.qstate.specs.declared.channel.Channel.{Channel}
 use Rattle.qstate.specs.declared.thread.Thread.{Thread}
-use Rattle.qstate.specs.Channels.{channel_in, pending_in, ids_of}
+use Rattle.qstate.specs.Channel.{channel_in, pending_in, ids_of}
 use Rattle.qmodel.specs.Facts.{Facts}
-use Rattle.qstate.specs.Threads.{members_of, open_in, level_in}
+use Rattle.qstate.specs.Thread.{members_of, open_in, level_in}
 
 -- how many calls it made, whether it is shut down, its threads, its open channels and its live connections
 pub record State : Type 0 where

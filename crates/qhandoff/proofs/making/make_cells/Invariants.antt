@@ -3,7 +3,7 @@ use lib.ListN.{get_elem?}
 use Rattle.qhandoff.specs.declared.view.View.TheVariants.{Kernel}
 use Rattle.qhandoff.specs.Steps.{seated_desk}
 use Rattle.qhandoff.specs.Words.{took, IsRow}
-use Rattle.qhandoff.proofs.making.made.Given as goal
+use Rattle.qhandoff.proofs.making.make_cells.Given as goal
 
 abbrev pub invariant-loop-thread : goal.invariant-loop-thread
 invariant-loop-thread g l = (l.seat.table_id ≡ l.table.shared.table_id) × (l.seat.me ≡ (Kernel (seated_desk l.thread l.thread-end), []))

@@ -15,8 +15,8 @@ use Rattle.qstate.specs.declared.channel.Channel.{Channel}
 use Rattle.qstate.specs.declared.cutting.Cut.{Cut}
 use Rattle.qstate.specs.declared.cutting.Cut.TheVariants.{On, All, Of, Over}
 use Rattle.qstate.specs.declared.thread.Thread.{Thread}
-use Rattle.qstate.specs.Channels.{ids_of, channel_in, pending_in}
-use Rattle.qstate.specs.Threads.{members_of, open_in, level_in}
+use Rattle.qstate.specs.Channel.{ids_of, channel_in, pending_in}
+use Rattle.qstate.specs.Thread.{members_of, open_in, level_in}
 
 -- this is so of a thread and what it waits for, where that is cut
 abbrev pub is_cut_by : (ℕ → Option Connection) → Cut → ℕ → Wait → Bool
