@@ -4,7 +4,7 @@ use Rattle.qbase.specs.declared.state.ThreadState.TheVariants.{Ready}
 use Rattle.qtables.specs.declared.member.Member.{Member}
 use Rattle.qmodel.specs.declared.call.Call.TheVariants.{ChannelCreate, ConnectAttach, Send, Receive, Reply, State}
 use Rattle.qmodel.specs.declared.call.Mark.TheVariants as mark
-use Rattle.qmodel.specs.Worked.Runs.{member, event, ended, flags_of}
+use Rattle.qworked.specs.Runs.{member, event, ended, flags_of}
 use Rattle.balsaeuchre.specs.Trace.{Event}
 
 -- a store and a server of priority 10, an urgent client and a middling one, each a process of its own

@@ -3,7 +3,7 @@ use Rattle.std.specs.Prelude.{List, [], ◌∷◌, pos}
 use Rattle.qbase.specs.declared.errno.Errno.TheVariants.{Srch, Down}
 use Rattle.qmodel.specs.declared.call.Call.TheVariants.{ChannelCreate, ConnectAttach, Send, Receive, Reply, ChannelDestroy, ConnectDetach, Shutdown}
 use Rattle.qmodel.specs.declared.call.Mark.TheVariants as mark
-use Rattle.qmodel.specs.Worked.Runs.{event, ended, flags_of}
+use Rattle.qworked.specs.Runs.{event, ended, flags_of}
 use Rattle.balsaeuchre.specs.Trace.{Event}
 
 -- message 3 is answered, message 5 ends with the channel, and the last call is refused

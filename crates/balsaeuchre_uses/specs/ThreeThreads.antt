@@ -1,7 +1,7 @@
 -- The roster of the uses with three threads.
 use Rattle.std.specs.Prelude.{List, [], ◌∷◌}
 use Rattle.qtables.specs.declared.member.Member.{Member}
-use Rattle.qmodel.specs.Worked.Runs.{member}
+use Rattle.qworked.specs.Runs.{member}
 
 -- a server, and a process of a client and another thread
 abbrev pub roster : List Member

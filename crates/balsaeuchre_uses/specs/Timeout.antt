@@ -6,7 +6,7 @@ use Rattle.qbase.specs.declared.flags.ChannelFlags.{ChannelFlags}
 use Rattle.qmodel.specs.declared.call.Call.{Call}
 use Rattle.qmodel.specs.declared.call.Call.TheVariants.{ChannelCreate, ConnectAttach, Send, Receive, Reply, Error, ReceivePulse, Unblock}
 use Rattle.qmodel.specs.declared.call.Mark.TheVariants as mark
-use Rattle.qmodel.specs.Worked.Runs.{event, ended, flags_of}
+use Rattle.qworked.specs.Runs.{event, ended, flags_of}
 use Rattle.balsaeuchre.specs.Trace.{Event}
 
 -- the server holds message 3, and the timer unblocks its sender

@@ -6,7 +6,7 @@ use Rattle.qmodel.specs.declared.call.Call.{Call}
 use Rattle.qmodel.specs.Trace.{Run}
 use Rattle.qmodel.specs.declared.open_call.Blocked.{Blocked}
 use Rattle.qscript.specs.Enrolled.{roster_with}
-use Rattle.qscript.specs.Reading.Meaning.{meaning, Says, IsFaultOf}
+use Rattle.qreading.specs.Reading.Meaning.{meaning, Says, IsFaultOf}
 use Rattle.qscript.specs.Script.{IsRunOf}
 use Rattle.qchart.specs.declared.chart.Chart.{Chart}
 use Rattle.qchart.specs.declared.fault.ChartFault.{ChartFault}

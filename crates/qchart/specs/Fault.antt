@@ -1,6 +1,6 @@
 -- How the program ends where there is no chart.
 use Rattle.std.specs.Prelude.{ℕ}
-use Rattle.qscript.specs.Status.{status_of as script_status_of}
+use Rattle.qreading.specs.Status.{status_of as script_status_of}
 use Rattle.qchart.specs.declared.fault.ChartFault.{ChartFault}
 use Rattle.qchart.specs.declared.fault.ChartFault.TheVariants.{Script, TooManyCalls}
 

@@ -1,7 +1,7 @@
 //! Why there is no chart.
 
 ghost use Rattle.std.specs.Prelude.{◌≡◌};
-ghost use Rattle.qscript.specs.declared.fault.ScriptFault.TheVariants.{NoMemory};
+ghost use Rattle.qreading.specs.declared.fault.ScriptFault.TheVariants.{NoMemory};
 ghost use Rattle.qchart.specs.declared.fault.ChartFault.TheVariants.{Script};
 ghost use Rattle.qchart.specs.Fault.{status_of};
 

@@ -3,7 +3,7 @@
 use crate::command::CheckRun;
 use crate::ending::{end_failed, end_unread, end_unwritten};
 use crate::example::{Outcome, outcome_of};
-use qscript::explain;
+use qexplain::explain;
 use qscript::fault::ScriptFault;
 use std::alloc::{AllocError, AllocFailed};
 use std::process::ExitCode;

@@ -3,7 +3,7 @@
 use crate::command::ScriptRun;
 use crate::ending::{end_quietly, end_unread, end_with};
 use crate::streams::{Outlet, Source};
-use qscript::explain;
+use qexplain::explain;
 use qscript::fault::{LineFault, ScriptFault};
 use qscript::script::script;
 use qscript::watched::Watched;

@@ -7,7 +7,7 @@ use crate::streams::{Outlet, Source};
 use crate::texts::SCRIPT_LONG;
 use clap::Error;
 use qchart::drawing::Style;
-use qscript::{CALLS, ROSTER};
+use qexplain::{CALLS, ROSTER};
 use qserve::settings::Settings;
 use std::alloc::Global;
 use std::io;

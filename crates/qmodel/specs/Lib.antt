@@ -19,7 +19,6 @@ pub mod Step
 pub mod OnlyRun
 pub mod Blocked
 pub mod Headline
-pub mod Worked
 pub mod Laws
 pub mod Endings
 pub mod Properties

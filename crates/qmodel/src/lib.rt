@@ -5,4 +5,3 @@
 pub mod call;
 pub mod laws;
 pub mod open_call;
-pub mod worked;

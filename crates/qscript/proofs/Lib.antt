@@ -1,4 +1,3 @@
-pub mod Texts
 pub mod Output
 pub mod Joining
 pub mod Runnable

@@ -11,19 +11,19 @@ use Rattle.qbase.proofs.Lists.{length-filter_map}
 use Rattle.qtables.specs.declared.member.Member.{Member}
 use Rattle.qtables.specs.Members.{member_at, with_member, join_refusal}
 use Rattle.qmodel.specs.declared.call.Call.{Call}
-use Rattle.qscript.specs.declared.reading.line.Line.{Line}
-use Rattle.qscript.specs.declared.reading.line.Line.TheVariants as lines
-use Rattle.qscript.specs.declared.fault.LineFault.{LineFault}
-use Rattle.qscript.specs.declared.fault.LineFault.TheVariants.{DoubleThread, TooManyThreads, UnknownThread}
+use Rattle.qreading.specs.declared.reading.line.Line.{Line}
+use Rattle.qreading.specs.declared.reading.line.Line.TheVariants as lines
+use Rattle.qreading.specs.declared.fault.LineFault.{LineFault}
+use Rattle.qreading.specs.declared.fault.LineFault.TheVariants.{DoubleThread, TooManyThreads, UnknownThread}
 use Rattle.qscript.specs.Enrolled.{roster_with, AllJoin}
 use Rattle.qkernel.specs.Run.{AllKnown}
 use Rattle.qscript.specs.Script.{CanRun}
-use Rattle.qscript.specs.Reading.Line.{line_of}
-use Rattle.qscript.specs.Reading.Lines.{lines_of, is_newline, without_return, without_last_end}
-use Rattle.qscript.specs.Reading.Words.{is_empty}
-use Rattle.qscript.specs.Reading.Meaning.{Meaning, TooLong, Says, meaning, is_in, line_after_roster, member_in, call_in, roster_of, calls_of, line_with, line_after, fault_in, fault_at, first_fault, fault_or, of_lines}
-use Rattle.qscript.proofs.Texts.Early.{bind_ok, placed_keeps, alone}
-use Rattle.qscript.proofs.Texts.Progress.{roster_more, calls_more}
+use Rattle.qreading.specs.Reading.Line.{line_of}
+use Rattle.qreading.specs.Reading.Lines.{lines_of, is_newline, without_return, without_last_end}
+use Rattle.qreading.specs.Reading.Words.{is_empty}
+use Rattle.qreading.specs.Reading.Meaning.{Meaning, TooLong, Says, meaning, is_in, line_after_roster, member_in, call_in, roster_of, calls_of, line_with, line_after, fault_in, fault_at, first_fault, fault_or, of_lines}
+use Rattle.qreading.proofs.Texts.Early.{bind_ok, placed_keeps, alone}
+use Rattle.qreading.proofs.Texts.Progress.{roster_more, calls_more}
 use Rattle.qscript.proofs.Joining.{enrolled_more}
 
 -- ---- who is in a roster

@@ -1,8 +1,5 @@
-pub mod TextLimit
-pub mod Reading
 pub mod Printing
 pub mod Writing
-pub mod Status
 pub mod Watched
 pub mod Transfer
 pub mod Enrolled

@@ -11,9 +11,9 @@ use Rattle.qmodel.specs.OnlyRun.{HadMemory, event_call}
 use Rattle.qkernel.specs.Run.{AllKnown}
 use Rattle.qmodel.specs.Properties.{HasProperties}
 use Rattle.qmodel.specs.Lawful.{IsLawful, followed_by}
-use Rattle.qscript.specs.declared.fault.LineFault.{LineFault}
+use Rattle.qreading.specs.declared.fault.LineFault.{LineFault}
 use Rattle.qscript.specs.Enrolled.{roster_with, AllJoin}
-use Rattle.qscript.specs.Reading.Meaning.{meaning, Says, Faulty}
+use Rattle.qreading.specs.Reading.Meaning.{meaning, Says, Faulty}
 use Rattle.qscript.specs.Printing.Printed.{printed}
 use Rattle.qscript.specs.Transfer.{IsReading, FailsWithin, IsOverfull, StopsWithin}
 

@@ -2,15 +2,10 @@
 //! run that was made elsewhere.
 #![tactic(auto)]
 
-mod explaining;
-pub mod fault;
 pub mod printing;
-mod reading;
 pub mod script;
 mod transfer;
 pub mod watched;
 pub mod writing;
 
-pub use explaining::explanation::{Explanation, explain};
-pub use explaining::grammar::{CALLS, Form, Operand, ROSTER};
-pub use reading::script::{MOST_TEXT, Script, parse};
+pub use qreading::{MOST_TEXT, Script, fault, parse};

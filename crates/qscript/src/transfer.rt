@@ -4,9 +4,9 @@ ghost use Rattle.std.specs.Prelude.{◌≡◌, IfOk, IfErr, OnOk, false};
 ghost use Rattle.std.specs.Io.KnownBytes.{Appends};
 ghost use Rattle.qscript.specs.Transfer.{IsReading, IsReadFault, IsWriteFault};
 
-use crate::fault::ScriptFault;
-use crate::reading::script::MOST_TEXT;
 use crate::watched::Watched;
+use qreading::fault::ScriptFault;
+use qreading::reading::script::MOST_TEXT;
 use std::alloc::Global;
 use std::io::{Read, Write};
 

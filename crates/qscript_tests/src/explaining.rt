@@ -1,7 +1,8 @@
 //! How the faults of scripts are explained.
 
+use qexplain::explain;
 use qscript::fault::{LineFault, ScriptFault};
-use qscript::{explain, parse};
+use qscript::parse;
 use std::alloc::Global;
 use std::process::Abort;
 

@@ -5,7 +5,7 @@ use Rattle.qmodel.specs.Lawful.{IsLawful, followed_by}
 use Rattle.qmodel.specs.Properties.{HasProperties}
 use Rattle.qmodel.specs.Trace.{Run}
 use Rattle.qscript.specs.Printing.Printed.{printed}
-use Rattle.qscript.specs.TextLimit.{most_text}
+use Rattle.qreading.specs.TextLimit.{most_text}
 use Rattle.qscript.specs.Writing.Text.{script_text}
 
 -- the run begins with the first call, is lawful and has the six properties

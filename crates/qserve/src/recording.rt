@@ -1,7 +1,7 @@
 //! What the kernel did, as a script that anyone can run again.
 
 ghost use Rattle.std.specs.Prelude.{◌≡◌, ◌<◌, ◌⊎◌, length, IfOk, IfErr, string_bytes};
-ghost use Rattle.qscript.specs.TextLimit.{most_text};
+ghost use Rattle.qreading.specs.TextLimit.{most_text};
 ghost use Rattle.qscript.specs.Writing.Text.{script_text};
 ghost use Rattle.qserve.specs.Recording.{Records};
 

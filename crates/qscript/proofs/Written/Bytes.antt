@@ -6,7 +6,7 @@ use Rattle.std.proofs.lemmas.List.Sums.{list_all-from_AllPass}
 use Rattle.hex.specs.Hex.{IsBytes, is_hex_digit, encode_lower}
 use Rattle.hex.proofs.HexLemmas.{decode_of-encode_lower, decode_of-ok}
 use Rattle.qscript.specs.Printing.Buffer.{buffer_word}
-use Rattle.qscript.specs.Reading.Operand.{plain_of, bytes_of, is_cross}
+use Rattle.qreading.specs.Reading.Operand.{plain_of, bytes_of, is_cross}
 use Rattle.qscript.proofs.Written.Words.{Prints, IsWord}
 
 -- ---- hexadecimal digits

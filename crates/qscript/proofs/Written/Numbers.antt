@@ -3,8 +3,8 @@ use Rattle.std.proofs.Common.{◌≡◌, ℕ, ℤ, pos, negsuc, suc, ◌<◌, �
 use Rattle.std.specs.Fmt.{signed_decimal}
 use Rattle.std.proofs.lemmas.Bool.{le-leb, lt-ltb, ltb-true}
 use Rattle.std.proofs.lemmas.Fmt.{digits_decimal, digits_value-decimal, decimal_nonempty, length-decimal-le}
-use Rattle.qscript.specs.Reading.Number.{digits_of, number_of, priority_of, signed_of, is_within, integer_of}
-use Rattle.qscript.proofs.Texts.Digits.{own}
+use Rattle.qreading.specs.Reading.Number.{digits_of, number_of, priority_of, signed_of, is_within, integer_of}
+use Rattle.qreading.proofs.Texts.Digits.{own}
 use Rattle.qscript.proofs.Written.Words.{IsWord, number_word, first_digit_not}
 
 -- the digits of a number

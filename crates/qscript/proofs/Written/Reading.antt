@@ -8,18 +8,18 @@ use Rattle.std.proofs.lemmas.Slice.Eq.{bytes_eq-Decides}
 use Rattle.qtables.specs.declared.member.Member.{Member}
 use Rattle.qmodel.specs.declared.call.Call.{Call}
 use Rattle.qmodel.specs.declared.call.Call.TheVariants as calls
-use Rattle.qscript.specs.declared.reading.line.Line.TheVariants as lines
+use Rattle.qreading.specs.declared.reading.line.Line.TheVariants as lines
 use Rattle.qscript.specs.Printing.Words.{words_with_spaces}
-use Rattle.qscript.specs.Reading.Call.{call_of, verb_of, channel_verb, message_verb, thread_verb}
-use Rattle.qscript.specs.Reading.Counts.{first_of}
-use Rattle.qscript.specs.Reading.Forms.{id_of, small_of, nothing_of, member_of, setprio_of, error_of, pulse_of, receive_of, send_of, reply_of, read_of, write_of}
-use Rattle.qscript.specs.Reading.Line.{is_text, call_line_of, roster_line_of, said_of, line_of}
-use Rattle.qscript.specs.Reading.Number.{number_of}
-use Rattle.qscript.specs.Reading.Steps.{◌>>=◌}
-use Rattle.qscript.specs.Reading.Words.{words_of}
+use Rattle.qreading.specs.Reading.Call.{call_of, verb_of, channel_verb, message_verb, thread_verb}
+use Rattle.qreading.specs.Reading.Counts.{first_of}
+use Rattle.qreading.specs.Reading.Forms.{id_of, small_of, nothing_of, member_of, setprio_of, error_of, pulse_of, receive_of, send_of, reply_of, read_of, write_of}
+use Rattle.qreading.specs.Reading.Line.{is_text, call_line_of, roster_line_of, said_of, line_of}
+use Rattle.qreading.specs.Reading.Number.{number_of}
+use Rattle.qreading.specs.Reading.Steps.{◌>>=◌}
+use Rattle.qreading.specs.Reading.Words.{words_of}
 use Rattle.qscript.specs.Writing.Laws.{IsSmall, IsTyped, IsTypedMember}
 use Rattle.qscript.specs.Writing.Line.{call_words, call_line, member_line}
-use Rattle.qscript.proofs.Texts.Digits.{own}
+use Rattle.qreading.proofs.Texts.Digits.{own}
 use Rattle.qscript.proofs.Written.Bytes.{bytes_word, bytes_back}
 use Rattle.qscript.proofs.Written.Numbers.{number_back, priority_back, signed_word, integer_back}
 use Rattle.qscript.proofs.Written.Words.{IsWord, number_word, first_digit_not, words_in_row, row_text, text_both, word_text, name_word}

@@ -7,15 +7,15 @@ use Rattle.qtables.specs.declared.member.Member.{Member}
 use Rattle.qmodel.specs.declared.call.Call.{Call}
 use Rattle.qmodel.specs.OnlyRun.{event_call}
 use Rattle.qmodel.specs.Trace.{Event}
-use Rattle.qscript.specs.declared.reading.line.Line.TheVariants as lines
-use Rattle.qscript.specs.Reading.Line.{is_text}
-use Rattle.qscript.specs.Reading.Lines.{lines_of, is_newline, without_return}
-use Rattle.qscript.specs.Reading.Meaning.{is_in, line_with}
+use Rattle.qreading.specs.declared.reading.line.Line.TheVariants as lines
+use Rattle.qreading.specs.Reading.Line.{is_text}
+use Rattle.qreading.specs.Reading.Lines.{lines_of, is_newline, without_return}
+use Rattle.qreading.specs.Reading.Meaning.{is_in, line_with}
 use Rattle.qscript.specs.Writing.Laws.{IsTypedMember, IsWritable, MayStand, ScriptsAreRead}
 use Rattle.qscript.specs.Writing.Line.{call_line, member_line}
 use Rattle.qscript.specs.Writing.Text.{member_text, call_text, script_text}
-use Rattle.qscript.proofs.Texts.Lines.{lines_at, lines_none}
-use Rattle.qscript.proofs.Texts.Progress.{Stands, stands_first, stands_more, stands_last, not_long}
+use Rattle.qreading.proofs.Texts.Lines.{lines_at, lines_none}
+use Rattle.qreading.proofs.Texts.Progress.{Stands, stands_first, stands_more, stands_last, not_long}
 use Rattle.qscript.proofs.Written.Reading.{call_read, call_line_text, member_read, member_line_text}
 
 -- ---- a line of text, and its end

@@ -9,10 +9,10 @@ use Rattle.std.proofs.lemmas.List.Splits.{slice_split_none, slice_split_at}
 use Rattle.std.proofs.lemmas.List.Elements.{All-cons, All-nil}
 use Rattle.std.proofs.lemmas.Str.Parse.{tells_all_ascii_digits}
 use Rattle.qscript.specs.Printing.Words.{words_with_spaces}
-use Rattle.qscript.specs.Reading.Line.{is_text}
-use Rattle.qscript.specs.Reading.Words.{words_of, is_blank}
-use Rattle.qscript.proofs.Texts.Digits.{own}
-use Rattle.qscript.proofs.Texts.Words.{word_kept}
+use Rattle.qreading.specs.Reading.Line.{is_text}
+use Rattle.qreading.specs.Reading.Words.{words_of, is_blank}
+use Rattle.qreading.proofs.Texts.Digits.{own}
+use Rattle.qreading.proofs.Texts.Words.{word_kept}
 
 -- ---- bytes of a word
 

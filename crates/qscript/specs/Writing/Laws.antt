@@ -7,9 +7,9 @@ use Rattle.qmodel.specs.declared.call.Call.{Call}
 use Rattle.qmodel.specs.declared.call.Call.TheVariants as calls
 use Rattle.qmodel.specs.OnlyRun.{event_call}
 use Rattle.qmodel.specs.Trace.{Event}
-use Rattle.qscript.specs.Reading.Meaning.{Says, is_in, meaning}
-use Rattle.qscript.specs.Reading.Number.{is_within}
-use Rattle.qscript.specs.TextLimit.{most_text}
+use Rattle.qreading.specs.Reading.Meaning.{Says, is_in, meaning}
+use Rattle.qreading.specs.Reading.Number.{is_within}
+use Rattle.qreading.specs.TextLimit.{most_text}
 use Rattle.qscript.specs.Writing.Line.{call_line}
 use Rattle.qscript.specs.Writing.Text.{script_text}
 

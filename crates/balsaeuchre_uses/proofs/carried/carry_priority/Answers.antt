@@ -1,6 +1,6 @@
 -- proofs/carried/carried/Answers.antt
 use Rattle.std.proofs.Common.{◌≡◌, map, refl, ap, ◌∙◌}
-use Rattle.qmodel.specs.Worked.Runs.{flags_of}
+use Rattle.qworked.specs.Runs.{flags_of}
 use Rattle.balsaeuchre.specs.OnlyRun.{event_call}
 use Rattle.balsaeuchre_uses.specs.Carried.{roster, events}
 use Rattle.balsaeuchre_uses.proofs.Lawful.{carried_lawful, carried_memory}

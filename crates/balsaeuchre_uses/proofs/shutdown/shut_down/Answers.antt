@@ -1,5 +1,5 @@
 use Rattle.std.proofs.Common.{◌≡◌, map, refl, ap, ◌∙◌}
-use Rattle.qmodel.specs.Worked.Runs.{flags_of}
+use Rattle.qworked.specs.Runs.{flags_of}
 use Rattle.balsaeuchre.specs.OnlyRun.{event_call}
 use Rattle.balsaeuchre_uses.specs.ThreeThreads.{roster}
 use Rattle.balsaeuchre_uses.specs.ShutDown.{events}

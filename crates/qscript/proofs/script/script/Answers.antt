@@ -1,7 +1,7 @@
 use Rattle.std.proofs.Common.{◌≡◌, ◌≤◌, length}
 use Rattle.std.proofs.lemmas.Result.{err_from_is_err_and}
-use Rattle.qscript.specs.declared.fault.ScriptFault.TheVariants.{TooLong}
-use Rattle.qscript.proofs.Texts.Progress.{not_too_long}
+use Rattle.qreading.specs.declared.fault.ScriptFault.TheVariants.{TooLong}
+use Rattle.qreading.proofs.Texts.Progress.{not_too_long}
 use Rattle.qscript.proofs.Runnable.{can_run}
 use Rattle.qscript.proofs.script.script.Goals as goal
 

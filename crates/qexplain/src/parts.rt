@@ -1,0 +1,108 @@
+//! The lines of a text, and the words of a line with their places.
+
+ghost use Rattle.std.specs.Prelude.{length};
+ghost use Rattle.std.specs.Iterator.{at_most};
+
+use qreading::reading::call::is;
+use qreading::reading::lines::next_line;
+use qreading::reading::number::small;
+use qreading::reading::words::next_word;
+use std::alloc::{AllocError, Global};
+
+/// The lines of a text that are left, without their ends.
+#[derive(Drop)]
+pub struct Lines<'a>(pub &'a [u8]);
+
+impl<'a> Iterator for Lines<'a> {
+    type Item = &'a [u8];
+
+    ghost remaining = { λ s. at_most (length s.0.now) };
+
+    fn next(&mut self) -> Option<&'a [u8]> {
+        let (line, rest) = next_line(self.0)?;
+        self.0 = rest;
+        Some(line)
+    }
+}
+
+/// A part of a line: so many bytes from this one on, which is counted from 0.
+#[derive(Clone, Copy, Debug, PartialEq, Eq)]
+pub struct Place {
+    pub at: usize,
+    pub len: usize,
+}
+
+/// A word of a line.
+#[derive(Clone, Copy, Debug)]
+pub struct Word<'a> {
+    /// Its bytes.
+    pub bytes: &'a [u8],
+    /// Where it stands.
+    pub place: Place,
+}
+
+impl Word<'_> {
+    /// The place behind it, where the next word is missing.
+    pub fn behind(&self) -> Place {
+        let end = self.place.at.saturating_add(self.place.len);
+        Place {
+            at: end.saturating_add(1),
+            len: 1,
+        }
+    }
+}
+
+/// The words of a line, in order.
+pub fn words<'a>(alloc: Global, line: &'a [u8]) -> Result<Vec<Word<'a>>, AllocError> {
+    let mut words = Vec::new(alloc);
+    let mut rest = line;
+    for _ in 0..line.len() {
+        let Some((bytes, after)) = next_word(rest) else {
+            break;
+        };
+        let end = line.len().saturating_sub(after.len());
+        let place = Place {
+            at: end.saturating_sub(bytes.len()),
+            len: bytes.len(),
+        };
+        words.push(Word { bytes, place })?;
+        rest = after;
+    }
+    Ok(words)
+}
+
+/// The number, counted from 1, of the first line that is a call's.
+pub fn first_call(text: &[u8]) -> usize {
+    let mut number = 0usize;
+    for line in Lines(text) {
+        number = number.saturating_add(1);
+        match next_word(line) {
+            Some((word, _)) if small(word).is_ok() => break,
+            _ => {}
+        }
+    }
+    number
+}
+
+/// Whether this is a line of the roster for this thread.
+fn enrolls(line: &[u8], thread: u8) -> bool {
+    let Some((first, rest)) = next_word(line) else {
+        return false;
+    };
+    match next_word(rest) {
+        Some((number, _)) => is(first, "thread") && small(number) == Ok(thread),
+        None => false,
+    }
+}
+
+/// The number, counted from 1, of the first line of the roster for this thread.
+pub fn first_enrolled(text: &[u8], thread: u8) -> usize {
+    let mut number = 0usize;
+    for line in Lines(text) {
+        number = number.saturating_add(1);
+        if enrolls(line, thread) {
+            break;
+        }
+    }
+    number
+}

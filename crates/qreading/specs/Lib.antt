@@ -1,0 +1,3 @@
+pub mod TextLimit
+pub mod Reading
+pub mod Status

@@ -1,0 +1,47 @@
+-- What one line says, or the first fault of it.
+use Rattle.std.specs.Prelude.{ℕ, ◌==◌, ◌&&◌, ◌||◌, not, Bool, List, [], ◌∷◌, length, Result, Ok, Err, nat_lt, nat_le, if◌then◌else◌, slice_index, codes}
+use Rattle.std.specs.Str.{bytes_eq}
+use Rattle.std.specs.List.{list_all}
+use Rattle.qreading.specs.declared.reading.line.Line.{Line}
+use Rattle.qreading.specs.declared.reading.line.Line.TheVariants as lines
+use Rattle.qreading.specs.declared.fault.LineFault.{LineFault}
+use Rattle.qreading.specs.declared.fault.LineFault.TheVariants.{LongLine, BadByte, LateThread}
+use Rattle.qreading.specs.Reading.Steps.{◌>>=◌}
+use Rattle.qreading.specs.Reading.Number.{number_of}
+use Rattle.qreading.specs.Reading.Counts.{first_of}
+use Rattle.qreading.specs.Reading.Forms.{member_of}
+use Rattle.qreading.specs.Reading.Call.{call_of}
+use Rattle.qreading.specs.Reading.Words.{words_of}
+
+-- a call line: who calls, and what
+unfoldable pub call_line_of : List ℕ → List (List ℕ) → Result Line LineFault
+call_line_of caller rest = do
+  thread ← number_of 256 caller
+  words ← first_of rest
+  call ← call_of words.0 words.1
+  Ok (lines.Call thread call)
+
+-- a roster line, which may not stand after a call line
+unfoldable pub roster_line_of : Bool → List (List ℕ) → Result Line LineFault
+roster_line_of is_late operands =
+    if is_late then Err LateThread
+    else (do
+      member ← member_of operands
+      Ok (lines.Roster member))
+
+-- a tab, or a byte that prints
+abbrev pub is_text : ℕ → Bool
+is_text b = (b == 9) || (nat_le 32 b && nat_le b 126)
+
+-- a line of these words: one with none, or whose first begins with `#`, is passed over
+unfoldable pub said_of : Bool → List ℕ → List (List ℕ) → Result Line LineFault
+said_of is_late line [] = Ok lines.Blank
+said_of is_late line (first ∷ rest) =
+    if slice_index first 0 == 35 then Ok lines.Blank
+    else if not (list_all is_text line) then Err BadByte
+    else if bytes_eq first (codes "thread") then roster_line_of is_late rest
+    else call_line_of first rest
+
+-- a line, after call lines or before them
+unfoldable pub line_of : Bool → List ℕ → Result Line LineFault
+line_of is_late line = if nat_lt 4096 (length line) then Err LongLine else said_of is_late line (words_of line)

@@ -1,0 +1,20 @@
+-- The lines of a text.
+use Rattle.std.specs.Prelude.{ℕ, ◌-◌, ◌==◌, Bool, List, [], length, take, map, slice_index, if◌then◌else◌}
+use Rattle.std.specs.List.{slice_split}
+use Rattle.qreading.specs.Reading.Words.{is_empty}
+
+-- a line end
+abbrev pub is_newline : ℕ → Bool
+is_newline b = b == 10
+
+-- what stands before the line end: one carriage return at the end is dropped
+abbrev pub without_return : List ℕ → List ℕ
+without_return line = if slice_index line (length line - 1) == 13 then take (length line - 1) line else line
+
+-- the text without a line end at its end, which ends the last line
+abbrev pub without_last_end : List ℕ → List ℕ
+without_last_end text = if slice_index text (length text - 1) == 10 then take (length text - 1) text else text
+
+-- the lines of a text, cut at each line end
+unfoldable pub lines_of : List ℕ → List (List ℕ)
+lines_of text = if is_empty text then [] else map without_return (slice_split is_newline (without_last_end text))

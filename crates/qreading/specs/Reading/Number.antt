@@ -1,0 +1,53 @@
+-- The numbers of a script.
+use Rattle.std.specs.Prelude.{ℕ, ◌==◌, ◌&&◌, Bool, List, length, drop, Option, Some, None, Result, Ok, Err, nat_lt, nat_le, if◌then◌else◌, slice_index, ℤ, pos, negsuc, neg_ℤ}
+use Rattle.std.specs.Option.{option_map}
+use Rattle.std.specs.Str.{all_ascii_digits}
+use Rattle.std.specs.Str.Parse.{digits_value}
+use Rattle.qbase.specs.Priority.{priority_of as level_of}
+use Rattle.qreading.specs.declared.fault.LineFault.{LineFault}
+use Rattle.qreading.specs.declared.fault.LineFault.TheVariants.{BadNumber, BadPriority}
+use Rattle.qreading.specs.Reading.Steps.{◌>>=◌}
+
+-- one to twenty decimal digits, leading zeros allowed
+unfoldable pub digits_of : List ℕ → Option ℕ
+digits_of word = if nat_lt 0 (length word) && nat_le (length word) 20 && all_ascii_digits word then Some (digits_value 10 word) else None
+
+-- the value, where it is below the limit
+abbrev pub value_below : ℕ → Option ℕ → Result ℕ LineFault
+value_below limit None = Err BadNumber
+value_below limit (Some n) = if nat_lt n limit then Ok n else Err BadNumber
+
+-- a number below the limit
+unfoldable pub number_of : ℕ → List ℕ → Result ℕ LineFault
+number_of limit word = value_below limit (digits_of word)
+
+-- the level, where there is one
+abbrev pub priority_at : Option ℕ → Result ℕ LineFault
+priority_at None = Err BadPriority
+priority_at (Some level) = Ok level
+
+-- a priority: a number of a byte, and then one of the levels
+unfoldable pub priority_of : List ℕ → Result ℕ LineFault
+priority_of word = do
+  level ← number_of 256 word
+  priority_at (level_of level)
+
+-- digits with a minus sign before them or without
+unfoldable pub signed_of : List ℕ → Option ℤ
+signed_of word =
+    if slice_index word 0 == 45 then option_map (λ n. neg_ℤ (pos n)) (digits_of (drop 1 word))
+    else option_map pos (digits_of word)
+
+-- from minus the limit to one below it
+abbrev pub is_within : ℕ → ℤ → Bool
+is_within limit (pos n) = nat_lt n limit
+is_within limit (negsuc n) = nat_lt n limit
+
+-- the value, where it is within the limit
+abbrev pub value_within : ℕ → Option ℤ → Result ℤ LineFault
+value_within limit None = Err BadNumber
+value_within limit (Some z) = if is_within limit z then Ok z else Err BadNumber
+
+-- a signed number within the limit
+unfoldable pub integer_of : ℕ → List ℕ → Result ℤ LineFault
+integer_of limit word = value_within limit (signed_of word)

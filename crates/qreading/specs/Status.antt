@@ -1,0 +1,12 @@
+-- How the program ends.
+use Rattle.std.specs.Prelude.{ℕ}
+use Rattle.qreading.specs.declared.fault.ScriptFault.{ScriptFault}
+use Rattle.qreading.specs.declared.fault.ScriptFault.TheVariants.{Read, TooLong, Line, NoMemory, Write}
+
+-- 1 where the script is at fault, 3 where something else failed
+abbrev pub status_of : ScriptFault → ℕ
+status_of TooLong = 1
+status_of (Line number fault) = 1
+status_of Read = 3
+status_of NoMemory = 3
+status_of Write = 3

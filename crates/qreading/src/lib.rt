@@ -1,0 +1,7 @@
+//! What the text of a script means: its lines, their words, the roster and the calls.
+#![tactic(auto)]
+
+pub mod fault;
+pub mod reading;
+
+pub use reading::script::{MOST_TEXT, Script, parse};

@@ -1,0 +1,92 @@
+//! What one line says.
+
+ghost use Rattle.std.specs.Prelude.{◌≡◌};
+ghost use Rattle.std.specs.List.{list_all};
+ghost use Rattle.qreading.specs.Reading.Line.{is_text, call_line_of, roster_line_of, said_of, line_of};
+ghost use Rattle.qreading.specs.Reading.Steps.{Gives};
+ghost use Rattle.qreading.specs.Reading.Words.{words_of};
+
+use crate::fault::{LineFault, ParseError};
+use crate::reading::call::{call_named, is};
+use crate::reading::forms::member;
+use crate::reading::number::small;
+use crate::reading::words::{first, next_word};
+use qbase::ids::ThreadNo;
+use qmodel::call::Call;
+use qtables::member::Member;
+use std::alloc::Global;
+
+const MOST_BYTES: usize = 4096;
+
+/// What one line says.
+#[derive(Drop)]
+pub enum Line {
+    /// Nothing: it has no words, or is a comment.
+    Blank,
+    /// A thread of the roster.
+    Roster(Member),
+    /// A call, and the thread that makes it.
+    Call(ThreadNo, Call),
+}
+
+/// A call line: who calls, and what.
+#[tactic(auto, unfolding(crate::specs::Reading::Line::call_line_of))]
+fn call_line(alloc: Global, caller: &[u8], rest: &[u8]) -> Result<Line, ParseError>
+    ensures { Gives result (call_line_of caller.now (words_of rest.now)) }
+{
+    let thread = small(caller)?;
+    let (word, operands) = first(rest)?;
+    let call = call_named(alloc, word, operands)?;
+    Ok(Line::Call(ThreadNo(thread), call))
+}
+
+/// A roster line, after call lines or before them.
+#[tactic(auto, unfolding(crate::specs::Reading::Line::roster_line_of))]
+fn roster_line(is_late: bool, operands: &[u8]) -> Result<Line, LineFault>
+    ensures { result ≡ roster_line_of is_late (words_of operands.now) }
+{
+    if is_late {
+        return Err(LineFault::LateThread);
+    }
+    let member = member(operands)?;
+    Ok(Line::Roster(member))
+}
+
+/// Whether a line has only tabs and bytes that print.
+fn is_plain_text(line: &[u8]) -> bool
+    ensures { result ≡ list_all is_text line.now }
+{
+    line.iter()
+        .all(|b| *b == b'\t' || (*b >= 0x20 && *b <= 0x7e))
+}
+
+/// What a line says, whatever its length.
+#[tactic(auto, unfolding(crate::specs::Reading::Line::said_of))]
+fn said(alloc: Global, is_late: bool, line: &[u8]) -> Result<Line, ParseError>
+    ensures { Gives result (said_of is_late line.now (words_of line.now)) }
+{
+    let Some((first, rest)) = next_word(line) else {
+        return Ok(Line::Blank);
+    };
+    if !first.is_empty() && first[0] == b'#' {
+        return Ok(Line::Blank);
+    }
+    if !is_plain_text(line) {
+        return Err(ParseError::Fault(LineFault::BadByte));
+    }
+    if is(first, "thread") {
+        return Ok(roster_line(is_late, rest)?);
+    }
+    call_line(alloc, first, rest)
+}
+
+/// What a line says, after call lines or before them.
+#[tactic(auto, unfolding(crate::specs::Reading::Line::line_of))]
+pub fn line_said(alloc: Global, is_late: bool, line: &[u8]) -> Result<Line, ParseError>
+    ensures { Gives result (line_of is_late line.now) }
+{
+    if line.len() > MOST_BYTES {
+        return Err(ParseError::Fault(LineFault::LongLine));
+    }
+    said(alloc, is_late, line)
+}

@@ -1,0 +1,60 @@
+//! The lines of a text, taken one after another from what is left of it.
+
+ghost use Rattle.std.specs.Prelude.{◌≡◌, ◌+◌, ◌<◌, ◌≤◌, [], ◌∷◌, drop, length, position, MatchOption, IfSome};
+ghost use Rattle.std.specs.List.{position_or_len};
+ghost use Rattle.qreading.specs.Reading.Lines.{lines_of, is_newline, without_return};
+
+/// The line without one carriage return at its end.
+fn trim_return(line: &[u8]) -> &[u8]
+    ensures { result.now ≡ without_return line.now }
+{
+    match line {
+        [front @ .., b'\r'] => front,
+        _ => line,
+    }
+}
+
+/// Where the first line end is.
+fn newline(text: &[u8]) -> Option<usize>
+    ensures place { result ≡ position is_newline text.now }
+    ensures within { IfSome result (λ at. at < length text.now) }
+{
+    text.iter().position(|b| *b == b'\n')
+}
+
+/// How many bytes come before the first line end.
+#[tactic(auto, using(crate::proofs::Texts::Words::place_some, crate::proofs::Texts::Words::place_none))]
+fn line_len(text: &[u8]) -> usize
+    ensures place { result ≡ position_or_len is_newline text.now }
+    ensures within { result ≤ length text.now }
+{
+    match newline(text) {
+        Some(at) => at,
+        None => text.len(),
+    }
+}
+
+/// What stands after the byte at this place; nothing where no byte is there.
+fn after(text: &[u8], at: usize) -> &[u8]
+    ensures value { result.now ≡ drop (at + 1) text.now }
+    ensures shorter { 0 < length text.now → length result.now < length text.now }
+{
+    if at < text.len() {
+        text.split_at(at + 1).1
+    } else {
+        &[]
+    }
+}
+
+/// The first line of a text and what stands after its end; `None` where no text is left.
+pub fn next_line(text: &[u8]) -> Option<(&[u8], &[u8])>
+    ensures lines { MatchOption result (lines_of text.now ≡ []) (λ next. lines_of text.now ≡ next.0.now ∷ lines_of next.1.now) }
+    ensures shorter { IfSome result (λ next. length next.1.now < length text.now) }
+{
+    if text.is_empty() {
+        return None;
+    }
+    let end = line_len(text);
+    let line = trim_return(text.split_at(end).0);
+    Some((line, after(text, end)))
+}

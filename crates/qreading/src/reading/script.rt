@@ -1,0 +1,117 @@
+//! What a script means.
+
+ghost use Rattle.std.specs.Prelude.{◌≡◌, ◌++◌, [], OnOk};
+ghost use Rattle.std.specs.List.{cons_option};
+ghost use Rattle.qreading.specs.Reading.Meaning.{of_line, member_in, call_in, is_in, line_after_roster, line_with, meaning, Means};
+ghost use Rattle.qreading.specs.Reading.Steps.{Gives};
+
+use crate::fault::{LineFault, ParseError, ScriptFault};
+use crate::reading::line::{Line, line_said};
+use crate::reading::lines::next_line;
+use qbase::ids::ThreadNo;
+use qmodel::call::Call;
+use qtables::member::Member;
+use std::alloc::{AllocError, Global};
+
+/// The most bytes that a script's text may have.
+pub const MOST_TEXT: usize = 4_194_304;
+
+const MOST_THREADS: usize = 64;
+
+/// The threads and the calls of a script, each in the order of its lines.
+#[derive(Debug, Drop)]
+pub struct Script {
+    pub roster: Vec<Member>,
+    pub calls: Vec<(ThreadNo, Call)>,
+}
+
+impl Script {
+    /// Adds what a line says.
+    fn add(&mut self, said: Line) -> Result<(), AllocError>
+        ensures roster { OnOk result (self.new.roster.items ≡ self.old.roster.items ++ cons_option (member_in (Ok said)) []) }
+        ensures calls { OnOk result (self.new.calls.items ≡ self.old.calls.items ++ cons_option (call_in (Ok said)) []) }
+    {
+        match said {
+            Line::Blank => {}
+            Line::Roster(member) => self.roster.push(member)?,
+            Line::Call(thread, call) => self.calls.push((thread, call))?,
+        }
+        Ok(())
+    }
+}
+
+/// The fault of the line of this number.
+fn at_line(number: u64, error: ParseError) -> ScriptFault
+    ensures { result ≡ of_line number error }
+{
+    match error {
+        ParseError::Memory => ScriptFault::NoMemory,
+        ParseError::Fault(fault) => ScriptFault::Line { number, fault },
+    }
+}
+
+fn has_thread(roster: &[Member], thread: ThreadNo) -> bool
+    ensures { result ≡ is_in thread roster.now }
+{
+    roster.iter().any(|m| m.thread == thread)
+}
+
+/// A line after a roster.
+fn place(roster: &[Member], said: Line) -> Result<Line, LineFault>
+    ensures { result ≡ line_after_roster roster.now said }
+{
+    match said {
+        Line::Blank => Ok(Line::Blank),
+        Line::Roster(member) => {
+            if has_thread(roster, member.thread) {
+                return Err(LineFault::DoubleThread);
+            }
+            if roster.len() >= MOST_THREADS {
+                return Err(LineFault::TooManyThreads);
+            }
+            Ok(Line::Roster(member))
+        }
+        Line::Call(thread, call) => {
+            if !has_thread(roster, thread) {
+                return Err(LineFault::UnknownThread);
+            }
+            Ok(Line::Call(thread, call))
+        }
+    }
+}
+
+/// What a line says that stands after those of the script.
+#[tactic(auto, unfolding(crate::specs::Reading::Meaning::line_with))]
+fn line_after(alloc: Global, script: &Script, line: &[u8]) -> Result<Line, ParseError>
+    ensures { Gives result (line_with script.now.roster.items script.now.calls.items line.now) }
+{
+    let said = line_said(alloc, !script.calls.is_empty(), line)?;
+    let placed = place(script.roster.as_slice(), said)?;
+    Ok(placed)
+}
+
+/// What the text of a script means: its roster and calls, or its first faulty line with its first fault.
+pub fn parse(alloc: Global, text: &[u8]) -> Result<Script, ScriptFault>
+    ensures { Means result (meaning text.now) }
+{
+    if text.len() > MOST_TEXT {
+        return Err(ScriptFault::TooLong);
+    }
+    let mut script = Script {
+        roster: Vec::new(alloc),
+        calls: Vec::new(alloc),
+    };
+    let mut rest = text;
+    let mut number = 0u64;
+    'reading: while let Some(next) = next_line(rest) {
+        let (line, after) = next;
+        number += 1;
+        let said = match line_after(alloc, &script, line) {
+            Ok(said) => said,
+            Err(error) => return Err(at_line(number, error)),
+        };
+        script.add(said)?;
+        rest = after;
+    }
+    Ok(script)
+}

@@ -1,0 +1,41 @@
+-- Another item is received than the one that was to be.
+use Rattle.std.specs.Prelude.{[], ◌∷◌}
+use Rattle.qmodel.specs.declared.call.Call.TheVariants.{ChannelCreate, Send, Receive, PrioritySet, ReceivePulse}
+use Rattle.qmodel.specs.declared.call.Mark.TheVariants as mark
+use Rattle.qmodel.specs.Trace.{Trace}
+use Rattle.qworked.specs.Runs.{event, ended, flags_of}
+use Rattle.qworked.specs.Broken.Held.{sent}
+
+-- message 4 has the priority 23, message 5 26, and message 4 is received
+abbrev pub lesser : Trace
+lesser = sent (
+    event 54 (Send 3 [] []) []
+    ∷ event 31 (Receive 1 []) (ended 6 31 (mark.Message 4 0) [] ∷ [])
+    ∷ [])
+
+-- two messages have the priority 23, and the later is received, which was sent over another connection
+abbrev pub later : Trace
+later = sent (
+    event 54 (PrioritySet 54 23) (ended 5 54 mark.Ok [] ∷ [])
+    ∷ event 54 (Send 3 [] []) []
+    ∷ event 31 (Receive 1 []) (ended 7 31 (mark.Message 6 0) [] ∷ [])
+    ∷ [])
+
+-- a receive that takes pulses alone takes a message
+abbrev pub by_a_pulse_receive : Trace
+by_a_pulse_receive = sent (event 31 (ReceivePulse 1) (ended 5 31 (mark.Message 4 0) [] ∷ []) ∷ [])
+
+-- a message is received that was sent to another channel
+abbrev pub on_another_channel : Trace
+on_another_channel = sent (
+    event 31 (ChannelCreate (flags_of 7)) (ended 5 31 (mark.Channel 5) [] ∷ [])
+    ∷ event 31 (Receive 5 []) (ended 6 31 (mark.Message 4 0) [] ∷ [])
+    ∷ [])
+
+-- two messages over one connection have the priority 23, and the later is received
+abbrev pub overtaken : Trace
+overtaken = sent (
+    event 42 (PrioritySet 42 23) (ended 5 42 mark.Ok [] ∷ [])
+    ∷ event 42 (Send 2 [] []) []
+    ∷ event 31 (Receive 1 []) (ended 7 31 (mark.Message 6 0) [] ∷ [])
+    ∷ [])

@@ -1,0 +1,42 @@
+-- What is counted towards a limit: what is open, live or pending by now, and nothing else.
+use Rattle.std.specs.Prelude.{ℕ, List, [], ◌∷◌, pos, negsuc}
+use Rattle.qbase.specs.declared.errno.Errno.TheVariants.{Srch, Inval}
+use Rattle.qqueue.specs.declared.item.What.TheVariants as what
+use Rattle.qmodel.specs.declared.call.Call.TheVariants.{ChannelCreate, ChannelDestroy, ConnectAttach, ConnectDetach, Send, ReceivePulse, Pulse}
+use Rattle.qmodel.specs.declared.call.Mark.TheVariants as mark
+use Rattle.qmodel.specs.Facts.{Facts}
+use Rattle.qmodel.specs.Lawful.{facts_of, followed_by}
+use Rattle.qmodel.specs.Pulses.{pulses_among}
+use Rattle.qmodel.specs.Trace.{Event}
+use Rattle.qworked.specs.Runs.{event, ended, flags_of}
+use Rattle.qworked.specs.ThreeProcesses.{attached, roster}
+
+-- of three channels one is destroyed, and one isn't created; of five connections one is detached, and another isn't attached; two pulses and a message
+-- are pending on channel 1, where one was received, and a pulse on channel 4
+abbrev pub events : List Event
+events = attached (
+    event 35 (ChannelCreate (flags_of 0)) (ended 4 35 (mark.Channel 4) [] ∷ [])
+    ∷ event 54 (ConnectAttach 4) (ended 5 54 (mark.Connection 5) [] ∷ [])
+    ∷ event 42 (ConnectAttach 1) (ended 6 42 (mark.Connection 6) [] ∷ [])
+    ∷ event 42 (ConnectDetach 2) (ended 7 42 mark.Ok [] ∷ [])
+    ∷ event 31 (ChannelCreate (flags_of 2)) (ended 8 31 (mark.Channel 8) [] ∷ [])
+    ∷ event 43 (ConnectAttach 8) (ended 9 43 (mark.Connection 9) [] ∷ [])
+    ∷ event 31 (ChannelDestroy 8) (ended 10 31 mark.Ok [] ∷ [])
+    ∷ event 42 (ConnectAttach 8) (ended 11 42 (mark.Failed Srch) [] ∷ [])
+    ∷ event 31 (ChannelCreate (flags_of 8)) (ended 12 31 (mark.Failed Inval) [] ∷ [])
+    ∷ event 43 (Pulse 6 50 (pos 77) (pos 88)) (ended 13 43 mark.Ok [] ∷ [])
+    ∷ event 54 (Pulse 5 51 (pos 77) (pos 88)) (ended 14 54 mark.Ok [] ∷ [])
+    ∷ event 43 (Pulse 6 52 (pos 77) (pos 88)) (ended 15 43 mark.Ok [] ∷ [])
+    ∷ event 54 (Pulse 3 53 (pos 77) (pos 88)) (ended 16 54 mark.Ok [] ∷ [])
+    ∷ event 54 (Pulse 3 54 (negsuc 0) (pos 88)) (ended 17 54 (mark.Failed Inval) [] ∷ [])
+    ∷ event 43 (Send 6 [] []) []
+    ∷ event 31 (ReceivePulse 1) (ended 19 31 (mark.Pulse 16 53 (what.User (pos 77) (pos 88))) [] ∷ [])
+    ∷ [])
+
+-- what may be read after them
+abbrev pub facts : Facts
+facts = facts_of roster (followed_by [] events)
+
+-- how many pulses are pending on channel h then
+abbrev pub pulses_on : ℕ → ℕ
+pulses_on h = pulses_among (facts.pending h)

@@ -1,0 +1,72 @@
+-- A detached connection cuts what was sent over it, and the server of a channel with the disconnect flag is told of the last one.
+use Rattle.std.specs.Prelude.{List, [], ◌∷◌, pos}
+use Rattle.qbase.specs.declared.errno.Errno.TheVariants.{Badf, Inval, Srch}
+use Rattle.qbase.specs.declared.state.ThreadState.TheVariants.{ReceiveBlocked}
+use Rattle.qqueue.specs.declared.item.What.TheVariants as what
+use Rattle.qmodel.specs.declared.call.Call.TheVariants.{ChannelCreate, ConnectAttach, ConnectDetach, Send, Receive, Reply, ReceivePulse}
+use Rattle.qmodel.specs.declared.call.Mark.TheVariants as mark
+use Rattle.qmodel.specs.declared.open_call.Blocked.{Blocked}
+use Rattle.qmodel.specs.Trace.{Event}
+use Rattle.qworked.specs.Runs.{event, ended, blocked, flags_of}
+use Rattle.qworked.specs.Setting.{connected}
+
+-- message 3 isn't received: it leaves the channel, and the connection leads nowhere
+abbrev pub waiting : List Event
+waiting = connected (
+    event 3 (Send 2 (0xaa ∷ []) (0x00 ∷ 0x00 ∷ [])) []
+    ∷ event 2 (ConnectDetach 2) (ended 4 2 mark.Ok [] ∷ ended 3 3 (mark.Failed Badf) (0x00 ∷ 0x00 ∷ []) ∷ [])
+    ∷ event 2 (ConnectDetach 2) (ended 5 2 (mark.Failed Inval) [] ∷ [])
+    ∷ event 3 (Send 2 [] (0x09 ∷ [])) (ended 6 3 (mark.Failed Badf) (0x09 ∷ []) ∷ [])
+    ∷ event 1 (Receive 1 []) []
+    ∷ [])
+
+-- the server waits for a message
+abbrev pub nothing_there : List Blocked
+nothing_there = blocked 7 1 (ReceiveBlocked 1) ∷ []
+
+-- message 3 is held, its server can't detach the client's connection, and after the client did there is nothing to answer; what
+-- was sent over another connection of the client is answered
+abbrev pub held : List Event
+held = connected (
+    event 3 (Send 2 (0xaa ∷ []) (0x00 ∷ [])) []
+    ∷ event 1 (Receive 1 []) (ended 4 1 (mark.Message 3 0) [] ∷ [])
+    ∷ event 4 (ConnectDetach 2) (ended 5 4 (mark.Failed Inval) [] ∷ [])
+    ∷ event 2 (ConnectAttach 1) (ended 6 2 (mark.Connection 6) [] ∷ [])
+    ∷ event 2 (ConnectDetach 2) (ended 7 2 mark.Ok [] ∷ ended 3 3 (mark.Failed Badf) (0x00 ∷ []) ∷ [])
+    ∷ event 1 (Reply 3 (pos 1) []) (ended 8 1 (mark.Failed Srch) [] ∷ [])
+    ∷ event 3 (Send 6 [] []) []
+    ∷ event 1 (Receive 1 []) (ended 10 1 (mark.Message 9 0) [] ∷ [])
+    ∷ event 2 (ConnectDetach 4) (ended 11 2 (mark.Failed Inval) [] ∷ [])
+    ∷ event 1 (Reply 9 (pos 1) []) (ended 12 1 mark.Ok [] ∷ ended 9 3 (mark.Replied (pos 1) 0) [] ∷ [])
+    ∷ [])
+
+-- channel 3 has the flag, connections 4 and 5 of one process lead to it, and then these events follow
+abbrev pub twice_attached : List Event → List Event
+twice_attached events = connected (
+    event 1 (ChannelCreate (flags_of 4)) (ended 3 1 (mark.Channel 3) [] ∷ [])
+    ∷ event 2 (ConnectAttach 3) (ended 4 2 (mark.Connection 4) [] ∷ [])
+    ∷ event 3 (ConnectAttach 3) (ended 5 3 (mark.Connection 5) [] ∷ [])
+    ∷ events)
+
+-- no pulse is made of the first detach, and one of the second, which waits
+abbrev pub told_once : List Event
+told_once = twice_attached (
+    event 3 (ConnectDetach 4) (ended 6 3 mark.Ok [] ∷ [])
+    ∷ event 2 (ConnectDetach 5) (ended 7 2 mark.Ok [] ∷ [])
+    ∷ event 1 (ReceivePulse 3) (ended 8 1 (mark.Pulse 7 20 (what.Disconnect 2)) [] ∷ [])
+    ∷ event 1 (ReceivePulse 3) []
+    ∷ [])
+
+-- the server waits for another pulse
+abbrev pub no_more : List Blocked
+no_more = blocked 9 1 (ReceiveBlocked 3) ∷ []
+
+-- a server that waits takes the pulse at once, in the event that cuts what was sent over the connection
+abbrev pub taken_at_once : List Event
+taken_at_once = twice_attached (
+    event 3 (ConnectDetach 4) (ended 6 3 mark.Ok [] ∷ [])
+    ∷ event 3 (Send 5 [] (0x07 ∷ [])) []
+    ∷ event 1 (ReceivePulse 3) []
+    ∷ event 2 (ConnectDetach 5) (ended 8 1 (mark.Pulse 9 20 (what.Disconnect 2)) [] ∷ ended 9 2 mark.Ok [] ∷ ended 7 3 (mark.Failed Badf) (0x07 ∷ []) ∷ [])
+    ∷ event 1 (Receive 3 []) []
+    ∷ [])

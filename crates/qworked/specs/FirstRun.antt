@@ -1,0 +1,41 @@
+-- The first run: a server creates a channel; a client attaches to it and sends; the server receives and replies.
+use Rattle.std.specs.Prelude.{List, [], ◌∷◌, pos}
+use Rattle.qtables.specs.declared.member.Member.{Member}
+use Rattle.qmodel.specs.declared.call.Call.TheVariants.{ChannelCreate, ConnectAttach, Send, Receive, Reply}
+use Rattle.qmodel.specs.declared.call.Mark.TheVariants as mark
+use Rattle.qmodel.specs.Trace.{Event}
+use Rattle.qworked.specs.Runs.{member, event, ended, flags_of, with_endings}
+
+-- a server and a client, each a process of its own
+abbrev pub roster : List Member
+roster = member 1 1 10 ∷ member 2 2 20 ∷ []
+
+-- five calls
+abbrev pub events : List Event
+events =
+    event 1 (ChannelCreate (flags_of 0)) (ended 1 1 (mark.Channel 1) [] ∷ [])
+    ∷ event 2 (ConnectAttach 1) (ended 2 2 (mark.Connection 2) [] ∷ [])
+    ∷ event 2 (Send 2 [] []) []
+    ∷ event 1 (Receive 1 []) (ended 4 1 (mark.Message 3 0) [] ∷ [])
+    ∷ event 1 (Reply 3 (pos 0) []) (ended 5 1 mark.Ok [] ∷ ended 3 2 (mark.Replied (pos 0) 0) [] ∷ [])
+    ∷ []
+
+-- the sender isn't told that its message is answered
+abbrev pub one_left_out : List Event
+one_left_out = with_endings 5 (ended 5 1 mark.Ok [] ∷ []) events
+
+-- the Send ends at once, too
+abbrev pub one_added : List Event
+one_added = with_endings 3 (ended 3 2 (mark.Replied (pos 0) 0) [] ∷ []) events
+
+-- the server receives another message
+abbrev pub mark_changed : List Event
+mark_changed = with_endings 4 (ended 4 1 (mark.Message 2 0) [] ∷ []) events
+
+-- the client is told that the server's call ended
+abbrev pub thread_changed : List Event
+thread_changed = with_endings 4 (ended 4 2 (mark.Message 3 0) [] ∷ []) events
+
+-- the message is answered as it is received, and not as the server replies
+abbrev pub one_moved : List Event
+one_moved = with_endings 5 (ended 5 1 mark.Ok [] ∷ []) (with_endings 4 (ended 4 1 (mark.Message 3 0) [] ∷ ended 3 2 (mark.Replied (pos 0) 0) [] ∷ []) events)

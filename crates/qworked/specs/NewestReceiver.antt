@@ -1,0 +1,31 @@
+-- What is sent goes to the receiver that began to wait last, of those that may take it.
+use Rattle.std.specs.Prelude.{List, [], ◌∷◌, pos}
+use Rattle.qbase.specs.declared.state.ThreadState.TheVariants.{ReceiveBlocked, ReplyBlocked}
+use Rattle.qqueue.specs.declared.item.What.TheVariants as what
+use Rattle.qmodel.specs.declared.call.Call.TheVariants.{Send, Receive, ReceivePulse, Pulse}
+use Rattle.qmodel.specs.declared.call.Mark.TheVariants as mark
+use Rattle.qmodel.specs.declared.open_call.Blocked.{Blocked}
+use Rattle.qmodel.specs.Trace.{Event}
+use Rattle.qworked.specs.Runs.{event, ended, blocked}
+use Rattle.qworked.specs.Setting.{connected}
+
+-- two receivers wait, and the later one takes a message
+abbrev pub newest : List Event
+newest = connected (
+    event 1 (Receive 1 []) []
+    ∷ event 4 (Receive 1 []) []
+    ∷ event 2 (Send 2 [] []) (ended 4 4 (mark.Message 5 0) [] ∷ [])
+    ∷ [])
+
+-- the later receiver waits for pulses alone: a message passes it over, and a pulse doesn't
+abbrev pub passed_over : List Event
+passed_over = connected (
+    event 1 (Receive 1 (0x00 ∷ [])) []
+    ∷ event 4 (ReceivePulse 1) []
+    ∷ event 2 (Send 2 (0xaa ∷ []) []) (ended 3 1 (mark.Message 5 1) (0xaa ∷ []) ∷ [])
+    ∷ event 3 (Pulse 2 5 (pos 0) (pos 0)) (ended 6 3 mark.Ok [] ∷ ended 4 4 (mark.Pulse 6 5 (what.User (pos 0) (pos 0))) [] ∷ [])
+    ∷ [])
+
+-- the earlier receiver, and the client that waits for its answer
+abbrev pub still_waiting : List Blocked
+still_waiting = blocked 3 1 (ReceiveBlocked 1) ∷ blocked 5 2 (ReplyBlocked 1) ∷ []

@@ -1,0 +1,20 @@
+-- Pulses with a negative code or over another process's connection, and what is asked of another process's channel.
+use Rattle.std.specs.Prelude.{List, [], ◌∷◌, pos, negsuc}
+use Rattle.qbase.specs.declared.errno.Errno.TheVariants.{Srch, Badf, Inval}
+use Rattle.qmodel.specs.declared.call.Call.TheVariants.{Receive, ReceivePulse, Pulse, ChannelDestroy}
+use Rattle.qmodel.specs.declared.call.Mark.TheVariants as mark
+use Rattle.qmodel.specs.Trace.{Event}
+use Rattle.qworked.specs.Runs.{event, ended}
+use Rattle.qworked.specs.Setting.{connected}
+
+-- calls of which none is accepted, and a Receive that finds the channel open and no pulse
+abbrev pub events : List Event
+events = connected (
+    event 2 (Pulse 2 20 (negsuc 0) (pos 0)) (ended 3 2 (mark.Failed Inval) [] ∷ [])
+    ∷ event 1 (Pulse 2 20 (negsuc 0) (pos 0)) (ended 4 1 (mark.Failed Badf) [] ∷ [])
+    ∷ event 2 (Pulse 2 20 (negsuc 127) (pos 5)) (ended 5 2 (mark.Failed Inval) [] ∷ [])
+    ∷ event 2 (ReceivePulse 1) (ended 6 2 (mark.Failed Srch) [] ∷ [])
+    ∷ event 2 (ChannelDestroy 1) (ended 7 2 (mark.Failed Inval) [] ∷ [])
+    ∷ event 1 (ChannelDestroy 9) (ended 8 1 (mark.Failed Inval) [] ∷ [])
+    ∷ event 1 (Receive 1 []) []
+    ∷ [])

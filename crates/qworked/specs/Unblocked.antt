@@ -1,0 +1,23 @@
+-- A thread that waits in a Send or a receive is unblocked; nothing happens to one that doesn't wait.
+use Rattle.std.specs.Prelude.{List, [], ◌∷◌, pos}
+use Rattle.qbase.specs.declared.errno.Errno.TheVariants.{Srch, Intr}
+use Rattle.qqueue.specs.declared.item.What.TheVariants as what
+use Rattle.qmodel.specs.declared.call.Call.TheVariants.{Send, Receive, ReceivePulse, Pulse, Unblock}
+use Rattle.qmodel.specs.declared.call.Mark.TheVariants as mark
+use Rattle.qmodel.specs.Trace.{Event}
+use Rattle.qworked.specs.Runs.{event, ended}
+use Rattle.qworked.specs.Setting.{connected}
+
+-- a message is cut before its receipt and never received; another process's thread and an unknown one are refused
+abbrev pub events : List Event
+events = connected (
+    event 2 (Send 2 (0xaa ∷ []) (0x00 ∷ [])) []
+    ∷ event 3 (Unblock 2) (ended 3 2 (mark.Failed Intr) (0x00 ∷ []) ∷ ended 4 3 mark.Ok [] ∷ [])
+    ∷ event 3 (Unblock 2) (ended 5 3 mark.Ok [] ∷ [])
+    ∷ event 3 (Unblock 1) (ended 6 3 (mark.Failed Srch) [] ∷ [])
+    ∷ event 3 (Unblock 9) (ended 7 3 (mark.Failed Srch) [] ∷ [])
+    ∷ event 1 (ReceivePulse 1) []
+    ∷ event 4 (Unblock 1) (ended 8 1 (mark.Failed Intr) [] ∷ ended 9 4 mark.Ok [] ∷ [])
+    ∷ event 2 (Pulse 2 9 (pos 3) (pos 7)) (ended 10 2 mark.Ok [] ∷ [])
+    ∷ event 1 (Receive 1 []) (ended 11 1 (mark.Pulse 10 9 (what.User (pos 3) (pos 7))) [] ∷ [])
+    ∷ [])

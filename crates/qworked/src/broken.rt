@@ -1,0 +1,120 @@
+//! Runs that break one of the properties of a lawful trace: the property refuses them.
+
+ghost use Rattle.std.specs.Prelude.{[]};
+ghost use Rattle.qmodel.specs.Headline.AnsweredToSender.{AnsweredToSender};
+ghost use Rattle.qmodel.specs.Headline.BestFirst.{BestFirst};
+ghost use Rattle.qmodel.specs.Headline.CopiedExactly.{CopiedExactly};
+ghost use Rattle.qmodel.specs.Headline.ReceivedOnce.{ReceivedOnce};
+ghost use Rattle.qmodel.specs.Headline.SentOrder.{SentOrder};
+ghost use Rattle.qmodel.specs.Headline.ShutForGood.{ShutForGood};
+ghost use Rattle.qmodel.specs.Lawful.{IsLawful};
+ghost use Rattle.qworked.specs.Broken.Answered as answered;
+ghost use Rattle.qworked.specs.Broken.Copied as copied;
+ghost use Rattle.qworked.specs.Broken.Held.{held, run_of, sent};
+ghost use Rattle.qworked.specs.Broken.Received as received;
+ghost use Rattle.qworked.specs.Broken.Shut as shut;
+ghost use Rattle.qworked.specs.Broken.Taken as taken;
+ghost use Rattle.qworked.specs.ThreeProcesses.{roster};
+
+/// No item is received twice or too early, and no call is ended twice.
+pub fn received_once()
+    ensures message_twice { ReceivedOnce roster received.message_twice → ⊥ }
+    ensures pulse_twice { ReceivedOnce roster received.pulse_twice → ⊥ }
+    ensures early { ReceivedOnce roster received.early → ⊥ }
+    ensures ended_twice { ReceivedOnce roster received.ended_twice → ⊥ }
+{}
+
+/// A message is answered once, by a call that names it and may answer it, and to its sender.
+pub fn answered_to_sender()
+    ensures to_another_thread { AnsweredToSender roster answered.to_another_thread → ⊥ }
+    ensures by_another_process { AnsweredToSender roster answered.by_another_process → ⊥ }
+    ensures by_nothing { AnsweredToSender roster answered.by_nothing → ⊥ }
+    ensures by_no_code { AnsweredToSender roster answered.by_no_code → ⊥ }
+    ensures twice { AnsweredToSender roster answered.twice → ⊥ }
+    ensures though_refused { AnsweredToSender roster answered.though_refused → ⊥ }
+    ensures unreceived { AnsweredToSender roster answered.unreceived → ⊥ }
+    ensures another_too { AnsweredToSender roster answered.another_too → ⊥ }
+    ensures by_a_receive { AnsweredToSender roster answered.by_a_receive → ⊥ }
+{}
+
+/// No byte and no count is another than what was to be copied.
+pub fn copied_exactly()
+    ensures message_byte { CopiedExactly copied.message_byte → ⊥ }
+    ensures message_rest { CopiedExactly copied.message_rest → ⊥ }
+    ensures message_count { CopiedExactly copied.message_count → ⊥ }
+    ensures pulse_buffer { CopiedExactly copied.pulse_buffer → ⊥ }
+    ensures reply_byte { CopiedExactly copied.reply_byte → ⊥ }
+    ensures reply_count { CopiedExactly copied.reply_count → ⊥ }
+    ensures reply_status { CopiedExactly copied.reply_status → ⊥ }
+    ensures write_lost { CopiedExactly copied.write_lost → ⊥ }
+    ensures write_count { CopiedExactly copied.write_count → ⊥ }
+    ensures read_byte { CopiedExactly copied.read_byte → ⊥ }
+    ensures read_count { CopiedExactly copied.read_count → ⊥ }
+    ensures code_buffer { CopiedExactly copied.code_buffer → ⊥ }
+    ensures failed_buffer { CopiedExactly copied.failed_buffer → ⊥ }
+    ensures buffer_from_nothing { CopiedExactly copied.buffer_from_nothing → ⊥ }
+    ensures channel_buffer { CopiedExactly copied.channel_buffer → ⊥ }
+    ensures connection_buffer { CopiedExactly copied.connection_buffer → ⊥ }
+    ensures info_buffer { CopiedExactly copied.info_buffer → ⊥ }
+    ensures state_buffer { CopiedExactly copied.state_buffer → ⊥ }
+    ensures write_buffer { CopiedExactly copied.write_buffer → ⊥ }
+    ensures counted_nothing { CopiedExactly copied.counted_nothing → ⊥ }
+{}
+
+/// No receipt takes a lesser item, a later one of equal priority, or one that it may not take.
+pub fn best_first()
+    ensures lesser { BestFirst roster taken.lesser → ⊥ }
+    ensures later { BestFirst roster taken.later → ⊥ }
+    ensures by_a_pulse_receive { BestFirst roster taken.by_a_pulse_receive → ⊥ }
+    ensures on_another_channel { BestFirst roster taken.on_another_channel → ⊥ }
+{}
+
+/// Of two equals over one connection the later isn't received first.
+pub fn sent_order()
+    ensures overtaken { SentOrder roster taken.overtaken → ⊥ }
+{}
+
+/// Nothing is received from a destroyed channel, and nobody stays blocked on it.
+pub fn shut_for_good()
+    ensures received { ShutForGood roster shut.received → ⊥ }
+    ensures send_left { ShutForGood roster shut.send_left → ⊥ }
+    ensures held_left { ShutForGood roster shut.held_left → ⊥ }
+    ensures receiver_left { ShutForGood roster shut.receiver_left → ⊥ }
+    ensures detached_left { ShutForGood roster shut.detached_left → ⊥ }
+{}
+
+/// What the broken runs begin with is lawful.
+pub fn lawful_so_far()
+    ensures attached { IsLawful roster (run_of []) }
+    ensures sent { IsLawful roster (sent []) }
+    ensures held { IsLawful roster (held []) }
+{}
+
+/// Each of these runs breaks one property, and has the five others.
+pub fn one_property_broken()
+    ensures ended_twice_answered { AnsweredToSender roster received.ended_twice }
+    ensures ended_twice_copied { CopiedExactly received.ended_twice }
+    ensures ended_twice_best { BestFirst roster received.ended_twice }
+    ensures ended_twice_order { SentOrder roster received.ended_twice }
+    ensures ended_twice_shut { ShutForGood roster received.ended_twice }
+    ensures answered_received { ReceivedOnce roster answered.to_another_thread }
+    ensures answered_copied { CopiedExactly answered.to_another_thread }
+    ensures answered_best { BestFirst roster answered.to_another_thread }
+    ensures answered_order { SentOrder roster answered.to_another_thread }
+    ensures answered_shut { ShutForGood roster answered.to_another_thread }
+    ensures copied_received { ReceivedOnce roster copied.message_byte }
+    ensures copied_answered { AnsweredToSender roster copied.message_byte }
+    ensures copied_best { BestFirst roster copied.message_byte }
+    ensures copied_order { SentOrder roster copied.message_byte }
+    ensures copied_shut { ShutForGood roster copied.message_byte }
+    ensures best_received { ReceivedOnce roster taken.lesser }
+    ensures best_answered { AnsweredToSender roster taken.lesser }
+    ensures best_copied { CopiedExactly taken.lesser }
+    ensures best_order { SentOrder roster taken.lesser }
+    ensures best_shut { ShutForGood roster taken.lesser }
+    ensures shut_received { ReceivedOnce roster shut.send_left }
+    ensures shut_answered { AnsweredToSender roster shut.send_left }
+    ensures shut_copied { CopiedExactly shut.send_left }
+    ensures shut_best { BestFirst roster shut.send_left }
+    ensures shut_order { SentOrder roster shut.send_left }
+{}

@@ -1,0 +1,107 @@
+//! What ends blocked calls: an Unblock, the end of a channel, and the end of the kernel.
+
+ghost use Rattle.std.specs.Prelude.{◌≡◌};
+ghost use Rattle.qworked.specs.DestroyedChannel as destroyed;
+ghost use Rattle.qworked.specs.Detached as detached;
+ghost use Rattle.qworked.specs.ShutDown as down;
+ghost use Rattle.qworked.specs.StaleId as stale;
+ghost use Rattle.qworked.specs.Unblocked as unblocked;
+ghost use Rattle.qworked.specs.Runs.{EndsOnlySo, EndsOnlySoWithMemory, IsLawfulRun, blocked_after};
+ghost use Rattle.qworked.specs.Setting.{roster};
+
+/// The id of a message whose sender was unblocked answers nothing.
+pub fn stale_id()
+    ensures lawful { IsLawfulRun roster stale.events }
+    ensures unblocked { EndsOnlySo roster stale.events 5 }
+    ensures sent_again { EndsOnlySoWithMemory roster stale.events 6 }
+    ensures stale { EndsOnlySo roster stale.events 7 }
+    ensures received { EndsOnlySo roster stale.events 8 }
+    ensures blocked { blocked_after roster stale.events ≡ stale.waits_for_answer }
+{}
+
+/// A thread that waits in a Send or a receive is unblocked.
+pub fn unblocked()
+    ensures lawful { IsLawfulRun roster unblocked.events }
+    ensures cut { EndsOnlySo roster unblocked.events 4 }
+    ensures not_blocked { EndsOnlySo roster unblocked.events 5 }
+    ensures of_others { EndsOnlySo roster unblocked.events 6 }
+    ensures of_none { EndsOnlySo roster unblocked.events 7 }
+    ensures receiver_cut { EndsOnlySo roster unblocked.events 9 }
+    ensures pulsed { EndsOnlySoWithMemory roster unblocked.events 10 }
+    ensures message_gone { EndsOnlySo roster unblocked.events 11 }
+{}
+
+/// A detached connection ends what was sent over it and isn't received.
+pub fn detached_connection()
+    ensures lawful { IsLawfulRun roster detached.waiting }
+    ensures cut { EndsOnlySo roster detached.waiting 4 }
+    ensures detached_again { EndsOnlySo roster detached.waiting 5 }
+    ensures sent { EndsOnlySo roster detached.waiting 6 }
+    ensures message_gone { EndsOnlySo roster detached.waiting 7 }
+    ensures blocked { blocked_after roster detached.waiting ≡ detached.nothing_there }
+{}
+
+/// A detached connection ends also what was received, and no other connection's.
+pub fn detached_while_held()
+    ensures lawful { IsLawfulRun roster detached.held }
+    ensures of_others { EndsOnlySo roster detached.held 5 }
+    ensures cut { EndsOnlySo roster detached.held 7 }
+    ensures answered { EndsOnlySo roster detached.held 8 }
+    ensures over_another { EndsOnlySo roster detached.held 10 }
+    ensures of_none { EndsOnlySo roster detached.held 11 }
+{}
+
+/// The server of a channel with the disconnect flag is told once, of the last connection of a process.
+pub fn told_of_the_last_detach()
+    ensures lawful { IsLawfulRun roster detached.told_once }
+    ensures first { EndsOnlySo roster detached.told_once 6 }
+    ensures last { EndsOnlySoWithMemory roster detached.told_once 7 }
+    ensures pulse { EndsOnlySo roster detached.told_once 8 }
+    ensures no_more { EndsOnlySo roster detached.told_once 9 }
+    ensures blocked { blocked_after roster detached.told_once ≡ detached.no_more }
+{}
+
+/// A server that waits takes the disconnect pulse in the event of the detach.
+pub fn disconnect_pulse_taken_at_once()
+    ensures lawful { IsLawfulRun roster detached.taken_at_once }
+    ensures first { EndsOnlySo roster detached.taken_at_once 6 }
+    ensures last { EndsOnlySo roster detached.taken_at_once 9 }
+    ensures message_gone { EndsOnlySo roster detached.taken_at_once 10 }
+{}
+
+/// A destroyed channel ends what is blocked on it.
+pub fn destroyed_channel()
+    ensures lawful { IsLawfulRun roster destroyed.events }
+    ensures destroyed { EndsOnlySo roster destroyed.events 7 }
+    ensures sent { EndsOnlySo roster destroyed.events 8 }
+    ensures pulsed { EndsOnlySo roster destroyed.events 9 }
+    ensures received { EndsOnlySo roster destroyed.events 10 }
+    ensures received_pulse { EndsOnlySo roster destroyed.events 11 }
+    ensures destroyed_again { EndsOnlySo roster destroyed.events 12 }
+    ensures answered { EndsOnlySo roster destroyed.events 13 }
+    ensures attached { EndsOnlySo roster destroyed.events 14 }
+{}
+
+/// Who waits on another channel than the destroyed one still waits.
+pub fn other_channel_stays()
+    ensures lawful { IsLawfulRun roster destroyed.others_stay }
+    ensures destroyed { EndsOnlySo roster destroyed.others_stay 6 }
+    ensures attached { EndsOnlySoWithMemory roster destroyed.others_stay 7 }
+    ensures pulse { EndsOnlySo roster destroyed.others_stay 8 }
+{}
+
+/// A blocked thread is busy until the kernel is shut down, and then every call is refused.
+pub fn busy_and_shut_down()
+    ensures lawful { IsLawfulRun roster down.events }
+    ensures busy { EndsOnlySo roster down.events 4 }
+    ensures shut_down { EndsOnlySo roster down.events 5 }
+    ensures created { EndsOnlySo roster down.events 6 }
+    ensures sent { EndsOnlySo roster down.events 7 }
+    ensures shut_down_again { EndsOnlySo roster down.events 8 }
+{}
+
+/// A shutdown ends every open call.
+pub fn shut_down_ends_all()
+    ensures lawful { IsLawfulRun roster down.all_ended }
+    ensures shut_down { EndsOnlySo roster down.all_ended 8 }
+{}
