@@ -3,8 +3,8 @@
 
 usage: bench/bench.py [core] [tables] [pulses] [cells] [allocations] [scripts]
 
-With no word it measures all six. It wants the built programs `crates/qbench/out/qbench` and
-`crates/qdemo/out/qdemo`, which `rt run` leaves in each of the two crates.
+With no word it measures all six. It wants the built programs `bench/out/qbench` and
+`crates/qdemo/out/qdemo`: `bench/build qbench` and `(cd crates/qdemo && rt run -- check data)`.
 
   core         nanoseconds a call in rounds of Send, Receive and Reply, with 1, 64 and 1,024
                connections, and 1 and 1,024 pulses that wait on the channel
@@ -30,7 +30,7 @@ import tempfile
 import time
 
 ROOT = os.path.dirname(os.path.dirname(os.path.abspath(__file__)))
-QBENCH = os.path.join(ROOT, "crates/qbench/out/qbench")
+QBENCH = os.path.join(ROOT, "bench/out/qbench")
 QDEMO = os.path.join(ROOT, "crates/qdemo/out/qdemo")
 GNU_TIME = "/usr/bin/time"
 
@@ -65,8 +65,7 @@ def row(name, value, aim="", met=True):
 def program(path):
     """The path of a built program."""
     if not os.access(path, os.X_OK):
-        crate = os.path.basename(path)
-        sys.exit(f"no program {path}; build it by `rt run` in crates/{crate}\n\n{__doc__}")
+        sys.exit(f"no program {path}\n\n{__doc__}")
     return path
 
 

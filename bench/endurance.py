@@ -16,7 +16,7 @@ import sys
 import time
 
 TOP = os.path.dirname(os.path.dirname(os.path.abspath(__file__)))
-PROGRAM = os.path.join(TOP, "crates/qroundtrips/out/qroundtrips")
+PROGRAM = os.path.join(TOP, "bench/out/qroundtrips")
 RUNS = 10
 
 # It starts the program: the system counts a program's peak from that of the process that starts it.
@@ -36,7 +36,7 @@ def run(clients, servers, rounds):
 
 def main():
     if not os.path.exists(PROGRAM):
-        sys.exit("build the program first: (cd crates/qroundtrips && rt run)")
+        sys.exit("build the program first: bench/build qroundtrips")
     numbers = [int(word) for word in sys.argv[1:]]
     millions, clients, servers = numbers if len(numbers) == 3 else [*(numbers or [10]), 8, 4]
     print(f"{clients} clients and {servers} servers, {len(os.sched_getaffinity(0))} cores")

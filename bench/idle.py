@@ -17,7 +17,7 @@ import sys
 import time
 
 TOP = os.path.dirname(os.path.dirname(os.path.abspath(__file__)))
-PROGRAM = os.path.join(TOP, "crates/qroundtrips/out/qroundtrips")
+PROGRAM = os.path.join(TOP, "bench/out/qroundtrips")
 TIMES, SETTLING = 10, 0.005
 
 # Of <sys/ptrace.h> and <sys/wait.h>.
@@ -66,7 +66,7 @@ def workers_of(process):
 
 def main():
     if not os.path.exists(PROGRAM):
-        sys.exit("build the program first: (cd crates/qroundtrips && rt run)")
+        sys.exit("build the program first: bench/build qroundtrips")
     seconds = float(sys.argv[1]) if len(sys.argv) > 1 else 5.0
     program = subprocess.Popen([PROGRAM, "1", "1", "65000000", "unkept"], stdout=subprocess.DEVNULL)
     figures = []

@@ -15,7 +15,7 @@ with 4, and the client collects and checks them. The programs:
 The kernel also makes them in one thread that has the port of a client and that of a server and never waits: the row
 `alone`, which shows what its three calls and two looks cost by themselves.
 
-It wants them built, `crates/qroundtrips/out/qroundtrips` and `bench/peers/out/peers`. One that isn't is left out, and
+It wants them built, `bench/out/qroundtrips` and `bench/peers/out/peers`. One that isn't is left out, and
 it says by which command it is built.
 
 Each repeat (7, if no other number is given) runs all programs in turn, case by case, so that what else runs on the
@@ -33,7 +33,7 @@ import sys
 import time
 
 ROOT = os.path.dirname(os.path.dirname(os.path.abspath(__file__)))
-KERNEL = os.path.join(ROOT, "crates/qroundtrips/out/qroundtrips")
+KERNEL = os.path.join(ROOT, "bench/out/qroundtrips")
 PEERS = os.path.join(ROOT, "bench/peers/out/peers")
 
 PROGRAMS = {
@@ -46,7 +46,7 @@ PROGRAMS = {
 # What follows the numbers in a program's words.
 LAST_WORDS = {"unkept": ["unkept"]}
 BUILT_BY = {
-    KERNEL: "(cd crates/qroundtrips && rt run -- 1 1 100)",
+    KERNEL: "bench/build qroundtrips",
     PEERS: "bench/peers/build",
 }
 

@@ -1,28 +1,16 @@
 //! A kernel of synchronous messages: run from a script, and by a server and its clients on threads.
 #![tactic(auto)]
 
-mod charts;
-mod check;
-mod command;
-mod difference;
-mod ending;
-mod example;
 mod files;
-mod scripts;
 mod serving;
-mod streams;
-#[cfg(test)]
-mod tests;
-mod texts;
 
-use charts::run_chart;
-use check::run_check;
 use clap::Error;
 use clap::error::ErrorKind;
-use command::{Action, action_of};
-use ending::{end_failed, end_unwritten, end_with};
-use qserve::settings::Settings;
-use scripts::run_script;
+use qtool::charts::run_chart;
+use qtool::check::run_check;
+use qtool::command::{Action, action_of};
+use qtool::ending::{end_failed, end_unwritten, end_with};
+use qtool::scripts::run_script;
 use serving::run_serve;
 use std::io::IsTerminal;
 use std::process::ExitCode;
@@ -41,13 +29,7 @@ fn main(rt: HostRuntime) -> ExitCode {
         Ok(Action::Script(run)) => run_script(&rt, &run),
         Ok(Action::Check(run)) => run_check(&rt, &run),
         Ok(Action::Chart(run)) => run_chart(&rt, &run),
-        Ok(Action::Serve(settings, record)) => {
-            run_serve(
-                &rt,
-                with_progress(settings, rt.stderr().is_terminal()),
-                record,
-            )
-        }
+        Ok(Action::Serve(run)) => run_serve(&rt, run, rt.stderr().is_terminal()),
         Err(error) => end_without_action(&rt, &error),
     }
 }
@@ -61,14 +43,6 @@ fn end_without_action<R: Print + Eprint>(rt: &R, error: &Error) -> ExitCode {
     match error.print(rt) {
         Err(fault) if !error.use_stderr() => end_unwritten(rt, fault),
         _ => ExitCode::from(error.exit_code() as u8),
-    }
-}
-
-/// The settings, with progress only where standard error is a terminal.
-fn with_progress(settings: Settings, terminal: bool) -> Settings {
-    Settings {
-        progress: settings.progress && terminal,
-        ..settings
     }
 }
 

@@ -1,26 +1,37 @@
 //! Runs a server and its clients.
 
-use crate::ending::{end_quietly, end_with};
 use crate::files::RecordFiles;
-use crate::streams::Outlet;
 use qscript::watched::Watched;
 use qserve::fault::ServeFault;
 use qserve::recording::{Forget, Store};
 use qserve::serve::serve;
 use qserve::settings::Settings;
+use qtool::command::ServeRun;
+use qtool::ending::{end_quietly, end_with};
+use qtool::streams::Outlet;
 use std::io;
 use std::process::ExitCode;
 use std::rt::{Clock, Files};
 use std::sync::Wait;
 use std::thread::Threads;
 
-/// Runs a server and its clients, and records what the kernel did where there is a name for it.
+/// Runs a server and its clients, and records what the kernel did where there is a name for it. Progress is shown on a
+/// terminal alone.
 pub fn run_serve<R: Files + Print + Eprint + AllocGlobal + Threads + Wait + Clock + Sync>(
     rt: &R,
-    settings: Settings,
-    record: Option<String>,
+    run: ServeRun,
+    terminal: bool,
 ) -> ExitCode {
-    match record {
+    let settings = Settings {
+        clients: run.clients,
+        servers: run.servers,
+        rounds: run.rounds,
+        hold: run.hold,
+        time: run.time,
+        progress: terminal && !run.quiet,
+        record: run.record.is_some(),
+    };
+    match run.record {
         Some(name) => serve_with(rt, settings, &mut RecordFiles::new(rt, name.as_str())),
         None => serve_with(rt, settings, &mut Forget),
     }

@@ -185,3 +185,35 @@ fn a_write_that_fails(rt: HostRuntime) -> Result<(), Fail> {
     }
     Ok(())
 }
+
+// Sixteen messages of 4,096 bytes, the most that a word may say, wait at once, each with as much room for its reply. One
+// is received and answered whole.
+#[test]
+fn as_many_bytes(rt: HostRuntime) -> Result<(), Fail> {
+    let mut lines = String::from_str(rt.alloc(), "thread 1 1 10\n")?;
+    let mut ends = String::new(rt.alloc());
+    for thread in 3..19 {
+        write!(lines, "thread {thread} 2 20\n")?;
+    }
+    lines.push_str("1 create 0\n3 attach 1\n")?;
+    for thread in 3..19 {
+        write!(lines, "{thread} send 2 4096xaa 4096x00\n")?;
+        if thread > 3 {
+            write!(ends, "open {thread} {thread} send 1\n")?;
+        }
+    }
+    lines.push_str("1 receive 1 4096xff\n1 reply 3 0 4096xbb\n")?;
+    let (message, reply) = (
+        "aa".repeat(rt.alloc(), 4096)?,
+        "bb".repeat(rt.alloc(), 4096)?,
+    );
+    let wanted = format!(in rt.alloc();
+        "1 1 1 channel 1\n2 2 3 connection 2\n19 19 1 message 3 4096 {message}\n20 20 1 ok\n20 3 3 reply 0 4096 {reply}\n{ends}"
+    )?;
+    let mut text = Vec::new(rt.alloc());
+    let mut reader = Watched::new(lines.as_bytes());
+    let mut writer = Watched::new(&mut text);
+    script(rt.alloc(), &mut reader, &mut writer)?;
+    assert_eq!(rt; text.as_slice(), wanted.as_bytes());
+    Ok(())
+}

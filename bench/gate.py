@@ -1,0 +1,113 @@
+#!/usr/bin/env python3
+"""Measures the processor time of the gate, by crate and by what was done for it.
+
+    bench/gate.py run LOG [WORD..]    runs `rt ci WORD..` in this checkout and writes LOG
+    bench/gate.py LOG..               prints the table of one or more logs
+
+LOG has a line for each process of the toolchain that the run started, with tabs between its words: the crate, the kind,
+the processor seconds, and the seconds from its start to its end. The kinds are `proof`, `tests` (the crate with its
+tests), `seed` (the proof that a crate's edits begin with, and its check at the end), `edits` and `build` (compilers and
+linkers). The last line is that of the whole run, `total`.
+
+What an earlier run on this machine passed is taken from there and costs nothing. `bench/gate.py run LOG --anew` proves
+all from nothing. Processes are looked at ten times a second, so a figure is up to a tenth of a second a process short.
+"""
+
+import os
+import re
+import subprocess
+import sys
+import time
+from collections import defaultdict
+from pathlib import Path
+
+TOP = Path(__file__).resolve().parents[1]
+TICKS = os.sysconf("SC_CLK_TCK")
+KINDS = ("proof", "tests", "seed", "edits", "build")
+
+
+def children(first):
+    """The processes that this one started, and those started by them, each with its processor time in ticks."""
+    parents, times = {}, {}
+    for entry in os.scandir("/proc"):
+        if not entry.name.isdigit():
+            continue
+        try:
+            words = Path(f"/proc/{entry.name}/stat").read_text().rsplit(")", 1)[1].split()
+        except (OSError, IndexError):
+            continue
+        parents[int(entry.name)] = int(words[1])
+        times[int(entry.name)] = (int(words[19]), int(words[11]) + int(words[12]))
+    found = {first}
+    while True:
+        more = {pid for pid, parent in parents.items() if parent in found} - found
+        if not more:
+            return {pid: times[pid] for pid in found - {first} if pid in times}
+        found |= more
+
+
+def job_of(pid):
+    """The crate and the kind of what a process does, if it is one of the toolchain's."""
+    try:
+        words = Path(f"/proc/{pid}/cmdline").read_bytes().decode(errors="replace").split("\0")
+        folder = os.readlink(f"/proc/{pid}/cwd")
+    except OSError:
+        return None
+    line = " ".join(words)
+    named = re.search(r"--crate-name (\w+)", line) or re.search(r"/crates/(\w+)", folder + " " + line)
+    crate = named[1] if named else "-"
+    if not re.search(r"(^|/)rattle$", words[0]) or "check" not in words[:3] and "--empty-contracts" not in words:
+        return crate, "build"
+    if "rt-edit" in line or "rt-edit" in folder:
+        return crate, "seed" if re.search(r"rt-edits-\S*/seed( |$)", line) else "edits"
+    return crate, "tests" if "--test" in words else "proof"
+
+
+def record(log, words):
+    """Runs the gate, and writes what its processes took."""
+    begin = time.time()
+    gate = subprocess.Popen(["rt", "ci", *words], cwd=TOP)
+    jobs, spent, seen = {}, {}, {}
+    while gate.poll() is None:
+        now = time.time()
+        for pid, (start, ticks) in children(gate.pid).items():
+            key = pid, start
+            # (a process that was just forked still has its parent's words)
+            if key not in jobs or ticks < TICKS:
+                jobs[key] = job_of(pid) or jobs.get(key)
+            spent[key] = ticks / TICKS
+            seen.setdefault(key, [now, now])[1] = now
+        time.sleep(0.1)
+    with open(log, "w") as out:
+        for key, job in jobs.items():
+            if job and spent[key] >= 0.1:
+                out.write(f"{job[0]}\t{job[1]}\t{spent[key]:.2f}\t{seen[key][1] - seen[key][0]:.1f}\n")
+        whole = os.times()
+        out.write(f"total\tall\t{whole.children_user + whole.children_system:.2f}\t{time.time() - begin:.1f}\n")
+    return gate.returncode
+
+
+def table(logs):
+    """Prints the processor seconds of each crate, the dearest first."""
+    spent, number, total, wall = defaultdict(lambda: dict.fromkeys(KINDS, 0.0)), defaultdict(int), 0.0, 0.0
+    for log in logs:
+        for line in Path(log).read_text().splitlines():
+            crate, kind, seconds, lasted = line.split("\t")
+            if kind == "all":
+                total, wall = total + float(seconds), wall + float(lasted)
+            else:
+                spent[crate][kind] += float(seconds)
+                number[crate] += kind == "edits"
+    print(f"{'crate':<18}" + "".join(f"{kind:>9}" for kind in KINDS) + f"{'sum':>9}{'edits tried':>13}")
+    for crate, row in sorted(spent.items(), key=lambda it: -sum(it[1].values())):
+        print(f"{crate:<18}" + "".join(f"{row[kind]:9.0f}" for kind in KINDS) + f"{sum(row.values()):9.0f}{number[crate]:13}")
+    sums = {kind: sum(row[kind] for row in spent.values()) for kind in KINDS}
+    print(f"{'sum':<18}" + "".join(f"{sums[kind]:9.0f}" for kind in KINDS) + f"{sum(sums.values()):9.0f}{sum(number.values()):13}")
+    print(f"{total / 60:.0f} processor minutes by the system, {wall / 60:.0f} minutes from start to end")
+
+
+if sys.argv[1:2] == ["run"] and len(sys.argv) > 2:
+    sys.exit(record(sys.argv[2], sys.argv[3:]))
+if len(sys.argv) < 2 or sys.argv[1].startswith("-"):
+    sys.exit(__doc__)
+table(sys.argv[1:])

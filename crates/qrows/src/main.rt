@@ -1,0 +1,56 @@
+//! Runs worked scripts, whose output is written below their lines by hand, and compares.
+//!
+//! Standard input has the scripts one after another. `== NAME` begins a script, and `=? NAME` one whose fault is also
+//! explained. A line that begins with `> ` is output, each other line is one of the script. `@ FIRST LAST LINE` stands
+//! for LINE once for each number from FIRST to LAST, which takes the place of each N in it.
+#![tactic(auto)]
+
+mod row;
+
+use row::Row;
+use std::io::Read;
+use std::process::ExitCode;
+use std::{io, str};
+
+fn main(rt: HostRuntime) -> ExitCode {
+    match compare_all(&rt) {
+        Ok(true) => ExitCode::SUCCESS,
+        Ok(false) => ExitCode::FAILURE,
+        Err(_) => ExitCode::from(3),
+    }
+}
+
+/// Runs the scripts of standard input, prints a line for each, and returns whether each printed what is written.
+fn compare_all<R: Input + Print + AllocGlobal>(rt: &R) -> io::Result<bool> {
+    let mut text = Vec::new(rt.alloc());
+    rt.reader().read_to_end(&mut text)?;
+    let Ok(text) = str::from_utf8(text.as_slice()) else {
+        return Ok(false);
+    };
+    let mut all = true;
+    let mut row = None;
+    for line in text.lines() {
+        if let Some(next) = Row::begun_by(rt.alloc(), line)? {
+            all = compare(rt, &row)? && all;
+            row = Some(next);
+        } else if let Some(row) = &mut row {
+            row.add(line)?;
+        }
+    }
+    Ok(compare(rt, &row)? && all)
+}
+
+/// Runs the script of the row, if there is one, prints how it compares, and returns whether it printed what is written.
+fn compare<R: Print + AllocGlobal>(rt: &R, row: &Option<Row>) -> io::Result<bool> {
+    let Some(row) = row else {
+        return Ok(true);
+    };
+    let printed = row.printed(rt.alloc())?;
+    let name = row.name();
+    if row.wants(printed.as_str()) {
+        println!(rt; "{name}: as written")?;
+        return Ok(true);
+    }
+    println!(rt; "{name}: printed\n{printed}")?;
+    Ok(false)
+}

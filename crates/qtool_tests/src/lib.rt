@@ -1,0 +1,5 @@
+//! Tests of the command line, of what is compared and of the streams.
+#![tactic(auto)]
+
+#[cfg(test)]
+mod tests;
