@@ -56,16 +56,28 @@ def job_of(pid):
     line = " ".join(words)
     named = re.search(r"--crate-name (\w+)", line) or re.search(r"/crates/(\w+)", folder + " " + line)
     crate = named[1] if named else "-"
-    if not re.search(r"(^|/)rattle$", words[0]) or "check" not in words[:3] and "--empty-contracts" not in words:
+    if not re.search(r"(^|/)rattle$", words[0]) or "--crate-checked" in words:
         return crate, "build"
     if "rt-edit" in line or "rt-edit" in folder:
         return crate, "seed" if re.search(r"rt-edits-\S*/seed( |$)", line) else "edits"
+    if words[1:2] not in (["check"], ["build"]):
+        return crate, "build"
     return crate, "tests" if "--test" in words else "proof"
 
 
+def write(log, jobs, spent, seen, begin):
+    """Writes what was seen so far."""
+    with open(log, "w") as out:
+        for key, job in jobs.items():
+            if job and spent[key] >= 0.1:
+                out.write(f"{job[0]}\t{job[1]}\t{spent[key]:.2f}\t{seen[key][1] - seen[key][0]:.1f}\n")
+        whole = os.times()
+        out.write(f"total\tall\t{whole.children_user + whole.children_system:.2f}\t{time.time() - begin:.1f}\n")
+
+
 def record(log, words):
-    """Runs the gate, and writes what its processes took."""
-    begin = time.time()
+    """Runs the gate, and writes what its processes took, once a minute and at the end."""
+    begin = written = time.time()
     gate = subprocess.Popen(["rt", "ci", *words], cwd=TOP)
     jobs, spent, seen = {}, {}, {}
     while gate.poll() is None:
@@ -77,13 +89,11 @@ def record(log, words):
                 jobs[key] = job_of(pid) or jobs.get(key)
             spent[key] = ticks / TICKS
             seen.setdefault(key, [now, now])[1] = now
+        if now - written > 60:
+            write(log, jobs, spent, seen, begin)
+            written = now
         time.sleep(0.1)
-    with open(log, "w") as out:
-        for key, job in jobs.items():
-            if job and spent[key] >= 0.1:
-                out.write(f"{job[0]}\t{job[1]}\t{spent[key]:.2f}\t{seen[key][1] - seen[key][0]:.1f}\n")
-        whole = os.times()
-        out.write(f"total\tall\t{whole.children_user + whole.children_system:.2f}\t{time.time() - begin:.1f}\n")
+    write(log, jobs, spent, seen, begin)
     return gate.returncode
 
 
