@@ -13,28 +13,41 @@ pub record Reading : Type 0 where
   pub offset : ℕ
   pub buffer : List ℕ
 
--- what a call waits for where it doesn't end in its own event, and the buffer that it brings; the flags of the channel that it creates,
--- the channel that it destroys, the channel that it attaches a connection to, and the connection that it detaches; the item that it makes
--- for a thread, by what was so before it, the connection over which it sends, and the message that it sends; the channel that it receives
--- on and what it may take; the message that it answers, and the status and the bytes of a reply; what it reads and writes; the priority
--- that it sets, and the thread that it is to unblock; and whether it shuts the kernel down
+-- what a call does, by kind; None where it does nothing of that kind
 pub record Effect : Type 0 where
+  -- what it waits for, if it doesn't end in its own event
   pub waits : Option Wait
+  -- the buffer that it brings
   pub buffer : Option (List ℕ)
+  -- the flags of the channel that it creates
   pub creates : Option ChannelFlags
+  -- the channel that it destroys
   pub closes : Option ChannelId
+  -- the channel that it attaches a connection to
   pub attaches : Option ChannelId
+  -- the connection that it detaches
   pub detaches : Option ConnectionId
+  -- the item that it makes for a thread, by the facts before it
   pub makes : Facts → ThreadNo → Option Made
+  -- the connection over which it sends a message or a pulse
   pub sends_over : Option ConnectionId
+  -- the bytes of the message that it sends
   pub sends : Option (List ℕ)
+  -- the channel that it receives on, and the kind of item that it takes
   pub receives_on : Option (ChannelId × Kind)
+  -- the message that it answers
   pub answers : Option ReceiveId
+  -- the status and the bytes of its reply
   pub replies : Option (ℤ × List ℕ)
+  -- what it reads of a message
   pub reads : Option Reading
+  -- what it writes to a sender's reply buffer
   pub writes : Option Written
+  -- the priority that it sets, and whose
   pub sets : Option Setting
+  -- the thread that it unblocks
   pub unblocks : Option ThreadNo
+  -- whether it shuts the kernel down
   pub shuts_down : Bool
 
 -- none of all that

@@ -29,7 +29,7 @@ use Rattle.qmodel.specs.Headline.SentOrder.{connection_of}
 use Rattle.qmodel.specs.Headline.ShutForGood.{NoneReceivedFrom}
 use Rattle.qmodel.specs.Lawful.{IsLawful, facts_of}
 use Rattle.qmodel.specs.Pulses.{pulses_among}
-use Rattle.qmodel.specs.Past.{attached_connection, channel_at, connection_at, made_at, is_accepted, is_closed, is_down, is_ended, is_gone, items, open_call, pending_items, priority_of_item, sender_of}
+use Rattle.qmodel.specs.Past.{attached_connection, channel_at, connection_at, made_at, is_accepted, is_closed, is_down, is_ended, is_gone, items, open_call, pending_items, priority_of_item, priority_of_thread, sender_of}
 use Rattle.qmodel.specs.Receivers.{newest_receiver, wait_on}
 use Rattle.qmodel.specs.Rows.{names}
 use Rattle.qmodel.specs.Trace.{Event, Trace}
@@ -155,6 +155,11 @@ pub record IsOpenSend (roster : List Member) (past : Trace) (i : ReceiveId) : Ty
 abbrev pub PendingIsOpen : Type 0
 PendingIsOpen = (roster : List Member) (past : Trace) → IsRoster roster → IsLawful roster past
     → (h : ChannelId) → AllByRecursion (λ item. is_pulse item.what ≡ false → IsOpenSend roster past item.number) (pending_items roster past h)
+
+-- a pending message has the priority that its sender has by now
+abbrev pub PendingFollowsItsSender : Type 0
+PendingFollowsItsSender = (roster : List Member) (past : Trace) → IsRoster roster → IsLawful roster past
+    → (h : ChannelId) → AllByRecursion (λ item. is_pulse item.what ≡ false → (t : ThreadNo) → sender_of past item.number ≡ Some t → item.priority ≡ priority_of_thread roster past t) (pending_items roster past h)
 
 -- ---- the order of receipt
 

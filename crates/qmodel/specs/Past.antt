@@ -152,7 +152,8 @@ sender_of past i = made_at (λ e. thread_of_send e.thread e.call) past i
 abbrev pub priority_set_by : Event → Trace → ThreadNo → Option Level
 priority_set_by e past t = if is_accepted e past then priority_set_for (sets e.call) t else None
 
--- the priority that was set last for thread t since message i was sent and before it was received
+-- the priority that was set last for thread t after message i was sent and before it was received:
+-- the search goes back from the newest event, ends at the Send itself, and passes over what came after the receipt
 abbrev pub priority_set_since : Trace → ReceiveId → ThreadNo → Option Level
 priority_set_since [] i t = None
 priority_set_since (e ∷ past) i t =

@@ -2,7 +2,7 @@
 //! all lawful traces.
 
 ghost use Rattle.qmodel.specs.Endings.{BlockedUnlessEnded, CallerGetsItsOwn, EndingsAreApart, EndingsGoToBlocked, EndingsKeepLength, EndsOrWaits, OpenCallsKeepLength};
-ghost use Rattle.qmodel.specs.Laws.{AtMostOneOpen, EndingsNameOwnCalls, EndingsRiseByThread, FirstGoesFirst, HeldIsHeldSend, NewestIsGreatest, NoneIsNewest, NonePendingIsHeld, NothingFromDestroyed, NothingPendingForWaiting, OnlyRefusedWhenDown, OthersKeepTheirOrder, OpenIsUnended, OpenSendsAreLive, PendingIsOpen, PendingRises, PulsesAreLimited, ReceivedWasSent, RefusedChangesNothing, SettingMovesItsOwn};
+ghost use Rattle.qmodel.specs.Laws.{AtMostOneOpen, EndingsNameOwnCalls, EndingsRiseByThread, FirstGoesFirst, HeldIsHeldSend, NewestIsGreatest, NoneIsNewest, NonePendingIsHeld, NothingFromDestroyed, NothingPendingForWaiting, OnlyRefusedWhenDown, OthersKeepTheirOrder, OpenIsUnended, OpenSendsAreLive, PendingFollowsItsSender, PendingIsOpen, PendingRises, PulsesAreLimited, ReceivedWasSent, RefusedChangesNothing, SettingMovesItsOwn};
 
 /// An item that is received was made before or by the same event, for the channel on which it is received; and
 /// what was sent over a connection was sent to the channel that this leads to.
@@ -39,6 +39,7 @@ pub fn pending_is_sent()
     ensures rising { PendingRises }
     ensures unheld { NonePendingIsHeld }
     ensures waiting { PendingIsOpen }
+    ensures follows { PendingFollowsItsSender }
 {}
 
 /// Of two items that are pending on a channel the one that comes before the other is received first, or is gone

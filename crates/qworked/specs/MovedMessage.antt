@@ -1,5 +1,6 @@
 -- A pending message has the priority that is set for its sender: it is received in its place among those of that priority. A held message and a pulse keep theirs.
 use Rattle.std.specs.Prelude.{List, [], ◌∷◌, pos}
+use Rattle.qbase.specs.declared.errno.Errno.TheVariants.{Busy, Srch}
 use Rattle.qbase.specs.declared.state.ThreadState.TheVariants.{Ready, ReplyBlocked, SendBlocked}
 use Rattle.qqueue.specs.declared.item.What.TheVariants as what
 use Rattle.qmodel.specs.declared.call.Call.TheVariants.{ConnectAttach, Send, Receive, Info, ReceivePulse, Pulse, PrioritySet, State, Unblock}
@@ -88,4 +89,28 @@ pulse_stays = connected (
     ∷ event 1 (Receive 1 []) (ended 6 1 (mark.Message 4 0) [] ∷ [])
     ∷ event 1 (Receive 1 []) (ended 7 1 (mark.Pulse 3 25 (what.User (pos 1) (pos 0))) [] ∷ [])
     ∷ event 1 (State 1) (ended 8 1 (mark.State Ready 25) [] ∷ [])
+    ∷ [])
+
+-- a thread's priority is set, it takes a lesser one with a pulse, and then it sends: its message has the lesser one, which no set since has changed
+abbrev pub set_before : List Event
+set_before = connected (
+    event 1 (PrioritySet 4 40) (ended 3 1 mark.Ok [] ∷ [])
+    ∷ event 2 (Pulse 2 5 (pos 1) (pos 0)) (ended 4 2 mark.Ok [] ∷ [])
+    ∷ event 4 (ReceivePulse 1) (ended 5 4 (mark.Pulse 4 5 (what.User (pos 1) (pos 0))) [] ∷ [])
+    ∷ event 4 (ConnectAttach 1) (ended 6 4 (mark.Connection 6) [] ∷ [])
+    ∷ event 4 (Send 6 [] []) []
+    ∷ event 2 (Send 2 [] []) []
+    ∷ event 1 (Receive 1 []) (ended 9 1 (mark.Message 8 0) [] ∷ [])
+    ∷ event 1 (Receive 1 []) (ended 10 1 (mark.Message 7 0) [] ∷ [])
+    ∷ event 1 (State 1) (ended 11 1 (mark.State Ready 5) [] ∷ [])
+    ∷ [])
+
+-- another process sets the priority of a thread whose message is pending, and is refused: nothing moves
+abbrev pub set_refused : List Event
+set_refused = both_sent (
+    event 2 (PrioritySet 4 30) (ended 6 2 (mark.Failed Busy) [] ∷ [])
+    ∷ event 3 (PrioritySet 4 30) (ended 7 3 (mark.Failed Srch) [] ∷ [])
+    ∷ event 1 (Receive 1 []) (ended 8 1 (mark.Message 4 0) [] ∷ [])
+    ∷ event 1 (Receive 1 []) (ended 9 1 (mark.Message 5 0) [] ∷ [])
+    ∷ event 1 (State 1) (ended 10 1 (mark.State Ready 10) [] ∷ [])
     ∷ [])

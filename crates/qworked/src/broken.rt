@@ -14,6 +14,9 @@ ghost use Rattle.qworked.specs.Broken.Held.{held, run_of, sent};
 ghost use Rattle.qworked.specs.Broken.Received as received;
 ghost use Rattle.qworked.specs.Broken.Shut as shut;
 ghost use Rattle.qworked.specs.Broken.Taken as taken;
+ghost use Rattle.qmodel.specs.OnlyRun.{HadMemory};
+ghost use Rattle.qworked.specs.FirstRun as first;
+ghost use Rattle.qworked.specs.Runs.{refused_at, with_endings};
 ghost use Rattle.qworked.specs.ThreeProcesses.{roster};
 
 /// No item is received twice or too early, and no call is ended twice.
@@ -35,6 +38,9 @@ pub fn answered_to_sender()
     ensures unreceived { AnsweredToSender roster answered.unreceived → ⊥ }
     ensures another_too { AnsweredToSender roster answered.another_too → ⊥ }
     ensures by_a_receive { AnsweredToSender roster answered.by_a_receive → ⊥ }
+    ensures code_to_another_thread { AnsweredToSender roster answered.code_to_another_thread → ⊥ }
+    ensures code_by_another_process { AnsweredToSender roster answered.code_by_another_process → ⊥ }
+    ensures after_the_end { AnsweredToSender roster answered.after_the_end → ⊥ }
 {}
 
 /// No byte and no count is another than what was to be copied.
@@ -72,6 +78,8 @@ pub fn best_first()
 /// Of two equals over one connection the later isn't received first.
 pub fn sent_order()
     ensures overtaken { SentOrder roster taken.overtaken → ⊥ }
+    ensures overtaken_by_a_pulse { SentOrder roster taken.overtaken_by_a_pulse → ⊥ }
+    ensures overtaken_when_raised { SentOrder roster taken.overtaken_when_raised → ⊥ }
 {}
 
 /// Nothing is received from a destroyed channel, and nobody stays blocked on it.
@@ -81,6 +89,12 @@ pub fn shut_for_good()
     ensures held_left { ShutForGood roster shut.held_left → ⊥ }
     ensures receiver_left { ShutForGood roster shut.receiver_left → ⊥ }
     ensures detached_left { ShutForGood roster shut.detached_left → ⊥ }
+{}
+
+/// A run in which a call was refused for want of memory had none, and the first run had it.
+pub fn had_memory()
+    ensures had { HadMemory first.events }
+    ensures had_none { HadMemory (with_endings 3 (refused_at 3 first.events) first.events) → ⊥ }
 {}
 
 /// What the broken runs begin with is lawful.

@@ -64,3 +64,21 @@ pub fn pulse_stays()
     ensures second { EndsOnlySo roster moved.pulse_stays 7 }
     ensures taken { EndsOnlySo roster moved.pulse_stays 8 }
 {}
+
+/// A message has the priority that its thread has as it sends, whatever was set before that.
+pub fn set_before_it_is_sent()
+    ensures lawful { IsLawfulRun roster moved.set_before }
+    ensures first { EndsOnlySo roster moved.set_before 9 }
+    ensures second { EndsOnlySo roster moved.set_before 10 }
+    ensures taken { EndsOnlySo roster moved.set_before 11 }
+{}
+
+/// A refused call moves no message.
+pub fn set_refused()
+    ensures lawful { IsLawfulRun roster moved.set_refused }
+    ensures busy { EndsOnlySo roster moved.set_refused 6 }
+    ensures refused { EndsOnlySo roster moved.set_refused 7 }
+    ensures first { EndsOnlySo roster moved.set_refused 8 }
+    ensures second { EndsOnlySo roster moved.set_refused 9 }
+    ensures taken { EndsOnlySo roster moved.set_refused 10 }
+{}

@@ -6,7 +6,7 @@ use Rattle.qmodel.specs.Calls.{row_of}
 use Rattle.qmodel.specs.Facts.{Facts}
 use Rattle.qmodel.specs.Effects.{makes, sets}
 use Rattle.qmodel.specs.declared.call.Call.{Call}
-use Rattle.qmodel.specs.declared.call.Call.TheVariants.{ChannelCreate, ConnectAttach, Send, Receive, Reply, Error, Read, Write, Info, ReceivePulse, Pulse, PrioritySet, State, ChannelDestroy, Shutdown, Unblock, ConnectDetach}
+use Rattle.qmodel.specs.declared.call.Call.TheVariants.{PrioritySet}
 use Rattle.qmodel.proofs.Calls.Alone.{IsPlain, alone, waits_not}
 use Rattle.qmodel.proofs.Past.Laws.{CallLaws, RowLaws, Passes}
 

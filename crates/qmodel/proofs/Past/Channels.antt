@@ -17,7 +17,7 @@ use Rattle.qmodel.specs.Rows.{names}
 use Rattle.qmodel.specs.Step.{channel_after, one_for}
 use Rattle.qmodel.specs.Trace.{Event, Trace}
 use Rattle.qmodel.specs.declared.call.Call.{Call}
-use Rattle.qmodel.specs.declared.call.Call.TheVariants.{ChannelCreate, ConnectAttach, Send, Receive, Reply, Error, Read, Write, Info, ReceivePulse, Pulse, PrioritySet, State, ChannelDestroy, Shutdown, Unblock, ConnectDetach}
+use Rattle.qmodel.specs.declared.call.Call.TheVariants.{ChannelCreate, ChannelDestroy}
 use Rattle.qmodel.specs.declared.call.Completion.{Completion}
 use Rattle.qmodel.proofs.Past.Ends.{passes_of}
 use Rattle.qmodel.proofs.Past.Live.{IsLive, count_live_accepted, count_live_refused, gone_accepted, gone_refused, live_accepted, live_parts, live_refused}

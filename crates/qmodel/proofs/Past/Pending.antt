@@ -108,7 +108,7 @@ gone_now roster past t c X item cut l member a fresh ended =
     ∙ neither (is_some (copied_by (row_of (facts_of roster past) t c).receipt item.number)) cut
 
 -- what is gone stays gone
-stays_gone : (past : Trace) (t : ℕ) (c : Call) (X : List Completion) (item : Item) → is_gone past item ≡ true → is_gone (with_event t c X past) item ≡ true
+pub stays_gone : (past : Trace) (t : ℕ) (c : Call) (X : List Completion) (item : Item) → is_gone past item ≡ true → is_gone (with_event t c X past) item ≡ true
 stays_gone past t c X item e =
     let ended_now = is_ended (with_event t c X past) item.number in
     elim (or_cases (is_taken past item.number) (not (is_pulse item.what) && is_ended past item.number) e) [

@@ -11,7 +11,7 @@ use Rattle.qmodel.specs.Calls.Info.{info_of}
 use Rattle.qmodel.specs.Facts.{Facts, is_send, sender, sender_among, threads_of}
 use Rattle.qmodel.specs.Effects.{asks}
 use Rattle.qmodel.specs.declared.call.Call.{Call}
-use Rattle.qmodel.specs.declared.call.Call.TheVariants.{ChannelCreate, ConnectAttach, Send, Receive, Reply, Error, Read, Write, Info, ReceivePulse, Pulse, PrioritySet, State, ChannelDestroy, Shutdown, Unblock, ConnectDetach}
+use Rattle.qmodel.specs.declared.call.Call.TheVariants.{Send, Receive, Info, ReceivePulse}
 use Rattle.qmodel.specs.declared.open_call.OpenCall.{OpenCall}
 use Rattle.qbase.proofs.Lists.{eqb_same, is_among, some_of}
 use Rattle.qmodel.proofs.Calls.Held.{has_sender, held_for}

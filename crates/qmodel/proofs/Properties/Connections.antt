@@ -15,7 +15,7 @@ use Rattle.qmodel.specs.Past.{item_of, pending_items, priority_before, attached_
 use Rattle.qmodel.specs.Rows.{message_item, pulse_item, Made, item_sent_over}
 use Rattle.qmodel.specs.Trace.{Event, Trace}
 use Rattle.qmodel.specs.declared.call.Call.{Call}
-use Rattle.qmodel.specs.declared.call.Call.TheVariants.{ChannelCreate, ConnectAttach, Send, Receive, Reply, Error, Read, Write, Info, ReceivePulse, Pulse, PrioritySet, State, ChannelDestroy, Shutdown, Unblock, ConnectDetach}
+use Rattle.qmodel.specs.declared.call.Call.TheVariants.{Send, Pulse}
 use Rattle.qmodel.proofs.Past.Items.{before_earlier, before_newest, item_accepted, IsPending, item_at, item_below, item_earlier, item_newest, item_priority, made_by, pending_all, pending_each}
 use Rattle.qbase.proofs.Lists.{all_append, all_more}
 use Rattle.qmodel.proofs.Past.Pending.{made_all}

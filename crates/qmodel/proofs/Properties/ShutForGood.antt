@@ -22,7 +22,7 @@ use Rattle.qmodel.specs.Rows.{names, with_buffer}
 use Rattle.qmodel.specs.Step.{after_receipt, after_write, channel_after, connection_after, open_call_after, put_at, unless, after_unblock, unblocked_wait}
 use Rattle.qmodel.specs.Trace.{Event, Trace}
 use Rattle.qmodel.specs.declared.call.Call.{Call}
-use Rattle.qmodel.specs.declared.call.Call.TheVariants.{ChannelCreate, ConnectAttach, Send, Receive, Reply, Error, Read, Write, Info, ReceivePulse, Pulse, PrioritySet, State, ChannelDestroy, Shutdown, Unblock, ConnectDetach}
+use Rattle.qmodel.specs.declared.call.Call.TheVariants.{Send, Receive, ReceivePulse, ChannelDestroy}
 use Rattle.qmodel.specs.declared.call.Completion.{Completion}
 use Rattle.qmodel.specs.declared.open_call.OpenCall.{OpenCall}
 use Rattle.qmodel.specs.declared.open_call.Receipt.{Receipt}

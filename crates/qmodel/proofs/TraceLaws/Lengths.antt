@@ -29,7 +29,7 @@ use Rattle.qmodel.specs.Rows.{Made, Received, Written, receipt_ending, with_buff
 use Rattle.qmodel.specs.Step.{after_receipt, after_unblock, after_write, held_call, is_thread, open_call_after, unblocked_call, unblocked_wait, unless, written_call}
 use Rattle.qmodel.specs.Past.{call_by_now, wait_with_receipt, is_accepted, with_receipt, with_writes}
 use Rattle.qmodel.specs.declared.call.Call.{Call}
-use Rattle.qmodel.specs.declared.call.Call.TheVariants.{ChannelCreate, ConnectAttach, Send, Receive, Reply, Error, Read, Write, Info, ReceivePulse, Pulse, PrioritySet, State, ChannelDestroy, Shutdown, Unblock, ConnectDetach}
+use Rattle.qmodel.specs.declared.call.Call.TheVariants.{Send, Receive, Reply, Error, Read, Info, ReceivePulse, Pulse, ChannelDestroy, Shutdown, Unblock, ConnectDetach}
 use Rattle.qmodel.specs.declared.call.Completion.{Completion}
 use Rattle.qmodel.specs.declared.call.Mark.{Mark}
 use Rattle.qmodel.specs.declared.call.Mark.TheVariants as mark

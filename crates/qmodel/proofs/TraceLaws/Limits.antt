@@ -23,7 +23,7 @@ use Rattle.qmodel.specs.Rows.{Received, Setting, message_item, names, pulse_item
 use Rattle.qmodel.specs.Step.{is_cut, uncut_items, items_with_priority_set, pending_after, unreceived_items}
 use Rattle.qmodel.specs.Calls.{row_of}
 use Rattle.qmodel.specs.declared.call.Call.{Call}
-use Rattle.qmodel.specs.declared.call.Call.TheVariants.{ChannelCreate, ConnectAttach, Send, Receive, Reply, Error, Read, Write, Info, ReceivePulse, Pulse, PrioritySet, State, ChannelDestroy, Shutdown, Unblock, ConnectDetach}
+use Rattle.qmodel.specs.declared.call.Call.TheVariants.{Send, Pulse, Unblock, ConnectDetach}
 use Rattle.qmodel.proofs.Past.Ends.{passes_of}
 use Rattle.qmodel.proofs.Past.Follows.{past_follows}
 use Rattle.qmodel.proofs.Past.Laws.{Passes}

@@ -1,6 +1,7 @@
 -- Another item is received than the one that was to be.
-use Rattle.std.specs.Prelude.{[], ◌∷◌}
-use Rattle.qmodel.specs.declared.call.Call.TheVariants.{ChannelCreate, Send, Receive, PrioritySet, ReceivePulse}
+use Rattle.std.specs.Prelude.{[], ◌∷◌, pos}
+use Rattle.qqueue.specs.declared.item.What.TheVariants as what
+use Rattle.qmodel.specs.declared.call.Call.TheVariants.{ChannelCreate, Send, Receive, Pulse, PrioritySet, ReceivePulse}
 use Rattle.qmodel.specs.declared.call.Mark.TheVariants as mark
 use Rattle.qmodel.specs.Trace.{Trace}
 use Rattle.qworked.specs.Runs.{event, ended, flags_of}
@@ -38,4 +39,19 @@ overtaken = sent (
     event 42 (PrioritySet 42 23) (ended 5 42 mark.Ok [] ∷ [])
     ∷ event 42 (Send 2 [] []) []
     ∷ event 31 (Receive 1 []) (ended 7 31 (mark.Message 6 0) [] ∷ [])
+    ∷ [])
+
+-- a message and a pulse over one connection have the priority 23, and the pulse is received, which is later
+abbrev pub overtaken_by_a_pulse : Trace
+overtaken_by_a_pulse = sent (
+    event 42 (Pulse 2 23 (pos 1) (pos 0)) (ended 5 42 mark.Ok [] ∷ [])
+    ∷ event 31 (Receive 1 []) (ended 6 31 (mark.Pulse 5 23 (what.User (pos 1) (pos 0))) [] ∷ [])
+    ∷ [])
+
+-- message 4 has the priority 23; message 5 over the same connection is raised to it, and received first
+abbrev pub overtaken_when_raised : Trace
+overtaken_when_raised = sent (
+    event 42 (Send 2 [] []) []
+    ∷ event 43 (PrioritySet 42 23) (ended 6 43 mark.Ok [] ∷ [])
+    ∷ event 31 (Receive 1 []) (ended 7 31 (mark.Message 5 0) [] ∷ [])
     ∷ [])
