@@ -3,6 +3,8 @@
 ghost use Rattle.std.specs.Prelude.{◌≡◌};
 ghost use Rattle.qbase.specs.Errno.{word_of};
 
+use std::alloc::{AllocError, AllocFailed};
+
 /// The errors. The first six carry the letters of their POSIX names; which error answers which case is
 /// the kernel's own profile.
 #[derive(Clone, Copy, Debug, PartialEq, Eq)]
@@ -29,6 +31,26 @@ pub enum Errno {
     TraceFull,
     /// The thread isn't in the roster.
     NoThread,
+}
+
+impl From<AllocError> for Errno {
+    ghost use Rattle.qbase.specs.declared.errno.Errno.TheVariants.{NoMemory};
+
+    ghost from_gives = { λ _ errno. errno ≡ NoMemory };
+
+    fn from(_refused: AllocError) -> Errno {
+        Errno::NoMemory
+    }
+}
+
+impl<T: Drop> From<AllocFailed<T>> for Errno {
+    ghost use Rattle.qbase.specs.declared.errno.Errno.TheVariants.{NoMemory};
+
+    ghost from_gives = { λ _ errno. errno ≡ NoMemory };
+
+    fn from(_refused: AllocFailed<T>) -> Errno {
+        Errno::NoMemory
+    }
 }
 
 /// The case's name in small letters, as a trace prints it.
