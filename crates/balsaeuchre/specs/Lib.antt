@@ -20,8 +20,10 @@ pub use Rattle.qkernel.specs.Stands
 pub use Rattle.qkernel.specs.Run
 -- the shared kernel and its ports
 pub use Rattle.qhandoff.specs.Words
+pub use Rattle.qshared.specs.Answered
 pub use Rattle.qshared.specs.Asking
 pub use Rattle.qshared.specs.Counting
 pub use Rattle.qshared.specs.Due
+pub use Rattle.qshared.specs.Names
 pub use Rattle.qshared.specs.Naming
 pub use Rattle.qshared.specs.Unkept

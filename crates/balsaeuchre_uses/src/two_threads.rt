@@ -140,11 +140,11 @@ fn run<K: Tie + Send + Sync, R: Threads + Wait + Sync>(
     parts: Parts,
     messages: u32,
 ) -> Result<Trace, Fault>
-    requires named { AreParts K.roster K.cells K.lists K.name K.parts parts }
-    ensures lawful { IfOk result (λ trace. IsLawful K.roster (followed_by [] trace.events)) }
-    ensures properties { IfOk result (λ trace. HasProperties K.roster (followed_by [] trace.events)) }
+    requires named { AreParts K.names K.name K.parts parts }
+    ensures lawful { IfOk result (λ trace. IsLawful K.names.roster (followed_by [] trace.events)) }
+    ensures properties { IfOk result (λ trace. HasProperties K.names.roster (followed_by [] trace.events)) }
 {
-    let (shared, mut ports) = Shared::<K, Kept<K>>::open(alloc, parts)?;
+    let (shared, mut ports) = Shared::<K, Kept<K>>::open(parts)?;
     let (Some(theirs), Some(mut own), None) = (ports.pop(), ports.pop(), ports.pop()) else {
         return Err(Fault::Unexpected);
     };

@@ -62,10 +62,10 @@ pub fn run<K: Tie + Send + Sync, R: Threads + Wait + Clock + Eprint + Sync>(
     settings: Settings,
     stacks: Stacks,
 ) -> Result<Finished, ServeFault>
-    requires named { AreParts K.roster K.cells K.lists K.name K.parts parts }
-    ensures run { IfOk result (λ f. IfSome f.trace (λ t. IsRun K.roster t)) }
+    requires named { AreParts K.names K.name K.parts parts }
+    ensures run { IfOk result (λ f. IfSome f.trace (λ t. IsRun K.names.roster t)) }
 {
-    let Ok((shared, mut ports)) = Shared::<K, Kept<K>>::open(alloc, parts) else {
+    let Ok((shared, mut ports)) = Shared::<K, Kept<K>>::open(parts) else {
         return Err(ServeFault::NoMemory);
     };
     let Some(main) = ports.pop() else {

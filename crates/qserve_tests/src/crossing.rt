@@ -116,7 +116,6 @@ fn ways<E: Endpoint, R: Wait + Abort>(rt: &R, first: &mut E, second: &mut E) -> 
 
 /// The report of a kernel whose ports are all of these.
 fn finished<K: Tie>(rt: &impl Abort, shared: Shared<K, Kept<K>>, ports: Vec<Port<K>>) -> Report
-    requires { K.parts ≡ K.cells.slots }
 {
     if !shared.all(&ports) {
         panic!(rt; "not all ports");
@@ -130,9 +129,9 @@ fn cross_at_once<K: Tie + Send + Sync, R: Threads + Wait + Abort + Sync>(
     alloc: Global,
     parts: Parts,
 ) -> Report
-    requires named { AreParts K.roster K.cells K.lists K.name K.parts parts }
+    requires named { AreParts K.names K.name K.parts parts }
 {
-    let (shared, mut ports) = Shared::<K, Kept<K>>::open(alloc, parts).expect(rt, "a kernel");
+    let (shared, mut ports) = Shared::<K, Kept<K>>::open(parts).expect(rt, "a kernel");
     let mut second = KernelPort::new(ports.pop().expect(rt, "a port"), &shared);
     let mut first = KernelPort::new(ports.pop().expect(rt, "a port"), &shared);
     let (one, two) = ways(rt, &mut first, &mut second);
@@ -161,9 +160,9 @@ fn crossing(rt: HostRuntime) {
 
 /// How the worker ends that runs to its end before the other starts.
 fn cross_in_turn<K: Tie, R: Wait + Abort>(rt: &R, alloc: Global, parts: Parts) -> Result<i32, Fault>
-    requires named { AreParts K.roster K.cells K.lists K.name K.parts parts }
+    requires named { AreParts K.names K.name K.parts parts }
 {
-    let (shared, mut ports) = Shared::<K, Kept<K>>::open(alloc, parts).expect(rt, "a kernel");
+    let (shared, mut ports) = Shared::<K, Kept<K>>::open(parts).expect(rt, "a kernel");
     let mut second = KernelPort::new(ports.pop().expect(rt, "a port"), &shared);
     let mut first = KernelPort::new(ports.pop().expect(rt, "a port"), &shared);
     let (one, two) = ways(rt, &mut first, &mut second);

@@ -59,9 +59,9 @@ fn pair<K: Tie + Send + Sync, R: Threads + Wait + Sync>(
     client_left: u32,
     errno: Errno,
 ) -> Option<Ends>
-    requires named { AreParts K.roster K.cells K.lists K.name K.parts parts }
+    requires named { AreParts K.names K.name K.parts parts }
 {
-    let (shared, mut ports) = Shared::<K, Kept<K>>::open(alloc, parts).ok()?;
+    let (shared, mut ports) = Shared::<K, Kept<K>>::open(parts).ok()?;
     let mut alarm = KernelPort::new(ports.pop()?, &shared);
     let chid = channel_create(rt, &mut alarm, ChannelFlags::of(0)).ok()?;
     let _idle: Port<K> = ports.pop()?;
@@ -109,9 +109,9 @@ fn held_in_turn<K: Tie + Send + Sync, R: Threads + Wait + Sync>(
     alloc: Global,
     parts: Parts,
 ) -> Option<bool>
-    requires named { AreParts K.roster K.cells K.lists K.name K.parts parts }
+    requires named { AreParts K.names K.name K.parts parts }
 {
-    let (shared, mut ports) = Shared::<K, Kept<K>>::open(alloc, parts).ok()?;
+    let (shared, mut ports) = Shared::<K, Kept<K>>::open(parts).ok()?;
     let mut alarm = KernelPort::new(ports.pop()?, &shared);
     let chid = channel_create(rt, &mut alarm, ChannelFlags::of(0)).ok()?;
     let second = ports.pop()?;

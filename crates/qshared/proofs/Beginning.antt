@@ -13,7 +13,7 @@ use Rattle.qkernel.specs.Kernel.{State, IsSound}
 use Rattle.qhandoff.specs.declared.view.Line.{Line}
 use Rattle.qhandoff.specs.Rule.{idle_line}
 use Rattle.qhandoff.specs.Steps.{seated_desk}
-use Rattle.qshared.specs.Held.{IsHeld}
+use Rattle.qshared.specs.UnderLock.{IsUnderLock}
 
 same_replicate : {A : Type 0} (n i : ℕ) (x : A) → get_or (replicate n x) i x ≡ x
 same_replicate Prim.Native.Nat.zero i x = refl
@@ -21,7 +21,7 @@ same_replicate (Prim.Native.Nat.suc n) Prim.Native.Nat.zero x = refl
 same_replicate (Prim.Native.Nat.suc n) (Prim.Native.Nat.suc i) x = same_replicate n i x
 
 pub held_first : (roster : List Member) (slots : ℕ) (kernel : State) (threads : List ℕ) → IsSound kernel → members_of kernel.threads ≡ roster → StandsAt (members_of kernel.threads) kernel []
-    → threads ≡ threads_of (members_of kernel.threads) → length threads ≡ slots → IsHeld roster slots kernel (seated_desk slots slots) threads [] []
+    → threads ≡ threads_of (members_of kernel.threads) → length threads ≡ slots → IsUnderLock roster slots kernel (seated_desk slots slots) threads [] []
 held_first roster slots kernel threads sound same stands threads_are many =
     let rises : IsRoster (members_of kernel.threads) = sound.roster in
     let few : length kernel.threads ≤ 64 = sound.few in

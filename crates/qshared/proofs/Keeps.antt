@@ -23,15 +23,15 @@ use Rattle.qhandoff.specs.declared.view.Desk.{Desk}
 use Rattle.qhandoff.specs.Rule.{line}
 use Rattle.qhandoff.specs.Steps.{opened_desk, cancelled_desk, IsBusy}
 use Rattle.qshared.specs.Due.{place}
-use Rattle.qshared.specs.Held.{IsHeld}
-use Rattle.qshared.specs.Performing.{Admits, IsFree, IsHeard, IsReason, IsEvent, Performs, Refuses}
+use Rattle.qshared.specs.UnderLock.{IsUnderLock}
+use Rattle.qshared.specs.Performing.{Admits, IsFree, IsServed, IsReason, IsEvent, Performs, Refuses}
 use Rattle.qshared.specs.Putting.{MayPut, Handed}
 use Rattle.qshared.specs.declared.performed.Performed.TheVariants.{Ended, Open}
 use Rattle.qshared.proofs.Places.{place_among, place_below, place_some}
 use Rattle.qshared.proofs.Telling.{undone, is_free, lawful_after, all_may_put, told_after}
 
 module _ (roster : List Member) (slots : ℕ) (kernel : State) (d : Desk Completion) (threads : List ℕ) (past : Trace) (endings : List Completion)
-    (h : IsHeld roster slots kernel d threads past endings) (t : ℕ) where
+    (h : IsUnderLock roster slots kernel d threads past endings) (t : ℕ) where
   -- ---- why a call is refused
 
   pub not_known : place threads t ≡ None → is_some (member_at roster t) ≡ false
@@ -53,12 +53,12 @@ module _ (roster : List Member) (slots : ℕ) (kernel : State) (d : Desk Complet
     is_shut e = sym h.told.stands.down ∙ e
 
     module _ (up : kernel.down ≡ false) where
-      pub is_heard : IsHeard roster past t
-      is_heard = record { known = is_known; up = sym h.told.stands.down ∙ up }
+      pub is_served : IsServed roster past t
+      is_served = record { known = is_known; up = sym h.told.stands.down ∙ up }
 
       pub is_busy : IsBusy (line d i) → IsReason roster past t Busy
       is_busy b = (
-        is_heard,
+        is_served,
         elim b [
           | inl opened ↦ inl (sym (h.told.tied t i at_roster).1 ∙ opened)
           | inr full ↦ inr (λ none. full ((h.told.tied t i at_roster).0 ∙ none))
@@ -87,7 +87,7 @@ module _ (roster : List Member) (slots : ℕ) (kernel : State) (d : Desk Complet
           pub may_put : AllByRecursion (MayPut threads (opened_desk d i)) X
           may_put = subst (λ ts. AllByRecursion (MayPut ts (opened_desk d i)) X) (sym h.threads_are) (all_may_put roster kernel d past t i h.told at_roster near free c X answers h.rises)
 
-          pub held_after : (d' : Desk Completion) → Handed threads X (opened_desk d i) d' → IsHeld roster slots new d' threads (with_event t c X past) []
+          pub held_after : (d' : Desk Completion) → Handed threads X (opened_desk d i) d' → IsUnderLock roster slots new d' threads (with_event t c X past) []
           held_after d' handed = record {
             rises = h.rises;
             sized = h.sized;
@@ -99,14 +99,12 @@ module _ (roster : List Member) (slots : ℕ) (kernel : State) (d : Desk Complet
             emptied = refl;
           }
 
-          is_event : IsEvent roster past t c X (with_event t c X past)
-          is_event = record { free = free; answers = answers; after_is = refl }
-
-          pub performs : (refuses : Refuses) (admits : Admits) (limit limit' : ℕ) (d' : Desk Completion) → admits limit past c
-              → Performs roster refuses admits (record { kernel = kernel; desk = d; past = past; limit = limit }) t c (cond (gets X t) Ended Open) (record { kernel = new; desk = d'; past = with_event t c X past; limit = limit' })
-          performs refuses admits limit limit' d' admitted =
+          pub performs : (refuses : Refuses) (admits : Admits) (d' : Desk Completion) → admits past c
+              → Performs roster refuses admits (record { kernel = kernel; desk = d; past = past }) t c (cond (gets X t) Ended Open) (record { kernel = new; desk = d'; past = with_event t c X past })
+          performs refuses admits d' admitted =
               let own = caller_gets_its_own roster past (record { thread = t; call = c; endings = X }) h.rises (lawful_after roster kernel d past t i h.told at_roster near free c X answers h.rises) in
-              elim (gets X t) as (λ b. gets X t ≡ b → Performs roster refuses admits (record { kernel = kernel; desk = d; past = past; limit = limit }) t c (cond b Ended Open) (record { kernel = new; desk = d'; past = with_event t c X past; limit = limit' })) [
-                | true ↦ λ e. (X, is_event, admitted, sym own ∙ e)
-                | false ↦ λ e. (X, is_event, admitted, sym own ∙ e)
+              let event : IsEvent roster admits past t c X = record { free = free; admitted = admitted; answers = answers } in
+              elim (gets X t) as (λ b. gets X t ≡ b → Performs roster refuses admits (record { kernel = kernel; desk = d; past = past }) t c (cond b Ended Open) (record { kernel = new; desk = d'; past = with_event t c X past })) [
+                | true ↦ λ e. (X, event, refl, sym own ∙ e)
+                | false ↦ λ e. (X, event, refl, sym own ∙ e)
               ] refl

@@ -13,6 +13,7 @@ use Rattle.qmodel.specs.declared.call.Call.{Call}
 use Rattle.qmodel.specs.declared.call.Call.TheVariants.{Shutdown}
 use Rattle.qmodel.specs.declared.call.Completion.{Completion}
 use Rattle.qmodel.specs.Answer.{Answers, refusal}
+use Rattle.qmodel.specs.Effects.{shuts_down}
 use Rattle.qmodel.specs.Endings.{AreApart, GoesToBlocked, buffer_brought, gets}
 use Rattle.qmodel.specs.Facts.{threads_of}
 use Rattle.qmodel.specs.Lawful.{IsLawful, facts_of, followed_by, with_event}
@@ -53,7 +54,12 @@ few_noted roster limit threads rooms log c room ready h up = let len = past_leng
 
 -- ---- a Shutdown that isn't refused
 
-shutdown_down : (roster : List Member) (past : Trace) (t : ℕ) (X : List Completion) → is_down past ≡ false → is_some (open_call roster past t) ≡ false → Answers (facts_of roster past) t Shutdown X → is_down (with_event t Shutdown X past) ≡ true
+-- a call that shuts down is a Shutdown
+pub is_shutdown : (c : Call) → shuts_down c ≡ true → c ≡ Shutdown
+is_shutdown Shutdown e = refl
+is_shutdown c e = absurd (true≢false (sym e))
+
+pub shutdown_down : (roster : List Member) (past : Trace) (t : ℕ) (X : List Completion) → is_down past ≡ false → is_some (open_call roster past t) ≡ false → Answers (facts_of roster past) t Shutdown X → is_down (with_event t Shutdown X past) ≡ true
 shutdown_down roster past t X up idle a = elim a [
   | inl a ↦ rw (accepted roster past t Shutdown X a) refl
   | inr a ↦ absurd (elim (a.1) [
@@ -76,7 +82,7 @@ pub record Finds (roster : List Member) (limit : ℕ) (threads rooms : List ℕ)
   pub answers : Answers (facts_of roster (followed_by [] log.events)) t c X
 
 pub finds : (roster : List Member) (limit : ℕ) (threads rooms : List ℕ) (log : Logged) (c : Call) (room : ℕ) (ready : Bool) (t : ℕ) (X : List Completion) (v : KeptPast)
-    → IsKept roster limit threads rooms log c room ready → record { past = followed_by [] log.events; noted = c; ready = ready; limit = limit } ≡ v → v.ready ≡ true → is_down v.past ≡ false → IsLawful roster v.past
+    → IsKept roster limit threads rooms log c room ready → record { past = followed_by [] log.events; noted = c; ready = ready } ≡ v → v.ready ≡ true → is_down v.past ≡ false → IsLawful roster v.past
     → (is_some (member_at roster t) ≡ true) × (is_some (open_call roster v.past t) ≡ false) → Answers (facts_of roster v.past) t v.noted X → Finds roster limit threads rooms log c room t X
 finds roster limit threads rooms log c room ready t X v h z =
     subst (λ w. w.ready ≡ true → is_down w.past ≡ false → IsLawful roster w.past → (is_some (member_at roster t) ≡ true) × (is_some (open_call roster w.past t) ≡ false) → Answers (facts_of roster w.past) t w.noted X → Finds roster limit threads rooms log c room t X) z

@@ -13,8 +13,11 @@ use Rattle.qmodel.specs.Trace.{Trace}
 use Rattle.qmodel.proofs.Rosters.{Rises, all_at}
 use Rattle.qhandoff.specs.Words.{AreBelow, left_for}
 use Rattle.qhandoff.specs.Words as cells
-use Rattle.qshared.specs.Due.{endings_due, of_thread, place}
-use Rattle.qshared.proofs.Places.{IsAt, at_among, is_at, place_at, place_same}
+use Rattle.qmodel.specs.Facts.{threads_of}
+use Rattle.qmodel.proofs.Rosters.{among_member}
+use Rattle.qtables.specs.declared.member.Member.{Member}
+use Rattle.qshared.specs.Due.{AreKnown, endings_due, of_thread, place}
+use Rattle.qshared.proofs.Places.{IsAt, at_among, is_at, place_among, place_at, place_same}
 
 -- a completion with the number of its cell
 abbrev Left : Type 0
@@ -128,6 +131,12 @@ module _ (ts : List ℕ) (past : Trace) (xs : List Left) (rises : Rises ts) (up 
       let here : place ts t ≡ Some x.0 = place_at ts x.0 0 rises (below k x at) in
       let own : AllByRecursion (λ y. y.thread ≡ t) (left_for x.0 xs) = all_behind _ (took x.0) (left_for x.0 xs) (subst (AllByRecursion (λ y. y.thread ≡ t)) (sym (told t x.0 here)) (own_due past t)) in
       ap (place ts) (left_one (λ y. y.thread ≡ t) xs k x at own) ∙ here)
+
+  pub left_known : (roster : List Member) → ts ≡ threads_of roster → AreKnown roster (map (λ x. x.1) xs)
+  left_known roster is = known xs placed where
+    known : (ys : List Left) → AllByRecursion (IsPlaced ts) ys → AreKnown roster (map (λ x. x.1) ys)
+    known [] all = tt
+    known (y ∷ ys) all = (among_member roster y.1.thread (place_among (threads_of roster) y.1.thread y.0 (ap (λ us. place us y.1.thread) (sym is) ∙ all.0)), known ys all.1)
 
   pub left_by_thread : RiseByThread (map (λ x. x.1) xs)
   left_by_thread = left_rises ts rises xs placed (rising xs up)

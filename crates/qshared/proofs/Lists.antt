@@ -14,10 +14,11 @@ use Rattle.qmodel.specs.Facts.{threads_of}
 use Rattle.qmodel.specs.Lawful.{with_event}
 use Rattle.qmodel.specs.Trace.{Trace}
 use Rattle.qpast.specs.declared.asking.Heard.{Heard}
+use Rattle.qshared.specs.Answered.{Comes}
 use Rattle.qshared.specs.Asking.{AreCallsOf, calls_of, heard_in}
 use Rattle.qshared.specs.Counting.{is_event}
 use Rattle.qshared.specs.Due.{place}
-use Rattle.qshared.specs.Held.{Held}
+use Rattle.qshared.specs.UnderLock.{UnderLock}
 use Rattle.qshared.specs.Performing.{Admits, Performs, Refuses}
 use Rattle.qshared.specs.declared.performed.Performed.{Performed}
 use Rattle.qshared.specs.declared.performed.Performed.TheVariants.{Ended, Open, Refused}
@@ -72,14 +73,20 @@ heard_after roster lists past t i c X more at near is are u j there =
           get_or-set_other lists i j more [] (λ s. eqb-false t u e (place_same ts t u i at (subst (λ k. place ts u ≡ Some k) s there))) ∙ are u j there ∙ sym (append-nil (calls_of past u)) ∙ rw e refl
     ]
 
-module _ (roster : List Member) (refuses : Refuses) (admits : Admits) (lists : List (List Call)) (t i : ℕ) (c : Call) (old new : Held) (at : place (threads_of roster) t ≡ Some i) where
+module _ (roster : List Member) (refuses : Refuses) (admits : Admits) (lists : List (List Call)) (t i : ℕ) (c : Call) (old new : UnderLock) (at : place (threads_of roster) t ≡ Some i) where
   pub heard_event : (p : Performed) → Performs roster refuses admits old t c p new → is_event p ≡ true → i < length lists → (more : List Call) → more ≡ get_or lists i [] ++ c ∷ []
       → AreCallsOf roster lists old.past → AreCallsOf roster (set lists i more) new.past
-  heard_event Ended p e near more is are = subst (AreCallsOf roster (set lists i more)) (sym p.1.after_is) (heard_after roster lists old.past t i c p.0 more at near is are)
-  heard_event Open p e near more is are = subst (AreCallsOf roster (set lists i more)) (sym p.1.after_is) (heard_after roster lists old.past t i c p.0 more at near is are)
+  heard_event Ended p e near more is are = subst (AreCallsOf roster (set lists i more)) (sym p.2) (heard_after roster lists old.past t i c p.0 more at near is are)
+  heard_event Open p e near more is are = subst (AreCallsOf roster (set lists i more)) (sym p.2) (heard_after roster lists old.past t i c p.0 more at near is are)
   heard_event (Refused errno given) p e near more is are = absurd (true≢false (sym e))
 
   pub heard_refused : (p : Performed) → Performs roster refuses admits old t c p new → is_event p ≡ false → AreCallsOf roster lists old.past → AreCallsOf roster lists new.past
   heard_refused Ended p e are = absurd (true≢false e)
   heard_refused Open p e are = absurd (true≢false e)
   heard_refused (Refused errno given) p e are = subst (λ h. AreCallsOf roster lists h.past) (sym p.0) are
+
+  -- what it comes to at the past before it
+  pub comes : (p : Performed) → Performs roster refuses admits old t c p new → Comes roster refuses admits t c p old.past
+  comes Ended p = (p.0, p.1, p.3)
+  comes Open p = (p.0, p.1, p.3)
+  comes (Refused errno given) p = (p.1, p.2)

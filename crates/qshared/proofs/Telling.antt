@@ -26,7 +26,7 @@ use Rattle.qhandoff.specs.Rule.{idle_line, line}
 use Rattle.qhandoff.specs.Steps.{opened_desk, cancelled_desk}
 use Rattle.qhandoff.proofs.Changes.{line_else, line_here}
 use Rattle.qshared.specs.Due.{place, of_thread}
-use Rattle.qshared.specs.Held.{IsTold}
+use Rattle.qshared.specs.UnderLock.{Agrees}
 use Rattle.qshared.specs.Performing.{IsFree}
 use Rattle.qshared.specs.Putting.{MayPut, Handed}
 use Rattle.qshared.proofs.Places.{place_among, place_same, place_some}
@@ -62,11 +62,11 @@ undone d i near closed =
     ∙ ap (λ ls. record d { lines = ls }) (set_twice d.lines i other (line d i) ∙ set-get_or d.lines i idle_line)
 
 module _ (roster : List Member) (kernel : State) (d : Desk Completion) (past : Trace) (t i : ℕ)
-    (told : IsTold roster kernel d past) (at : place (threads_of roster) t ≡ Some i) where
+    (told : Agrees roster kernel d past) (at : place (threads_of roster) t ≡ Some i) where
   -- whose cell was idle is free
   pub is_free : kernel.down ≡ false → (line d i).opened ≡ false → IsFree roster past t
   is_free up closed = record {
-    heard = record { known = among_member roster t (place_among (threads_of roster) t i at); up = sym told.stands.down ∙ up };
+    served = record { known = among_member roster t (place_among (threads_of roster) t i at); up = sym told.stands.down ∙ up };
     idle = sym (told.tied t i at).1 ∙ closed;
   }
 
@@ -85,7 +85,7 @@ module _ (roster : List Member) (kernel : State) (d : Desk Completion) (past : T
       e = record { thread = t; call = c; endings = X }
 
       pub lawful_after : IsLawful roster (with_event t c X past)
-      lawful_after = (told.lawful, free.heard.known, answers)
+      lawful_after = (told.lawful, free.served.known, answers)
 
       pub all_may_put : AllByRecursion (MayPut (threads_of roster) (opened_desk d i)) X
       all_may_put = each X (endings_go_to_blocked roster past e rises lawful_after) where
@@ -97,7 +97,7 @@ module _ (roster : List Member) (kernel : State) (d : Desk Completion) (past : T
 
       module _ (new : State) (d' : Desk Completion) (stands : StandsAt roster new (with_event t c X past))
           (handed : Handed (threads_of roster) X (opened_desk d i) d') where
-        pub told_after : IsTold roster new d' (with_event t c X past)
+        pub told_after : Agrees roster new d' (with_event t c X past)
         told_after = record {
           lawful = lawful_after;
           properties = has_properties roster (with_event t c X past) rises lawful_after;

@@ -1,5 +1,7 @@
 -- What is due to each thread, and what the cells say of it.
-use Rattle.std.specs.Prelude.{◌≡◌, ℕ, ◌==◌, is_some, List, [], ◌∷◌, ◌++◌, filter, position, Option, Some}
+use Rattle.std.specs.Prelude.{◌≡◌, ℕ, ◌==◌, true, is_some, List, [], ◌∷◌, ◌++◌, filter, position, Option, Some}
+use Rattle.std.specs.List.{AllByRecursion}
+use Rattle.qtables.specs.Members.{member_at}
 use Rattle.qtables.specs.declared.member.Member.{Member}
 use Rattle.qmodel.specs.declared.call.Completion.{Completion}
 use Rattle.qmodel.specs.Facts.{threads_of}
@@ -16,6 +18,10 @@ of_thread t endings = filter (λ x. x.thread == t) endings
 abbrev pub endings_due : Trace → ℕ → List Completion
 endings_due [] t = []
 endings_due (e ∷ past) t = endings_due past t ++ of_thread t e.endings
+
+-- each of these endings is for a thread of the roster
+abbrev pub AreKnown : List Member → List Completion → Type 0
+AreKnown roster endings = AllByRecursion (λ x. is_some (member_at roster x.thread) ≡ true) endings
 
 -- where thread t stands among these, which is the number of its cell
 abbrev pub place : List ℕ → ℕ → Option ℕ

@@ -1,9 +1,12 @@
+pub mod Answered
 pub mod Asking
 pub mod Counting
 pub mod Due
-pub mod Held
+pub mod Laws
+pub mod Names
 pub mod Naming
 pub mod Performing
 pub mod Putting
 pub mod Rooms
+pub mod UnderLock
 pub mod Unkept

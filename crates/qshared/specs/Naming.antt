@@ -2,15 +2,28 @@
 use Rattle.std.specs.Prelude.{◌≡◌, ℕ, List, length, map}
 use mathlib.Core.Option.{some}
 use lib.ListN.{get_elem?}
-use Rattle.atomic_table.specs.Seated.{TableId}
-use Rattle.qtables.specs.declared.member.Member.{Member}
 use Rattle.qstate.specs.Thread.{members_of}
 use Rattle.qhandoff.specs.Words.{cells_id}
+use Rattle.qshared.specs.Names.{Names}
 use Rattle.qshared.specs.declared.parts.Parts.{Parts}
 
--- the parts have this roster, these cells, these lists of calls, and a ledger of this name with as many parts as there are cells
-abbrev pub AreParts : List Member → TableId → List ℕ → ℕ → ℕ → Parts → Type 0
-AreParts roster cells lists name parts p = (cells_id p.cells ≡ cells) × (p.blank.name ≡ name) × (parts ≡ cells.slots) × (members_of p.kernel.threads ≡ roster) × (map (λ h. h.name) p.heard.items ≡ lists)
+-- the names of a kernel that is made of these parts
+abbrev pub names_of : Parts → Names
+names_of p = record { roster = members_of p.kernel.threads; cells = cells_id p.cells; lists = map (λ h. h.name) p.heard.items; limit = p.limit }
+
+-- the name of the ledger of these parts
+abbrev pub ledger_of : Parts → ℕ
+ledger_of p = p.blank.name
+
+-- into how many parts the ledger of these parts can be split
+abbrev pub shares_of : Parts → ℕ
+shares_of p = p.blank.parts
+
+-- the parts have these names, and a ledger of this name with as many parts as there are cells
+abbrev pub AreParts : Names → ℕ → ℕ → Parts → Type 0
+AreParts names ledger shares p =
+    (cells_id p.cells ≡ names.cells) × (ledger_of p ≡ ledger) × (shares ≡ names.cells.slots) × (members_of p.kernel.threads ≡ names.roster)
+    × (map (λ h. h.name) p.heard.items ≡ names.lists) × (p.limit ≡ names.limit)
 
 -- of so many ports, whose numbers these are, each has the number of its place
 abbrev pub AreAll : {P : Type 0} → (P → ℕ) → ℕ → List P → Type 0

@@ -11,47 +11,47 @@ use Rattle.qmodel.specs.Lawful.{facts_of, with_event}
 use Rattle.qmodel.specs.Past.{has_ending_of, is_down, open_call}
 use Rattle.qmodel.specs.Trace.{Trace}
 use Rattle.qshared.specs.Due.{endings_due}
-use Rattle.qshared.specs.Held.{Held}
 use Rattle.qshared.specs.declared.performed.Performed.{Performed}
+use Rattle.qshared.specs.UnderLock.{UnderLock}
 use Rattle.qshared.specs.declared.performed.Performed.TheVariants.{Ended, Open, Refused}
 
--- why a call of such a kernel may not be noted: at a limit and a past, the call and the error
+-- why a call of such a kernel may not be noted: at a past, the call and the error
 abbrev pub Refuses : Type 1
-Refuses = ℕ → Trace → Call → Errno → Type 0
+Refuses = Trace → Call → Errno → Type 0
 
--- when a call of such a kernel is noted: at a limit and a past, the call
+-- when a call of such a kernel is noted: at a past, the call
 abbrev pub Admits : Type 1
-Admits = ℕ → Trace → Call → Type 0
+Admits = Trace → Call → Type 0
 
 -- the thread is one of the roster, and the kernel isn't shut down
-pub record IsHeard (roster : List Member) (past : Trace) (t : ℕ) : Type 0 where
+pub record IsServed (roster : List Member) (past : Trace) (t : ℕ) : Type 0 where
   pub known : is_some (member_at roster t) ≡ true
   pub up : is_down past ≡ false
 
 -- and the thread isn't blocked
 pub record IsFree (roster : List Member) (past : Trace) (t : ℕ) : Type 0 where
-  pub heard : IsHeard roster past t
+  pub served : IsServed roster past t
   pub idle : is_some (open_call roster past t) ≡ false
 
 -- why no call of the thread is made, whichever it is: `Busy` where it has an open call, and else only where an ending was put for it
 abbrev pub IsReason : List Member → Trace → ℕ → Errno → Type 0
 IsReason roster past t NoThread = is_some (member_at roster t) ≡ false
 IsReason roster past t Down = (is_some (member_at roster t) ≡ true) × (is_down past ≡ true)
-IsReason roster past t Busy = IsHeard roster past t × ((is_some (open_call roster past t) ≡ true) ⊎ ¬ (endings_due past t ≡ []))
+IsReason roster past t Busy = IsServed roster past t × ((is_some (open_call roster past t) ≡ true) ⊎ ¬ (endings_due past t ≡ []))
 IsReason roster past t e = ⊥
 
 -- why a call is refused: for one of these reasons, or because a free thread's call may not be noted
-abbrev pub IsRefused : List Member → Refuses → Held → ℕ → Call → Errno → Type 0
-IsRefused roster refuses h t c e = IsReason roster h.past t e ⊎ (IsFree roster h.past t × refuses h.limit h.past c e)
+abbrev pub IsRefused : List Member → Refuses → Trace → ℕ → Call → Errno → Type 0
+IsRefused roster refuses past t c e = IsReason roster past t e ⊎ (IsFree roster past t × refuses past c e)
 
--- the past has one more event, of this call of the thread, whose endings answer the past before it
-pub record IsEvent (roster : List Member) (past : Trace) (t : ℕ) (c : Call) (X : List Completion) (after : Trace) : Type 0 where
+-- a call of the thread is an event after this past: the thread is free, the call was noted, and these endings answer the past
+pub record IsEvent (roster : List Member) (admits : Admits) (past : Trace) (t : ℕ) (c : Call) (X : List Completion) : Type 0 where
   pub free : IsFree roster past t
+  pub admitted : admits past c
   pub answers : Answers (facts_of roster past) t c X
-  pub after_is : after ≡ with_event t c X past
 
--- a call that is refused is given back and changes nothing; any other was noted and is an event, and ended just where this holds an ending of the call itself
-abbrev pub Performs : List Member → Refuses → Admits → Held → ℕ → Call → Performed → Held → Type 0
-Performs roster refuses admits old t c (Refused e given) new = (new ≡ old) × (given ≡ c) × IsRefused roster refuses old t c e
-Performs roster refuses admits old t c Ended new = (X : List Completion) × IsEvent roster old.past t c X new.past × admits old.limit old.past c × (has_ending_of X (length old.past + 1) ≡ true)
-Performs roster refuses admits old t c Open new = (X : List Completion) × IsEvent roster old.past t c X new.past × admits old.limit old.past c × (has_ending_of X (length old.past + 1) ≡ false)
+-- a call that is refused is given back and changes nothing; any other is an event, the past has one more, and it ended just where the endings hold one of the call itself
+abbrev pub Performs : List Member → Refuses → Admits → UnderLock → ℕ → Call → Performed → UnderLock → Type 0
+Performs roster refuses admits old t c (Refused e given) new = (new ≡ old) × (given ≡ c) × IsRefused roster refuses old.past t c e
+Performs roster refuses admits old t c Ended new = (X : List Completion) × IsEvent roster admits old.past t c X × (new.past ≡ with_event t c X old.past) × (has_ending_of X (length old.past + 1) ≡ true)
+Performs roster refuses admits old t c Open new = (X : List Completion) × IsEvent roster admits old.past t c X × (new.past ≡ with_event t c X old.past) × (has_ending_of X (length old.past + 1) ≡ false)

@@ -16,14 +16,13 @@ use Rattle.qmodel.specs.Trace.{Trace}
 use Rattle.qkernel.specs.EventLog.{Logged}
 use Rattle.qshared.specs.Due.{place}
 
--- what contracts see of a kept past: the past, the call that was noted last, whether it isn't made yet, and how many events there may be
+-- what contracts see of a kept past: the past, the call that was noted last, and whether it isn't made yet
 pub record KeptPast : Type 0 where
   pub past : Trace
   pub noted : Call
   pub ready : Bool
-  pub limit : ℕ
 
--- why a call may not be noted: one event of the limit is left, or there was no memory; a Shutdown always may
+-- why a call may not be noted: one event of the limit is left, or there was no memory; a Shutdown is never refused
 abbrev pub refuses_kept : ℕ → Trace → Call → Errno → Type 0
 refuses_kept limit past c TraceFull = (length past + 1 ≡ limit) × ¬ (c ≡ Shutdown)
 refuses_kept limit past c NoMemory = (length past + 1 < limit) × ¬ (c ≡ Shutdown)

@@ -1,10 +1,11 @@
 -- A past that is kept nowhere: why a call isn't noted, and that there is a past.
-use Rattle.std.specs.Prelude.{◌≡◌, ℕ, ◌<◌, ◌≤◌, ◌++◌, ◌^◌, List, length, sum, Some}
+use Rattle.std.specs.Prelude.{◌≡◌, ℕ, ◌+◌, ◌<◌, ◌⊎◌, ◌++◌, ◌^◌, List, length, sum, Some}
 use lib.ListN.{get_elem?}
 use Rattle.qbase.specs.declared.errno.Errno.{Errno}
 use Rattle.qbase.specs.declared.errno.Errno.TheVariants.{Exhausted}
 use Rattle.qtables.specs.declared.member.Member.{Member}
 use Rattle.qmodel.specs.declared.call.Call.{Call}
+use Rattle.qmodel.specs.declared.call.Call.TheVariants.{Shutdown}
 use Rattle.qmodel.specs.declared.call.Completion.{Completion}
 use Rattle.qmodel.specs.Facts.{threads_of}
 use Rattle.qmodel.specs.Lawful.{IsLawful}
@@ -15,17 +16,17 @@ use Rattle.qhandoff.specs.Words.{took}
 use Rattle.qshared.specs.Asking.{AreCallsOf}
 use Rattle.qshared.specs.Due.{endings_due, of_thread, place}
 
--- why a call may not be noted: the kernel has made as many as it makes
-abbrev pub refuses_unkept : ℕ → Trace → Call → Errno → Type 0
-refuses_unkept limit past c Exhausted = 2 ^ 40 ≤ length past
-refuses_unkept limit past c e = ⊥
+-- why a call may not be noted: one event of the 2^40 that a kernel makes is left, and a Shutdown is never refused
+abbrev pub refuses_unkept : Trace → Call → Errno → Type 0
+refuses_unkept past c Exhausted = (length past + 1 ≡ 2 ^ 40) × ¬ (c ≡ Shutdown)
+refuses_unkept past c e = ⊥
 
--- when a call is noted: the kernel makes one more
-abbrev pub admits_unkept : ℕ → Trace → Call → Type 0
-admits_unkept limit past c = length past < 2 ^ 40
+-- when a call is noted: two events are left, or it is a Shutdown
+abbrev pub admits_unkept : Trace → Call → Type 0
+admits_unkept past c = (length past + 1 < 2 ^ 40) ⊎ (c ≡ Shutdown)
 
--- there is a past, lawful and with the six properties, of as many events as these counts sum to, in which each thread's calls are just those of its list, and by which it is due just what its seat took and what is left for it
-pub record WasMade (roster : List Member) (seats : List (ThreadSeat Completion)) (asked : List (List Call)) (calls : List ℕ) (left : List Completion) : Type 0 where
+-- there is a past, lawful and with the six properties, of as many events as these counts sum to; each thread's calls in it are just those of its list, and due to it is just what its seat took and what is left for it
+pub record HasPast (roster : List Member) (seats : List (ThreadSeat Completion)) (asked : List (List Call)) (calls : List ℕ) (left : List Completion) : Type 0 where
   pub past : Trace
   pub many : sum calls ≡ length past
   pub asked_is : AreCallsOf roster asked past

@@ -47,8 +47,18 @@ fn is_for(before: bool, ending: &Completion, thread: ThreadNo) -> bool
     before || ending.thread == thread
 }
 
-/// Puts an event's endings into their threads' cells. Answers whether one goes to this thread, and sets the bit
-/// of each cell that is filled.
+/// The bit of a cell whose thread is to be woken: none if that is the caller's own.
+fn bit_of(place: usize, is_own: bool) -> u64
+    requires { place < 64 }
+{
+    if is_own {
+        return 0;
+    }
+    1u64 << place
+}
+
+/// Puts an event's endings into their threads' cells. Returns whether one goes to this thread, and sets the bit of
+/// each other cell that is filled.
 pub(crate) fn hand_out(
     seat: &mut KernelSeat<Completion>,
     cells: &Cells<Completion>,
@@ -70,9 +80,10 @@ pub(crate) fn hand_out(
     endings.as_mut_slice().reverse();
     let mut own = false;
     while let Some(ending) = endings.pop() {
+        let is_own = ending.thread == thread;
         own = is_for(own, &ending, thread);
         let place = hand_one(seat, cells, threads, ending);
-        *woken |= 1u64 << place;
+        *woken |= bit_of(place, is_own);
     }
     own
 }

@@ -40,15 +40,15 @@ pub struct Kept<K: Tie> {
 }
 
 impl<K: Tie> Model for Kept<K> {
-    ghost use Rattle.std.specs.Prelude.{[]};
+    ghost use Rattle.std.specs.Prelude.{◌≡◌, []};
     ghost use Rattle.qmodel.specs.Lawful.{followed_by};
     ghost use Rattle.qshared.specs.Rooms.{KeptPast, IsKept};
 
     ghost Value = { KeptPast };
 
-    ghost view = { λ k. record { past = followed_by [] k.log.events; noted = k.noted; ready = k.ready; limit = k.limit } };
+    ghost view = { λ k. record { past = followed_by [] k.log.events; noted = k.noted; ready = k.ready } };
 
-    ghost invariant = { λ k. IsKept K.roster k.limit k.threads.items k.rooms.items k.log k.noted k.room k.ready };
+    ghost invariant = { λ k. (k.limit ≡ K.names.limit) × IsKept K.names.roster k.limit k.threads.items k.rooms.items k.log k.noted k.room k.ready };
 }
 
 /// So many rooms, each for nothing.
@@ -111,16 +111,15 @@ fn copy_all(
 }
 
 impl<K: Tie> Kept<K> {
-    /// An empty past of the kernel of these threads, in rising number, for at most so many events.
+    /// An empty past of the kernel of these threads, in rising number, for at most `limit` events.
     pub(crate) fn new(
         alloc: Global,
         threads: Vec<ThreadNo>,
         limit: usize,
     ) -> Result<Kept<K>, AllocError>
-        requires roster { IsRoster K.roster × (threads.items ≡ threads_of K.roster) }
-        requires limit { (2 ≤ limit) × (limit ≤ 2 ^ 20) }
+        requires roster { IsRoster K.names.roster × (threads.items ≡ threads_of K.names.roster) }
+        requires limit { (2 ≤ limit) × (limit ≤ 2 ^ 20) × (limit ≡ K.names.limit) }
         ensures empty { IfOk result (λ kept. kept.past ≡ []) }
-        ensures limit { IfOk result (λ kept. kept.limit ≡ limit) }
     {
         let rooms = no_rooms(alloc, threads.len())?;
         let log = EventLog::with_room(alloc, 1, 64)?;
@@ -141,7 +140,7 @@ impl<K: Tie> Kept<K> {
     pub(crate) fn into_trace(self) -> Trace
         ensures first { result.first ≡ 1 }
         ensures events { followed_by [] result.events ≡ self.past }
-        ensures within { length result.events ≤ self.limit }
+        ensures within { length result.events ≤ K.names.limit }
     {
         let Kept { log, .. } = self;
         log.into_trace(1)
@@ -151,7 +150,7 @@ impl<K: Tie> Kept<K> {
 impl<K: Tie> Log for Kept<K> {
     ghost use Rattle.qshared.specs.Rooms.{admits_kept, refuses_kept};
 
-    ghost roster = { λ _. K.roster };
+    ghost roster = { λ _. K.names.roster };
 
     ghost past = { λ k. k.past };
 
@@ -159,11 +158,9 @@ impl<K: Tie> Log for Kept<K> {
 
     ghost noted = { λ k. k.noted };
 
-    ghost limit = { λ k. k.limit };
+    ghost refuses = { refuses_kept K.names.limit };
 
-    ghost refuses = { refuses_kept };
-
-    ghost admits = { admits_kept };
+    ghost admits = { admits_kept K.names.limit };
 
     fn note(&mut self, _made: u64, call: &Call) -> Result<(), Errno> {
         match admit(self.alloc, &mut self.log, self.limit, call) {

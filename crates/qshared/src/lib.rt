@@ -5,6 +5,7 @@
 mod admitting;
 mod handing;
 pub mod kept;
+pub mod laws;
 mod locked;
 pub mod log;
 pub mod parts;

@@ -4,12 +4,13 @@ ghost use lib.ListN.{get_elem?};
 ghost use Rattle.qmodel.specs.Facts.{threads_of};
 ghost use Rattle.qhandoff.specs.Words.{cells_id};
 ghost use Rattle.qshared.specs.Asking.{AreCallsOf, heard_in};
-ghost use Rattle.qshared.specs.Counting.{is_event, one_if, WasPerformed};
+ghost use Rattle.qshared.specs.Answered.{AtPast, Comes};
+ghost use Rattle.qshared.specs.Counting.{is_event, one_if};
 ghost use Rattle.qshared.specs.Due.{place};
 
 use crate::log::Log;
 use crate::performed::Performed;
-use crate::tie::Tie;
+use crate::tie::{Tie, Whole};
 use crate::traced::Traced;
 use qbase::ids::ThreadNo;
 use qhandoff::cells::Cells;
@@ -32,11 +33,12 @@ pub(crate) struct Locked<K: Tie, L: Log> {
     pub(crate) asked: Vec<Asked>,
     // Of each thread the calls of its that are events, by the number of its cell.
     pub(crate) heard: Vec<Heard>,
-    ghost roomy: { (seats.items ≡ []) × (K.cells.slots ≤ vec_capacity seats) × (calls.items ≡ []) × (K.cells.slots ≤ vec_capacity calls) × (left.items ≡ []) × (K.cells.slots ≤ vec_capacity left) × (asked.items ≡ []) × (K.cells.slots ≤ vec_capacity asked) },
+    pub(crate) whole: Whole<K>,
+    ghost roomy: { (seats.items ≡ []) × (K.names.cells.slots ≤ vec_capacity seats) × (calls.items ≡ []) × (K.names.cells.slots ≤ vec_capacity calls) × (left.items ≡ []) × (K.names.cells.slots ≤ vec_capacity left) × (asked.items ≡ []) × (K.names.cells.slots ≤ vec_capacity asked) },
     ghost none_spare: { (spare.parts ≡ 0) × (spare.amount ≡ 0) },
     ghost counted: { length traced.past ≡ book.total },
-    ghost named: { (map (λ h. h.name) heard.items ≡ K.lists) × (length heard.items ≡ K.cells.slots) },
-    ghost heard_all: { AreCallsOf K.roster (map (λ h. h.calls) heard.items) traced.past },
+    ghost named: { (map (λ h. h.name) heard.items ≡ K.names.lists) × (length heard.items ≡ K.names.cells.slots) },
+    ghost heard_all: { AreCallsOf K.names.roster (map (λ h. h.calls) heard.items) traced.past },
 }
 
 /// Whether the call is an event.
@@ -47,6 +49,17 @@ fn is_event(performed: &Performed) -> bool
         Performed::Ended | Performed::Open => true,
         Performed::Refused(_, _) => false,
     }
+}
+
+/// What a thread asked for is what was heard of it. It changes nothing.
+fn agree(asked: &mut Asked, heard: &mut Vec<Heard>, cell: usize)
+    requires cell { cell < length heard.old.items }
+    requires name { slice_index_or (map (λ h. h.name) heard.old.items) cell 0 ≡ asked.old.name }
+    ensures asked { asked.new ≡ asked.old }
+    ensures heard { heard.new.items ≡ heard.old.items }
+    ensures agreed { asked.old.calls ≡ slice_index_or (map (λ h. h.calls) heard.old.items) cell [] }
+{
+    asked.agree(&mut heard[cell]);
 }
 
 impl<K: Tie, L: Log> Locked<K, L> {
@@ -61,8 +74,9 @@ impl<K: Tie, L: Log> Locked<K, L> {
         heard: Vec<Heard>,
     ) -> Locked<K, L>
         requires counted { (traced.past ≡ []) × (book.total ≡ 0) }
-        requires roomy { (seats.items ≡ []) × (K.cells.slots ≤ vec_capacity seats) × (calls.items ≡ []) × (K.cells.slots ≤ vec_capacity calls) × (left.items ≡ []) × (K.cells.slots ≤ vec_capacity left) × (asked.items ≡ []) × (K.cells.slots ≤ vec_capacity asked) }
-        requires heard { (map (λ h. h.name) heard.items ≡ K.lists) × (length heard.items ≡ K.cells.slots) × ((k : ℕ) → heard_in (get_elem? heard.items k) ≡ []) }
+        requires roomy { (seats.items ≡ []) × (K.names.cells.slots ≤ vec_capacity seats) × (calls.items ≡ []) × (K.names.cells.slots ≤ vec_capacity calls) × (left.items ≡ []) × (K.names.cells.slots ≤ vec_capacity left) × (asked.items ≡ []) × (K.names.cells.slots ≤ vec_capacity asked) }
+        requires heard { (map (λ h. h.name) heard.items ≡ K.names.lists) × (length heard.items ≡ K.names.cells.slots) × ((k : ℕ) → heard_in (get_elem? heard.items k) ≡ []) }
+        requires whole { K.parts ≡ K.names.cells.slots }
         requires none_spare { (spare.parts ≡ 0) × (spare.amount ≡ 0) }
     {
         Locked {
@@ -74,10 +88,11 @@ impl<K: Tie, L: Log> Locked<K, L> {
             left,
             asked,
             heard,
+            whole: Whole::new(),
         }
     }
 
-    /// One call of a thread, counted in its share and told in its list where it is an event.
+    /// Makes a call of a thread, and counts it in its share and adds it to its list if it is an event.
     pub(crate) fn call(
         &mut self,
         cells: &Cells<Completion>,
@@ -87,11 +102,11 @@ impl<K: Tie, L: Log> Locked<K, L> {
         asked: &mut Asked,
         call: Call,
     ) -> Performed
-        requires cells { cells_id cells.now ≡ K.cells }
+        requires cells { cells_id cells.now ≡ K.names.cells }
         requires part { 0 < share.old.parts }
-        requires thread { (place (threads_of K.roster) thread ≡ Some cell) × (cell < K.cells.slots) }
-        requires asked { slice_index_or K.lists cell 0 ≡ asked.old.name }
-        ensures came { WasPerformed K.roster L.refuses L.admits thread call result }
+        requires thread { (place (threads_of K.names.roster) thread ≡ Some cell) × (cell < K.names.cells.slots) }
+        requires asked { slice_index_or K.names.lists cell 0 ≡ asked.old.name }
+        ensures came { AtPast K.names.roster thread asked.old.calls (Comes K.names.roster L.refuses L.admits thread call result) }
         ensures parts { share.new.parts ≡ share.old.parts }
         ensures amount { share.new.amount ≡ share.old.amount + one_if (is_event result) }
         ensures name { asked.new.name ≡ asked.old.name }
@@ -100,6 +115,7 @@ impl<K: Tie, L: Log> Locked<K, L> {
     {
         let _events = self.traced.len();
         self.book.audit(share);
+        agree(asked, &mut self.heard, cell);
         let asking = Snapshot::of(&call);
         let performed = self.traced.perform(cells, thread, call);
         if is_event(&performed) {

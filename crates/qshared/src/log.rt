@@ -1,5 +1,5 @@
 //! How the past of a locked kernel is kept.
-ghost use Rattle.std.specs.Prelude.{◌≡◌, ◌<◌, ◌^◌, ℕ, Bool, List, length, IfErr, OnOk, is_some, true, false};
+ghost use Rattle.std.specs.Prelude.{◌≡◌, ◌<◌, ◌^◌, Bool, List, length, IfErr, OnOk, is_some, true, false};
 ghost use Rattle.qtables.specs.Members.{member_at};
 ghost use Rattle.qtables.specs.declared.member.Member.{Member};
 ghost use Rattle.qmodel.specs.declared.call.Call.{Call};
@@ -28,9 +28,6 @@ pub trait Log: Drop {
     /// The call that was noted last.
     ghost noted: { Self → Call };
 
-    /// How many events the past may have.
-    ghost limit: { Self → ℕ };
-
     /// Why a call may not be noted.
     ghost refuses: { Refuses };
 
@@ -41,11 +38,11 @@ pub trait Log: Drop {
     fn note(&mut self, made: u64, call: &Call) -> Result<(), Errno>
         requires up { is_down (past self.old) ≡ false }
         requires made { made ≡ length (past self.old) }
-        ensures same { (past self.new ≡ past self.old) × (roster self.new ≡ roster self.old) × (limit self.new ≡ limit self.old) }
+        ensures same { (past self.new ≡ past self.old) × (roster self.new ≡ roster self.old) }
         ensures noted { OnOk result ((noted self.new ≡ call.now) × (ready self.new ≡ true)) }
-        ensures admitted { OnOk result (admits (limit self.old) (past self.old) call.now) }
+        ensures admitted { OnOk result (admits (past self.old) call.now) }
         ensures few { OnOk result (length (past self.old) < 2 ^ 40) }
-        ensures refused { IfErr result (λ e. refuses (limit self.old) (past self.old) call.now e) };
+        ensures refused { IfErr result (λ e. refuses (past self.old) call.now e) };
 
     /// The call that was noted was made by a thread that wasn't blocked, and is an event with these endings.
     fn event(&mut self, thread: ThreadNo, endings: &Endings)
@@ -55,5 +52,5 @@ pub trait Log: Drop {
         requires thread { (is_some (member_at (roster self.old) thread) ≡ true) × (is_some (open_call (roster self.old) (past self.old) thread) ≡ false) }
         requires answers { Answers (facts_of (roster self.old) (past self.old)) thread (noted self.old) endings.now.items }
         ensures event { past self.new ≡ with_event thread (noted self.old) endings.now.items (past self.old) }
-        ensures same { (roster self.new ≡ roster self.old) × (limit self.new ≡ limit self.old) };
+        ensures same { roster self.new ≡ roster self.old };
 }

@@ -23,15 +23,15 @@ use std::sync::ledger::Blank;
 /// What a shared kernel is made of. A function over `K: Tie` takes them, whose condition is that K names them.
 #[derive(Drop)]
 pub struct Parts {
-    pub cells: Cells<Completion>,
-    pub seat: KernelSeat<Completion>,
-    pub seats: Vec<ThreadSeat<Completion>>,
-    pub blank: Blank,
-    pub kernel: Kernel,
-    pub threads: Vec<ThreadNo>,
-    pub limit: usize,
-    pub asked: Vec<Asked>,
-    pub heard: Vec<Heard>,
+    pub(crate) cells: Cells<Completion>,
+    pub(crate) seat: KernelSeat<Completion>,
+    pub(crate) seats: Vec<ThreadSeat<Completion>>,
+    pub(crate) blank: Blank,
+    pub(crate) kernel: Kernel,
+    pub(crate) threads: Vec<ThreadNo>,
+    pub(crate) limit: usize,
+    pub(crate) asked: Vec<Asked>,
+    pub(crate) heard: Vec<Heard>,
     ghost fits: { (kernel_id seat ≡ cells_id cells) × (desk seat ≡ seated_desk (count cells) (count cells)) × (blank.parts ≡ count cells) },
     ghost row: { (length seats.items ≡ count cells) × IsRow (cells_id cells) seats.items × ((k : ℕ) → took (get_elem? seats.items k) ≡ []) },
     ghost stands: { StandsAt (members_of kernel.threads) kernel [] },
@@ -68,44 +68,12 @@ fn lists(alloc: Global, many: usize) -> Result<(Vec<Asked>, Vec<Heard>), AllocEr
     Ok((asked, heard))
 }
 
-/// The parts of a kernel for these threads, with this limit.
-fn make_parts(alloc: Global, roster: &Roster, limit: usize) -> Result<Parts, Errno>
-    requires limit { (2 ≤ limit) × (limit ≤ 2 ^ 20) }
-    ensures roster { IfOk result (λ p. members_of p.kernel.threads ≡ roster.now) }
-    ensures limit { IfOk result (λ p. p.limit ≡ limit) }
-    ensures error { IfErr result (λ e. e ≡ Errno.NoMemory) }
-{
-    let Ok(threads) = threads_in(alloc, roster.members()) else {
-        return Err(Errno::NoMemory);
-    };
-    let Ok((cells, seat, seats)) = Cells::new(alloc, threads.len()) else {
-        return Err(Errno::NoMemory);
-    };
-    let Ok(kernel) = Kernel::new(alloc, roster) else {
-        return Err(Errno::NoMemory);
-    };
-    let Ok((asked, heard)) = lists(alloc, threads.len()) else {
-        return Err(Errno::NoMemory);
-    };
-    Ok(Parts {
-        cells,
-        seat,
-        seats,
-        blank: Blank::new(threads.len() as u64),
-        kernel,
-        threads,
-        limit,
-        asked,
-        heard,
-    })
-}
-
 /// The most events that a past in memory may have.
 const TRACE_LIMIT: u32 = 1 << 20;
 
 impl Parts {
-    /// The parts of a kernel for these threads, whose trace has at most so many events: `Inval` unless that is 2 to
-    /// 1,048,576, and else `NoMemory` where one of them found no memory.
+    /// The parts of a kernel for these threads, whose trace has at most `trace_limit` events. Returns `Inval` unless
+    /// that is 2 to 1,048,576, and `NoMemory` if the allocator refused. A kernel without a past ignores the limit.
     /// `two_threads.rt` of `crates/balsaeuchre_uses` hands them to a function over `K: Tie`.
     pub fn new(alloc: Global, roster: &Roster, trace_limit: u32) -> Result<Parts, Errno>
         ensures roster { IfOk result (λ p. members_of p.kernel.threads ≡ roster.now) }
@@ -115,15 +83,20 @@ impl Parts {
         if trace_limit < 2 || trace_limit > TRACE_LIMIT {
             return Err(Errno::Inval);
         }
-        make_parts(alloc, roster, trace_limit as usize)
-    }
-
-    /// The parts of a kernel for these threads that keeps no past. `NoMemory` is the only error.
-    /// `qroundtrips` measures such a kernel.
-    pub fn unkept(alloc: Global, roster: &Roster) -> Result<Parts, Errno>
-        ensures roster { IfOk result (λ p. members_of p.kernel.threads ≡ roster.now) }
-        ensures error { IfErr result (λ e. e ≡ Errno.NoMemory) }
-    {
-        make_parts(alloc, roster, TRACE_LIMIT as usize)
+        let threads = threads_in(alloc, roster.members())?;
+        let (cells, seat, seats) = Cells::new(alloc, threads.len())?;
+        let kernel = Kernel::new(alloc, roster)?;
+        let (asked, heard) = lists(alloc, threads.len())?;
+        Ok(Parts {
+            cells,
+            seat,
+            seats,
+            blank: Blank::new(threads.len() as u64),
+            kernel,
+            threads,
+            limit: trace_limit as usize,
+            asked,
+            heard,
+        })
     }
 }

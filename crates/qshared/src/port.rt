@@ -1,9 +1,10 @@
 //! One thread's way to a shared kernel.
 ghost use Rattle.std.specs.Prelude.{◌≡◌, ◌+◌, ◌++◌, [], ◌∷◌, true, false, MatchOption, if◌then◌else◌, slice_index_or, Some};
 ghost use Rattle.qmodel.specs.Facts.{threads_of};
-ghost use Rattle.qhandoff.specs.Words.{thread_id, thread_of, taken};
+ghost use Rattle.qhandoff.specs.Words.{thread_id, thread_of, taken, IsThreadOf};
 ghost use Rattle.qshared.specs.Due.{place};
-ghost use Rattle.qshared.specs.Counting.{is_call, gives, pends, Came};
+ghost use Rattle.qshared.specs.Answered.{AtPast, Answered};
+ghost use Rattle.qshared.specs.Counting.{is_call, gives, pends};
 
 use crate::log::Log;
 use crate::performed::Performed;
@@ -14,14 +15,20 @@ use crossbeam_utils::Backoff;
 use crossbeam_utils::sync::Parker;
 use qbase::errno::Errno;
 use qbase::ids::ThreadNo;
+use qhandoff::cells::Cells;
 use qhandoff::seats::ThreadSeat;
 use qmodel::call::{Call, Completion};
 use qpast::asking::Asked;
 use std::sync::Wait;
 use std::sync::ledger::Share;
 
-/// How often `wait` polls before it sleeps: some microseconds in all.
-const LOOKS: u32 = 30;
+/// How often `wait` looks at most before it sleeps. It pauses between two looks, twice as long each time, for up to
+/// some twenty microseconds in all. It never yields its core: on a busy machine a process that computes would keep it
+/// for milliseconds.
+const MOST_LOOKS: u32 = 11;
+
+/// How often it looks at least: for some microseconds, which is a round trip on a quiet machine.
+const LEAST_LOOKS: u32 = 6;
 
 /// What a port answers a call.
 /// `two_threads.rt` of `crates/balsaeuchre_uses` turns it into an ending or a fault.
@@ -46,13 +53,59 @@ pub struct Port<K: Tie> {
     pub(crate) calls: u64,
     pub(crate) pending: bool,
     pub(crate) parker: Parker,
+    // How often the next wait looks: half as often after one that was in vain, twice as often after one that wasn't.
+    pub(crate) looks: u32,
     // Its calls that are events, for clauses alone.
     pub(crate) asked: Asked,
-    ghost seat_is: { thread_id seat ≡ K.cells },
-    ghost thread_is: { place (threads_of K.roster) thread ≡ Some (thread_of seat) },
+    ghost seat_is: { thread_id seat ≡ K.names.cells },
+    ghost thread_is: { place (threads_of K.names.roster) thread ≡ Some (thread_of seat) },
     ghost counted: { share.amount ≡ calls },
     ghost part: { share.parts ≡ 1 },
-    ghost asked_is: { slice_index_or K.lists (thread_of seat) 0 ≡ asked.name },
+    ghost asked_is: { slice_index_or K.names.lists (thread_of seat) 0 ≡ asked.name },
+}
+
+/// Takes what was put for a thread, if anything was. It has the thread's seat and the cells alone, so it can take no
+/// lock and no memory, and can wait for nobody.
+fn take(
+    seat: &mut ThreadSeat<Completion>,
+    cells: &Cells<Completion>,
+    pending: &mut bool,
+) -> Option<Completion>
+    requires { IsThreadOf cells.now seat.old }
+    ensures seat { (thread_id seat.new ≡ thread_id seat.old) × (thread_of seat.new ≡ thread_of seat.old) }
+    ensures taken { MatchOption result (taken seat.new ≡ taken seat.old) (λ x. taken seat.new ≡ taken seat.old ++ x ∷ []) }
+    ensures pending { MatchOption result (pending.new ≡ pending.old) (λ x. pending.new ≡ false) }
+{
+    let completion = seat.poll(cells);
+    if completion.is_some() {
+        *pending = false;
+    }
+    completion
+}
+
+/// The same, but looks some times, and pauses between.
+fn look(
+    seat: &mut ThreadSeat<Completion>,
+    cells: &Cells<Completion>,
+    pending: &mut bool,
+    looks: &mut u32,
+) -> Option<Completion>
+    requires { IsThreadOf cells.now seat.old }
+    ensures seat { (thread_id seat.new ≡ thread_id seat.old) × (thread_of seat.new ≡ thread_of seat.old) }
+    ensures taken { MatchOption result (taken seat.new ≡ taken seat.old) (λ x. taken seat.new ≡ taken seat.old ++ x ∷ []) }
+    ensures pending { MatchOption result (pending.new ≡ pending.old) (λ x. pending.new ≡ false) }
+{
+    let backoff = Backoff::new();
+    for _ in 0..*looks {
+        let completion = take(seat, cells, pending);
+        if completion.is_some() {
+            *looks = MOST_LOOKS.min(looks.saturating_mul(2));
+            return completion;
+        }
+        backoff.spin();
+    }
+    *looks = LEAST_LOOKS.max(*looks / 2);
+    None
 }
 
 impl<K: Tie> Port<K> {
@@ -63,9 +116,9 @@ impl<K: Tie> Port<K> {
         parker: Parker,
         asked: Asked,
     ) -> Port<K>
-        requires seat { (thread_id seat ≡ K.cells) × (place (threads_of K.roster) thread ≡ Some (thread_of seat)) }
+        requires seat { (thread_id seat ≡ K.names.cells) × (place (threads_of K.names.roster) thread ≡ Some (thread_of seat)) }
         requires share { (share.amount ≡ 0) × (share.parts ≡ 1) }
-        requires asked { slice_index_or K.lists (thread_of seat) 0 ≡ asked.name }
+        requires asked { slice_index_or K.names.lists (thread_of seat) 0 ≡ asked.name }
         ensures { (result.seat ≡ seat) × (result.calls ≡ 0) × (result.pending ≡ false) × (result.thread ≡ thread) × (result.asked ≡ asked) }
     {
         Port {
@@ -75,18 +128,20 @@ impl<K: Tie> Port<K> {
             calls: 0,
             pending: false,
             parker,
+            looks: MOST_LOOKS,
             asked,
         }
     }
 
-    /// Makes a call, under the lock, for which it may wait. Where the call ends in its own event the port takes that
-    /// ending. Refused, in this order: `Down` after Shutdown, `Busy` where the thread has an open call or one that
-    /// isn't collected, `TraceFull` where one event of the limit is left and the call isn't Shutdown, and `NoMemory`
-    /// where there was none for the trace, which is never so for Shutdown. A thread that the roster lacks would get
-    /// `NoThread` before all these, but has no port.
+    /// Makes a call, under the lock, for which it may wait. If the call ends in its own event the port takes that
+    /// ending. Refused, in this order: `Down` after Shutdown; `Busy` if the thread has an open call or an ending that
+    /// isn't collected; and then what the log refuses, which is never Shutdown. That is, of a kernel that keeps its
+    /// past, `TraceFull` if one event of the limit is left, and `NoMemory` if there was none for the trace; of one that
+    /// keeps no past, `Exhausted` if one of 2^40 events is left. A thread that the roster lacks would get `NoThread`
+    /// before all these, but has no port.
     /// `two_threads.rt` of `crates/balsaeuchre_uses` calls it, and waits where the call is blocked.
     pub fn call<L: Log, R: Wait>(&mut self, shared: &Shared<K, L>, rt: &R, call: Call) -> Called
-        ensures came { Came K.roster L.refuses self.old.thread call result }
+        ensures came { AtPast K.names.roster self.old.thread self.old.asked.calls (Answered K.names.roster L.refuses L.admits self.old.thread call result) }
         ensures calls { self.new.calls ≡ self.old.calls + (if is_call result then 1 else 0) }
         ensures asked { self.new.asked.calls ≡ self.old.asked.calls ++ (if is_call result then call ∷ [] else []) }
         ensures pending { self.new.pending ≡ pends result self.old.pending }
@@ -106,7 +161,7 @@ impl<K: Tie> Port<K> {
             );
             (performed, locked.traced.woken)
         };
-        shared.wake(woken, place);
+        shared.wake(woken);
         match performed {
             Performed::Refused(errno, call) => Called::Refused(errno, call),
             Performed::Open => {
@@ -134,32 +189,10 @@ impl<K: Tie> Port<K> {
         ensures pending { MatchOption result (self.new.pending ≡ self.old.pending) (λ x. self.new.pending ≡ false) }
         ensures same { (self.new.thread ≡ self.old.thread) × (thread_of self.new.seat ≡ thread_of self.old.seat) × (self.new.calls ≡ self.old.calls) × (self.new.asked ≡ self.old.asked) }
     {
-        let completion = self.seat.poll(&shared.cells);
-        if completion.is_some() {
-            self.pending = false;
-        }
-        completion
+        take(&mut self.seat, &shared.cells, &mut self.pending)
     }
 
-    /// The same, but polls for some microseconds until something is there.
-    fn look<L: Log>(&mut self, shared: &Shared<K, L>) -> Option<Completion>
-        ensures taken { MatchOption result (taken self.new.seat ≡ taken self.old.seat) (λ x. taken self.new.seat ≡ taken self.old.seat ++ x ∷ []) }
-        ensures pending { MatchOption result (self.new.pending ≡ self.old.pending) (λ x. self.new.pending ≡ false) }
-        ensures same { (self.new.thread ≡ self.old.thread) × (thread_of self.new.seat ≡ thread_of self.old.seat) × (self.new.calls ≡ self.old.calls) × (self.new.asked ≡ self.old.asked) }
-    {
-        let backoff = Backoff::new();
-        for _ in 0..LOOKS {
-            let completion = self.poll(shared);
-            if completion.is_some() {
-                return completion;
-            }
-            backoff.snooze();
-        }
-        None
-    }
-
-    /// Takes what was put for the thread once it is put: polls for some microseconds, and then sleeps until it is
-    /// woken.
+    /// Takes what was put for the thread once it is put: looks for some microseconds, and then sleeps until it is woken.
     /// `two_threads.rt` of `crates/balsaeuchre_uses` waits so.
     pub fn wait<L: Log, R: Wait>(&mut self, shared: &Shared<K, L>, rt: &R) -> Completion
         requires { self.old.pending ≡ true }
@@ -168,7 +201,13 @@ impl<K: Tie> Port<K> {
         ensures same { (self.new.thread ≡ self.old.thread) × (thread_of self.new.seat ≡ thread_of self.old.seat) × (self.new.calls ≡ self.old.calls) × (self.new.asked ≡ self.old.asked) }
     {
         for _ in rt.forever() {
-            if let Some(completion) = self.look(shared) {
+            let completion = look(
+                &mut self.seat,
+                &shared.cells,
+                &mut self.pending,
+                &mut self.looks,
+            );
+            if let Some(completion) = completion {
                 return completion;
             }
             self.parker.park(rt);

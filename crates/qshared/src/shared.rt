@@ -9,9 +9,9 @@ ghost use Rattle.qmodel.specs.Laws.{RiseByThread};
 ghost use Rattle.qmodel.specs.Properties.{HasProperties};
 ghost use Rattle.qhandoff.specs.Words.{cells_id, thread_of, taken, took, IsRow};
 ghost use Rattle.qshared.specs.Asking.{AreCallsOf, asked_in};
-ghost use Rattle.qshared.specs.Due.{place, endings_due, of_thread};
+ghost use Rattle.qshared.specs.Due.{place, endings_due, of_thread, AreKnown};
 ghost use Rattle.qshared.specs.Naming.{AreParts, AreAll};
-ghost use Rattle.qshared.specs.Unkept.{WasMade};
+ghost use Rattle.qshared.specs.Unkept.{HasPast};
 
 use crate::kept::Kept;
 use crate::locked::Locked;
@@ -39,7 +39,7 @@ pub struct Shared<K: Tie, L: Log> {
     pub(crate) cells: Cells<Completion>,
     pub(crate) lock: Mutex<Locked<K, L>>,
     pub(crate) unparkers: Vec<Unparker>,
-    ghost cells_are: { cells_id cells ≡ K.cells },
+    ghost cells_are: { cells_id cells ≡ K.names.cells },
 }
 
 /// What a shared kernel comes to.
@@ -71,13 +71,13 @@ fn ports_for<K: Tie>(
     mut asked: Vec<Asked>,
     spare: &mut Share<K>,
 ) -> Result<(Vec<Port<K>>, Vec<Unparker>), AllocError>
-    requires roster { IsRoster K.roster × (threads.now ≡ threads_of K.roster) }
-    requires seats { (length seats.items ≡ length threads.now) × IsRow K.cells seats.items × ((k : ℕ) → took (get_elem? seats.items k) ≡ []) }
-    requires asked { (map (λ a. a.name) asked.items ≡ K.lists) × (length asked.items ≡ K.cells.slots) × ((k : ℕ) → asked_in (get_elem? asked.items k) ≡ []) }
-    requires sized { length threads.now ≡ K.cells.slots }
+    requires roster { IsRoster K.names.roster × (threads.now ≡ threads_of K.names.roster) }
+    requires seats { (length seats.items ≡ length threads.now) × IsRow K.names.cells seats.items × ((k : ℕ) → took (get_elem? seats.items k) ≡ []) }
+    requires asked { (map (λ a. a.name) asked.items ≡ K.names.lists) × (length asked.items ≡ K.names.cells.slots) × ((k : ℕ) → asked_in (get_elem? asked.items k) ≡ []) }
+    requires sized { length threads.now ≡ K.names.cells.slots }
     requires spare { (spare.old.parts ≡ length seats.items) × (spare.old.amount ≡ 0) }
     ensures spare { OnOk result ((spare.new.parts ≡ 0) × (spare.new.amount ≡ 0)) }
-    ensures ports { IfOk result (λ r. AreAll (λ p. thread_of p.seat) K.cells.slots r.0.items) }
+    ensures ports { IfOk result (λ r. AreAll (λ p. thread_of p.seat) K.names.cells.slots r.0.items) }
     ensures new { IfOk result (λ r. (k : ℕ) (p : _) → get_elem? r.0.items k ≡ some p → (p.calls ≡ 0) × (p.pending ≡ false) × (taken p.seat ≡ []) × (p.asked.calls ≡ [])) }
 {
     let mut ports = Vec::with_capacity(alloc, seats.len())?;
@@ -144,14 +144,10 @@ fn agree(mut asked: Vec<Asked>, mut heard: Vec<Heard>)
 impl<K: Tie, L: Log> Shared<K, L> {
     /// Opens a kernel of these parts whose past is kept by the log, with a port for each thread, in rising thread
     /// number.
-    fn with_log(
-        alloc: Global,
-        parts: Parts,
-        log: L,
-    ) -> Result<(Shared<K, L>, Vec<Port<K>>), AllocError>
-        requires named { AreParts K.roster K.cells K.lists K.name K.parts parts }
-        requires log { (L.roster log ≡ K.roster) × (L.past log ≡ []) }
-        ensures ports { IfOk result (λ r. AreAll (λ p. thread_of p.seat) K.cells.slots r.1.items) }
+    fn with_log(parts: Parts, log: L) -> Result<(Shared<K, L>, Vec<Port<K>>), AllocError>
+        requires named { AreParts K.names K.name K.parts parts }
+        requires log { (L.roster log ≡ K.names.roster) × (L.past log ≡ []) }
+        ensures ports { IfOk result (λ r. AreAll (λ p. thread_of p.seat) K.names.cells.slots r.1.items) }
         ensures new { IfOk result (λ r. (k : ℕ) (p : _) → get_elem? r.1.items k ≡ some p → (p.calls ≡ 0) × (p.pending ≡ false) × (taken p.seat ≡ []) × (p.asked.calls ≡ [])) }
     {
         let Parts {
@@ -166,6 +162,7 @@ impl<K: Tie, L: Log> Shared<K, L> {
             ..
         } = parts;
         let _made = kernel.made();
+        let alloc = kernel.alloc();
         let many = seats.len();
         let room = Vec::with_capacity(alloc, many)?;
         let calls = Vec::with_capacity(alloc, many)?;
@@ -186,7 +183,7 @@ impl<K: Tie, L: Log> Shared<K, L> {
     /// Whether these are all ports of the kernel, in rising thread number.
     /// It is asked before `finish`, as in `two_threads.rt` of `crates/balsaeuchre_uses`.
     pub fn all(&self, ports: &[Port<K>]) -> bool
-        ensures { IsTrue result ↔ AreAll (λ p. thread_of p.seat) K.cells.slots ports.now }
+        ensures { IsTrue result ↔ AreAll (λ p. thread_of p.seat) K.names.cells.slots ports.now }
     {
         if ports.len() != self.cells.threads() {
             return false;
@@ -199,28 +196,31 @@ impl<K: Tie, L: Log> Shared<K, L> {
         true
     }
 
-    /// Wakes the threads whose bits are set, but this one.
-    pub(crate) fn wake(&self, woken: u64, own: usize) {
-        if woken == 0 {
-            return;
-        }
-        for k in 0..self.unparkers.len() {
-            if k < 64 && k != own && (woken >> k) & 1 == 1 {
-                self.unparkers[k].unpark();
+    /// Wakes the threads whose bits are set.
+    pub(crate) fn wake(&self, woken: u64) {
+        let mut left = woken;
+        for _ in 0..self.unparkers.len() {
+            if left == 0 {
+                return;
             }
+            let place = left.trailing_zeros() as usize;
+            if place < self.unparkers.len() {
+                self.unparkers[place].unpark();
+            }
+            left &= left - 1;
         }
     }
 
     /// Takes the kernel apart, once all ports are handed in.
     fn close(self, ports: Vec<Port<K>>) -> Closed<L>
-        requires named { K.parts ≡ K.cells.slots }
-        requires all { AreAll (λ p. thread_of p.seat) K.cells.slots ports.items }
+        requires all { AreAll (λ p. thread_of p.seat) K.names.cells.slots ports.items }
         ensures calls { result.calls.items ≡ map (λ p. p.calls) ports.items }
         ensures sum { sum result.calls.items ≡ length (L.past result.log) }
-        ensures asked { AreCallsOf K.roster (map (λ p. p.asked.calls) ports.items) (L.past result.log) }
-        ensures lawful { IsLawful K.roster (L.past result.log) × HasProperties K.roster (L.past result.log) }
+        ensures asked { AreCallsOf K.names.roster (map (λ p. p.asked.calls) ports.items) (L.past result.log) }
+        ensures lawful { IsLawful K.names.roster (L.past result.log) × HasProperties K.names.roster (L.past result.log) }
         ensures rises { RiseByThread result.left.items }
-        ensures due { (t i : ℕ) → place (threads_of K.roster) t ≡ Some i → took (get_elem? (map (λ p. p.seat) ports.items) i) ++ of_thread t result.left.items ≡ endings_due (L.past result.log) t }
+        ensures known { AreKnown K.names.roster result.left.items }
+        ensures due { (t i : ℕ) → place (threads_of K.names.roster) t ≡ Some i → took (get_elem? (map (λ p. p.seat) ports.items) i) ++ of_thread t result.left.items ≡ endings_due (L.past result.log) t }
     {
         let Shared { cells, lock, .. } = self;
         let Locked {
@@ -232,6 +232,7 @@ impl<K: Tie, L: Log> Shared<K, L> {
             left: room,
             mut asked,
             heard,
+            ..
         } = lock.into_inner();
         let Traced { seat, log, .. } = traced;
         gather(ports, &mut seats, &mut calls, &mut asked, &mut spare);
@@ -246,59 +247,34 @@ impl<K: Tie, L: Log> Shared<K, L> {
     }
 }
 
-/// A kernel of these parts that keeps its past in memory.
-fn open_kept<K: Tie>(
-    alloc: Global,
-    parts: Parts,
-) -> Result<(Shared<K, Kept<K>>, Vec<Port<K>>), AllocError>
-    requires named { AreParts K.roster K.cells K.lists K.name K.parts parts }
-    ensures ports { IfOk result (λ r. AreAll (λ p. thread_of p.seat) K.cells.slots r.1.items) }
-    ensures new { IfOk result (λ r. (k : ℕ) (p : _) → get_elem? r.1.items k ≡ some p → (p.calls ≡ 0) × (p.pending ≡ false) × (taken p.seat ≡ []) × (p.asked.calls ≡ [])) }
-{
-    let _made = parts.kernel.made();
-    let log = Kept::new(alloc, parts.threads.clone()?, parts.limit)?;
-    Shared::with_log(alloc, parts, log)
-}
-
-/// A kernel of these parts that keeps no past.
-fn opened_unkept<K: Tie>(
-    alloc: Global,
-    parts: Parts,
-) -> Result<(Shared<K, Unkept<K>>, Vec<Port<K>>), AllocError>
-    requires named { AreParts K.roster K.cells K.lists K.name K.parts parts }
-    ensures ports { IfOk result (λ r. AreAll (λ p. thread_of p.seat) K.cells.slots r.1.items) }
-    ensures new { IfOk result (λ r. (k : ℕ) (p : _) → get_elem? r.1.items k ≡ some p → (p.calls ≡ 0) × (p.pending ≡ false) × (taken p.seat ≡ []) × (p.asked.calls ≡ [])) }
-{
-    Shared::with_log(alloc, parts, Unkept::new())
-}
-
 impl<K: Tie> Shared<K, Kept<K>> {
     /// Opens a kernel of these parts that keeps its past in memory, with a port for each thread, in rising thread
     /// number. `NoMemory` is the only error, and drops the parts. `two_threads.rt` of `crates/balsaeuchre_uses` opens one.
-    pub fn open(alloc: Global, parts: Parts) -> Result<(Shared<K, Kept<K>>, Vec<Port<K>>), Errno>
-        requires named { AreParts K.roster K.cells K.lists K.name K.parts parts }
-        ensures ports { IfOk result (λ r. AreAll (λ p. thread_of p.seat) K.cells.slots r.1.items) }
+    pub fn open(parts: Parts) -> Result<(Shared<K, Kept<K>>, Vec<Port<K>>), Errno>
+        requires named { AreParts K.names K.name K.parts parts }
+        ensures ports { IfOk result (λ r. AreAll (λ p. thread_of p.seat) K.names.cells.slots r.1.items) }
         ensures new { IfOk result (λ r. (k : ℕ) (p : _) → get_elem? r.1.items k ≡ some p → (p.calls ≡ 0) × (p.pending ≡ false) × (taken p.seat ≡ []) × (p.asked.calls ≡ [])) }
         ensures error { IfErr result (λ e. e ≡ Errno.NoMemory) }
     {
-        match open_kept(alloc, parts) {
-            Ok(opened) => Ok(opened),
-            Err(_) => Err(Errno::NoMemory),
-        }
+        let alloc = parts.kernel.alloc();
+        let _made = parts.kernel.made();
+        let log = Kept::new(alloc, parts.threads.clone()?, parts.limit)?;
+        Ok(Shared::with_log(parts, log)?)
     }
 
     /// Closes the kernel, once all ports are handed in: its trace, how many events each port made, and the endings
     /// that weren't collected. What a port took, followed by what is left for its thread, is what is due to it.
     /// `two_threads.rt` of `crates/balsaeuchre_uses` closes one.
     pub fn finish(self, ports: Vec<Port<K>>) -> Report
-        requires named { K.parts ≡ K.cells.slots }
-        requires all { AreAll (λ p. thread_of p.seat) K.cells.slots ports.items }
+        requires all { AreAll (λ p. thread_of p.seat) K.names.cells.slots ports.items }
         ensures calls { result.calls.items ≡ map (λ p. p.calls) ports.items }
         ensures sum { sum result.calls.items ≡ length result.trace.events }
-        ensures asked { AreCallsOf K.roster (map (λ p. p.asked.calls) ports.items) (followed_by [] result.trace.events) }
-        ensures lawful { (result.trace.first ≡ 1) × IsLawful K.roster (followed_by [] result.trace.events) × HasProperties K.roster (followed_by [] result.trace.events) }
+        ensures within { length result.trace.events ≤ K.names.limit }
+        ensures asked { AreCallsOf K.names.roster (map (λ p. p.asked.calls) ports.items) (followed_by [] result.trace.events) }
+        ensures lawful { (result.trace.first ≡ 1) × IsLawful K.names.roster (followed_by [] result.trace.events) × HasProperties K.names.roster (followed_by [] result.trace.events) }
         ensures rises { RiseByThread result.left.items }
-        ensures due { (t i : ℕ) → place (threads_of K.roster) t ≡ Some i → took (get_elem? (map (λ p. p.seat) ports.items) i) ++ of_thread t result.left.items ≡ endings_due (followed_by [] result.trace.events) t }
+        ensures known { AreKnown K.names.roster result.left.items }
+        ensures due { (t i : ℕ) → place (threads_of K.names.roster) t ≡ Some i → took (get_elem? (map (λ p. p.seat) ports.items) i) ++ of_thread t result.left.items ≡ endings_due (followed_by [] result.trace.events) t }
     {
         let Closed { log, calls, left } = self.close(ports);
         Report {
@@ -313,27 +289,24 @@ impl<K: Tie> Shared<K, Unkept<K>> {
     /// Opens a kernel of these parts that keeps no past, with a port for each thread, in rising thread number. The
     /// limit of the parts has no meaning for it. `NoMemory` is the only error, and drops the parts. `course.rt` of
     /// `crates/qroundtrips` opens and closes one.
-    pub fn open(alloc: Global, parts: Parts) -> Result<(Shared<K, Unkept<K>>, Vec<Port<K>>), Errno>
-        requires named { AreParts K.roster K.cells K.lists K.name K.parts parts }
-        ensures ports { IfOk result (λ r. AreAll (λ p. thread_of p.seat) K.cells.slots r.1.items) }
+    pub fn open(parts: Parts) -> Result<(Shared<K, Unkept<K>>, Vec<Port<K>>), Errno>
+        requires named { AreParts K.names K.name K.parts parts }
+        ensures ports { IfOk result (λ r. AreAll (λ p. thread_of p.seat) K.names.cells.slots r.1.items) }
         ensures new { IfOk result (λ r. (k : ℕ) (p : _) → get_elem? r.1.items k ≡ some p → (p.calls ≡ 0) × (p.pending ≡ false) × (taken p.seat ≡ []) × (p.asked.calls ≡ [])) }
         ensures error { IfErr result (λ e. e ≡ Errno.NoMemory) }
     {
-        match opened_unkept(alloc, parts) {
-            Ok(opened) => Ok(opened),
-            Err(_) => Err(Errno::NoMemory),
-        }
+        Ok(Shared::with_log(parts, Unkept::new())?)
     }
 
     /// Closes the kernel, once all ports are handed in: how many events each port made, and the endings that weren't
     /// collected. There is a past by which what a port took, followed by what is left for its thread, is what is due
     /// to it.
     pub fn finish(self, ports: Vec<Port<K>>) -> Tally
-        requires named { K.parts ≡ K.cells.slots }
-        requires all { AreAll (λ p. thread_of p.seat) K.cells.slots ports.items }
+        requires all { AreAll (λ p. thread_of p.seat) K.names.cells.slots ports.items }
         ensures calls { result.calls.items ≡ map (λ p. p.calls) ports.items }
         ensures rises { RiseByThread result.left.items }
-        ensures past { WasMade K.roster (map (λ p. p.seat) ports.items) (map (λ p. p.asked.calls) ports.items) result.calls.items result.left.items }
+        ensures known { AreKnown K.names.roster result.left.items }
+        ensures past { HasPast K.names.roster (map (λ p. p.seat) ports.items) (map (λ p. p.asked.calls) ports.items) result.calls.items result.left.items }
     {
         let Closed { calls, left, .. } = self.close(ports);
         Tally { calls, left }

@@ -3,9 +3,10 @@
 use crossbeam_utils::Backoff;
 use std::sync::{Mutex, MutexGuard, Wait};
 
-/// How often it is looked whether the lock is free, before its thread sleeps: some microseconds in all, some times
-/// as long as a call is made under it.
-const LOOKS: u32 = 20;
+/// How often a thread looks whether the lock is free before it sleeps. It pauses between two looks, for some
+/// microseconds in all, which is several calls made under the lock. It never yields its core: on a busy machine a
+/// process that computes would keep it for milliseconds.
+const LOOKS: u32 = 8;
 
 /// Takes the lock.
 pub(crate) fn lock<'a, T: Drop, R: Wait>(mutex: &'a Mutex<T>, rt: &R) -> MutexGuard<'a, T> {
@@ -14,7 +15,7 @@ pub(crate) fn lock<'a, T: Drop, R: Wait>(mutex: &'a Mutex<T>, rt: &R) -> MutexGu
         if let Some(guard) = mutex.try_lock() {
             return guard;
         }
-        backoff.snooze();
+        backoff.spin();
     }
     mutex.lock(rt)
 }

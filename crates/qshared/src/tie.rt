@@ -1,26 +1,32 @@
 //! Which kernel the parts of a shared kernel belong to.
-ghost use Rattle.std.specs.Prelude.{List, [], ℕ};
-ghost use Rattle.atomic_table.specs.Seated.{TableId};
-ghost use Rattle.qtables.specs.declared.member.Member.{Member};
+ghost use Rattle.std.specs.Prelude.{◌≡◌, []};
+ghost use Rattle.qshared.specs.Names.{Names};
 
-use std::marker::Brand;
+use std::marker::{Brand, PhantomData};
 use std::sync::ledger::Ledger;
 
-/// Names one kernel: its roster, its cells, its threads' lists of calls and its ledger. It has no functions. A program
-/// writes a function over `K: Tie` that takes the parts, and calls it with `Brand`.
+/// Names one kernel: its roster, its cells, its threads' lists of calls, its limit and its ledger. It has no functions.
+/// A program writes a function over `K: Tie` that takes the parts, and calls it with `Brand`.
 pub trait Tie: Ledger {
-    ghost roster: { List Member };
-
-    ghost cells: { TableId };
-
-    // What names the list of each thread's calls, by the number of its cell.
-    ghost lists: { List ℕ };
+    ghost names: { Names };
 }
 
 impl Tie for Brand {
-    ghost roster = { [] };
+    ghost names = { record { roster = []; cells = record { words = 0; slots = 0; views_name = 0; atom = 0; block = 0; offset = 0; slot_names = [] }; lists = []; limit = 0 } };
+}
 
-    ghost cells = { record { words = 0; slots = 0; views_name = 0; atom = 0; block = 0; offset = 0; slot_names = [] } };
+/// That the ledger has as many parts as there are cells. It has no bytes, and stands apart since a struct with a share
+/// of the ledger can't name its parts.
+#[derive(Drop)]
+pub(crate) struct Whole<K: Tie> {
+    of: PhantomData<K>,
+    ghost is: { K.parts ≡ K.names.cells.slots },
+}
 
-    ghost lists = { [] };
+impl<K: Tie> Whole<K> {
+    pub(crate) fn new() -> Whole<K>
+        requires { K.parts ≡ K.names.cells.slots }
+    {
+        Whole { of: PhantomData }
+    }
 }

@@ -1,6 +1,8 @@
 //! A kernel with its past, and the kernel's seat of the cells.
 ghost use Rattle.std.specs.Prelude.{◌≡◌, ◌≤◌, ◌^◌, [], length, if◌then◌else◌};
 ghost use Rattle.qmodel.specs.Facts.{threads_of};
+ghost use Rattle.qmodel.specs.Lawful.{IsLawful};
+ghost use Rattle.qmodel.specs.Properties.{HasProperties};
 ghost use Rattle.qstate.specs.Thread.{members_of};
 ghost use Rattle.qkernel.specs.Stands.{StandsAt};
 ghost use Rattle.qhandoff.specs.Steps.{seated_desk};
@@ -31,7 +33,7 @@ pub struct Traced<K: Tie, L: Log> {
     pub(crate) threads: Vec<ThreadNo>,
     // Lent to each step; empty between two.
     pub(crate) endings: Endings,
-    // The bit of each thread whose cell the last call filled.
+    // The bit of each other thread whose cell the last call filled.
     pub(crate) woken: u64,
     pub(crate) log: L,
     pub(crate) of: PhantomData<K>,
@@ -40,13 +42,13 @@ pub struct Traced<K: Tie, L: Log> {
 impl<K: Tie, L: Log> Model for Traced<K, L> {
     ghost use Rattle.std.specs.Prelude.{◌≡◌};
     ghost use Rattle.qhandoff.specs.Words.{kernel_id, desk};
-    ghost use Rattle.qshared.specs.Held.{Held, IsHeld};
+    ghost use Rattle.qshared.specs.UnderLock.{UnderLock, IsUnderLock};
 
-    ghost Value = { Held };
+    ghost Value = { UnderLock };
 
-    ghost view = { λ t. record { kernel = t.kernel; desk = desk t.seat; past = L.past t.log; limit = L.limit t.log } };
+    ghost view = { λ t. record { kernel = t.kernel; desk = desk t.seat; past = L.past t.log } };
 
-    ghost invariant = { λ t. (kernel_id t.seat ≡ K.cells) × (L.roster t.log ≡ K.roster) × IsHeld K.roster K.cells.slots t.kernel (desk t.seat) t.threads.items (L.past t.log) t.endings.items };
+    ghost invariant = { λ t. (kernel_id t.seat ≡ K.names.cells) × (L.roster t.log ≡ K.names.roster) × IsUnderLock K.names.roster K.names.cells.slots t.kernel (desk t.seat) t.threads.items (L.past t.log) t.endings.items };
 }
 
 // What a call came to that is an event.
@@ -68,10 +70,10 @@ impl<K: Tie, L: Log> Traced<K, L> {
         threads: Vec<ThreadNo>,
         log: L,
     ) -> Traced<K, L>
-        requires log { (L.roster log ≡ K.roster) × (L.past log ≡ []) }
-        requires seat { (kernel_id seat ≡ K.cells) × (desk seat ≡ seated_desk K.cells.slots K.cells.slots) }
-        requires roster { (members_of kernel.threads ≡ K.roster) × StandsAt (members_of kernel.threads) kernel [] }
-        requires threads { (threads.items ≡ threads_of (members_of kernel.threads)) × (length threads.items ≡ K.cells.slots) }
+        requires log { (L.roster log ≡ K.names.roster) × (L.past log ≡ []) }
+        requires seat { (kernel_id seat ≡ K.names.cells) × (desk seat ≡ seated_desk K.names.cells.slots K.names.cells.slots) }
+        requires roster { (members_of kernel.threads ≡ K.names.roster) × StandsAt (members_of kernel.threads) kernel [] }
+        requires threads { (threads.items ≡ threads_of (members_of kernel.threads)) × (length threads.items ≡ K.names.cells.slots) }
         ensures { result.past ≡ [] }
     {
         let _made = kernel.made();
@@ -87,9 +89,10 @@ impl<K: Tie, L: Log> Traced<K, L> {
         }
     }
 
-    /// How many events the past has.
+    /// How many events the past has, which is lawful.
     pub fn len(&self) -> u64
         ensures value { result ≡ length self.now.past }
+        ensures lawful { IsLawful K.names.roster self.now.past × HasProperties K.names.roster self.now.past }
         ensures few { result ≤ 2 ^ 40 }
     {
         self.kernel.made()
@@ -100,9 +103,8 @@ impl<K: Tie, L: Log> Traced<K, L> {
     /// in the roster, `Down` after Shutdown, `Busy` where the thread has an open call or an ending that it didn't
     /// take, and then what the log refuses.
     pub fn perform(&mut self, cells: &Cells<Completion>, thread: ThreadNo, call: Call) -> Performed
-        requires { cells_id cells.now ≡ K.cells }
-        ensures performs { Performs K.roster L.refuses L.admits self.old thread call result self.new }
-        ensures limit { self.new.limit ≡ self.old.limit }
+        requires { cells_id cells.now ≡ K.names.cells }
+        ensures { Performs K.names.roster L.refuses L.admits self.old thread call result self.new }
     {
         self.woken = 0;
         let Some(place) = place_of(&self.threads, thread) else {

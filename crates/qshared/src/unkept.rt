@@ -1,7 +1,8 @@
 //! A past that is kept nowhere.
 
-ghost use Rattle.std.specs.Prelude.{◌≡◌, List, [], true};
-ghost use Rattle.qtables.specs.declared.member.Member.{Member};
+ghost use Rattle.std.specs.Prelude.{◌≡◌, ◌+◌, ◌<◌, ◌^◌, [], length, false, true};
+ghost use Rattle.qmodel.specs.Past.{is_down};
+ghost use Rattle.qmodel.specs.Effects.{shuts_down};
 
 use crate::log::Log;
 use crate::tie::Tie;
@@ -15,13 +16,15 @@ use std::marker::PhantomData;
 use std::snapshot::Snapshot;
 
 /// A past that proofs alone have: nothing is kept, nothing is copied, and there is no limit but the kernel's own of
-/// 2^40 calls. It has no bytes.
+/// 2^40 calls, of which the last is left to Shutdown. It has no bytes.
 #[derive(Drop)]
 pub struct Unkept<K: Tie> {
     past: Past,
-    // The call that was noted.
+    // The call that was noted and isn't an event yet, or else Shutdown.
     call: Snapshot<Call>,
     of: PhantomData<K>,
+    ghost spare: { is_down past.trace ≡ false → length past.trace < 2 ^ 40 },
+    ghost admitted: { shuts_down call.value ≡ false → length past.trace + 1 < 2 ^ 40 },
 }
 
 impl<K: Tie> Unkept<K> {
@@ -38,10 +41,10 @@ impl<K: Tie> Unkept<K> {
 }
 
 impl<K: Tie> Log for Unkept<K> {
-    ghost use Rattle.std.specs.Prelude.{◌^◌, true};
+    ghost use Rattle.std.specs.Prelude.{true};
     ghost use Rattle.qshared.specs.Unkept.{admits_unkept, refuses_unkept};
 
-    ghost roster = { λ _. K.roster };
+    ghost roster = { λ _. K.names.roster };
 
     ghost past = { λ l. l.past.trace };
 
@@ -49,14 +52,12 @@ impl<K: Tie> Log for Unkept<K> {
 
     ghost noted = { λ l. l.call.value };
 
-    ghost limit = { λ _. 2 ^ 40 };
-
     ghost refuses = { refuses_unkept };
 
     ghost admits = { admits_unkept };
 
     fn note(&mut self, made: u64, call: &Call) -> Result<(), Errno> {
-        if made >= CALL_LIMIT {
+        if !matches!(call, Call::Shutdown) && made >= CALL_LIMIT - 1 {
             return Err(Errno::Exhausted);
         }
         self.call = Snapshot::of(call);
@@ -65,5 +66,6 @@ impl<K: Tie> Log for Unkept<K> {
 
     fn event(&mut self, thread: ThreadNo, endings: &Endings) {
         self.past = self.past.with(&thread, &self.call, endings);
+        self.call = Snapshot::of(&Call::Shutdown);
     }
 }

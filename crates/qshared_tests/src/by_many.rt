@@ -155,9 +155,9 @@ fn many<K: Tie + Send + Sync, R: Threads + Wait + Abort + Sync>(
     parts: Parts,
     size: Size,
 ) -> Report
-    requires named { AreParts K.roster K.cells K.lists K.name K.parts parts }
+    requires named { AreParts K.names K.name K.parts parts }
 {
-    let (shared, ports) = Shared::<K, Kept<K>>::open(alloc, parts).expect(rt, "a kernel");
+    let (shared, ports) = Shared::<K, Kept<K>>::open(parts).expect(rt, "a kernel");
     let ports = all_threads(rt, alloc, &shared, ports, size);
     finished(rt, shared, ports)
 }
@@ -169,9 +169,9 @@ fn many_and_no_past<K: Tie + Send + Sync, R: Threads + Wait + Abort + Sync>(
     parts: Parts,
     size: Size,
 ) -> Tally
-    requires named { AreParts K.roster K.cells K.lists K.name K.parts parts }
+    requires named { AreParts K.names K.name K.parts parts }
 {
-    let (shared, ports) = Shared::<K, Unkept<K>>::open(alloc, parts).expect(rt, "a kernel");
+    let (shared, ports) = Shared::<K, Unkept<K>>::open(parts).expect(rt, "a kernel");
     let ports = all_threads(rt, alloc, &shared, ports, size);
     tallied(rt, shared, ports)
 }
@@ -230,7 +230,7 @@ fn no_past_is_kept(rt: HostRuntime) {
         rounds: 250_000,
     };
     let roster = roster(&rt, alloc, size);
-    let parts = Parts::unkept(alloc, &roster).expect(&rt, "parts");
+    let parts = Parts::new(alloc, &roster, 2).expect(&rt, "parts");
     let tally = many_and_no_past::<Brand, _>(&rt, alloc, parts, size);
     assert!(rt; tally.left.is_empty());
     assert!(rt; tally.calls.len() == 7);

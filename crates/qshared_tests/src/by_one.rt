@@ -142,9 +142,9 @@ fn one_thread_with_both_ports<K: Tie>(
     alloc: Global,
     parts: Parts,
 ) -> Report
-    requires named { AreParts K.roster K.cells K.lists K.name K.parts parts }
+    requires named { AreParts K.names K.name K.parts parts }
 {
-    let (shared, mut ports) = Shared::<K, Kept<K>>::open(alloc, parts).expect(rt, "a kernel");
+    let (shared, mut ports) = Shared::<K, Kept<K>>::open(parts).expect(rt, "a kernel");
     let mut client = ports.pop().expect(rt, "a client");
     let mut server = ports.pop().expect(rt, "a server");
     send_over_a_channel(rt, alloc, &shared, &mut server, &mut client);
@@ -192,9 +192,9 @@ fn both_ports_in_one_thread(rt: HostRuntime) {
 
 /// A server that is blocked in a Receive and doesn't collect what the client's Shutdown ends it with.
 fn left_uncollected<K: Tie>(rt: &(impl Wait + Abort), alloc: Global, parts: Parts) -> Report
-    requires named { AreParts K.roster K.cells K.lists K.name K.parts parts }
+    requires named { AreParts K.names K.name K.parts parts }
 {
-    let (shared, mut ports) = Shared::<K, Kept<K>>::open(alloc, parts).expect(rt, "a kernel");
+    let (shared, mut ports) = Shared::<K, Kept<K>>::open(parts).expect(rt, "a kernel");
     let mut client = ports.pop().expect(rt, "a client");
     let mut server = ports.pop().expect(rt, "a server");
     let created = server.call(&shared, rt, Call::ChannelCreate(ChannelFlags::of(0)));
@@ -224,9 +224,9 @@ fn what_is_not_collected_is_left(rt: HostRuntime) {
 
 /// Two events fill a trace for two: one, and the Shutdown for which room is kept.
 fn filled<K: Tie>(rt: &(impl Wait + Abort), alloc: Global, parts: Parts) -> Report
-    requires named { AreParts K.roster K.cells K.lists K.name K.parts parts }
+    requires named { AreParts K.names K.name K.parts parts }
 {
-    let (shared, mut ports) = Shared::<K, Kept<K>>::open(alloc, parts).expect(rt, "a kernel");
+    let (shared, mut ports) = Shared::<K, Kept<K>>::open(parts).expect(rt, "a kernel");
     let mut client = ports.pop().expect(rt, "a client");
     let state = done(rt, client.call(&shared, rt, Call::State(ThreadNo(2))));
     assert!(rt; state.call == 1);
@@ -272,9 +272,9 @@ fn the_trace_limit_is_two_to_a_million(rt: HostRuntime) {
 
 /// The same on a kernel that keeps no past, up to a Shutdown.
 fn both_ports_and_no_past<K: Tie>(rt: &(impl Wait + Abort), alloc: Global, parts: Parts) -> Tally
-    requires named { AreParts K.roster K.cells K.lists K.name K.parts parts }
+    requires named { AreParts K.names K.name K.parts parts }
 {
-    let (shared, mut ports) = Shared::<K, Unkept<K>>::open(alloc, parts).expect(rt, "a kernel");
+    let (shared, mut ports) = Shared::<K, Unkept<K>>::open(parts).expect(rt, "a kernel");
     let mut client = ports.pop().expect(rt, "a client");
     let mut server = ports.pop().expect(rt, "a server");
     send_over_a_channel(rt, alloc, &shared, &mut server, &mut client);
@@ -295,7 +295,7 @@ fn both_ports_and_no_past<K: Tie>(rt: &(impl Wait + Abort), alloc: Global, parts
 fn both_ports_of_a_kernel_that_keeps_no_past(rt: HostRuntime) {
     let alloc = rt.alloc();
     let roster = two_threads(&rt, alloc);
-    let parts = Parts::unkept(alloc, &roster).expect(&rt, "parts");
+    let parts = Parts::new(alloc, &roster, 2).expect(&rt, "parts");
     let mut tally = both_ports_and_no_past::<Brand>(&rt, alloc, parts);
     assert!(rt; tally.calls.as_slice() == [4, 3].as_slice());
     assert!(rt; tally.left.len() == 1);
@@ -304,9 +304,9 @@ fn both_ports_of_a_kernel_that_keeps_no_past(rt: HostRuntime) {
 
 /// Ports in another order, or not all of them, aren't all.
 fn not_all<K: Tie>(rt: &impl Abort, alloc: Global, parts: Parts)
-    requires named { AreParts K.roster K.cells K.lists K.name K.parts parts }
+    requires named { AreParts K.names K.name K.parts parts }
 {
-    let (shared, mut ports) = Shared::<K, Kept<K>>::open(alloc, parts).expect(rt, "a kernel");
+    let (shared, mut ports) = Shared::<K, Kept<K>>::open(parts).expect(rt, "a kernel");
     assert!(rt; shared.all(&ports));
     ports.reverse();
     assert!(rt; !shared.all(&ports));

@@ -120,7 +120,6 @@ pub fn attached<K: Tie, L: Log>(
 
 /// The report of a kernel whose ports are all of these.
 pub fn finished<K: Tie>(rt: &impl Abort, shared: Shared<K, Kept<K>>, ports: Vec<Port<K>>) -> Report
-    requires { K.parts ≡ K.cells.slots }
 {
     if !shared.all(&ports) {
         panic!(rt; "not all ports");
@@ -130,7 +129,6 @@ pub fn finished<K: Tie>(rt: &impl Abort, shared: Shared<K, Kept<K>>, ports: Vec<
 
 /// The same of a kernel that keeps no past.
 pub fn tallied<K: Tie>(rt: &impl Abort, shared: Shared<K, Unkept<K>>, ports: Vec<Port<K>>) -> Tally
-    requires { K.parts ≡ K.cells.slots }
 {
     if !shared.all(&ports) {
         panic!(rt; "not all ports");

@@ -27,11 +27,11 @@ pub new-port-requires-clause-seat : goal.new-port-requires-clause-seat
 new-port-requires-clause-seat g c =
     let t = YieldsList-turn (YieldsList-from_vec {s = c.into_iter-seat-iterator.result} c.args.seats.items c.into_iter-seat-iterator.ensures.into_iter_gives.0 (c.into_iter-seat-iterator.ensures.into_iter_gives.1 ∙ c.args.seats.ok.0)) c.loop-seat.yielded c.loop-seat.seat-iterator c.loop-seat.yielded_by c.next.result c.next.new.self c.in-Some.seat c.in-Some.is c.next.ensures.steps in
     let row = c.requires.seats.1 (length c.loop-seat.yielded) c.in-Some.seat (at_index c.args.seats.items (length c.loop-seat.yielded) c.in-Some.seat t.0 t.1) in
-    let ts = threads_of g.K.Tie.roster in
+    let ts = threads_of g.K.Tie.names.roster in
     let same : c.args.threads.now ≡ ts = c.requires.roster.1 in
     let below : c.thread.result < length ts = omega (arith, c.thread.ensures.within, ap (λ z. z.slots) row.0, c.requires.sized, ap length same) in
     let d = c.index-threads-thread.result in
-    (row.0, ap (place ts) (c.index-threads-thread.is ∙ ap (λ xs. get_or xs c.thread.result d) same) ∙ place_at ts c.thread.result d (rises g.K.Tie.roster c.requires.roster.0) below ∙ ap Some c.thread.ensures.number)
+    (row.0, ap (place ts) (c.index-threads-thread.is ∙ ap (λ xs. get_or xs c.thread.result d) same) ∙ place_at ts c.thread.result d (rises g.K.Tie.names.roster c.requires.roster.0) below ∙ ap Some c.thread.ensures.number)
 
 pub new-port-requires-clause-asked : goal.new-port-requires-clause-asked
 new-port-requires-clause-asked g c =
@@ -69,11 +69,11 @@ returns-clause-ports g c =
     let t = YieldsList-end (YieldsList-from_vec {s = c.into_iter-seat-iterator.result} c.args.seats.items c.into_iter-seat-iterator.ensures.into_iter_gives.0 (c.into_iter-seat-iterator.ensures.into_iter_gives.1 ∙ c.args.seats.ok.0)) c.loop-seat.yielded c.loop-seat.seat-iterator c.loop-seat.yielded_by c.next.result c.next.new.self c.in-None.is c.next.ensures.steps in
     let v = c.loop-seat.invariant in let seats = c.requires.seats in (
       v.4 ∙ t.1 ∙ seats.0 ∙ c.requires.sized,
-      λ k p at. (ports_fresh (λ q. q.seat) g.K.Tie.cells c.args.seats.items c.loop-seat.ports.items (v.0 ∙ sym (map_same c.loop-seat.yielded) ∙ t.0) seats.1 seats.2 k p at).0,
+      λ k p at. (ports_fresh (λ q. q.seat) g.K.Tie.names.cells c.args.seats.items c.loop-seat.ports.items (v.0 ∙ sym (map_same c.loop-seat.yielded) ∙ t.0) seats.1 seats.2 k p at).0,
     )
 
 pub returns-clause-new : goal.returns-clause-new
 returns-clause-new g c =
     let t = YieldsList-end (YieldsList-from_vec {s = c.into_iter-seat-iterator.result} c.args.seats.items c.into_iter-seat-iterator.ensures.into_iter_gives.0 (c.into_iter-seat-iterator.ensures.into_iter_gives.1 ∙ c.args.seats.ok.0)) c.loop-seat.yielded c.loop-seat.seat-iterator c.loop-seat.yielded_by c.next.result c.next.new.self c.in-None.is c.next.ensures.steps in
     let v = c.loop-seat.invariant in let seats = c.requires.seats in
-    λ k p at. ((v.1 k p at).0, (v.1 k p at).1, (ports_fresh (λ q. q.seat) g.K.Tie.cells c.args.seats.items c.loop-seat.ports.items (v.0 ∙ sym (map_same c.loop-seat.yielded) ∙ t.0) seats.1 seats.2 k p at).1, (v.1 k p at).2)
+    λ k p at. ((v.1 k p at).0, (v.1 k p at).1, (ports_fresh (λ q. q.seat) g.K.Tie.names.cells c.args.seats.items c.loop-seat.ports.items (v.0 ∙ sym (map_same c.loop-seat.yielded) ∙ t.0) seats.1 seats.2 k p at).1, (v.1 k p at).2)

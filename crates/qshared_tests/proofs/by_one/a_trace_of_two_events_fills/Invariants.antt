@@ -1,10 +1,8 @@
-use Rattle.std.specs.Prelude.{map}
-use Rattle.qstate.specs.Thread.{members_of}
-use Rattle.qhandoff.specs.Words.{cells_id}
+use Rattle.qshared.specs.Naming.{ledger_of, names_of, shares_of}
 use Rattle.qshared_tests.proofs.by_one.a_trace_of_two_events_fills.Given as goal
 
 abbrev pub ghosts-filled-K-Ledger : goal.ghosts-filled-K-Ledger
-ghosts-filled-K-Ledger g a = record { name = a.parts.blank.name; parts = a.parts.blank.parts }
+ghosts-filled-K-Ledger g a = record { name = ledger_of a.parts; parts = shares_of a.parts }
 
 abbrev pub ghosts-filled-K-Tie : goal.ghosts-filled-K-Tie
-ghosts-filled-K-Tie g a = record { roster = members_of a.parts.kernel.threads; cells = cells_id a.parts.cells; lists = map (λ h. h.name) a.parts.heard.items }
+ghosts-filled-K-Tie g a = record { names = names_of a.parts }

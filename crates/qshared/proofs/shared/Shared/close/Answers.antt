@@ -1,4 +1,4 @@
-use Rattle.std.proofs.Common.{◌≡◌, ℕ, [], sym, subst, ap, ◌∙◌, map, length, get_or, ◌++◌, ◌<◌, arith}
+use Rattle.std.proofs.Common.{◌≡◌, ℕ, [], refl, sym, subst, ap, ◌∙◌, map, length, get_or, ◌++◌, ◌<◌, arith}
 use Rattle.std.specs.Prelude.{Some}
 use Rattle.std.proofs.lemmas.List.{length-map}
 use lib.ListN.{get_elem?}
@@ -7,8 +7,8 @@ use Rattle.qmodel.proofs.Rosters.{rises}
 use Rattle.qhandoff.specs.Words.{cells_id, count, took, left_for, AreBelow, IsRow}
 use Rattle.qmodel.specs.Laws.{RiseByThread}
 use Rattle.qshared.specs.Asking.{calls_of}
-use Rattle.qshared.specs.Due.{endings_due, of_thread, place}
-use Rattle.qshared.proofs.Leftover.{few_left, left_by_thread, left_due}
+use Rattle.qshared.specs.Due.{AreKnown, endings_due, of_thread, place}
+use Rattle.qshared.proofs.Leftover.{few_left, left_by_thread, left_due, left_known}
 use Rattle.qshared.proofs.Lists.{map_both, names_of}
 use Rattle.qshared.proofs.Places.{place_below}
 use Rattle.qshared.proofs.Rows.{seats_row}
@@ -31,8 +31,8 @@ pub agree-requires : goal.agree-requires
 agree-requires g c =
     let under = c.into_inner-traced.result in
     let ports = c.args.ports.items in
-    let named = names_of (λ p. p.asked.name) ports g.K.Tie.lists (c.requires.all.0 ∙ sym under.named.1 ∙ sym (length-map under.heard.items (λ h. h.name)) ∙ ap length under.named.0)
-    (λ k p at. ap (λ j. get_or g.K.Tie.lists j 0) (sym (c.requires.all.1 k p at)) ∙ p.asked_is) in
+    let named = names_of (λ p. p.asked.name) ports g.K.Tie.names.lists (c.requires.all.0 ∙ sym under.named.1 ∙ sym (length-map under.heard.items (λ h. h.name)) ∙ ap length under.named.0)
+    (λ k p at. ap (λ j. get_or g.K.Tie.names.lists j 0) (sym (c.requires.all.1 k p at)) ∙ p.asked_is) in
     ap (map (λ a. a.name)) c.gather.ensures.asked ∙ map_both (λ a. a.name) (λ p. p.asked) ports ∙ named ∙ sym under.named.0
 
 pub returns-clause-asked : goal.returns-clause-asked
@@ -42,26 +42,36 @@ returns-clause-asked g c = λ t i at.
 
 pub returns-clause-sum : goal.returns-clause-sum
 returns-clause-sum g c =
-    let whole : c.gather.new.spare.parts ≡ g.K.Ledger.parts = c.gather.ensures.spare.0 ∙ c.requires.all.0 ∙ sym c.requires.named in
+    let whole : c.gather.new.spare.parts ≡ g.K.Ledger.parts = c.gather.ensures.spare.0 ∙ c.requires.all.0 ∙ sym c.into_inner-traced.result.whole.is in
     sym c.gather.ensures.spare.1 ∙ c.audit.ensures.whole whole ∙ sym c.into_inner-traced.result.counted ∙ ap (λ z. length z.past) (sym c.traced.view_is)
 
 pub returns-clause-rises : goal.returns-clause-rises
 returns-clause-rises g c =
     let h = c.traced.invariant.2 in
-    let ts = threads_of g.K.Tie.roster in
-    let long : count c.args.self.cells ≡ length ts = ap (λ y. y.slots) c.args.self.cells_are ∙ sym h.sized ∙ sym (length-map g.K.Tie.roster (λ m. m.thread)) in
+    let ts = threads_of g.K.Tie.names.roster in
+    let long : count c.args.self.cells ≡ length ts = ap (λ y. y.slots) c.args.self.cells_are ∙ sym h.sized ∙ sym (length-map g.K.Tie.names.roster (λ m. m.thread)) in
     let below : AreBelow (length ts) c.close-left.result.items = subst (λ n. AreBelow n c.close-left.result.items) long c.close-left.ensures.within in
     let told : (t i : ℕ) → place ts t ≡ Some i → took (get_elem? (map (λ p. p.seat) c.args.ports.items) i) ++ left_for i c.close-left.result.items ≡ endings_due (g.L.Log.past c.traced.inside.log) t =
     λ t i at. ap (λ ss. took (get_elem? ss i) ++ left_for i c.close-left.result.items) (sym c.gather.ensures.seats) ∙ c.close-left.ensures.told i (subst (λ n. i < n) (sym long) (place_below ts t i at)) ∙ (h.told.tied t i at).0 in
-    subst RiseByThread (sym c.without_places.ensures) (left_by_thread ts (g.L.Log.past c.traced.inside.log) c.close-left.result.items (rises g.K.Tie.roster h.rises) c.close-left.ensures.rises below (λ i. took (get_elem? (map (λ p. p.seat) c.args.ports.items) i)) told)
+    subst RiseByThread (sym c.without_places.ensures) (left_by_thread ts (g.L.Log.past c.traced.inside.log) c.close-left.result.items (rises g.K.Tie.names.roster h.rises) c.close-left.ensures.rises below (λ i. took (get_elem? (map (λ p. p.seat) c.args.ports.items) i)) told)
+
+pub returns-clause-known : goal.returns-clause-known
+returns-clause-known g c =
+    let h = c.traced.invariant.2 in
+    let ts = threads_of g.K.Tie.names.roster in
+    let long : count c.args.self.cells ≡ length ts = ap (λ y. y.slots) c.args.self.cells_are ∙ sym h.sized ∙ sym (length-map g.K.Tie.names.roster (λ m. m.thread)) in
+    let below : AreBelow (length ts) c.close-left.result.items = subst (λ n. AreBelow n c.close-left.result.items) long c.close-left.ensures.within in
+    let told : (t i : ℕ) → place ts t ≡ Some i → took (get_elem? (map (λ p. p.seat) c.args.ports.items) i) ++ left_for i c.close-left.result.items ≡ endings_due (g.L.Log.past c.traced.inside.log) t =
+    λ t i at. ap (λ ss. took (get_elem? ss i) ++ left_for i c.close-left.result.items) (sym c.gather.ensures.seats) ∙ c.close-left.ensures.told i (subst (λ n. i < n) (sym long) (place_below ts t i at)) ∙ (h.told.tied t i at).0 in
+    subst (AreKnown g.K.Tie.names.roster) (sym c.without_places.ensures) (left_known ts (g.L.Log.past c.traced.inside.log) c.close-left.result.items (rises g.K.Tie.names.roster h.rises) c.close-left.ensures.rises below (λ i. took (get_elem? (map (λ p. p.seat) c.args.ports.items) i)) told g.K.Tie.names.roster refl)
 
 pub returns-clause-due : goal.returns-clause-due
 returns-clause-due g c =
     let h = c.traced.invariant.2 in
-    let ts = threads_of g.K.Tie.roster in
-    let long : count c.args.self.cells ≡ length ts = ap (λ y. y.slots) c.args.self.cells_are ∙ sym h.sized ∙ sym (length-map g.K.Tie.roster (λ m. m.thread)) in
+    let ts = threads_of g.K.Tie.names.roster in
+    let long : count c.args.self.cells ≡ length ts = ap (λ y. y.slots) c.args.self.cells_are ∙ sym h.sized ∙ sym (length-map g.K.Tie.names.roster (λ m. m.thread)) in
     let below : AreBelow (length ts) c.close-left.result.items = subst (λ n. AreBelow n c.close-left.result.items) long c.close-left.ensures.within in
     let told : (t i : ℕ) → place ts t ≡ Some i → took (get_elem? (map (λ p. p.seat) c.args.ports.items) i) ++ left_for i c.close-left.result.items ≡ endings_due (g.L.Log.past c.traced.inside.log) t =
     λ t i at. ap (λ ss. took (get_elem? ss i) ++ left_for i c.close-left.result.items) (sym c.gather.ensures.seats) ∙ c.close-left.ensures.told i (subst (λ n. i < n) (sym long) (place_below ts t i at)) ∙ (h.told.tied t i at).0 in
     subst (λ left. (t i : ℕ) → place ts t ≡ Some i → took (get_elem? (map (λ p. p.seat) c.args.ports.items) i) ++ of_thread t left ≡ endings_due (g.L.Log.past c.traced.inside.log) t) (sym c.without_places.ensures)
-    (left_due ts (g.L.Log.past c.traced.inside.log) c.close-left.result.items (rises g.K.Tie.roster h.rises) c.close-left.ensures.rises below (λ i. took (get_elem? (map (λ p. p.seat) c.args.ports.items) i)) told)
+    (left_due ts (g.L.Log.past c.traced.inside.log) c.close-left.result.items (rises g.K.Tie.names.roster h.rises) c.close-left.ensures.rises below (λ i. took (get_elem? (map (λ p. p.seat) c.args.ports.items) i)) told)

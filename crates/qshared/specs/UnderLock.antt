@@ -12,26 +12,25 @@ use Rattle.qkernel.specs.Kernel.{State}
 use Rattle.qhandoff.specs.declared.view.Desk.{Desk}
 use Rattle.qshared.specs.Due.{IsTied}
 
--- what contracts see of it: the kernel, what its seat knows of the cells, the past, and how many events the past may have
-pub record Held : Type 0 where
+-- what contracts see of it: the kernel, what its seat knows of the cells, and the past
+pub record UnderLock : Type 0 where
   pub kernel : State
   pub desk : Desk Completion
   pub past : Trace
-  pub limit : ℕ
 
 -- the past is lawful and has the six properties, the kernel stands at it, and the cells were given what is due
-pub record IsTold (roster : List Member) (kernel : State) (d : Desk Completion) (past : Trace) : Type 0 where
+pub record Agrees (roster : List Member) (kernel : State) (d : Desk Completion) (past : Trace) : Type 0 where
   pub lawful : IsLawful roster past
   pub properties : HasProperties roster past
   pub stands : StandsAt roster kernel past
   pub tied : IsTied roster d past
 
--- what is so whenever the lock is free, of the kernel of this roster: beside that, the cells are as many as its threads, and no ending is left over
-pub record IsHeld (roster : List Member) (slots : ℕ) (kernel : State) (d : Desk Completion) (threads : List ℕ) (past : Trace) (endings : List Completion) : Type 0 where
+-- what holds whenever the lock is free, for the kernel of this roster: beside that, there are as many cells as threads, and no ending is left over
+pub record IsUnderLock (roster : List Member) (slots : ℕ) (kernel : State) (d : Desk Completion) (threads : List ℕ) (past : Trace) (endings : List Completion) : Type 0 where
   pub rises : IsRoster roster
   pub sized : length roster ≡ slots
   pub few : slots ≤ 64
   pub threads_are : threads ≡ threads_of roster
-  pub told : IsTold roster kernel d past
+  pub told : Agrees roster kernel d past
   pub numbered : length past ≤ 2 ^ 40
   pub emptied : endings ≡ []
