@@ -14,3 +14,5 @@ mod making;
 mod rerun;
 #[cfg(test)]
 mod server;
+#[cfg(test)]
+mod waking;

@@ -119,8 +119,11 @@ pub fn attached<K: Tie, L: Log>(
 }
 
 /// The report of a kernel whose ports are all of these.
-pub fn finished<K: Tie>(rt: &impl Abort, shared: Shared<K, Kept<K>>, ports: Vec<Port<K>>) -> Report
-{
+pub fn finished<K: Tie>(
+    rt: &impl Abort,
+    shared: Shared<K, Kept<K>>,
+    ports: Vec<Port<K>>,
+) -> Report {
     if !shared.all(&ports) {
         panic!(rt; "not all ports");
     }
@@ -128,8 +131,11 @@ pub fn finished<K: Tie>(rt: &impl Abort, shared: Shared<K, Kept<K>>, ports: Vec<
 }
 
 /// The same of a kernel that keeps no past.
-pub fn tallied<K: Tie>(rt: &impl Abort, shared: Shared<K, Unkept<K>>, ports: Vec<Port<K>>) -> Tally
-{
+pub fn tallied<K: Tie>(
+    rt: &impl Abort,
+    shared: Shared<K, Unkept<K>>,
+    ports: Vec<Port<K>>,
+) -> Tally {
     if !shared.all(&ports) {
         panic!(rt; "not all ports");
     }

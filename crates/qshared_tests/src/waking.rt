@@ -1,0 +1,201 @@
+//! One call that ends the calls of eight threads that sleep must wake all of them.
+
+ghost use Rattle.qshared.specs.Naming.{AreParts};
+
+use crate::making::{attached, bytes, done, ended, parts, priority};
+use qbase::errno::Errno;
+use qbase::flags::ChannelFlags;
+use qbase::ids::{ChannelId, ProcessNo, ThreadNo};
+use qbase::state::ThreadState;
+use qkernel::call::{Call, Mark};
+use qshared::log::Log;
+use qshared::parts::Parts;
+use qshared::port::Port;
+use qshared::shared::Shared;
+use qshared::tie::Tie;
+use qshared::unkept::Unkept;
+use qtables::roster::Roster;
+use std::alloc::Global;
+use std::marker::Brand;
+use std::process::Abort;
+use std::sync::Wait;
+use std::sync::atomic::{AtomicU64, Ordering};
+use std::thread;
+use std::thread::{Threads, join};
+
+/// Threads 1 to 4 receive, 5 to 8 send, and thread 9 ends their calls.
+const SLEEPERS: u8 = 8;
+
+/// The first that sends.
+const FIRST_CLIENT: u8 = 5;
+
+/// How often the ninth asks for a thread's state, so that the others have time to fall asleep: some milliseconds.
+const QUIET: u32 = 20_000;
+
+/// How often it then looks whether all are awake: some seconds.
+const PATIENCE: u32 = 20_000_000;
+
+/// Eight threads that sleep, and the one that wakes them, which owns the channel as the servers do.
+fn roster(rt: &impl Abort, alloc: Global) -> Roster {
+    let mut roster = Roster::new(alloc);
+    for number in 1..10u8 {
+        let process = if number < FIRST_CLIENT || number > SLEEPERS {
+            1
+        } else {
+            2
+        };
+        let joined = roster.add(ThreadNo(number), ProcessNo(process), priority(rt, 10));
+        assert!(rt; joined.is_ok());
+    }
+    roster
+}
+
+/// A server takes messages and answers none, until its Receive is ended by force.
+fn serve<K: Tie, L: Log>(
+    rt: &(impl Wait + Abort),
+    alloc: Global,
+    shared: &Shared<K, L>,
+    port: &mut Port<K>,
+) {
+    for _ in rt.forever() {
+        let receive = Call::Receive {
+            chid: ChannelId(1),
+            buffer: bytes(rt, alloc, &[]),
+        };
+        match ended(rt, shared, port, receive).mark {
+            Mark::Message { .. } => {}
+            mark => {
+                assert!(rt; mark == Mark::Failed(Errno::Srch));
+                return;
+            }
+        }
+    }
+}
+
+/// A client sends a message, which is never answered: its Send is ended by force.
+fn send<K: Tie, L: Log>(
+    rt: &(impl Wait + Abort),
+    alloc: Global,
+    shared: &Shared<K, L>,
+    port: &mut Port<K>,
+) {
+    let coid = attached(rt, shared, port, ChannelId(1));
+    let send = Call::Send {
+        coid,
+        message: bytes(rt, alloc, &[1]),
+        reply_buffer: bytes(rt, alloc, &[]),
+    };
+    let ending = ended(rt, shared, port, send);
+    assert!(rt; ending.mark == Mark::Failed(Errno::Srch));
+}
+
+/// Serves or sends until the call is ended by force, and counts itself as awake.
+fn sleep<K: Tie, L: Log>(
+    rt: &(impl Wait + Abort),
+    alloc: Global,
+    shared: &Shared<K, L>,
+    mut port: Port<K>,
+    awake: &AtomicU64,
+) -> Port<K> {
+    let ThreadNo(number) = port.thread();
+    if number < FIRST_CLIENT {
+        serve(rt, alloc, shared, &mut port);
+    } else {
+        send(rt, alloc, shared, &mut port);
+    }
+    awake.fetch_add(1, Ordering::SeqCst);
+    port
+}
+
+/// Whether the thread is blocked in the call that it is to be woken from.
+fn is_asleep<K: Tie, L: Log>(
+    rt: &(impl Wait + Abort),
+    shared: &Shared<K, L>,
+    main: &mut Port<K>,
+    number: u8,
+) -> bool {
+    match done(rt, main.call(shared, rt, Call::State(ThreadNo(number)))).mark {
+        Mark::State { state, .. } => match state {
+            ThreadState::ReceiveBlocked(_) => number < FIRST_CLIENT,
+            ThreadState::ReplyBlocked(_) => number >= FIRST_CLIENT,
+            _ => false,
+        },
+        _ => panic!(rt; "no state"),
+    }
+}
+
+/// Waits until all eight are blocked and had time to fall asleep, makes the last call, and waits until all are awake.
+fn wake_all<K: Tie, L: Log>(
+    rt: &(impl Wait + Abort),
+    shared: &Shared<K, L>,
+    mut main: Port<K>,
+    last: Call,
+    awake: &AtomicU64,
+) -> Port<K> {
+    for number in 1..SLEEPERS + 1 {
+        for _ in rt.forever() {
+            if is_asleep(rt, shared, &mut main, number) {
+                break;
+            }
+        }
+    }
+    for _ in 0..QUIET {
+        is_asleep(rt, shared, &mut main, 1);
+    }
+    assert!(rt; awake.load(Ordering::SeqCst) == 0);
+    done(rt, main.call(shared, rt, last));
+    for _ in 0..PATIENCE {
+        if awake.load(Ordering::SeqCst) == SLEEPERS as u64 {
+            return main;
+        }
+        thread::yield_now();
+    }
+    panic!(rt; "not all are awake")
+}
+
+/// All nine threads on a kernel that keeps no past, up to the call that ends the eight others' calls.
+fn sleep_and_wake<K: Tie + Send + Sync, R: Threads + Wait + Abort + Sync>(
+    rt: &R,
+    alloc: Global,
+    parts: Parts,
+    last: Call,
+)
+    requires named { AreParts K.names K.name K.parts parts }
+{
+    let (shared, mut ports) = Shared::<K, Unkept<K>>::open(parts).expect(rt, "a kernel");
+    let mut main = ports.pop().expect(rt, "a port");
+    let create = Call::ChannelCreate(ChannelFlags::of(0));
+    done(rt, main.call(&shared, rt, create));
+    let awake = AtomicU64::new(0);
+    join(
+        rt,
+        || {
+            let slept = thread::map_vec(
+                rt,
+                ports,
+                &|port: Port<K>| -> Port<K> { sleep(rt, alloc, &shared, port, &awake) },
+            );
+            assert!(rt; slept.is_ok());
+        },
+        || {
+            wake_all(rt, &shared, main, last, &awake);
+        },
+    );
+}
+
+#[test]
+fn a_destroyed_channel_wakes_eight_threads(rt: HostRuntime) {
+    let alloc = rt.alloc();
+    let roster = roster(&rt, alloc);
+    let parts = parts(&rt, alloc, &roster, 2);
+    let last = Call::ChannelDestroy(ChannelId(1));
+    sleep_and_wake::<Brand, _>(&rt, alloc, parts, last);
+}
+
+#[test]
+fn a_shutdown_wakes_eight_threads(rt: HostRuntime) {
+    let alloc = rt.alloc();
+    let roster = roster(&rt, alloc);
+    let parts = parts(&rt, alloc, &roster, 2);
+    sleep_and_wake::<Brand, _>(&rt, alloc, parts, Call::Shutdown);
+}
