@@ -1,7 +1,7 @@
 #!/usr/bin/env python3
 """Measures round trips between threads, by the kernel and by plain Rust that does the same, and prints one table.
 
-usage: bench/roundtrips.py [repeats]
+usage: bench/roundtrips.py [--busy] [--before PROGRAM] [repeats]
 
 In a round trip a client sends 4 bytes with room for 8 in the reply, a server receives them into 16 bytes and replies
 with 4, and the client collects and checks them. The programs:
@@ -19,12 +19,16 @@ It wants them built, `bench/out/qroundtrips` and `bench/peers/out/peers`. One th
 it says by which command it is built.
 
 Each repeat (7, if no other number is given) runs all programs in turn, case by case, so that what else runs on the
-machine meets all of them. The figures: microseconds a round trip, which is the time until all clients have ended by the
+machine meets all of them. `--before PROGRAM` runs an older `qroundtrips` too, as `kernel before` and `unkept before`.
+`--busy` lets a process that computes run on each core meanwhile, makes fewer round trips, and leaves out the peers that
+yield their core and so wait for it in milliseconds, as well as the row `alone`. The figures: microseconds a round trip, which is the time until all clients have ended by the
 number of all round trips, least and median; and the median of the sleeps a round trip, which are the voluntary context
 switches of all threads of the program, as the system tells them. At the end stands how many times a peer's median the
 kernel's is, with what is aimed at.
 """
 
+import argparse
+import multiprocessing
 import os
 import resource
 import statistics
@@ -44,7 +48,7 @@ PROGRAMS = {
     "crossbeam": [PEERS, "crossbeam"],
 }
 # What follows the numbers in a program's words.
-LAST_WORDS = {"unkept": ["unkept"]}
+LAST_WORDS = {"unkept": ["unkept"], "unkept before": ["unkept"]}
 BUILT_BY = {
     KERNEL: "bench/build qroundtrips",
     PEERS: "bench/peers/build",
@@ -58,8 +62,11 @@ ALONE = ("alone",)
 OWN = ("kernel", "unkept")
 ALONE_AIM = 0.4
 ROUND_TRIPS = 60_000
+BUSY_ROUND_TRIPS = 4_800
+# The peers that sleep, and so don't wait for a time slice on a busy machine.
+BUSY_PEERS = ("condvar",)
 REPEATS = 7
-SECONDS = 60
+SECONDS = 120
 
 # At most so many times a peer's median, in all cases or in some.
 AIMS = {
@@ -67,20 +74,37 @@ AIMS = {
     "condvar": {case: 2 / 3 for case in CASES},
     "crossbeam": {(8, 4): 1.7},
 }
+BUSY_AIMS = {"condvar": {case: 3 for case in CASES}}
 
 
-def built():
+def built(busy):
     """The programs that are built. Of the others it says how they are."""
     for path, command in BUILT_BY.items():
         if not os.access(path, os.X_OK):
             print(f"not built: {os.path.relpath(path, ROOT)}; in {ROOT} build it by: {command}")
-    return [name for name, words in PROGRAMS.items() if os.access(words[0], os.X_OK)]
+    fit = [name for name, words in PROGRAMS.items() if not busy or words[0] != PEERS or name in BUSY_PEERS]
+    return [name for name in fit if os.access(PROGRAMS[name][0], os.X_OK)]
 
 
-def measured(name, case):
+def compute():
+    """Computes until it is ended."""
+    while True:
+        pass
+
+
+def burden():
+    """A process that computes on each core."""
+    cores = sorted(os.sched_getaffinity(0))
+    processes = [multiprocessing.Process(target=compute, daemon=True) for _ in cores]
+    for core, process in zip(cores, processes):
+        process.start()
+        os.sched_setaffinity(process.pid, {core})
+
+
+def measured(name, case, round_trips):
     """The microseconds and the sleeps of a round trip, in one run."""
     clients = 1 if case == ALONE else case[0]
-    rounds = ROUND_TRIPS // clients
+    rounds = round_trips // clients
     words = [*PROGRAMS[name], *map(str, case), str(rounds), *LAST_WORDS.get(name, [])]
     before = resource.getrusage(resource.RUSAGE_CHILDREN).ru_nvcsw
     try:
@@ -101,56 +125,79 @@ def named(case):
 
 def rows(programs, runs):
     """The table."""
-    print(f"{'clients-servers':<18}{'program':<12}{'least us':>10}{'median us':>11}{'sleeps':>8}")
+    print(f"{'clients-servers':<18}{'program':<15}{'least us':>10}{'median us':>11}{'sleeps':>8}")
     for case in (*CASES, ALONE):
         for name in programs:
             if (case, name) not in runs:
                 continue
             micros, sleeps = zip(*runs[case, name])
             median = statistics.median(micros)
-            print(f"{named(case):<18}{name:<12}{min(micros):>10.2f}{median:>11.2f}{statistics.median(sleeps):>8.2f}")
+            print(f"{named(case):<18}{name:<15}{min(micros):>10.2f}{median:>11.2f}{statistics.median(sleeps):>8.2f}")
 
 
-def ratios(programs, runs):
+def ratios(programs, runs, aims):
     """How many times each peer's median the kernel's is."""
 
     def median(case, name):
         return statistics.median(micros for micros, _ in runs[case, name])
 
-    print(f"\n{'clients-servers':<18}{'to':<12}{'kernel':>10}{'unkept':>10}{'aim':>11}")
+    print(f"\n{'clients-servers':<18}{'to':<15}{'kernel':>10}{'unkept':>10}{'aim':>11}")
     for case in CASES:
         for name in programs:
-            if name not in AIMS:
+            if name not in aims:
                 continue
             kept, unkept = (median(case, own) / median(case, name) for own in ("kernel", "unkept"))
-            aim = AIMS[name].get(case)
+            aim = aims[name].get(case)
             missed = "  missed" if aim and kept > aim else ""
-            print(f"{named(case):<18}{name:<12}{kept:>10.2f}{unkept:>10.2f}{f'{aim:.2f}' if aim else '':>11}{missed}")
+            print(f"{named(case):<18}{name:<15}{kept:>10.2f}{unkept:>10.2f}{f'{aim:.2f}' if aim else '':>11}{missed}")
+        if "unkept before" in programs:
+            kept, unkept = (median(case, own) / median(case, f"{own} before") for own in ("kernel", "unkept"))
+            print(f"{named(case):<18}{'the one before':<15}{kept:>10.2f}{unkept:>10.2f}")
+    if (ALONE, "unkept") not in runs:
+        return
     alone = median(ALONE, "unkept")
     missed = "  missed" if alone > ALONE_AIM else ""
     print(f"\nin one thread, with no past kept: {alone:.2f} us, aim {ALONE_AIM:.2f}{missed}")
 
 
+def read_words():
+    """What is asked for."""
+    parser = argparse.ArgumentParser(usage=__doc__.split("usage: ")[1].splitlines()[0])
+    parser.add_argument("--busy", action="store_true")
+    parser.add_argument("--before")
+    parser.add_argument("repeats", nargs="?", type=int, default=REPEATS)
+    words = parser.parse_args()
+    if words.repeats < 1:
+        parser.error("at least one repeat")
+    if words.before and not os.access(words.before, os.X_OK):
+        parser.error(f"no program: {words.before}")
+    return words
+
+
 def main():
-    words = sys.argv[1:]
-    if len(words) > 1 or not all(word.isdecimal() and int(word) > 0 for word in words):
-        sys.exit(__doc__)
-    repeats = int(words[0]) if words else REPEATS
-    programs = built()
+    words = read_words()
+    if words.before:
+        PROGRAMS["kernel before"] = PROGRAMS["unkept before"] = [os.path.abspath(words.before)]
+    programs = built(words.busy)
     if not programs:
         sys.exit(1)
+    round_trips = BUSY_ROUND_TRIPS if words.busy else ROUND_TRIPS
     cores = len(os.sched_getaffinity(0))
     date = time.strftime("%Y-%m-%d %H:%M")
     load = os.getloadavg()[0]
-    print(f"{date}, {cores} cores, load {load:.1f}: {repeats} repeats of {ROUND_TRIPS:,} round trips\n")
+    beside = ", beside a process that computes on each" if words.busy else ""
+    print(f"{date}, {cores} cores{beside}, load {load:.1f}: {words.repeats} repeats of {round_trips:,} round trips\n")
+    if words.busy:
+        burden()
     runs = {(case, name): [] for case in CASES for name in programs}
-    runs |= {(ALONE, name): [] for name in programs if name in OWN}
-    for _ in range(repeats):
+    if not words.busy:
+        runs |= {(ALONE, name): [] for name in programs if name.split()[0] in OWN}
+    for _ in range(words.repeats):
         for case, name in runs:
-            runs[case, name].append(measured(name, case))
+            runs[case, name].append(measured(name, case, round_trips))
     rows(programs, runs)
     if "kernel" in programs:
-        ratios(programs, runs)
+        ratios(programs, runs, BUSY_AIMS if words.busy else AIMS)
 
 
 if __name__ == "__main__":
