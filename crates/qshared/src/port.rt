@@ -25,10 +25,10 @@ use std::sync::ledger::Share;
 /// How often `wait` looks at most before it sleeps. It pauses between two looks, twice as long each time up to 64 pauses,
 /// for some tens of microseconds in all. It never yields its core: on a busy machine a process that computes would keep
 /// it for milliseconds.
-const MOST_LOOKS: u32 = 18;
+const MOST_LOOKS: u32 = 30;
 
 /// How often it looks at least: for some microseconds, which is a round trip on a quiet machine.
-const LEAST_LOOKS: u32 = 6;
+const LEAST_LOOKS: u32 = 8;
 
 /// What a port answers a call.
 /// `two_threads.rt` of `crates/balsaeuchre_uses` turns it into an ending or a fault.
