@@ -46,6 +46,14 @@ impl<T: Drop> From<AllocFailed<T>> for CallError {
     }
 }
 
+impl From<Errno> for CallError {
+    ghost from_gives = { λ errno e. e ≡ refusal errno };
+
+    fn from(errno: Errno) -> CallError {
+        refusal(errno)
+    }
+}
+
 /// The error of a call that the kernel refused.
 pub(crate) fn refusal(errno: Errno) -> CallError
     ensures { result ≡ refusal errno }

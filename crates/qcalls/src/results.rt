@@ -7,6 +7,7 @@ use qbase::ids::ReceiveId;
 use qbase::priority::Priority;
 use qbase::state::ThreadState;
 use qqueue::item::What;
+use std::ops::DerefSlice;
 
 /// How a server answered a message (`MsgSend`).
 #[derive(Debug, Drop)]
@@ -54,6 +55,16 @@ impl Request {
         ensures { result.now ≡ take self.now.copied self.now.buffer }
     {
         front(&self.buffer, self.copied)
+    }
+}
+
+impl DerefSlice for Request {
+    type Elem = u8;
+
+    ghost deref_gives = { λ request bytes. bytes ≡ take request.copied request.buffer };
+
+    fn deref(&self) -> &[u8] {
+        self.bytes()
     }
 }
 
