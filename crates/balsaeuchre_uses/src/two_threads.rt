@@ -6,7 +6,7 @@ ghost use Rattle.balsaeuchre.specs.Lawful.{IsLawful, followed_by};
 ghost use Rattle.balsaeuchre.specs.Naming.{AreParts};
 ghost use Rattle.balsaeuchre.specs.Properties.{HasProperties};
 
-use balsaeuchre::calls::{CallError, Caller, Endpoint, KernelPort, Received};
+use balsaeuchre::calls::{self, CallError, Caller, Endpoint, KernelPort, Received};
 use balsaeuchre::shared::{Kept, Parts, Shared, Tie};
 use balsaeuchre::{ChannelFlags, ChannelId, Priority, ProcessNo, Roster, ThreadNo, Trace};
 use std::alloc::Global;
@@ -15,13 +15,9 @@ use std::sync::Wait;
 use std::thread::{Threads, join};
 
 /// Answers each message with its own bytes, until the client has detached.
-fn serve<E: Endpoint, R: Wait>(
-    rt: &R,
-    server: &mut Caller<E, R>,
-    chid: ChannelId,
-) -> Result<u32, CallError> {
+fn serve<E: Endpoint, R: Wait>(server: &mut Caller<E, R>, chid: ChannelId) -> calls::Result<u32> {
     let mut answered: u32 = 0;
-    for _ in rt.forever() {
+    for _ in server.rt().forever() {
         match server.msg_receive(chid, 8)? {
             Received::Message(request) => server.msg_reply(request.rcvid, 0, &request)?,
             Received::Pulse(_) => return Ok(answered),
@@ -36,7 +32,7 @@ fn send_all<E: Endpoint, R: Wait>(
     client: &mut Caller<E, R>,
     chid: ChannelId,
     messages: u32,
-) -> Result<u32, CallError> {
+) -> calls::Result<u32> {
     let coid = client.connect_attach(chid)?;
     for k in 0..messages {
         let message = u64::from(k).to_be_bytes();
@@ -49,24 +45,13 @@ fn send_all<E: Endpoint, R: Wait>(
     Ok(messages)
 }
 
-/// Shuts the kernel down if a thread gave up, so that the other isn't left blocked.
-fn close<E: Endpoint, R: Wait>(
-    caller: &mut Caller<E, R>,
-    work: Result<u32, CallError>,
-) -> Result<u32, CallError> {
-    if work.is_err() {
-        let _ = caller.shutdown();
-    }
-    work
-}
-
 /// Opens the kernel, starts both threads, waits for them, and closes the kernel.
 fn run<K: Tie + Send + Sync, R: Threads + Wait + Sync>(
     rt: &R,
     alloc: Global,
     parts: Parts,
     messages: u32,
-) -> Result<Trace, CallError>
+) -> calls::Result<Trace>
     requires named { AreParts K.names K.name K.parts parts }
     ensures lawful { IfOk result (λ trace. IsLawful K.names.roster (followed_by [] trace.events)) }
     ensures properties { IfOk result (λ trace. HasProperties K.names.roster (followed_by [] trace.events)) }
@@ -80,13 +65,13 @@ fn run<K: Tie + Send + Sync, R: Threads + Wait + Sync>(
     let chid = server.channel_create(ChannelFlags::DISCONNECT)?;
     let (served, sent) = join(
         rt,
-        || -> Result<u32, CallError> {
-            let work = serve(rt, &mut server, chid);
-            close(&mut server, work)
+        || -> calls::Result<u32> {
+            let work = serve(&mut server, chid);
+            server.or_shutdown(work)
         },
-        || -> Result<u32, CallError> {
+        || -> calls::Result<u32> {
             let work = send_all(&mut client, chid, messages);
-            close(&mut client, work)
+            client.or_shutdown(work)
         },
     );
     ports.push(server.into_endpoint().into_port())?;
@@ -102,7 +87,7 @@ pub fn on_two_threads<R: Threads + Wait + Sync>(
     rt: &R,
     alloc: Global,
     messages: u32,
-) -> Result<Trace, CallError> {
+) -> calls::Result<Trace> {
     let mut roster = Roster::new(alloc);
     roster.add(ThreadNo(1), ProcessNo(1), Priority::lowest())?;
     roster.add(ThreadNo(2), ProcessNo(2), Priority::lowest())?;

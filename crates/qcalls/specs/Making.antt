@@ -34,6 +34,10 @@ abbrev pub MakesOfBytes : {A : Type 0} → Reading A → Call → History → Hi
 MakesOfBytes read call before after result =
     Makes read call before after result ⊎ ((after ≡ before) × (result ≡ Err NoMemory))
 
+-- a call is made, with some result
+abbrev pub MakesSome : {A : Type 0} → Reading A → Call → History → History → Type 0
+MakesSome read call before after = (result : Result _ CallError) × Makes read call before after result
+
 -- all of an ending that a result is read off
 abbrev pub ending_in : Reading Ending
 ending_in waited mark buffer = Ok (record { waited = waited; mark = mark; buffer = buffer })

@@ -40,6 +40,13 @@ impl<'a, E: Endpoint, R: Wait> Caller<'a, E, R> {
         endpoint
     }
 
+    /// The runtime, as for a server's loop: `for _ in server.rt().forever()`.
+    pub fn rt(&self) -> &'a R
+        ensures { result.now ≡ self.now.rt.now }
+    {
+        self.rt
+    }
+
     /// Makes a call, and waits for its ending.
     pub(crate) fn make(&mut self, call: Call) -> Result<Ending, CallError>
         ensures { Makes ending_in call (E.history self.old.endpoint) (E.history self.new.endpoint) result }

@@ -10,3 +10,6 @@ mod messages;
 mod pulses;
 pub mod results;
 mod threads;
+
+/// What a call returns.
+pub type Result<T> = std::result::Result<T, error::CallError>;

@@ -1,6 +1,7 @@
 //! Threads, and the kernel's end.
 
-ghost use Rattle.qcalls.specs.Making.{Makes};
+ghost use Rattle.std.specs.Prelude.{◌≡◌, MatchResult};
+ghost use Rattle.qcalls.specs.Making.{Makes, MakesSome};
 ghost use Rattle.qcalls.specs.Results.{done_in, state_in};
 
 use crate::caller::Caller;
@@ -44,5 +45,16 @@ impl<'a, E: Endpoint, R: Wait> Caller<'a, E, R> {
         ensures { Makes done_in Call.Shutdown (E.history self.old.endpoint) (E.history self.new.endpoint) result }
     {
         self.make(Call::Shutdown)?.done()
+    }
+    /// Shuts the kernel down if a thread's work failed, so that no other thread is left blocked, and returns what the
+    /// work gave. An error of the shutdown is dropped.
+    pub fn or_shutdown<T>(&mut self, work: Result<T, CallError>) -> Result<T, CallError>
+        ensures same { result ≡ work }
+        ensures made { MatchResult work (λ _. E.history self.new.endpoint ≡ E.history self.old.endpoint) (λ _. MakesSome done_in Call.Shutdown (E.history self.old.endpoint) (E.history self.new.endpoint)) }
+    {
+        if work.is_err() {
+            let _ = self.shutdown();
+        }
+        work
     }
 }
