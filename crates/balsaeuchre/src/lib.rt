@@ -1,10 +1,11 @@
-//! All that a caller of the kernel needs, under one name: a kernel and its calls, and in `shared` the kernel for
-//! threads of its own.
+//! All that a caller of the kernel needs, under one name: a kernel and its calls, in `shared` the kernel for threads of
+//! its own, and in `calls` what such a thread calls.
 //!
 //! A caller makes a `Roster` and a `Kernel`, hands calls to `Kernel::dispatch` or to `run`, and reads the endings.
 //! `docs/LIBRARY.md` begins with a whole function, and lists what is here.
 #![tactic(auto)]
 
+pub mod calls;
 pub mod shared;
 
 pub use qbase::bytes::Bytes;

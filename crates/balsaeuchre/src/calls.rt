@@ -1,0 +1,10 @@
+//! The calls of a thread over the shared kernel, under QNX Neutrino's names.
+//!
+//! A thread makes a `KernelPort` of its `Port` and the shared kernel, and a `Caller` of that. Each method of the caller
+//! waits for its call's ending, and returns what the call is for or a `CallError`.
+
+pub use qcalls::Result;
+pub use qcalls::caller::Caller;
+pub use qcalls::endpoint::{Endpoint, KernelPort, Told};
+pub use qcalls::error::CallError;
+pub use qcalls::results::{Answer, Pulse, Received, Request, State};

@@ -1,0 +1,7 @@
+use Rattle.std.proofs.Common.{inl, rules}
+use Rattle.qcalls.proofs.Reading.{makes_read}
+use Rattle.qcalls.specs.Results.{received_in}
+use Rattle.qcalls.proofs.caller.Caller.msg_receive.Goals as goal
+
+pub returns : goal.returns
+returns g c = inl (makes_read {read = received_in} c.make.ensures (search rules) c.in_ok-make.was c.received.ensures)

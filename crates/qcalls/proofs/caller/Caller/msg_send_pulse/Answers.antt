@@ -1,0 +1,7 @@
+use Rattle.std.proofs.Common.{rules}
+use Rattle.qcalls.proofs.Reading.{makes_read}
+use Rattle.qcalls.specs.Results.{done_in}
+use Rattle.qcalls.proofs.caller.Caller.msg_send_pulse.Goals as goal
+
+pub returns : goal.returns
+returns g c = makes_read {read = done_in} c.make.ensures (search rules) c.in_ok-make.was c.done.ensures

@@ -1,0 +1,7 @@
+use Rattle.std.proofs.Common.{inl, rules}
+use Rattle.qcalls.proofs.Reading.{makes_read}
+use Rattle.qcalls.specs.Results.{count_in}
+use Rattle.qcalls.proofs.caller.Caller.msg_write.Goals as goal
+
+pub returns : goal.returns
+returns g c = inl (makes_read {read = count_in} c.make.ensures (search rules) c.in_ok-make.was c.count.ensures)

@@ -1,0 +1,4 @@
+pub mod History
+pub mod Errors
+pub mod Results
+pub mod Making

@@ -1,0 +1,48 @@
+-- What becomes of a call that is made: what its port asked for and took, and what the result is read off.
+use Rattle.std.specs.Prelude.{◌≡◌, ◌⊎◌, ℕ, Bool, true, false, List, [], ◌∷◌, ◌++◌, Result, Ok, Err}
+use Rattle.qmodel.specs.declared.call.Call.{Call}
+use Rattle.qmodel.specs.declared.call.Completion.{Completion}
+use Rattle.qcalls.specs.Errors.{refusal}
+use Rattle.qcalls.specs.History.{History}
+use Rattle.qcalls.specs.Results.{Reading}
+use Rattle.qcalls.specs.declared.ending.Ending.{Ending}
+use Rattle.qcalls.specs.declared.endpoint.Told.{Told}
+use Rattle.qcalls.specs.declared.endpoint.Told.TheVariants.{Done, Blocked, Refused}
+use Rattle.qcalls.specs.declared.error.CallError.{CallError}
+use Rattle.qcalls.specs.declared.error.CallError.TheVariants.{NoMemory}
+
+-- just this call was asked for and just one ending was taken, and the result is what is read off that ending
+abbrev pub Ends : {A : Type 0} → Reading A → Bool → Call → History → History → Result A CallError → Type 0
+Ends read waited call before after result =
+    (after.asked ≡ before.asked ++ call ∷ [])
+    × ((x : Completion) × (after.taken ≡ before.taken ++ x ∷ []) × (result ≡ read waited x.mark x.buffer))
+
+-- a call that was answered so: refused, with nothing asked for or taken, or it ends, at once or after a wait
+abbrev pub Comes : {A : Type 0} → Reading A → Call → History → History → Result A CallError → Told → Type 0
+Comes read call before after result (Refused errno) =
+    (after.asked ≡ before.asked) × (after.taken ≡ before.taken) × (result ≡ Err (refusal errno))
+Comes read call before after result Done = Ends read false call before after result
+Comes read call before after result Blocked = Ends read true call before after result
+
+-- a call is made, and no call is pending afterwards if none was before
+pub record Makes {A : Type 0} (read : Reading A) (call : Call) (before after : History) (result : Result A CallError) : Type 0 where
+  pub comes : Comes read call before after result after.told
+  pub idle : before.pending ≡ false → after.pending ≡ false
+
+-- a call with bytes is made, or there was no memory for them and the port did nothing
+abbrev pub MakesOfBytes : {A : Type 0} → Reading A → Call → History → History → Result A CallError → Type 0
+MakesOfBytes read call before after result =
+    Makes read call before after result ⊎ ((after ≡ before) × (result ≡ Err NoMemory))
+
+-- a call is made, with some result
+abbrev pub MakesSome : {A : Type 0} → Reading A → Call → History → History → Type 0
+MakesSome read call before after = (result : Result _ CallError) × Makes read call before after result
+
+-- all of an ending that a result is read off
+abbrev pub ending_in : Reading Ending
+ending_in waited mark buffer = Ok (record { waited = waited; mark = mark; buffer = buffer })
+
+-- what is read off an ending, if there is one
+abbrev pub read_off : {A : Type 0} → Reading A → Result Ending CallError → Result A CallError
+read_off read (Ok e) = read e.waited e.mark e.buffer
+read_off read (Err e) = Err e

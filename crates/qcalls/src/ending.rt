@@ -1,0 +1,158 @@
+//! How a call ended, and the results that are read off it.
+
+ghost use Rattle.std.specs.Prelude.{◌≡◌};
+ghost use Rattle.qcalls.specs.Results.{answer_in, bytes_in, channel_in, connection_in, count_in, done_in, info_in, pulse_in, received_in, state_in};
+
+use crate::error::{CallError, error_in};
+use crate::results::{Answer, Pulse, Received, Request, State};
+use qbase::bytes::Bytes;
+use qbase::ids::{ChannelId, ConnectionId};
+use qmodel::call::{Info, Mark};
+
+/// How a call ended.
+#[derive(Debug, Drop)]
+pub(crate) struct Ending {
+    /// Whether the call was blocked before.
+    pub waited: bool,
+    /// What the ending says.
+    pub mark: Mark,
+    /// The buffer that the call got back.
+    pub buffer: Bytes,
+}
+
+impl Ending {
+    /// Nothing, of a call that only does what it says.
+    pub fn done(self) -> Result<(), CallError>
+        ensures { result ≡ done_in self.waited self.mark self.buffer }
+    {
+        let Ending { waited, mark, .. } = self;
+        match mark {
+            Mark::Ok => Ok(()),
+            _ => Err(error_in(waited, mark)),
+        }
+    }
+
+    /// The channel that was created.
+    pub fn channel(self) -> Result<ChannelId, CallError>
+        ensures { result ≡ channel_in self.waited self.mark self.buffer }
+    {
+        let Ending { waited, mark, .. } = self;
+        match mark {
+            Mark::Channel(ChannelId(number)) => Ok(ChannelId(number)),
+            _ => Err(error_in(waited, mark)),
+        }
+    }
+
+    /// The connection that was attached.
+    pub fn connection(self) -> Result<ConnectionId, CallError>
+        ensures { result ≡ connection_in self.waited self.mark self.buffer }
+    {
+        let Ending { waited, mark, .. } = self;
+        match mark {
+            Mark::Connection(ConnectionId(number)) => Ok(ConnectionId(number)),
+            _ => Err(error_in(waited, mark)),
+        }
+    }
+
+    /// The answer to a message.
+    pub fn answer(self) -> Result<Answer, CallError>
+        ensures { result ≡ answer_in self.waited self.mark self.buffer }
+    {
+        let Ending {
+            waited,
+            mark,
+            buffer,
+        } = self;
+        match mark {
+            Mark::Replied { status, copied } => Ok(Answer {
+                status,
+                copied,
+                buffer,
+            }),
+            _ => Err(error_in(waited, mark)),
+        }
+    }
+
+    /// The message or the pulse that was received.
+    pub fn received(self) -> Result<Received, CallError>
+        ensures { result ≡ received_in self.waited self.mark self.buffer }
+    {
+        let Ending {
+            waited,
+            mark,
+            buffer,
+        } = self;
+        match mark {
+            Mark::Message { rcvid, copied } => Ok(Received::Message(Request {
+                rcvid,
+                copied,
+                buffer,
+            })),
+            Mark::Pulse { priority, what, .. } => Ok(Received::Pulse(Pulse { priority, what })),
+            _ => Err(error_in(waited, mark)),
+        }
+    }
+
+    /// The pulse that was received.
+    pub fn pulse(self) -> Result<Pulse, CallError>
+        ensures { result ≡ pulse_in self.waited self.mark self.buffer }
+    {
+        let Ending { waited, mark, .. } = self;
+        match mark {
+            Mark::Pulse { priority, what, .. } => Ok(Pulse { priority, what }),
+            _ => Err(error_in(waited, mark)),
+        }
+    }
+
+    /// The bytes that were read.
+    pub fn bytes(self) -> Result<Bytes, CallError>
+        ensures { result ≡ bytes_in self.waited self.mark self.buffer }
+    {
+        let Ending {
+            waited,
+            mark,
+            buffer,
+        } = self;
+        match mark {
+            Mark::Count(copied) => {
+                let mut bytes = buffer.into_vec();
+                bytes.truncate(copied);
+                Ok(Bytes::from(bytes))
+            }
+            _ => Err(error_in(waited, mark)),
+        }
+    }
+
+    /// How many bytes were written.
+    pub fn count(self) -> Result<usize, CallError>
+        ensures { result ≡ count_in self.waited self.mark self.buffer }
+    {
+        let Ending { waited, mark, .. } = self;
+        match mark {
+            Mark::Count(copied) => Ok(copied),
+            _ => Err(error_in(waited, mark)),
+        }
+    }
+
+    /// What is told of a held message.
+    pub fn info(self) -> Result<Info, CallError>
+        ensures { result ≡ info_in self.waited self.mark self.buffer }
+    {
+        let Ending { waited, mark, .. } = self;
+        match mark {
+            Mark::Info(info) => Ok(info),
+            _ => Err(error_in(waited, mark)),
+        }
+    }
+
+    /// A thread's state and priority.
+    pub fn state(self) -> Result<State, CallError>
+        ensures { result ≡ state_in self.waited self.mark self.buffer }
+    {
+        let Ending { waited, mark, .. } = self;
+        match mark {
+            Mark::State { state, priority } => Ok(State { state, priority }),
+            _ => Err(error_in(waited, mark)),
+        }
+    }
+}

@@ -1,0 +1,116 @@
+//! A thread's way to the kernel, as its calls see it.
+
+ghost use Rattle.std.specs.Prelude.{◌≡◌, ◌++◌, [], ◌∷◌, Bool, true, false, MatchOption, if◌then◌else◌};
+ghost use Rattle.qhandoff.specs.Words.{taken};
+ghost use Rattle.qshared.specs.Counting.{is_call, gives, pends};
+ghost use Rattle.qcalls.specs.History.{History, told_by};
+
+use qbase::errno::Errno;
+use qmodel::call::{Call, Completion};
+use qshared::log::Log;
+use qshared::port::{Called, Port};
+use qshared::shared::Shared;
+use qshared::tie::Tie;
+use std::sync::Wait;
+
+/// What a way to the kernel answered its last call.
+#[derive(Clone, Copy, Debug, PartialEq, Eq)]
+pub enum Told {
+    /// The call ended in its own event.
+    Done,
+    /// The call was blocked.
+    Blocked,
+    /// The call was refused, and is no event.
+    Refused(Errno),
+}
+
+/// A thread's way to the kernel. A port with its shared kernel is one; a test may have another.
+pub trait Endpoint {
+    /// What it asked for and took, whether a call of it is pending, and what it answered last.
+    ghost history: { Self → History };
+
+    /// Makes a call, for which it may wait while other threads are in the kernel.
+    fn call<R: Wait>(&mut self, rt: &R, call: Call) -> Called
+        ensures asked { (history self.new).asked ≡ (history self.old).asked ++ (if is_call result then call ∷ [] else []) }
+        ensures taken { (history self.new).taken ≡ (history self.old).taken ++ gives result }
+        ensures pending { (history self.new).pending ≡ pends result (history self.old).pending }
+        ensures told { (history self.new).told ≡ told_by result };
+
+    /// Takes the ending of the blocked call if it came. It waits for nobody.
+    fn poll(&mut self) -> Option<Completion>
+        ensures taken { MatchOption result ((history self.new).taken ≡ (history self.old).taken) (λ x. (history self.new).taken ≡ (history self.old).taken ++ x ∷ []) }
+        ensures pending { MatchOption result ((history self.new).pending ≡ (history self.old).pending) (λ x. (history self.new).pending ≡ false) }
+        ensures same { ((history self.new).asked ≡ (history self.old).asked) × ((history self.new).told ≡ (history self.old).told) };
+
+    /// Takes the ending of the blocked call once it comes.
+    fn wait<R: Wait>(&mut self, rt: &R) -> Completion
+        requires { (history self.old).pending ≡ true }
+        ensures taken { (history self.new).taken ≡ (history self.old).taken ++ result ∷ [] }
+        ensures pending { (history self.new).pending ≡ false }
+        ensures same { ((history self.new).asked ≡ (history self.old).asked) × ((history self.new).told ≡ (history self.old).told) };
+}
+
+/// A port with its shared kernel.
+#[derive(Drop)]
+pub struct KernelPort<'a, K: Tie, L: Log> {
+    port: Port<K>,
+    shared: &'a Shared<K, L>,
+    told: Told,
+}
+
+impl<'a, K: Tie, L: Log> KernelPort<'a, K, L> {
+    /// The port, with the kernel that it belongs to.
+    pub fn new(port: Port<K>, shared: &'a Shared<K, L>) -> KernelPort<'a, K, L>
+        ensures { result.port ≡ port }
+    {
+        KernelPort {
+            port,
+            shared,
+            told: Told::Done,
+        }
+    }
+
+    /// The port alone.
+    pub fn into_port(self) -> Port<K>
+        ensures { result ≡ self.entry.port }
+    {
+        let KernelPort { port, .. } = self;
+        port
+    }
+
+    /// What the port answered the last call. Before the first it is `Done`.
+    pub fn told(&self) -> Told
+        ensures { result ≡ self.now.told }
+    {
+        self.told
+    }
+}
+
+/// What a port's answer tells.
+fn told_by(called: &Called) -> Told
+    ensures { result ≡ told_by called.now }
+{
+    match called {
+        Called::Done(_) => Told::Done,
+        Called::Blocked => Told::Blocked,
+        Called::Refused(errno, _) => Told::Refused(*errno),
+    }
+}
+
+impl<'a, K: Tie, L: Log> Endpoint for KernelPort<'a, K, L> {
+    ghost history = { λ p. record { asked = p.port.asked.calls; taken = taken p.port.seat; pending = p.port.pending; told = p.told } };
+
+    fn call<R: Wait>(&mut self, rt: &R, call: Call) -> Called {
+        let called = self.port.call(self.shared, rt, call);
+        self.told = told_by(&called);
+        called
+    }
+
+    fn poll(&mut self) -> Option<Completion> {
+        self.port.poll(self.shared)
+    }
+
+    fn wait<R: Wait>(&mut self, rt: &R) -> Completion {
+        self.port.wait(self.shared, rt)
+    }
+}

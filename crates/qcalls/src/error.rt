@@ -1,0 +1,77 @@
+//! Why a call gives no result.
+
+ghost use Rattle.std.specs.Prelude.{◌≡◌};
+ghost use Rattle.qcalls.specs.Errors.{refusal, error_in};
+ghost use Rattle.qcalls.specs.declared.error.CallError.TheVariants as error;
+
+use qbase::errno::Errno;
+use qmodel::call::Mark;
+use std::alloc::{AllocError, AllocFailed};
+use thiserror::Error;
+
+/// Why a call gives no result.
+#[derive(Clone, Copy, Debug, PartialEq, Eq, Error)]
+pub enum CallError {
+    /// The kernel refused the call. It changed nothing.
+    #[error("call refused: {0:?}")]
+    Refused(Errno),
+    /// The call was blocked, and was ended by force: `Srch` by `channel_destroy` or `shutdown`, `Badf` by
+    /// `connect_detach`, `Intr` by `unblock`.
+    #[error("call cut: {0:?}")]
+    Cut(Errno),
+    /// The server answered the message with this code, by `msg_error`. It isn't 0.
+    #[error("message answered with the code {0}")]
+    Code(i32),
+    /// The allocator refused.
+    #[error("out of memory")]
+    NoMemory,
+    /// The call ended in a way that it has not. A lawful kernel never ends one so.
+    #[error("call ended in a way that isn't its own")]
+    Unexpected,
+}
+
+impl From<AllocError> for CallError {
+    ghost from_gives = { λ _ e. e ≡ error.NoMemory };
+
+    fn from(_e: AllocError) -> CallError {
+        CallError::NoMemory
+    }
+}
+
+impl<T: Drop> From<AllocFailed<T>> for CallError {
+    ghost from_gives = { λ _ e. e ≡ error.NoMemory };
+
+    fn from(_e: AllocFailed<T>) -> CallError {
+        CallError::NoMemory
+    }
+}
+
+impl From<Errno> for CallError {
+    ghost from_gives = { λ errno e. e ≡ refusal errno };
+
+    fn from(errno: Errno) -> CallError {
+        refusal(errno)
+    }
+}
+
+/// The error of a call that the kernel refused.
+pub(crate) fn refusal(errno: Errno) -> CallError
+    ensures { result ≡ refusal errno }
+{
+    match errno {
+        Errno::NoMemory => CallError::NoMemory,
+        _ => CallError::Refused(errno),
+    }
+}
+
+/// The error of a call that ended with a mark that isn't its result's.
+pub(crate) fn error_in(waited: bool, mark: Mark) -> CallError
+    ensures { result ≡ error_in waited mark }
+{
+    match mark {
+        Mark::Failed(errno) if waited && errno != Errno::NoMemory => CallError::Cut(errno),
+        Mark::Failed(errno) => refusal(errno),
+        Mark::Errored(code) => CallError::Code(code),
+        _ => CallError::Unexpected,
+    }
+}

@@ -1,0 +1,15 @@
+//! The kernel's calls under QNX Neutrino's names, each of which waits for its ending and returns what the call is for.
+#![tactic(auto)]
+
+pub mod caller;
+mod channels;
+mod ending;
+pub mod endpoint;
+pub mod error;
+mod messages;
+mod pulses;
+pub mod results;
+mod threads;
+
+/// What a call returns.
+pub type Result<T> = std::result::Result<T, error::CallError>;

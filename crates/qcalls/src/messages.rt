@@ -1,0 +1,117 @@
+//! Messages: sending, receiving and answering them.
+
+ghost use Rattle.std.specs.Prelude.{replicate};
+ghost use Rattle.qcalls.specs.Making.{Makes, MakesOfBytes};
+ghost use Rattle.qcalls.specs.Results.{answer_in, bytes_in, count_in, done_in, info_in, received_in};
+
+use crate::caller::{Caller, zeros};
+use crate::endpoint::Endpoint;
+use crate::error::CallError;
+use crate::results::{Answer, Received};
+use qbase::bytes::Bytes;
+use qbase::ids::{ChannelId, ConnectionId, ReceiveId};
+use qmodel::call::{Call, Info};
+use std::sync::Wait;
+
+impl<'a, E: Endpoint, R: Wait> Caller<'a, E, R> {
+    /// Sends a message over a connection, and waits for its answer in a buffer of so many bytes (`MsgSend`). Refused
+    /// with `Badf` if the connection isn't live, is another process's, or its channel isn't open.
+    pub fn msg_send(
+        &mut self,
+        coid: ConnectionId,
+        message: &[u8],
+        reply_len: usize,
+    ) -> Result<Answer, CallError>
+        ensures { MakesOfBytes answer_in (Call.Send coid message.now (replicate reply_len 0)) (E.history self.old.endpoint) (E.history self.new.endpoint) result }
+    {
+        let message = Bytes::copied(self.alloc, message)?;
+        let reply_buffer = zeros(self.alloc, reply_len)?;
+        let send = Call::Send {
+            coid,
+            message,
+            reply_buffer,
+        };
+        self.make(send)?.answer()
+    }
+
+    /// Takes a message, into a buffer of so many bytes, or a pulse of a channel, and waits for one if there is none
+    /// (`MsgReceive`). Refused with `Srch` if the channel isn't open or is another process's.
+    pub fn msg_receive(&mut self, chid: ChannelId, len: usize) -> Result<Received, CallError>
+        ensures { MakesOfBytes received_in (Call.Receive chid (replicate len 0)) (E.history self.old.endpoint) (E.history self.new.endpoint) result }
+    {
+        let buffer = zeros(self.alloc, len)?;
+        self.make(Call::Receive { chid, buffer })?.received()
+    }
+
+    /// Answers a held message with a status and bytes (`MsgReply`). Refused with `Srch` if the message isn't held, or
+    /// its channel is another process's.
+    pub fn msg_reply(
+        &mut self,
+        rcvid: ReceiveId,
+        status: i64,
+        bytes: &[u8],
+    ) -> Result<(), CallError>
+        ensures { MakesOfBytes done_in (Call.Reply rcvid status bytes.now) (E.history self.old.endpoint) (E.history self.new.endpoint) result }
+    {
+        let bytes = Bytes::copied(self.alloc, bytes)?;
+        let reply = Call::Reply {
+            rcvid,
+            status,
+            bytes,
+        };
+        self.make(reply)?.done()
+    }
+
+    /// Answers a held message with a code and no bytes; the code 0 is a reply of status 0 (`MsgError`). Refused as
+    /// `msg_reply`.
+    pub fn msg_error(&mut self, rcvid: ReceiveId, code: i32) -> Result<(), CallError>
+        ensures { Makes done_in (Call.Error rcvid code) (E.history self.old.endpoint) (E.history self.new.endpoint) result }
+    {
+        self.make(Call::Error { rcvid, code })?.done()
+    }
+
+    /// Reads at most so many bytes of a held message, from the offset on (`MsgRead`). Refused as `msg_reply`.
+    pub fn msg_read(
+        &mut self,
+        rcvid: ReceiveId,
+        offset: usize,
+        len: usize,
+    ) -> Result<Bytes, CallError>
+        ensures { MakesOfBytes bytes_in (Call.Read rcvid offset (replicate len 0)) (E.history self.old.endpoint) (E.history self.new.endpoint) result }
+    {
+        let buffer = zeros(self.alloc, len)?;
+        let read = Call::Read {
+            rcvid,
+            offset,
+            buffer,
+        };
+        self.make(read)?.bytes()
+    }
+
+    /// Writes bytes over the reply buffer of a held message's sender, from the offset on, and returns how many had room
+    /// (`MsgWrite`). Refused as `msg_reply`.
+    pub fn msg_write(
+        &mut self,
+        rcvid: ReceiveId,
+        offset: usize,
+        bytes: &[u8],
+    ) -> Result<usize, CallError>
+        ensures { MakesOfBytes count_in (Call.Write rcvid offset bytes.now) (E.history self.old.endpoint) (E.history self.new.endpoint) result }
+    {
+        let bytes = Bytes::copied(self.alloc, bytes)?;
+        let write = Call::Write {
+            rcvid,
+            offset,
+            bytes,
+        };
+        self.make(write)?.count()
+    }
+
+    /// Tells of a held message: its sender, its connection, and its lengths in bytes (`MsgInfo`). Refused as
+    /// `msg_reply`.
+    pub fn msg_info(&mut self, rcvid: ReceiveId) -> Result<Info, CallError>
+        ensures { Makes info_in (Call.Info rcvid) (E.history self.old.endpoint) (E.history self.new.endpoint) result }
+    {
+        self.make(Call::Info(rcvid))?.info()
+    }
+}
