@@ -25,8 +25,8 @@ pub enum CallError {
     /// The allocator refused.
     #[error("out of memory")]
     NoMemory,
-    /// The call ended in a way that it has not. A lawful kernel never ends one so.
-    #[error("call ended in a way that isn't its own")]
+    /// The call ended with the result of another kind of call. A lawful kernel ends none so.
+    #[error("call ended with the result of another kind of call")]
     Unexpected,
 }
 
