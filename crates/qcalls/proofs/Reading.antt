@@ -1,5 +1,5 @@
 -- A result that is read off the ending of a call that was made.
-use Rattle.std.proofs.Common.{◌≡◌, ◌∙◌, ap, sym, Result, Ok, Err}
+use Rattle.std.proofs.Common.{◌≡◌, ◌∙◌, ap, sym, Result, Ok}
 use Rattle.qmodel.specs.declared.call.Call.{Call}
 use Rattle.qcalls.specs.History.{History}
 use Rattle.qcalls.specs.Making.{Comes, Makes, ending_in, read_off}
@@ -10,13 +10,16 @@ use Rattle.qcalls.specs.declared.endpoint.Told.TheVariants.{Done, Blocked, Refus
 use Rattle.qcalls.specs.declared.error.CallError.{CallError}
 
 -- what comes of a call comes of what is read off its ending
-comes-read : {A : Type 0} (read : Reading A) (call : Call) (before after : History) (made : Result Ending CallError) (told : Told) → Comes ending_in call before after made told → Comes read call before after (read_off read made) told
+comes-read : {A : Type 0} (read : Reading A) (call : Call) (before after : History) (made : Result Ending CallError)
+    (told : Told) → Comes ending_in call before after made told → Comes read call before after (read_off read made) told
 comes-read read call before after made (Refused errno) (asked, taken, is) = (asked, taken, ap (read_off read) is)
 comes-read read call before after made Done (asked, (x, taken, is)) = (asked, (x, taken, ap (read_off read) is))
 comes-read read call before after made Blocked (asked, (x, taken, is)) = (asked, (x, taken, ap (read_off read) is))
 
 -- and so does the call
-pub makes_read : {A : Type 0} {read : Reading A} {call asked : Call} {before after : History} {made : Result Ending CallError} {e : Ending} {result : Result A CallError} → Makes ending_in asked before after made → asked ≡ call → made ≡ Ok e → result ≡ read e.waited e.mark e.buffer → Makes read call before after result
+pub makes_read : {A : Type 0} {read : Reading A} {call asked : Call} {before after : History} {made : Result Ending CallError}
+    {e : Ending} {result : Result A CallError} → Makes ending_in asked before after made → asked ≡ call → made ≡ Ok e
+    → result ≡ read e.waited e.mark e.buffer → Makes read call before after result
 makes_read {A} {read} {call} {asked} {before} {after} {made} {e} {result} m same_call is r =
     let same : result ≡ read_off read made = r ∙ sym (ap (read_off read) is) in
     record {

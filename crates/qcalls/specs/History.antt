@@ -1,5 +1,5 @@
 -- What a way to the kernel has done so far, as contracts see it.
-use Rattle.std.specs.Prelude.{Bool, true, false, List}
+use Rattle.std.specs.Prelude.{Bool, List}
 use Rattle.qmodel.specs.declared.call.Call.{Call}
 use Rattle.qmodel.specs.declared.call.Completion.{Completion}
 use Rattle.qshared.specs.declared.port.Called.{Called}
@@ -19,9 +19,3 @@ abbrev pub told_by : Called → Told
 told_by (called.Done x) = Done
 told_by called.Blocked = Blocked
 told_by (called.Refused errno call) = Refused errno
-
--- whether a call that was answered so waits for its ending
-abbrev pub waits : Told → Bool
-waits Done = false
-waits Blocked = true
-waits (Refused errno) = false

@@ -1,5 +1,5 @@
 -- What becomes of a call that is made: what its port asked for and took, and what the result is read off.
-use Rattle.std.specs.Prelude.{◌≡◌, ◌⊎◌, ℕ, Bool, true, false, List, [], ◌∷◌, ◌++◌, Result, Ok, Err}
+use Rattle.std.specs.Prelude.{◌≡◌, ◌⊎◌, Bool, true, false, [], ◌∷◌, ◌++◌, Result, Ok, Err}
 use Rattle.qmodel.specs.declared.call.Call.{Call}
 use Rattle.qmodel.specs.declared.call.Completion.{Completion}
 use Rattle.qcalls.specs.Errors.{refusal}
@@ -25,7 +25,8 @@ Comes read call before after result Done = Ends read false call before after res
 Comes read call before after result Blocked = Ends read true call before after result
 
 -- a call is made, and no call is pending afterwards if none was before
-pub record Makes {A : Type 0} (read : Reading A) (call : Call) (before after : History) (result : Result A CallError) : Type 0 where
+pub record Makes {A : Type 0} (read : Reading A) (call : Call) (before after : History)
+    (result : Result A CallError) : Type 0 where
   pub comes : Comes read call before after result after.told
   pub idle : before.pending ≡ false → after.pending ≡ false
 

@@ -1,5 +1,5 @@
 -- What a call's result is, read off the mark and the buffer of its ending: after a wait or in its own event.
-use Rattle.std.specs.Prelude.{ℕ, Bool, List, [], ⊤, Result, Ok, Err, take}
+use Rattle.std.specs.Prelude.{ℕ, Bool, List, ⊤, Result, Ok, Err, take}
 use Rattle.qmodel.specs.declared.call.Mark.{Mark}
 use Rattle.qmodel.specs.declared.call.Mark.TheVariants as mark
 use Rattle.qmodel.specs.declared.call.Info.{Info}
@@ -32,7 +32,8 @@ connection_in waited other buffer = Err (error_in waited other)
 
 -- the server's status, and the reply buffer with how many bytes were copied to its front
 abbrev pub answer_in : Reading Answer
-answer_in waited (mark.Replied status copied) buffer = Ok (record { status = status; copied = copied; buffer = buffer })
+answer_in waited (mark.Replied status copied) buffer =
+    Ok (record { status = status; copied = copied; buffer = buffer })
 answer_in waited other buffer = Err (error_in waited other)
 
 -- a message with the buffer that it was copied to, or a pulse
