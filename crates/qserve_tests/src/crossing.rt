@@ -115,8 +115,7 @@ fn ways<E: Endpoint, R: Wait + Abort>(rt: &R, first: &mut E, second: &mut E) -> 
 }
 
 /// The report of a kernel whose ports are all of these.
-fn finished<K: Tie>(rt: &impl Abort, shared: Shared<K, Kept<K>>, ports: Vec<Port<K>>) -> Report
-{
+fn finished<K: Tie>(rt: &impl Abort, shared: Shared<K, Kept<K>>, ports: Vec<Port<K>>) -> Report {
     if !shared.all(&ports) {
         panic!(rt; "not all ports");
     }
