@@ -114,12 +114,17 @@ fn is_asleep<K: Tie, L: Log>(
     main: &mut Port<K>,
     number: u8,
 ) -> bool {
-    match done(rt, main.call(shared, rt, Call::State(ThreadNo(number)))).mark {
-        Mark::State { state, .. } => match state {
-            ThreadState::ReceiveBlocked(_) => number < FIRST_CLIENT,
-            ThreadState::ReplyBlocked(_) => number >= FIRST_CLIENT,
-            _ => false,
-        },
+    let mark = done(rt, main.call(shared, rt, Call::State(ThreadNo(number)))).mark;
+    match mark {
+        Mark::State {
+            state: ThreadState::ReceiveBlocked(_),
+            ..
+        } => number < FIRST_CLIENT,
+        Mark::State {
+            state: ThreadState::ReplyBlocked(_),
+            ..
+        } => number >= FIRST_CLIENT,
+        Mark::State { .. } => false,
         _ => panic!(rt; "no state"),
     }
 }
