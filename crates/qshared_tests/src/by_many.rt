@@ -219,7 +219,7 @@ fn sum_of(counts: &[u64]) -> u64 {
     sum
 }
 
-/// Two servers and four clients, with 250,000 messages of each client, on a kernel that keeps no past. Each message is
+/// Two servers and four clients, with 50,000 messages of each client, on a kernel that keeps no past. Each message is
 /// three calls at least: a Send, a Receive and an answer.
 #[test]
 fn no_past_is_kept(rt: HostRuntime) {
@@ -227,7 +227,7 @@ fn no_past_is_kept(rt: HostRuntime) {
     let size = Size {
         servers: 2,
         clients: 4,
-        rounds: 250_000,
+        rounds: 50_000,
     };
     let roster = roster(&rt, alloc, size);
     let parts = Parts::new(alloc, &roster, 2).expect(&rt, "parts");
@@ -235,5 +235,5 @@ fn no_past_is_kept(rt: HostRuntime) {
     assert!(rt; tally.left.is_empty());
     assert!(rt; tally.calls.len() == 7);
     assert!(rt; tally.calls.iter().all(|calls| *calls > 3));
-    assert!(rt; sum_of(tally.calls.as_slice()) > 3_000_000);
+    assert!(rt; sum_of(tally.calls.as_slice()) > 600_000);
 }
