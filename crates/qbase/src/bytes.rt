@@ -1,6 +1,6 @@
 //! Bytes on the heap.
 
-ghost use Rattle.std.specs.Prelude.{◌≡◌, ℕ, List, [], IfOk, length, drop, ◌==◌};
+ghost use Rattle.std.specs.Prelude.{◌≡◌, ℕ, List, [], IfOk, length, drop, replicate, ◌==◌};
 ghost use Rattle.qbase.specs.Laying.{lay_over, laid_count};
 
 use crate::laying::{lay, take};
@@ -45,6 +45,15 @@ impl Bytes {
     {
         Ok(Bytes {
             items: Vec::from_slice(alloc, bytes)?,
+        })
+    }
+
+    /// As many of one byte, as for a buffer of zeros.
+    pub fn filled(alloc: Global, byte: u8, len: usize) -> Result<Bytes, AllocError>
+        ensures { IfOk result (λ bytes. bytes ≡ replicate len byte) }
+    {
+        Ok(Bytes {
+            items: vec![in alloc; byte; len]?,
         })
     }
 

@@ -1,6 +1,6 @@
 //! A thread that makes calls.
 
-ghost use Rattle.std.specs.Prelude.{◌≡◌, IfOk, replicate};
+ghost use Rattle.std.specs.Prelude.{◌≡◌};
 ghost use Rattle.qcalls.specs.Making.{Makes, ending_in};
 
 use crate::ending::Ending;
@@ -9,7 +9,7 @@ use crate::error::{CallError, refusal};
 use qbase::bytes::Bytes;
 use qmodel::call::{Call, Completion};
 use qshared::port::Called;
-use std::alloc::{AllocError, Global};
+use std::alloc::Global;
 use std::sync::Wait;
 
 /// A thread that makes calls: its way to the kernel, with the runtime that it waits by and the allocator.
@@ -63,11 +63,4 @@ impl<'a, E: Endpoint, R: Wait> Caller<'a, E, R> {
             buffer,
         })
     }
-}
-
-/// A buffer of zeros.
-pub(crate) fn zeros(alloc: Global, len: usize) -> Result<Bytes, AllocError>
-    ensures { IfOk result (λ buffer. buffer ≡ replicate len 0) }
-{
-    Ok(Bytes::from(vec![in alloc; 0u8; len]?))
 }

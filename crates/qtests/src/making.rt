@@ -35,5 +35,5 @@ pub fn send(rt: &impl Abort, alloc: Global) -> Call {
 
 /// 64 KiB of this byte.
 pub fn many(rt: &impl Abort, alloc: Global, byte: u8) -> Bytes {
-    Bytes::from(vec![in alloc; byte; 65_536].expect(rt, "room"))
+    Bytes::filled(alloc, byte, 65_536).expect(rt, "room")
 }

@@ -41,7 +41,7 @@ fn repeated_bytes(alloc: Global, count: &[u8], pair: &[u8]) -> Result<Bytes, Par
     if hex::decode_to_slice(pair, &mut byte).is_err() {
         return fault;
     }
-    Ok(Bytes::from(vec![in alloc; byte[0]; count]?))
+    Ok(Bytes::filled(alloc, byte[0], count)?)
 }
 
 /// Where the first `x` is.
