@@ -15,7 +15,8 @@ use Rattle.qshared.specs.declared.port.Called.{Called}
 use Rattle.qshared.specs.declared.port.Called.TheVariants.{Done, Blocked}
 use Rattle.qshared.specs.declared.port.Called.TheVariants as called
 
--- this holds at a lawful past with the six properties, in which the thread's calls are just those that its port made before
+-- this holds at a lawful past with the six properties, in which the thread's calls are just those that its
+-- port made before
 pub record AtPast (roster : List Member) (t : ℕ) (made : List Call) (Holds : Trace → Type 0) : Type 0 where
   pub past : Trace
   pub lawful : IsLawful roster past
@@ -23,14 +24,20 @@ pub record AtPast (roster : List Member) (t : ℕ) (made : List Call) (Holds : T
   pub calls : calls_of past t ≡ made
   pub holds : Holds past
 
--- what a call under the lock comes to at a past: it is refused for a reason and given back, or it is an event, which ended just where the endings hold one of the call itself
+-- what a call under the lock comes to at a past: it is refused for a reason and given back, or it is an
+-- event, which ended just where the endings hold one of the call itself
 abbrev pub Comes : List Member → Refuses → Admits → ℕ → Call → Performed → Trace → Type 0
 Comes roster refuses admits t c (Refused e given) past = (given ≡ c) × IsRefused roster refuses past t c e
-Comes roster refuses admits t c Ended past = (X : List Completion) × IsEvent roster admits past t c X × (has_ending_of X (length past + 1) ≡ true)
-Comes roster refuses admits t c Open past = (X : List Completion) × IsEvent roster admits past t c X × (has_ending_of X (length past + 1) ≡ false)
+Comes roster refuses admits t c Ended past =
+    (X : List Completion) × IsEvent roster admits past t c X × (has_ending_of X (length past + 1) ≡ true)
+Comes roster refuses admits t c Open past =
+    (X : List Completion) × IsEvent roster admits past t c X × (has_ending_of X (length past + 1) ≡ false)
 
--- what a port answers at a past: the call is refused for a reason and given back, or it is an event, and where the port has an ending the call ended in that event
+-- what a port answers at a past: the call is refused for a reason and given back, or it is an event, and
+-- where the port has an ending the call ended in that event
 abbrev pub Answered : List Member → Refuses → Admits → ℕ → Call → Called → Trace → Type 0
-Answered roster refuses admits t c (called.Refused e given) past = (given ≡ c) × IsRefused roster refuses past t c e
-Answered roster refuses admits t c (Done x) past = (X : List Completion) × IsEvent roster admits past t c X × (has_ending_of X (length past + 1) ≡ true)
+Answered roster refuses admits t c (called.Refused e given) past =
+    (given ≡ c) × IsRefused roster refuses past t c e
+Answered roster refuses admits t c (Done x) past =
+    (X : List Completion) × IsEvent roster admits past t c X × (has_ending_of X (length past + 1) ≡ true)
 Answered roster refuses admits t c Blocked past = (X : List Completion) × IsEvent roster admits past t c X

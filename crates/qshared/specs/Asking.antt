@@ -17,7 +17,8 @@ calls_of (e ∷ past) t = calls_of past t ++ (if e.thread == t then e.call ∷ [
 
 -- of these lists, one at the place of each thread of the roster, each is its thread's calls in the past
 abbrev pub AreCallsOf : List Member → List (List Call) → Trace → Type 0
-AreCallsOf roster lists past = (t i : ℕ) → place (threads_of roster) t ≡ Some i → slice_index_or lists i [] ≡ calls_of past t
+AreCallsOf roster lists past =
+    (t i : ℕ) → place (threads_of roster) t ≡ Some i → slice_index_or lists i [] ≡ calls_of past t
 
 -- what the thread at a place asked for, and nothing where there is none
 abbrev pub asked_in : maybe.Option Asked → List Call

@@ -1,5 +1,6 @@
 -- What is due to each thread, and what the cells say of it.
-use Rattle.std.specs.Prelude.{◌≡◌, ℕ, ◌==◌, true, is_some, List, [], ◌∷◌, ◌++◌, filter, position, Option, Some}
+use Rattle.std.specs.Prelude.{◌≡◌, ℕ, ◌==◌, true, is_some, List}
+use Rattle.std.specs.Prelude.{[], ◌∷◌, ◌++◌, filter, position, Option, Some}
 use Rattle.std.specs.List.{AllByRecursion}
 use Rattle.qtables.specs.Members.{member_at}
 use Rattle.qtables.specs.declared.member.Member.{Member}
@@ -27,6 +28,9 @@ AreKnown roster endings = AllByRecursion (λ x. is_some (member_at roster x.thre
 abbrev pub place : List ℕ → ℕ → Option ℕ
 place threads t = position (λ u. u == t) threads
 
--- of each thread of the roster, what was put into its cell is what is due to it, and its cell is opened just where it has an open call
+-- of each thread of the roster, what was put into its cell is what is due to it, and its cell is opened
+-- just where it has an open call
 abbrev pub IsTied : List Member → Desk Completion → Trace → Type 0
-IsTied roster d past = (t i : ℕ) → place (threads_of roster) t ≡ Some i → ((line d i).put ≡ endings_due past t) × ((line d i).opened ≡ is_some (open_call roster past t))
+IsTied roster d past =
+    (t i : ℕ) → place (threads_of roster) t ≡ Some i → ((line d i).put ≡ endings_due past t)
+    × ((line d i).opened ≡ is_some (open_call roster past t))

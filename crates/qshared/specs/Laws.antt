@@ -14,9 +14,12 @@ use Rattle.qhandoff.specs.declared.view.View.TheVariants.{Kernel, Thread}
 use Rattle.qhandoff.specs.Rule.{KeepsRule}
 use Rattle.qshared.specs.Due.{IsTied, endings_due, place}
 
--- between any two steps, what a thread took is a beginning of what is due to it by a past that the cells are tied to, at most one ending shorter
+-- between any two steps, what a thread took is a beginning of what is due to it by a past that the cells
+-- are tied to, at most one ending shorter
 abbrev pub TakenIsDue : Type 0
-TakenIsDue = (n : ℕ) (s : State (Option Completion) (View Completion)) (d : Desk Completion) (h : Hand Completion) (i j t : ℕ) (roster : List Member) (past : Trace)
-    → KeepsRule n s → get_elem? s.views i ≡ some (Kernel d) → get_elem? s.views j ≡ some (Thread h) → h.thread < n
+TakenIsDue = (n : ℕ) (s : State (Option Completion) (View Completion)) (d : Desk Completion)
+    (h : Hand Completion) (i j t : ℕ) (roster : List Member) (past : Trace)
+    → KeepsRule n s → get_elem? s.views i ≡ some (Kernel d) → get_elem? s.views j ≡ some (Thread h)
+    → h.thread < n
     → IsTied roster d past → place (threads_of roster) t ≡ Some h.thread
     → (rest : List Completion) × (endings_due past t ≡ h.taken ++ rest) × (length rest ≤ 1)

@@ -8,5 +8,6 @@ pub mod Naming
 pub mod Performing
 pub mod Putting
 pub mod Rooms
+pub mod TwoCalls
 pub mod UnderLock
 pub mod Unkept

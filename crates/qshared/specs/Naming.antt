@@ -9,7 +9,12 @@ use Rattle.qshared.specs.declared.parts.Parts.{Parts}
 
 -- the names of a kernel that is made of these parts
 abbrev pub names_of : Parts → Names
-names_of p = record { roster = members_of p.kernel.threads; cells = cells_id p.cells; lists = map (λ h. h.name) p.heard.items; limit = p.limit }
+names_of p = record {
+  roster = members_of p.kernel.threads;
+  cells = cells_id p.cells;
+  lists = map (λ h. h.name) p.heard.items;
+  limit = p.limit;
+}
 
 -- the name of the ledger of these parts
 abbrev pub ledger_of : Parts → ℕ
@@ -22,9 +27,11 @@ shares_of p = p.blank.parts
 -- the parts have these names, and a ledger of this name with as many parts as there are cells
 abbrev pub AreParts : Names → ℕ → ℕ → Parts → Type 0
 AreParts names ledger shares p =
-    (cells_id p.cells ≡ names.cells) × (ledger_of p ≡ ledger) × (shares ≡ names.cells.slots) × (members_of p.kernel.threads ≡ names.roster)
+    (cells_id p.cells ≡ names.cells) × (ledger_of p ≡ ledger) × (shares ≡ names.cells.slots)
+    × (members_of p.kernel.threads ≡ names.roster)
     × (map (λ h. h.name) p.heard.items ≡ names.lists) × (p.limit ≡ names.limit)
 
 -- of so many ports, whose numbers these are, each has the number of its place
 abbrev pub AreAll : {P : Type 0} → (P → ℕ) → ℕ → List P → Type 0
-AreAll {P} number many ports = (length ports ≡ many) × ((k : ℕ) (p : P) → get_elem? ports k ≡ some p → number p ≡ k)
+AreAll {P} number many ports =
+    (length ports ≡ many) × ((k : ℕ) (p : P) → get_elem? ports k ≡ some p → number p ≡ k)

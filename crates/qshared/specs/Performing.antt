@@ -33,25 +33,35 @@ pub record IsFree (roster : List Member) (past : Trace) (t : ℕ) : Type 0 where
   pub served : IsServed roster past t
   pub idle : is_some (open_call roster past t) ≡ false
 
--- why no call of the thread is made, whichever it is: `Busy` where it has an open call, and else only where an ending was put for it
+-- why no call of the thread is made, whichever it is: `Busy` where it has an open call, and else only where
+-- an ending was put for it
 abbrev pub IsReason : List Member → Trace → ℕ → Errno → Type 0
 IsReason roster past t NoThread = is_some (member_at roster t) ≡ false
 IsReason roster past t Down = (is_some (member_at roster t) ≡ true) × (is_down past ≡ true)
-IsReason roster past t Busy = IsServed roster past t × ((is_some (open_call roster past t) ≡ true) ⊎ ¬ (endings_due past t ≡ []))
+IsReason roster past t Busy =
+    IsServed roster past t × ((is_some (open_call roster past t) ≡ true) ⊎ ¬ (endings_due past t ≡ []))
 IsReason roster past t e = ⊥
 
 -- why a call is refused: for one of these reasons, or because a free thread's call may not be noted
 abbrev pub IsRefused : List Member → Refuses → Trace → ℕ → Call → Errno → Type 0
 IsRefused roster refuses past t c e = IsReason roster past t e ⊎ (IsFree roster past t × refuses past c e)
 
--- a call of the thread is an event after this past: the thread is free, the call was noted, and these endings answer the past
-pub record IsEvent (roster : List Member) (admits : Admits) (past : Trace) (t : ℕ) (c : Call) (X : List Completion) : Type 0 where
+-- a call of the thread is an event after this past: the thread is free, the call was noted, and these
+-- endings answer the past
+pub record IsEvent (roster : List Member) (admits : Admits) (past : Trace) (t : ℕ) (c : Call)
+    (X : List Completion) : Type 0 where
   pub free : IsFree roster past t
   pub admitted : admits past c
   pub answers : Answers (facts_of roster past) t c X
 
--- a call that is refused is given back and changes nothing; any other is an event, the past has one more, and it ended just where the endings hold one of the call itself
+-- a call that is refused is given back and changes nothing; any other is an event, the past has one more,
+-- and it ended just where the endings hold one of the call itself
 abbrev pub Performs : List Member → Refuses → Admits → UnderLock → ℕ → Call → Performed → UnderLock → Type 0
-Performs roster refuses admits old t c (Refused e given) new = (new ≡ old) × (given ≡ c) × IsRefused roster refuses old.past t c e
-Performs roster refuses admits old t c Ended new = (X : List Completion) × IsEvent roster admits old.past t c X × (new.past ≡ with_event t c X old.past) × (has_ending_of X (length old.past + 1) ≡ true)
-Performs roster refuses admits old t c Open new = (X : List Completion) × IsEvent roster admits old.past t c X × (new.past ≡ with_event t c X old.past) × (has_ending_of X (length old.past + 1) ≡ false)
+Performs roster refuses admits old t c (Refused e given) new =
+    (new ≡ old) × (given ≡ c) × IsRefused roster refuses old.past t c e
+Performs roster refuses admits old t c Ended new =
+    (X : List Completion) × IsEvent roster admits old.past t c X × (new.past ≡ with_event t c X old.past)
+    × (has_ending_of X (length old.past + 1) ≡ true)
+Performs roster refuses admits old t c Open new =
+    (X : List Completion) × IsEvent roster admits old.past t c X × (new.past ≡ with_event t c X old.past)
+    × (has_ending_of X (length old.past + 1) ≡ false)

@@ -13,4 +13,5 @@ MayPut threads d x = (i : ℕ) × (place threads x.thread ≡ Some i) × ((line 
 -- these endings were put, each into its thread's cell, and all else is as it was
 pub record Handed (threads : List ℕ) (X : List Completion) (d d' : Desk Completion) : Type 0 where
   pub put : (t i : ℕ) → place threads t ≡ Some i → (line d' i).put ≡ (line d i).put ++ of_thread t X
-  pub opened : (t i : ℕ) → place threads t ≡ Some i → (line d' i).opened ≡ (if gets X t then false else (line d i).opened)
+  pub opened : (t i : ℕ) → place threads t ≡ Some i
+      → (line d' i).opened ≡ (if gets X t then false else (line d i).opened)

@@ -18,15 +18,18 @@ pub record UnderLock : Type 0 where
   pub desk : Desk Completion
   pub past : Trace
 
--- the past is lawful and has the six properties, the kernel stands at it, and the cells were given what is due
+-- the past is lawful and has the six properties, the kernel stands at it, and the cells were given what is
+-- due
 pub record Agrees (roster : List Member) (kernel : State) (d : Desk Completion) (past : Trace) : Type 0 where
   pub lawful : IsLawful roster past
   pub properties : HasProperties roster past
   pub stands : StandsAt roster kernel past
   pub tied : IsTied roster d past
 
--- what holds whenever the lock is free, for the kernel of this roster: beside that, there are as many cells as threads, and no ending is left over
-pub record IsUnderLock (roster : List Member) (slots : ℕ) (kernel : State) (d : Desk Completion) (threads : List ℕ) (past : Trace) (endings : List Completion) : Type 0 where
+-- what holds whenever the lock is free, for the kernel of this roster: beside that, there are as many cells
+-- as threads, and no ending is left over
+pub record IsUnderLock (roster : List Member) (slots : ℕ) (kernel : State) (d : Desk Completion)
+    (threads : List ℕ) (past : Trace) (endings : List Completion) : Type 0 where
   pub rises : IsRoster roster
   pub sized : length roster ≡ slots
   pub few : slots ≤ 64

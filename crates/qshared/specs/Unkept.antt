@@ -16,7 +16,8 @@ use Rattle.qhandoff.specs.Words.{took}
 use Rattle.qshared.specs.Asking.{AreCallsOf}
 use Rattle.qshared.specs.Due.{endings_due, of_thread, place}
 
--- why a call may not be noted: one event of the 2^40 that a kernel makes is left, and a Shutdown is never refused
+-- why a call may not be noted: one event of the 2^40 that a kernel makes is left, and a Shutdown is never
+-- refused
 abbrev pub refuses_unkept : Trace → Call → Errno → Type 0
 refuses_unkept past c Exhausted = (length past + 1 ≡ 2 ^ 40) × ¬ (c ≡ Shutdown)
 refuses_unkept past c e = ⊥
@@ -25,11 +26,15 @@ refuses_unkept past c e = ⊥
 abbrev pub admits_unkept : Trace → Call → Type 0
 admits_unkept past c = (length past + 1 < 2 ^ 40) ⊎ (c ≡ Shutdown)
 
--- there is a past, lawful and with the six properties, of as many events as these counts sum to; each thread's calls in it are just those of its list, and due to it is just what its seat took and what is left for it
-pub record HasPast (roster : List Member) (seats : List (ThreadSeat Completion)) (asked : List (List Call)) (calls : List ℕ) (left : List Completion) : Type 0 where
+-- there is a past, lawful and with the six properties, of as many events as these counts sum to; each
+-- thread's calls in it are just those of its list, and due to it is just what its seat took and what is
+-- left for it
+pub record HasPast (roster : List Member) (seats : List (ThreadSeat Completion)) (asked : List (List Call))
+    (calls : List ℕ) (left : List Completion) : Type 0 where
   pub past : Trace
   pub many : sum calls ≡ length past
   pub asked_is : AreCallsOf roster asked past
   pub lawful : IsLawful roster past
   pub properties : HasProperties roster past
-  pub due_is : (t i : ℕ) → place (threads_of roster) t ≡ Some i → took (get_elem? seats i) ++ of_thread t left ≡ endings_due past t
+  pub due_is : (t i : ℕ) → place (threads_of roster) t ≡ Some i
+      → took (get_elem? seats i) ++ of_thread t left ≡ endings_due past t

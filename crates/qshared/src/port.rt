@@ -1,11 +1,14 @@
 //! One thread's way to a shared kernel.
+
 ghost use Rattle.std.specs.Prelude.{◌≡◌, ◌+◌, ◌++◌, [], ◌∷◌, true, false, MatchOption, if◌then◌else◌, slice_index_or, Some};
 ghost use Rattle.qmodel.specs.Facts.{threads_of};
-ghost use Rattle.qhandoff.specs.Words.{thread_id, thread_of, taken, IsThreadOf};
+ghost use Rattle.qhandoff.specs.Words.{cells_id, thread_id, thread_of, taken, IsThreadOf};
 ghost use Rattle.qshared.specs.Due.{place};
 ghost use Rattle.qshared.specs.Answered.{AtPast, Answered};
 ghost use Rattle.qshared.specs.Counting.{is_call, gives, pends};
+ghost use Rattle.qshared.specs.TwoCalls.{AnsweredBoth, is_ok, calls_in, asked_by, gives_both, pends_both};
 
+use crate::locked::Locked;
 use crate::log::Log;
 use crate::performed::Performed;
 use crate::shared::Shared;
@@ -17,7 +20,7 @@ use qbase::errno::Errno;
 use qbase::ids::ThreadNo;
 use qhandoff::cells::Cells;
 use qhandoff::seats::ThreadSeat;
-use qmodel::call::{Call, Completion};
+use qmodel::call::{Call, Completion, Mark};
 use qpast::asking::Asked;
 use std::sync::Wait;
 use std::sync::ledger::Share;
@@ -30,8 +33,7 @@ const MOST_LOOKS: u32 = 30;
 /// How often it looks at least: for some microseconds, which is a round trip on a quiet machine.
 const LEAST_LOOKS: u32 = 8;
 
-/// What a port answers a call.
-/// `two_threads.rt` of `crates/balsaeuchre_uses` turns it into an ending or a fault.
+/// What a port returns of a call. The calls of `crates/qcalls` read their results off it.
 #[derive(Debug, Drop)]
 pub enum Called {
     /// It is an event and ended in it; the port took this ending.
@@ -42,8 +44,17 @@ pub enum Called {
     Refused(Errno, Call),
 }
 
+/// What a port returns of two calls that are made in one turn at the lock.
+#[derive(Debug, Drop)]
+pub enum CalledBoth {
+    /// The first ended in its own event with this ending, whose mark is `Ok`, and this came of the second.
+    Both(Completion, Called),
+    /// This came of the first: it failed, is blocked, or was refused. The second isn't made, and is given back.
+    First(Called, Call),
+}
+
 /// One thread's way to the kernel. There is one for each thread, and it has no copy.
-/// `two_threads.rt` of `crates/balsaeuchre_uses` has two of them.
+/// `opening.rt` of `crates/qcalls` makes callers of two of them.
 #[derive(Drop)]
 pub struct Port<K: Tie> {
     pub(crate) thread: ThreadNo,
@@ -62,6 +73,13 @@ pub struct Port<K: Tie> {
     ghost counted: { share.amount ≡ calls },
     ghost part: { share.parts ≡ 1 },
     ghost asked_is: { slice_index_or K.names.lists (thread_of seat) 0 ≡ asked.name },
+}
+
+/// Whether a call did what it says, by the mark of its ending.
+fn is_ok(mark: Mark) -> bool
+    ensures { result ≡ is_ok mark }
+{
+    matches!(mark, Mark::Ok)
 }
 
 /// Takes what was put for a thread, if anything was. It has the thread's seat and the cells alone, so it can take no
@@ -139,7 +157,7 @@ impl<K: Tie> Port<K> {
     /// past, `TraceFull` if one event of the limit is left, and `NoMemory` if there was none for the trace; of one that
     /// keeps no past, `Exhausted` if one of 2^40 events is left. A thread that the roster lacks would get `NoThread`
     /// before all these, but has no port.
-    /// `two_threads.rt` of `crates/balsaeuchre_uses` calls it, and waits where the call is blocked.
+    /// `endpoint.rt` of `crates/qcalls` calls it.
     pub fn call<L: Log, R: Wait>(&mut self, shared: &Shared<K, L>, rt: &R, call: Call) -> Called
         ensures came { AtPast K.names.roster self.old.thread self.old.asked.calls (Answered K.names.roster L.refuses L.admits self.old.thread call result) }
         ensures calls { self.new.calls ≡ self.old.calls + (if is_call result then 1 else 0) }
@@ -148,20 +166,83 @@ impl<K: Tie> Port<K> {
         ensures taken { taken self.new.seat ≡ taken self.old.seat ++ gives result }
         ensures same { (self.new.thread ≡ self.old.thread) × (thread_of self.new.seat ≡ thread_of self.old.seat) }
     {
-        let place = self.seat.thread();
-        let (performed, woken) = {
-            let mut locked = spinning::lock(&shared.lock, rt);
-            let performed = locked.call(
-                &shared.cells,
-                self.thread,
-                place,
-                &mut self.share,
-                &mut self.asked,
-                call,
-            );
-            (performed, locked.traced.woken)
+        let (called, woken) = {
+            let mut guard = spinning::lock(&shared.lock, rt);
+            let locked = &mut *guard;
+            let called = self.make(&shared.cells, locked, call);
+            (called, locked.traced.woken)
         };
         shared.wake(woken);
+        called
+    }
+
+    /// Makes two calls in one turn at the lock, so that no other thread's call comes between: the second only if the
+    /// first ends in its own event with `Ok`, as a Reply, an Error or a Pulse does. Each is refused as by `call`.
+    /// `endpoint.rt` of `crates/qcalls` makes a reply and the next receive so.
+    pub fn call_both<L: Log, R: Wait>(
+        &mut self,
+        shared: &Shared<K, L>,
+        rt: &R,
+        first: Call,
+        second: Call,
+    ) -> CalledBoth
+        ensures came { AnsweredBoth K.names.roster L.refuses L.admits self.old.thread self.old.asked.calls first second result }
+        ensures calls { self.new.calls ≡ self.old.calls + calls_in result }
+        ensures asked { self.new.asked.calls ≡ self.old.asked.calls ++ asked_by first second result }
+        ensures pending { self.new.pending ≡ pends_both result self.old.pending }
+        ensures taken { taken self.new.seat ≡ taken self.old.seat ++ gives_both result }
+        ensures same { (self.new.thread ≡ self.old.thread) × (thread_of self.new.seat ≡ thread_of self.old.seat) }
+    {
+        let (called, woken) = {
+            let mut guard = spinning::lock(&shared.lock, rt);
+            let locked = &mut *guard;
+            let first = self.make(&shared.cells, locked, first);
+            let woken = locked.traced.woken;
+            match first {
+                Called::Done(completion) => {
+                    if is_ok(completion.mark) {
+                        let second = self.make(&shared.cells, locked, second);
+                        let both = CalledBoth::Both(completion, second);
+                        (both, woken | locked.traced.woken)
+                    } else {
+                        (CalledBoth::First(Called::Done(completion), second), woken)
+                    }
+                }
+                Called::Blocked => (CalledBoth::First(Called::Blocked, second), woken),
+                Called::Refused(errno, call) => {
+                    let first = Called::Refused(errno, call);
+                    (CalledBoth::First(first, second), woken)
+                }
+            }
+        };
+        shared.wake(woken);
+        called
+    }
+
+    /// Makes a call of the thread, as whoever holds the lock, and takes its ending if it ends in its own event.
+    fn make<L: Log>(
+        &mut self,
+        cells: &Cells<Completion>,
+        locked: &mut Locked<K, L>,
+        call: Call,
+    ) -> Called
+        requires cells { cells_id cells.now ≡ K.names.cells }
+        ensures came { AtPast K.names.roster self.old.thread self.old.asked.calls (Answered K.names.roster L.refuses L.admits self.old.thread call result) }
+        ensures calls { self.new.calls ≡ self.old.calls + (if is_call result then 1 else 0) }
+        ensures asked { self.new.asked.calls ≡ self.old.asked.calls ++ (if is_call result then call ∷ [] else []) }
+        ensures pending { self.new.pending ≡ pends result self.old.pending }
+        ensures taken { taken self.new.seat ≡ taken self.old.seat ++ gives result }
+        ensures same { (self.new.thread ≡ self.old.thread) × (thread_of self.new.seat ≡ thread_of self.old.seat) }
+    {
+        let place = self.seat.thread();
+        let performed = locked.call(
+            cells,
+            self.thread,
+            place,
+            &mut self.share,
+            &mut self.asked,
+            call,
+        );
         match performed {
             Performed::Refused(errno, call) => Called::Refused(errno, call),
             Performed::Open => {
@@ -171,7 +252,7 @@ impl<K: Tie> Port<K> {
             }
             Performed::Ended => {
                 self.calls += 1;
-                match self.seat.poll(&shared.cells) {
+                match self.seat.poll(cells) {
                     Some(completion) => Called::Done(completion),
                     None => {
                         self.pending = true;
@@ -193,7 +274,7 @@ impl<K: Tie> Port<K> {
     }
 
     /// Takes what was put for the thread once it is put: looks for some microseconds, and then sleeps until it is woken.
-    /// `two_threads.rt` of `crates/balsaeuchre_uses` waits so.
+    /// `endpoint.rt` of `crates/qcalls` waits so.
     pub fn wait<L: Log, R: Wait>(&mut self, shared: &Shared<K, L>, rt: &R) -> Completion
         requires { self.old.pending ≡ true }
         ensures taken { taken self.new.seat ≡ taken self.old.seat ++ result ∷ [] }

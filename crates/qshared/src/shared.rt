@@ -181,7 +181,7 @@ impl<K: Tie, L: Log> Shared<K, L> {
     }
 
     /// Whether these are all ports of the kernel, in rising thread number.
-    /// It is asked before `finish`, as in `two_threads.rt` of `crates/balsaeuchre_uses`.
+    /// It is asked before `finish`, as in `opening.rt` of `crates/qcalls`.
     pub fn all(&self, ports: &[Port<K>]) -> bool
         ensures { IsTrue result ↔ AreAll (λ p. thread_of p.seat) K.names.cells.slots ports.now }
     {
@@ -264,7 +264,7 @@ impl<K: Tie> Shared<K, Kept<K>> {
 
     /// Closes the kernel, once all ports are handed in: its trace, how many events each port made, and the endings
     /// that weren't collected. What a port took, followed by what is left for its thread, is what is due to it.
-    /// `two_threads.rt` of `crates/balsaeuchre_uses` closes one.
+    /// `opening.rt` of `crates/qcalls` closes one.
     pub fn finish(self, ports: Vec<Port<K>>) -> Report
         requires all { AreAll (λ p. thread_of p.seat) K.names.cells.slots ports.items }
         ensures calls { result.calls.items ≡ map (λ p. p.calls) ports.items }
