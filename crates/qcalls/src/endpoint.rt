@@ -87,7 +87,7 @@ impl<'a, K: Tie, L: Log> KernelPort<'a, K, L> {
 }
 
 /// What a port's answer tells.
-fn told_by(called: &Called) -> Told
+pub fn told_by(called: &Called) -> Told
     ensures { result ≡ told_by called.now }
 {
     match called {

@@ -7,6 +7,7 @@ mod ending;
 pub mod endpoint;
 pub mod error;
 mod messages;
+mod polling;
 mod pulses;
 pub mod results;
 mod threads;
