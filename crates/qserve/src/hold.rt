@@ -80,10 +80,12 @@ fn polled_request<E: Endpoint, R: Wait>(
 fn request_in(item: Received, tally: &mut Tally) -> Result<Option<Request>, WorkerFault> {
     match item {
         Received::Message(request) => Ok(Some(request)),
-        Received::Pulse(Pulse {
-            what: What::User { code: COUNT, .. },
-            ..
-        }) => {
+        Received::Pulse(
+            Pulse {
+                what: What::User { code: COUNT, .. },
+                ..
+            },
+        ) => {
             tally.count_pulse();
             Ok(None)
         }

@@ -141,11 +141,7 @@ fn direct<'s, X, K: Tie + Send + Sync, L: Log + Send, R: Threads + Wait + Clock 
     crew: Crew<K>,
     settings: Settings,
 ) -> Result<Gathered<K>, WorkerFault> {
-    let mut main = Caller::new(
-        KernelPort::new(main, stage.shared),
-        stage.rt,
-        stage.alloc,
-    );
+    let mut main = Caller::new(KernelPort::new(main, stage.shared), stage.rt, stage.alloc);
     let work = conduct(stage, &mut main, crew, settings);
     let mut gathered = main.or_shutdown(work)?;
     gathered.ports.push(main.into_endpoint().into_port())?;

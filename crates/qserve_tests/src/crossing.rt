@@ -75,10 +75,12 @@ fn polled<E: Endpoint, R: Wait>(
 fn worker<E: Endpoint, R: Wait>(caller: &mut Caller<E, R>, way: Way) -> Result<i32, Fault> {
     caller.msg_send_pulse(way.other, Priority::lowest(), 1, way.value)?;
     match polled(caller, way.own)? {
-        Received::Pulse(Pulse {
-            what: What::User { code: 1, value },
-            ..
-        }) => Ok(value),
+        Received::Pulse(
+            Pulse {
+                what: What::User { code: 1, value },
+                ..
+            },
+        ) => Ok(value),
         _ => Err(Fault::Unexpected),
     }
 }
@@ -100,8 +102,12 @@ fn ways<E: Endpoint, R: Wait + Abort>(
     first: &mut Caller<E, R>,
     second: &mut Caller<E, R>,
 ) -> (Way, Way) {
-    let one = first.channel_create(ChannelFlags::of(0)).expect(rt, "a channel");
-    let two = second.channel_create(ChannelFlags::of(0)).expect(rt, "a channel");
+    let one = first
+        .channel_create(ChannelFlags::of(0))
+        .expect(rt, "a channel");
+    let two = second
+        .channel_create(ChannelFlags::of(0))
+        .expect(rt, "a channel");
     let to_two = first.connect_attach(two).expect(rt, "a connection");
     let to_one = second.connect_attach(one).expect(rt, "a connection");
     (
