@@ -3,3 +3,4 @@ pub mod Errors
 pub mod Results
 pub mod Making
 pub mod Closing
+pub mod Polling

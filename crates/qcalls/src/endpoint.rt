@@ -127,7 +127,7 @@ pub fn call_in_turn<E: Endpoint, R: Wait>(
 }
 
 /// What a port's answer tells.
-fn told_by(called: &Called) -> Told
+pub fn told_by(called: &Called) -> Told
     ensures { result ≡ told_by called.now }
 {
     match called {

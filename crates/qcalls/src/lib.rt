@@ -9,6 +9,7 @@ pub mod endpoint;
 pub mod error;
 mod messages;
 pub mod opening;
+mod polling;
 mod pulses;
 mod reply_receive;
 pub mod results;

@@ -48,7 +48,7 @@ impl<'a, E: Endpoint, R: Wait> Caller<'a, E, R> {
     }
     /// Shuts the kernel down if a thread's work failed, so that no other thread is left blocked, and returns what the
     /// work gave. An error of the shutdown is dropped.
-    pub fn or_shutdown<T>(&mut self, work: Result<T, CallError>) -> Result<T, CallError>
+    pub fn or_shutdown<T, F>(&mut self, work: Result<T, F>) -> Result<T, F>
         ensures same { result ≡ work }
         ensures made { MatchResult work (λ _. E.history self.new.endpoint ≡ E.history self.old.endpoint) (λ _. MakesSome done_in Call.Shutdown (E.history self.old.endpoint) (E.history self.new.endpoint)) }
     {

@@ -1,13 +1,13 @@
 //! A client: it attaches, sends its messages one after the other, and detaches.
 
-use crate::calls::{Answer, connect_attach, connect_detach, msg_send, msg_send_pulse, shutdown};
-use crate::endpoint::Endpoint;
 use crate::fault::WorkerFault;
-use crate::protocol::{MESSAGE_LENGTH, REPLY_LENGTH, count_pulse};
+use crate::protocol::{CLIENT_LEVEL, COUNT, MESSAGE_LENGTH, REPLY_LENGTH, priority};
 use crate::services::{ECHO, SUM};
 use crate::tally::Tally;
 use qbase::ids::ChannelId;
-use std::alloc::Global;
+use qcalls::caller::Caller;
+use qcalls::endpoint::Endpoint;
+use qcalls::results::Answer;
 use std::sync::Wait;
 
 /// The last byte of each message.
@@ -15,38 +15,31 @@ const LAST_BYTE: u8 = 7;
 
 /// A client's rounds. A fault ends the whole demonstration.
 pub fn client<E: Endpoint, R: Wait>(
-    rt: &R,
-    alloc: Global,
-    port: &mut E,
+    caller: &mut Caller<E, R>,
     chid: ChannelId,
     number: u8,
     rounds: u16,
 ) -> Result<Tally, WorkerFault> {
-    let done = make_rounds(rt, alloc, port, chid, number, rounds);
-    if done.is_err() {
-        let _ = shutdown(rt, port);
-    }
-    done
+    let work = make_rounds(caller, chid, number, rounds);
+    caller.or_shutdown(work)
 }
 
 /// Attaches, sends a pulse and a message in each round, and detaches.
 fn make_rounds<E: Endpoint, R: Wait>(
-    rt: &R,
-    alloc: Global,
-    port: &mut E,
+    caller: &mut Caller<E, R>,
     chid: ChannelId,
     number: u8,
     rounds: u16,
 ) -> Result<Tally, WorkerFault> {
     let mut tally = Tally::new();
-    let coid = connect_attach(rt, port, chid)?;
+    let coid = caller.connect_attach(chid)?;
     for round in 0..rounds {
-        msg_send_pulse(rt, port, coid, count_pulse(round))?;
+        caller.msg_send_pulse(coid, priority(CLIENT_LEVEL), COUNT, i32::from(round))?;
         let message = message_of(number, round);
-        let answer = msg_send(rt, alloc, port, coid, &message, &[0; REPLY_LENGTH])?;
+        let answer = caller.msg_send(coid, &message, REPLY_LENGTH)?;
         tally.count_sent(sum_in(&message, &answer)?);
     }
-    connect_detach(rt, port, coid)?;
+    caller.connect_detach(coid)?;
     Ok(tally)
 }
 

@@ -3,43 +3,35 @@
 ghost use Rattle.std.specs.Prelude.{◌≡◌};
 ghost use Rattle.qserve.specs.Status.{status_of};
 ghost use Rattle.qserve.specs.declared.fault.ServeFault.TheVariants.{NoMemory};
-ghost use Rattle.qserve.specs.declared.fault.WorkerFault.TheVariants as worker_fault;
 
-use qbase::errno::Errno;
+use qcalls::error::CallError;
 use std::alloc::{AllocError, AllocFailed};
 use thiserror::Error;
 
 /// Why a worker ended before its work was done.
 #[derive(Clone, Copy, Debug, PartialEq, Eq)]
 pub enum WorkerFault {
-    /// There was no memory for one of its calls.
-    NoMemory,
-    /// A call was answered in a way that its work doesn't know, or was refused.
+    /// A call of it gave no result, or there was no memory for what it keeps.
+    Call(CallError),
+    /// It met an answer or a pulse that its work doesn't know, or a thread or the clock wasn't to be had.
     Unexpected,
 }
 
-impl From<AllocError> for WorkerFault {
-    ghost from_gives = { λ _ e. e ≡ worker_fault.NoMemory };
+impl From<CallError> for WorkerFault {
+    fn from(error: CallError) -> WorkerFault {
+        WorkerFault::Call(error)
+    }
+}
 
-    fn from(_e: AllocError) -> WorkerFault {
-        WorkerFault::NoMemory
+impl From<AllocError> for WorkerFault {
+    fn from(error: AllocError) -> WorkerFault {
+        WorkerFault::Call(CallError::from(error))
     }
 }
 
 impl<T: Drop> From<AllocFailed<T>> for WorkerFault {
-    ghost from_gives = { λ _ e. e ≡ worker_fault.NoMemory };
-
-    fn from(_e: AllocFailed<T>) -> WorkerFault {
-        WorkerFault::NoMemory
-    }
-}
-
-impl From<Errno> for WorkerFault {
-    fn from(errno: Errno) -> WorkerFault {
-        match errno {
-            Errno::NoMemory => WorkerFault::NoMemory,
-            _ => WorkerFault::Unexpected,
-        }
+    fn from(error: AllocFailed<T>) -> WorkerFault {
+        WorkerFault::Call(CallError::from(error))
     }
 }
 
@@ -77,8 +69,8 @@ impl From<AllocError> for ServeFault {
 impl From<WorkerFault> for ServeFault {
     fn from(fault: WorkerFault) -> ServeFault {
         match fault {
-            WorkerFault::NoMemory => ServeFault::NoMemory,
-            WorkerFault::Unexpected => ServeFault::Worker,
+            WorkerFault::Call(CallError::NoMemory) => ServeFault::NoMemory,
+            WorkerFault::Call(_) | WorkerFault::Unexpected => ServeFault::Worker,
         }
     }
 }

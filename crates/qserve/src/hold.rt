@@ -1,66 +1,58 @@
 //! A server that keeps the first message until it has received a second. So two clients have to be blocked at once:
 //! one after the other, each run to its end, can't be.
 
-use crate::calls::{Received, Request, msg_receive, received_in, shutdown};
-use crate::endpoint::Endpoint;
 use crate::fault::WorkerFault;
 use crate::protocol::{COUNT, REQUEST_LENGTH};
 use crate::server::{answer, serve_all};
 use crate::tally::Tally;
 use crossbeam_utils::Backoff;
-use qbase::bytes::Bytes;
 use qbase::ids::ChannelId;
-use qmodel::call::{Call, Completion};
-use qshared::port::Called;
-use std::alloc::Global;
+use qcalls::caller::Caller;
+use qcalls::endpoint::Endpoint;
+use qcalls::results::{Pulse, Received, Request};
+use qqueue::item::What;
 use std::sync::Wait;
 
 /// How often a server that keeps a message polls in vain before it gives up: about a second.
 const MOST_POLLS: u32 = 1_000_000;
 
-/// A server's work that begins by holding a message. A fault ends the whole demonstration. `alarm` is another
-/// thread's endpoint, for the Shutdown of a server whose own receive is still open.
+/// A server's work that begins by holding a message. A fault ends the whole demonstration. `alarm` is another thread,
+/// for the Shutdown of a server whose own receive is still open.
 pub fn holding_server<E: Endpoint, R: Wait>(
-    rt: &R,
-    alloc: Global,
-    port: &mut E,
-    alarm: &mut E,
+    caller: &mut Caller<E, R>,
+    alarm: &mut Caller<E, R>,
     chid: ChannelId,
 ) -> Result<Tally, WorkerFault> {
-    let done = hold_and_serve(rt, alloc, port, chid);
-    if done.is_err() && shutdown(rt, port).is_err() {
-        let _ = shutdown(rt, alarm);
+    let done = hold_and_serve(caller, chid);
+    if done.is_err() && caller.shutdown().is_err() {
+        let _ = alarm.shutdown();
     }
     done
 }
 
 /// Holds the first message until there is a second, answers both in order, and goes on as any server.
 fn hold_and_serve<E: Endpoint, R: Wait>(
-    rt: &R,
-    alloc: Global,
-    port: &mut E,
+    caller: &mut Caller<E, R>,
     chid: ChannelId,
 ) -> Result<Tally, WorkerFault> {
     let mut tally = Tally::new();
-    let first = next_request(rt, alloc, port, chid, &mut tally)?;
-    let second = polled_request(rt, alloc, port, chid, &mut tally)?;
-    answer(rt, alloc, port, &first)?;
+    let first = next_request(caller, chid, &mut tally)?;
+    let second = polled_request(caller, chid, &mut tally)?;
+    answer(caller, &first)?;
     tally.count_answered();
-    answer(rt, alloc, port, &second)?;
+    answer(caller, &second)?;
     tally.count_answered();
-    Ok(tally.plus(serve_all(rt, alloc, port, chid)?))
+    Ok(tally.plus(serve_all(caller, chid)?))
 }
 
 /// The next message, which may be waited for.
 fn next_request<E: Endpoint, R: Wait>(
-    rt: &R,
-    alloc: Global,
-    port: &mut E,
+    caller: &mut Caller<E, R>,
     chid: ChannelId,
     tally: &mut Tally,
 ) -> Result<Request, WorkerFault> {
-    for _ in rt.forever() {
-        let item = msg_receive(rt, alloc, port, chid, &[0; REQUEST_LENGTH])?;
+    for _ in caller.rt().forever() {
+        let item = caller.msg_receive(chid, REQUEST_LENGTH)?;
         if let Some(request) = request_in(item, tally)? {
             return Ok(request);
         }
@@ -70,15 +62,13 @@ fn next_request<E: Endpoint, R: Wait>(
 
 /// The next message, for which the server polls.
 fn polled_request<E: Endpoint, R: Wait>(
-    rt: &R,
-    alloc: Global,
-    port: &mut E,
+    caller: &mut Caller<E, R>,
     chid: ChannelId,
     tally: &mut Tally,
 ) -> Result<Request, WorkerFault> {
     let mut polls = MOST_POLLS;
-    for _ in rt.forever() {
-        let item = polled_receive(rt, alloc, port, chid, &mut polls)?;
+    for _ in caller.rt().forever() {
+        let item = polled_receive(caller, chid, &mut polls)?;
         if let Some(request) = request_in(item, tally)? {
             return Ok(request);
         }
@@ -90,39 +80,32 @@ fn polled_request<E: Endpoint, R: Wait>(
 fn request_in(item: Received, tally: &mut Tally) -> Result<Option<Request>, WorkerFault> {
     match item {
         Received::Message(request) => Ok(Some(request)),
-        Received::Pulse { code: COUNT, .. } => {
+        Received::Pulse(
+            Pulse {
+                what: What::User { code: COUNT, .. },
+                ..
+            },
+        ) => {
             tally.count_pulse();
             Ok(None)
         }
-        Received::Pulse { .. } => Err(WorkerFault::Unexpected),
+        Received::Pulse(_) => Err(WorkerFault::Unexpected),
     }
 }
 
-/// Takes a message or a pulse of a channel, and polls for one where there is none, at most so many times.
+/// Takes a message or a pulse of a channel, and polls for one if there is none, at most so many times.
 fn polled_receive<E: Endpoint, R: Wait>(
-    rt: &R,
-    alloc: Global,
-    port: &mut E,
+    caller: &mut Caller<E, R>,
     chid: ChannelId,
     polls: &mut u32,
 ) -> Result<Received, WorkerFault> {
-    let call = Call::Receive {
-        chid,
-        buffer: Bytes::copied(alloc, &[0; REQUEST_LENGTH])?,
-    };
-    match port.call(rt, call) {
-        Called::Done(completion) => received_in(completion),
-        Called::Blocked => received_in(poll_some(port, polls)?),
-        Called::Refused(errno, _) => Err(WorkerFault::from(errno)),
+    if let Some(item) = caller.msg_receive_start(chid, REQUEST_LENGTH)? {
+        return Ok(item);
     }
-}
-
-/// Polls for the ending of the blocked call, at most so many times.
-fn poll_some<E: Endpoint>(port: &mut E, polls: &mut u32) -> Result<Completion, WorkerFault> {
     let backoff = Backoff::new();
     'polling: while *polls > 0 {
-        if let Some(completion) = port.poll() {
-            return Ok(completion);
+        if let Some(item) = caller.msg_receive_poll()? {
+            return Ok(item);
         }
         *polls -= 1;
         backoff.snooze();

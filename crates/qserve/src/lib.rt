@@ -2,9 +2,7 @@
 //! `server` and `services` are what a server of one's own begins from.
 #![tactic(auto)]
 
-pub mod calls;
 pub mod client;
-pub mod endpoint;
 pub mod fault;
 pub mod hold;
 pub mod progress;

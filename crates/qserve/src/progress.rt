@@ -1,6 +1,6 @@
 //! How far a run is, on a line that is written over twice a second.
 
-use crate::endpoint::Endpoint;
+use qcalls::endpoint::Endpoint;
 use qmodel::call::{Call, Completion};
 use qshared::port::Called;
 use std::alloc::{AllocError, Global};
@@ -85,7 +85,7 @@ impl<'p, E> Counted<'p, E> {
 }
 
 impl<'p, E: Endpoint> Endpoint for Counted<'p, E> {
-    ghost pending = { λ c. E.pending c.inner };
+    ghost history = { λ c. E.history c.inner };
 
     fn call<R: Wait>(&mut self, rt: &R, call: Call) -> Called {
         self.sending = matches!(call, Call::Send { .. });

@@ -2,7 +2,6 @@
 
 ghost use Rattle.std.specs.Prelude.{◌≤◌};
 
-use crate::calls::Pulse;
 use qbase::priority::Priority;
 
 /// The priority of servers.
@@ -43,22 +42,4 @@ pub fn priority(level: u8) -> Priority
         unreachable!()
     };
     priority
-}
-
-/// The pulse that a client sends in a round, and a server counts.
-pub fn count_pulse(round: u16) -> Pulse {
-    Pulse {
-        priority: priority(CLIENT_LEVEL),
-        code: COUNT,
-        value: i32::from(round),
-    }
-}
-
-/// The pulse that stops a server.
-pub fn stop_pulse() -> Pulse {
-    Pulse {
-        priority: priority(MAIN_LEVEL),
-        code: STOP,
-        value: 0,
-    }
 }

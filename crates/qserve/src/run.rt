@@ -4,11 +4,9 @@ ghost use Rattle.std.specs.Prelude.{IfOk, IfSome};
 ghost use Rattle.qshared.specs.Naming.{AreParts};
 ghost use Rattle.qserve.specs.Recording.{IsRun};
 
-use crate::calls::{channel_create, channel_destroy, connect_attach, msg_send_pulse, shutdown};
-use crate::endpoint::{Endpoint, KernelPort};
 use crate::fault::{ServeFault, WorkerFault};
 use crate::progress::Progress;
-use crate::protocol::stop_pulse;
+use crate::protocol::{MAIN_LEVEL, STOP, priority};
 use crate::settings::{Settings, Stacks};
 use crate::stage::{Joined, Stage, Started};
 use crate::tally::{Tally, both};
@@ -16,6 +14,8 @@ use crate::texts::Totals;
 use crate::timing::{start_of, timing_of};
 use qbase::flags::ChannelFlags;
 use qbase::ids::ConnectionId;
+use qcalls::caller::Caller;
+use qcalls::endpoint::{Endpoint, KernelPort};
 use qkernel::trace::Trace;
 use qshared::kept::Kept;
 use qshared::log::Log;
@@ -141,13 +141,10 @@ fn direct<'s, X, K: Tie + Send + Sync, L: Log + Send, R: Threads + Wait + Clock 
     crew: Crew<K>,
     settings: Settings,
 ) -> Result<Gathered<K>, WorkerFault> {
-    let mut main = KernelPort::new(main, stage.shared);
-    let gathered = conduct(stage, &mut main, crew, settings);
-    if gathered.is_err() {
-        let _ = shutdown(stage.rt, &mut main);
-    }
-    let mut gathered = gathered?;
-    gathered.ports.push(main.into_port())?;
+    let mut main = Caller::new(KernelPort::new(main, stage.shared), stage.rt, stage.alloc);
+    let work = conduct(stage, &mut main, crew, settings);
+    let mut gathered = main.or_shutdown(work)?;
+    gathered.ports.push(main.into_endpoint().into_port())?;
     Ok(gathered)
 }
 
@@ -162,7 +159,7 @@ fn conduct<
     E: Endpoint,
 >(
     stage: &Stage<'s, X, K, L, R>,
-    main: &mut E,
+    main: &mut Caller<'_, E, R>,
     crew: Crew<K>,
     settings: Settings,
 ) -> Result<Gathered<K>, WorkerFault> {
@@ -177,24 +174,20 @@ fn conduct<
         (None, Some(alarm))
     };
     let many = servers.len();
-    let rt = stage.rt;
-    let chid = channel_create(rt, main, ChannelFlags::of(0))?;
-    let coid = connect_attach(rt, main, chid)?;
+    let chid = main.channel_create(ChannelFlags::of(0))?;
+    let coid = main.connect_attach(chid)?;
     let servers = stage.start_servers(servers, given, chid)?;
     let clients = stage.start_clients(clients, chid, settings)?;
-    let started = both(servers.all, clients.all);
-    if started.is_err() {
-        let _ = shutdown(rt, main);
-    }
+    let started = main.or_shutdown(both(servers.all, clients.all));
     if settings.progress {
         stage.show(clients.threads.len() as u64, settings.all_rounds());
     }
     let mut clients = stage.join_all(clients.threads)?;
-    let stopped = stop_servers(rt, main, coid, many);
+    let stopped = stop_servers(main, coid, many);
     let servers = stage.join_all(servers.threads)?;
     let tally = both(both(clients.done, servers.done), both(started, stopped))?;
-    channel_destroy(rt, main, chid)?;
-    shutdown(rt, main)?;
+    main.channel_destroy(chid)?;
+    main.shutdown()?;
     let trips = mem::replace(&mut clients.trips, Vec::new(stage.alloc));
     let ports = ports_of(servers, clients, kept)?;
     Ok(Gathered {
@@ -206,16 +199,13 @@ fn conduct<
 
 /// Sends as many pulses as there are servers, each of which stops one. Where that fails, a Shutdown does.
 fn stop_servers<E: Endpoint, R: Wait>(
-    rt: &R,
-    main: &mut E,
+    main: &mut Caller<E, R>,
     coid: ConnectionId,
     servers: usize,
 ) -> Result<Tally, WorkerFault> {
     for _ in 0..servers {
-        if let Err(fault) = msg_send_pulse(rt, main, coid, stop_pulse()) {
-            let _ = shutdown(rt, main);
-            return Err(fault);
-        }
+        let sent = main.msg_send_pulse(coid, priority(MAIN_LEVEL), STOP, 0);
+        main.or_shutdown(sent)?;
     }
     Ok(Tally::new())
 }

@@ -1,47 +1,46 @@
 //! A server: it receives, and replies, until it is told to stop. Main created the channel, on which several servers
 //! may receive.
 
-use crate::calls::{Received, Request, msg_error, msg_receive, msg_reply, shutdown};
-use crate::endpoint::Endpoint;
 use crate::fault::WorkerFault;
 use crate::protocol::{COUNT, REQUEST_LENGTH, STOP};
 use crate::services::{Outcome, serve_one};
 use crate::tally::Tally;
 use qbase::ids::ChannelId;
-use std::alloc::Global;
+use qcalls::caller::Caller;
+use qcalls::endpoint::Endpoint;
+use qcalls::error::CallError;
+use qcalls::results::{Received, Request};
+use qqueue::item::What;
 use std::sync::Wait;
 
 /// A server's work, until the stop pulse comes. A fault ends the whole demonstration.
 pub fn server<E: Endpoint, R: Wait>(
-    rt: &R,
-    alloc: Global,
-    port: &mut E,
+    caller: &mut Caller<E, R>,
     chid: ChannelId,
 ) -> Result<Tally, WorkerFault> {
-    let done = serve_all(rt, alloc, port, chid);
-    if done.is_err() {
-        let _ = shutdown(rt, port);
-    }
-    done
+    let work = serve_all(caller, chid);
+    caller.or_shutdown(work)
 }
 
 /// Receives, and replies, until the stop pulse comes.
 pub fn serve_all<E: Endpoint, R: Wait>(
-    rt: &R,
-    alloc: Global,
-    port: &mut E,
+    caller: &mut Caller<E, R>,
     chid: ChannelId,
 ) -> Result<Tally, WorkerFault> {
     let mut tally = Tally::new();
-    for _ in rt.forever() {
-        match msg_receive(rt, alloc, port, chid, &[0; REQUEST_LENGTH])? {
+    for _ in caller.rt().forever() {
+        let pulse = match caller.msg_receive(chid, REQUEST_LENGTH)? {
             Received::Message(request) => {
-                answer(rt, alloc, port, &request)?;
+                answer(caller, &request)?;
                 tally.count_answered();
+                continue;
             }
-            Received::Pulse { code: COUNT, .. } => tally.count_pulse(),
-            Received::Pulse { code: STOP, .. } => return Ok(tally),
-            Received::Pulse { .. } => return Err(WorkerFault::Unexpected),
+            Received::Pulse(pulse) => pulse,
+        };
+        match pulse.what {
+            What::User { code: COUNT, .. } => tally.count_pulse(),
+            What::User { code: STOP, .. } => return Ok(tally),
+            _ => return Err(WorkerFault::Unexpected),
         }
     }
     unreachable!()
@@ -49,15 +48,13 @@ pub fn serve_all<E: Endpoint, R: Wait>(
 
 /// Answers a message as its service does.
 pub fn answer<E: Endpoint, R: Wait>(
-    rt: &R,
-    alloc: Global,
-    port: &mut E,
+    caller: &mut Caller<E, R>,
     request: &Request,
-) -> Result<(), WorkerFault> {
-    let message = request.message();
+) -> Result<(), CallError> {
+    let message = request.bytes();
     match serve_one(message) {
-        Outcome::Same => msg_reply(rt, alloc, port, request.rcvid, 0, message),
-        Outcome::Bytes(bytes) => msg_reply(rt, alloc, port, request.rcvid, 0, &bytes),
-        Outcome::Error(code) => msg_error(rt, port, request.rcvid, code),
+        Outcome::Same => caller.msg_reply(request.rcvid, 0, message),
+        Outcome::Bytes(bytes) => caller.msg_reply(request.rcvid, 0, &bytes),
+        Outcome::Error(code) => caller.msg_error(request.rcvid, code),
     }
 }

@@ -1,7 +1,6 @@
 //! Workers on threads of their own.
 
 use crate::client::client;
-use crate::endpoint::KernelPort;
 use crate::fault::WorkerFault;
 use crate::hold::holding_server;
 use crate::progress::{Counted, Progress, show};
@@ -11,6 +10,8 @@ use crate::settings::{Settings, Stacks};
 use crate::tally::{Tally, both};
 use crate::timed::{Stopwatch, Timed};
 use qbase::ids::ChannelId;
+use qcalls::caller::Caller;
+use qcalls::endpoint::KernelPort;
 use qshared::log::Log;
 use qshared::port::Port;
 use qshared::shared::Shared;
@@ -167,10 +168,10 @@ fn client_thread<K: Tie, L: Log, R: Wait + Clock>(
         inner: KernelPort::new(port, shared),
         stopwatch: Stopwatch::new(rt, alloc, settings.time),
     };
-    let mut port = Counted::new(port, progress);
-    let done = client(rt, alloc, &mut port, chid, number, settings.rounds);
+    let mut caller = Caller::new(Counted::new(port, progress), rt, alloc);
+    let done = client(&mut caller, chid, number, settings.rounds);
     progress.end(rt);
-    let Timed { inner, stopwatch } = port.into_inner();
+    let Timed { inner, stopwatch } = caller.into_endpoint().into_inner();
     Ended {
         done: both(done, stopwatch.all()),
         port: inner.into_port(),
@@ -188,23 +189,22 @@ fn server_thread<K: Tie, L: Log, R: Wait>(
     alarm: Option<Port<K>>,
     chid: ChannelId,
 ) -> Ended<K> {
-    let mut port = KernelPort::new(port, shared);
+    let mut caller = Caller::new(KernelPort::new(port, shared), rt, alloc);
     let Some(alarm) = alarm else {
-        let done = server(rt, alloc, &mut port, chid);
-        let port = port.into_port();
+        let done = server(&mut caller, chid);
         return Ended {
             done,
-            port,
+            port: caller.into_endpoint().into_port(),
             alarm: None,
             trips: Vec::new(alloc),
         };
     };
-    let mut alarm = KernelPort::new(alarm, shared);
-    let done = holding_server(rt, alloc, &mut port, &mut alarm, chid);
+    let mut alarm = Caller::new(KernelPort::new(alarm, shared), rt, alloc);
+    let done = holding_server(&mut caller, &mut alarm, chid);
     Ended {
         done,
-        port: port.into_port(),
-        alarm: Some(alarm.into_port()),
+        port: caller.into_endpoint().into_port(),
+        alarm: Some(alarm.into_endpoint().into_port()),
         trips: Vec::new(alloc),
     }
 }

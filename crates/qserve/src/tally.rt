@@ -1,6 +1,7 @@
 //! What a worker did, in numbers.
 
 use crate::fault::WorkerFault;
+use qcalls::error::CallError;
 
 /// What one worker did, or several together.
 #[derive(Clone, Copy, Debug, PartialEq, Eq)]
@@ -53,16 +54,18 @@ impl Tally {
     }
 }
 
-/// Two endings together: what both did, or a fault. Want of memory goes before any other fault.
+/// Two endings together: what both did, or a fault. Want of memory goes before any other fault, and the first's fault
+/// before the second's.
 pub fn both(
     first: Result<Tally, WorkerFault>,
     second: Result<Tally, WorkerFault>,
 ) -> Result<Tally, WorkerFault> {
     match (first, second) {
         (Ok(first), Ok(second)) => Ok(first.plus(second)),
-        (Err(WorkerFault::NoMemory), _) | (_, Err(WorkerFault::NoMemory)) => {
-            Err(WorkerFault::NoMemory)
+        (Err(WorkerFault::Call(CallError::NoMemory)), _)
+        | (_, Err(WorkerFault::Call(CallError::NoMemory))) => {
+            Err(WorkerFault::Call(CallError::NoMemory))
         }
-        _ => Err(WorkerFault::Unexpected),
+        (Err(fault), _) | (_, Err(fault)) => Err(fault),
     }
 }

@@ -1,8 +1,9 @@
 //! An endpoint that times what a client waits for.
 
-use crate::endpoint::Endpoint;
 use crate::fault::WorkerFault;
 use crate::tally::Tally;
+use qcalls::endpoint::Endpoint;
+use qcalls::error::CallError;
 use qmodel::call::{Call, Completion};
 use qshared::port::Called;
 use std::alloc::Global;
@@ -58,7 +59,7 @@ impl<'c, C: Clock> Stopwatch<'c, C> {
             return;
         };
         if self.trips.push(nanoseconds_of(taken)).is_err() {
-            self.all = Err(WorkerFault::NoMemory);
+            self.all = Err(WorkerFault::Call(CallError::NoMemory));
         }
     }
 
@@ -87,7 +88,7 @@ pub struct Timed<'c, E, C> {
 }
 
 impl<'c, E: Endpoint, C: Clock> Endpoint for Timed<'c, E, C> {
-    ghost pending = { λ t. E.pending t.inner };
+    ghost history = { λ t. E.history t.inner };
 
     fn call<R: Wait>(&mut self, rt: &R, call: Call) -> Called {
         self.stopwatch.called(&call);

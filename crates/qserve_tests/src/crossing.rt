@@ -7,13 +7,14 @@ use crossbeam_utils::Backoff;
 use qbase::flags::ChannelFlags;
 use qbase::ids::{ChannelId, ConnectionId, ProcessNo, ThreadNo};
 use qbase::priority::Priority;
-use qkernel::call::{Call, Completion, Mark};
+use qcalls::caller::Caller;
+use qcalls::endpoint::{Endpoint, KernelPort};
+use qcalls::error::CallError;
+use qcalls::results::{Pulse, Received};
 use qqueue::item::What;
-use qserve::calls::{channel_create, connect_attach, shutdown};
-use qserve::endpoint::{Endpoint, KernelPort};
 use qshared::kept::Kept;
 use qshared::parts::Parts;
-use qshared::port::{Called, Port};
+use qshared::port::Port;
 use qshared::report::Report;
 use qshared::shared::Shared;
 use qshared::tie::Tie;
@@ -32,8 +33,16 @@ const MOST_POLLS: u32 = 1_000_000;
 enum Fault {
     /// The other's pulse didn't come while it polled.
     NotCrossed,
-    /// A call was answered in a way that its work doesn't know.
+    /// A call gave no result.
+    Call(CallError),
+    /// What it received isn't the other's pulse.
     Unexpected,
+}
+
+impl From<CallError> for Fault {
+    fn from(error: CallError) -> Fault {
+        Fault::Call(error)
+    }
 }
 
 /// A worker's own channel, its connection to the other's, and the value that it sends.
@@ -44,12 +53,18 @@ struct Way {
     value: i32,
 }
 
-/// Polls for the ending of the blocked call.
-fn polled<E: Endpoint>(port: &mut E) -> Result<Completion, Fault> {
+/// Takes a message or a pulse of a channel, and polls for it.
+fn polled<E: Endpoint, R: Wait>(
+    caller: &mut Caller<E, R>,
+    chid: ChannelId,
+) -> Result<Received, Fault> {
+    if let Some(item) = caller.msg_receive_start(chid, 0)? {
+        return Ok(item);
+    }
     let backoff = Backoff::new();
     for _ in 0..MOST_POLLS {
-        if let Some(completion) = port.poll() {
-            return Ok(completion);
+        if let Some(item) = caller.msg_receive_poll()? {
+            return Ok(item);
         }
         backoff.snooze();
     }
@@ -57,28 +72,15 @@ fn polled<E: Endpoint>(port: &mut E) -> Result<Completion, Fault> {
 }
 
 /// Sends the other a pulse, takes one, and gives its value.
-fn worker<E: Endpoint, R: Wait>(rt: &R, port: &mut E, way: Way) -> Result<i32, Fault> {
-    let priority = Priority::new(10).ok_or(Fault::Unexpected)?;
-    let pulse = Call::Pulse {
-        coid: way.other,
-        priority,
-        code: 1,
-        value: way.value,
-    };
-    let sent = port.call(rt, pulse);
-    if !matches!(sent, Called::Done(Completion { mark: Mark::Ok, .. })) {
-        return Err(Fault::Unexpected);
-    }
-    let received = match port.call(rt, Call::ReceivePulse(way.own)) {
-        Called::Done(completion) => completion,
-        Called::Blocked => polled(port)?,
-        Called::Refused(_, _) => return Err(Fault::Unexpected),
-    };
-    match received.mark {
-        Mark::Pulse {
-            what: What::User { code: 1, value },
-            ..
-        } => Ok(value),
+fn worker<E: Endpoint, R: Wait>(caller: &mut Caller<E, R>, way: Way) -> Result<i32, Fault> {
+    caller.msg_send_pulse(way.other, Priority::lowest(), 1, way.value)?;
+    match polled(caller, way.own)? {
+        Received::Pulse(
+            Pulse {
+                what: What::User { code: 1, value },
+                ..
+            },
+        ) => Ok(value),
         _ => Err(Fault::Unexpected),
     }
 }
@@ -95,11 +97,19 @@ fn parts(rt: &impl Abort, alloc: Global) -> Parts {
 }
 
 /// A channel for each thread, and for each a connection to the other's.
-fn ways<E: Endpoint, R: Wait + Abort>(rt: &R, first: &mut E, second: &mut E) -> (Way, Way) {
-    let one = channel_create(rt, first, ChannelFlags::of(0)).expect(rt, "a channel");
-    let two = channel_create(rt, second, ChannelFlags::of(0)).expect(rt, "a channel");
-    let to_two = connect_attach(rt, first, two).expect(rt, "a connection");
-    let to_one = connect_attach(rt, second, one).expect(rt, "a connection");
+fn ways<E: Endpoint, R: Wait + Abort>(
+    rt: &R,
+    first: &mut Caller<E, R>,
+    second: &mut Caller<E, R>,
+) -> (Way, Way) {
+    let one = first
+        .channel_create(ChannelFlags::of(0))
+        .expect(rt, "a channel");
+    let two = second
+        .channel_create(ChannelFlags::of(0))
+        .expect(rt, "a channel");
+    let to_two = first.connect_attach(two).expect(rt, "a connection");
+    let to_one = second.connect_attach(one).expect(rt, "a connection");
     (
         Way {
             own: one,
@@ -131,19 +141,21 @@ fn cross_at_once<K: Tie + Send + Sync, R: Threads + Wait + Abort + Sync>(
     requires named { AreParts K.names K.name K.parts parts }
 {
     let (shared, mut ports) = Shared::<K, Kept<K>>::open(parts).expect(rt, "a kernel");
-    let mut second = KernelPort::new(ports.pop().expect(rt, "a port"), &shared);
-    let mut first = KernelPort::new(ports.pop().expect(rt, "a port"), &shared);
+    let second = KernelPort::new(ports.pop().expect(rt, "a port"), &shared);
+    let first = KernelPort::new(ports.pop().expect(rt, "a port"), &shared);
+    let mut second = Caller::new(second, rt, alloc);
+    let mut first = Caller::new(first, rt, alloc);
     let (one, two) = ways(rt, &mut first, &mut second);
     let (got, other_got) = join(
         rt,
-        || -> Result<i32, Fault> { worker(rt, &mut first, one) },
-        || -> Result<i32, Fault> { worker(rt, &mut second, two) },
+        || -> Result<i32, Fault> { worker(&mut first, one) },
+        || -> Result<i32, Fault> { worker(&mut second, two) },
     );
     assert_eq!(rt; got, Ok(2));
     assert_eq!(rt; other_got, Ok(1));
-    assert!(rt; shutdown(rt, &mut first).is_ok());
-    assert!(rt; ports.push(first.into_port()).is_ok());
-    assert!(rt; ports.push(second.into_port()).is_ok());
+    assert!(rt; first.shutdown().is_ok());
+    assert!(rt; ports.push(first.into_endpoint().into_port()).is_ok());
+    assert!(rt; ports.push(second.into_endpoint().into_port()).is_ok());
     finished(rt, shared, ports)
 }
 
@@ -162,11 +174,13 @@ fn cross_in_turn<K: Tie, R: Wait + Abort>(rt: &R, alloc: Global, parts: Parts) -
     requires named { AreParts K.names K.name K.parts parts }
 {
     let (shared, mut ports) = Shared::<K, Kept<K>>::open(parts).expect(rt, "a kernel");
-    let mut second = KernelPort::new(ports.pop().expect(rt, "a port"), &shared);
-    let mut first = KernelPort::new(ports.pop().expect(rt, "a port"), &shared);
+    let second = KernelPort::new(ports.pop().expect(rt, "a port"), &shared);
+    let first = KernelPort::new(ports.pop().expect(rt, "a port"), &shared);
+    let mut second = Caller::new(second, rt, alloc);
+    let mut first = Caller::new(first, rt, alloc);
     let (one, two) = ways(rt, &mut first, &mut second);
-    let got = worker(rt, &mut first, one);
-    let other_got = worker(rt, &mut second, two);
+    let got = worker(&mut first, one);
+    let other_got = worker(&mut second, two);
     assert_eq!(rt; other_got, Ok(1));
     got
 }

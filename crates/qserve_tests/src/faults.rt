@@ -3,7 +3,7 @@
 use crate::pairs::{ends_of, fail_in_turn};
 use crate::scripted::NEVER;
 use qbase::errno::Errno;
-use qserve::fault::WorkerFault;
+use qserve::fault::ServeFault;
 use qserve::tally::both;
 use std::alloc::Global;
 use std::process::Abort;
@@ -17,33 +17,33 @@ fn expect_fault<R: Threads + Wait + Abort + Sync>(
     server_left: u32,
     client_left: u32,
     errno: Errno,
-    fault: WorkerFault,
+    fault: ServeFault,
 ) {
     let ends = ends_of(rt, alloc, server_left, client_left, errno).expect(rt, "memory");
     assert!(rt; ends.server.is_err() && ends.client.is_err());
-    assert!(rt; both(ends.server, ends.client) == Err(fault));
+    assert!(rt; both(ends.server, ends.client).map_err(ServeFault::from) == Err(fault));
 }
 
-/// Asserts that where the server's ending is spoiled, and where the client's is.
+/// Asserts that where a call of the server is refused, and where one of the client is.
 fn expect_both<R: Threads + Wait + Abort + Sync>(
     rt: &R,
     alloc: Global,
     left: u32,
     errno: Errno,
-    fault: WorkerFault,
+    fault: ServeFault,
 ) {
     expect_fault(rt, alloc, left, NEVER, errno, fault);
     expect_fault(rt, alloc, NEVER, left, errno, fault);
 }
 
-/// Each of the first calls of a client, and of a server, meets an answer that is none to it, and then finds no memory.
+/// Each of the first calls of a client, and of a server, is refused, and then finds no memory.
 #[test]
 fn a_fault_of_one_ends_the_other(rt: HostRuntime) {
     let alloc = rt.alloc();
     for left in 0..8 {
-        expect_both(&rt, alloc, left, Errno::Srch, WorkerFault::Unexpected);
+        expect_both(&rt, alloc, left, Errno::Srch, ServeFault::Worker);
         let memory = Errno::NoMemory;
-        expect_both(&rt, alloc, left, memory, WorkerFault::NoMemory);
+        expect_both(&rt, alloc, left, memory, ServeFault::NoMemory);
     }
 }
 

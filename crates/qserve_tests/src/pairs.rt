@@ -1,15 +1,15 @@
-//! A server and clients on threads, over the kernel itself, where an ending is spoiled or the clients don't run at once.
+//! A server and clients on threads, over the kernel itself, where a call is refused or the clients don't run at once.
 
 ghost use Rattle.qshared.specs.Naming.{AreParts};
 
-use crate::scripted::Spoiling;
+use crate::scripted::Refusing;
 use qbase::errno::Errno;
 use qbase::flags::ChannelFlags;
 use qbase::ids::{ChannelId, ProcessNo, ThreadNo};
 use qbase::priority::Priority;
-use qserve::calls::channel_create;
+use qcalls::caller::Caller;
+use qcalls::endpoint::KernelPort;
 use qserve::client::client;
-use qserve::endpoint::KernelPort;
 use qserve::fault::WorkerFault;
 use qserve::hold::holding_server;
 use qserve::server::server;
@@ -50,7 +50,7 @@ fn parts(alloc: Global) -> Option<Parts> {
     Parts::new(alloc, &roster, TRACE_LIMIT).ok()
 }
 
-/// A server and a client at once, each with an ending that is spoiled by this error, after so many calls.
+/// A server and a client at once, each with a call that is refused with this error, after so many calls.
 fn pair<K: Tie + Send + Sync, R: Threads + Wait + Sync>(
     rt: &R,
     alloc: Global,
@@ -62,20 +62,22 @@ fn pair<K: Tie + Send + Sync, R: Threads + Wait + Sync>(
     requires named { AreParts K.names K.name K.parts parts }
 {
     let (shared, mut ports) = Shared::<K, Kept<K>>::open(parts).ok()?;
-    let mut alarm = KernelPort::new(ports.pop()?, &shared);
-    let chid = channel_create(rt, &mut alarm, ChannelFlags::of(0)).ok()?;
+    let mut alarm = Caller::new(KernelPort::new(ports.pop()?, &shared), rt, alloc);
+    let chid = alarm.channel_create(ChannelFlags::of(0)).ok()?;
     let _idle: Port<K> = ports.pop()?;
-    let mut client_port = Spoiling::new(KernelPort::new(ports.pop()?, &shared), client_left, errno);
-    let mut server_port = Spoiling::new(KernelPort::new(ports.pop()?, &shared), server_left, errno);
+    let client_port = Refusing::new(KernelPort::new(ports.pop()?, &shared), client_left, errno);
+    let server_port = Refusing::new(KernelPort::new(ports.pop()?, &shared), server_left, errno);
+    let mut sending = Caller::new(client_port, rt, alloc);
+    let mut serving = Caller::new(server_port, rt, alloc);
     let (server, client) = join(
         rt,
-        || -> Result<Tally, WorkerFault> { server(rt, alloc, &mut server_port, chid) },
-        || -> Result<Tally, WorkerFault> { client(rt, alloc, &mut client_port, chid, 0, ROUNDS) },
+        || -> Result<Tally, WorkerFault> { server(&mut serving, chid) },
+        || -> Result<Tally, WorkerFault> { client(&mut sending, chid, 0, ROUNDS) },
     );
     Some(Ends { server, client })
 }
 
-/// How a server and a client end, each with an ending that is spoiled by this error, after so many calls.
+/// How a server and a client end, each with a call that is refused with this error, after so many calls.
 pub fn ends_of<R: Threads + Wait + Sync>(
     rt: &R,
     alloc: Global,
@@ -96,10 +98,10 @@ fn in_turn<K: Tie, R: Wait>(
     second: Port<K>,
     chid: ChannelId,
 ) -> bool {
-    let mut first = KernelPort::new(first, shared);
-    let first = client(rt, alloc, &mut first, chid, 0, 1);
-    let mut second = KernelPort::new(second, shared);
-    let second = client(rt, alloc, &mut second, chid, 1, 1);
+    let mut first = Caller::new(KernelPort::new(first, shared), rt, alloc);
+    let first = client(&mut first, chid, 0, 1);
+    let mut second = Caller::new(KernelPort::new(second, shared), rt, alloc);
+    let second = client(&mut second, chid, 1, 1);
     first.is_err() && second.is_err()
 }
 
@@ -112,14 +114,14 @@ fn held_in_turn<K: Tie + Send + Sync, R: Threads + Wait + Sync>(
     requires named { AreParts K.names K.name K.parts parts }
 {
     let (shared, mut ports) = Shared::<K, Kept<K>>::open(parts).ok()?;
-    let mut alarm = KernelPort::new(ports.pop()?, &shared);
-    let chid = channel_create(rt, &mut alarm, ChannelFlags::of(0)).ok()?;
+    let mut alarm = Caller::new(KernelPort::new(ports.pop()?, &shared), rt, alloc);
+    let chid = alarm.channel_create(ChannelFlags::of(0)).ok()?;
     let second = ports.pop()?;
     let first = ports.pop()?;
-    let mut port = KernelPort::new(ports.pop()?, &shared);
+    let mut serving = Caller::new(KernelPort::new(ports.pop()?, &shared), rt, alloc);
     let (server, clients) = join(
         rt,
-        || -> Result<Tally, WorkerFault> { holding_server(rt, alloc, &mut port, &mut alarm, chid) },
+        || -> Result<Tally, WorkerFault> { holding_server(&mut serving, &mut alarm, chid) },
         || -> bool { in_turn(rt, alloc, &shared, first, second, chid) },
     );
     Some(server == Err(WorkerFault::Unexpected) && clients)

@@ -1,7 +1,8 @@
 //! How far a run is, as it is counted and shown.
 
-use crate::scripted::{Scripted, Told};
+use crate::scripted::{Line, Scripted};
 use qbase::ids::{ChannelId, ConnectionId};
+use qcalls::caller::Caller;
 use qmodel::call::Mark;
 use qserve::client::client;
 use qserve::progress::{Counted, Progress, line_of};
@@ -11,17 +12,18 @@ use std::time::Duration;
 /// A Send whose ending was collected is a round, and no other call is.
 #[test]
 fn a_round_is_counted(rt: HostRuntime) {
-    let told = [
-        Told::Ends(Mark::Connection(ConnectionId(2))),
-        Told::Ends(Mark::Ok),
-        Told::Ends(Mark::Replied {
+    let script = [
+        Line::Ends(Mark::Connection(ConnectionId(2))),
+        Line::Ends(Mark::Ok),
+        Line::Ends(Mark::Replied {
             status: 0,
             copied: 4,
         }),
     ];
     let progress = Progress::new();
-    let mut port = Counted::new(Scripted::new(rt.alloc(), &told), &progress);
-    let done = client(&rt, rt.alloc(), &mut port, ChannelId(1), 0, 1);
+    let counted = Counted::new(Scripted::new(rt.alloc(), &script), &progress);
+    let mut caller = Caller::new(counted, &rt, rt.alloc());
+    let done = client(&mut caller, ChannelId(1), 0, 1);
     assert!(rt; done.is_err());
     assert_eq!(rt; progress.rounds(), 1);
 }

@@ -1,18 +1,20 @@
-//! An endpoint whose answers are written down, and one that spoils an answer of the kernel.
+//! An endpoint whose answers are written down, and one that refuses a call before the kernel sees it.
 
+ghost use Rattle.std.specs.Prelude.{◌+◌, ◌≤◌, IfSome, map, vec_capacity, vec_len};
 ghost use Rattle.std.specs.Option.{is_some};
 
 use qbase::errno::Errno;
 use qbase::ids::ThreadNo;
+use qcalls::endpoint::{Endpoint, Told, told_by};
 use qmodel::call::{Call, Completion, Mark};
-use qserve::endpoint::Endpoint;
 use qshared::port::Called;
 use std::alloc::Global;
+use std::snapshot::Snapshot;
 use std::sync::Wait;
 
-/// What a call is answered.
+/// A line of a script: what a call is answered.
 #[derive(Clone, Copy)]
-pub enum Told {
+pub enum Line {
     /// It ends in its own event.
     Ends(Mark),
     /// It is blocked, and ends so once it is waited for.
@@ -21,24 +23,32 @@ pub enum Told {
     Refused(Errno),
 }
 
-/// Answers its calls as it was told to, and refuses those that come after.
+/// Answers its calls as its script says, and refuses those that come after.
 #[derive(Drop)]
 pub struct Scripted<'a> {
     alloc: Global,
-    told: &'a [Told],
+    script: &'a [Line],
     /// How the call ends that is blocked.
     later: Option<Completion>,
     /// Whether a Shutdown came.
     pub down: bool,
+    told: Told,
+    /// The calls that were events, and the endings that were taken, for clauses alone.
+    asked: Vec<Snapshot<Call>>,
+    taken: Vec<Snapshot<Completion>>,
+    ghost room: { IfSome later (λ _. vec_len taken + 1 ≤ vec_capacity taken) },
 }
 
 impl<'a> Scripted<'a> {
-    pub fn new(alloc: Global, told: &'a [Told]) -> Scripted<'a> {
+    pub fn new(alloc: Global, script: &'a [Line]) -> Scripted<'a> {
         Scripted {
             alloc,
-            told,
+            script,
             later: None,
             down: false,
+            told: Told::Done,
+            asked: Vec::new(alloc),
+            taken: Vec::new(alloc),
         }
     }
 
@@ -51,102 +61,104 @@ impl<'a> Scripted<'a> {
             buffer: call.into_buffer(self.alloc),
         }
     }
-}
 
-impl<'a> Endpoint for Scripted<'a> {
-    ghost pending = { λ s. is_some s.later };
-
-    fn call<R: Wait>(&mut self, _rt: &R, call: Call) -> Called {
-        if let Call::Shutdown = &call {
-            self.down = true;
+    /// Answers a call by the next line.
+    fn answer(&mut self, call: Call) -> Called {
+        if self.asked.reserve(1).is_err() || self.taken.reserve(2).is_err() {
+            return Called::Refused(Errno::NoMemory, call);
         }
-        match self.told {
-            [Told::Ends(mark), rest @ ..] => {
-                self.told = rest;
-                Called::Done(self.ending(call, *mark))
+        match self.script {
+            [Line::Ends(mark), rest @ ..] => {
+                self.script = rest;
+                self.asked.push_reserved(Snapshot::of(&call));
+                let completion = self.ending(call, *mark);
+                self.taken.push_reserved(Snapshot::of(&completion));
+                Called::Done(completion)
             }
-            [Told::Later(mark), rest @ ..] => {
-                self.told = rest;
+            [Line::Later(mark), rest @ ..] => {
+                self.script = rest;
+                self.asked.push_reserved(Snapshot::of(&call));
                 self.later = Some(self.ending(call, *mark));
                 Called::Blocked
             }
-            [Told::Refused(errno), rest @ ..] => {
-                self.told = rest;
+            [Line::Refused(errno), rest @ ..] => {
+                self.script = rest;
                 Called::Refused(*errno, call)
             }
             [] => Called::Refused(Errno::Down, call),
         }
     }
+}
+
+impl<'a> Endpoint for Scripted<'a> {
+    ghost history = { λ s. record { asked = map (λ c. c.value) s.asked.items; taken = map (λ x. x.value) s.taken.items; pending = is_some s.later; told = s.told } };
+
+    fn call<R: Wait>(&mut self, _rt: &R, call: Call) -> Called {
+        if let Call::Shutdown = &call {
+            self.down = true;
+        }
+        let called = self.answer(call);
+        self.told = told_by(&called);
+        called
+    }
 
     fn poll(&mut self) -> Option<Completion> {
-        self.later.take()
+        let completion = self.later.take()?;
+        self.taken.push_reserved(Snapshot::of(&completion));
+        Some(completion)
     }
 
     fn wait<R: Wait>(&mut self, _rt: &R) -> Completion {
-        match self.later.take() {
+        match self.poll() {
             Some(completion) => completion,
             None => unreachable!(),
         }
     }
 }
 
-/// How many calls come before the one that is spoiled, where none is to be.
+/// How many calls come before the one that is refused, if none is to be.
 pub const NEVER: u32 = u32::MAX;
 
-/// Passes calls on, and spoils the ending of one of them.
+/// Passes calls on, and refuses one of them.
 #[derive(Drop)]
-pub struct Spoiling<E> {
+pub struct Refusing<E> {
     inner: E,
     left: u32,
     errno: Errno,
-    now: bool,
+    told: Told,
 }
 
-impl<E> Spoiling<E> {
-    /// Spoils the ending of the call that comes after so many, by this error.
-    pub fn new(inner: E, left: u32, errno: Errno) -> Spoiling<E> {
-        Spoiling {
+impl<E> Refusing<E> {
+    /// Refuses the call that comes after so many, with this error.
+    pub fn new(inner: E, left: u32, errno: Errno) -> Refusing<E> {
+        Refusing {
             inner,
             left,
             errno,
-            now: false,
-        }
-    }
-
-    /// The ending, spoiled if it is the one.
-    fn spoiled(&self, completion: Completion) -> Completion {
-        if !self.now {
-            return completion;
-        }
-        Completion {
-            call: completion.call,
-            thread: completion.thread,
-            mark: Mark::Failed(self.errno),
-            buffer: completion.buffer,
+            told: Told::Done,
         }
     }
 }
 
-impl<E: Endpoint> Endpoint for Spoiling<E> {
-    ghost pending = { λ s. E.pending s.inner };
+impl<E: Endpoint> Endpoint for Refusing<E> {
+    ghost history = { λ r. record { asked = (E.history r.inner).asked; taken = (E.history r.inner).taken; pending = (E.history r.inner).pending; told = r.told } };
 
     fn call<R: Wait>(&mut self, rt: &R, call: Call) -> Called {
-        self.now = self.left == 0;
+        let called = if self.left == 0 {
+            Called::Refused(self.errno, call)
+        } else {
+            self.inner.call(rt, call)
+        };
         self.left = self.left.wrapping_sub(1);
-        match self.inner.call(rt, call) {
-            Called::Done(completion) => Called::Done(self.spoiled(completion)),
-            Called::Blocked => Called::Blocked,
-            Called::Refused(errno, call) => Called::Refused(errno, call),
-        }
+        self.told = told_by(&called);
+        called
     }
 
     fn poll(&mut self) -> Option<Completion> {
-        let completion = self.inner.poll()?;
-        Some(self.spoiled(completion))
+        self.inner.poll()
     }
 
     fn wait<R: Wait>(&mut self, rt: &R) -> Completion {
-        let completion = self.inner.wait(rt);
-        self.spoiled(completion)
+        self.inner.wait(rt)
     }
 }

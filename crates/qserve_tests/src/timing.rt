@@ -1,7 +1,8 @@
 //! How a run and its round trips are timed.
 
-use crate::scripted::{Scripted, Told};
+use crate::scripted::{Line, Scripted};
 use qbase::ids::{ChannelId, ConnectionId};
+use qcalls::caller::Caller;
 use qmodel::call::Mark;
 use qscript::watched::Watched;
 use qserve::client::client;
@@ -58,22 +59,23 @@ fn trips_of<R: Wait + Abort>(
     most: u64,
     on: bool,
 ) -> (Vec<u64>, Option<WorkerFault>) {
-    let told = [
-        Told::Ends(Mark::Connection(ConnectionId(2))),
-        Told::Ends(Mark::Ok),
-        Told::Ends(Mark::Replied {
+    let script = [
+        Line::Ends(Mark::Connection(ConnectionId(2))),
+        Line::Ends(Mark::Ok),
+        Line::Ends(Mark::Replied {
             status: 0,
             copied: 4,
         }),
     ];
     let clock = Steps::new(most);
-    let mut port = Timed {
-        inner: Scripted::new(alloc, &told),
+    let timed = Timed {
+        inner: Scripted::new(alloc, &script),
         stopwatch: Stopwatch::new(&clock, alloc, on),
     };
-    let done = client(rt, alloc, &mut port, ChannelId(1), 0, 1);
+    let mut caller = Caller::new(timed, rt, alloc);
+    let done = client(&mut caller, ChannelId(1), 0, 1);
     assert!(rt; done.is_err());
-    let Timed { stopwatch, .. } = port;
+    let Timed { stopwatch, .. } = caller.into_endpoint();
     let fault = stopwatch.all().err();
     (stopwatch.into_trips(), fault)
 }

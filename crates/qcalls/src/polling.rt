@@ -1,0 +1,60 @@
+//! A receive that is polled for, by a thread that is not to wait.
+
+ghost use Rattle.std.specs.Prelude.{◌≡◌, replicate};
+ghost use Rattle.qcalls.specs.Polling.{Polls, StartsOfBytes, option_in};
+ghost use Rattle.qcalls.specs.Results.{received_in};
+
+use crate::caller::Caller;
+use crate::ending::Ending;
+use crate::endpoint::Endpoint;
+use crate::error::{CallError, refusal};
+use crate::results::Received;
+use qbase::bytes::Bytes;
+use qbase::ids::ChannelId;
+use qmodel::call::{Call, Completion};
+use qshared::port::Called;
+use std::sync::Wait;
+
+impl<'a, E: Endpoint, R: Wait> Caller<'a, E, R> {
+    /// Takes a message, into a buffer of so many bytes, or a pulse of a channel, as `msg_receive`, but doesn't wait for
+    /// one. If there is none it returns `None`, and the caller is RECEIVE-blocked: each call but `msg_receive_poll` is
+    /// refused with `Busy` until that returns what came.
+    pub fn msg_receive_start(
+        &mut self,
+        chid: ChannelId,
+        len: usize,
+    ) -> Result<Option<Received>, CallError>
+        ensures { StartsOfBytes received_in (Call.Receive chid (replicate len 0)) (E.history self.old.endpoint) (E.history self.new.endpoint) result }
+    {
+        let buffer = Bytes::filled(self.alloc, 0, len)?;
+        match self.endpoint.call(self.rt, Call::Receive { chid, buffer }) {
+            Called::Done(completion) => received_by(false, completion),
+            Called::Blocked => Ok(None),
+            Called::Refused(errno, _) => Err(refusal(errno)),
+        }
+    }
+
+    /// Returns what a receive took that was started, if anything came. It waits for nobody, and returns `None` for ever
+    /// if no receive was started.
+    pub fn msg_receive_poll(&mut self) -> Result<Option<Received>, CallError>
+        ensures { Polls received_in (E.history self.old.endpoint) (E.history self.new.endpoint) result }
+    {
+        match self.endpoint.poll() {
+            Some(completion) => received_by(true, completion),
+            None => Ok(None),
+        }
+    }
+}
+
+/// What a receive took that has ended.
+fn received_by(waited: bool, completion: Completion) -> Result<Option<Received>, CallError>
+    ensures { result ≡ option_in received_in waited completion.mark completion.buffer }
+{
+    let Completion { mark, buffer, .. } = completion;
+    let ending = Ending {
+        waited,
+        mark,
+        buffer,
+    };
+    Ok(Some(ending.received()?))
+}
