@@ -2,3 +2,4 @@ pub mod History
 pub mod Errors
 pub mod Results
 pub mod Making
+pub mod Simulating

@@ -3,12 +3,13 @@
 
 pub mod caller;
 mod channels;
-mod ending;
+pub mod ending;
 pub mod endpoint;
 pub mod error;
 mod messages;
 mod pulses;
 pub mod results;
+pub mod simulator;
 mod threads;
 
 /// What a call returns.

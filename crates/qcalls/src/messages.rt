@@ -4,7 +4,7 @@ ghost use Rattle.std.specs.Prelude.{replicate};
 ghost use Rattle.qcalls.specs.Making.{Makes, MakesOfBytes};
 ghost use Rattle.qcalls.specs.Results.{answer_in, bytes_in, count_in, done_in, info_in, received_in};
 
-use crate::caller::{Caller, zeros};
+use crate::caller::Caller;
 use crate::endpoint::Endpoint;
 use crate::error::CallError;
 use crate::results::{Answer, Received};
@@ -25,7 +25,7 @@ impl<'a, E: Endpoint, R: Wait> Caller<'a, E, R> {
         ensures { MakesOfBytes answer_in (Call.Send coid message.now (replicate reply_len 0)) (E.history self.old.endpoint) (E.history self.new.endpoint) result }
     {
         let message = Bytes::copied(self.alloc, message)?;
-        let reply_buffer = zeros(self.alloc, reply_len)?;
+        let reply_buffer = Bytes::filled(self.alloc, 0, reply_len)?;
         let send = Call::Send {
             coid,
             message,
@@ -39,7 +39,7 @@ impl<'a, E: Endpoint, R: Wait> Caller<'a, E, R> {
     pub fn msg_receive(&mut self, chid: ChannelId, len: usize) -> Result<Received, CallError>
         ensures { MakesOfBytes received_in (Call.Receive chid (replicate len 0)) (E.history self.old.endpoint) (E.history self.new.endpoint) result }
     {
-        let buffer = zeros(self.alloc, len)?;
+        let buffer = Bytes::filled(self.alloc, 0, len)?;
         self.make(Call::Receive { chid, buffer })?.received()
     }
 
@@ -79,7 +79,7 @@ impl<'a, E: Endpoint, R: Wait> Caller<'a, E, R> {
     ) -> Result<Bytes, CallError>
         ensures { MakesOfBytes bytes_in (Call.Read rcvid offset (replicate len 0)) (E.history self.old.endpoint) (E.history self.new.endpoint) result }
     {
-        let buffer = zeros(self.alloc, len)?;
+        let buffer = Bytes::filled(self.alloc, 0, len)?;
         let read = Call::Read {
             rcvid,
             offset,

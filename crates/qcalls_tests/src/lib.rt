@@ -4,3 +4,5 @@
 
 #[cfg(test)]
 mod calling;
+#[cfg(test)]
+mod simulating;
