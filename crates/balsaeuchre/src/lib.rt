@@ -7,6 +7,7 @@
 
 pub mod calls;
 pub mod shared;
+pub mod simulator;
 
 pub use qbase::bytes::Bytes;
 pub use qbase::errno::{Errno, word};
