@@ -1,3 +1,4 @@
 pub mod Reading
+pub mod Leading
 pub mod Keeping
 pub mod Simulated

@@ -63,7 +63,9 @@ impl<'a, E: Endpoint, R: Wait> Caller<'a, E, R> {
     pub fn run<T, F: FnOnce(&mut Caller<'a, E, R>) -> Result<T, CallError>>(
         &mut self,
         work: F,
-    ) -> Result<T, CallError> {
+    ) -> Result<T, CallError>
+        requires { F.IsAlwaysCallable work }
+    {
         let done = work(self);
         self.or_shutdown(done)
     }

@@ -8,3 +8,4 @@ pub mod Places
 pub mod Puts
 pub mod Rows
 pub mod Telling
+pub mod TwoCalls
