@@ -26,9 +26,11 @@ pub use Rattle.qshared.specs.Counting
 pub use Rattle.qshared.specs.Due
 pub use Rattle.qshared.specs.Names
 pub use Rattle.qshared.specs.Naming
+pub use Rattle.qshared.specs.TwoCalls
 pub use Rattle.qshared.specs.Unkept
 -- the calls under QNX's names: what an endpoint did, what a call comes to, and what its result is read off
 pub use Rattle.qcalls.specs.History
 pub use Rattle.qcalls.specs.Errors
 pub use Rattle.qcalls.specs.Results
 pub use Rattle.qcalls.specs.Making
+pub use Rattle.qcalls.specs.Closing

@@ -1,10 +1,12 @@
 //! The calls of a thread over the shared kernel, under QNX Neutrino's names.
 //!
-//! A thread makes a `KernelPort` of its `Port` and the shared kernel, and a `Caller` of that. Each method of the caller
-//! waits for its call's ending, and returns what the call is for or a `CallError`.
+//! A thread makes a `Caller` of its `Port` and the shared kernel. Each method of the caller waits for its call's ending,
+//! and returns what the call is for or a `CallError`.
 
 pub use qcalls::Result;
+pub use qcalls::alarms::Alarms;
 pub use qcalls::caller::Caller;
-pub use qcalls::endpoint::{Endpoint, KernelPort, Told};
+pub use qcalls::endpoint::{Endpoint, KernelPort, Told, call_in_turn};
 pub use qcalls::error::CallError;
+pub use qcalls::opening::{PortCaller, close, two_callers};
 pub use qcalls::results::{Answer, Pulse, Received, Request, State};

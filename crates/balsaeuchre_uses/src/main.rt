@@ -3,6 +3,7 @@
 
 mod calls;
 mod carried;
+mod driver;
 mod fault;
 mod first_message;
 mod kept_waiting;
@@ -43,9 +44,12 @@ fn main(rt: HostRuntime) -> Result<(), Fail> {
     )?;
     println!(rt; "one thread")?;
     show(&rt, &one_thread::echo(alloc, b"hello")?)?;
-    let messages = 3;
-    let trace = two_threads::on_two_threads(&rt, alloc, messages)?;
+    let trace = two_threads::on_two_threads(&rt, alloc)?;
+    let messages = two_threads::MESSAGES.len();
     println!(rt; "two threads\n  {messages} messages, {} calls", trace.len())?;
+    let values = [7, -2, 30];
+    driver::with_a_driver(&rt, alloc, &values)?;
+    println!(rt; "driver\n  {} values", values.len())?;
     println!(rt; "kept waiting")?;
     for ending in &kept_waiting::kept_waiting(alloc)? {
         show(&rt, ending)?;

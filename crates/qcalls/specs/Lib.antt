@@ -2,4 +2,5 @@ pub mod History
 pub mod Errors
 pub mod Results
 pub mod Making
+pub mod Closing
 pub mod Polling

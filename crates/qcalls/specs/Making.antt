@@ -1,10 +1,12 @@
 -- What becomes of a call that is made: what its port asked for and took, and what the result is read off.
-use Rattle.std.specs.Prelude.{◌≡◌, ◌⊎◌, Bool, true, false, [], ◌∷◌, ◌++◌, Result, Ok, Err}
+use Rattle.std.specs.Prelude.{◌≡◌, ◌⊎◌, ⊤, Bool, true, false, [], ◌∷◌, ◌++◌, Result, Ok, Err}
 use Rattle.qmodel.specs.declared.call.Call.{Call}
 use Rattle.qmodel.specs.declared.call.Completion.{Completion}
+use Rattle.qshared.specs.declared.port.Called.{Called}
+use Rattle.qshared.specs.declared.port.Called.TheVariants as called
 use Rattle.qcalls.specs.Errors.{refusal}
 use Rattle.qcalls.specs.History.{History}
-use Rattle.qcalls.specs.Results.{Reading}
+use Rattle.qcalls.specs.Results.{Reading, done_in}
 use Rattle.qcalls.specs.declared.ending.Ending.{Ending}
 use Rattle.qcalls.specs.declared.endpoint.Told.{Told}
 use Rattle.qcalls.specs.declared.endpoint.Told.TheVariants.{Done, Blocked, Refused}
@@ -39,11 +41,39 @@ MakesOfBytes read call before after result =
 abbrev pub MakesSome : {A : Type 0} → Reading A → Call → History → History → Type 0
 MakesSome read call before after = (result : Result _ CallError) × Makes read call before after result
 
--- all of an ending that a result is read off
-abbrev pub ending_in : Reading Ending
-ending_in waited mark buffer = Ok (record { waited = waited; mark = mark; buffer = buffer })
-
 -- what is read off an ending, if there is one
 abbrev pub read_off : {A : Type 0} → Reading A → Result Ending CallError → Result A CallError
 read_off read (Ok e) = read e.waited e.mark e.buffer
 read_off read (Err e) = Err e
+
+-- all of an ending that a result is read off
+abbrev pub ending_in : Reading Ending
+ending_in waited mark buffer = Ok (record { waited = waited; mark = mark; buffer = buffer })
+
+-- what an answer leads to: a refusal, or an ending, which came with the answer or is taken after a wait
+abbrev pub Leads : Called → History → History → Result Ending CallError → Type 0
+Leads (called.Refused errno given) before after result = (after ≡ before) × (result ≡ Err (refusal errno))
+Leads (called.Done x) before after result = (after ≡ before) × (result ≡ ending_in false x.mark x.buffer)
+Leads called.Blocked before after result =
+    (x : Completion) × (after.taken ≡ before.taken ++ x ∷ []) × (after.pending ≡ false)
+    × (after.asked ≡ before.asked) × (after.told ≡ before.told) × (result ≡ ending_in true x.mark x.buffer)
+
+-- a call is made after one that did what it says; after any other nothing is done, and its error is the result
+abbrev pub Follows : {A : Type 0} → Reading A → Call → Result ⊤ CallError → History → History
+    → Result A CallError → Type 0
+Follows read call (Ok done) before after result = Makes read call before after result
+Follows read call (Err e) before after result = (after ≡ before) × (result ≡ Err e)
+
+-- two calls are made in turn: the first, and the second where the first did what it says
+pub record MakesBoth {A : Type 0} (read : Reading A) (first second : Call) (before after : History)
+    (result : Result A CallError) : Type 0 where
+  pub between : History
+  pub came : Result ⊤ CallError
+  pub makes : Makes done_in first before between came
+  pub follows : Follows read second came between after result
+
+-- two calls with bytes are made in turn, or there was no memory for the bytes and the port did nothing
+abbrev pub MakesBothOfBytes : {A : Type 0} → Reading A → Call → Call → History → History
+    → Result A CallError → Type 0
+MakesBothOfBytes read first second before after result =
+    MakesBoth read first second before after result ⊎ ((after ≡ before) × (result ≡ Err NoMemory))

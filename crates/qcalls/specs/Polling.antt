@@ -11,33 +11,39 @@ use Rattle.qcalls.specs.declared.error.CallError.{CallError}
 use Rattle.qcalls.specs.declared.error.CallError.TheVariants.{NoMemory}
 
 -- the result of a call that has ended
-abbrev pub ended : {A : Type 0} → Result A CallError → Result (Option A) CallError
-ended (Ok a) = Ok (Some a)
-ended (Err e) = Err e
+abbrev pub option_of : {A : Type 0} → Result A CallError → Result (Option A) CallError
+option_of (Ok a) = Ok (Some a)
+option_of (Err e) = Err e
 
 -- the same, read off its ending
-abbrev pub ended_in : {A : Type 0} → Reading A → Reading (Option A)
-ended_in read waited mark buffer = ended (read waited mark buffer)
+abbrev pub option_in : {A : Type 0} → Reading A → Reading (Option A)
+option_in read waited mark buffer = option_of (read waited mark buffer)
 
--- a call that was started was answered so: it was refused or has ended, as any call, or it was asked for and is pending, with nothing taken
-abbrev pub Begins : {A : Type 0} → Reading A → Call → History → History → Result (Option A) CallError → Told → Type 0
+-- a call that was started was answered so: it was refused or has ended, as any call, or it was asked for
+-- and is pending, with nothing taken
+abbrev pub Begins : {A : Type 0} → Reading A → Call → History → History → Result (Option A) CallError → Told
+    → Type 0
 Begins read call before after result Blocked =
-    (after.asked ≡ before.asked ++ call ∷ []) × (after.taken ≡ before.taken) × (after.pending ≡ true) × (result ≡ Ok None)
+    (after.asked ≡ before.asked ++ call ∷ []) × (after.taken ≡ before.taken) × (after.pending ≡ true)
+    × (result ≡ Ok None)
 Begins read call before after result told =
-    Comes (ended_in read) call before after result told × (after.pending ≡ before.pending)
+    Comes (option_in read) call before after result told × (after.pending ≡ before.pending)
 
 -- a call with bytes is started, or there was no memory for them and the port did nothing
-abbrev pub StartsOfBytes : {A : Type 0} → Reading A → Call → History → History → Result (Option A) CallError → Type 0
+abbrev pub StartsOfBytes : {A : Type 0} → Reading A → Call → History → History → Result (Option A) CallError
+    → Type 0
 StartsOfBytes read call before after result =
     Begins read call before after result after.told ⊎ ((after ≡ before) × (result ≡ Err NoMemory))
 
 -- just one ending was taken, no call is pending, and the result is what is read off that ending, after a wait
 abbrev pub Came : {A : Type 0} → Reading A → History → History → Result (Option A) CallError → Type 0
 Came read before after result =
-    (x : Completion) × (after.taken ≡ before.taken ++ x ∷ []) × (after.pending ≡ false) × (result ≡ ended_in read true x.mark x.buffer)
+    (x : Completion) × (after.taken ≡ before.taken ++ x ∷ []) × (after.pending ≡ false)
+    × (result ≡ option_in read true x.mark x.buffer)
 
 -- the pending call is polled for, and nothing is asked for: its ending came, or nothing has changed
 abbrev pub Polls : {A : Type 0} → Reading A → History → History → Result (Option A) CallError → Type 0
 Polls read before after result =
     (after.asked ≡ before.asked) × (after.told ≡ before.told)
-    × (Came read before after result ⊎ ((after.taken ≡ before.taken) × (after.pending ≡ before.pending) × (result ≡ Ok None)))
+    × (Came read before after result
+    ⊎ ((after.taken ≡ before.taken) × (after.pending ≡ before.pending) × (result ≡ Ok None)))

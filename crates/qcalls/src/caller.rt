@@ -1,14 +1,15 @@
 //! A thread that makes calls.
 
-ghost use Rattle.std.specs.Prelude.{◌≡◌};
-ghost use Rattle.qcalls.specs.Making.{Makes, ending_in};
+ghost use Rattle.std.specs.Prelude.{◌≡◌, false, true};
+ghost use Rattle.qshared.specs.Counting.{pends};
+ghost use Rattle.qcalls.specs.Making.{Leads, Makes, MakesBoth, ending_in};
 
 use crate::ending::Ending;
 use crate::endpoint::Endpoint;
 use crate::error::{CallError, refusal};
-use qbase::bytes::Bytes;
+use qbase::ids::ThreadNo;
 use qmodel::call::{Call, Completion};
-use qshared::port::Called;
+use qshared::port::{Called, CalledBoth};
 use std::alloc::Global;
 use std::sync::Wait;
 
@@ -47,11 +48,32 @@ impl<'a, E: Endpoint, R: Wait> Caller<'a, E, R> {
         self.rt
     }
 
-    /// Makes a call, and waits for its ending.
-    pub(crate) fn make(&mut self, call: Call) -> Result<Ending, CallError>
-        ensures { Makes ending_in call (E.history self.old.endpoint) (E.history self.new.endpoint) result }
+    /// The allocator that its buffers come from.
+    pub fn alloc(&self) -> Global {
+        self.alloc
+    }
+
+    /// The thread that makes the calls.
+    pub fn thread(&self) -> ThreadNo {
+        self.endpoint.thread()
+    }
+
+    /// Does a thread's work, and shuts the kernel down if it fails, so that no other thread is left blocked. Returns
+    /// what the work returned.
+    pub fn run<T, F: FnOnce(&mut Caller<'a, E, R>) -> Result<T, CallError>>(
+        &mut self,
+        work: F,
+    ) -> Result<T, CallError> {
+        let done = work(self);
+        self.or_shutdown(done)
+    }
+
+    /// The ending that an answer leads to, for which it waits if the call is blocked.
+    fn ending_of(&mut self, called: Called) -> Result<Ending, CallError>
+        requires { pends called false ≡ true → (E.history self.old.endpoint).pending ≡ true }
+        ensures { Leads called (E.history self.old.endpoint) (E.history self.new.endpoint) result }
     {
-        let (waited, completion) = match self.endpoint.call(self.rt, call) {
+        let (waited, completion) = match called {
             Called::Done(completion) => (false, completion),
             Called::Blocked => (true, self.endpoint.wait(self.rt)),
             Called::Refused(errno, _) => return Err(refusal(errno)),
@@ -62,5 +84,27 @@ impl<'a, E: Endpoint, R: Wait> Caller<'a, E, R> {
             mark,
             buffer,
         })
+    }
+
+    /// Makes a call, and waits for its ending.
+    pub(crate) fn make(&mut self, call: Call) -> Result<Ending, CallError>
+        ensures { Makes ending_in call (E.history self.old.endpoint) (E.history self.new.endpoint) result }
+    {
+        let called = self.endpoint.call(self.rt, call);
+        self.ending_of(called)
+    }
+
+    /// Makes two calls in turn, and waits for the ending of the second. The second is made only if the first did what
+    /// it says.
+    pub(crate) fn make_both(&mut self, first: Call, second: Call) -> Result<Ending, CallError>
+        ensures { MakesBoth ending_in first second (E.history self.old.endpoint) (E.history self.new.endpoint) result }
+    {
+        match self.endpoint.call_both(self.rt, first, second) {
+            CalledBoth::Both(_, called) => self.ending_of(called),
+            CalledBoth::First(called, second) => {
+                self.ending_of(called)?.done()?;
+                self.make(second)
+            }
+        }
     }
 }

@@ -3,12 +3,14 @@
 ghost use Rattle.std.specs.Prelude.{◌≡◌, ◌++◌, [], ◌∷◌, Bool, true, false, MatchOption, if◌then◌else◌};
 ghost use Rattle.qhandoff.specs.Words.{taken};
 ghost use Rattle.qshared.specs.Counting.{is_call, gives, pends};
-ghost use Rattle.qcalls.specs.History.{History, told_by};
+ghost use Rattle.qshared.specs.TwoCalls.{asked_by, gives_both, pends_both};
+ghost use Rattle.qcalls.specs.History.{History, IsInTurn, told_by, told_by_both};
 
 use qbase::errno::Errno;
-use qmodel::call::{Call, Completion};
+use qbase::ids::ThreadNo;
+use qmodel::call::{Call, Completion, Mark};
 use qshared::log::Log;
-use qshared::port::{Called, Port};
+use qshared::port::{Called, CalledBoth, Port};
 use qshared::shared::Shared;
 use qshared::tie::Tie;
 use std::sync::Wait;
@@ -29,12 +31,24 @@ pub trait Endpoint {
     /// What it asked for and took, whether a call of it is pending, and what it answered last.
     ghost history: { Self → History };
 
+    /// Whose way it is.
+    fn thread(&self) -> ThreadNo;
+
     /// Makes a call, for which it may wait while other threads are in the kernel.
     fn call<R: Wait>(&mut self, rt: &R, call: Call) -> Called
         ensures asked { (history self.new).asked ≡ (history self.old).asked ++ (if is_call result then call ∷ [] else []) }
         ensures taken { (history self.new).taken ≡ (history self.old).taken ++ gives result }
         ensures pending { (history self.new).pending ≡ pends result (history self.old).pending }
         ensures told { (history self.new).told ≡ told_by result };
+
+    /// Makes two calls in turn: the second only if the first ends in its own event with the mark `Ok`. A port takes the
+    /// lock once for both. Another endpoint may do it by `call_in_turn`.
+    fn call_both<R: Wait>(&mut self, rt: &R, first: Call, second: Call) -> CalledBoth
+        ensures asked { (history self.new).asked ≡ (history self.old).asked ++ asked_by first second result }
+        ensures taken { (history self.new).taken ≡ (history self.old).taken ++ gives_both result }
+        ensures pending { (history self.new).pending ≡ pends_both result (history self.old).pending }
+        ensures told { (history self.new).told ≡ told_by_both result }
+        ensures turn { IsInTurn second result };
 
     /// Takes the ending of the blocked call if it came. It waits for nobody.
     fn poll(&mut self) -> Option<Completion>
@@ -86,6 +100,32 @@ impl<'a, K: Tie, L: Log> KernelPort<'a, K, L> {
     }
 }
 
+/// Makes two calls in turn, for an endpoint that can't make both at once.
+pub fn call_in_turn<E: Endpoint, R: Wait>(
+    endpoint: &mut E,
+    rt: &R,
+    first: Call,
+    second: Call,
+) -> CalledBoth
+    ensures asked { (E.history endpoint.new).asked ≡ (E.history endpoint.old).asked ++ asked_by first second result }
+    ensures taken { (E.history endpoint.new).taken ≡ (E.history endpoint.old).taken ++ gives_both result }
+    ensures pending { (E.history endpoint.new).pending ≡ pends_both result (E.history endpoint.old).pending }
+    ensures told { (E.history endpoint.new).told ≡ told_by_both result }
+    ensures turn { IsInTurn second result }
+{
+    match endpoint.call(rt, first) {
+        Called::Done(completion) => {
+            if completion.mark == Mark::Ok {
+                CalledBoth::Both(completion, endpoint.call(rt, second))
+            } else {
+                CalledBoth::First(Called::Done(completion), second)
+            }
+        }
+        Called::Blocked => CalledBoth::First(Called::Blocked, second),
+        Called::Refused(errno, call) => CalledBoth::First(Called::Refused(errno, call), second),
+    }
+}
+
 /// What a port's answer tells.
 pub fn told_by(called: &Called) -> Told
     ensures { result ≡ told_by called.now }
@@ -100,10 +140,23 @@ pub fn told_by(called: &Called) -> Told
 impl<'a, K: Tie, L: Log> Endpoint for KernelPort<'a, K, L> {
     ghost history = { λ p. record { asked = p.port.asked.calls; taken = taken p.port.seat; pending = p.port.pending; told = p.told } };
 
+    fn thread(&self) -> ThreadNo {
+        self.port.thread()
+    }
+
     fn call<R: Wait>(&mut self, rt: &R, call: Call) -> Called {
         let called = self.port.call(self.shared, rt, call);
         self.told = told_by(&called);
         called
+    }
+
+    fn call_both<R: Wait>(&mut self, rt: &R, first: Call, second: Call) -> CalledBoth {
+        let both = self.port.call_both(self.shared, rt, first, second);
+        self.told = match &both {
+            CalledBoth::Both(_, called) => told_by(called),
+            CalledBoth::First(called, _) => told_by(called),
+        };
+        both
     }
 
     fn poll(&mut self) -> Option<Completion> {

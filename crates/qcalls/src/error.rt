@@ -22,6 +22,12 @@ pub enum CallError {
     /// The server answered the message with this code, by `msg_error`. It isn't 0.
     #[error("message answered with the code {0}")]
     Code(i32),
+    /// The call was ended since its time was over, by the timekeeper.
+    #[error("call timed out")]
+    TimedOut,
+    /// The clock could not be read, or the time lies beyond what it counts.
+    #[error("clock not read")]
+    NoClock,
     /// The allocator refused.
     #[error("out of memory")]
     NoMemory,

@@ -1,7 +1,7 @@
 //! A receive that is polled for, by a thread that is not to wait.
 
 ghost use Rattle.std.specs.Prelude.{◌≡◌, replicate};
-ghost use Rattle.qcalls.specs.Polling.{Polls, StartsOfBytes, ended_in};
+ghost use Rattle.qcalls.specs.Polling.{Polls, StartsOfBytes, option_in};
 ghost use Rattle.qcalls.specs.Results.{received_in};
 
 use crate::caller::Caller;
@@ -48,7 +48,7 @@ impl<'a, E: Endpoint, R: Wait> Caller<'a, E, R> {
 
 /// What a receive took that has ended.
 fn received_by(waited: bool, completion: Completion) -> Result<Option<Received>, CallError>
-    ensures { result ≡ ended_in received_in waited completion.mark completion.buffer }
+    ensures { result ≡ option_in received_in waited completion.mark completion.buffer }
 {
     let Completion { mark, buffer, .. } = completion;
     let ending = Ending {

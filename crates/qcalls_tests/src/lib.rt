@@ -4,3 +4,5 @@
 
 #[cfg(test)]
 mod calling;
+mod reply_receive;
+mod timing;
