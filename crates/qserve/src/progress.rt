@@ -1,8 +1,9 @@
 //! How far a run is, on a line that is written over twice a second.
 
-use qcalls::endpoint::Endpoint;
+use qbase::ids::ThreadNo;
+use qcalls::endpoint::{Endpoint, call_in_turn};
 use qmodel::call::{Call, Completion};
-use qshared::port::Called;
+use qshared::port::{Called, CalledBoth};
 use std::alloc::{AllocError, Global};
 use std::rt::Clock;
 use std::sync::atomic::{AtomicU64, Ordering};
@@ -87,6 +88,10 @@ impl<'p, E> Counted<'p, E> {
 impl<'p, E: Endpoint> Endpoint for Counted<'p, E> {
     ghost history = { λ c. E.history c.inner };
 
+    fn thread(&self) -> ThreadNo {
+        self.inner.thread()
+    }
+
     fn call<R: Wait>(&mut self, rt: &R, call: Call) -> Called {
         self.sending = matches!(call, Call::Send { .. });
         let called = self.inner.call(rt, call);
@@ -94,6 +99,10 @@ impl<'p, E: Endpoint> Endpoint for Counted<'p, E> {
             self.progress.round();
         }
         called
+    }
+
+    fn call_both<R: Wait>(&mut self, rt: &R, first: Call, second: Call) -> CalledBoth {
+        call_in_turn(self, rt, first, second)
     }
 
     fn poll(&mut self) -> Option<Completion> {

@@ -2,10 +2,11 @@
 
 use crate::fault::WorkerFault;
 use crate::tally::Tally;
-use qcalls::endpoint::Endpoint;
+use qbase::ids::ThreadNo;
+use qcalls::endpoint::{Endpoint, call_in_turn};
 use qcalls::error::CallError;
 use qmodel::call::{Call, Completion};
-use qshared::port::Called;
+use qshared::port::{Called, CalledBoth};
 use std::alloc::Global;
 use std::rt::Clock;
 use std::sync::Wait;
@@ -90,6 +91,10 @@ pub struct Timed<'c, E, C> {
 impl<'c, E: Endpoint, C: Clock> Endpoint for Timed<'c, E, C> {
     ghost history = { λ t. E.history t.inner };
 
+    fn thread(&self) -> ThreadNo {
+        self.inner.thread()
+    }
+
     fn call<R: Wait>(&mut self, rt: &R, call: Call) -> Called {
         self.stopwatch.called(&call);
         let called = self.inner.call(rt, call);
@@ -97,6 +102,10 @@ impl<'c, E: Endpoint, C: Clock> Endpoint for Timed<'c, E, C> {
             self.stopwatch.note_ending();
         }
         called
+    }
+
+    fn call_both<R: Wait>(&mut self, rt: &R, first: Call, second: Call) -> CalledBoth {
+        call_in_turn(self, rt, first, second)
     }
 
     fn poll(&mut self) -> Option<Completion> {

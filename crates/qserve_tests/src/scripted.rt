@@ -5,9 +5,9 @@ ghost use Rattle.std.specs.Option.{is_some};
 
 use qbase::errno::Errno;
 use qbase::ids::ThreadNo;
-use qcalls::endpoint::{Endpoint, Told, told_by};
+use qcalls::endpoint::{Endpoint, Told, call_in_turn, told_by};
 use qmodel::call::{Call, Completion, Mark};
-use qshared::port::Called;
+use qshared::port::{Called, CalledBoth};
 use std::alloc::Global;
 use std::snapshot::Snapshot;
 use std::sync::Wait;
@@ -22,6 +22,9 @@ pub enum Line {
     /// It is no event.
     Refused(Errno),
 }
+
+/// The thread of a script.
+const THREAD: ThreadNo = ThreadNo(0);
 
 /// Answers its calls as its script says, and refuses those that come after.
 #[derive(Drop)]
@@ -56,7 +59,7 @@ impl<'a> Scripted<'a> {
     fn ending(&self, call: Call, mark: Mark) -> Completion {
         Completion {
             call: 0,
-            thread: ThreadNo(0),
+            thread: THREAD,
             mark,
             buffer: call.into_buffer(self.alloc),
         }
@@ -93,6 +96,10 @@ impl<'a> Scripted<'a> {
 impl<'a> Endpoint for Scripted<'a> {
     ghost history = { λ s. record { asked = map (λ c. c.value) s.asked.items; taken = map (λ x. x.value) s.taken.items; pending = is_some s.later; told = s.told } };
 
+    fn thread(&self) -> ThreadNo {
+        THREAD
+    }
+
     fn call<R: Wait>(&mut self, _rt: &R, call: Call) -> Called {
         if let Call::Shutdown = &call {
             self.down = true;
@@ -100,6 +107,10 @@ impl<'a> Endpoint for Scripted<'a> {
         let called = self.answer(call);
         self.told = told_by(&called);
         called
+    }
+
+    fn call_both<R: Wait>(&mut self, rt: &R, first: Call, second: Call) -> CalledBoth {
+        call_in_turn(self, rt, first, second)
     }
 
     fn poll(&mut self) -> Option<Completion> {
@@ -143,6 +154,10 @@ impl<E> Refusing<E> {
 impl<E: Endpoint> Endpoint for Refusing<E> {
     ghost history = { λ r. record { asked = (E.history r.inner).asked; taken = (E.history r.inner).taken; pending = (E.history r.inner).pending; told = r.told } };
 
+    fn thread(&self) -> ThreadNo {
+        self.inner.thread()
+    }
+
     fn call<R: Wait>(&mut self, rt: &R, call: Call) -> Called {
         let called = if self.left == 0 {
             Called::Refused(self.errno, call)
@@ -152,6 +167,10 @@ impl<E: Endpoint> Endpoint for Refusing<E> {
         self.left = self.left.wrapping_sub(1);
         self.told = told_by(&called);
         called
+    }
+
+    fn call_both<R: Wait>(&mut self, rt: &R, first: Call, second: Call) -> CalledBoth {
+        call_in_turn(self, rt, first, second)
     }
 
     fn poll(&mut self) -> Option<Completion> {
