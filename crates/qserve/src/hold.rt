@@ -37,7 +37,7 @@ fn hold_and_serve<E: Endpoint, R: Wait>(
 ) -> Result<Tally, WorkerFault> {
     let mut tally = Tally::new();
     let first = next_request(caller, chid, &mut tally)?;
-    let second = polled_request(caller, chid, &mut tally)?;
+    let second = poll_request(caller, chid, &mut tally)?;
     answer(caller, &first)?;
     tally.count_answered();
     answer(caller, &second)?;
@@ -61,14 +61,14 @@ fn next_request<E: Endpoint, R: Wait>(
 }
 
 /// The next message, for which the server polls.
-fn polled_request<E: Endpoint, R: Wait>(
+fn poll_request<E: Endpoint, R: Wait>(
     caller: &mut Caller<E, R>,
     chid: ChannelId,
     tally: &mut Tally,
 ) -> Result<Request, WorkerFault> {
     let mut polls = MOST_POLLS;
     for _ in caller.rt().forever() {
-        let item = polled_receive(caller, chid, &mut polls)?;
+        let item = poll_receive(caller, chid, &mut polls)?;
         if let Some(request) = request_in(item, tally)? {
             return Ok(request);
         }
@@ -94,7 +94,7 @@ fn request_in(item: Received, tally: &mut Tally) -> Result<Option<Request>, Work
 }
 
 /// Takes a message or a pulse of a channel, and polls for one if there is none, at most so many times.
-fn polled_receive<E: Endpoint, R: Wait>(
+fn poll_receive<E: Endpoint, R: Wait>(
     caller: &mut Caller<E, R>,
     chid: ChannelId,
     polls: &mut u32,
