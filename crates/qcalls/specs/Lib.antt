@@ -4,3 +4,4 @@ pub mod Results
 pub mod Making
 pub mod Closing
 pub mod Polling
+pub mod Simulating

@@ -11,7 +11,7 @@ use qmodel::call::{Info, Mark};
 
 /// How a call ended.
 #[derive(Debug, Drop)]
-pub(crate) struct Ending {
+pub struct Ending {
     /// Whether the call was blocked before.
     pub waited: bool,
     /// What the ending says.

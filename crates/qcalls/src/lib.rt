@@ -4,7 +4,7 @@
 pub mod alarms;
 pub mod caller;
 mod channels;
-mod ending;
+pub mod ending;
 pub mod endpoint;
 pub mod error;
 mod messages;
@@ -13,6 +13,7 @@ mod polling;
 mod pulses;
 mod reply_receive;
 pub mod results;
+pub mod simulator;
 mod threads;
 mod timekeeper;
 mod within;

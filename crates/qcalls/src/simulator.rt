@@ -1,0 +1,169 @@
+//! The calls of many threads over a kernel that one caller holds.
+
+ghost use Rattle.std.specs.Prelude.{◌≡◌, [], Some, is_some, option_map, IfOk, IfErr};
+ghost use Rattle.qkernel.specs.Stands.{StandsAt};
+ghost use Rattle.qstate.specs.Thread.{members_of};
+ghost use Rattle.qcalls.specs.Making.{ending_in};
+ghost use Rattle.qcalls.specs.declared.error.CallError.TheVariants as error;
+
+mod channels;
+mod kept;
+mod messages;
+mod pulses;
+mod threads;
+
+use crate::ending::Ending;
+use crate::error::{CallError, refusal};
+use arrayvec::ArrayVec;
+use kept::{append, take_of, take_oldest};
+use qbase::errno::Errno;
+use qbase::ids::ThreadNo;
+use qkernel::kernel::{CALL_LIMIT, Kernel};
+use qmodel::call::{Call, Completion};
+use qstate::endings::Endings;
+use qtables::roster::{Roster, THREAD_LIMIT};
+use std::alloc::Global;
+use std::marker::Model;
+
+/// What a call came to in which its thread may be blocked.
+#[derive(Debug, Drop)]
+pub enum Outcome<T> {
+    /// It ended in its own event, with this result.
+    Done(T),
+    /// Its thread is blocked. Once the call ends, `Simulator::take` returns its ending.
+    Blocked,
+}
+
+/// A kernel in the hands of one caller, who makes the calls of all its threads. Each call is an event, and may end blocked
+/// calls of other threads: their endings are kept until `take` asks for them. Contracts see the kernel's content, and the
+/// endings that are kept.
+///
+/// Each method refuses a call before it is made, and then changes nothing: with `NoThread` if the thread isn't in the
+/// roster, `Exhausted` at 2^40 calls, and `Busy` if the ending of the thread's last call isn't taken yet. The kernel
+/// refuses a call with `Busy` if its thread is blocked, and with `Down` after `shutdown`; that is an event, which it counts.
+#[derive(Drop)]
+pub struct Simulator {
+    alloc: Global,
+    kernel: Kernel,
+    // Lent to the kernel for the endings of one event. It is empty between calls.
+    endings: Endings,
+    kept: Vec<Completion>,
+}
+
+impl Model for Simulator {
+    ghost use Rattle.std.specs.Prelude.{◌≡◌, []};
+    ghost use Rattle.qcalls.specs.Simulating.{Simulation};
+
+    ghost Value = { Simulation };
+
+    ghost view = { λ s. record { kernel = s.kernel; kept = s.kept.items } };
+
+    ghost invariant = { λ s. s.endings.items ≡ [] };
+}
+
+impl Simulator {
+    ghost use Rattle.qcalls.specs.Simulating.{Simulates, at_once, unless_blocked, unmade, ending_of, without, ending_after_wait, oldest, later};
+
+    /// A simulator of a kernel without channels, in which all threads of the roster are ready. The room for the kernel and
+    /// for endings is made here; `NoMemory` is the only error.
+    pub fn new(alloc: Global, roster: &Roster) -> Result<Simulator, CallError>
+        ensures stands { IfOk result (λ s. StandsAt roster.now s.kernel []) }
+        ensures none { IfOk result (λ s. s.kept ≡ []) }
+        ensures error { IfErr result (λ e. e ≡ error.NoMemory) }
+    {
+        let kernel = Kernel::new(alloc, roster)?;
+        Ok(Simulator {
+            alloc,
+            kernel,
+            endings: ArrayVec::new_in(alloc),
+            kept: Vec::with_capacity(alloc, 2 * THREAD_LIMIT)?,
+        })
+    }
+
+    /// The kernel, to be read.
+    pub fn kernel(&self) -> &Kernel
+        ensures { result.now ≡ self.now.kernel }
+    {
+        &self.kernel
+    }
+
+    /// Whether an ending waits for a thread to take it.
+    pub fn has_ended(&self, thread: ThreadNo) -> bool
+        ensures { result ≡ is_some (ending_of thread self.now.kept) }
+    {
+        kept::has(&self.kept, thread)
+    }
+
+    /// How a thread's blocked call ended, if it ended and this isn't taken yet. `Ending::answer` returns the result of a
+    /// `msg_send`, `received` that of a `msg_receive`, and `pulse` that of a `msg_receive_pulse`.
+    pub fn take(&mut self, thread: ThreadNo) -> Option<Ending>
+        ensures ending { result ≡ option_map ending_after_wait (ending_of thread self.old.kept) }
+        ensures rest { self.new ≡ record self.old { kept = without thread self.old.kept } }
+    {
+        let completion = take_of(&mut self.kept, thread)?;
+        Some(Ending {
+            waited: true,
+            mark: completion.mark,
+            buffer: completion.buffer,
+        })
+    }
+
+    /// The ending that waits longest, with its thread. Those of one event come in rising thread number.
+    pub fn take_next(&mut self) -> Option<(ThreadNo, Ending)>
+        ensures ending { result ≡ oldest self.old.kept }
+        ensures rest { self.new ≡ record self.old { kept = later self.old.kept } }
+    {
+        let completion = take_oldest(&mut self.kept)?;
+        let ending = Ending {
+            waited: true,
+            mark: completion.mark,
+            buffer: completion.buffer,
+        };
+        Some((completion.thread, ending))
+    }
+
+    /// Why no call of a thread is made.
+    fn unmade(&self, thread: ThreadNo) -> Option<Errno>
+        ensures { result ≡ unmade self.now thread }
+    {
+        if !self.kernel.knows(thread) {
+            Some(Errno::NoThread)
+        } else if self.kernel.made() >= CALL_LIMIT {
+            Some(Errno::Exhausted)
+        } else if self.has_ended(thread) {
+            Some(Errno::Busy)
+        } else {
+            None
+        }
+    }
+
+    /// Makes a call in which its thread may be blocked.
+    fn make(&mut self, thread: ThreadNo, call: Call) -> Result<Outcome<Ending>, CallError>
+        ensures { Simulates (unless_blocked ending_in) thread call self.old self.new result }
+    {
+        if let Some(errno) = self.unmade(thread) {
+            return Err(refusal(errno));
+        }
+        self.kept.reserve(THREAD_LIMIT)?;
+        self.kernel.step(thread, call, &mut self.endings);
+        append(&mut self.kept, &mut self.endings);
+        Ok(match take_of(&mut self.kept, thread) {
+            Some(completion) => Outcome::Done(Ending {
+                waited: false,
+                mark: completion.mark,
+                buffer: completion.buffer,
+            }),
+            None => Outcome::Blocked,
+        })
+    }
+
+    /// Makes a call that ends in its own event.
+    fn complete(&mut self, thread: ThreadNo, call: Call) -> Result<Ending, CallError>
+        ensures { Simulates (at_once ending_in) thread call self.old self.new result }
+    {
+        match self.make(thread, call)? {
+            Outcome::Done(ending) => Ok(ending),
+            Outcome::Blocked => Err(CallError::Unexpected),
+        }
+    }
+}
