@@ -1,12 +1,12 @@
-//! All that a caller of the kernel needs, under one name: a kernel and its calls, in `shared` the kernel for threads of
-//! its own, and in `calls` what such a thread calls.
+//! All that a caller of the kernel needs, under one name: in `calls` what a thread of its own calls, in `simulator` the
+//! calls of many threads in one, in `shared` the kernel under its lock, and here the kernel itself.
 //!
-//! A caller makes a `Roster` and a `Kernel`, hands calls to `Kernel::dispatch` or to `run`, and reads the endings.
-//! `docs/LIBRARY.md` begins with a whole function, and lists what is here.
+//! `docs/LIBRARY.md` begins with a server and its client, and lists what is here.
 #![tactic(auto)]
 
 pub mod calls;
 pub mod shared;
+pub mod simulator;
 
 pub use qbase::bytes::Bytes;
 pub use qbase::errno::{Errno, word};

@@ -6,7 +6,7 @@
 pub use qshared::kept::Kept;
 pub use qshared::log::Log;
 pub use qshared::parts::Parts;
-pub use qshared::port::{Called, Port};
+pub use qshared::port::{Called, CalledBoth, Port};
 pub use qshared::report::{Report, Tally};
 pub use qshared::shared::Shared;
 pub use qshared::tie::Tie;

@@ -6,10 +6,9 @@ ghost use Rattle.balsaeuchre.specs.Stands.{StandsAt};
 ghost use Rattle.balsaeuchre_uses.specs.Carried.{roster, events};
 ghost use Rattle.balsaeuchre_uses.specs.Written.{IsRunOf};
 
-use crate::fault::Fault;
 use balsaeuchre::{
-    Bytes, Call, ChannelFlags, ChannelId, ConnectionId, Kernel, Priority, ProcessNo, ReceiveId,
-    Roster, ThreadNo, Trace, run,
+    Bytes, Call, ChannelFlags, ChannelId, ConnectionId, Errno, Kernel, Priority, ProcessNo,
+    ReceiveId, Roster, ThreadNo, Trace, run,
 };
 use std::alloc::Global;
 
@@ -22,17 +21,17 @@ const URGENT: ThreadNo = ThreadNo(3);
 const MIDDLING: ThreadNo = ThreadNo(4);
 
 /// The priority of a number; a fault for 0.
-fn level(number: u8) -> Result<Priority, Fault>
+fn level(number: u8) -> Result<Priority, Errno>
     ensures { IfOk result (λ priority. priority ≡ number) }
 {
     match Priority::new(number) {
         Some(priority) => Ok(priority),
-        None => Err(Fault::Unexpected),
+        None => Err(Errno::Inval),
     }
 }
 
 /// Four threads, each a process of its own: the store and the server of priority 10, the clients of 40 and 20.
-fn kernel_of_four(alloc: Global) -> Result<Kernel, Fault>
+fn kernel_of_four(alloc: Global) -> Result<Kernel, Errno>
     ensures { IfOk result (λ kernel. StandsAt roster kernel []) }
 {
     let low = level(10)?;
@@ -79,7 +78,7 @@ fn reply(alloc: Global, rcvid: ReceiveId) -> Call
 }
 
 /// The middling client's request waits at the store, and then the urgent client asks the server.
-pub fn carry_priority(alloc: Global) -> Result<Trace, Fault>
+pub fn carry_priority(alloc: Global) -> Result<Trace, Errno>
     ensures { IfOk result (λ trace. IsRunOf roster events trace) }
 {
     let mut kernel = kernel_of_four(alloc)?;

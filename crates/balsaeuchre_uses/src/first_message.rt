@@ -4,15 +4,14 @@ ghost use Rattle.std.specs.Prelude.{IfOk};
 ghost use Rattle.balsaeuchre_uses.specs.FirstMessage.{roster, events};
 ghost use Rattle.balsaeuchre_uses.specs.Written.{IsRunOf};
 
-use crate::fault::Fault;
 use balsaeuchre::{
-    Bytes, Call, ChannelFlags, ChannelId, ConnectionId, Kernel, Priority, ProcessNo, ReceiveId,
-    Roster, ThreadNo, Trace, run,
+    Bytes, Call, ChannelFlags, ChannelId, ConnectionId, Errno, Kernel, Priority, ProcessNo,
+    ReceiveId, Roster, ThreadNo, Trace, run,
 };
 use std::alloc::Global;
 
 /// The client's message is received by the server, which answers it with bytes of its own.
-pub fn first_message(alloc: Global, message: &[u8], answer: &[u8]) -> Result<Trace, Fault>
+pub fn first_message(alloc: Global, message: &[u8], answer: &[u8]) -> Result<Trace, Errno>
     ensures { IfOk result (λ trace. IsRunOf roster (events message.now answer.now) trace) }
 {
     let (server, client) = (ThreadNo(1), ThreadNo(2));

@@ -3,11 +3,11 @@
 
 ghost use Rattle.std.specs.Prelude.{◌≡◌, ◌++◌, [], ◌∷◌, true, false, IfOk, IfSome, IfNone, OnErr, Some, None, if◌then◌else◌};
 
-use crate::calls::{block, complete, ending_of, make};
-use crate::fault::Fault;
+use crate::reply::Reply;
+use balsaeuchre::calls::{CallError, Received};
+use balsaeuchre::simulator::{Outcome, Simulator};
 use balsaeuchre::{
-    Bytes, Call, ChannelFlags, ChannelId, Completion, ConnectionId, Kernel, Mark, Priority,
-    ProcessNo, ReceiveId, Roster, ThreadNo,
+    ChannelFlags, ChannelId, ConnectionId, Priority, ProcessNo, ReceiveId, Roster, ThreadNo,
 };
 use std::alloc::{AllocError, Global};
 use std::collections::VecDeque;
@@ -67,113 +67,102 @@ impl Resource {
     }
 }
 
+/// A client of the server.
+#[derive(Drop)]
+struct Client {
+    thread: ThreadNo,
+    coid: ConnectionId,
+    // The number of its last send.
+    call: u64,
+}
+
+impl Client {
+    /// A client that attaches to the channel.
+    fn attach(
+        simulator: &mut Simulator,
+        thread: ThreadNo,
+        chid: ChannelId,
+    ) -> Result<Client, CallError> {
+        Ok(Client {
+            thread,
+            coid: simulator.connect_attach(thread, chid)?,
+            call: 0,
+        })
+    }
+
+    /// Sends its wish, and is blocked.
+    fn wish(&mut self, simulator: &mut Simulator, wish: u8) -> Result<(), CallError> {
+        let _blocked = simulator.msg_send(self.thread, self.coid, &[wish], 0)?;
+        self.call = simulator.kernel().made();
+        Ok(())
+    }
+
+    /// Takes the answer if it came.
+    fn take_answer(
+        &self,
+        simulator: &mut Simulator,
+        replies: &mut Vec<Reply>,
+    ) -> Result<(), CallError> {
+        if let Some(ending) = simulator.take(self.thread) {
+            replies.push(Reply {
+                call: self.call,
+                thread: self.thread,
+                answer: ending.answer()?,
+            })?;
+        }
+        Ok(())
+    }
+}
+
 /// A server and two clients, each a process of its own.
-fn kernel_of_three(alloc: Global) -> Result<Kernel, Fault> {
+fn simulator_of_three(alloc: Global) -> Result<Simulator, CallError> {
     let mut roster = Roster::new(alloc);
     roster.add(SERVER, ProcessNo(1), Priority::lowest())?;
     roster.add(FIRST, ProcessNo(2), Priority::lowest())?;
     roster.add(SECOND, ProcessNo(3), Priority::lowest())?;
-    Ok(Kernel::new(alloc, &roster)?)
-}
-
-/// A client attaches to the channel.
-fn attach(kernel: &mut Kernel, client: ThreadNo, chid: ChannelId) -> Result<ConnectionId, Fault> {
-    match complete(kernel, client, Call::ConnectAttach(chid))?.mark {
-        Mark::Connection(ConnectionId(number)) => Ok(ConnectionId(number)),
-        _ => Err(Fault::Unexpected),
-    }
-}
-
-/// A client sends its wish, and waits.
-fn wish(
-    alloc: Global,
-    kernel: &mut Kernel,
-    client: ThreadNo,
-    coid: ConnectionId,
-    wish: u8,
-) -> Result<(), Fault> {
-    let send = Call::Send {
-        coid,
-        message: Bytes::copied(alloc, &[wish])?,
-        reply_buffer: Bytes::new(alloc),
-    };
-    block(kernel, client, send)
-}
-
-/// The server answers a message. It gives the ending of the client's Send.
-fn answer(
-    alloc: Global,
-    kernel: &mut Kernel,
-    rcvid: ReceiveId,
-    clients: &mut Vec<Completion>,
-) -> Result<(), Fault> {
-    let reply = Call::Reply {
-        rcvid,
-        status: 0,
-        bytes: Bytes::new(alloc),
-    };
-    let mut endings = make(kernel, SERVER, reply)?;
-    while let Some(ending) = endings.pop() {
-        if ending.thread != SERVER {
-            clients.push(ending)?;
-        }
-    }
-    Ok(())
+    Simulator::new(alloc, &roster)
 }
 
 /// The server receives one message, and answers whom it can.
 fn serve_one(
-    alloc: Global,
-    kernel: &mut Kernel,
+    simulator: &mut Simulator,
     chid: ChannelId,
     resource: &mut Resource,
-    clients: &mut Vec<Completion>,
-) -> Result<(), Fault> {
-    let buffer = Bytes::copied(alloc, &[0])?;
-    let received = complete(kernel, SERVER, Call::Receive { chid, buffer })?;
-    let Mark::Message {
-        rcvid: ReceiveId(number),
-        ..
-    } = received.mark
-    else {
-        return Err(Fault::Unexpected);
+) -> Result<(), CallError> {
+    let Outcome::Done(Received::Message(request)) = simulator.msg_receive(SERVER, chid, 1)? else {
+        return Err(CallError::Unexpected);
     };
-    let rcvid = ReceiveId(number);
-    let next = match received.buffer.as_slice() {
-        [TAKE] => resource.ask(rcvid)?,
+    let next = match request.bytes() {
+        [TAKE] => resource.ask(request.rcvid)?,
         [GIVE_BACK] => {
-            answer(alloc, kernel, rcvid, clients)?;
+            simulator.msg_reply(SERVER, request.rcvid, 0, b"")?;
             resource.give_back()
         }
-        _ => return Err(Fault::Unexpected),
+        _ => return Err(CallError::Unexpected),
     };
     match next {
-        Some(rcvid) => answer(alloc, kernel, rcvid, clients),
+        Some(rcvid) => simulator.msg_reply(SERVER, rcvid, 0, b""),
         None => Ok(()),
     }
 }
 
-/// Both clients ask for the resource, and the first gives it back. It gives the endings of the clients' Sends, in the
-/// order in which they came.
-pub fn kept_waiting(alloc: Global) -> Result<Vec<Completion>, Fault> {
-    let mut kernel = kernel_of_three(alloc)?;
-    let create = Call::ChannelCreate(ChannelFlags::of(0));
-    let Mark::Channel(ChannelId(number)) = complete(&mut kernel, SERVER, create)?.mark else {
-        return Err(Fault::Unexpected);
-    };
-    let chid = ChannelId(number);
-    let first = attach(&mut kernel, FIRST, chid)?;
-    let second = attach(&mut kernel, SECOND, chid)?;
+/// Both clients ask for the resource, and the first gives it back. It gives the clients' answers in the order in which they
+/// came.
+pub fn kept_waiting(alloc: Global) -> Result<Vec<Reply>, CallError> {
+    let mut simulator = simulator_of_three(alloc)?;
+    let chid = simulator.channel_create(SERVER, ChannelFlags::of(0))?;
+    let mut first = Client::attach(&mut simulator, FIRST, chid)?;
+    let mut second = Client::attach(&mut simulator, SECOND, chid)?;
     let mut resource = Resource::new(alloc);
-    let mut clients = Vec::new(alloc);
-    let wishes = [
-        (FIRST, first, TAKE),
-        (SECOND, second, TAKE),
-        (FIRST, first, GIVE_BACK),
-    ];
-    for (client, coid, says) in wishes {
-        wish(alloc, &mut kernel, client, coid, says)?;
-        serve_one(alloc, &mut kernel, chid, &mut resource, &mut clients)?;
-    }
-    Ok(clients)
+    let mut replies = Vec::new(alloc);
+    first.wish(&mut simulator, TAKE)?;
+    serve_one(&mut simulator, chid, &mut resource)?;
+    first.take_answer(&mut simulator, &mut replies)?;
+    second.wish(&mut simulator, TAKE)?;
+    serve_one(&mut simulator, chid, &mut resource)?;
+    first.wish(&mut simulator, GIVE_BACK)?;
+    serve_one(&mut simulator, chid, &mut resource)?;
+    first.take_answer(&mut simulator, &mut replies)?;
+    second.take_answer(&mut simulator, &mut replies)?;
+    Ok(replies)
 }

@@ -1,19 +1,19 @@
 //! Uses of the kernel as a library, each on one page. The program makes all of them, and prints how the calls ended.
 #![tactic(auto)]
 
-mod calls;
 mod carried;
 mod driver;
-mod fault;
 mod first_message;
 mod kept_waiting;
 mod one_thread;
+mod reply;
 mod shutdown;
 mod three_threads;
 mod timeout;
 mod two_threads;
 
 use balsaeuchre::{Completion, Trace};
+use reply::Reply;
 use std::io;
 use std::test::Fail;
 
@@ -22,6 +22,16 @@ fn show(rt: &impl Print, ending: &Completion) -> io::Result<()> {
     let (call, thread, mark) = (ending.call, ending.thread.0, ending.mark);
     let buffer = ending.buffer.as_slice();
     println!(rt; "  call {call} of thread {thread}: {mark:?} {buffer:?}")
+}
+
+/// Prints an answer in the same way.
+fn show_reply(rt: &impl Print, reply: &Reply) -> io::Result<()> {
+    let (call, thread, answer) = (reply.call, reply.thread.0, &reply.answer);
+    let (status, copied) = (answer.status, answer.copied);
+    let buffer = answer.buffer.as_slice();
+    println!(rt;
+        "  call {call} of thread {thread}: Replied {{ status: {status}, copied: {copied} }} {buffer:?}"
+    )
 }
 
 /// Prints the endings of a run under its name.
@@ -43,7 +53,7 @@ fn main(rt: HostRuntime) -> Result<(), Fail> {
         &first_message::first_message(alloc, b"hello", b"world")?,
     )?;
     println!(rt; "one thread")?;
-    show(&rt, &one_thread::echo(alloc, b"hello")?)?;
+    show_reply(&rt, &one_thread::echo(alloc, b"hello")?)?;
     let trace = two_threads::on_two_threads(&rt, alloc)?;
     let messages = two_threads::MESSAGES.len();
     println!(rt; "two threads\n  {messages} messages, {} calls", trace.len())?;
@@ -51,8 +61,8 @@ fn main(rt: HostRuntime) -> Result<(), Fail> {
     driver::with_a_driver(&rt, alloc, &values)?;
     println!(rt; "driver\n  {} values", values.len())?;
     println!(rt; "kept waiting")?;
-    for ending in &kept_waiting::kept_waiting(alloc)? {
-        show(&rt, ending)?;
+    for reply in &kept_waiting::kept_waiting(alloc)? {
+        show_reply(&rt, reply)?;
     }
     show_all(&rt, "timeout, cut", &timeout::without_flag(alloc)?)?;
     show_all(&rt, "timeout, told", &timeout::with_flag(alloc)?)?;

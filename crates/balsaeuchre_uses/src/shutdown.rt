@@ -6,13 +6,12 @@ ghost use Rattle.balsaeuchre_uses.specs.ShutDown.{events};
 ghost use Rattle.balsaeuchre_uses.specs.ThreeThreads.{roster};
 ghost use Rattle.balsaeuchre_uses.specs.Written.{IsRunOf};
 
-use crate::fault::Fault;
 use crate::three_threads::{CLIENT, FELLOW, SERVER, kernel_of_three, receive, reply, send};
-use balsaeuchre::{Call, ChannelFlags, ChannelId, ConnectionId, Trace, run};
+use balsaeuchre::{Call, ChannelFlags, ChannelId, ConnectionId, Errno, Trace, run};
 use std::alloc::Global;
 
 /// One client's message is held, and another's waits, as the server begins to shut down.
-pub fn shut_down(alloc: Global) -> Result<Trace, Fault>
+pub fn shut_down(alloc: Global) -> Result<Trace, Errno>
     ensures { IfOk result (λ trace. IsRunOf roster events trace) }
 {
     let mut kernel = kernel_of_three(alloc)?;

@@ -4,9 +4,9 @@ ghost use Rattle.std.specs.Prelude.{◌≡◌, [], pos, IfOk};
 ghost use Rattle.balsaeuchre.specs.Stands.{StandsAt};
 ghost use Rattle.balsaeuchre_uses.specs.ThreeThreads.{roster};
 
-use crate::fault::Fault;
 use balsaeuchre::{
-    Bytes, Call, ChannelId, ConnectionId, Kernel, Priority, ProcessNo, ReceiveId, Roster, ThreadNo,
+    Bytes, Call, ChannelId, ConnectionId, Errno, Kernel, Priority, ProcessNo, ReceiveId, Roster,
+    ThreadNo,
 };
 use std::alloc::Global;
 
@@ -20,7 +20,7 @@ pub const CLIENT: ThreadNo = ThreadNo(2);
 pub const FELLOW: ThreadNo = ThreadNo(3);
 
 /// A kernel for the three threads, at its first call.
-pub fn kernel_of_three(alloc: Global) -> Result<Kernel, Fault>
+pub fn kernel_of_three(alloc: Global) -> Result<Kernel, Errno>
     ensures { IfOk result (λ kernel. StandsAt roster kernel []) }
 {
     let mut roster = Roster::new(alloc);

@@ -6,13 +6,14 @@ ghost use Rattle.balsaeuchre_uses.specs.ThreeThreads.{roster};
 ghost use Rattle.balsaeuchre_uses.specs.Timeout.{begun, cut_events, told_events};
 ghost use Rattle.balsaeuchre_uses.specs.Written.{IsRunOf};
 
-use crate::fault::Fault;
 use crate::three_threads::{CLIENT, FELLOW, SERVER, kernel_of_three, receive, reply, send};
-use balsaeuchre::{Call, ChannelFlags, ChannelId, ConnectionId, ReceiveId, ThreadNo, Trace, run};
+use balsaeuchre::{
+    Call, ChannelFlags, ChannelId, ConnectionId, Errno, ReceiveId, ThreadNo, Trace, run,
+};
 use std::alloc::Global;
 
 /// The calls 1 to 4, by which the server holds message 3, and call 5, which is the timeout.
-fn until_the_timeout(alloc: Global, flags: ChannelFlags) -> Result<Vec<(ThreadNo, Call)>, Fault>
+fn until_the_timeout(alloc: Global, flags: ChannelFlags) -> Result<Vec<(ThreadNo, Call)>, Errno>
     ensures { IfOk result (λ calls. calls.items ≡ begun flags) }
 {
     let calls = vec![in alloc;
@@ -26,7 +27,7 @@ fn until_the_timeout(alloc: Global, flags: ChannelFlags) -> Result<Vec<(ThreadNo
 }
 
 /// Without a flag the Send ends at once, with `Intr`, and the server's answer comes too late.
-pub fn without_flag(alloc: Global) -> Result<Trace, Fault>
+pub fn without_flag(alloc: Global) -> Result<Trace, Errno>
     ensures { IfOk result (λ trace. IsRunOf roster cut_events trace) }
 {
     let mut kernel = kernel_of_three(alloc)?;
@@ -37,7 +38,7 @@ pub fn without_flag(alloc: Global) -> Result<Trace, Fault>
 
 /// With the flag `UNBLOCK` the client stays blocked, and the server gets a pulse that names the message. It lets the
 /// client go with a code of its own.
-pub fn with_flag(alloc: Global) -> Result<Trace, Fault>
+pub fn with_flag(alloc: Global) -> Result<Trace, Errno>
     ensures { IfOk result (λ trace. IsRunOf roster told_events trace) }
 {
     let mut kernel = kernel_of_three(alloc)?;

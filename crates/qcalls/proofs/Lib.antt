@@ -1,1 +1,3 @@
 pub mod Reading
+pub mod Keeping
+pub mod Simulated

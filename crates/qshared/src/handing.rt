@@ -1,5 +1,5 @@
 //! Putting an event's endings into the cells.
-ghost use Rattle.std.specs.Prelude.{◌≡◌, ◌<◌, ◌≤◌, [], ◌∷◌, length};
+ghost use Rattle.std.specs.Prelude.{◌≡◌, ◌<◌, ◌≤◌, [], ◌∷◌, length, ◌||◌, ◌==◌};
 ghost use Rattle.std.specs.List.{AllByRecursion};
 ghost use Rattle.qhandoff.specs.Words.{cells_id, kernel_id, desk};
 ghost use Rattle.qmodel.specs.Endings.{gets, AreApart};
@@ -40,6 +40,13 @@ fn hand_one(
     place
 }
 
+/// Whether this was so, or the ending goes to the thread.
+fn is_for(before: bool, ending: &Completion, thread: ThreadNo) -> bool
+    ensures { result ≡ (before || (ending.now.thread == thread)) }
+{
+    before || ending.thread == thread
+}
+
 /// The bit of a cell whose thread is to be woken: none if that is the caller's own.
 fn bit_of(place: usize, is_own: bool) -> u64
     requires { place < 64 }
@@ -74,7 +81,7 @@ pub(crate) fn hand_out(
     let mut own = false;
     while let Some(ending) = endings.pop() {
         let is_own = ending.thread == thread;
-        own |= is_own;
+        own = is_for(own, &ending, thread);
         let place = hand_one(seat, cells, threads, ending);
         *woken |= bit_of(place, is_own);
     }

@@ -1,5 +1,0 @@
-use Rattle.std.proofs.Common.{length}
-use Rattle.balsaeuchre_uses.proofs.calls.ending_of.Given as goal
-
-abbrev pub decreases-loop-ending : goal.decreases-loop-ending
-decreases-loop-ending l = length l.endings.items

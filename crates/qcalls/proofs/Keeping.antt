@@ -1,0 +1,68 @@
+-- The endings that are kept: the first of a thread, and the list without it.
+use Rattle.std.proofs.Common.{◌≡◌, ◌∙◌, ℕ, suc, zero, ◌+◌, ◌<◌, List, [], ◌∷◌, ◌++◌, length, take, drop, get_or, refl, ap, sym, cond, arith, true, false, eqb}
+use Rattle.std.specs.Prelude.{Bool, None, Some, is_some, position, slice_get}
+use Rattle.std.specs.List.{position_from}
+use Rattle.std.proofs.lemmas.Iterator.Adapters.{position_from-zero}
+use Rattle.std.proofs.lemmas.Option.{same_Some, none-some}
+use Rattle.qmodel.specs.declared.call.Completion.{Completion}
+use Rattle.qcalls.specs.Simulating.{ending_of, is_of, without}
+
+-- the first ending of thread t stands at place j
+record IsAt (t : ℕ) (endings : List Completion) (j : ℕ) : Type 0 where
+  pub below : j < length endings
+  pub first : (d : Completion) → ending_of t endings ≡ Some (get_or endings j d)
+  pub rest : without t endings ≡ take j endings ++ drop (suc j) endings
+
+-- what is found from place i on
+found_from : (t : ℕ) (endings : List Completion) (i k : ℕ) → position_from (is_of t) i endings ≡ Some k → (j : ℕ) × (k ≡ i + j) × IsAt t endings j
+found_from t [] i k e = absurd (none-some k e)
+found_from t (x ∷ endings) i k e =
+    elim (eqb x.thread t)
+    as (λ b. eqb x.thread t ≡ b → cond b (Some i) (position_from (is_of t) (i + 1) endings) ≡ Some k → (j : ℕ) × (k ≡ i + j) × IsAt t (x ∷ endings) j) [
+      | true ↦ λ at e.
+          let same : i ≡ k = same_Some i k e in
+          (0, omega arith, record { below = omega arith; first = λ d. rw at refl; rest = rw at refl })
+      | false ↦ λ other e.
+          let r = found_from t endings (i + 1) k e in
+          let same : k ≡ i + 1 + r.0 = r.1 in
+          (suc r.0, omega arith, record {
+            below = let below : r.0 < length endings = r.2.below in omega arith;
+            first = λ d. rw other (r.2.first d);
+            rest = rw other (ap (λ rest. x ∷ rest) r.2.rest);
+          })
+    ] refl e
+
+pub found_at : (t : ℕ) (endings : List Completion) (k : ℕ) → position (is_of t) endings ≡ Some k → IsAt t endings k
+found_at t endings k e =
+    let r = found_from t endings 0 k (sym (position_from-zero (is_of t) endings) ∙ e) in
+    let same : k ≡ 0 + r.0 = r.1 in
+    let at : r.0 ≡ k = omega arith in
+    rw at at r.2
+
+-- where there is none, nothing is taken
+none_from : (t : ℕ) (endings : List Completion) (i : ℕ) → position_from (is_of t) i endings ≡ None → (ending_of t endings ≡ None) × (without t endings ≡ endings)
+none_from t [] i e = (refl, refl)
+none_from t (x ∷ endings) i e =
+    elim (eqb x.thread t)
+    as (λ b. eqb x.thread t ≡ b → cond b (Some i) (position_from (is_of t) (i + 1) endings) ≡ None → (ending_of t (x ∷ endings) ≡ None) × (without t (x ∷ endings) ≡ x ∷ endings)) [
+      | true ↦ λ at e. absurd (none-some i (sym e))
+      | false ↦ λ other e.
+          let r = none_from t endings (i + 1) e in
+          (rw other r.0, rw other (ap (λ rest. x ∷ rest) r.1))
+    ] refl e
+
+pub none_at : (t : ℕ) (endings : List Completion) → position (is_of t) endings ≡ None → (ending_of t endings ≡ None) × (without t endings ≡ endings)
+none_at t endings e = none_from t endings 0 (sym (position_from-zero (is_of t) endings) ∙ e)
+
+-- behind endings of other threads
+pub first_behind : (t : ℕ) (kept endings : List Completion) → ending_of t kept ≡ None
+    → (ending_of t (kept ++ endings) ≡ ending_of t endings) × (without t (kept ++ endings) ≡ kept ++ without t endings)
+first_behind t [] endings none = (refl, refl)
+first_behind t (x ∷ kept) endings none =
+    elim (eqb x.thread t)
+    as (λ b. eqb x.thread t ≡ b → cond b (Some x) (ending_of t kept) ≡ None → (ending_of t (x ∷ kept ++ endings) ≡ ending_of t endings) × (without t (x ∷ kept ++ endings) ≡ x ∷ kept ++ without t endings)) [
+      | true ↦ λ at none. absurd (none-some x (sym none))
+      | false ↦ λ other none.
+          let r = first_behind t kept endings none in
+          (rw other r.0, rw other (ap (λ rest. x ∷ rest) r.1))
+    ] refl none

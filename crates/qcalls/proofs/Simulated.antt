@@ -1,0 +1,51 @@
+-- A result that is read off the event of a call in one thread.
+use Rattle.std.proofs.Common.{◌≡◌, ◌∙◌, ◌⊎◌, inl, inr, ℕ, ap, sym, refl, Result, Ok, Err}
+use Rattle.std.specs.Prelude.{Option, None, Some}
+use Rattle.qbase.specs.declared.errno.Errno.{Errno}
+use Rattle.qmodel.specs.declared.call.Call.{Call}
+use Rattle.qmodel.specs.declared.call.Completion.{Completion}
+use Rattle.qcalls.specs.Making.{ending_in, read_off}
+use Rattle.qcalls.specs.Results.{Reading}
+use Rattle.qcalls.specs.Simulating.{Comes, IsEvent, Simulates, Simulation, at_once, done, ending_of, unless_blocked, unmade}
+use Rattle.qcalls.specs.declared.ending.Ending.{Ending}
+use Rattle.qcalls.specs.declared.error.CallError.{CallError}
+use Rattle.qcalls.specs.declared.simulator.Outcome.{Outcome}
+use Rattle.qcalls.specs.declared.simulator.Outcome.TheVariants.{Done, Blocked}
+
+-- what comes of a call comes of what is read off its result, where errors stay
+comes-read : {A B : Type 0} (f : Result A CallError → Result B CallError) (read : Option Completion → Result A CallError) (other : Option Completion → Result B CallError)
+    → ((x : Option Completion) → f (read x) ≡ other x) → ((e : CallError) → f (Err e) ≡ Err e)
+    → (t : ℕ) (call : Call) (before after : Simulation) (made : Result A CallError) (why : Option Errno)
+    → Comes read t call before after made why → Comes other t call before after (f made) why
+comes-read f read other same errors t call before after made (Some e) (kept, is) = (kept, ap f is ∙ errors _)
+comes-read f read other same errors t call before after made None (inl (endings, event, is)) = inl (endings, event, ap f is ∙ same (ending_of t endings))
+comes-read f read other same errors t call before after made None (inr (kept, is)) = inr (kept, ap f is ∙ errors _)
+
+-- a call that ended in its own event
+at_once-read : {A : Type 0} (read : Reading A) (x : Option Completion) → read_off read (at_once ending_in x) ≡ at_once read x
+at_once-read read None = refl
+at_once-read read (Some x) = refl
+
+pub reads_at_once : {A : Type 0} {read : Reading A} {t : ℕ} {call asked : Call} {before after : Simulation} {made : Result Ending CallError} {e : Ending}
+    {result : Result A CallError} → Simulates (at_once ending_in) t asked before after made → asked ≡ call → made ≡ Ok e
+    → result ≡ read e.waited e.mark e.buffer → Simulates (at_once read) t call before after result
+reads_at_once {A} {read} {t} {call} {asked} {before} {after} {made} {e} {result} m same_call is r =
+    let same : result ≡ read_off read made = r ∙ sym (ap (read_off read) is) in
+    record { comes = rw (← same_call, same) (comes-read (read_off read) (at_once ending_in) (at_once read) (at_once-read read) (λ e. refl) t asked before after made (unmade before t) m.comes) }
+
+-- what is read off a call in which its thread may be blocked
+abbrev pub read_outcome : {A : Type 0} → Reading A → Result (Outcome Ending) CallError → Result (Outcome A) CallError
+read_outcome read (Ok (Done e)) = done (read e.waited e.mark e.buffer)
+read_outcome read (Ok Blocked) = Ok Blocked
+read_outcome read (Err e) = Err e
+
+unless_blocked-read : {A : Type 0} (read : Reading A) (x : Option Completion) → read_outcome read (unless_blocked ending_in x) ≡ unless_blocked read x
+unless_blocked-read read None = refl
+unless_blocked-read read (Some x) = refl
+
+pub reads_unless_blocked : {A : Type 0} {read : Reading A} {t : ℕ} {call asked : Call} {before after : Simulation} {made : Result (Outcome Ending) CallError}
+    {outcome : Result (Outcome Ending) CallError} {result : Result (Outcome A) CallError} → Simulates (unless_blocked ending_in) t asked before after made → asked ≡ call
+    → made ≡ outcome → result ≡ read_outcome read outcome → Simulates (unless_blocked read) t call before after result
+reads_unless_blocked {A} {read} {t} {call} {asked} {before} {after} {made} {outcome} {result} m same_call is r =
+    let same : result ≡ read_outcome read made = r ∙ sym (ap (read_outcome read) is) in
+    record { comes = rw (← same_call, same) (comes-read (read_outcome read) (unless_blocked ending_in) (unless_blocked read) (unless_blocked-read read) (λ e. refl) t asked before after made (unmade before t) m.comes) }

@@ -1,0 +1,12 @@
+use Rattle.std.proofs.Common.{◌≡◌, ◌+◌, ◌≤◌, ◌++◌, length, reverse, vec_len, vec_capacity}
+use Rattle.qcalls.proofs.simulator.kept.append.Given as goal
+
+abbrev pub invariant-loop-completion : goal.invariant-loop-completion
+invariant-loop-completion l = record {
+  moved : l.kept.items ++ reverse l.endings.items ≡ l.fn.kept.items ++ l.fn.endings.items;
+  room : vec_len l.kept + length l.endings.items ≤ vec_capacity l.kept;
+  capacity : vec_capacity l.kept ≡ vec_capacity l.fn.kept;
+}
+
+abbrev pub decreases-loop-completion : goal.decreases-loop-completion
+decreases-loop-completion l = length l.endings.items
