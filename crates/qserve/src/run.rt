@@ -15,7 +15,7 @@ use crate::timing::{start_of, timing_of};
 use qbase::flags::ChannelFlags;
 use qbase::ids::ConnectionId;
 use qcalls::caller::Caller;
-use qcalls::endpoint::{Endpoint, KernelPort};
+use qcalls::endpoint::Endpoint;
 use qkernel::trace::Trace;
 use qshared::kept::Kept;
 use qshared::log::Log;
@@ -141,10 +141,10 @@ fn direct<'s, X, K: Tie + Send + Sync, L: Log + Send, R: Threads + Wait + Clock 
     crew: Crew<K>,
     settings: Settings,
 ) -> Result<Gathered<K>, WorkerFault> {
-    let mut main = Caller::new(KernelPort::new(main, stage.shared), stage.rt, stage.alloc);
+    let mut main = Caller::of(main, stage.shared, stage.rt, stage.alloc);
     let work = conduct(stage, &mut main, crew, settings);
     let mut gathered = main.or_shutdown(work)?;
-    gathered.ports.push(main.into_endpoint().into_port())?;
+    gathered.ports.push(main.into_port())?;
     Ok(gathered)
 }
 

@@ -189,22 +189,22 @@ fn server_thread<K: Tie, L: Log, R: Wait>(
     alarm: Option<Port<K>>,
     chid: ChannelId,
 ) -> Ended<K> {
-    let mut caller = Caller::new(KernelPort::new(port, shared), rt, alloc);
+    let mut caller = Caller::of(port, shared, rt, alloc);
     let Some(alarm) = alarm else {
         let done = server(&mut caller, chid);
         return Ended {
             done,
-            port: caller.into_endpoint().into_port(),
+            port: caller.into_port(),
             alarm: None,
             trips: Vec::new(alloc),
         };
     };
-    let mut alarm = Caller::new(KernelPort::new(alarm, shared), rt, alloc);
+    let mut alarm = Caller::of(alarm, shared, rt, alloc);
     let done = holding_server(&mut caller, &mut alarm, chid);
     Ended {
         done,
-        port: caller.into_endpoint().into_port(),
-        alarm: Some(alarm.into_endpoint().into_port()),
+        port: caller.into_port(),
+        alarm: Some(alarm.into_port()),
         trips: Vec::new(alloc),
     }
 }

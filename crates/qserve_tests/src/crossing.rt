@@ -8,8 +8,9 @@ use qbase::flags::ChannelFlags;
 use qbase::ids::{ChannelId, ConnectionId, ProcessNo, ThreadNo};
 use qbase::priority::Priority;
 use qcalls::caller::Caller;
-use qcalls::endpoint::{Endpoint, KernelPort};
+use qcalls::endpoint::Endpoint;
 use qcalls::error::CallError;
+use qcalls::opening::two_callers;
 use qcalls::results::{Pulse, Received};
 use qqueue::item::What;
 use qshared::kept::Kept;
@@ -140,11 +141,8 @@ fn cross_at_once<K: Tie + Send + Sync, R: Threads + Wait + Abort + Sync>(
 ) -> Report
     requires named { AreParts K.names K.name K.parts parts }
 {
-    let (shared, mut ports) = Shared::<K, Kept<K>>::open(parts).expect(rt, "a kernel");
-    let second = KernelPort::new(ports.pop().expect(rt, "a port"), &shared);
-    let first = KernelPort::new(ports.pop().expect(rt, "a port"), &shared);
-    let mut second = Caller::new(second, rt, alloc);
-    let mut first = Caller::new(first, rt, alloc);
+    let (shared, ports) = Shared::<K, Kept<K>>::open(parts).expect(rt, "a kernel");
+    let (mut first, mut second) = two_callers(ports, &shared, rt, alloc).expect(rt, "two ports");
     let (one, two) = ways(rt, &mut first, &mut second);
     let (got, other_got) = join(
         rt,
@@ -154,9 +152,8 @@ fn cross_at_once<K: Tie + Send + Sync, R: Threads + Wait + Abort + Sync>(
     assert_eq!(rt; got, Ok(2));
     assert_eq!(rt; other_got, Ok(1));
     assert!(rt; first.shutdown().is_ok());
-    assert!(rt; ports.push(first.into_endpoint().into_port()).is_ok());
-    assert!(rt; ports.push(second.into_endpoint().into_port()).is_ok());
-    finished(rt, shared, ports)
+    let ports = vec![in alloc; first.into_port(), second.into_port()];
+    finished(rt, shared, ports.expect(rt, "memory"))
 }
 
 #[test]
@@ -173,11 +170,8 @@ fn crossing(rt: HostRuntime) {
 fn cross_in_turn<K: Tie, R: Wait + Abort>(rt: &R, alloc: Global, parts: Parts) -> Result<i32, Fault>
     requires named { AreParts K.names K.name K.parts parts }
 {
-    let (shared, mut ports) = Shared::<K, Kept<K>>::open(parts).expect(rt, "a kernel");
-    let second = KernelPort::new(ports.pop().expect(rt, "a port"), &shared);
-    let first = KernelPort::new(ports.pop().expect(rt, "a port"), &shared);
-    let mut second = Caller::new(second, rt, alloc);
-    let mut first = Caller::new(first, rt, alloc);
+    let (shared, ports) = Shared::<K, Kept<K>>::open(parts).expect(rt, "a kernel");
+    let (mut first, mut second) = two_callers(ports, &shared, rt, alloc).expect(rt, "two ports");
     let (one, two) = ways(rt, &mut first, &mut second);
     let got = worker(&mut first, one);
     let other_got = worker(&mut second, two);

@@ -1,7 +1,8 @@
 //! An endpoint whose answers are written down, and one that refuses a call before the kernel sees it.
 
-ghost use Rattle.std.specs.Prelude.{◌+◌, ◌≤◌, IfSome, map, vec_capacity, vec_len};
+ghost use Rattle.std.specs.Prelude.{◌≡◌, ◌+◌, ◌≤◌, ◌++◌, [], ◌∷◌, if◌then◌else◌, IfSome, map, vec_capacity, vec_len};
 ghost use Rattle.std.specs.Option.{is_some};
+ghost use Rattle.qshared.specs.Counting.{gives, is_call, pends};
 
 use qbase::errno::Errno;
 use qbase::ids::ThreadNo;
@@ -22,6 +23,9 @@ pub enum Line {
     /// It is no event.
     Refused(Errno),
 }
+
+/// The thread of a script.
+const THREAD: ThreadNo = ThreadNo(0);
 
 /// Answers its calls as its script says, and refuses those that come after.
 #[derive(Drop)]
@@ -56,14 +60,18 @@ impl<'a> Scripted<'a> {
     fn ending(&self, call: Call, mark: Mark) -> Completion {
         Completion {
             call: 0,
-            thread: ThreadNo(0),
+            thread: THREAD,
             mark,
             buffer: call.into_buffer(self.alloc),
         }
     }
 
     /// Answers a call by the next line.
-    fn answer(&mut self, call: Call) -> Called {
+    fn answer(&mut self, call: Call) -> Called
+        ensures asked { map (λ c. c.value) self.new.asked.items ≡ map (λ c. c.value) self.old.asked.items ++ (if is_call result then call ∷ [] else []) }
+        ensures taken { map (λ x. x.value) self.new.taken.items ≡ map (λ x. x.value) self.old.taken.items ++ gives result }
+        ensures pending { is_some self.new.later ≡ pends result (is_some self.old.later) }
+    {
         if self.asked.reserve(1).is_err() || self.taken.reserve(2).is_err() {
             return Called::Refused(Errno::NoMemory, call);
         }
@@ -94,7 +102,7 @@ impl<'a> Endpoint for Scripted<'a> {
     ghost history = { λ s. record { asked = map (λ c. c.value) s.asked.items; taken = map (λ x. x.value) s.taken.items; pending = is_some s.later; told = s.told } };
 
     fn thread(&self) -> ThreadNo {
-        ThreadNo(0)
+        THREAD
     }
 
     fn call<R: Wait>(&mut self, _rt: &R, call: Call) -> Called {

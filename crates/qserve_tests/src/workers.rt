@@ -31,8 +31,16 @@ const REFUSED: Line = Line::Refused(Errno::NoMemory);
 
 const GONE: Line = Line::Ends(Mark::Failed(Errno::Srch));
 
-/// The fault of a worker whose call is answered so.
+/// A call that is blocked, and ended by force.
+const GONE_LATER: Line = Line::Later(Mark::Failed(Errno::Srch));
+
+const NO_MEMORY_LATER: Line = Line::Later(Mark::Failed(Errno::NoMemory));
+
+/// The fault of a worker whose call ends so in its own event.
 const IS_GONE: WorkerFault = WorkerFault::Call(CallError::Refused(Errno::Srch));
+
+/// The fault of a worker whose call ends so after it was blocked.
+const IS_CUT: WorkerFault = WorkerFault::Call(CallError::Cut(Errno::Srch));
 
 /// The fault of a worker whose call is answered as another kind of call.
 const OTHER_KIND: WorkerFault = WorkerFault::Call(CallError::Unexpected);
@@ -89,6 +97,7 @@ fn a_client_meets_an_unexpected_answer(rt: HostRuntime) {
     expect_client(&rt, alloc, &[ATTACHED, GONE], IS_GONE);
     expect_client(&rt, alloc, &[ATTACHED, ATTACHED], OTHER_KIND);
     expect_client(&rt, alloc, &[ATTACHED, DONE, GONE], IS_GONE);
+    expect_client(&rt, alloc, &[ATTACHED, DONE, GONE_LATER], IS_CUT);
     expect_client(&rt, alloc, &[ATTACHED, DONE, error], code);
     expect_client(&rt, alloc, &[ATTACHED, DONE, wrong_status], fault);
     expect_client(&rt, alloc, &[ATTACHED, DONE, wrong_bytes], fault);
@@ -103,6 +112,7 @@ fn a_client_finds_no_memory(rt: HostRuntime) {
     expect_client(&rt, alloc, &[ATTACHED, NO_MEMORY], FULL);
     expect_client(&rt, alloc, &[ATTACHED, REFUSED], FULL);
     expect_client(&rt, alloc, &[ATTACHED, DONE, NO_MEMORY], FULL);
+    expect_client(&rt, alloc, &[ATTACHED, DONE, NO_MEMORY_LATER], FULL);
     expect_client(&rt, alloc, &[ATTACHED, DONE, REFUSED], FULL);
 }
 
@@ -115,6 +125,7 @@ fn a_server_meets_an_unexpected_answer(rt: HostRuntime) {
     let disconnect = pulse(What::Disconnect(ProcessNo(2)));
     let fault = WorkerFault::Unexpected;
     expect_server(&rt, alloc, &[GONE], IS_GONE);
+    expect_server(&rt, alloc, &[GONE_LATER], IS_CUT);
     expect_server(&rt, alloc, &[DONE], OTHER_KIND);
     expect_server(&rt, alloc, &[other_code], fault);
     expect_server(&rt, alloc, &[disconnect], fault);
@@ -129,6 +140,7 @@ fn a_server_meets_an_unexpected_answer(rt: HostRuntime) {
 fn a_server_finds_no_memory(rt: HostRuntime) {
     let alloc = rt.alloc();
     expect_server(&rt, alloc, &[REFUSED], FULL);
+    expect_server(&rt, alloc, &[NO_MEMORY_LATER], FULL);
     expect_server(&rt, alloc, &[MESSAGE, REFUSED], FULL);
     expect_server(&rt, alloc, &[MESSAGE, DONE, REFUSED], FULL);
 }

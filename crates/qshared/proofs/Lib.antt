@@ -8,4 +8,3 @@ pub mod Places
 pub mod Puts
 pub mod Rows
 pub mod Telling
-pub mod TwoCalls
