@@ -1,5 +1,6 @@
 -- What an answer to a call, or to two calls in turn, leads to.
-use Rattle.std.proofs.Common.{◌≡◌, ◌∙◌, ap, sym, refl, Bool, true, false, List, [], ◌∷◌, ◌++◌, ⊤, Result, Ok, Err, if◌then◌else◌}
+use Rattle.std.proofs.Common.{◌≡◌, ◌∙◌, ap, sym, refl, Bool, true, false, List, [], ◌∷◌, ◌++◌, Result, Ok, Err, if◌then◌else◌}
+use Rattle.std.specs.Prelude.{⊤}
 use Rattle.std.proofs.lemmas.List.{append-nil, append_assoc}
 use Rattle.qmodel.specs.declared.call.Call.{Call}
 use Rattle.qmodel.specs.declared.call.Completion.{Completion}
@@ -10,33 +11,34 @@ use Rattle.qshared.specs.declared.port.Called.TheVariants as called
 use Rattle.qshared.specs.Counting.{is_call, gives, pends}
 use Rattle.qshared.specs.TwoCalls.{is_ok}
 use Rattle.qcalls.specs.History.{History, told_by}
-use Rattle.qcalls.specs.Making.{Ends, Leads, Makes, MakesBoth, ending_in}
+use Rattle.qcalls.specs.Making.{Follows, Leads, Makes, MakesBoth, ending_in, read_off}
 use Rattle.qcalls.specs.Results.{Reading, done_in}
 use Rattle.qcalls.specs.declared.ending.Ending.{Ending}
 use Rattle.qcalls.specs.declared.endpoint.Told.TheVariants.{Done}
 use Rattle.qcalls.specs.declared.error.CallError.{CallError}
+use Rattle.qcalls.proofs.Reading.{makes_off}
 
 -- what an endpoint answered a call
-pub record WasCalled (call : Call) (answer : Called) (before after : History) : Type 0 where
+pub record IsAnswer (call : Call) (answer : Called) (before after : History) : Type 0 where
   pub asked : after.asked ≡ before.asked ++ (if is_call answer then call ∷ [] else [])
   pub taken : after.taken ≡ before.taken ++ gives answer
   pub pending : after.pending ≡ pends answer before.pending
   pub told : after.told ≡ told_by answer
 
 -- what the answer leads to is what the call comes to
-pub leads_makes : (call : Call) (answer : Called) (before between after : History) (result : Result Ending CallError)
-    → WasCalled call answer before between → Leads answer between after result → Makes ending_in call before after result
-leads_makes call (called.Refused errno given) before between after result was (same, is) =
+pub leads_makes : (call : Call) (answer : Called) {before between after : History} {result : Result Ending CallError}
+    → IsAnswer call answer before between → Leads answer between after result → Makes ending_in call before after result
+leads_makes call (called.Refused errno given) {before} {between} {after} {result} was (same, is) =
     record {
       comes = rw (same, was.told) (was.asked ∙ append-nil before.asked, was.taken ∙ append-nil before.taken, is);
       idle = λ idle. rw same (was.pending ∙ idle);
     }
-leads_makes call (called.Done x) before between after result was (same, is) =
+leads_makes call (called.Done x) {before} {between} {after} {result} was (same, is) =
     record {
       comes = rw (same, was.told) (was.asked, (x, was.taken, is));
       idle = λ idle. rw same (was.pending ∙ idle);
     }
-leads_makes call called.Blocked before between after result was (x, took, none, kept, said, is) =
+leads_makes call called.Blocked {before} {between} {after} {result} was (x, took, none, kept, said, is) =
     record {
       comes = rw (said ∙ was.told) (kept ∙ was.asked, (x, took ∙ ap (λ l. l ++ x ∷ []) (was.taken ∙ append-nil before.taken), is));
       idle = λ idle. none;
@@ -47,24 +49,99 @@ done_of_ok : (m : Mark) (buffer : List _) → is_ok m ≡ true → Ok tt ≡ don
 done_of_ok mark.Ok buffer ok = refl
 done_of_ok other buffer ok = search
 
--- where an endpoint is after the first of two calls, which ended in its own event
-pub after_first : Call → Completion → History → History
-after_first call x before = record before { asked = before.asked ++ call ∷ []; taken = before.taken ++ x ∷ []; told = Done }
+-- whether a call did what it says is read off its ending
+pub reads_done : {made : Result Ending CallError} {e : Ending} {done said : Result ⊤ CallError} → made ≡ Ok e
+    → done ≡ done_in e.waited e.mark e.buffer → done ≡ said → read_off done_in made ≡ said
+reads_done is reads says = ap (read_off done_in) is ∙ sym reads ∙ says
 
-pub first_makes : (call : Call) (x : Completion) (before : History) → is_ok x.mark ≡ true
+-- where an endpoint is after the first of two calls, which did what it says in its own event
+abbrev pub after_first : Call → Completion → History → History
+after_first call x before =
+    record { asked = before.asked ++ call ∷ []; taken = before.taken ++ x ∷ []; pending = before.pending; told = Done }
+
+first_makes : (call : Call) (x : Completion) (before : History) → is_ok x.mark ≡ true
     → Makes done_in call before (after_first call x before) (Ok tt)
 first_makes call x before ok =
     record { comes = (refl, (x, refl, done_of_ok x.mark x.buffer ok)); idle = λ idle. idle }
 
--- what an endpoint answered the second of two calls, of which the first did what it says
-pub second_was : (first second : Call) (x : Completion) (answer : Called) (before after : History)
+-- what an endpoint answered the second
+second_answer : (first second : Call) (x : Completion) (answer : Called) (before after : History)
     → after.asked ≡ before.asked ++ (first ∷ (if is_call answer then second ∷ [] else []))
     → after.taken ≡ before.taken ++ (x ∷ gives answer) → after.pending ≡ pends answer before.pending
-    → after.told ≡ told_by answer → WasCalled second answer (after_first first x before) after
-second_was first second x answer before after asked taken pending told =
+    → after.told ≡ told_by answer → IsAnswer second answer (after_first first x before) after
+second_answer first second x answer before after asked taken pending told =
     record {
       asked = asked ∙ sym (append_assoc before.asked (first ∷ []) (if is_call answer then second ∷ [] else []));
       taken = taken ∙ sym (append_assoc before.taken (x ∷ []) (gives answer));
       pending = pending;
       told = told;
     }
+
+-- both calls are made where the endpoint made both
+pub both_make : (first second : Call) (x : Completion) (answer : Called) {before between after : History}
+    {result : Result Ending CallError} → is_ok x.mark ≡ true
+    → between.asked ≡ before.asked ++ (first ∷ (if is_call answer then second ∷ [] else []))
+    → between.taken ≡ before.taken ++ (x ∷ gives answer) → between.pending ≡ pends answer before.pending
+    → between.told ≡ told_by answer → Leads answer between after result → MakesBoth ending_in first second before after result
+both_make first second x answer {before} {between} {after} {result} ok asked taken pending told leads =
+    record {
+      between = after_first first x before;
+      came = Ok tt;
+      makes = first_makes first x before ok;
+      follows = leads_makes second answer (second_answer first second x answer before between asked taken pending told) leads;
+    }
+
+-- the first alone is made, and fails
+pub first_fails : (first second : Call) (answer : Called) (made : Result Ending CallError) {before between after : History}
+    {result : Result Ending CallError} {e : CallError} → IsAnswer first answer before between → Leads answer between after made → read_off done_in made ≡ Err e
+    → result ≡ Err e → MakesBoth ending_in first second before after result
+first_fails first second answer made {before} {between} {after} {result} {e} was leads is fails =
+    record {
+      between = after;
+      came = read_off done_in made;
+      makes = makes_off done_in (leads_makes first answer was leads);
+      follows = rw is (refl, fails);
+    }
+
+-- the first is made, does what it says after a wait, and then the second is made
+pub second_makes : (first second : Call) (answer : Called) (made : Result Ending CallError) {given : Call}
+    {before between waited after : History} {result : Result Ending CallError} → IsAnswer first answer before between → Leads answer between waited made
+    → read_off done_in made ≡ Ok tt → given ≡ second → Makes ending_in given waited after result
+    → MakesBoth ending_in first second before after result
+second_makes first second answer made {given} {before} {between} {waited} {after} {result} was leads is same makes =
+    record {
+      between = waited;
+      came = read_off done_in made;
+      makes = makes_off done_in (leads_makes first answer was leads);
+      follows = rw (is, ← same) makes;
+    }
+
+-- a call that follows is made with what is read off its ending
+follows-off : {A : Type 0} (read : Reading A) (call : Call) (came : Result ⊤ CallError) {before after : History}
+    {made : Result Ending CallError} → Follows ending_in call came before after made
+    → Follows read call came before after (read_off read made)
+follows-off read call (Ok done) follows = makes_off read follows
+follows-off read call (Err e) (same, is) = (same, ap (read_off read) is)
+
+-- two calls are made in turn with what is read off the ending of the second
+both-off : {A : Type 0} (read : Reading A) {first second : Call} {before after : History} {made : Result Ending CallError}
+    → MakesBoth ending_in first second before after made → MakesBoth read first second before after (read_off read made)
+both-off read {first} {second} {before} {after} {made} m =
+    record { between = m.between; came = m.came; makes = m.makes; follows = follows-off read second m.came m.follows }
+
+-- and so they are where the result is read off it
+pub both_read : {A : Type 0} {read : Reading A} {first second one other : Call} {before after : History}
+    {made : Result Ending CallError} {e : Ending} {result : Result A CallError} → MakesBoth ending_in one other before after made
+    → one ≡ first → other ≡ second → made ≡ Ok e → result ≡ read e.waited e.mark e.buffer
+    → MakesBoth read first second before after result
+both_read {A} {read} {first} {second} {one} {other} {before} {after} {made} {e} {result} m same_one same_other is reads =
+    let off : result ≡ read_off read made = reads ∙ sym (ap (read_off read) is) in
+    rw (← same_one, ← same_other, off) (both-off read m)
+
+-- or is the error that either came to
+pub both_fail : {A : Type 0} {read : Reading A} {first second one other : Call} {before after : History}
+    {made : Result Ending CallError} {e : CallError} {result : Result A CallError} → MakesBoth ending_in one other before after made
+    → one ≡ first → other ≡ second → made ≡ Err e → result ≡ Err e → MakesBoth read first second before after result
+both_fail {A} {read} {first} {second} {one} {other} {before} {after} {made} {e} {result} m same_one same_other is fails =
+    let off : result ≡ read_off read made = fails ∙ sym (ap (read_off read) is) in
+    rw (← same_one, ← same_other, off) (both-off read m)

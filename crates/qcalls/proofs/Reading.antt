@@ -17,6 +17,12 @@ comes-read read call before after made Done (asked, (x, taken, is)) = (asked, (x
 comes-read read call before after made Blocked (asked, (x, taken, is)) = (asked, (x, taken, ap (read_off read) is))
 
 -- and so does the call
+pub makes_off : {A : Type 0} (read : Reading A) {call : Call} {before after : History} {made : Result Ending CallError}
+    → Makes ending_in call before after made → Makes read call before after (read_off read made)
+makes_off read {call} {before} {after} {made} m =
+    record { comes = comes-read read call before after made after.told m.comes; idle = m.idle }
+
+-- also where its result is told by its ending
 pub makes_read : {A : Type 0} {read : Reading A} {call asked : Call} {before after : History} {made : Result Ending CallError}
     {e : Ending} {result : Result A CallError} → Makes ending_in asked before after made → asked ≡ call → made ≡ Ok e
     → result ≡ read e.waited e.mark e.buffer → Makes read call before after result
