@@ -1,0 +1,18 @@
+#![doc = include_str!("../README.md")]
+
+mod calls;
+mod errors;
+mod ids;
+pub mod kernel;
+mod port;
+#[cfg(feature = "record")]
+mod record;
+mod results;
+mod shared;
+mod sleeping;
+
+pub use errors::{CallError, Errno, OpenError};
+pub use ids::{ChannelFlags, ChannelId, ConnectionId, ReceiveId};
+pub use kernel::Thread;
+pub use port::{Port, open, open_array};
+pub use results::{Answer, Info, Pulse, Received, Request, State, ThreadState, What};

@@ -1,0 +1,174 @@
+//! A thread's way to a kernel, and how its calls wait.
+
+use crate::errors::{By, CallError, OpenError, outcome};
+use crate::kernel::{Call, Mark, Thread};
+use crate::shared::{Lent, Shared};
+use crate::sleeping::LOOKS;
+use std::sync::Arc;
+use std::thread;
+use std::time::{Duration, Instant};
+
+/// When a timeout is tried again that the kernel refused, since a limit is reached or memory is out.
+const AGAIN: Duration = Duration::from_millis(1);
+
+/// A thread's way to a kernel. Its calls sleep where they have to wait.
+///
+/// A port may go to another thread of the program between two calls. If a thread panics while it has a port, the kernel
+/// is shut down, so that nobody waits for it for ever. A port that is dropped otherwise makes no more calls, and who
+/// waits for its answer goes on waiting.
+pub struct Port {
+    pub(crate) shared: Arc<Shared>,
+    at: usize,
+    thread: Thread,
+    timeout: Option<Duration>,
+    looks: u32,
+}
+
+/// A kernel of these threads, without channels: a port for each thread, in the order given.
+///
+/// Refused with `Inval` if a thread has the priority 0 or its number stands twice, and `Again` if there are more than 64
+/// threads, of which each process takes one more for its timeouts: a number of no other thread, from 255 down.
+pub fn open(threads: &[Thread]) -> Result<Vec<Port>, OpenError> {
+    let shared = Arc::new(Shared::new(threads)?);
+    let port = |(at, thread): (usize, &Thread)| Port {
+        shared: shared.clone(),
+        at,
+        thread: *thread,
+        timeout: None,
+        looks: LOOKS,
+    };
+    Ok(threads.iter().enumerate().map(port).collect())
+}
+
+/// The same for a number of threads that is known beforehand.
+///
+/// ```
+/// use balsaeuchre::{Thread, open_array};
+///
+/// let [mut server, mut client] = open_array([Thread::new(1, 1, 10), Thread::new(2, 2, 20)])?;
+/// # Ok::<(), balsaeuchre::OpenError>(())
+/// ```
+pub fn open_array<const N: usize>(threads: [Thread; N]) -> Result<[Port; N], OpenError> {
+    let Ok(ports) = open(&threads)?.try_into() else { unreachable!("a port for each thread") };
+    Ok(ports)
+}
+
+impl Port {
+    /// Whose port it is, with the priority that the thread began with.
+    #[must_use]
+    pub fn thread(&self) -> Thread {
+        self.thread
+    }
+
+    /// The next call that can block, `msg_send`, `msg_receive` or `msg_receive_pulse`, waits at most so long, counted
+    /// from when it is made (`TimerTimeout`). Then it is unblocked: it returns [`CallError::TimedOut`]. If its message
+    /// was received on a channel with the flag `UNBLOCK`, the server is told by a pulse, and the call goes on waiting for
+    /// the answer.
+    ///
+    /// ```
+    /// # use balsaeuchre::{CallError, ChannelFlags, Thread, open_array};
+    /// # use std::time::Duration;
+    /// # fn main() -> Result<(), Box<dyn std::error::Error>> {
+    /// # let [mut server] = open_array([Thread::new(1, 1, 10)])?;
+    /// let channel = server.channel_create(ChannelFlags::NONE)?;
+    /// let received = server.timeout(Duration::from_millis(5)).msg_receive_pulse(channel);
+    /// assert_eq!(received, Err(CallError::TimedOut));
+    /// # Ok(())
+    /// # }
+    /// ```
+    pub fn timeout(&mut self, time: Duration) -> &mut Port {
+        self.timeout = Some(time);
+        self
+    }
+
+    /// Makes a call that never waits.
+    pub(crate) fn call<'a>(&mut self, call: Call<'a>) -> Result<Mark, CallError> {
+        self.make(&mut [], None, |_| call)
+    }
+
+    /// Makes a call that may wait, for which it has this buffer.
+    pub(crate) fn call_blocking<'a>(
+        &mut self,
+        buffer: &'a mut [u8],
+        call: impl FnOnce(&'a [u8]) -> Call<'a>,
+    ) -> Result<Mark, CallError> {
+        let end = self.timeout.take().and_then(|time| Instant::now().checked_add(time));
+        self.make(buffer, end, call)
+    }
+
+    /// Makes a call, and waits for its end. Until then it lends its buffer, so it returns and unwinds at no other point
+    /// behind `open`.
+    pub(crate) fn make<'a>(
+        &mut self,
+        buffer: &'a mut [u8],
+        end: Option<Instant>,
+        call: impl FnOnce(&'a [u8]) -> Call<'a>,
+    ) -> Result<Mark, CallError> {
+        let lent = Lent::of(buffer);
+        let mut locked = self.shared.lock();
+        let made = locked.make(&self.shared, self.thread.thread, lent, call);
+        if matches!(&made, Ok(made) if made.own.is_none()) {
+            locked.open(&self.shared, self.at, lent);
+        }
+        drop(locked);
+        let result = match made {
+            Err(errno) => Err(errno.into()),
+            Ok(made) => {
+                made.asleep.iter().for_each(thread::Thread::unpark);
+                match made.own {
+                    Some(mark) => outcome(mark, By::Itself),
+                    None => self.wait(end),
+                }
+            }
+        };
+        #[cfg(feature = "record")]
+        self.shared.got[self.at].lock().unwrap().push(crate::record::Got::new(result, buffer));
+        result
+    }
+
+    /// Waits for the end of the open call.
+    fn wait(&mut self, mut end: Option<Instant>) -> Result<Mark, CallError> {
+        let place = self.shared.place(self.at);
+        let mut by = By::Other;
+        if !place.look(&mut self.looks) {
+            // SAFETY: this port is the place's owner, and `make` opened its call.
+            while !unsafe { place.sleep(end) } {
+                if let Some(ended) = self.time_out() {
+                    by = ended;
+                    end = None;
+                } else {
+                    end = Some(Instant::now() + AGAIN);
+                }
+            }
+        }
+        // SAFETY: the call is ended.
+        outcome(unsafe { place.take() }, by)
+    }
+
+    /// Unblocks this port's thread in the name of its process's clock: by what its call ends, or nothing if the kernel
+    /// refused that for now.
+    fn time_out(&self) -> Option<By> {
+        let mut locked = self.shared.lock();
+        let place = self.shared.place(self.at);
+        if place.is_ended() {
+            return Some(By::Other);
+        }
+        let clock = self.shared.clock_of(self.thread.process);
+        let unblock = Call::Unblock { thread: self.thread.thread };
+        let made = locked.make(&self.shared, clock, Lent::of(&mut []), |_| unblock);
+        let by = if place.is_ended() { By::Timeout } else { By::Other };
+        drop(locked);
+        let made = made.ok()?;
+        made.asleep.iter().for_each(thread::Thread::unpark);
+        matches!(made.own, Some(Mark::Done)).then_some(by)
+    }
+}
+
+/// A thread that panics shuts the kernel down, so that nobody waits for it for ever.
+impl Drop for Port {
+    fn drop(&mut self) {
+        if thread::panicking() {
+            let _ = self.shutdown();
+        }
+    }
+}
