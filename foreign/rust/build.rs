@@ -1,73 +1,47 @@
 //! Links the static library. `BALSAEUCHRE_LIB_DIR` names the folder that has it: `libbalsaeuchre.a`, as it is installed,
-//! or `libbalsaeuchre_c.a` with `liblibc_c.a` beside it. Without it the library is taken from the clone that this
-//! package lies in, where `rt lib` made it.
+//! or `libbalsaeuchre_c.a` with the heap's `liblibc_c.a`. Without it the library is the one that `rt lib` made in the
+//! clone that this package lies in, and the heap the toolchain's.
 
-use std::env;
-use std::path::{Path, PathBuf};
+use std::path::{Path, PathBuf, absolute};
 use std::process::{Command, exit};
+use std::{env, fs};
 
-/// The library with its heap in one archive.
-const WHOLE: &str = "balsaeuchre";
-const KERNEL: &str = "balsaeuchre_c";
-const HEAP: &str = "libc_c";
 const VARIABLE: &str = "BALSAEUCHRE_LIB_DIR";
 
-fn has(folder: &Path, library: &str) -> bool {
-    folder.join(format!("lib{library}.a")).is_file()
+/// Where the library is in a clone, and where the toolchain keeps the heap, by its own word.
+fn built() -> Vec<PathBuf> {
+    let here = env::var_os("CARGO_MANIFEST_DIR").expect("cargo sets it");
+    let mut folders = vec![Path::new(&here).join("../../crates/balsaeuchre_c/out")];
+    if let Ok(told) = Command::new("rt").arg("doc").output() {
+        folders.push(Path::new(String::from_utf8_lossy(&told.stdout).trim()).with_file_name("c"));
+    }
+    folders
 }
 
-fn link(folder: &Path, library: &str) {
-    println!("cargo::rerun-if-changed={}", folder.join(format!("lib{library}.a")).display());
-    println!("cargo::rustc-link-search=native={}", folder.display());
+/// Links a library of one of the folders, and returns whether there is one.
+fn link(library: &str, folders: &[PathBuf]) -> bool {
+    let mut files = folders.iter().map(|folder| folder.join(format!("lib{library}.a")));
+    let Some(file) = files.find_map(|file| fs::canonicalize(file).ok()) else { return false };
+    println!("cargo::rerun-if-changed={}", file.display());
+    println!("cargo::rustc-link-search=native={}", file.parent().expect("a file has a folder").display());
     println!("cargo::rustc-link-lib=static={library}");
-}
-
-/// The folder in which the toolchain keeps its heap, by its own word.
-fn heap_of_toolchain() -> Option<PathBuf> {
-    let told = Command::new("rt").arg("doc").output().ok()?;
-    let page = PathBuf::from(String::from_utf8(told.stdout).ok()?.trim());
-    Some(page.parent()?.join("c"))
-}
-
-fn refuse(why: &str) -> ! {
-    println!("cargo::error={why}");
-    exit(1)
-}
-
-fn link_named(folder: &Path) {
-    if has(folder, WHOLE) {
-        link(folder, WHOLE);
-    } else if has(folder, KERNEL) && has(folder, HEAP) {
-        link(folder, KERNEL);
-        link(folder, HEAP);
-    } else {
-        let folder = folder.display();
-        refuse(&format!("{VARIABLE} is {folder}, where neither lib{WHOLE}.a nor lib{KERNEL}.a with lib{HEAP}.a is"));
-    }
-}
-
-fn link_built() {
-    let here = PathBuf::from(env::var_os("CARGO_MANIFEST_DIR").expect("cargo sets it"));
-    let built = here.join("../../crates/balsaeuchre_c/out");
-    let heap = heap_of_toolchain().filter(|heap| has(heap, HEAP));
-    match heap {
-        Some(heap) if has(&built, KERNEL) => {
-            link(&built, KERNEL);
-            link(&heap, HEAP);
-        }
-        _ => refuse(&format!("no library: set {VARIABLE} to its folder, or build it by `rt lib` in crates/{KERNEL}")),
-    }
+    true
 }
 
 fn main() {
     println!("cargo::rerun-if-env-changed={VARIABLE}");
     println!("cargo::rerun-if-env-changed=DOCS_RS");
     if env::var_os("DOCS_RS").is_some() {
-        // Documents are made without the library.
-        return;
+        return; // documents are made without the library
     }
-    match env::var_os(VARIABLE) {
-        Some(folder) => link_named(&std::path::absolute(folder).unwrap_or_default()),
-        None => link_built(),
+    let named = env::var_os(VARIABLE).map(|folder| vec![absolute(folder).unwrap_or_default()]);
+    let folders = named.unwrap_or_else(built);
+    let linked = link("balsaeuchre", &folders) || link("balsaeuchre_c", &folders) && link("libc_c", &folders);
+    if !linked {
+        println!("cargo::error=neither libbalsaeuchre.a nor libbalsaeuchre_c.a with liblibc_c.a is in {folders:?}");
+        println!(
+            "cargo::error=set {VARIABLE} to the library's folder, or build it by `rt lib` in crates/balsaeuchre_c"
+        );
+        exit(1);
     }
 }

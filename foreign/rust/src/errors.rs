@@ -32,40 +32,31 @@ pub enum Errno {
     NoThread,
 }
 
+/// By its number in the library, less 1.
+const ERRNOS: [(Errno, &str); 11] = [
+    (Errno::Srch, "no such thread, channel or held message"),
+    (Errno::Badf, "no such connection"),
+    (Errno::Inval, "argument outside its range"),
+    (Errno::Again, "limit reached"),
+    (Errno::Intr, "unblocked"),
+    (Errno::Busy, "thread is blocked"),
+    (Errno::NoMemory, "out of memory"),
+    (Errno::Down, "kernel is shut down"),
+    (Errno::Exhausted, "kernel has made all its calls"),
+    (Errno::TraceFull, "kept trace is full"),
+    (Errno::NoThread, "thread isn't in the roster"),
+];
+
 impl Errno {
+    /// The error of a number that isn't 0.
     pub(crate) fn of(number: u32) -> Errno {
-        match number {
-            1 => Errno::Srch,
-            2 => Errno::Badf,
-            3 => Errno::Inval,
-            4 => Errno::Again,
-            5 => Errno::Intr,
-            6 => Errno::Busy,
-            7 => Errno::NoMemory,
-            8 => Errno::Down,
-            9 => Errno::Exhausted,
-            10 => Errno::TraceFull,
-            11 => Errno::NoThread,
-            other => unreachable!("the library answered {other}"),
-        }
+        ERRNOS[number as usize - 1].0
     }
 }
 
 impl fmt::Display for Errno {
     fn fmt(&self, f: &mut fmt::Formatter<'_>) -> fmt::Result {
-        f.write_str(match self {
-            Errno::Srch => "no such thread, channel or held message",
-            Errno::Badf => "no such connection",
-            Errno::Inval => "argument outside its range",
-            Errno::Again => "limit reached",
-            Errno::Intr => "unblocked",
-            Errno::Busy => "thread is blocked",
-            Errno::NoMemory => "out of memory",
-            Errno::Down => "kernel is shut down",
-            Errno::Exhausted => "kernel has made all its calls",
-            Errno::TraceFull => "kept trace is full",
-            Errno::NoThread => "thread isn't in the roster",
-        })
+        f.write_str(ERRNOS[*self as usize].1)
     }
 }
 
@@ -74,29 +65,15 @@ impl Error for Errno {}
 /// Why there is no kernel.
 #[derive(Clone, Copy, Debug, PartialEq, Eq)]
 pub enum OpenError {
-    /// The roster is refused: `Inval` if a thread has the priority 0 or its number stands twice, `Again` if there are
-    /// too many.
+    /// `Inval` if a thread has the priority 0 or its number stands twice, `Again` if there are too many, `NoMemory` if the
+    /// allocator refused.
     Refused(Errno),
-    /// The allocator refused.
-    NoMemory,
-}
-
-impl OpenError {
-    pub(crate) fn of(errno: Errno) -> OpenError {
-        match errno {
-            Errno::NoMemory => OpenError::NoMemory,
-            errno => OpenError::Refused(errno),
-        }
-    }
 }
 
 impl fmt::Display for OpenError {
     fn fmt(&self, f: &mut fmt::Formatter<'_>) -> fmt::Result {
         match self {
-            OpenError::Refused(Errno::Inval) => f.write_str("a thread has the priority 0, or its number stands twice"),
-            OpenError::Refused(Errno::Again) => f.write_str("too many threads"),
             OpenError::Refused(errno) => write!(f, "roster refused: {errno}"),
-            OpenError::NoMemory => f.write_str("out of memory"),
         }
     }
 }
@@ -146,25 +123,12 @@ impl From<Errno> for CallError {
     }
 }
 
-/// What ended a call.
-#[derive(Clone, Copy, Debug, PartialEq, Eq)]
-pub(crate) enum By {
-    /// Its own event.
-    Itself,
-    /// The event of another thread's call.
-    Other,
-    /// Its timeout.
-    Timeout,
-}
-
-/// What a thread gets of its call's end.
-pub(crate) fn outcome(mark: Mark, by: By) -> Result<Mark, CallError> {
-    match (mark, by) {
-        (Mark::Failed(Errno::NoMemory), _) => Err(CallError::NoMemory),
-        (Mark::Failed(errno), By::Itself) => Err(CallError::Refused(errno)),
-        (Mark::Failed(Errno::Intr), By::Timeout) => Err(CallError::TimedOut),
-        (Mark::Failed(errno), _) => Err(CallError::Cut(errno)),
-        (Mark::Errored { code }, _) => Err(CallError::Code(code)),
-        (mark, _) => Ok(mark),
+/// What a thread gets of its call's end, before which it may have waited.
+pub(crate) fn outcome(mark: Mark, waited: bool) -> Result<Mark, CallError> {
+    match mark {
+        Mark::Failed(errno) if waited && errno != Errno::NoMemory => Err(CallError::Cut(errno)),
+        Mark::Failed(errno) => Err(errno.into()),
+        Mark::Errored(code) => Err(CallError::Code(code)),
+        mark => Ok(mark),
     }
 }

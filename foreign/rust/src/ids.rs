@@ -4,19 +4,19 @@ use std::ops::BitOr;
 
 /// A channel. Its number is never another channel's of the same kernel.
 #[derive(Clone, Copy, Debug, PartialEq, Eq, PartialOrd, Ord, Hash)]
-pub struct ChannelId(pub(crate) u64);
+pub struct ChannelId(pub u64);
 
 /// A connection of a process to a channel. Its number is never another connection's of the same kernel.
 #[derive(Clone, Copy, Debug, PartialEq, Eq, PartialOrd, Ord, Hash)]
-pub struct ConnectionId(pub(crate) u64);
+pub struct ConnectionId(pub u64);
 
 /// A message that was received and isn't answered. Its number is never another message's of the same kernel.
 #[derive(Clone, Copy, Debug, PartialEq, Eq, PartialOrd, Ord, Hash)]
-pub struct ReceiveId(pub(crate) u64);
+pub struct ReceiveId(pub u64);
 
 /// What a server asks of its channel as it creates it. The bits are the kernel's own, none of QNX's.
 #[derive(Clone, Copy, Debug, PartialEq, Eq, Hash, Default)]
-pub struct ChannelFlags(pub(crate) u8);
+pub struct ChannelFlags(pub u8);
 
 impl ChannelFlags {
     /// None.

@@ -6,6 +6,7 @@ mod ids;
 pub mod kernel;
 mod port;
 #[cfg(feature = "record")]
+#[path = "../tests/record/mod.rs"]
 mod record;
 mod results;
 mod shared;

@@ -1,6 +1,6 @@
 //! A thread's way to a kernel, and how its calls wait.
 
-use crate::errors::{By, CallError, OpenError, outcome};
+use crate::errors::{CallError, Errno, OpenError, outcome};
 use crate::kernel::{Call, Mark, Thread};
 use crate::shared::{Lent, Shared};
 use crate::sleeping::LOOKS;
@@ -104,63 +104,62 @@ impl Port {
         end: Option<Instant>,
         call: impl FnOnce(&'a [u8]) -> Call<'a>,
     ) -> Result<Mark, CallError> {
-        let lent = Lent::of(buffer);
+        let lent = Lent(buffer);
         let mut locked = self.shared.lock();
         let made = locked.make(&self.shared, self.thread.thread, lent, call);
-        if matches!(&made, Ok(made) if made.own.is_none()) {
+        if matches!(made, Ok((None, _))) {
             locked.open(&self.shared, self.at, lent);
         }
         drop(locked);
         let result = match made {
             Err(errno) => Err(errno.into()),
-            Ok(made) => {
-                made.asleep.iter().for_each(thread::Thread::unpark);
-                match made.own {
-                    Some(mark) => outcome(mark, By::Itself),
-                    None => self.wait(end),
-                }
+            Ok((own, asleep)) => {
+                asleep.iter().for_each(thread::Thread::unpark);
+                own.map_or_else(|| self.wait(end), |mark| outcome(mark, false))
             }
         };
         #[cfg(feature = "record")]
-        self.shared.got[self.at].lock().unwrap().push(crate::record::Got::new(result, buffer));
+        self.shared.record.end(self.at, result, buffer);
         result
     }
 
     /// Waits for the end of the open call.
     fn wait(&mut self, mut end: Option<Instant>) -> Result<Mark, CallError> {
-        let place = self.shared.place(self.at);
-        let mut by = By::Other;
+        let place = &self.shared.places[self.at];
+        let mut is_late = false;
         if !place.look(&mut self.looks) {
             // SAFETY: this port is the place's owner, and `make` opened its call.
             while !unsafe { place.sleep(end) } {
-                if let Some(ended) = self.time_out() {
-                    by = ended;
-                    end = None;
-                } else {
-                    end = Some(Instant::now() + AGAIN);
-                }
+                (is_late, end) = self.time_out();
             }
         }
         // SAFETY: the call is ended.
-        outcome(unsafe { place.take() }, by)
+        match outcome(unsafe { place.take() }, true) {
+            Err(CallError::Cut(Errno::Intr)) if is_late => Err(CallError::TimedOut),
+            result => result,
+        }
     }
 
-    /// Unblocks this port's thread in the name of its process's clock: by what its call ends, or nothing if the kernel
-    /// refused that for now.
-    fn time_out(&self) -> Option<By> {
+    /// Unblocks this port's thread in the name of its process's clock: whether that ended its call, and when to do so
+    /// again, if the kernel refused it.
+    fn time_out(&self) -> (bool, Option<Instant>) {
         let mut locked = self.shared.lock();
-        let place = self.shared.place(self.at);
+        let place = &self.shared.places[self.at];
         if place.is_ended() {
-            return Some(By::Other);
+            return (false, None);
         }
-        let clock = self.shared.clock_of(self.thread.process);
+        let clock = self.shared.clock_of[usize::from(self.thread.process)];
         let unblock = Call::Unblock { thread: self.thread.thread };
-        let made = locked.make(&self.shared, clock, Lent::of(&mut []), |_| unblock);
-        let by = if place.is_ended() { By::Timeout } else { By::Other };
+        let made = locked.make(&self.shared, clock, Lent(&mut []), |_| unblock);
+        let is_late = place.is_ended();
         drop(locked);
-        let made = made.ok()?;
-        made.asleep.iter().for_each(thread::Thread::unpark);
-        matches!(made.own, Some(Mark::Done)).then_some(by)
+        match made {
+            Ok((Some(Mark::Done), asleep)) => {
+                asleep.iter().for_each(thread::Thread::unpark);
+                (is_late, None)
+            }
+            _ => (false, Some(Instant::now() + AGAIN)),
+        }
     }
 }
 

@@ -1,7 +1,6 @@
 //! What calls return.
 
 use crate::ids::{ChannelId, ConnectionId, ReceiveId};
-use crate::kernel;
 
 /// How a server answered a message.
 #[derive(Clone, Copy, Debug, PartialEq, Eq)]
@@ -40,6 +39,8 @@ pub struct Request<'b> {
     pub copied: usize,
     /// The buffer whole. Behind the message it is as it was.
     pub buffer: &'b [u8],
+    /// Its sender, its connection, and its lengths.
+    pub info: Info,
 }
 
 impl<'b> Request<'b> {
@@ -114,25 +115,4 @@ pub struct State {
     pub state: ThreadState,
     /// Its priority.
     pub priority: u8,
-}
-
-impl From<kernel::What> for What {
-    fn from(what: kernel::What) -> What {
-        match what {
-            kernel::What::User { code, value } => What::User { code, value },
-            kernel::What::Unblock { rcvid } => What::Unblock(ReceiveId(rcvid)),
-            kernel::What::Disconnect { process } => What::Disconnect(process),
-        }
-    }
-}
-
-impl From<kernel::State> for ThreadState {
-    fn from(state: kernel::State) -> ThreadState {
-        match state {
-            kernel::State::Ready => ThreadState::Ready,
-            kernel::State::SendBlocked { chid } => ThreadState::SendBlocked(ChannelId(chid)),
-            kernel::State::ReceiveBlocked { chid } => ThreadState::ReceiveBlocked(ChannelId(chid)),
-            kernel::State::ReplyBlocked { chid } => ThreadState::ReplyBlocked(ChannelId(chid)),
-        }
-    }
 }

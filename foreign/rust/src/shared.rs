@@ -1,13 +1,15 @@
 //! The kernel under its lock, and how the endings of a call get to their threads.
 
 use crate::errors::{Errno, OpenError};
-use crate::kernel::{Call, Kernel, Mark, Thread};
+use crate::ids::ReceiveId;
+use crate::kernel::{Call, Ending, Kernel, Mark, Thread};
 #[cfg(feature = "record")]
 use crate::record::Record;
+use crate::results::Info;
 use crate::sleeping::Place;
 use std::process::abort;
 use std::sync::{Mutex, MutexGuard, TryLockError};
-use std::{hint, ptr, slice, thread};
+use std::{hint, thread};
 
 /// How often a thread looks for the lock before it sleeps.
 const LOCK_LOOKS: u32 = 20;
@@ -16,37 +18,27 @@ const LOCK_PAUSES: u32 = 8;
 /// How many threads a kernel has at most.
 const THREADS: usize = 64;
 
+/// How many bytes of a receive's buffer the kernel sees, which copies all of them. What a longer message has behind is
+/// read, if the buffer has room for it.
+pub(crate) const FRONT: usize = usize::MAX;
+
 /// The buffer of a call, which its thread lends until the call is ended.
 #[derive(Clone, Copy)]
-pub(crate) struct Lent {
-    start: *mut u8,
-    length: usize,
-}
+pub(crate) struct Lent(pub *mut [u8]);
 
-// SAFETY: the buffer is written by who has the kernel's lock, while the thread that lends it is inside its call, which
-// borrows it mutably and doesn't return or unwind before it is ended (`Port::call`).
+// SAFETY: the buffer is used by who has the kernel's lock, while the thread that lends it is inside its call, which
+// borrows it mutably and doesn't return or unwind before it is ended (`Port::make`).
 unsafe impl Send for Lent {}
 
 impl Lent {
-    pub(crate) fn of(buffer: &mut [u8]) -> Lent {
-        Lent { start: buffer.as_mut_ptr(), length: buffer.len() }
-    }
-
-    /// # Safety
-    /// The buffer is lent, and isn't written while the slice lives.
-    unsafe fn bytes<'a>(self) -> &'a [u8] {
-        // SAFETY: it is a slice's pointer and length.
-        unsafe { slice::from_raw_parts(self.start, self.length) }
-    }
-
-    /// Puts bytes to the front of the buffer.
+    /// Puts bytes to the buffer, from a place on.
     ///
     /// # Safety
     /// The buffer is lent, no slice of it lives, and the caller has the lock.
-    unsafe fn fill(self, bytes: &[u8]) {
-        assert!(bytes.len() <= self.length, "an ending is longer than its buffer");
-        // SAFETY: the bytes have room, and are the kernel's own, none of the buffer's.
-        unsafe { ptr::copy_nonoverlapping(bytes.as_ptr(), self.start, bytes.len()) };
+    unsafe fn fill(self, start: usize, bytes: &[u8]) {
+        // SAFETY: as above; the bytes are the kernel's own.
+        let buffer = unsafe { &mut *self.0 };
+        buffer[start..start + bytes.len()].copy_from_slice(bytes);
     }
 }
 
@@ -55,28 +47,23 @@ pub(crate) struct Locked {
     kernel: Kernel,
     /// The buffers of the ports whose calls wait.
     lent: Box<[Option<Lent>]>,
-    #[cfg(feature = "record")]
-    pub(crate) record: Record,
+    /// By the number of a thread, how many bytes of its message were copied as it was received.
+    msglens: [usize; 256],
 }
 
-/// What a call did.
-pub(crate) struct Made {
-    /// How it ended, if it did in its own event.
-    pub own: Option<Mark>,
-    /// Whom to wake, behind the lock.
-    pub asleep: Vec<thread::Thread>,
-}
+/// How a call ended, if it did in its own event, and whom to wake, behind the lock.
+pub(crate) type Made = (Option<Mark>, Vec<thread::Thread>);
 
 /// A kernel with the places of its ports.
 pub(crate) struct Shared {
     lock: Mutex<Locked>,
-    places: Box<[Place]>,
+    pub(crate) places: Box<[Place]>,
     /// By the number of a thread, which of the places is its.
     place_of: [u8; 256],
     /// By the number of a process, the thread in whose name its calls time out.
-    clock_of: [u8; 256],
+    pub(crate) clock_of: [u8; 256],
     #[cfg(feature = "record")]
-    pub(crate) got: Box<[Mutex<Vec<crate::record::Got>>]>,
+    pub(crate) record: Record,
 }
 
 impl Shared {
@@ -95,26 +82,15 @@ impl Shared {
                 roster.push(Thread::new(clock, thread.process, 1));
             }
         }
-        let kernel = Kernel::new(&roster)?;
-        let lent = threads.iter().map(|_| None).collect();
-        let locked = Locked {
-            kernel,
-            lent,
-            #[cfg(feature = "record")]
-            record: Record::new(&roster, threads.len()),
-        };
+        let (kernel, lent) = (Kernel::new(&roster)?, threads.iter().map(|_| None).collect());
         Ok(Shared {
-            lock: Mutex::new(locked),
+            lock: Mutex::new(Locked { kernel, lent, msglens: [0; 256] }),
             places: threads.iter().map(|_| Place::new()).collect(),
             place_of,
             clock_of,
             #[cfg(feature = "record")]
-            got: threads.iter().map(|_| Mutex::default()).collect(),
+            record: Record::new(&roster, threads.len()),
         })
-    }
-
-    pub(crate) fn place(&self, at: usize) -> &Place {
-        &self.places[at]
     }
 
     /// The place of a thread that has a port.
@@ -123,33 +99,22 @@ impl Shared {
         (at < self.places.len()).then_some(at)
     }
 
-    pub(crate) fn clock_of(&self, process: u8) -> u8 {
-        self.clock_of[usize::from(process)]
-    }
-
     /// Takes the lock. If a thread broke off with it, the program is aborted: that thread's call would never end, nor
-    /// those that it was about to end.
-    #[cfg(not(tsan))]
+    /// those that it was about to end. ThreadSanitizer sees of a lock only what is inlined here, so under it no thread
+    /// sleeps for one.
     pub(crate) fn lock(&self) -> MutexGuard<'_, Locked> {
-        for _ in 0..LOCK_LOOKS {
-            match self.lock.try_lock() {
-                Ok(locked) => return locked,
-                Err(TryLockError::Poisoned(_)) => abort(),
-                Err(TryLockError::WouldBlock) => (0..LOCK_PAUSES).for_each(|_| hint::spin_loop()),
-            }
-        }
-        self.lock.lock().unwrap_or_else(|_| abort())
-    }
-
-    /// The same for ThreadSanitizer, which sees of a lock only what is inlined here.
-    #[cfg(tsan)]
-    pub(crate) fn lock(&self) -> MutexGuard<'_, Locked> {
+        let mut looks = 0;
         loop {
             match self.lock.try_lock() {
                 Ok(locked) => return locked,
                 Err(TryLockError::Poisoned(_)) => abort(),
-                Err(TryLockError::WouldBlock) => thread::yield_now(),
+                Err(TryLockError::WouldBlock) if cfg!(tsan) => thread::yield_now(),
+                Err(TryLockError::WouldBlock) if looks == LOCK_LOOKS => {
+                    return self.lock.lock().unwrap_or_else(|_| abort());
+                }
+                Err(TryLockError::WouldBlock) => (0..LOCK_PAUSES).for_each(|_| hint::spin_loop()),
             }
+            looks += 1;
         }
     }
 }
@@ -163,31 +128,67 @@ impl Locked {
         lent: Lent,
         call: impl FnOnce(&'a [u8]) -> Call<'a>,
     ) -> Result<Made, Errno> {
-        let mut made = Made { own: None, asleep: Vec::new() };
+        let (mut own, mut asleep, mut long) = (None, Vec::new(), None);
+        let mut end = |at: Option<usize>, mark| match at {
+            None => own = Some(mark),
+            // SAFETY: the caller has the lock, and the call was open: what it lent was taken from it, once.
+            Some(at) => asleep.extend(unsafe { shared.places[at].end(mark) }),
+        };
         // SAFETY: the caller lends the buffer; the slice is read by the kernel's call alone.
-        let call = call(unsafe { lent.bytes() });
+        let call = call(unsafe { &*lent.0 });
         #[cfg(feature = "record")]
-        self.record.call(thread, call);
+        shared.record.call(thread, call, lent);
         for ending in self.kernel.call(thread, call)?.iter() {
-            if ending.thread == thread {
-                // SAFETY: the caller lends the buffer, and has the lock.
-                unsafe { lent.fill(ending.buffer) };
-                made.own = Some(ending.mark);
-                continue;
-            }
-            let at = shared.place_of(ending.thread).expect("who waits has a port");
-            let lent = self.lent[at].take().expect("a call that ends was open");
+            let at = shared.place_of(ending.thread).filter(|_| ending.thread != thread);
+            let lent = at.map_or(lent, |at| self.lent[at].take().expect("a call that ends was open"));
             // SAFETY: the call was open until now, so its buffer is lent; the caller has the lock.
-            unsafe { lent.fill(ending.buffer) };
-            // SAFETY: the caller has the lock, and the call was open: what it lent is taken from it once.
-            made.asleep.extend(unsafe { shared.place(at).end(ending.mark) });
+            unsafe { lent.fill(0, ending.buffer) };
+            match ending.mark {
+                Mark::Message { rcvid, info } if info.msglen < info.srcmsglen.min(lent.0.len()) => {
+                    long = Some((ending.thread, at, lent, rcvid, info));
+                }
+                Mark::Message { rcvid, info } => {
+                    self.msglens[usize::from(info.thread)] = info.msglen;
+                    end(at, Mark::Message { rcvid, info });
+                }
+                Mark::Info(info) => {
+                    let msglen = self.msglens[usize::from(info.thread)];
+                    end(at, Mark::Info(Info { msglen, ..info }));
+                }
+                mark => end(at, mark),
+            }
         }
-        Ok(made)
+        // An event brings one message at most.
+        if let Some((receiver, at, lent, rcvid, info)) = long {
+            let msglen = self.read_on(shared, receiver, lent, rcvid, info);
+            end(at, Mark::Message { rcvid, info: Info { msglen, ..info } });
+        }
+        Ok((own, asleep))
+    }
+
+    /// Reads what a message has behind the front of the receiver's buffer, in the receiver's name, and returns how many
+    /// bytes are copied in all.
+    fn read_on(&mut self, shared: &Shared, receiver: u8, lent: Lent, rcvid: ReceiveId, info: Info) -> usize {
+        let (start, end) = (info.msglen, info.srcmsglen.min(lent.0.len()));
+        let msglen = &mut self.msglens[usize::from(info.thread)];
+        *msglen = start;
+        // SAFETY: the receiver's call isn't ended, so its buffer is lent; the slice is read by the kernel's call alone.
+        let call = Call::Read { rcvid, offset: start, buffer: unsafe { &(&(*lent.0))[start..end] } };
+        #[cfg(feature = "record")]
+        shared.record.read_on(receiver, call);
+        if let Ok(endings) = self.kernel.call(receiver, call) {
+            for Ending { buffer, .. } in endings.iter() {
+                // SAFETY: as above.
+                unsafe { lent.fill(start, buffer) };
+                *msglen = start + buffer.len();
+            }
+        }
+        *msglen
     }
 
     /// A port's call waits, and lends its buffer until it is ended.
     pub(crate) fn open(&mut self, shared: &Shared, at: usize, lent: Lent) {
         self.lent[at] = Some(lent);
-        shared.place(at).open();
+        shared.places[at].open();
     }
 }
