@@ -11,7 +11,9 @@ pub const SERVER: u8 = 1;
 pub const CLIENT: u8 = 2;
 
 /// After so long a test hangs.
-const PATIENCE: Duration = Duration::from_secs(100);
+fn patience() -> Duration {
+    Duration::from_secs(std::env::var("PATIENCE").map_or(200, |word| word.parse().unwrap()))
+}
 
 /// A server's port, and two of the client's process.
 pub fn few() -> [Port; 3] {
@@ -25,8 +27,8 @@ pub fn within(test: impl FnOnce() + Send + 'static) {
         let _ended = ended;
         test();
     });
-    match end.recv_timeout(PATIENCE) {
-        Err(RecvTimeoutError::Timeout) => panic!("no end after {PATIENCE:?}"),
+    match end.recv_timeout(patience()) {
+        Err(RecvTimeoutError::Timeout) => panic!("no end after {:?}", patience()),
         _ => running.join().unwrap_or_else(|why| resume_unwind(why)),
     }
 }
