@@ -80,6 +80,9 @@ impl fmt::Display for OpenError {
 
 impl Error for OpenError {}
 
+/// What a call returns.
+pub type Result<T> = std::result::Result<T, CallError>;
+
 /// Why a call gives no result.
 #[derive(Clone, Copy, Debug, PartialEq, Eq)]
 pub enum CallError {
@@ -124,7 +127,7 @@ impl From<Errno> for CallError {
 }
 
 /// What a thread gets of its call's end, before which it may have waited.
-pub(crate) fn outcome(mark: Mark, waited: bool) -> Result<Mark, CallError> {
+pub(crate) fn outcome(mark: Mark, waited: bool) -> Result<Mark> {
     match mark {
         Mark::Failed(errno) if waited && errno != Errno::NoMemory => Err(CallError::Cut(errno)),
         Mark::Failed(errno) => Err(errno.into()),

@@ -12,7 +12,7 @@ mod results;
 mod shared;
 mod sleeping;
 
-pub use errors::{CallError, Errno, OpenError};
+pub use errors::{CallError, Errno, OpenError, Result};
 pub use ids::{ChannelFlags, ChannelId, ConnectionId, ReceiveId};
 pub use kernel::Thread;
 pub use port::{Port, open, open_array};

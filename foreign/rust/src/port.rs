@@ -1,9 +1,11 @@
 //! A thread's way to a kernel, and how its calls wait.
 
-use crate::errors::{CallError, Errno, OpenError, outcome};
+use crate::errors::{CallError, Errno, OpenError, Result, outcome};
 use crate::kernel::{Call, Mark, Thread};
 use crate::shared::{Lent, Shared};
 use crate::sleeping::LOOKS;
+use std::mem::forget;
+use std::process::abort;
 use std::sync::Arc;
 use std::thread;
 use std::time::{Duration, Instant};
@@ -28,7 +30,7 @@ pub struct Port {
 ///
 /// Refused with `Inval` if a thread has the priority 0 or its number stands twice, and `Again` if there are more than 64
 /// threads, of which each process takes one more for its timeouts: a number of no other thread, from 255 down.
-pub fn open(threads: &[Thread]) -> Result<Vec<Port>, OpenError> {
+pub fn open(threads: &[Thread]) -> std::result::Result<Vec<Port>, OpenError> {
     let shared = Arc::new(Shared::new(threads)?);
     let port = |(at, thread): (usize, &Thread)| Port {
         shared: shared.clone(),
@@ -48,7 +50,7 @@ pub fn open(threads: &[Thread]) -> Result<Vec<Port>, OpenError> {
 /// let [mut server, mut client] = open_array([Thread::new(1, 1, 10), Thread::new(2, 2, 20)])?;
 /// # Ok::<(), balsaeuchre::OpenError>(())
 /// ```
-pub fn open_array<const N: usize>(threads: [Thread; N]) -> Result<[Port; N], OpenError> {
+pub fn open_array<const N: usize>(threads: [Thread; N]) -> std::result::Result<[Port; N], OpenError> {
     let Ok(ports) = open(&threads)?.try_into() else { unreachable!("a port for each thread") };
     Ok(ports)
 }
@@ -81,30 +83,23 @@ impl Port {
         self
     }
 
-    /// Makes a call that never waits.
-    pub(crate) fn call<'a>(&mut self, call: Call<'a>) -> Result<Mark, CallError> {
-        self.make(&mut [], None, |_| call)
+    /// Makes a call that has no buffer and never waits.
+    pub(crate) fn call(&mut self, call: Call<'_>) -> Result<Mark> {
+        self.make(false, &mut [], |_| call)
     }
 
-    /// Makes a call that may wait, for which it has this buffer.
-    pub(crate) fn call_blocking<'a>(
-        &mut self,
-        buffer: &'a mut [u8],
-        call: impl FnOnce(&'a [u8]) -> Call<'a>,
-    ) -> Result<Mark, CallError> {
-        let end = self.timeout.take().and_then(|time| Instant::now().checked_add(time));
-        self.make(buffer, end, call)
-    }
-
-    /// Makes a call, and waits for its end. Until then it lends its buffer, so it returns and unwinds at no other point
-    /// behind `open`.
+    /// Makes a call with its buffer, and waits for its end. The timeout is for the next call that can block.
     pub(crate) fn make<'a>(
         &mut self,
+        can_block: bool,
         buffer: &'a mut [u8],
-        end: Option<Instant>,
         call: impl FnOnce(&'a [u8]) -> Call<'a>,
-    ) -> Result<Mark, CallError> {
-        let lent = Lent(buffer);
+    ) -> Result<Mark> {
+        let time = if can_block { self.timeout.take() } else { None };
+        let end = time.and_then(|time| Instant::now().checked_add(time));
+        // SAFETY: this function borrows the buffer, and doesn't use it itself before the call is ended. Before that it
+        // doesn't return, nor unwind: what panics with the lock poisons it, and `wait` aborts.
+        let lent = unsafe { Lent::of(buffer) };
         let mut locked = self.shared.lock();
         let made = locked.make(&self.shared, self.thread.thread, lent, call);
         if matches!(made, Ok((None, _))) {
@@ -123,8 +118,9 @@ impl Port {
         result
     }
 
-    /// Waits for the end of the open call.
-    fn wait(&mut self, mut end: Option<Instant>) -> Result<Mark, CallError> {
+    /// Waits for the end of the open call. If that panics, the program is aborted: the call's buffer is lent.
+    fn wait(&mut self, mut end: Option<Instant>) -> Result<Mark> {
+        let open = Open;
         let place = &self.shared.places[self.at];
         let mut is_late = false;
         if !place.look(&mut self.looks) {
@@ -133,6 +129,7 @@ impl Port {
                 (is_late, end) = self.time_out();
             }
         }
+        forget(open);
         // SAFETY: the call is ended.
         match outcome(unsafe { place.take() }, true) {
             Err(CallError::Cut(Errno::Intr)) if is_late => Err(CallError::TimedOut),
@@ -150,7 +147,9 @@ impl Port {
         }
         let clock = self.shared.clock_of[usize::from(self.thread.process)];
         let unblock = Call::Unblock { thread: self.thread.thread };
-        let made = locked.make(&self.shared, clock, Lent(&mut []), |_| unblock);
+        // SAFETY: it has no bytes.
+        let none = unsafe { Lent::of(&mut []) };
+        let made = locked.make(&self.shared, clock, none, |_| unblock);
         let is_late = place.is_ended();
         drop(locked);
         match made {
@@ -160,6 +159,15 @@ impl Port {
             }
             _ => (false, Some(Instant::now() + AGAIN)),
         }
+    }
+}
+
+/// A call that waits. It isn't dropped before it is ended.
+struct Open;
+
+impl Drop for Open {
+    fn drop(&mut self) {
+        abort()
     }
 }
 

@@ -11,12 +11,11 @@ use std::process::abort;
 use std::sync::{Mutex, MutexGuard, TryLockError};
 use std::{hint, thread};
 
-/// How often a thread looks for the lock before it sleeps.
-const LOCK_LOOKS: u32 = 20;
+/// How often a thread looks for the lock before it sleeps. ThreadSanitizer sees of a lock only what is inlined here, so
+/// under it no thread sleeps for one.
+const LOCK_LOOKS: u32 = if cfg!(tsan) { u32::MAX } else { 20 };
 /// How many pauses are between two looks for the lock.
 const LOCK_PAUSES: u32 = 8;
-/// How many threads a kernel has at most.
-const THREADS: usize = 64;
 
 /// How many bytes of a receive's buffer the kernel sees, which copies all of them. What a longer message has behind is
 /// read, if the buffer has room for it.
@@ -24,19 +23,30 @@ pub(crate) const FRONT: usize = usize::MAX;
 
 /// The buffer of a call, which its thread lends until the call is ended.
 #[derive(Clone, Copy)]
-pub(crate) struct Lent(pub *mut [u8]);
+pub(crate) struct Lent(*mut [u8]);
 
-// SAFETY: the buffer is used by who has the kernel's lock, while the thread that lends it is inside its call, which
-// borrows it mutably and doesn't return or unwind before it is ended (`Port::make`).
+// SAFETY: until the call is ended nobody uses the buffer but who has the kernel's lock, by the promise of `of`.
 unsafe impl Send for Lent {}
 
 impl Lent {
-    /// Puts bytes to the buffer, from a place on.
+    /// Lends a buffer.
     ///
     /// # Safety
-    /// The buffer is lent, no slice of it lives, and the caller has the lock.
-    unsafe fn fill(self, start: usize, bytes: &[u8]) {
-        // SAFETY: as above; the bytes are the kernel's own.
+    /// The buffer lives, and nobody else uses it, until the call that it is for is ended. If the lock is poisoned
+    /// before, that is never.
+    pub(crate) unsafe fn of(buffer: *mut [u8]) -> Lent {
+        Lent(buffer)
+    }
+
+    /// What the buffer holds. No slice of it is used once it is written.
+    pub(crate) fn bytes<'a>(self) -> &'a [u8] {
+        // SAFETY: the buffer is lent; the slices are read by the kernel's call alone, which is made under the lock.
+        unsafe { &*self.0 }
+    }
+
+    /// Puts bytes of the kernel to the buffer, from a place on. Under the lock.
+    fn fill(self, start: usize, bytes: &[u8]) {
+        // SAFETY: the buffer is lent, and who has the lock is the only one to use it.
         let buffer = unsafe { &mut *self.0 };
         buffer[start..start + bytes.len()].copy_from_slice(bytes);
     }
@@ -68,9 +78,6 @@ pub(crate) struct Shared {
 
 impl Shared {
     pub(crate) fn new(threads: &[Thread]) -> Result<Shared, OpenError> {
-        if threads.len() > THREADS {
-            return Err(OpenError::Refused(Errno::Again));
-        }
         let mut roster = threads.to_vec();
         let (mut place_of, mut clock_of) = ([u8::MAX; 256], [0; 256]);
         let mut free = (0..=u8::MAX).rev().filter(|number| threads.iter().all(|thread| thread.thread != *number));
@@ -100,22 +107,16 @@ impl Shared {
     }
 
     /// Takes the lock. If a thread broke off with it, the program is aborted: that thread's call would never end, nor
-    /// those that it was about to end. ThreadSanitizer sees of a lock only what is inlined here, so under it no thread
-    /// sleeps for one.
+    /// those that it was about to end, and their buffers stay lent.
     pub(crate) fn lock(&self) -> MutexGuard<'_, Locked> {
-        let mut looks = 0;
-        loop {
+        for _ in 0..LOCK_LOOKS {
             match self.lock.try_lock() {
-                Ok(locked) => return locked,
-                Err(TryLockError::Poisoned(_)) => abort(),
                 Err(TryLockError::WouldBlock) if cfg!(tsan) => thread::yield_now(),
-                Err(TryLockError::WouldBlock) if looks == LOCK_LOOKS => {
-                    return self.lock.lock().unwrap_or_else(|_| abort());
-                }
                 Err(TryLockError::WouldBlock) => (0..LOCK_PAUSES).for_each(|_| hint::spin_loop()),
+                locked => return locked.unwrap_or_else(|_| abort()),
             }
-            looks += 1;
         }
+        self.lock.lock().unwrap_or_else(|_| abort())
     }
 }
 
@@ -134,15 +135,13 @@ impl Locked {
             // SAFETY: the caller has the lock, and the call was open: what it lent was taken from it, once.
             Some(at) => asleep.extend(unsafe { shared.places[at].end(mark) }),
         };
-        // SAFETY: the caller lends the buffer; the slice is read by the kernel's call alone.
-        let call = call(unsafe { &*lent.0 });
+        let call = call(lent.bytes());
         #[cfg(feature = "record")]
         shared.record.call(thread, call, lent);
         for ending in self.kernel.call(thread, call)?.iter() {
             let at = shared.place_of(ending.thread).filter(|_| ending.thread != thread);
             let lent = at.map_or(lent, |at| self.lent[at].take().expect("a call that ends was open"));
-            // SAFETY: the call was open until now, so its buffer is lent; the caller has the lock.
-            unsafe { lent.fill(0, ending.buffer) };
+            lent.fill(0, ending.buffer);
             match ending.mark {
                 Mark::Message { rcvid, info } if info.msglen < info.srcmsglen.min(lent.0.len()) => {
                     long = Some((ending.thread, at, lent, rcvid, info));
@@ -172,14 +171,12 @@ impl Locked {
         let (start, end) = (info.msglen, info.srcmsglen.min(lent.0.len()));
         let msglen = &mut self.msglens[usize::from(info.thread)];
         *msglen = start;
-        // SAFETY: the receiver's call isn't ended, so its buffer is lent; the slice is read by the kernel's call alone.
-        let call = Call::Read { rcvid, offset: start, buffer: unsafe { &(&(*lent.0))[start..end] } };
+        let call = Call::Read { rcvid, offset: start, buffer: &lent.bytes()[start..end] };
         #[cfg(feature = "record")]
         shared.record.read_on(receiver, call);
         if let Ok(endings) = self.kernel.call(receiver, call) {
             for Ending { buffer, .. } in endings.iter() {
-                // SAFETY: as above.
-                unsafe { lent.fill(start, buffer) };
+                lent.fill(start, buffer);
                 *msglen = start + buffer.len();
             }
         }

@@ -34,7 +34,7 @@ fn the_kernel_alone() {
     assert_eq!(kernel.call(2, Call::Shutdown).err(), Some(Errno::NoThread));
     kernel.call(1, Call::ChannelCreate { flags: Default::default() }).unwrap();
     let chid = balsaeuchre::ChannelId(1);
-    assert!(kernel.call(1, Call::Receive { chid, buffer: b"" }).unwrap().is_empty());
+    assert!(kernel.call(1, Call::Receive { chid, buffer: b"" }).unwrap().iter().next().is_none());
     let busy = kernel.call(1, Call::Shutdown).unwrap().iter().next().unwrap().mark;
     assert_eq!(busy, balsaeuchre::kernel::Mark::Failed(Errno::Busy));
 }

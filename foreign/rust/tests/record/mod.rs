@@ -1,7 +1,7 @@
 //! For the package's own tests, with the feature `record`: every call in the order of the lock and what each thread got
 //! of it, to be made again by one thread.
 
-use crate::errors::{CallError, Errno, outcome};
+use crate::errors::{CallError, Errno, Result, outcome};
 use crate::kernel::{Call, Ending, Kernel, Mark, RawRequest, Thread};
 use crate::port::Port;
 use crate::results::Info;
@@ -22,7 +22,7 @@ struct Kept {
 /// What a thread got of a call: the result, and its buffer whole.
 #[derive(Debug, PartialEq)]
 struct Got {
-    result: Result<Mark, CallError>,
+    result: Result<Mark>,
     buffer: Vec<u8>,
 }
 
@@ -43,9 +43,8 @@ impl Record {
     /// A call is made. Under the kernel's lock.
     pub(crate) fn call(&self, thread: u8, call: Call<'_>, lent: Lent) {
         let (request, sent, seen) = call.raw(thread);
-        // SAFETY: the call is made now, so its buffer is lent.
-        let room = unsafe { (*lent.0).to_vec() };
-        self.keep(Kept { request, sent: sent.to_vec(), room, seen: seen.len(), reads_on: false });
+        let (sent, room) = (sent.to_vec(), lent.bytes().to_vec());
+        self.keep(Kept { request, sent, room, seen: seen.len(), reads_on: false });
     }
 
     /// The rest of a message is read. Under the kernel's lock.
@@ -59,7 +58,7 @@ impl Record {
     }
 
     /// The thread at a place got the end of its call.
-    pub(crate) fn end(&self, at: usize, result: Result<Mark, CallError>, buffer: &[u8]) {
+    pub(crate) fn end(&self, at: usize, result: Result<Mark>, buffer: &[u8]) {
         self.got[at].lock().unwrap().push(Got { result, buffer: buffer.to_vec() });
     }
 
@@ -131,7 +130,7 @@ impl Port {
         compared.unwrap_or_else(|difference| panic!("{difference}"))
     }
 
-    fn compare(&self) -> Result<usize, String> {
+    fn compare(&self) -> std::result::Result<usize, String> {
         let _locked = self.shared.lock();
         let record = &self.shared.record;
         let again = record.again();
