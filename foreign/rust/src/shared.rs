@@ -1,7 +1,6 @@
 //! The kernel under its lock, and how the endings of a call get to their threads.
 
 use crate::errors::{Errno, OpenError};
-use crate::ids::ReceiveId;
 use crate::kernel::{Call, Ending, Kernel, Mark, Thread};
 #[cfg(feature = "record")]
 use crate::record::Record;
@@ -159,25 +158,25 @@ impl Locked {
         }
         // An event brings one message at most.
         if let Some((receiver, at, lent, rcvid, info)) = long {
-            let msglen = self.read_on(shared, receiver, lent, rcvid, info);
+            let rest = info.msglen..info.srcmsglen.min(lent.bytes().len());
+            let read = Call::Read { rcvid, offset: rest.start, buffer: &lent.bytes()[rest] };
+            #[cfg(feature = "record")]
+            shared.record.read_on(receiver, read);
+            let msglen = self.read_on(receiver, read, lent, info);
             end(at, Mark::Message { rcvid, info: Info { msglen, ..info } });
         }
         Ok((own, asleep))
     }
 
     /// Reads what a message has behind the front of the receiver's buffer, in the receiver's name, and returns how many
-    /// bytes are copied in all.
-    fn read_on(&mut self, shared: &Shared, receiver: u8, lent: Lent, rcvid: ReceiveId, info: Info) -> usize {
-        let (start, end) = (info.msglen, info.srcmsglen.min(lent.0.len()));
+    /// bytes are copied in all: no more than in the front, if the kernel is out of memory.
+    fn read_on(&mut self, receiver: u8, read: Call<'_>, lent: Lent, info: Info) -> usize {
         let msglen = &mut self.msglens[usize::from(info.thread)];
-        *msglen = start;
-        let call = Call::Read { rcvid, offset: start, buffer: &lent.bytes()[start..end] };
-        #[cfg(feature = "record")]
-        shared.record.read_on(receiver, call);
-        if let Ok(endings) = self.kernel.call(receiver, call) {
+        *msglen = info.msglen;
+        if let Ok(endings) = self.kernel.call(receiver, read) {
             for Ending { buffer, .. } in endings.iter() {
-                lent.fill(start, buffer);
-                *msglen = start + buffer.len();
+                lent.fill(info.msglen, buffer);
+                *msglen = info.msglen + buffer.len();
             }
         }
         *msglen

@@ -6,7 +6,6 @@ use balsaeuchre::{
     CallError, ChannelFlags, ChannelId, ConnectionId, Errno, Port, Pulse, Received, Request, Thread, What, open,
 };
 use common::{CLIENT, SERVER, made_again, within};
-use std::sync::atomic::{AtomicUsize, Ordering};
 use std::thread;
 use std::time::Duration;
 
@@ -78,21 +77,18 @@ fn echo(clients: usize, servers: usize, rounds: usize, times: bool) {
     let others = ports.split_off(servers);
     let channel = ports[0].channel_create(ChannelFlags::UNBLOCK).unwrap();
     let to = last.connect_attach(channel).unwrap();
-    let answered = AtomicUsize::new(0);
-    let late: usize = thread::scope(|scope| {
-        for mut port in ports {
-            let answered = &answered;
-            scope.spawn(move || answered.fetch_add(serve(&mut port, channel, to), Ordering::Relaxed));
-        }
+    let (answered, late): (usize, usize) = thread::scope(|scope| {
+        let server = |mut port: Port| scope.spawn(move || serve(&mut port, channel, to));
+        let serving: Vec<_> = ports.into_iter().map(server).collect();
         let client = |mut port: Port| scope.spawn(move || send(&mut port, to, rounds, times));
-        let running: Vec<_> = others.into_iter().map(client).collect();
-        let late = running.into_iter().map(|thread| thread.join().unwrap()).sum();
+        let sending: Vec<_> = others.into_iter().map(client).collect();
+        let late = sending.into_iter().map(|thread| thread.join().unwrap()).sum();
         (0..servers).for_each(|_| last.msg_send_pulse(to, 1, STOP, 0).unwrap());
-        late
+        (serving.into_iter().map(|thread| thread.join().unwrap()).sum(), late)
     });
     println!("{clients} clients, {servers} servers: {late} late");
     if !times {
-        assert_eq!((answered.into_inner(), late), (clients * rounds, 0));
+        assert_eq!((answered, late), (clients * rounds, 0));
     }
     made_again(&mut last);
 }

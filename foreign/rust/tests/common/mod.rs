@@ -3,9 +3,8 @@
 
 use balsaeuchre::{CallError, ChannelId, Port, ReceiveId, Received, Thread, ThreadState, open_array};
 use std::panic::resume_unwind;
-use std::sync::mpsc::{RecvTimeoutError, channel};
 use std::thread;
-use std::time::Duration;
+use std::time::{Duration, Instant};
 
 pub const SERVER: u8 = 1;
 pub const CLIENT: u8 = 2;
@@ -22,15 +21,13 @@ pub fn few() -> [Port; 3] {
 
 /// Runs a test, and fails it if it hangs.
 pub fn within(test: impl FnOnce() + Send + 'static) {
-    let (ended, end) = channel::<()>();
-    let running = thread::spawn(move || {
-        let _ended = ended;
-        test();
-    });
-    match end.recv_timeout(patience()) {
-        Err(RecvTimeoutError::Timeout) => panic!("no end after {:?}", patience()),
-        _ => running.join().unwrap_or_else(|why| resume_unwind(why)),
+    let start = Instant::now();
+    let running = thread::spawn(test);
+    while !running.is_finished() {
+        assert!(start.elapsed() < patience(), "no end after {:?}", patience());
+        thread::sleep(Duration::from_millis(1));
     }
+    running.join().unwrap_or_else(|why| resume_unwind(why));
 }
 
 /// Makes all calls again by one thread, if they were kept. None may be open.
