@@ -1,6 +1,6 @@
 //! Why there is no kernel, and why a call gives no result.
 
-use crate::kernel::Mark;
+use crate::kernel::{Mark, VERSION};
 use std::error::Error;
 use std::fmt;
 
@@ -68,12 +68,22 @@ pub enum OpenError {
     /// `Inval` if a thread has the priority 0 or its number stands twice, `Again` if there are too many, `NoMemory` if the
     /// allocator refused.
     Refused(Errno),
+    /// The library that is linked is of another version: a hundred times the first number and then the second.
+    #[allow(missing_docs)] // a field is what its name says
+    Version { library: u32, package: u32 },
+}
+
+impl OpenError {
+    pub(crate) fn check_version(library: u32) -> std::result::Result<(), OpenError> {
+        if library == VERSION { Ok(()) } else { Err(OpenError::Version { library, package: VERSION }) }
+    }
 }
 
 impl fmt::Display for OpenError {
     fn fmt(&self, f: &mut fmt::Formatter<'_>) -> fmt::Result {
         match self {
             OpenError::Refused(errno) => write!(f, "roster refused: {errno}"),
+            OpenError::Version { library, package } => write!(f, "library of version {library}, not {package}"),
         }
     }
 }

@@ -11,6 +11,9 @@ mod record;
 mod results;
 mod shared;
 mod sleeping;
+#[cfg(test)]
+#[path = "../tests/unit/mod.rs"]
+mod unit;
 
 pub use errors::{CallError, Errno, OpenError, Result};
 pub use ids::{ChannelFlags, ChannelId, ConnectionId, ReceiveId};

@@ -32,14 +32,8 @@ pub struct Port {
 /// threads, of which each process takes one more for its timeouts: a number of no other thread, from 255 down.
 pub fn open(threads: &[Thread]) -> std::result::Result<Vec<Port>, OpenError> {
     let shared = Arc::new(Shared::new(threads)?);
-    let port = |(at, thread): (usize, &Thread)| Port {
-        shared: shared.clone(),
-        at,
-        thread: *thread,
-        timeout: None,
-        looks: LOOKS,
-    };
-    Ok(threads.iter().enumerate().map(port).collect())
+    let ports = threads.iter().enumerate();
+    Ok(ports.map(|(at, &thread)| Port { shared: shared.clone(), at, thread, timeout: None, looks: LOOKS }).collect())
 }
 
 /// The same for a number of threads that is known beforehand.

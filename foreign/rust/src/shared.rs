@@ -18,7 +18,7 @@ const LOCK_PAUSES: u32 = 8;
 
 /// How many bytes of a receive's buffer the kernel sees, which copies all of them. What a longer message has behind is
 /// read, if the buffer has room for it.
-pub(crate) const FRONT: usize = usize::MAX;
+pub(crate) const FRONT: usize = 4096;
 
 /// The buffer of a call, which its thread lends until the call is ended.
 #[derive(Clone, Copy)]

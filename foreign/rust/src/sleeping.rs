@@ -26,11 +26,10 @@ pub(crate) struct Place {
     sleeper: UnsafeCell<Option<Thread>>,
 }
 
-// SAFETY: a mark is written by `end`, of which there is one for each `open` (its caller's duty), before ENDED is released.
-// It is read by `take`, after the owner saw ENDED by an acquiring look, and the next `end` comes after the next `open`,
-// which is the owner's own. The sleeper is written by the owner, before it releases ASLEEP, and not again before it saw
-// ENDED. It is read by `end` where that found ASLEEP, by an acquiring exchange, and before it releases ENDED. So neither
-// is used by two threads without an order between.
+// SAFETY: both are used under the rules of the functions below. A mark is written by `end`, of which there is one for each
+// `open`, before that releases ENDED; the owner reads it after it acquired ENDED, and opens its next call afterwards. A
+// sleeper is written by the owner, before it releases ASLEEP; `end` reads it after it acquired ASLEEP, under the kernel's
+// lock, and the owner writes another one in its next call at the earliest, for which it took that lock.
 unsafe impl Sync for Place {}
 
 impl Place {
@@ -55,14 +54,9 @@ impl Place {
     pub(crate) unsafe fn end(&self, mark: Mark) -> Option<Thread> {
         // SAFETY: the call is open, so its owner doesn't look at the mark, and no one else ends it.
         unsafe { *self.mark.get() = mark };
-        if self.word.compare_exchange(OPEN, ENDED, Ordering::Release, Ordering::Acquire).is_ok() {
-            return None;
-        }
-        // The sleeper is taken before ENDED is written: afterwards its owner may put another in its place.
-        // SAFETY: the word is ASLEEP, which the owner wrote behind the sleeper, and leaves to this thread.
-        let sleeper = unsafe { (*self.sleeper.get()).clone() };
-        self.word.store(ENDED, Ordering::Release);
-        sleeper
+        let is_asleep = self.word.swap(ENDED, Ordering::AcqRel) == ASLEEP;
+        // SAFETY: the owner wrote it before it fell asleep, and doesn't write it before this thread lets the lock go.
+        is_asleep.then(|| unsafe { (*self.sleeper.get()).clone() }).flatten()
     }
 
     /// How the call ended.

@@ -170,8 +170,13 @@ fn ends_all(end: impl FnOnce(&mut Port, balsaeuchre::ChannelId)) {
     let (busy, idle) = (last.channel_create(flags).unwrap(), last.channel_create(flags).unwrap());
     let to = clients[0].connect_attach(busy).unwrap();
     thread::scope(|scope| {
-        let senders: Vec<_> =
-            clients.into_iter().map(|mut port| scope.spawn(move || port.msg_send(to, b"a", &mut []).err())).collect();
+        let send = |port: &mut Port| {
+            let mut buffer = [7; 40];
+            let ended = port.msg_send(to, b"a", &mut buffer).err();
+            assert_eq!(buffer, [7; 40]);
+            ended
+        };
+        let senders: Vec<_> = clients.into_iter().map(|mut port| scope.spawn(move || send(&mut port))).collect();
         for client in 5..=10 {
             until(&mut last, client, ThreadState::SendBlocked(busy));
         }
