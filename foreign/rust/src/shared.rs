@@ -174,9 +174,9 @@ impl Locked {
         let msglen = &mut self.msglens[usize::from(info.thread)];
         *msglen = info.msglen;
         if let Ok(endings) = self.kernel.call(receiver, read) {
-            for Ending { buffer, .. } in endings.iter() {
+            for Ending { mark, buffer, .. } in endings.iter() {
                 lent.fill(info.msglen, buffer);
-                *msglen = info.msglen + buffer.len();
+                *msglen += if let Mark::Count(count) = mark { count } else { 0 };
             }
         }
         *msglen

@@ -115,8 +115,10 @@ fn with_msglen(mark: Mark, msglens: &mut [usize; 256]) -> Mark {
 /// Puts the rest of a message that was read to what its receiver got.
 fn read_on(message: &mut Got, rest: Ending<'_>, msglens: &mut [usize; 256]) {
     let Got { result: Ok(Mark::Message { info, .. }), buffer } = message else { panic!("no message to read on") };
-    buffer[info.msglen..][..rest.buffer.len()].copy_from_slice(rest.buffer);
-    info.msglen += rest.buffer.len();
+    if let Mark::Count(count) = rest.mark {
+        buffer[info.msglen..][..count].copy_from_slice(rest.buffer);
+        info.msglen += count;
+    }
     msglens[usize::from(info.thread)] = info.msglen;
 }
 
