@@ -5,6 +5,7 @@ mod common;
 use balsaeuchre::{CallError, ChannelFlags, Errno, Port, Pulse, Received, Thread, ThreadState, What, open};
 use common::{CLIENT, SERVER, few, made_again, message, until, within};
 use std::sync::Mutex;
+use std::sync::atomic::{AtomicUsize, Ordering};
 use std::thread;
 use std::time::{Duration, Instant};
 
@@ -248,16 +249,15 @@ fn a_port_is_passed_on_while_it_is_woken() {
         let [mut server, mut client, _] = few();
         let channel = server.channel_create(ChannelFlags::NONE).unwrap();
         let to = client.connect_attach(channel).unwrap();
-        let client = Mutex::new(client);
-        // ThreadSanitizer sees of a lock only what is inlined here, so nobody sleeps for one.
-        let send = || {
-            for _ in 0..150 {
-                loop {
-                    if let Ok(mut port) = client.try_lock() {
-                        break port.msg_send(to, b"x", &mut []).map(drop).unwrap();
-                    }
+        // The two threads take turns. ThreadSanitizer sees of a lock only what is inlined here, so nobody sleeps for one.
+        let (client, turn) = (Mutex::new(client), AtomicUsize::new(0));
+        let send = |odd: usize| {
+            for round in 0..150 {
+                while turn.load(Ordering::Acquire) != 2 * round + odd {
                     thread::yield_now();
                 }
+                client.try_lock().unwrap().msg_send(to, b"x", &mut []).map(drop).unwrap();
+                turn.fetch_add(1, Ordering::Release);
             }
         };
         thread::scope(|scope| {
@@ -268,7 +268,7 @@ fn a_port_is_passed_on_while_it_is_woken() {
                     server.msg_reply(rcvid, 1, b"").unwrap();
                 }
             });
-            let senders = [scope.spawn(send), scope.spawn(send)];
+            let senders = [0, 1].map(|odd| scope.spawn(move || send(odd)));
             while !senders.iter().all(|sender| sender.is_finished()) {
                 senders.iter().for_each(|sender| sender.thread().unpark());
                 thread::yield_now();
