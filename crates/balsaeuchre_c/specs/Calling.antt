@@ -22,16 +22,19 @@ use Rattle.balsaeuchre_c.specs.Telling.{IsTold}
 
 -- where the ending is the receipt of a message, the row says what an `Info` of it would by these facts
 abbrev pub Informs : Facts → Completion → Row → Type 0
-Informs f e row = (rcvid copied : ℕ) → e.mark ≡ mark.Message rcvid copied → info_of f (sender f rcvid) ≡ Some (info_in row)
+Informs f e row = (rcvid copied : ℕ) → e.mark ≡ mark.Message rcvid copied
+    → info_of f (sender f rcvid) ≡ Some (info_in row)
 
 -- so does each row of an event, at every lawful trace at which the kernel stood, followed by the event
 abbrev pub InformsAtTraces : State → ℕ → Call → List Completion → List Row → Type 0
-InformsAtTraces old t call endings rows = (roster : List Member) (past : Trace) → IsLawful roster past → StandsAt roster old past
-    → (place : ℕ) (e : Completion) (row : Row) → slice_get endings place ≡ Some e → slice_get rows place ≡ Some row
+InformsAtTraces old t call endings rows =
+    (roster : List Member) (past : Trace) → IsLawful roster past → StandsAt roster old past
+    → (place : ℕ) (e : Completion) (row : Row)
+    → slice_get endings place ≡ Some e → slice_get rows place ≡ Some row
     → Informs (facts_of roster (with_event t call endings past)) e row
 
--- the kernel made the very call that the request means, its endings answer every lawful trace at which the kernel stood, and they are told,
--- with what `Info` would say of a message that was received
+-- the kernel made the very call that the request means, its endings answer every lawful trace at which the kernel
+-- stood, and they are told, with what `Info` would say of a message that was received
 pub record IsEvent (old : Session) (r : Request) (sent room : List ℕ) (new : Session) (rows : List Row) (old_bytes bytes : List ℕ) (done : Done) : Type 0 where
   pub call : Call
   pub meant : call_of r sent room ≡ Some call

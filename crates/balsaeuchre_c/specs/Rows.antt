@@ -34,7 +34,15 @@ state_of r =
 
 -- what a row tells of a held message
 abbrev pub info_in : Row → Info
-info_in r = record { process = r.process; thread = r.sender; priority = r.priority; connection = r.id; msglen = r.count; srcmsglen = r.srcmsglen; dstmsglen = r.dstmsglen }
+info_in r = record {
+  process = r.process;
+  thread = r.sender;
+  priority = r.priority;
+  connection = r.id;
+  msglen = r.count;
+  srcmsglen = r.srcmsglen;
+  dstmsglen = r.dstmsglen;
+}
 
 -- how the call of a row ended
 abbrev pub mark_of : Row → Option Mark
@@ -52,8 +60,8 @@ mark_of r =
     else if r.mark == 11 then option_map (λ state. mark.State state r.priority) (state_of r)
     else None
 
--- what is told of the buffer of a call that ended so: the bytes that were copied into the front of it; nothing of one that took a pulse; else
--- all of it, since a Write may have written anywhere over a reply buffer
+-- what is told of the buffer of a call that ended so: the bytes that were copied into the front of it; nothing of one
+-- that took a pulse; else all of it, since a Write may have written anywhere over a reply buffer
 abbrev pub told_of : Mark → List ℕ → List ℕ
 told_of (mark.Message rcvid copied) buffer = take copied buffer
 told_of (mark.Count copied) buffer = take copied buffer
@@ -64,7 +72,8 @@ told_of other buffer = buffer
 abbrev pub told_bytes : Completion → List ℕ
 told_bytes e = told_of e.mark e.buffer
 
--- a row is of this ending, whose told bytes begin at a place of the room for bytes, and of which so many were written
+-- a row is of this ending, whose told bytes begin at a place of the room for bytes, and of which so many were
+-- written
 pub record IsOf (r : Row) (e : Completion) (at count : ℕ) : Type 0 where
   pub call : r.call ≡ e.call
   pub thread : r.thread ≡ e.thread
