@@ -57,11 +57,14 @@ fn timed_out_while_receive_blocked() {
 #[test]
 fn timed_out_while_reply_blocked() {
     within(|| {
-        let [mut server, mut client, _] = few();
+        let [mut server, mut client, mut other] = few();
         let channel = server.channel_create(ChannelFlags::NONE).unwrap();
         let to = client.connect_attach(channel).unwrap();
         thread::scope(|scope| {
-            let sent = scope.spawn(|| client.timeout(30 * MILLI).msg_send(to, b"a", &mut []).err());
+            let sent = scope.spawn(|| {
+                until(&mut other, 1, ThreadState::ReceiveBlocked(channel));
+                client.timeout(20 * MILLI).msg_send(to, b"a", &mut []).err()
+            });
             let rcvid = message(server.msg_receive(channel, &mut []));
             assert_eq!(sent.join().unwrap(), Some(CallError::TimedOut));
             assert_eq!(server.msg_reply(rcvid, 0, b""), Err(CallError::Refused(Errno::Srch)));
@@ -73,12 +76,14 @@ fn timed_out_while_reply_blocked() {
 #[test]
 fn the_server_is_told_of_a_timeout() {
     within(|| {
-        let [mut server, mut client, _] = few();
+        let [mut server, mut client, mut other] = few();
         let channel = server.channel_create(ChannelFlags::UNBLOCK).unwrap();
         let to = client.connect_attach(channel).unwrap();
         thread::scope(|scope| {
-            let sent =
-                scope.spawn(|| client.timeout(20 * MILLI).msg_send(to, b"a", &mut [0; 2]).map(|answer| answer.status));
+            let sent = scope.spawn(|| {
+                until(&mut other, 1, ThreadState::ReceiveBlocked(channel));
+                client.timeout(20 * MILLI).msg_send(to, b"a", &mut [0; 2]).map(|answer| answer.status)
+            });
             let rcvid = message(server.msg_receive(channel, &mut []));
             assert_eq!(server.msg_receive_pulse(channel), Ok(Pulse { priority: 20, what: What::Unblock(rcvid) }));
             // The client stays until it is answered.
@@ -98,13 +103,14 @@ fn a_timeout_is_tried_again() {
         let [mut server, mut client, mut other] = few();
         let channel = server.channel_create(ChannelFlags::UNBLOCK).unwrap();
         let to = client.connect_attach(channel).unwrap();
+        (0..1024).for_each(|value| other.msg_send_pulse(to, 1, 1, value).unwrap());
         thread::scope(|scope| {
-            let sent = scope.spawn(|| client.timeout(20 * MILLI).msg_send(to, b"a", &mut []).err());
+            let sent = scope.spawn(|| client.timeout(300 * MILLI).msg_send(to, b"a", &mut []).err());
+            until(&mut server, 2, ThreadState::SendBlocked(channel));
             let rcvid = message(server.msg_receive(channel, &mut []));
-            (0..1024).for_each(|value| other.msg_send_pulse(to, 99, 1, value).unwrap());
-            thread::sleep(50 * MILLI);
-            (0..1024).for_each(|_| assert!(server.msg_receive_pulse(channel).is_ok()));
-            assert_eq!(server.msg_receive_pulse(channel).map(|pulse| pulse.what), Ok(What::Unblock(rcvid)));
+            thread::sleep(400 * MILLI);
+            // There is room again, as the server takes the others.
+            while server.msg_receive_pulse(channel).unwrap().what != What::Unblock(rcvid) {}
             server.msg_error(rcvid, 5).unwrap();
             assert_eq!(sent.join().unwrap(), Some(CallError::Code(5)));
         });
