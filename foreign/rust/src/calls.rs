@@ -19,7 +19,8 @@ macro_rules! result {
 
 /// Channels and connections.
 impl Port {
-    /// Creates a channel that the thread's process owns (`ChannelCreate`). Refused with `Again` at 64 open channels.
+    /// Creates a channel that the thread's process owns (`ChannelCreate`). Refused with `Inval` if a flag is unknown, and
+    /// `Again` at 64 open channels.
     pub fn channel_create(&mut self, flags: ChannelFlags) -> Result<ChannelId> {
         result!(self.call(Call::ChannelCreate { flags })?, Mark::Channel(chid) => chid)
     }
@@ -45,8 +46,8 @@ impl Port {
 
 /// Messages.
 impl Port {
-    /// Sends a message over a connection, and sleeps until it is answered in the buffer (`MsgSend`). Refused with `Badf`
-    /// if the connection isn't live, is another process's, or its channel isn't open.
+    /// Sends a message over a connection, and sleeps until it is answered in the buffer (`MsgSend`). Message and buffer
+    /// are copied whole. Refused with `Badf` if the connection isn't live, is another process's, or its channel isn't open.
     pub fn msg_send<'b>(&mut self, coid: ConnectionId, message: &[u8], buffer: &'b mut [u8]) -> Result<Answer<'b>> {
         let mark = self.make(true, buffer, |reply_buffer| Call::Send { coid, message, reply_buffer })?;
         result!(mark, Mark::Replied { status, copied } => Answer { status, copied, buffer })

@@ -22,6 +22,7 @@ impl<'b> Answer<'b> {
 }
 
 /// What a receive takes.
+#[must_use = "the sender of a message waits until it is answered"]
 #[derive(Clone, Copy, Debug, PartialEq, Eq)]
 pub enum Received<'b> {
     /// A message. Its sender waits until it is answered.
@@ -31,6 +32,7 @@ pub enum Received<'b> {
 }
 
 /// A message that was received.
+#[must_use = "the sender of a message waits until it is answered"]
 #[derive(Clone, Copy, Debug, PartialEq, Eq)]
 pub struct Request<'b> {
     /// By which it is answered.
