@@ -11,6 +11,7 @@ with 4, and the client collects and checks them. The programs:
   rendezvous  a channel of Rust's `std` without room, with a reply channel for each client
   condvar     a mutex over a queue, with condition variables
   crossbeam   a channel of crossbeam without room, with a reply channel for each client
+  rust        the library under the Rust package's ports, which keep no past
 
 The kernel also makes them in one thread that has the port of a client and that of a server and never waits: the row
 `alone`, which shows what its three calls and two looks cost by themselves.
@@ -39,6 +40,7 @@ import time
 ROOT = os.path.dirname(os.path.dirname(os.path.abspath(__file__)))
 KERNEL = os.path.join(ROOT, "bench/out/qroundtrips")
 PEERS = os.path.join(ROOT, "bench/peers/out/peers")
+RUST = os.path.join(ROOT, "foreign/rust/target/release/examples/bench")
 
 PROGRAMS = {
     "kernel": [KERNEL],
@@ -46,12 +48,14 @@ PROGRAMS = {
     "rendezvous": [PEERS, "rendezvous"],
     "condvar": [PEERS, "condvar"],
     "crossbeam": [PEERS, "crossbeam"],
+    "rust": [RUST],
 }
 # What follows the numbers in a program's words.
 LAST_WORDS = {"unkept": ["unkept"], "unkept before": ["unkept"]}
 BUILT_BY = {
     KERNEL: "bench/build qroundtrips",
     PEERS: "bench/peers/build",
+    RUST: "cargo build --offline --release --manifest-path foreign/rust/Cargo.toml --example bench",
 }
 
 # Clients and servers. Each run makes as many round trips, which takes about a second at most, and stays far below the

@@ -1,64 +1,71 @@
-//! A server and its clients, from Rust: each of the calls, and what it brings.
+//! A server and its clients, by the kernel alone: each of the calls, and what it brings.
 //! exchange          prints the endings of a run
 //! exchange --time N times N rounds of Send, Receive and Reply
 
-#[path = "../rust/balsaeuchre.rs"]
-#[allow(dead_code)]
-mod balsaeuchre;
-
-use balsaeuchre::{Call, Ending, Endings, Error, Kernel, Mark, State, Thread, What, flags};
+use balsaeuchre::kernel::{Call, Ending, Endings, Kernel, Mark};
+use balsaeuchre::{
+    ChannelFlags, ChannelId, ConnectionId, Errno, Info, Pulse, ReceiveId, State, Thread, ThreadState, What,
+};
+use std::error::Error;
 use std::time::Instant;
 
 const SERVER: u8 = 1;
 const CLIENT: u8 = 2;
 const OTHER: u8 = 3;
 
-fn name(error: Error) -> String {
-    format!("{error:?}").to_lowercase()
+fn name(errno: Errno) -> String {
+    format!("{errno:?}").to_lowercase()
 }
 
 fn pulse_text(what: What) -> String {
     match what {
         What::User { code, value } => format!("code {code}, value {value}"),
-        What::Unblock { rcvid } => format!("unblock {rcvid}"),
-        What::Disconnect { process } => format!("disconnect {process}"),
+        What::Unblock(ReceiveId(rcvid)) => format!("unblock {rcvid}"),
+        What::Disconnect(process) => format!("disconnect {process}"),
     }
 }
 
-fn state_text(state: State) -> String {
+fn state_text(state: ThreadState) -> String {
     match state {
-        State::Ready => "ready, channel 0".to_string(),
-        State::SendBlocked { chid } => format!("send-blocked, channel {chid}"),
-        State::ReceiveBlocked { chid } => format!("receive-blocked, channel {chid}"),
-        State::ReplyBlocked { chid } => format!("reply-blocked, channel {chid}"),
+        ThreadState::Ready => "ready, channel 0".to_string(),
+        ThreadState::SendBlocked(ChannelId(chid)) => format!("send-blocked, channel {chid}"),
+        ThreadState::ReceiveBlocked(ChannelId(chid)) => format!("receive-blocked, channel {chid}"),
+        ThreadState::ReplyBlocked(ChannelId(chid)) => format!("reply-blocked, channel {chid}"),
     }
+}
+
+fn info_text(info: Info) -> String {
+    let Info { process, thread, priority, connection: ConnectionId(coid), msglen, srcmsglen, dstmsglen } = info;
+    format!(
+        "thread {thread} of process {process}, priority {priority}, connection {coid}, {msglen} of {srcmsglen} bytes, \
+         room for {dstmsglen}"
+    )
 }
 
 fn mark_text(mark: Mark) -> String {
     match mark {
         Mark::Done => "done".to_string(),
-        Mark::Failed(error) => format!("failed {}", name(error)),
-        Mark::Channel { chid } => format!("channel {chid}"),
-        Mark::Connection { coid } => format!("connection {coid}"),
+        Mark::Failed(errno) => format!("failed {}", name(errno)),
+        Mark::Channel(ChannelId(chid)) => format!("channel {chid}"),
+        Mark::Connection(ConnectionId(coid)) => format!("connection {coid}"),
         Mark::Replied { status, copied } => format!("replied {status}, {copied} copied"),
-        Mark::Message { rcvid, copied } => format!("message {rcvid}, {copied} copied"),
-        Mark::Errored { code } => format!("errored {code}"),
-        Mark::Count { copied } => format!("{copied} copied"),
-        Mark::Info { process, thread, priority, coid, msglen, srcmsglen, dstmsglen } => format!(
-            "thread {thread} of process {process}, priority {priority}, connection {coid}, {msglen} of {srcmsglen} bytes, \
-             room for {dstmsglen}"
-        ),
-        Mark::Pulse { item, priority, what } => format!("pulse of call {item}, priority {priority}, {}", pulse_text(what)),
-        Mark::State { state, priority } => format!("{}, priority {priority}", state_text(state)),
+        Mark::Message { rcvid: ReceiveId(rcvid), info } => format!("message {rcvid}, {} copied", info.msglen),
+        Mark::Errored(code) => format!("errored {code}"),
+        Mark::Count(count) => format!("{count} copied"),
+        Mark::Info(info) => info_text(info),
+        Mark::Pulse { number, pulse: Pulse { priority, what } } => {
+            format!("pulse of call {number}, priority {priority}, {}", pulse_text(what))
+        }
+        Mark::State(State { state, priority }) => format!("{}, priority {priority}", state_text(state)),
     }
 }
 
 /// Prints the endings of the event, or why there is none, and gives the mark of the first.
-fn show(what: &str, event: Result<Endings<'_>, Error>) -> Option<Mark> {
+fn show(what: &str, event: Result<Endings<'_>, Errno>) -> Option<Mark> {
     let endings = match event {
         Ok(endings) => endings,
-        Err(error) => {
-            println!("{what}: no event, {}", name(error));
+        Err(errno) => {
+            println!("{what}: no event, {}", name(errno));
             return None;
         }
     };
@@ -73,14 +80,14 @@ fn show(what: &str, event: Result<Endings<'_>, Error>) -> Option<Mark> {
     endings.iter().next().map(|ending| ending.mark)
 }
 
-fn rcvid_of(mark: Option<Mark>) -> u64 {
+fn rcvid_of(mark: Option<Mark>) -> ReceiveId {
     match mark {
         Some(Mark::Message { rcvid, .. }) => rcvid,
         other => panic!("no message: {other:?}"),
     }
 }
 
-fn show_messages(k: &mut Kernel, chid: u64, coid: u64) {
+fn show_messages(k: &mut Kernel, chid: ChannelId, coid: ConnectionId) {
     show("send", k.call(CLIENT, Call::Send { coid, message: b"hello", reply_buffer: b"........" }));
     show("state", k.call(SERVER, Call::State { thread: CLIENT }));
     let rcvid = rcvid_of(show("receive", k.call(SERVER, Call::Receive { chid, buffer: b"---" })));
@@ -95,7 +102,7 @@ fn show_messages(k: &mut Kernel, chid: u64, coid: u64) {
     show("error", k.call(SERVER, Call::Error { rcvid, code: -4 }));
 }
 
-fn show_pulses(k: &mut Kernel, chid: u64, coid: u64) {
+fn show_pulses(k: &mut Kernel, chid: ChannelId, coid: ConnectionId) {
     show("pulse", k.call(OTHER, Call::Pulse { coid, priority: 33, code: 5, value: -6 }));
     show("receive pulse", k.call(SERVER, Call::ReceivePulse { chid }));
     show("priority set", k.call(CLIENT, Call::PrioritySet { thread: OTHER, priority: 40 }));
@@ -103,7 +110,9 @@ fn show_pulses(k: &mut Kernel, chid: u64, coid: u64) {
     show("connect detach", k.call(CLIENT, Call::ConnectDetach { coid }));
     show("receive", k.call(SERVER, Call::Receive { chid, buffer: b"" }));
     show("channel destroy", k.call(SERVER, Call::ChannelDestroy { chid }));
-    let Some(Mark::Channel { chid }) = show("channel create", k.call(SERVER, Call::ChannelCreate { flags: 0 })) else {
+    let Some(Mark::Channel(chid)) =
+        show("channel create", k.call(SERVER, Call::ChannelCreate { flags: ChannelFlags::NONE }))
+    else {
         panic!("no channel");
     };
     show("receive", k.call(SERVER, Call::Receive { chid, buffer: b"++" }));
@@ -111,11 +120,11 @@ fn show_pulses(k: &mut Kernel, chid: u64, coid: u64) {
 }
 
 fn show_run(k: &mut Kernel) {
-    let told = flags::TELL_UNBLOCK | flags::TELL_DISCONNECT;
-    let Some(Mark::Channel { chid }) = show("channel create", k.call(SERVER, Call::ChannelCreate { flags: told })) else {
+    let told = ChannelFlags::UNBLOCK | ChannelFlags::DISCONNECT;
+    let Some(Mark::Channel(chid)) = show("channel create", k.call(SERVER, Call::ChannelCreate { flags: told })) else {
         panic!("no channel");
     };
-    let Some(Mark::Connection { coid }) = show("connect attach", k.call(CLIENT, Call::ConnectAttach { chid })) else {
+    let Some(Mark::Connection(coid)) = show("connect attach", k.call(CLIENT, Call::ConnectAttach { chid })) else {
         panic!("no connection");
     };
     show_messages(k, chid, coid);
@@ -124,17 +133,17 @@ fn show_run(k: &mut Kernel) {
     show_pulses(k, chid, coid);
 }
 
-fn time_rounds(k: &mut Kernel, rounds: u32) -> Result<(), Error> {
-    k.call(SERVER, Call::ChannelCreate { flags: 0 })?;
-    k.call(CLIENT, Call::ConnectAttach { chid: 1 })?;
+fn time_rounds(k: &mut Kernel, rounds: u32) -> Result<(), Errno> {
+    k.call(SERVER, Call::ChannelCreate { flags: ChannelFlags::NONE })?;
+    k.call(CLIENT, Call::ConnectAttach { chid: ChannelId(1) })?;
     let mut least = f64::MAX;
     for _ in 0..5 {
         let start = Instant::now();
         for _ in 0..rounds {
-            k.call(CLIENT, Call::Send { coid: 2, message: &[1; 4], reply_buffer: &[0; 8] })?;
-            let received = k.call(SERVER, Call::Receive { chid: 1, buffer: &[0; 16] })?;
+            k.call(CLIENT, Call::Send { coid: ConnectionId(2), message: &[1; 4], reply_buffer: &[0; 8] })?;
+            let received = k.call(SERVER, Call::Receive { chid: ChannelId(1), buffer: &[0; 16] })?;
             let rcvid = rcvid_of(received.iter().next().map(|ending| ending.mark));
-            assert_eq!(k.call(SERVER, Call::Reply { rcvid, status: 0, bytes: &[] })?.len(), 2);
+            assert_eq!(k.call(SERVER, Call::Reply { rcvid, status: 0, bytes: &[] })?.iter().len(), 2);
         }
         least = least.min(start.elapsed().as_secs_f64());
     }
@@ -142,12 +151,8 @@ fn time_rounds(k: &mut Kernel, rounds: u32) -> Result<(), Error> {
     Ok(())
 }
 
-fn main() -> Result<(), Error> {
-    let threads = [
-        Thread { thread: SERVER, process: 1, priority: 10 },
-        Thread { thread: CLIENT, process: 2, priority: 20 },
-        Thread { thread: OTHER, process: 2, priority: 5 },
-    ];
+fn main() -> Result<(), Box<dyn Error>> {
+    let threads = [Thread::new(SERVER, 1, 10), Thread::new(CLIENT, 2, 20), Thread::new(OTHER, 2, 5)];
     let mut kernel = Kernel::new(&threads)?;
     let arguments: Vec<String> = std::env::args().collect();
     match arguments.get(1).map(String::as_str) {

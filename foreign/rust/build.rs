@@ -1,0 +1,47 @@
+//! Links the static library. `BALSAEUCHRE_LIB_DIR` names the folder that has it: `libbalsaeuchre.a`, as it is installed,
+//! or `libbalsaeuchre_c.a` with the heap's `liblibc_c.a`. Without it the library is the one that `rt lib` made in the
+//! clone that this package lies in, and the heap the toolchain's.
+
+use std::path::{Path, PathBuf, absolute};
+use std::process::{Command, exit};
+use std::{env, fs};
+
+const VARIABLE: &str = "BALSAEUCHRE_LIB_DIR";
+
+/// Where the library is in a clone, and where the toolchain keeps the heap, by its own word.
+fn built() -> Vec<PathBuf> {
+    let here = env::var_os("CARGO_MANIFEST_DIR").expect("cargo sets it");
+    let mut folders = vec![Path::new(&here).join("../../crates/balsaeuchre_c/out")];
+    if let Ok(told) = Command::new("rt").arg("doc").output() {
+        folders.push(Path::new(String::from_utf8_lossy(&told.stdout).trim()).with_file_name("c"));
+    }
+    folders
+}
+
+/// Links a library of one of the folders, and returns whether there is one.
+fn link(library: &str, folders: &[PathBuf]) -> bool {
+    let mut files = folders.iter().map(|folder| folder.join(format!("lib{library}.a")));
+    let Some(file) = files.find_map(|file| fs::canonicalize(file).ok()) else { return false };
+    println!("cargo::rerun-if-changed={}", file.display());
+    println!("cargo::rustc-link-search=native={}", file.parent().expect("a file has a folder").display());
+    println!("cargo::rustc-link-lib=static={library}");
+    true
+}
+
+fn main() {
+    println!("cargo::rerun-if-env-changed={VARIABLE}");
+    println!("cargo::rerun-if-env-changed=DOCS_RS");
+    if env::var_os("DOCS_RS").is_some() {
+        return; // documents are made without the library
+    }
+    let named = env::var_os(VARIABLE).map(|folder| vec![absolute(folder).unwrap_or_default()]);
+    let folders = named.unwrap_or_else(built);
+    let linked = link("balsaeuchre", &folders) || link("balsaeuchre_c", &folders) && link("libc_c", &folders);
+    if !linked {
+        println!("cargo::error=neither libbalsaeuchre.a nor libbalsaeuchre_c.a with liblibc_c.a is in {folders:?}");
+        println!(
+            "cargo::error=set {VARIABLE} to the library's folder, or build it by `rt lib` in crates/balsaeuchre_c"
+        );
+        exit(1);
+    }
+}

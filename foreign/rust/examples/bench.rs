@@ -1,0 +1,48 @@
+//! usage: bench CLIENTS SERVERS ROUNDS [BUFFER]
+//!
+//! Each client makes so many round trips: it sends 4 bytes with room for 8 in the reply, a server receives them into 16
+//! bytes, or into BUFFER, and replies with 4, and the client checks them. It prints the microseconds of a round trip: the
+//! time until all clients have ended, by the number of all round trips.
+
+use balsaeuchre::{ChannelFlags, ChannelId, Port, Received, Thread, open};
+use std::thread;
+use std::time::Instant;
+
+fn serve(mut port: Port, channel: ChannelId, size: usize) {
+    let mut buffer = vec![0; size];
+    while let Ok(Received::Message(request)) = port.msg_receive(channel, &mut buffer) {
+        port.msg_reply(request.rcvid, 0, &request.bytes()[..4]).unwrap();
+    }
+}
+
+fn send(mut port: Port, channel: ChannelId, rounds: u32) {
+    let to = port.connect_attach(channel).unwrap();
+    for round in 0..rounds {
+        let message = round.to_be_bytes();
+        let mut buffer = [0; 8];
+        assert_eq!(port.msg_send(to, &message, &mut buffer).unwrap().bytes(), message);
+    }
+}
+
+fn main() {
+    let words: Vec<usize> = std::env::args().skip(1).map(|word| word.parse().expect("a number")).collect();
+    let [clients, servers, rounds, ref rest @ ..] = words[..] else { panic!("bench CLIENTS SERVERS ROUNDS [BUFFER]") };
+    let size = rest.first().copied().unwrap_or(16);
+    let thread = |at: usize| Thread::new(at as u8 + 1, if at < servers { 1 } else { 2 }, 10);
+    let threads: Vec<Thread> = (0..=servers + clients).map(thread).collect();
+    let mut ports = open(&threads).unwrap();
+    let mut last = ports.pop().unwrap();
+    let senders = ports.split_off(servers);
+    let channel = ports[0].channel_create(ChannelFlags::NONE).unwrap();
+    let start = Instant::now();
+    let spent = thread::scope(|scope| {
+        ports.into_iter().for_each(|port| drop(scope.spawn(move || serve(port, channel, size))));
+        let running: Vec<_> =
+            senders.into_iter().map(|port| scope.spawn(move || send(port, channel, rounds as u32))).collect();
+        running.into_iter().for_each(|thread| thread.join().unwrap());
+        let spent = start.elapsed();
+        last.shutdown().unwrap();
+        spent
+    });
+    println!("{:.3} us", spent.as_secs_f64() * 1e6 / (clients * rounds) as f64);
+}

@@ -1,0 +1,142 @@
+//! The calls, under QNX Neutrino's names, each of which waits for its end and returns what it is for.
+
+use crate::errors::{CallError, Result};
+use crate::ids::{ChannelFlags, ChannelId, ConnectionId, ReceiveId};
+use crate::kernel::{Call, Mark};
+use crate::port::Port;
+use crate::results::{Answer, Info, Pulse, Received, Request, State};
+use crate::shared::FRONT;
+
+/// The result that a mark is of.
+macro_rules! result {
+    ($mark:expr, $pattern:pat => $result:expr) => {
+        match $mark {
+            $pattern => Ok($result),
+            _ => Err(CallError::Unexpected),
+        }
+    };
+}
+
+/// Channels and connections.
+impl Port {
+    /// Creates a channel that the thread's process owns (`ChannelCreate`). Refused with `Inval` if a flag is unknown, and
+    /// `Again` at 64 open channels.
+    pub fn channel_create(&mut self, flags: ChannelFlags) -> Result<ChannelId> {
+        result!(self.call(Call::ChannelCreate { flags })?, Mark::Channel(chid) => chid)
+    }
+
+    /// Destroys a channel of the thread's process, and cuts each call that is blocked on it (`ChannelDestroy`). Refused
+    /// with `Inval` if the channel isn't open or is another process's.
+    pub fn channel_destroy(&mut self, chid: ChannelId) -> Result<()> {
+        result!(self.call(Call::ChannelDestroy { chid })?, Mark::Done => ())
+    }
+
+    /// Attaches the thread's process to a channel of any process (`ConnectAttach`). Refused with `Srch` if the channel
+    /// isn't open, and `Again` at 1,024 connections.
+    pub fn connect_attach(&mut self, chid: ChannelId) -> Result<ConnectionId> {
+        result!(self.call(Call::ConnectAttach { chid })?, Mark::Connection(coid) => coid)
+    }
+
+    /// Detaches a connection of the thread's process, and cuts each send over it (`ConnectDetach`). Refused with `Inval`
+    /// if the connection isn't live or is another process's, and `Again` if a pulse is due at 1,024 of them.
+    pub fn connect_detach(&mut self, coid: ConnectionId) -> Result<()> {
+        result!(self.call(Call::ConnectDetach { coid })?, Mark::Done => ())
+    }
+}
+
+/// Messages.
+impl Port {
+    /// Sends a message over a connection, and sleeps until it is answered in the buffer (`MsgSend`). Message and buffer
+    /// are copied whole. Refused with `Badf` if the connection isn't live, is another process's, or its channel isn't open.
+    pub fn msg_send<'b>(&mut self, coid: ConnectionId, message: &[u8], buffer: &'b mut [u8]) -> Result<Answer<'b>> {
+        let mark = self.make(true, buffer, |reply_buffer| Call::Send { coid, message, reply_buffer })?;
+        result!(mark, Mark::Replied { status, copied } => Answer { status, copied, buffer })
+    }
+
+    /// Takes a message, into the buffer, or a pulse of a channel, and sleeps until there is one (`MsgReceive`). Refused
+    /// with `Srch` if the channel isn't open or is another process's.
+    pub fn msg_receive<'b>(&mut self, chid: ChannelId, buffer: &'b mut [u8]) -> Result<Received<'b>> {
+        match self.make(true, buffer, |buffer| Call::Receive { chid, buffer: &buffer[..buffer.len().min(FRONT)] })? {
+            Mark::Message { rcvid, info } => {
+                Ok(Received::Message(Request { rcvid, copied: info.msglen, buffer, info }))
+            }
+            mark => result!(mark, Mark::Pulse { pulse, .. } => Received::Pulse(pulse)),
+        }
+    }
+
+    /// Answers a held message with a status and bytes, of which the sender gets as many as its buffer has room for
+    /// (`MsgReply`). Refused with `Srch` if the message isn't held, or its channel is another process's.
+    pub fn msg_reply(&mut self, rcvid: ReceiveId, status: i64, bytes: &[u8]) -> Result<()> {
+        result!(self.call(Call::Reply { rcvid, status, bytes })?, Mark::Done => ())
+    }
+
+    /// Answers a held message with a code and no bytes; the code 0 is a reply of status 0 (`MsgError`). Refused as
+    /// `msg_reply`.
+    pub fn msg_error(&mut self, rcvid: ReceiveId, code: i32) -> Result<()> {
+        result!(self.call(Call::Error { rcvid, code })?, Mark::Done => ())
+    }
+
+    /// Reads a held message, from the offset on, into the buffer, and returns the bytes that were read (`MsgRead`).
+    /// Refused as `msg_reply`.
+    pub fn msg_read<'b>(&mut self, rcvid: ReceiveId, offset: usize, buffer: &'b mut [u8]) -> Result<&'b [u8]> {
+        let mark = self.make(false, buffer, |buffer| Call::Read { rcvid, offset, buffer })?;
+        result!(mark, Mark::Count(count) => &buffer[..count])
+    }
+
+    /// Writes bytes over the reply buffer of a held message's sender, from the offset on, and returns how many had room
+    /// (`MsgWrite`). Refused as `msg_reply`.
+    pub fn msg_write(&mut self, rcvid: ReceiveId, offset: usize, bytes: &[u8]) -> Result<usize> {
+        result!(self.call(Call::Write { rcvid, offset, bytes })?, Mark::Count(count) => count)
+    }
+
+    /// Tells of a held message: its sender, its connection, and its lengths in bytes (`MsgInfo`). Refused as
+    /// `msg_reply`.
+    pub fn msg_info(&mut self, rcvid: ReceiveId) -> Result<Info> {
+        result!(self.call(Call::Info { rcvid })?, Mark::Info(info) => info)
+    }
+}
+
+/// Pulses.
+impl Port {
+    /// Sends a pulse with a priority, 1 to 255, a code, 0 to 127, and a value over a connection, and goes on at once
+    /// (`MsgSendPulse`). Refused with `Badf` as `msg_send`, `Inval` if the code or the priority is outside its range, and
+    /// `Again` if 1,024 pulses wait on the channel.
+    pub fn msg_send_pulse(&mut self, coid: ConnectionId, priority: u8, code: i8, value: i32) -> Result<()> {
+        result!(self.call(Call::Pulse { coid, priority, code, value })?, Mark::Done => ())
+    }
+
+    /// Takes a pulse of a channel, and sleeps until there is one; messages stay (`MsgReceivePulse`). Refused with `Srch`
+    /// if the channel isn't open or is another process's.
+    pub fn msg_receive_pulse(&mut self, chid: ChannelId) -> Result<Pulse> {
+        let mark = self.make(true, &mut [], |_| Call::ReceivePulse { chid })?;
+        result!(mark, Mark::Pulse { pulse, .. } => pulse)
+    }
+}
+
+/// Threads, and the kernel's end.
+impl Port {
+    /// Gives a thread of the own process, maybe the own, another priority, 1 to 255 (`SchedSet`). Refused with `Srch` if
+    /// the thread isn't in the roster or is another process's, and `Inval` if the priority is 0.
+    pub fn sched_set(&mut self, thread: u8, priority: u8) -> Result<()> {
+        result!(self.call(Call::PrioritySet { thread, priority })?, Mark::Done => ())
+    }
+
+    /// Ends what a thread of the own process is blocked in, or tells its server by a pulse if the channel has the flag
+    /// `UNBLOCK`: own profile, for a signal. Refused with `Srch` as `sched_set`, and `Again` if a pulse is due at 1,024 of
+    /// them.
+    pub fn unblock(&mut self, thread: u8) -> Result<()> {
+        result!(self.call(Call::Unblock { thread })?, Mark::Done => ())
+    }
+
+    /// Tells what a thread of any process does, and its priority: own profile. Refused with `Srch` if the thread isn't in
+    /// the roster.
+    pub fn state(&mut self, thread: u8) -> Result<State> {
+        result!(self.call(Call::State { thread })?, Mark::State(state) => state)
+    }
+
+    /// Cuts every open call, and has every later one refused with `Down`: own profile. Another thread may have done so
+    /// before.
+    pub fn shutdown(&mut self) -> Result<()> {
+        result!(self.call(Call::Shutdown)?, Mark::Done => ())
+    }
+}

@@ -1,0 +1,147 @@
+//! Why there is no kernel, and why a call gives no result.
+
+use crate::kernel::{Mark, VERSION};
+use std::error::Error;
+use std::fmt;
+
+/// Why the kernel refused a call, or ended it by force. The first six carry the letters of their POSIX names; which
+/// answers which case is the kernel's own profile.
+#[derive(Clone, Copy, Debug, PartialEq, Eq, Hash)]
+pub enum Errno {
+    /// No such thread, channel or held message; ended by a destroyed channel or a shutdown.
+    Srch,
+    /// No such connection, or its channel is gone.
+    Badf,
+    /// An argument outside its range.
+    Inval,
+    /// A limit is reached.
+    Again,
+    /// Unblocked.
+    Intr,
+    /// The thread is blocked, and makes no call.
+    Busy,
+    /// The allocator refused.
+    NoMemory,
+    /// The kernel is shut down.
+    Down,
+    /// The kernel has made all the 2^40 calls that it can number.
+    Exhausted,
+    /// The kept trace is full; no function here answers it.
+    TraceFull,
+    /// The thread isn't in the roster.
+    NoThread,
+}
+
+/// By its number in the library, less 1.
+const ERRNOS: [(Errno, &str); 11] = [
+    (Errno::Srch, "no such thread, channel or held message"),
+    (Errno::Badf, "no such connection"),
+    (Errno::Inval, "argument outside its range"),
+    (Errno::Again, "limit reached"),
+    (Errno::Intr, "unblocked"),
+    (Errno::Busy, "thread is blocked"),
+    (Errno::NoMemory, "out of memory"),
+    (Errno::Down, "kernel is shut down"),
+    (Errno::Exhausted, "kernel has made all its calls"),
+    (Errno::TraceFull, "kept trace is full"),
+    (Errno::NoThread, "thread isn't in the roster"),
+];
+
+impl Errno {
+    /// The error of a number that isn't 0.
+    pub(crate) fn of(number: u32) -> Errno {
+        ERRNOS[number as usize - 1].0
+    }
+}
+
+impl fmt::Display for Errno {
+    fn fmt(&self, f: &mut fmt::Formatter<'_>) -> fmt::Result {
+        f.write_str(ERRNOS[*self as usize].1)
+    }
+}
+
+impl Error for Errno {}
+
+/// Why there is no kernel.
+#[derive(Clone, Copy, Debug, PartialEq, Eq)]
+pub enum OpenError {
+    /// `Inval` if a thread has the priority 0 or its number stands twice, `Again` if there are too many, `NoMemory` if the
+    /// allocator refused.
+    Refused(Errno),
+    /// The library that is linked is of another version: a hundred times the first number and then the second.
+    #[allow(missing_docs)] // a field is what its name says
+    Version { library: u32, package: u32 },
+}
+
+impl OpenError {
+    pub(crate) fn check_version(library: u32) -> std::result::Result<(), OpenError> {
+        if library == VERSION { Ok(()) } else { Err(OpenError::Version { library, package: VERSION }) }
+    }
+}
+
+impl fmt::Display for OpenError {
+    fn fmt(&self, f: &mut fmt::Formatter<'_>) -> fmt::Result {
+        match self {
+            OpenError::Refused(errno) => write!(f, "roster refused: {errno}"),
+            OpenError::Version { library, package } => write!(f, "library of version {library}, not {package}"),
+        }
+    }
+}
+
+impl Error for OpenError {}
+
+/// What a call returns.
+pub type Result<T> = std::result::Result<T, CallError>;
+
+/// Why a call gives no result.
+#[derive(Clone, Copy, Debug, PartialEq, Eq)]
+pub enum CallError {
+    /// The kernel refused the call. It changed nothing.
+    Refused(Errno),
+    /// The call was blocked, and was ended by force: `Srch` by `channel_destroy` or `shutdown`, `Badf` by
+    /// `connect_detach`, `Intr` by `unblock`.
+    Cut(Errno),
+    /// The call was blocked for longer than its [`timeout`](crate::Port::timeout).
+    TimedOut,
+    /// The server answered the message with this code, by `msg_error`. It isn't 0.
+    Code(i32),
+    /// The allocator refused.
+    NoMemory,
+    /// The call ended with the result of another kind of call. A lawful kernel ends none so.
+    Unexpected,
+}
+
+impl fmt::Display for CallError {
+    fn fmt(&self, f: &mut fmt::Formatter<'_>) -> fmt::Result {
+        match self {
+            CallError::Refused(errno) => write!(f, "call refused: {errno}"),
+            CallError::Cut(errno) => write!(f, "call cut: {errno}"),
+            CallError::TimedOut => f.write_str("call timed out"),
+            CallError::Code(code) => write!(f, "message answered with the code {code}"),
+            CallError::NoMemory => f.write_str("out of memory"),
+            CallError::Unexpected => f.write_str("call ended with the result of another kind of call"),
+        }
+    }
+}
+
+impl Error for CallError {}
+
+/// The kernel's refusal of a call.
+impl From<Errno> for CallError {
+    fn from(errno: Errno) -> CallError {
+        match errno {
+            Errno::NoMemory => CallError::NoMemory,
+            errno => CallError::Refused(errno),
+        }
+    }
+}
+
+/// What a thread gets of its call's end, before which it may have waited.
+pub(crate) fn outcome(mark: Mark, waited: bool) -> Result<Mark> {
+    match mark {
+        Mark::Failed(errno) if waited && errno != Errno::NoMemory => Err(CallError::Cut(errno)),
+        Mark::Failed(errno) => Err(errno.into()),
+        Mark::Errored(code) => Err(CallError::Code(code)),
+        mark => Ok(mark),
+    }
+}

@@ -1,0 +1,190 @@
+//! The kernel under its lock, and how the endings of a call get to their threads.
+
+use crate::errors::{Errno, OpenError};
+use crate::kernel::{Call, Ending, Kernel, Mark, Thread};
+#[cfg(feature = "record")]
+use crate::record::Record;
+use crate::results::Info;
+use crate::sleeping::Place;
+use std::process::abort;
+use std::sync::{Mutex, MutexGuard, TryLockError};
+use std::{hint, thread};
+
+/// How often a thread looks for the lock before it sleeps. ThreadSanitizer sees of a lock only what is inlined here, so
+/// under it no thread sleeps for one.
+const LOCK_LOOKS: u32 = if cfg!(tsan) { u32::MAX } else { 20 };
+/// How many pauses are between two looks for the lock.
+const LOCK_PAUSES: u32 = 8;
+
+/// How many bytes of a receive's buffer the kernel sees, which copies all of them. What a longer message has behind is
+/// read, if the buffer has room for it.
+pub(crate) const FRONT: usize = 4096;
+
+/// The buffer of a call, which its thread lends until the call is ended.
+#[derive(Clone, Copy)]
+pub(crate) struct Lent(*mut [u8]);
+
+// SAFETY: until the call is ended nobody uses the buffer but who has the kernel's lock, by the promise of `of`.
+unsafe impl Send for Lent {}
+
+impl Lent {
+    /// Lends a buffer.
+    ///
+    /// # Safety
+    /// The buffer lives, and nobody else uses it, until the call that it is for is ended. If the lock is poisoned
+    /// before, that is never.
+    pub(crate) unsafe fn of(buffer: *mut [u8]) -> Lent {
+        Lent(buffer)
+    }
+
+    /// What the buffer holds. No slice of it is used once it is written.
+    pub(crate) fn bytes<'a>(self) -> &'a [u8] {
+        // SAFETY: the buffer is lent; the slices are read by the kernel's call alone, which is made under the lock.
+        unsafe { &*self.0 }
+    }
+
+    /// Puts bytes of the kernel to the buffer, from a place on. Under the lock.
+    fn fill(self, start: usize, bytes: &[u8]) {
+        // SAFETY: the buffer is lent, and who has the lock is the only one to use it.
+        let buffer = unsafe { &mut *self.0 };
+        buffer[start..start + bytes.len()].copy_from_slice(bytes);
+    }
+}
+
+/// What only who has the lock uses.
+pub(crate) struct Locked {
+    kernel: Kernel,
+    /// The buffers of the ports whose calls wait.
+    lent: Box<[Option<Lent>]>,
+    /// By the number of a thread, how many bytes of its message were copied as it was received.
+    msglens: [usize; 256],
+}
+
+/// How a call ended, if it did in its own event, and whom to wake, behind the lock.
+pub(crate) type Made = (Option<Mark>, Vec<thread::Thread>);
+
+/// A kernel with the places of its ports.
+pub(crate) struct Shared {
+    lock: Mutex<Locked>,
+    pub(crate) places: Box<[Place]>,
+    /// By the number of a thread, which of the places is its.
+    place_of: [u8; 256],
+    /// By the number of a process, the thread in whose name its calls time out.
+    pub(crate) clock_of: [u8; 256],
+    #[cfg(feature = "record")]
+    pub(crate) record: Record,
+}
+
+impl Shared {
+    pub(crate) fn new(threads: &[Thread]) -> Result<Shared, OpenError> {
+        let mut roster = threads.to_vec();
+        let (mut place_of, mut clock_of) = ([u8::MAX; 256], [0; 256]);
+        let mut free = (0..=u8::MAX).rev().filter(|number| threads.iter().all(|thread| thread.thread != *number));
+        for (at, thread) in threads.iter().enumerate() {
+            place_of[usize::from(thread.thread)] = at as u8;
+            if threads[..at].iter().all(|earlier| earlier.process != thread.process) {
+                let clock = free.next().ok_or(OpenError::Refused(Errno::Again))?;
+                clock_of[usize::from(thread.process)] = clock;
+                roster.push(Thread::new(clock, thread.process, 1));
+            }
+        }
+        let (kernel, lent) = (Kernel::new(&roster)?, threads.iter().map(|_| None).collect());
+        Ok(Shared {
+            lock: Mutex::new(Locked { kernel, lent, msglens: [0; 256] }),
+            places: threads.iter().map(|_| Place::new()).collect(),
+            place_of,
+            clock_of,
+            #[cfg(feature = "record")]
+            record: Record::new(&roster, threads.len()),
+        })
+    }
+
+    /// The place of a thread that has a port.
+    pub(crate) fn place_of(&self, thread: u8) -> Option<usize> {
+        let at = usize::from(self.place_of[usize::from(thread)]);
+        (at < self.places.len()).then_some(at)
+    }
+
+    /// Takes the lock. If a thread broke off with it, the program is aborted: that thread's call would never end, nor
+    /// those that it was about to end, and their buffers stay lent.
+    pub(crate) fn lock(&self) -> MutexGuard<'_, Locked> {
+        for _ in 0..LOCK_LOOKS {
+            match self.lock.try_lock() {
+                Err(TryLockError::WouldBlock) if cfg!(tsan) => thread::yield_now(),
+                Err(TryLockError::WouldBlock) => (0..LOCK_PAUSES).for_each(|_| hint::spin_loop()),
+                locked => return locked.unwrap_or_else(|_| abort()),
+            }
+        }
+        self.lock.lock().unwrap_or_else(|_| abort())
+    }
+}
+
+impl Locked {
+    /// Makes a call of a thread, whose buffer is lent, and brings the endings to their threads.
+    pub(crate) fn make<'a>(
+        &mut self,
+        shared: &Shared,
+        thread: u8,
+        lent: Lent,
+        call: impl FnOnce(&'a [u8]) -> Call<'a>,
+    ) -> Result<Made, Errno> {
+        let (mut own, mut asleep, mut long) = (None, Vec::new(), None);
+        let mut end = |at: Option<usize>, mark| match at {
+            None => own = Some(mark),
+            // SAFETY: the caller has the lock, and the call was open: what it lent was taken from it, once.
+            Some(at) => asleep.extend(unsafe { shared.places[at].end(mark) }),
+        };
+        let call = call(lent.bytes());
+        #[cfg(feature = "record")]
+        shared.record.call(thread, call, lent);
+        for ending in self.kernel.call(thread, call)?.iter() {
+            let at = shared.place_of(ending.thread).filter(|_| ending.thread != thread);
+            let lent = at.map_or(lent, |at| self.lent[at].take().expect("a call that ends was open"));
+            lent.fill(0, ending.buffer);
+            match ending.mark {
+                Mark::Message { rcvid, info } if info.msglen < info.srcmsglen.min(lent.0.len()) => {
+                    long = Some((ending.thread, at, lent, rcvid, info));
+                }
+                Mark::Message { rcvid, info } => {
+                    self.msglens[usize::from(info.thread)] = info.msglen;
+                    end(at, Mark::Message { rcvid, info });
+                }
+                Mark::Info(info) => {
+                    let msglen = self.msglens[usize::from(info.thread)];
+                    end(at, Mark::Info(Info { msglen, ..info }));
+                }
+                mark => end(at, mark),
+            }
+        }
+        // An event brings one message at most.
+        if let Some((receiver, at, lent, rcvid, info)) = long {
+            let rest = info.msglen..info.srcmsglen.min(lent.bytes().len());
+            let read = Call::Read { rcvid, offset: rest.start, buffer: &lent.bytes()[rest] };
+            #[cfg(feature = "record")]
+            shared.record.read_on(receiver, read);
+            let msglen = self.read_on(receiver, read, lent, info);
+            end(at, Mark::Message { rcvid, info: Info { msglen, ..info } });
+        }
+        Ok((own, asleep))
+    }
+
+    /// Reads what a message has behind the front of the receiver's buffer, in the receiver's name, and returns how many
+    /// bytes are copied in all: no more than in the front, if the kernel is out of memory.
+    fn read_on(&mut self, receiver: u8, read: Call<'_>, lent: Lent, info: Info) -> usize {
+        let msglen = &mut self.msglens[usize::from(info.thread)];
+        *msglen = info.msglen;
+        if let Ok(endings) = self.kernel.call(receiver, read) {
+            for Ending { mark, buffer, .. } in endings.iter() {
+                lent.fill(info.msglen, buffer);
+                *msglen += if let Mark::Count(count) = mark { count } else { 0 };
+            }
+        }
+        *msglen
+    }
+
+    /// A port's call waits, and lends its buffer until it is ended.
+    pub(crate) fn open(&mut self, shared: &Shared, at: usize, lent: Lent) {
+        self.lent[at] = Some(lent);
+        shared.places[at].open();
+    }
+}

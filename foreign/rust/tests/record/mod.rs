@@ -1,0 +1,150 @@
+//! For the package's own tests, with the feature `record`: every call in the order of the lock and what each thread got
+//! of it, to be made again by one thread.
+
+use crate::errors::{CallError, Errno, Result, outcome};
+use crate::kernel::{Call, Ending, Kernel, Mark, RawRequest, Thread};
+use crate::port::Port;
+use crate::results::Info;
+use crate::shared::Lent;
+use std::mem::take;
+use std::sync::Mutex;
+
+/// A call as the kernel got it, with its thread's buffer, of which the kernel sees the front.
+struct Kept {
+    request: RawRequest,
+    sent: Vec<u8>,
+    room: Vec<u8>,
+    seen: usize,
+    /// Whether it reads the rest of a message, in the receiver's name.
+    reads_on: bool,
+}
+
+/// What a thread got of a call: the result, and its buffer whole.
+#[derive(Debug, PartialEq)]
+struct Got {
+    result: Result<Mark>,
+    buffer: Vec<u8>,
+}
+
+/// Every call so far, in the order of the lock, and what each thread got.
+pub(crate) struct Record {
+    roster: Vec<Thread>,
+    calls: Mutex<Vec<Kept>>,
+    got: Vec<Mutex<Vec<Got>>>,
+}
+
+impl Record {
+    /// Of this roster, in which clocks follow so many threads.
+    pub(crate) fn new(roster: &[Thread], threads: usize) -> Record {
+        let got = (0..threads).map(|_| Mutex::default()).collect();
+        Record { roster: roster.to_vec(), calls: Mutex::default(), got }
+    }
+
+    /// A call is made. Under the kernel's lock.
+    pub(crate) fn call(&self, thread: u8, call: Call<'_>, lent: Lent) {
+        let (request, sent, seen) = call.raw(thread);
+        let (sent, room) = (sent.to_vec(), lent.bytes().to_vec());
+        self.keep(Kept { request, sent, room, seen: seen.len(), reads_on: false });
+    }
+
+    /// The rest of a message is read. Under the kernel's lock.
+    pub(crate) fn read_on(&self, thread: u8, call: Call<'_>) {
+        let (request, _, room) = call.raw(thread);
+        self.keep(Kept { request, sent: Vec::new(), room: room.to_vec(), seen: room.len(), reads_on: true });
+    }
+
+    fn keep(&self, kept: Kept) {
+        self.calls.lock().unwrap().push(kept);
+    }
+
+    /// The thread at a place got the end of its call.
+    pub(crate) fn end(&self, at: usize, result: Result<Mark>, buffer: &[u8]) {
+        self.got[at].lock().unwrap().push(Got { result, buffer: buffer.to_vec() });
+    }
+
+    fn is_clock(&self, thread: u8) -> bool {
+        self.roster[self.got.len()..].iter().any(|clock| clock.thread == thread)
+    }
+
+    /// What each thread should have got, by its number.
+    fn again(&self) -> Vec<Vec<Got>> {
+        let mut kernel = Kernel::new(&self.roster).unwrap();
+        let mut got: Vec<Vec<Got>> = (0..256).map(|_| Vec::new()).collect();
+        let mut rooms = vec![Vec::new(); 256];
+        let mut msglens = [0; 256];
+        for kept in self.calls.lock().unwrap().iter() {
+            let maker = kept.request.thread;
+            let endings = match kernel.make(&kept.request, &kept.sent, &kept.room[..kept.seen]) {
+                Ok(endings) => endings,
+                Err(errno) => {
+                    got[usize::from(maker)].push(Got { result: Err(errno.into()), buffer: kept.room.clone() });
+                    continue;
+                }
+            };
+            if kept.reads_on {
+                let message = got[usize::from(maker)].last_mut().unwrap();
+                read_on(message, endings.iter().next().unwrap(), &mut msglens);
+                continue;
+            }
+            rooms[usize::from(maker)] = kept.room.clone();
+            for ending in endings.iter() {
+                let mut buffer = take(&mut rooms[usize::from(ending.thread)]);
+                buffer[..ending.buffer.len()].copy_from_slice(ending.buffer);
+                let result = outcome(with_msglen(ending.mark, &mut msglens), ending.thread != maker);
+                let result = match result {
+                    Err(CallError::Cut(Errno::Intr)) if self.is_clock(maker) => Err(CallError::TimedOut),
+                    result => result,
+                };
+                got[usize::from(ending.thread)].push(Got { result, buffer });
+            }
+        }
+        got
+    }
+}
+
+/// The mark with how many bytes of the message were copied as it was received, with the rest that was read.
+fn with_msglen(mark: Mark, msglens: &mut [usize; 256]) -> Mark {
+    match mark {
+        Mark::Message { info, .. } => msglens[usize::from(info.thread)] = info.msglen,
+        Mark::Info(info) => return Mark::Info(Info { msglen: msglens[usize::from(info.thread)], ..info }),
+        _ => (),
+    }
+    mark
+}
+
+/// Puts the rest of a message that was read to what its receiver got.
+fn read_on(message: &mut Got, rest: Ending<'_>, msglens: &mut [usize; 256]) {
+    let Got { result: Ok(Mark::Message { info, .. }), buffer } = message else { panic!("no message to read on") };
+    if let Mark::Count(count) = rest.mark {
+        buffer[info.msglen..][..count].copy_from_slice(rest.buffer);
+        info.msglen += count;
+    }
+    msglens[usize::from(info.thread)] = info.msglen;
+}
+
+impl Port {
+    /// Makes all calls so far again by one thread on a new kernel, and panics where a thread got something else. No call
+    /// may be open. Returns how many there are.
+    #[doc(hidden)]
+    pub fn made_again(&mut self) -> usize {
+        // The lock is let go before a panic, which would else abort the program.
+        let compared = self.compare();
+        compared.unwrap_or_else(|difference| panic!("{difference}"))
+    }
+
+    fn compare(&self) -> std::result::Result<usize, String> {
+        let _locked = self.shared.lock();
+        let record = &self.shared.record;
+        let again = record.again();
+        for (Thread { thread, .. }, got) in record.roster.iter().zip(&record.got) {
+            let (got, again) = (got.lock().unwrap(), &again[usize::from(*thread)]);
+            if let Some(turn) = got.iter().zip(again).position(|(got, again)| got != again) {
+                return Err(format!("thread {thread}, ending {turn}: {:?}, made again {:?}", got[turn], again[turn]));
+            }
+            if got.len() != again.len() {
+                return Err(format!("thread {thread}: {} endings, made again {}", got.len(), again.len()));
+            }
+        }
+        Ok(record.calls.lock().unwrap().len())
+    }
+}
