@@ -1,9 +1,10 @@
 //! The calls of many threads over a kernel that one caller holds.
 
-ghost use Rattle.std.specs.Prelude.{◌≡◌, [], Some, is_some, option_map, IfOk, IfErr};
+ghost use Rattle.std.specs.Prelude.{◌≡◌, ◌≤◌, [], Some, is_some, length, option_map, IfOk, IfErr};
 ghost use Rattle.qkernel.specs.Stands.{StandsAt};
 ghost use Rattle.qstate.specs.Thread.{members_of};
 ghost use Rattle.qcalls.specs.Making.{ending_in};
+ghost use Rattle.qcalls.specs.Simulating.{done};
 ghost use Rattle.qcalls.specs.declared.error.CallError.TheVariants as error;
 
 mod channels;
@@ -59,6 +60,16 @@ impl Model for Simulator {
     ghost view = { λ s. record { kernel = s.kernel; kept = s.kept.items } };
 
     ghost invariant = { λ s. s.endings.items ≡ [] };
+}
+
+/// A call that ended in its own event and came to this.
+fn done<T>(came: Result<T, CallError>) -> Result<Outcome<T>, CallError>
+    ensures { result ≡ done came }
+{
+    match came {
+        Ok(value) => Ok(Outcome::Done(value)),
+        Err(error) => Err(error),
+    }
 }
 
 impl Simulator {
@@ -124,11 +135,15 @@ impl Simulator {
 
     /// Why no call of a thread is made.
     fn unmade(&self, thread: ThreadNo) -> Option<Errno>
-        ensures { result ≡ unmade self.now thread }
+        ensures why { result ≡ unmade self.now thread }
+
+        // What is so of every kernel.
+        ensures few { length self.now.kernel.threads ≤ 64 }
     {
+        let made = self.kernel.made();
         if !self.kernel.knows(thread) {
             Some(Errno::NoThread)
-        } else if self.kernel.made() >= CALL_LIMIT {
+        } else if made >= CALL_LIMIT {
             Some(Errno::Exhausted)
         } else if self.has_ended(thread) {
             Some(Errno::Busy)
@@ -144,7 +159,7 @@ impl Simulator {
         if let Some(errno) = self.unmade(thread) {
             return Err(refusal(errno));
         }
-        self.kept.reserve(THREAD_LIMIT)?;
+        self.kept.reserve(THREAD_LIMIT + 1)?;
         self.kernel.step(thread, call, &mut self.endings);
         append(&mut self.kept, &mut self.endings);
         Ok(match take_of(&mut self.kept, thread) {

@@ -4,7 +4,7 @@ ghost use Rattle.std.specs.Prelude.{replicate};
 ghost use Rattle.qcalls.specs.Results.{answer_in, bytes_in, count_in, done_in, info_in, received_in};
 ghost use Rattle.qcalls.specs.Simulating.{Simulates, SimulatesOfBytes, at_once, unless_blocked};
 
-use super::{Outcome, Simulator};
+use super::{Outcome, Simulator, done};
 use crate::error::CallError;
 use crate::results::{Answer, Received};
 use qbase::bytes::Bytes;
@@ -32,7 +32,7 @@ impl Simulator {
             reply_buffer,
         };
         match self.make(thread, send)? {
-            Outcome::Done(ending) => Ok(Outcome::Done(ending.answer()?)),
+            Outcome::Done(ending) => done(ending.answer()),
             Outcome::Blocked => Ok(Outcome::Blocked),
         }
     }
@@ -50,7 +50,7 @@ impl Simulator {
     {
         let buffer = Bytes::filled(self.alloc, 0, len)?;
         match self.make(thread, Call::Receive { chid, buffer })? {
-            Outcome::Done(ending) => Ok(Outcome::Done(ending.received()?)),
+            Outcome::Done(ending) => done(ending.received()),
             Outcome::Blocked => Ok(Outcome::Blocked),
         }
     }

@@ -3,7 +3,7 @@
 ghost use Rattle.qcalls.specs.Results.{done_in, pulse_in};
 ghost use Rattle.qcalls.specs.Simulating.{Simulates, at_once, unless_blocked};
 
-use super::{Outcome, Simulator};
+use super::{Outcome, Simulator, done};
 use crate::error::CallError;
 use crate::results::Pulse;
 use qbase::ids::{ChannelId, ConnectionId, ThreadNo};
@@ -42,7 +42,7 @@ impl Simulator {
         ensures { Simulates (unless_blocked pulse_in) thread (Call.ReceivePulse chid) self.old self.new result }
     {
         match self.make(thread, Call::ReceivePulse(chid))? {
-            Outcome::Done(ending) => Ok(Outcome::Done(ending.pulse()?)),
+            Outcome::Done(ending) => done(ending.pulse()),
             Outcome::Blocked => Ok(Outcome::Blocked),
         }
     }
