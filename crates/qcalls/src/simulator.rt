@@ -2,7 +2,7 @@
 
 ghost use Rattle.std.specs.Prelude.{◌≡◌, ◌≤◌, [], Some, is_some, length, option_map, IfOk, IfErr};
 ghost use Rattle.qkernel.specs.Stands.{StandsAt};
-ghost use Rattle.qstate.specs.Thread.{members_of};
+ghost use Rattle.qstate.specs.Thread.{open_in};
 ghost use Rattle.qcalls.specs.Making.{ending_in};
 ghost use Rattle.qcalls.specs.Simulating.{done};
 ghost use Rattle.qcalls.specs.declared.error.CallError.TheVariants as error;
@@ -96,6 +96,13 @@ impl Simulator {
         ensures { result.now ≡ self.now.kernel }
     {
         &self.kernel
+    }
+
+    /// Whether a thread is blocked in a call.
+    pub fn is_blocked(&self, thread: ThreadNo) -> bool
+        ensures { result ≡ is_some (open_in self.now.kernel.threads thread) }
+    {
+        self.kernel.is_blocked(thread)
     }
 
     /// Whether an ending waits for a thread to take it.
