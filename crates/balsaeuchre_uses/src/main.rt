@@ -29,7 +29,9 @@ fn show_reply(rt: &impl Print, reply: &Reply) -> io::Result<()> {
     let (call, thread, answer) = (reply.call, reply.thread.0, &reply.answer);
     let (status, copied) = (answer.status, answer.copied);
     let buffer = answer.buffer.as_slice();
-    println!(rt; "  call {call} of thread {thread}: Replied {{ status: {status}, copied: {copied} }} {buffer:?}")
+    println!(rt;
+        "  call {call} of thread {thread}: Replied {{ status: {status}, copied: {copied} }} {buffer:?}"
+    )
 }
 
 /// Prints the endings of a run under its name.

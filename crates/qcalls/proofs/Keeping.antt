@@ -25,13 +25,16 @@ found_from t (x ∷ endings) i k e =
           (0, omega arith, record { below = omega arith; first = λ d. rw at refl; found = rw at refl; rest = rw at refl })
       | false ↦ λ other e.
           let r = found_from t endings (i + 1) k e in
-          let same : k ≡ i + 1 + r.0 = r.1 in
-          (suc r.0, omega arith, record {
-            below = let below : r.0 < length endings = r.2.below in omega arith;
-            first = λ d. rw other (r.2.first d);
-            found = rw other r.2.found;
-            rest = rw other (ap (λ rest. x ∷ rest) r.2.rest);
-          })
+          let same : k ≡ i + 1 + r.0 = r.1 in (
+            suc r.0,
+            omega arith,
+            record {
+              below = let below : r.0 < length endings = r.2.below in omega arith;
+              first = λ d. rw other (r.2.first d);
+              found = rw other r.2.found;
+              rest = rw other (ap (λ rest. x ∷ rest) r.2.rest);
+            },
+          )
     ] refl e
 
 pub found_at : (t : ℕ) (endings : List Completion) (k : ℕ) → position (is_of t) endings ≡ Some k → IsAt t endings k

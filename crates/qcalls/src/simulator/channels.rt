@@ -39,7 +39,8 @@ impl Simulator {
     ) -> Result<ConnectionId, CallError>
         ensures { Simulates (at_once connection_in) thread (Call.ConnectAttach chid) self.old self.new result }
     {
-        self.complete(thread, Call::ConnectAttach(chid))?.connection()
+        self.complete(thread, Call::ConnectAttach(chid))?
+            .connection()
     }
 
     /// Detaches a connection of the thread's process, and cuts each send over it (`ConnectDetach`). Refused with `Inval`

@@ -28,9 +28,9 @@ returns c =
     let own : c.take_of.result ≡ ending_of t endings = c.take_of.ensures.ending ∙ ap (ending_of t) all ∙ behind.0 in
     let rest : after.kept ≡ kept ++ without t endings = c.take_of.ensures.rest ∙ ap (without t) all ∙ behind.1 in
     let told : Ok c.match-take_of.result ≡ unless_blocked ending_in (ending_of t endings) =
-      elim c.match-take_of.branch [
-        | in-Some-take_of w ↦ ap Ok w.result-is ∙ ap (unless_blocked ending_in) (sym w.in-Some-take_of.is ∙ own)
-        | in-None w ↦ ap Ok w.result-is ∙ ap (unless_blocked ending_in) (sym w.in-None.is ∙ own)
-      ] in
+    elim c.match-take_of.branch [
+      | in-Some-take_of w ↦ ap Ok w.result-is ∙ ap (unless_blocked ending_in) (sym w.in-Some-take_of.is ∙ own)
+      | in-None w ↦ ap Ok w.result-is ∙ ap (unless_blocked ending_in) (sym w.in-None.is ∙ own)
+    ] in
     rw (← c.self.view_is) (event_made (unless_blocked ending_in) t c.args.call before after endings (Ok c.match-take_of.result) free
-      record { event = c.step.ensures.event; refused = c.step.ensures.refused; roster = c.step.ensures.roster; made = c.step.ensures.made; kept = rest } told)
+    record { event = c.step.ensures.event; refused = c.step.ensures.refused; roster = c.step.ensures.roster; made = c.step.ensures.made; kept = rest } told)
