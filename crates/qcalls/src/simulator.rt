@@ -35,13 +35,14 @@ pub enum Outcome<T> {
     Blocked,
 }
 
-/// A kernel in the hands of one caller, who makes the calls of all its threads. Each call is an event, and may end blocked
-/// calls of other threads: their endings are kept until `take` asks for them. Contracts see the kernel's content, and the
-/// endings that are kept.
+/// A kernel in the hands of one caller, who makes the calls of all its threads. Each call is an event, and may end
+/// blocked calls of other threads: their endings are kept until `take` asks for them. Contracts see the kernel's
+/// content, and the endings that are kept.
 ///
 /// Each method refuses a call before it is made, and then changes nothing: with `NoThread` if the thread isn't in the
 /// roster, `Exhausted` at 2^40 calls, and `Busy` if the ending of the thread's last call isn't taken yet. The kernel
-/// refuses a call with `Busy` if its thread is blocked, and with `Down` after `shutdown`; that is an event, which it counts.
+/// refuses a call with `Busy` if its thread is blocked, and with `Down` after `shutdown`; that is an event, which it
+/// counts.
 #[derive(Drop)]
 pub struct Simulator {
     alloc: Global,
@@ -75,8 +76,8 @@ fn done<T>(came: Result<T, CallError>) -> Result<Outcome<T>, CallError>
 impl Simulator {
     ghost use Rattle.qcalls.specs.Simulating.{Simulates, at_once, unless_blocked, unmade, ending_of, without, ending_after_wait, oldest, later};
 
-    /// A simulator of a kernel without channels, in which all threads of the roster are ready. The room for the kernel and
-    /// for endings is made here; `NoMemory` is the only error.
+    /// A simulator of a kernel without channels, in which all threads of the roster are ready. The room for the
+    /// kernel and for endings is made here; `NoMemory` is the only error.
     pub fn new(alloc: Global, roster: &Roster) -> Result<Simulator, CallError>
         ensures stands { IfOk result (λ s. StandsAt roster.now s.kernel []) }
         ensures none { IfOk result (λ s. s.kept ≡ []) }
@@ -112,8 +113,8 @@ impl Simulator {
         kept::has(&self.kept, thread)
     }
 
-    /// How a thread's blocked call ended, if it ended and this isn't taken yet. `Ending::answer` returns the result of a
-    /// `msg_send`, `received` that of a `msg_receive`, and `pulse` that of a `msg_receive_pulse`.
+    /// How a thread's blocked call ended, if it ended and this isn't taken yet. `Ending::answer` returns the result
+    /// of a `msg_send`, `received` that of a `msg_receive`, and `pulse` that of a `msg_receive_pulse`.
     pub fn take(&mut self, thread: ThreadNo) -> Option<Ending>
         ensures ending { result ≡ option_map ending_after_wait (ending_of thread self.old.kept) }
         ensures rest { self.new ≡ record self.old { kept = without thread self.old.kept } }

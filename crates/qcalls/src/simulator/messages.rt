@@ -12,9 +12,9 @@ use qbase::ids::{ChannelId, ConnectionId, ReceiveId, ThreadNo};
 use qmodel::call::{Call, Info};
 
 impl Simulator {
-    /// Sends a message over a connection, to be answered in a buffer of so many bytes (`MsgSend`). The thread is blocked
-    /// until the answer, which `Ending::answer` returns. Refused with `Badf` if the connection isn't live, is another
-    /// process's, or its channel isn't open.
+    /// Sends a message over a connection, to be answered in a buffer of so many bytes (`MsgSend`). The thread is
+    /// blocked until the answer, which `Ending::answer` returns. Refused with `Badf` if the connection isn't live, is
+    /// another process's, or its channel isn't open.
     pub fn msg_send(
         &mut self,
         thread: ThreadNo,
@@ -38,8 +38,8 @@ impl Simulator {
     }
 
     /// Takes a message, into a buffer of so many bytes, or a pulse of a channel (`MsgReceive`). If there is none, the
-    /// thread is blocked until one comes, which `Ending::received` returns. Refused with `Srch` if the channel isn't open
-    /// or is another process's.
+    /// thread is blocked until one comes, which `Ending::received` returns. Refused with `Srch` if the channel isn't
+    /// open or is another process's.
     pub fn msg_receive(
         &mut self,
         thread: ThreadNo,
@@ -55,8 +55,8 @@ impl Simulator {
         }
     }
 
-    /// Answers a held message with a status and bytes (`MsgReply`). Refused with `Srch` if the message isn't held, or its
-    /// channel is another process's.
+    /// Answers a held message with a status and bytes (`MsgReply`). Refused with `Srch` if the message isn't held, or
+    /// its channel is another process's.
     pub fn msg_reply(
         &mut self,
         thread: ThreadNo,
@@ -107,8 +107,8 @@ impl Simulator {
         self.complete(thread, read)?.bytes()
     }
 
-    /// Writes bytes over the reply buffer of a held message's sender, from the offset on, and returns how many had room
-    /// (`MsgWrite`). Refused as `msg_reply`.
+    /// Writes bytes over the reply buffer of a held message's sender, from the offset on, and returns how many had
+    /// room (`MsgWrite`). Refused as `msg_reply`.
     pub fn msg_write(
         &mut self,
         thread: ThreadNo,
