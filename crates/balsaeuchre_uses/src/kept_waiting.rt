@@ -1,5 +1,5 @@
-//! A server of one resource that keeps a client waiting: it holds the message of who asks while the resource is taken,
-//! and answers it once the resource is given back. Nothing is asked of the client but its one Send.
+//! A server of one resource that keeps a client waiting: it holds the message of who asks while the resource is
+//! taken, and answers it once the resource is given back. Nothing is asked of the client but its one Send.
 
 ghost use Rattle.std.specs.Prelude.{◌≡◌, ◌++◌, [], ◌∷◌, true, false, IfOk, IfSome, IfNone, OnErr, Some, None, if◌then◌else◌};
 
@@ -146,8 +146,8 @@ fn serve_one(
     }
 }
 
-/// Both clients ask for the resource, and the first gives it back. It gives the clients' answers in the order in which they
-/// came.
+/// Both clients ask for the resource, and the first gives it back. It gives the clients' answers in the order in
+/// which they came.
 pub fn kept_waiting(alloc: Global) -> Result<Vec<Reply>, CallError> {
     let mut simulator = simulator_of_three(alloc)?;
     let chid = simulator.channel_create(SERVER, ChannelFlags::of(0))?;

@@ -8,9 +8,10 @@ use Rattle.qmodel.specs.declared.call.Completion.{Completion}
 use Rattle.qcalls.specs.Simulating.{ending_of, is_of, without}
 
 -- the first ending of thread t stands at place j
-record IsAt (t : ℕ) (endings : List Completion) (j : ℕ) : Type 0 where
+pub record IsAt (t : ℕ) (endings : List Completion) (j : ℕ) : Type 0 where
   pub below : j < length endings
   pub first : (d : Completion) → ending_of t endings ≡ Some (get_or endings j d)
+  pub found : is_some (ending_of t endings) ≡ true
   pub rest : without t endings ≡ take j endings ++ drop (suc j) endings
 
 -- what is found from place i on
@@ -21,15 +22,19 @@ found_from t (x ∷ endings) i k e =
     as (λ b. eqb x.thread t ≡ b → cond b (Some i) (position_from (is_of t) (i + 1) endings) ≡ Some k → (j : ℕ) × (k ≡ i + j) × IsAt t (x ∷ endings) j) [
       | true ↦ λ at e.
           let same : i ≡ k = same_Some i k e in
-          (0, omega arith, record { below = omega arith; first = λ d. rw at refl; rest = rw at refl })
+          (0, omega arith, record { below = omega arith; first = λ d. rw at refl; found = rw at refl; rest = rw at refl })
       | false ↦ λ other e.
           let r = found_from t endings (i + 1) k e in
-          let same : k ≡ i + 1 + r.0 = r.1 in
-          (suc r.0, omega arith, record {
-            below = let below : r.0 < length endings = r.2.below in omega arith;
-            first = λ d. rw other (r.2.first d);
-            rest = rw other (ap (λ rest. x ∷ rest) r.2.rest);
-          })
+          let same : k ≡ i + 1 + r.0 = r.1 in (
+            suc r.0,
+            omega arith,
+            record {
+              below = let below : r.0 < length endings = r.2.below in omega arith;
+              first = λ d. rw other (r.2.first d);
+              found = rw other r.2.found;
+              rest = rw other (ap (λ rest. x ∷ rest) r.2.rest);
+            },
+          )
     ] refl e
 
 pub found_at : (t : ℕ) (endings : List Completion) (k : ℕ) → position (is_of t) endings ≡ Some k → IsAt t endings k
@@ -66,3 +71,12 @@ first_behind t (x ∷ kept) endings none =
           let r = first_behind t kept endings none in
           (rw other r.0, rw other (ap (λ rest. x ∷ rest) r.1))
     ] refl none
+
+-- there is a place where there is an ending
+pub has_place : (t : ℕ) (endings : List Completion) → is_some (position (is_of t) endings) ≡ is_some (ending_of t endings)
+has_place t endings =
+    elim (position (is_of t) endings)
+    as (λ o. position (is_of t) endings ≡ o → is_some o ≡ is_some (ending_of t endings)) [
+      | None ↦ λ e. sym (ap is_some (none_at t endings e).0)
+      | Some k ↦ λ e. sym (found_at t endings k e).found
+    ] refl

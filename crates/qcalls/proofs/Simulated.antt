@@ -1,6 +1,10 @@
 -- A result that is read off the event of a call in one thread.
-use Rattle.std.proofs.Common.{◌≡◌, ◌∙◌, ◌⊎◌, inl, inr, ℕ, ap, sym, refl, Result, Ok, Err}
-use Rattle.std.specs.Prelude.{Option, None, Some}
+use Rattle.std.proofs.Common.{◌≡◌, ◌∙◌, ◌⊎◌, inl, inr, ℕ, ap, sym, refl, subst, cond, true, false, Result, Ok, Err}
+use Rattle.std.specs.Prelude.{Option, None, Some, List, Bool, is_some, nat_lt, ◌^◌}
+use Rattle.std.proofs.lemmas.Option.{none-some}
+use Rattle.qbase.specs.declared.errno.Errno.TheVariants as errno
+use Rattle.qtables.specs.Members.{member_at}
+use Rattle.qstate.specs.Thread.{members_of}
 use Rattle.qbase.specs.declared.errno.Errno.{Errno}
 use Rattle.qmodel.specs.declared.call.Call.{Call}
 use Rattle.qmodel.specs.declared.call.Completion.{Completion}
@@ -26,10 +30,10 @@ at_once-read : {A : Type 0} (read : Reading A) (x : Option Completion) → read_
 at_once-read read None = refl
 at_once-read read (Some x) = refl
 
-pub reads_at_once : {A : Type 0} {read : Reading A} {t : ℕ} {call asked : Call} {before after : Simulation} {made : Result Ending CallError} {e : Ending}
+pub reads_at_once : {A : Type 0} (read : Reading A) {t : ℕ} {call asked : Call} {before after : Simulation} {made : Result Ending CallError} {e : Ending}
     {result : Result A CallError} → Simulates (at_once ending_in) t asked before after made → asked ≡ call → made ≡ Ok e
     → result ≡ read e.waited e.mark e.buffer → Simulates (at_once read) t call before after result
-reads_at_once {A} {read} {t} {call} {asked} {before} {after} {made} {e} {result} m same_call is r =
+reads_at_once {A} read {t} {call} {asked} {before} {after} {made} {e} {result} m same_call is r =
     let same : result ≡ read_off read made = r ∙ sym (ap (read_off read) is) in
     record { comes = rw (← same_call, same) (comes-read (read_off read) (at_once ending_in) (at_once read) (at_once-read read) (λ e. refl) t asked before after made (unmade before t) m.comes) }
 
@@ -43,9 +47,25 @@ unless_blocked-read : {A : Type 0} (read : Reading A) (x : Option Completion) �
 unless_blocked-read read None = refl
 unless_blocked-read read (Some x) = refl
 
-pub reads_unless_blocked : {A : Type 0} {read : Reading A} {t : ℕ} {call asked : Call} {before after : Simulation} {made : Result (Outcome Ending) CallError}
+pub reads_unless_blocked : {A : Type 0} (read : Reading A) {t : ℕ} {call asked : Call} {before after : Simulation} {made : Result (Outcome Ending) CallError}
     {outcome : Result (Outcome Ending) CallError} {result : Result (Outcome A) CallError} → Simulates (unless_blocked ending_in) t asked before after made → asked ≡ call
     → made ≡ outcome → result ≡ read_outcome read outcome → Simulates (unless_blocked read) t call before after result
-reads_unless_blocked {A} {read} {t} {call} {asked} {before} {after} {made} {outcome} {result} m same_call is r =
+reads_unless_blocked {A} read {t} {call} {asked} {before} {after} {made} {outcome} {result} m same_call is r =
     let same : result ≡ read_outcome read made = r ∙ sym (ap (read_outcome read) is) in
     record { comes = rw (← same_call, same) (comes-read (read_outcome read) (unless_blocked ending_in) (unless_blocked read) (unless_blocked-read read) (λ e. refl) t asked before after made (unmade before t) m.comes) }
+
+-- why there is no ending of the caller's among those that are kept
+not_kept : (known few : Bool) (o : Option Completion) → cond known (cond few (cond (is_some o) (Some errno.Busy) None) (Some errno.Exhausted)) (Some errno.NoThread) ≡ None → o ≡ None
+not_kept true true None e = refl
+not_kept true true (Some x) e = absurd (none-some _ (sym e))
+not_kept true false o e = absurd (none-some _ (sym e))
+not_kept false few o e = absurd (none-some _ (sym e))
+
+pub none_kept : (s : Simulation) (t : ℕ) → unmade s t ≡ None → ending_of t s.kept ≡ None
+none_kept s t e = not_kept (is_some (member_at (members_of s.kernel.threads) t)) (nat_lt s.kernel.made (2 ^ 40)) (ending_of t s.kept) e
+
+-- a call that is an event
+pub event_made : {A : Type 0} (read : Option Completion → Result A CallError) (t : ℕ) (call : Call) (before after : Simulation) (endings : List Completion) (result : Result A CallError)
+    → unmade before t ≡ None → IsEvent t call before after endings → result ≡ read (ending_of t endings) → Simulates read t call before after result
+event_made read t call before after endings result free event is =
+    record { comes = subst (Comes read t call before after result) (sym free) (inl (endings, event, is)) }

@@ -1,5 +1,5 @@
--- Calls of many threads over a kernel that one caller holds: which event a call is, what its result is read off, and what becomes of the event's other
--- endings.
+-- Calls of many threads over a kernel that one caller holds: which event a call is, what its result is read
+-- off, and what becomes of the event's other endings.
 use Rattle.std.specs.Prelude.{◌≡◌, ◌⊎◌, ℕ, ◌+◌, ◌^◌, ◌==◌, nat_lt, Bool, true, List, [], ◌∷◌, ◌++◌, find, is_some, Option, None, Some, Result, Ok, Err, if◌then◌else◌, false}
 use Rattle.qbase.specs.declared.errno.Errno.{Errno}
 use Rattle.qbase.specs.declared.errno.Errno.TheVariants as errno
@@ -17,7 +17,8 @@ use Rattle.qcalls.specs.declared.error.CallError.TheVariants.{NoMemory, Unexpect
 use Rattle.qcalls.specs.declared.simulator.Outcome.{Outcome}
 use Rattle.qcalls.specs.declared.simulator.Outcome.TheVariants.{Done, Blocked}
 
--- the kernel's content, and the endings of blocked calls that their threads haven't taken, the oldest in front
+-- the kernel's content, and the endings of blocked calls that their threads haven't taken, the oldest in
+-- front
 pub record Simulation : Type 0 where
   pub kernel : State
   pub kept : List Completion
@@ -35,15 +36,18 @@ abbrev pub without : ℕ → List Completion → List Completion
 without t [] = []
 without t (x ∷ endings) = if x.thread == t then endings else x ∷ without t endings
 
--- why a call of thread t isn't made: it isn't in the roster, or else the kernel has made all the calls that it can number, or else the thread hasn't
--- taken the ending of its last call
+-- why a call of thread t isn't made: it isn't in the roster, or else the kernel has made all the calls that
+-- it can number, or else the thread hasn't taken the ending of its last call
 abbrev pub unmade : Simulation → ℕ → Option Errno
 unmade s t =
     if is_some (member_at (members_of s.kernel.threads) t)
-    then (if nat_lt s.kernel.made (2 ^ 40) then (if is_some (ending_of t s.kept) then Some errno.Busy else None) else Some errno.Exhausted)
+    then (if nat_lt s.kernel.made (2 ^ 40)
+    then (if is_some (ending_of t s.kept) then Some errno.Busy else None)
+    else Some errno.Exhausted)
     else Some errno.NoThread
 
--- thread t made this call, and no other call was made: these are the endings of its event, of which all but the caller's own are kept
+-- thread t made this call, and no other call was made: these are the endings of its event, of which all but
+-- the caller's own are kept
 pub record IsEvent (t : ℕ) (call : Call) (before after : Simulation) (endings : List Completion) : Type 0 where
   pub event : AnswersAtTraces before.kernel t call endings after.kernel
   pub refused : LeavesIfRefused before.kernel t call endings after.kernel
@@ -51,26 +55,32 @@ pub record IsEvent (t : ℕ) (call : Call) (before after : Simulation) (endings 
   pub made : after.kernel.made ≡ before.kernel.made + 1
   pub kept : after.kept ≡ before.kept ++ without t endings
 
--- what becomes of a call that isn't made with this errno, and of one that is made or for which there is no memory; the result is read off the caller's own
--- ending of the event, if it has one
-abbrev pub Comes : {A : Type 0} → (Option Completion → Result A CallError) → ℕ → Call → Simulation → Simulation → Result A CallError → Option Errno → Type 0
+-- how a result is read off the caller's own ending of the event, if it has one
+abbrev pub OwnReading : Type 0 → Type 0
+OwnReading A = Option Completion → Result A CallError
+
+-- what becomes of a call that isn't made with this errno, and of one that is made or for which there is no
+-- memory; the result is read off the caller's own ending of the event, if it has one
+abbrev pub Comes : {A : Type 0} → OwnReading A → ℕ → Call → Simulation → Simulation → Result A CallError
+    → Option Errno → Type 0
 Comes read t call before after result (Some e) = (after ≡ before) × (result ≡ Err (refusal e))
 Comes read t call before after result None =
     ((endings : List Completion) × IsEvent t call before after endings × (result ≡ read (ending_of t endings)))
     ⊎ ((after ≡ before) × (result ≡ Err NoMemory))
 
 -- a call of thread t
-pub record Simulates {A : Type 0} (read : Option Completion → Result A CallError) (t : ℕ) (call : Call) (before after : Simulation)
+pub record Simulates {A : Type 0} (read : OwnReading A) (t : ℕ) (call : Call) (before after : Simulation)
     (result : Result A CallError) : Type 0 where
   pub comes : Comes read t call before after result (unmade before t)
 
 -- a call with bytes of thread t, or there was no memory for them and nothing was done
-abbrev pub SimulatesOfBytes : {A : Type 0} → (Option Completion → Result A CallError) → ℕ → Call → Simulation → Simulation → Result A CallError → Type 0
+abbrev pub SimulatesOfBytes : {A : Type 0} → OwnReading A → ℕ → Call → Simulation → Simulation
+    → Result A CallError → Type 0
 SimulatesOfBytes read t call before after result =
     Simulates read t call before after result ⊎ ((after ≡ before) × (result ≡ Err NoMemory))
 
 -- the result of a call that ends in its own event
-abbrev pub at_once : {A : Type 0} → Reading A → Option Completion → Result A CallError
+abbrev pub at_once : {A : Type 0} → Reading A → OwnReading A
 at_once read None = Err Unexpected
 at_once read (Some x) = read false x.mark x.buffer
 
@@ -80,7 +90,7 @@ done (Ok x) = Ok (Done x)
 done (Err e) = Err e
 
 -- the result of a call in which its thread may be blocked
-abbrev pub unless_blocked : {A : Type 0} → Reading A → Option Completion → Result (Outcome A) CallError
+abbrev pub unless_blocked : {A : Type 0} → Reading A → OwnReading (Outcome A)
 unless_blocked read None = Ok Blocked
 unless_blocked read (Some x) = done (read false x.mark x.buffer)
 

@@ -1,9 +1,10 @@
 //! The calls of many threads over a kernel that one caller holds.
 
-ghost use Rattle.std.specs.Prelude.{◌≡◌, [], Some, is_some, option_map, IfOk, IfErr};
+ghost use Rattle.std.specs.Prelude.{◌≡◌, ◌≤◌, [], Some, is_some, length, option_map, IfOk, IfErr};
 ghost use Rattle.qkernel.specs.Stands.{StandsAt};
-ghost use Rattle.qstate.specs.Thread.{members_of};
+ghost use Rattle.qstate.specs.Thread.{open_in};
 ghost use Rattle.qcalls.specs.Making.{ending_in};
+ghost use Rattle.qcalls.specs.Simulating.{done};
 ghost use Rattle.qcalls.specs.declared.error.CallError.TheVariants as error;
 
 mod channels;
@@ -34,13 +35,14 @@ pub enum Outcome<T> {
     Blocked,
 }
 
-/// A kernel in the hands of one caller, who makes the calls of all its threads. Each call is an event, and may end blocked
-/// calls of other threads: their endings are kept until `take` asks for them. Contracts see the kernel's content, and the
-/// endings that are kept.
+/// A kernel in the hands of one caller, who makes the calls of all its threads. Each call is an event, and may end
+/// blocked calls of other threads: their endings are kept until `take` asks for them. Contracts see the kernel's
+/// content, and the endings that are kept.
 ///
 /// Each method refuses a call before it is made, and then changes nothing: with `NoThread` if the thread isn't in the
 /// roster, `Exhausted` at 2^40 calls, and `Busy` if the ending of the thread's last call isn't taken yet. The kernel
-/// refuses a call with `Busy` if its thread is blocked, and with `Down` after `shutdown`; that is an event, which it counts.
+/// refuses a call with `Busy` if its thread is blocked, and with `Down` after `shutdown`; that is an event, which it
+/// counts.
 #[derive(Drop)]
 pub struct Simulator {
     alloc: Global,
@@ -61,11 +63,21 @@ impl Model for Simulator {
     ghost invariant = { λ s. s.endings.items ≡ [] };
 }
 
+/// A call that ended in its own event and came to this.
+fn done<T>(came: Result<T, CallError>) -> Result<Outcome<T>, CallError>
+    ensures { result ≡ done came }
+{
+    match came {
+        Ok(value) => Ok(Outcome::Done(value)),
+        Err(error) => Err(error),
+    }
+}
+
 impl Simulator {
     ghost use Rattle.qcalls.specs.Simulating.{Simulates, at_once, unless_blocked, unmade, ending_of, without, ending_after_wait, oldest, later};
 
-    /// A simulator of a kernel without channels, in which all threads of the roster are ready. The room for the kernel and
-    /// for endings is made here; `NoMemory` is the only error.
+    /// A simulator of a kernel without channels, in which all threads of the roster are ready. The room for the
+    /// kernel and for endings is made here; `NoMemory` is the only error.
     pub fn new(alloc: Global, roster: &Roster) -> Result<Simulator, CallError>
         ensures stands { IfOk result (λ s. StandsAt roster.now s.kernel []) }
         ensures none { IfOk result (λ s. s.kept ≡ []) }
@@ -87,6 +99,13 @@ impl Simulator {
         &self.kernel
     }
 
+    /// Whether a thread is blocked in a call.
+    pub fn is_blocked(&self, thread: ThreadNo) -> bool
+        ensures { result ≡ is_some (open_in self.now.kernel.threads thread) }
+    {
+        self.kernel.is_blocked(thread)
+    }
+
     /// Whether an ending waits for a thread to take it.
     pub fn has_ended(&self, thread: ThreadNo) -> bool
         ensures { result ≡ is_some (ending_of thread self.now.kept) }
@@ -94,8 +113,8 @@ impl Simulator {
         kept::has(&self.kept, thread)
     }
 
-    /// How a thread's blocked call ended, if it ended and this isn't taken yet. `Ending::answer` returns the result of a
-    /// `msg_send`, `received` that of a `msg_receive`, and `pulse` that of a `msg_receive_pulse`.
+    /// How a thread's blocked call ended, if it ended and this isn't taken yet. `Ending::answer` returns the result
+    /// of a `msg_send`, `received` that of a `msg_receive`, and `pulse` that of a `msg_receive_pulse`.
     pub fn take(&mut self, thread: ThreadNo) -> Option<Ending>
         ensures ending { result ≡ option_map ending_after_wait (ending_of thread self.old.kept) }
         ensures rest { self.new ≡ record self.old { kept = without thread self.old.kept } }
@@ -124,11 +143,15 @@ impl Simulator {
 
     /// Why no call of a thread is made.
     fn unmade(&self, thread: ThreadNo) -> Option<Errno>
-        ensures { result ≡ unmade self.now thread }
+        ensures why { result ≡ unmade self.now thread }
+
+        // What is so of every kernel.
+        ensures few { length self.now.kernel.threads ≤ 64 }
     {
+        let made = self.kernel.made();
         if !self.kernel.knows(thread) {
             Some(Errno::NoThread)
-        } else if self.kernel.made() >= CALL_LIMIT {
+        } else if made >= CALL_LIMIT {
             Some(Errno::Exhausted)
         } else if self.has_ended(thread) {
             Some(Errno::Busy)
@@ -144,7 +167,7 @@ impl Simulator {
         if let Some(errno) = self.unmade(thread) {
             return Err(refusal(errno));
         }
-        self.kept.reserve(THREAD_LIMIT)?;
+        self.kept.reserve(THREAD_LIMIT + 1)?;
         self.kernel.step(thread, call, &mut self.endings);
         append(&mut self.kept, &mut self.endings);
         Ok(match take_of(&mut self.kept, thread) {

@@ -88,9 +88,11 @@ fn serve(rt: &impl Abort, simulator: &mut Simulator, chid: ChannelId) -> Result<
 fn send_and_reply(rt: &impl Abort, alloc: Global) -> Result<(), CallError> {
     let (mut simulator, chid, coid) = simulated(rt, alloc, ChannelFlags::of(0))?;
     blocked(rt, simulator.msg_send(CLIENT, coid, b"ping", 8));
+    assert!(rt; simulator.is_blocked(CLIENT));
     assert!(rt; !simulator.has_ended(CLIENT));
     assert!(rt; simulator.take(CLIENT).is_none());
     serve(rt, &mut simulator, chid)?;
+    assert!(rt; !simulator.is_blocked(CLIENT));
     assert!(rt; simulator.has_ended(CLIENT));
     let replied = answer(rt, &mut simulator, CLIENT)?;
     assert!(rt; replied.status == -7);
@@ -209,6 +211,7 @@ fn refuse(rt: &impl Abort, alloc: Global) -> Result<(), CallError> {
     assert!(rt; matches!(nobody, Err(CallError::Refused(Errno::NoThread))));
     assert!(rt; simulator.kernel().made() == made);
     assert!(rt; simulator.take(NOBODY).is_none());
+    assert!(rt; !simulator.is_blocked(NOBODY));
     let unknown = simulator.msg_send(CLIENT, ConnectionId(99), b"", 0);
     assert!(rt; matches!(unknown, Err(CallError::Refused(Errno::Badf))));
     let stale = simulator.msg_reply(SERVER, ReceiveId(1), 0, b"");

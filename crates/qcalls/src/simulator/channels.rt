@@ -10,8 +10,8 @@ use qbase::ids::{ChannelId, ConnectionId, ThreadNo};
 use qmodel::call::Call;
 
 impl Simulator {
-    /// Creates a channel that the thread's process owns (`ChannelCreate`). Refused with `Inval` if a flag is unknown, and
-    /// `Again` at 64 open channels.
+    /// Creates a channel that the thread's process owns (`ChannelCreate`). Refused with `Inval` if a flag is unknown,
+    /// and `Again` at 64 open channels.
     pub fn channel_create(
         &mut self,
         thread: ThreadNo,
@@ -22,16 +22,16 @@ impl Simulator {
         self.complete(thread, Call::ChannelCreate(flags))?.channel()
     }
 
-    /// Destroys a channel of the thread's process, and cuts each call that is blocked on it (`ChannelDestroy`). Refused
-    /// with `Inval` if the channel isn't open or is another process's.
+    /// Destroys a channel of the thread's process, and cuts each call that is blocked on it (`ChannelDestroy`).
+    /// Refused with `Inval` if the channel isn't open or is another process's.
     pub fn channel_destroy(&mut self, thread: ThreadNo, chid: ChannelId) -> Result<(), CallError>
         ensures { Simulates (at_once done_in) thread (Call.ChannelDestroy chid) self.old self.new result }
     {
         self.complete(thread, Call::ChannelDestroy(chid))?.done()
     }
 
-    /// Attaches the thread's process to a channel of any process (`ConnectAttach`). Refused with `Srch` if the channel
-    /// isn't open, and `Again` at 1,024 connections.
+    /// Attaches the thread's process to a channel of any process (`ConnectAttach`). Refused with `Srch` if the
+    /// channel isn't open, and `Again` at 1,024 connections.
     pub fn connect_attach(
         &mut self,
         thread: ThreadNo,
@@ -39,11 +39,12 @@ impl Simulator {
     ) -> Result<ConnectionId, CallError>
         ensures { Simulates (at_once connection_in) thread (Call.ConnectAttach chid) self.old self.new result }
     {
-        self.complete(thread, Call::ConnectAttach(chid))?.connection()
+        self.complete(thread, Call::ConnectAttach(chid))?
+            .connection()
     }
 
-    /// Detaches a connection of the thread's process, and cuts each send over it (`ConnectDetach`). Refused with `Inval`
-    /// if the connection isn't live or is another process's, and `Again` if a pulse is due at 1,024 of them.
+    /// Detaches a connection of the thread's process, and cuts each send over it (`ConnectDetach`). Refused with
+    /// `Inval` if the connection isn't live or is another process's, and `Again` if a pulse is due at 1,024 of them.
     pub fn connect_detach(&mut self, thread: ThreadNo, coid: ConnectionId) -> Result<(), CallError>
         ensures { Simulates (at_once done_in) thread (Call.ConnectDetach coid) self.old self.new result }
     {

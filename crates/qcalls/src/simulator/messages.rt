@@ -4,7 +4,7 @@ ghost use Rattle.std.specs.Prelude.{replicate};
 ghost use Rattle.qcalls.specs.Results.{answer_in, bytes_in, count_in, done_in, info_in, received_in};
 ghost use Rattle.qcalls.specs.Simulating.{Simulates, SimulatesOfBytes, at_once, unless_blocked};
 
-use super::{Outcome, Simulator};
+use super::{Outcome, Simulator, done};
 use crate::error::CallError;
 use crate::results::{Answer, Received};
 use qbase::bytes::Bytes;
@@ -12,9 +12,9 @@ use qbase::ids::{ChannelId, ConnectionId, ReceiveId, ThreadNo};
 use qmodel::call::{Call, Info};
 
 impl Simulator {
-    /// Sends a message over a connection, to be answered in a buffer of so many bytes (`MsgSend`). The thread is blocked
-    /// until the answer, which `Ending::answer` returns. Refused with `Badf` if the connection isn't live, is another
-    /// process's, or its channel isn't open.
+    /// Sends a message over a connection, to be answered in a buffer of so many bytes (`MsgSend`). The thread is
+    /// blocked until the answer, which `Ending::answer` returns. Refused with `Badf` if the connection isn't live, is
+    /// another process's, or its channel isn't open.
     pub fn msg_send(
         &mut self,
         thread: ThreadNo,
@@ -32,14 +32,14 @@ impl Simulator {
             reply_buffer,
         };
         match self.make(thread, send)? {
-            Outcome::Done(ending) => Ok(Outcome::Done(ending.answer()?)),
+            Outcome::Done(ending) => done(ending.answer()),
             Outcome::Blocked => Ok(Outcome::Blocked),
         }
     }
 
     /// Takes a message, into a buffer of so many bytes, or a pulse of a channel (`MsgReceive`). If there is none, the
-    /// thread is blocked until one comes, which `Ending::received` returns. Refused with `Srch` if the channel isn't open
-    /// or is another process's.
+    /// thread is blocked until one comes, which `Ending::received` returns. Refused with `Srch` if the channel isn't
+    /// open or is another process's.
     pub fn msg_receive(
         &mut self,
         thread: ThreadNo,
@@ -50,13 +50,13 @@ impl Simulator {
     {
         let buffer = Bytes::filled(self.alloc, 0, len)?;
         match self.make(thread, Call::Receive { chid, buffer })? {
-            Outcome::Done(ending) => Ok(Outcome::Done(ending.received()?)),
+            Outcome::Done(ending) => done(ending.received()),
             Outcome::Blocked => Ok(Outcome::Blocked),
         }
     }
 
-    /// Answers a held message with a status and bytes (`MsgReply`). Refused with `Srch` if the message isn't held, or its
-    /// channel is another process's.
+    /// Answers a held message with a status and bytes (`MsgReply`). Refused with `Srch` if the message isn't held, or
+    /// its channel is another process's.
     pub fn msg_reply(
         &mut self,
         thread: ThreadNo,
@@ -107,8 +107,8 @@ impl Simulator {
         self.complete(thread, read)?.bytes()
     }
 
-    /// Writes bytes over the reply buffer of a held message's sender, from the offset on, and returns how many had room
-    /// (`MsgWrite`). Refused as `msg_reply`.
+    /// Writes bytes over the reply buffer of a held message's sender, from the offset on, and returns how many had
+    /// room (`MsgWrite`). Refused as `msg_reply`.
     pub fn msg_write(
         &mut self,
         thread: ThreadNo,

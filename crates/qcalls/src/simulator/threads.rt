@@ -11,8 +11,8 @@ use qbase::priority::Priority;
 use qmodel::call::Call;
 
 impl Simulator {
-    /// Gives a thread of the caller's process, maybe the caller itself, another priority (`SchedSet`). Refused with `Srch`
-    /// if the thread isn't in the roster or is another process's.
+    /// Gives a thread of the caller's process, maybe the caller itself, another priority (`SchedSet`). Refused with
+    /// `Srch` if the thread isn't in the roster or is another process's.
     pub fn sched_set(
         &mut self,
         caller: ThreadNo,
@@ -25,9 +25,9 @@ impl Simulator {
             .done()
     }
 
-    /// Ends what a thread of the caller's process is blocked in, or tells its server by a pulse if the channel has the
-    /// flag `UNBLOCK`: own profile, for a signal or a timeout. Refused with `Srch` as `sched_set`, and `Again` if a pulse
-    /// is due at 1,024 of them.
+    /// Ends what a thread of the caller's process is blocked in, or tells its server by a pulse if the channel has
+    /// the flag `UNBLOCK`: own profile, for a signal or a timeout. Refused with `Srch` as `sched_set`, and `Again` if
+    /// a pulse is due at 1,024 of them.
     pub fn unblock(&mut self, caller: ThreadNo, thread: ThreadNo) -> Result<(), CallError>
         ensures { Simulates (at_once done_in) caller (Call.Unblock thread) self.old self.new result }
     {
@@ -42,8 +42,8 @@ impl Simulator {
         self.complete(caller, Call::State(thread))?.state()
     }
 
-    /// Cuts every open call, and has every later one refused with `Down`: own profile. The endings of the calls that it
-    /// cuts wait for their threads.
+    /// Cuts every open call, and has every later one refused with `Down`: own profile. The endings of the calls that
+    /// it cuts wait for their threads.
     pub fn shutdown(&mut self, caller: ThreadNo) -> Result<(), CallError>
         ensures { Simulates (at_once done_in) caller Call.Shutdown self.old self.new result }
     {

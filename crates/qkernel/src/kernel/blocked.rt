@@ -1,6 +1,7 @@
 //! Who is blocked.
 
-ghost use Rattle.std.specs.Prelude.{◌≡◌, ◌++◌, List, Some, IfOk, OnOk};
+ghost use Rattle.std.specs.Prelude.{◌≡◌, ◌++◌, List, Some, is_some, IfOk, OnOk};
+ghost use Rattle.qstate.specs.Thread.{open_in};
 ghost use Rattle.std.specs.Option.{option_to_list};
 ghost use Rattle.qtables.specs.Entries.{entry_at};
 ghost use Rattle.qtables.specs.declared.member.Member.{Member};
@@ -8,9 +9,10 @@ ghost use Rattle.qmodel.specs.Blocked.{blocked_thread, blocked_threads_at};
 ghost use Rattle.qmodel.specs.Trace.{Trace};
 
 use super::Kernel;
+use qbase::ids::ThreadNo;
 use qbase::state::ThreadState;
 use qmodel::open_call::Blocked;
-use qstate::thread::Thread;
+use qstate::thread::{Thread, is_blocked, seat_of};
 use qstate::thread_state::state_of_wait;
 use qtables::connections::Connections;
 use std::alloc::{AllocError, Global};
@@ -36,6 +38,16 @@ fn tell(
 
 impl Kernel {
     ghost use Rattle.qkernel.specs.Stands.{StandsAt};
+
+    /// Whether the thread is blocked. One that isn't in the roster isn't.
+    pub fn is_blocked(&self, thread: ThreadNo) -> bool
+        ensures { result ≡ is_some (open_in self.now.threads thread) }
+    {
+        match seat_of(&self.threads, thread) {
+            Some(seat) => is_blocked(&self.threads, seat, thread),
+            None => false,
+        }
+    }
 
     /// The threads that are blocked, in rising number, for a text of what a run left. The list is all that
     /// takes memory.

@@ -4,4 +4,4 @@ use Rattle.qcalls.specs.Results.{channel_in}
 use Rattle.qcalls.proofs.simulator.Simulator.channel_create.Goals as goal
 
 pub returns : goal.returns
-returns c = reads_at_once {read = channel_in} c.complete.ensures refl c.in_ok-complete.was c.channel.ensures
+returns c = reads_at_once channel_in c.complete.ensures refl c.in_ok-complete.was c.channel.ensures

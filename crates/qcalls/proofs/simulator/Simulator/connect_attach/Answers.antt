@@ -4,4 +4,4 @@ use Rattle.qcalls.specs.Results.{connection_in}
 use Rattle.qcalls.proofs.simulator.Simulator.connect_attach.Goals as goal
 
 pub returns : goal.returns
-returns c = reads_at_once {read = connection_in} c.complete.ensures refl c.in_ok-complete.was c.connection.ensures
+returns c = reads_at_once connection_in c.complete.ensures refl c.in_ok-complete.was c.connection.ensures

@@ -4,4 +4,4 @@ use Rattle.qcalls.specs.Results.{info_in}
 use Rattle.qcalls.proofs.simulator.Simulator.msg_info.Goals as goal
 
 pub returns : goal.returns
-returns c = reads_at_once {read = info_in} c.complete.ensures refl c.in_ok-complete.was c.info.ensures
+returns c = reads_at_once info_in c.complete.ensures refl c.in_ok-complete.was c.info.ensures

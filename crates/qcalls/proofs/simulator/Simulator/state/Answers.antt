@@ -4,4 +4,4 @@ use Rattle.qcalls.specs.Results.{state_in}
 use Rattle.qcalls.proofs.simulator.Simulator.state.Goals as goal
 
 pub returns : goal.returns
-returns c = reads_at_once {read = state_in} c.complete.ensures refl c.in_ok-complete.was c.state.ensures
+returns c = reads_at_once state_in c.complete.ensures refl c.in_ok-complete.was c.state.ensures

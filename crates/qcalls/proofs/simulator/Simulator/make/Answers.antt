@@ -1,0 +1,36 @@
+use Rattle.std.proofs.Common.{◌≡◌, ◌∙◌, ◌++◌, ◌≤◌, length, ap, sym, arith, Ok}
+use Rattle.std.specs.Prelude.{None}
+use Rattle.qstate.specs.Thread.{blocked_count}
+use Rattle.qkernel.proofs.Running.{blocked_most}
+use Rattle.qcalls.specs.Making.{ending_in}
+use Rattle.qcalls.specs.Simulating.{Simulation, ending_of, unless_blocked, unmade, without}
+use Rattle.qcalls.proofs.Keeping.{first_behind}
+use Rattle.qcalls.proofs.Simulated.{event_made, none_kept}
+use Rattle.qcalls.proofs.simulator.Simulator.make.Goals.{in-Some-take_of, in-None}
+use Rattle.qcalls.proofs.simulator.Simulator.make.Goals as goal
+
+pub append-requires : goal.append-requires
+append-requires c =
+    let few : length c.self.inside.kernel.threads ≤ 64 = rw (← c.self.view_is) at c.unmade.ensures.few in
+    let most : blocked_count c.self.inside.kernel.threads ≤ length c.self.inside.kernel.threads = blocked_most c.self.inside.kernel.threads in
+    omega (arith, most, few, c.in_ok-reserve.ensures.ok, c.step.ensures.room)
+
+pub returns : goal.returns
+returns c =
+    let t = c.args.thread in
+    let kept = c.self.inside.kept.items in
+    let endings = c.step.new.endings.items in
+    let before : Simulation = record { kernel = c.self.inside.kernel; kept = kept } in
+    let after : Simulation = record { kernel = c.step.new.self; kept = c.take_of.new.kept.items } in
+    let free : unmade before t ≡ None = rw (← c.self.view_is) at (sym c.unmade.ensures.why ∙ c.in_default.is) in
+    let behind = first_behind t kept endings (none_kept before t free) in
+    let all : c.append.new.kept.items ≡ kept ++ endings = c.append.ensures.items ∙ ap (λ xs. xs ++ endings) c.reserve.ensures.items in
+    let own : c.take_of.result ≡ ending_of t endings = c.take_of.ensures.ending ∙ ap (ending_of t) all ∙ behind.0 in
+    let rest : after.kept ≡ kept ++ without t endings = c.take_of.ensures.rest ∙ ap (without t) all ∙ behind.1 in
+    let told : Ok c.match-take_of.result ≡ unless_blocked ending_in (ending_of t endings) =
+    elim c.match-take_of.branch [
+      | in-Some-take_of w ↦ ap Ok w.result-is ∙ ap (unless_blocked ending_in) (sym w.in-Some-take_of.is ∙ own)
+      | in-None w ↦ ap Ok w.result-is ∙ ap (unless_blocked ending_in) (sym w.in-None.is ∙ own)
+    ] in
+    rw (← c.self.view_is) (event_made (unless_blocked ending_in) t c.args.call before after endings (Ok c.match-take_of.result) free
+    record { event = c.step.ensures.event; refused = c.step.ensures.refused; roster = c.step.ensures.roster; made = c.step.ensures.made; kept = rest } told)

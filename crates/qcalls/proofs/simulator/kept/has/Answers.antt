@@ -1,0 +1,7 @@
+use Rattle.std.proofs.Common.{ap, ◌∙◌}
+use Rattle.std.specs.Prelude.{is_some}
+use Rattle.qcalls.proofs.Keeping.{has_place}
+use Rattle.qcalls.proofs.simulator.kept.has.Goals as goal
+
+pub returns : goal.returns
+returns c = c.is_some.ensures ∙ ap is_some c.place_of.ensures ∙ has_place c.args.thread c.args.kept.now

@@ -1,0 +1,25 @@
+use Rattle.std.proofs.Common.{◌≡◌, ◌∙◌, sym, ap}
+use Rattle.std.specs.Prelude.{None, Some, position}
+use Rattle.qcalls.specs.Simulating.{is_of}
+use Rattle.qcalls.proofs.Keeping.{found_at, none_at}
+use Rattle.qcalls.proofs.simulator.kept.take_of.Goals as goal
+
+pub returns-in_err-place-clause-ending : goal.returns-in_err-place-clause-ending
+returns-in_err-place-clause-ending c =
+    let none : position (is_of c.args.thread) c.args.kept.now.items ≡ None = rw c.deref.ensures.value at (sym c.place_of.ensures ∙ c.in_err-place.was) in
+    c.from_residual.ensures ∙ sym (none_at c.args.thread c.args.kept.now.items none).0
+
+pub returns-in_err-place-clause-rest : goal.returns-in_err-place-clause-rest
+returns-in_err-place-clause-rest c =
+    let none : position (is_of c.args.thread) c.args.kept.now.items ≡ None = rw c.deref.ensures.value at (sym c.place_of.ensures ∙ c.in_err-place.was) in
+    sym (none_at c.args.thread c.args.kept.now.items none).1
+
+pub returns-clause-ending : goal.returns-clause-ending
+returns-clause-ending c =
+    let some : position (is_of c.args.thread) c.args.kept.now.items ≡ Some c.in_ok-place.place = rw c.deref.ensures.value at (sym c.place_of.ensures ∙ c.in_ok-place.was) in
+    ap Some c.remove.ensures.value ∙ sym ((found_at c.args.thread c.args.kept.now.items c.in_ok-place.place some).first c.remove.result)
+
+pub returns-clause-rest : goal.returns-clause-rest
+returns-clause-rest c =
+    let some : position (is_of c.args.thread) c.args.kept.now.items ≡ Some c.in_ok-place.place = rw c.deref.ensures.value at (sym c.place_of.ensures ∙ c.in_ok-place.was) in
+    c.remove.ensures.items ∙ sym (found_at c.args.thread c.args.kept.now.items c.in_ok-place.place some).rest
