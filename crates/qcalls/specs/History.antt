@@ -28,7 +28,8 @@ abbrev pub told_by_both : CalledBoth → Told
 told_by_both (Both x second) = told_by second
 told_by_both (First first given) = told_by first
 
--- the second of two calls was made just where the first ended in its own event and did what it says; else it is given back
+-- the second of two calls was made just where the first ended in its own event and did what it says; else
+-- it is given back
 abbrev pub IsInTurn : Call → CalledBoth → Type 0
 IsInTurn d (Both x second) = is_ok x.mark ≡ true
 IsInTurn d (First first given) = (is_accepted first ≡ false) × (given ≡ d)

@@ -58,7 +58,8 @@ Leads called.Blocked before after result =
     (x : Completion) × (after.taken ≡ before.taken ++ x ∷ []) × (after.pending ≡ false)
     × (after.asked ≡ before.asked) × (after.told ≡ before.told) × (result ≡ ending_in true x.mark x.buffer)
 
--- a call is made after one that did what it says; after any other nothing is done, and its error is the result
+-- a call is made after one that did what it says; after any other nothing is done, and its error is the
+-- result
 abbrev pub Follows : {A : Type 0} → Reading A → Call → Result ⊤ CallError → History → History
     → Result A CallError → Type 0
 Follows read call (Ok done) before after result = Makes read call before after result

@@ -1,6 +1,8 @@
 -- Calls of many threads over a kernel that one caller holds: which event a call is, what its result is read
 -- off, and what becomes of the event's other endings.
-use Rattle.std.specs.Prelude.{◌≡◌, ◌⊎◌, ℕ, ◌+◌, ◌^◌, ◌==◌, nat_lt, Bool, true, List, [], ◌∷◌, ◌++◌, find, is_some, Option, None, Some, Result, Ok, Err, if◌then◌else◌, false}
+use Rattle.std.specs.Prelude.{◌≡◌, ◌⊎◌, ℕ, ◌+◌, ◌^◌, ◌==◌, nat_lt, Bool, true, List, []}
+use Rattle.std.specs.Prelude.{◌∷◌, ◌++◌, find, is_some, Option, None}
+use Rattle.std.specs.Prelude.{Some, Result, Ok, Err, if◌then◌else◌, false}
 use Rattle.qbase.specs.declared.errno.Errno.{Errno}
 use Rattle.qbase.specs.declared.errno.Errno.TheVariants as errno
 use Rattle.qtables.specs.Members.{member_at}
@@ -48,7 +50,8 @@ unmade s t =
 
 -- thread t made this call, and no other call was made: these are the endings of its event, of which all but
 -- the caller's own are kept
-pub record IsEvent (t : ℕ) (call : Call) (before after : Simulation) (endings : List Completion) : Type 0 where
+pub record IsEvent (t : ℕ) (call : Call) (before after : Simulation)
+    (endings : List Completion) : Type 0 where
   pub event : AnswersAtTraces before.kernel t call endings after.kernel
   pub refused : LeavesIfRefused before.kernel t call endings after.kernel
   pub roster : members_of after.kernel.threads ≡ members_of before.kernel.threads
@@ -65,7 +68,8 @@ abbrev pub Comes : {A : Type 0} → OwnReading A → ℕ → Call → Simulation
     → Option Errno → Type 0
 Comes read t call before after result (Some e) = (after ≡ before) × (result ≡ Err (refusal e))
 Comes read t call before after result None =
-    ((endings : List Completion) × IsEvent t call before after endings × (result ≡ read (ending_of t endings)))
+    ((endings : List Completion) × IsEvent t call before after endings
+    × (result ≡ read (ending_of t endings)))
     ⊎ ((after ≡ before) × (result ≡ Err NoMemory))
 
 -- a call of thread t

@@ -15,20 +15,20 @@ returns-in_err-ending_of-in-First g c =
     let was = c.in-First.ensures in
     let p = err_from_is_err_and c.from_residual.result c.from_residual.ensures.1 in
     first_fails c.args.first c.args.second c.in-First.called c.ending_of-in-First.result
-      (record { asked = was.asked; taken = was.taken; pending = was.pending; told = was.told }) c.ending_of-in-First.ensures
-      (ap (read_off done_in) c.in_err-ending_of-in-First.was) (p.1 ∙ ap Err p.2)
+    (record { asked = was.asked; taken = was.taken; pending = was.pending; told = was.told }) c.ending_of-in-First.ensures
+    (ap (read_off done_in) c.in_err-ending_of-in-First.was) (p.1 ∙ ap Err p.2)
 
 pub returns-in_err-done-in-First : goal.returns-in_err-done-in-First
 returns-in_err-done-in-First g c =
     let was = c.in-First.ensures in
     let p = err_from_is_err_and c.from_residual-in_err-done-in-First.result c.from_residual-in_err-done-in-First.ensures.1 in
     first_fails c.args.first c.args.second c.in-First.called c.ending_of-in-First.result
-      (record { asked = was.asked; taken = was.taken; pending = was.pending; told = was.told }) c.ending_of-in-First.ensures
-      (reads_done c.in_ok-ending_of-in-First.was c.done.ensures c.in_err-done-in-First.was) (p.1 ∙ ap Err p.2)
+    (record { asked = was.asked; taken = was.taken; pending = was.pending; told = was.told }) c.ending_of-in-First.ensures
+    (reads_done c.in_ok-ending_of-in-First.was c.done.ensures c.in_err-done-in-First.was) (p.1 ∙ ap Err p.2)
 
 pub returns : goal.returns
 returns g c =
     let was = c.in-First.ensures in
     second_makes c.args.first c.args.second c.in-First.called c.ending_of-in-First.result
-      (record { asked = was.asked; taken = was.taken; pending = was.pending; told = was.told }) c.ending_of-in-First.ensures
-      (reads_done c.in_ok-ending_of-in-First.was c.done.ensures c.in_ok-done-in-First.was) was.turn.1 c.make.ensures
+    (record { asked = was.asked; taken = was.taken; pending = was.pending; told = was.told }) c.ending_of-in-First.ensures
+    (reads_done c.in_ok-ending_of-in-First.was c.done.ensures c.in_ok-done-in-First.was) was.turn.1 c.make.ensures
