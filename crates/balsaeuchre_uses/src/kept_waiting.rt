@@ -146,8 +146,20 @@ fn serve_one(
     }
 }
 
-/// Both clients ask for the resource, and the first gives it back. It gives the clients' answers in the order in
-/// which they came.
+/// A client sends its wish, and the server serves it.
+fn ask(
+    simulator: &mut Simulator,
+    client: &mut Client,
+    wish: u8,
+    chid: ChannelId,
+    resource: &mut Resource,
+) -> Result<(), CallError> {
+    client.wish(simulator, wish)?;
+    serve_one(simulator, chid, resource)
+}
+
+/// Both clients ask for the resource, and the first gives it back. It gives the clients' answers in the order in which
+/// they came.
 pub fn kept_waiting(alloc: Global) -> Result<Vec<Reply>, CallError> {
     let mut simulator = simulator_of_three(alloc)?;
     let chid = simulator.channel_create(SERVER, ChannelFlags::of(0))?;
@@ -155,13 +167,10 @@ pub fn kept_waiting(alloc: Global) -> Result<Vec<Reply>, CallError> {
     let mut second = Client::attach(&mut simulator, SECOND, chid)?;
     let mut resource = Resource::new(alloc);
     let mut replies = Vec::new(alloc);
-    first.wish(&mut simulator, TAKE)?;
-    serve_one(&mut simulator, chid, &mut resource)?;
+    ask(&mut simulator, &mut first, TAKE, chid, &mut resource)?;
     first.take_answer(&mut simulator, &mut replies)?;
-    second.wish(&mut simulator, TAKE)?;
-    serve_one(&mut simulator, chid, &mut resource)?;
-    first.wish(&mut simulator, GIVE_BACK)?;
-    serve_one(&mut simulator, chid, &mut resource)?;
+    ask(&mut simulator, &mut second, TAKE, chid, &mut resource)?;
+    ask(&mut simulator, &mut first, GIVE_BACK, chid, &mut resource)?;
     first.take_answer(&mut simulator, &mut replies)?;
     second.take_answer(&mut simulator, &mut replies)?;
     Ok(replies)
