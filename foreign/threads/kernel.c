@@ -58,19 +58,17 @@ static int open_kernel(neutrino *k, const struct neutrino_thread *threads, size_
 
 neutrino *neutrino_open_version(uint32_t version, const struct neutrino_thread *threads, size_t count) {
     int error = version != NEUTRINO_VERSION || balsaeuchre_version() != BALSAEUCHRE_VERSION ? ENOEXEC : 0;
-    neutrino *k = NULL;
     if (!error && !pthread_once(&once, prepare)) error = refused;
-    if (!error && count > PLACES) error = EAGAIN;
+    if (!error) error = count > PLACES ? EAGAIN : count ? 0 : EINVAL;
     for (size_t at = 0; !error && at < count; at++) {
         if (!threads[at].tid || !threads[at].pid) error = EINVAL;
     }
-    if (!error) {
-        k = aligned_alloc(_Alignof(neutrino), sizeof *k);
-        error = k ? 0 : ENOMEM;
-    }
+    neutrino *k = error ? NULL : aligned_alloc(_Alignof(neutrino), sizeof *k);
     if (k) {
         memset(k, 0, sizeof *k);
         error = open_kernel(k, threads, count);
+    } else if (!error) {
+        error = ENOMEM;
     }
     if (!error) return k;
     free(k);

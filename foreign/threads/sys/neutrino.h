@@ -63,7 +63,8 @@ int neutrino_join(neutrino *kernel, int tid);
  * that it received stay held, and the other threads of its process can answer them. */
 int neutrino_leave(void);
 
-/* Ends every call that waits with ESRCH; every later call fails with ESHUTDOWN. The caller need not have joined. */
+/* Ends every call that waits with ESRCH; every later call fails with ESHUTDOWN, and once more is no error. The caller need not
+ * have joined. */
 int neutrino_shutdown(neutrino *kernel);
 
 /* Frees the kernel. -1 and errno: EBUSY (a thread is joined), EPERM (in a forked child). */

@@ -185,7 +185,7 @@ void shutdowns(void) {
     fails(ChannelCreate(0), ESHUTDOWN);
     fails(MsgReceive(chid, room, 8, NULL), ESHUTDOWN);
     fails(MsgSendPulse(1, -1, 1, 1), ESHUTDOWN);
-    fails(neutrino_shutdown(kernel), ESHUTDOWN);
+    check(neutrino_shutdown(kernel) == 0); /* once more is no error */
     close_few(kernel);
     kernel = open_few();
     become(kernel, 2);
