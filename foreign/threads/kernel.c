@@ -40,9 +40,10 @@ static size_t roster_of(neutrino *k, const struct neutrino_thread *threads, size
     return length;
 }
 
-/* Fills a kernel whose bytes are all 0: 0 or an errno. */
+/* Fills a kernel: 0 or an errno. */
 static int open_kernel(neutrino *k, const struct neutrino_thread *threads, size_t count) {
-    balsaeuchre_thread roster[2 * PLACES];
+    balsaeuchre_thread roster[2 * PLACES] = {{0, 0, 0}};
+    memset(k, 0, sizeof *k);
     uint32_t error = balsaeuchre_open(roster, roster_of(k, threads, count, roster), &k->library);
     if (error) return host_error(error);
     k->process = getpid();
@@ -64,12 +65,8 @@ neutrino *neutrino_open_version(uint32_t version, const struct neutrino_thread *
         if (!threads[at].tid || !threads[at].pid) error = EINVAL;
     }
     neutrino *k = error ? NULL : aligned_alloc(_Alignof(neutrino), sizeof *k);
-    if (k) {
-        memset(k, 0, sizeof *k);
-        error = open_kernel(k, threads, count);
-    } else if (!error) {
-        error = ENOMEM;
-    }
+    if (k) error = open_kernel(k, threads, count);
+    else if (!error) error = ENOMEM;
     if (!error) return k;
     free(k);
     errno = error;
