@@ -20,10 +20,6 @@
 #include <string.h>
 #include <unistd.h>
 
-#ifdef OLD_LIBRARY
-#include "old_library.h"
-#endif
-
 enum { PLACES = BALSAEUCHRE_ROWS, CHANNEL_BITS = 6, CONNECTION_BITS = 10, MESSAGE_BITS = 6 };
 enum { SCOID = 0x40000000 };  /* a server connection id is this and the client's process */
 enum { FRONT = 4096 };        /* how much of a receive buffer the kernel sees; a Read brings what is behind */
