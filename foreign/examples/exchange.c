@@ -76,12 +76,20 @@ static void open_kernel(void) {
     }
 }
 
+/* Whether a receive's row and an Info's say the same of the message. */
+static int says_same(const balsaeuchre_ending *a, const balsaeuchre_ending *b) {
+    return a->sender == b->sender && a->process == b->process && a->priority == b->priority && a->id == b->id &&
+           a->count == b->count && a->srcmsglen == b->srcmsglen && a->dstmsglen == b->dstmsglen;
+}
+
 static void show_messages(uint64_t chid, uint64_t coid) {
     show("send", balsaeuchre_send(&kernel, CLIENT, coid, "hello", 5, "........", 8, &event));
     show("state", balsaeuchre_thread_state(&kernel, SERVER, CLIENT, &event));
     show("receive", balsaeuchre_receive(&kernel, SERVER, chid, "---", 3, &event));
-    uint64_t rcvid = event.rows[0].rcvid;
+    balsaeuchre_ending received = event.rows[0];
+    uint64_t rcvid = received.rcvid;
     show("info", balsaeuchre_info(&kernel, SERVER, rcvid, &event));
+    printf("  %s\n", says_same(&received, &event.rows[0]) ? "as the receive said" : "not as the receive said");
     show("read", balsaeuchre_read(&kernel, SERVER, rcvid, 3, "--", 2, &event));
     show("write", balsaeuchre_write(&kernel, SERVER, rcvid, 2, "abc", 3, &event));
     show("reply", balsaeuchre_reply(&kernel, SERVER, rcvid, 7, "w", 1, &event));
@@ -168,5 +176,6 @@ int main(int argc, char **argv) {
     }
     show_run();
     show_refusals();
+    if (balsaeuchre_version() != BALSAEUCHRE_VERSION) printf("the library has another version\n");
     return 0;
 }

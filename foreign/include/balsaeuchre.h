@@ -4,12 +4,13 @@
  * A thread of a kernel is a number here, and nothing blocks: a call that waits has no ending until a later call brings
  * it. Each call is an event, with the endings that it brings: of the call itself, or of calls that waited.
  *
- * The library's three functions are proved against their contracts (docs/FOREIGN.md says what these say) for every caller
+ * The library's four functions are proved against their contracts (docs/FOREIGN.md says what these say) for every caller
  * that keeps these duties, which nothing checks:
  *
  *   1. A handle begins as BALSAEUCHRE_NONE, or with all bytes zero, and only the functions below write it.
  *   2. A handle that holds a kernel isn't copied, or only one of the copies is ever used again.
- *   3. One function at a time uses a handle, and all of a handle's life is on one thread of the program.
+ *   3. One function at a time uses a handle, and what one did happens before what the next does: one thread of the program,
+ *      or several that take turns under a lock.
  *   4. Each pointer is aligned, isn't null, also where its length is 0, and may be read for its length, or written where
  *      it isn't const. What is written overlaps nothing else that is passed.
  *   5. malloc, realloc and free are of one allocator, which aligns as C says; no function is called from a signal
@@ -24,6 +25,10 @@
 #ifdef __cplusplus
 extern "C" {
 #endif
+
+/* The version of this header: a hundred times the first number and then the second, so 10 is 0.10. The library of the same
+ * version answers it (balsaeuchre_version). */
+#define BALSAEUCHRE_VERSION 10
 
 /* A kernel, or none. */
 typedef struct balsaeuchre {
@@ -96,7 +101,9 @@ enum balsaeuchre_mark {
     BALSAEUCHRE_CHANNEL = 3,      /* a channel was created [id] */
     BALSAEUCHRE_CONNECTION = 4,   /* a connection was attached [id] */
     BALSAEUCHRE_REPLIED = 5,      /* the message was answered [status; count bytes copied into the reply buffer] */
-    BALSAEUCHRE_MESSAGE = 6,      /* a message was received [rcvid; count bytes copied into the buffer] */
+    BALSAEUCHRE_MESSAGE = 6,      /* a message was received [rcvid; count bytes copied into the buffer; and as INFORMED would
+                                     tell of it at once: process, sender, priority; id: the connection; srcmsglen,
+                                     dstmsglen] */
     BALSAEUCHRE_ERRORED = 7,      /* the message was answered with a code that isn't 0 [value] */
     BALSAEUCHRE_COUNT = 8,        /* what a Read or a Write copied [count] */
     BALSAEUCHRE_INFORMED = 9,     /* of a held message [process, sender, priority; id: the connection; count: the bytes copied
@@ -136,8 +143,10 @@ typedef struct balsaeuchre_request {
     size_t offset;  /* of a Read or a Write */
 } balsaeuchre_request;
 
-/* How a call ended. Of its buffer, which has length bytes, the first written bytes lie at bytes[start]; all of them,
- * unless there was less room. */
+/* How a call ended, with the front of its buffer as far as it may have changed: of a MESSAGE and a COUNT the first count
+ * bytes, of a PULSED none, of any other all, since a Write may have written anywhere over a reply buffer. Behind that the
+ * buffer is as the call brought it. The front has length bytes, of which the first written lie at bytes[start]: all, unless
+ * there was less room. */
 typedef struct balsaeuchre_ending {
     uint64_t call; /* the number of the ended call; the first call of a kernel is 1 */
     uint8_t thread; /* who made it */
@@ -161,13 +170,17 @@ typedef struct balsaeuchre_ending {
     size_t written;
 } balsaeuchre_ending;
 
-/* How many endings an event has, and how many bytes of their buffers were written. */
+/* How many endings an event has, how many bytes of their buffers were written, and the number of its call. */
 typedef struct balsaeuchre_done {
     size_t endings;
     size_t bytes;
+    uint64_t call;
 } balsaeuchre_done;
 
 /* ---- the library's functions */
+
+/* The version of the library, which is to be BALSAEUCHRE_VERSION. */
+uint32_t balsaeuchre_version(void);
 
 /* Makes a kernel of these threads, of which no call has been made, and writes where it lies. 0, or nothing is written and
  * the answer is, of the first thread that may not join, INVAL (it has the priority 0, or its number stands twice) or AGAIN
@@ -178,12 +191,12 @@ uint32_t balsaeuchre_new(const balsaeuchre_thread *threads, size_t thread_count,
 void balsaeuchre_free(balsaeuchre handle);
 
 /* Makes the call that the request means, on a kernel that balsaeuchre_new made and that isn't freed. 0, and the endings of
- * the event stand in the first rows, in rising thread number, and their buffers in bytes, one behind another. Else nothing
- * is changed or written, no call is counted, and the answer is INVAL (fewer than BALSAEUCHRE_ROWS rows, no such kind, or
- * the priority 0), else NO_MEMORY, NO_THREAD or EXHAUSTED.
+ * the event stand in the first rows, in rising thread number, and the bytes that they tell in bytes, one behind another.
+ * Else nothing is changed or written, no call is counted, and the answer is INVAL (fewer than BALSAEUCHRE_ROWS rows, no
+ * such kind, or the priority 0), else NO_MEMORY, NO_THREAD or EXHAUSTED.
  * sent is what a Send, a Reply or a Write brings, and room the reply buffer of a Send or the buffer of a Receive or a
  * Read; both are copied, and a waiting call gives its buffer back only when it ends. So bytes should have room for the
- * buffers of all calls that are open: an ending whose buffer didn't fit says so by written < length. */
+ * buffers of all calls that are open: an ending whose bytes didn't fit says so by written < length. */
 uint32_t balsaeuchre_make_call(balsaeuchre *handle, const balsaeuchre_request *request, const uint8_t *sent,
                                size_t sent_len, const uint8_t *room, size_t room_len, balsaeuchre_ending *rows,
                                size_t row_count, uint8_t *bytes, size_t bytes_len, balsaeuchre_done *done);
@@ -386,6 +399,7 @@ BALSAEUCHRE_LAYOUT(offsetof(balsaeuchre_ending, process) == 15 && offsetof(balsa
 BALSAEUCHRE_LAYOUT(offsetof(balsaeuchre_ending, sender) == 20 && offsetof(balsaeuchre_ending, id) == 24);
 BALSAEUCHRE_LAYOUT(offsetof(balsaeuchre_ending, rcvid) == 32 && offsetof(balsaeuchre_ending, status) == 40);
 BALSAEUCHRE_LAYOUT(offsetof(balsaeuchre_ending, count) == 48 && offsetof(balsaeuchre_ending, written) == 88);
-BALSAEUCHRE_LAYOUT(sizeof(balsaeuchre_done) == 16 && offsetof(balsaeuchre_done, bytes) == 8);
+BALSAEUCHRE_LAYOUT(sizeof(balsaeuchre_done) == 24 && offsetof(balsaeuchre_done, bytes) == 8);
+BALSAEUCHRE_LAYOUT(offsetof(balsaeuchre_done, call) == 16);
 
 #endif

@@ -11,7 +11,8 @@ use Rattle.std.specs.Prelude.{Option, Some, slice_get}
 use Rattle.qbase.specs.Laying.{laid_count, lay_over}
 use Rattle.qmodel.specs.declared.call.Completion.{Completion}
 use Rattle.balsaeuchre_c.specs.declared.row.Row.{Row}
-use Rattle.balsaeuchre_c.specs.Rows.{Tells}
+use Rattle.qkernel.specs.Kernel.{State}
+use Rattle.balsaeuchre_c.specs.Rows.{Tells, told_bytes}
 use Rattle.balsaeuchre_c.specs.Telling.{buffers, start_of, TellsAt, IsTold}
 use Rattle.balsaeuchre_c.specs.declared.telling.Done.{Done}
 
@@ -40,11 +41,11 @@ take-more (y ∷ xs) (suc i) x e =
 pub some_same : {X : Type 0} (x y : X) → ◌≡◌ {A = Option X} (Some x) (Some y) → x ≡ y
 some_same x y e = cc
 
--- the buffers of one ending more
-pub buffers-more : (es : List Completion) (i : ℕ) (e : Completion) → slice_get es i ≡ Some e → buffers (take (i + 1) es) ≡ buffers (take i es) ++ e.buffer
+-- the told bytes of one ending more
+pub buffers-more : (es : List Completion) (i : ℕ) (e : Completion) → slice_get es i ≡ Some e → buffers (take (i + 1) es) ≡ buffers (take i es) ++ told_bytes e
 buffers-more es i e h =
-    ap (λ part. buffers part) (take-more es i e h) ∙ flat_map-append (λ (x : Completion). x.buffer) (take i es) (e ∷ [])
-    ∙ ap (λ bytes. buffers (take i es) ++ bytes) (append-nil e.buffer)
+    ap (λ part. buffers part) (take-more es i e h) ∙ flat_map-append told_bytes (take i es) (e ∷ [])
+    ∙ ap (λ bytes. buffers (take i es) ++ bytes) (append-nil (told_bytes e))
 
 -- how many bytes there is room for, of bytes and more behind them
 pub laid_count-more : (b xs ys : List ℕ) → laid_count b 0 xs + laid_count b (laid_count b 0 xs) ys ≡ laid_count b 0 (xs ++ ys)
@@ -91,36 +92,36 @@ lay_over-more b xs ys =
     ∙ ap (λ k. take (laid_count b 0 (xs ++ ys)) (xs ++ ys) ++ drop k b) (sym (zero-add (laid_count b 0 (xs ++ ys))))
 
 -- what is so of a part of the endings that is told
-pub record IsToldTo (endings : List Completion) (rows : List Row) (old_bytes bytes : List ℕ) (count at : ℕ) : Type 0 where
-  pub told : (place : ℕ) → place < count → TellsAt endings old_bytes rows place
+pub record IsToldTo (s : State) (endings : List Completion) (rows : List Row) (old_bytes bytes : List ℕ) (count at : ℕ) : Type 0 where
+  pub told : (place : ℕ) → place < count → TellsAt s endings old_bytes rows place
   pub laid : bytes ≡ lay_over old_bytes 0 (buffers (take count endings))
   pub reached : at ≡ laid_count old_bytes 0 (buffers (take count endings))
   pub room : length bytes ≡ length old_bytes
 
 -- one ending more is told
-pub told-more : (es : List Completion) (rows : List Row) (ob bs : List ℕ) (n at : ℕ) (e : Completion) (row : Row)
-    → IsToldTo es rows ob bs n at → slice_get es n ≡ Some e → n < length rows
-    → Tells row e at (laid_count bs at e.buffer)
-    → length (lay_over bs at e.buffer) ≡ length ob
-    → IsToldTo es (set rows n row) ob (lay_over bs at e.buffer) (n + 1) (at + laid_count bs at e.buffer)
-told-more es rows ob bs n at e row is so h whole room =
+pub told-more : (s : State) (es : List Completion) (rows : List Row) (ob bs : List ℕ) (n at : ℕ) (e : Completion) (row : Row)
+    → IsToldTo s es rows ob bs n at → slice_get es n ≡ Some e → n < length rows
+    → Tells row s e at (laid_count bs at (told_bytes e))
+    → length (lay_over bs at (told_bytes e)) ≡ length ob
+    → IsToldTo s es (set rows n row) ob (lay_over bs at (told_bytes e)) (n + 1) (at + laid_count bs at (told_bytes e))
+told-more s es rows ob bs n at e row is so h whole room =
     let before : List ℕ = buffers (take n es) in
-    let grown : buffers (take (n + 1) es) ≡ before ++ e.buffer = buffers-more es n e so in
-    let same_room : laid_count bs at e.buffer ≡ laid_count ob at e.buffer = ap (λ z. min (length e.buffer) (z - at)) is.room in
+    let grown : buffers (take (n + 1) es) ≡ before ++ told_bytes e = buffers-more es n e so in
+    let same_room : laid_count bs at (told_bytes e) ≡ laid_count ob at (told_bytes e) = ap (λ z. min (length (told_bytes e)) (z - at)) is.room in
     record {
-      told = below_more (λ k. TellsAt es ob (set rows n row) k) n
+      told = below_more (λ k. TellsAt s es ob (set rows n row) k) n
           (λ k lt f get. let old = is.told k lt f get in (old.0, get-set-below rows n k row lt ∙ old.1, old.2))
           (λ f get. let same : e ≡ f = some_same e f (sym so ∙ get) in (
             row,
             get-set rows n row h,
-            subst (λ (x : Completion). Tells row x (start_of es ob n) (laid_count ob (start_of es ob n) x.buffer)) same
-                (subst (λ (a : ℕ). Tells row e a (laid_count ob a e.buffer)) is.reached
-                (subst (λ (w : ℕ). Tells row e at w) same_room whole)),
+            subst (λ (x : Completion). Tells row s x (start_of es ob n) (laid_count ob (start_of es ob n) (told_bytes x))) same
+                (subst (λ (a : ℕ). Tells row s e a (laid_count ob a (told_bytes e))) is.reached
+                (subst (λ (w : ℕ). Tells row s e at w) same_room whole)),
           ));
-      laid = ap (λ z. lay_over z at e.buffer) is.laid ∙ ap (λ a. lay_over (lay_over ob 0 before) a e.buffer) is.reached
-          ∙ lay_over-more ob before e.buffer ∙ ap (λ z. lay_over ob 0 z) (sym grown);
-      reached = ap (λ w. at + w) same_room ∙ ap (λ a. a + laid_count ob a e.buffer) is.reached
-          ∙ laid_count-more ob before e.buffer ∙ ap (λ z. laid_count ob 0 z) (sym grown);
+      laid = ap (λ z. lay_over z at (told_bytes e)) is.laid ∙ ap (λ a. lay_over (lay_over ob 0 before) a (told_bytes e)) is.reached
+          ∙ lay_over-more ob before (told_bytes e) ∙ ap (λ z. lay_over ob 0 z) (sym grown);
+      reached = ap (λ w. at + w) same_room ∙ ap (λ a. a + laid_count ob a (told_bytes e)) is.reached
+          ∙ laid_count-more ob before (told_bytes e) ∙ ap (λ z. laid_count ob 0 z) (sym grown);
       room = room;
     }
 
@@ -129,27 +130,28 @@ pub length-lay_over : (b : List ℕ) (at : ℕ) (d : List ℕ) → length (lay_o
 length-lay_over b at d = simp (length-append, length-take, length-drop) (omega arith)
 
 -- the same, of what was written by these steps
-pub told-next : (es : List Completion) (rows : List Row) (ob bs : List ℕ) (n at : ℕ) (e : Completion) (row : Row) (bytes slice : List ℕ) (count : ℕ)
-    → slice ≡ e.buffer → bytes ≡ lay_over bs at slice → count ≡ laid_count bs at slice
-    → IsToldTo es rows ob bs n at → slice_get es n ≡ Some e → n < length rows → Tells row e at count
-    → IsToldTo es (set rows n row) ob bytes (n + 1) (at + count)
-told-next es rows ob bs n at e row bytes slice count same laid counted is so h whole =
-    let e1 : bytes ≡ lay_over bs at e.buffer = laid ∙ ap (λ s. lay_over bs at s) same in
-    let e2 : count ≡ laid_count bs at e.buffer = counted ∙ ap (λ s. laid_count bs at s) same in
-    subst (λ (b : List ℕ). IsToldTo es (set rows n row) ob b (n + 1) (at + count)) (sym e1)
-    (subst (λ (k : ℕ). IsToldTo es (set rows n row) ob (lay_over bs at e.buffer) (n + 1) (at + k)) (sym e2)
-    (told-more es rows ob bs n at e row is so h (subst (λ (w : ℕ). Tells row e at w) e2 whole) (length-lay_over bs at e.buffer ∙ is.room)))
+pub told-next : (s : State) (es : List Completion) (rows : List Row) (ob bs : List ℕ) (n at : ℕ) (e : Completion) (row : Row) (bytes slice : List ℕ) (count : ℕ)
+    → slice ≡ told_bytes e → bytes ≡ lay_over bs at slice → count ≡ laid_count bs at slice
+    → IsToldTo s es rows ob bs n at → slice_get es n ≡ Some e → n < length rows → Tells row s e at count
+    → IsToldTo s es (set rows n row) ob bytes (n + 1) (at + count)
+told-next s es rows ob bs n at e row bytes slice count same laid counted is so h whole =
+    let e1 : bytes ≡ lay_over bs at (told_bytes e) = laid ∙ ap (λ s. lay_over bs at s) same in
+    let e2 : count ≡ laid_count bs at (told_bytes e) = counted ∙ ap (λ s. laid_count bs at s) same in
+    subst (λ (b : List ℕ). IsToldTo s es (set rows n row) ob b (n + 1) (at + count)) (sym e1)
+    (subst (λ (k : ℕ). IsToldTo s es (set rows n row) ob (lay_over bs at (told_bytes e)) (n + 1) (at + k)) (sym e2)
+    (told-more s es rows ob bs n at e row is so h (subst (λ (w : ℕ). Tells row s e at w) e2 whole) (length-lay_over bs at (told_bytes e) ∙ is.room)))
 
 -- all of it is told
-pub told-all : (es : List Completion) (rows : List Row) (ob bytes : List ℕ) (n at : ℕ) (done : Done) → IsToldTo es rows ob bytes n at → length es ≤ n
-    → done ≡ record { endings = length es; bytes = at } → IsTold es rows ob bytes done
-told-all es rows ob bytes n at done is e same =
+pub told-all : (s : State) (es : List Completion) (rows : List Row) (ob bytes : List ℕ) (n at : ℕ) (done : Done) → IsToldTo s es rows ob bytes n at → length es ≤ n
+    → done ≡ record { endings = length es; bytes = at; call = s.made } → IsTold s es rows ob bytes done
+told-all s es rows ob bytes n at done is e same =
     let whole : take n es ≡ es = sym (append-nil (take n es)) ∙ ap (λ z. take n es ++ z) (sym (drop_all n es e)) ∙ take-append-drop n es in
     record {
       told = λ place below. is.told place (omega arith);
       bytes = is.laid ∙ ap (λ part. lay_over ob 0 (buffers part)) whole;
       count = ap (λ d. d.endings) same;
       written = ap (λ d. d.bytes) same ∙ is.reached ∙ ap (λ part. laid_count ob 0 (buffers part)) whole;
+      call = ap (λ d. d.call) same;
     }
 
 -- what stands at a place within a list

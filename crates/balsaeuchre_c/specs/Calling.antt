@@ -1,22 +1,43 @@
 -- What a call through C comes to.
-use Rattle.std.specs.Prelude.{◌≡◌, ℕ, ◌<◌, List, Some, ◌⊎◌}
+use Rattle.std.specs.Prelude.{◌≡◌, ℕ, ◌<◌, List, slice_get, Some, ◌⊎◌}
 use Rattle.qbase.specs.declared.errno.Errno.{Errno}
 use Rattle.qbase.specs.declared.errno.Errno.TheVariants.{Inval}
-use Rattle.qkernel.specs.Stands.{AnswersAtTraces, DispatchError}
+use Rattle.qkernel.specs.Kernel.{State}
+use Rattle.qkernel.specs.Stands.{AnswersAtTraces, DispatchError, StandsAt}
+use Rattle.qmodel.specs.Calls.Info.{info_of}
+use Rattle.qmodel.specs.Facts.{Facts, sender}
+use Rattle.qmodel.specs.Lawful.{IsLawful, facts_of, with_event}
+use Rattle.qmodel.specs.Trace.{Trace}
 use Rattle.qmodel.specs.declared.call.Call.{Call}
+use Rattle.qmodel.specs.declared.call.Completion.{Completion}
+use Rattle.qmodel.specs.declared.call.Mark.TheVariants as mark
+use Rattle.qtables.specs.declared.member.Member.{Member}
 use Rattle.balsaeuchre_c.specs.declared.request.Request.{Request}
 use Rattle.balsaeuchre_c.specs.declared.row.Row.{Row}
 use Rattle.balsaeuchre_c.specs.declared.session.Session.{Session}
 use Rattle.balsaeuchre_c.specs.declared.telling.Done.{Done}
 use Rattle.balsaeuchre_c.specs.Requests.{call_of, IsRefusedAs}
+use Rattle.balsaeuchre_c.specs.Rows.{info_in}
 use Rattle.balsaeuchre_c.specs.Telling.{IsTold}
 
--- the kernel made the very call that the request means, its endings answer every lawful trace at which the kernel stood, and they are told
+-- where the ending is the receipt of a message, the row says what an `Info` of it would by these facts
+abbrev pub Informs : Facts → Completion → Row → Type 0
+Informs f e row = (rcvid copied : ℕ) → e.mark ≡ mark.Message rcvid copied → info_of f (sender f rcvid) ≡ Some (info_in row)
+
+-- so does each row of an event, at every lawful trace at which the kernel stood, followed by the event
+abbrev pub InformsAtTraces : State → ℕ → Call → List Completion → List Row → Type 0
+InformsAtTraces old t call endings rows = (roster : List Member) (past : Trace) → IsLawful roster past → StandsAt roster old past
+    → (place : ℕ) (e : Completion) (row : Row) → slice_get endings place ≡ Some e → slice_get rows place ≡ Some row
+    → Informs (facts_of roster (with_event t call endings past)) e row
+
+-- the kernel made the very call that the request means, its endings answer every lawful trace at which the kernel stood, and they are told,
+-- with what `Info` would say of a message that was received
 pub record IsEvent (old : Session) (r : Request) (sent room : List ℕ) (new : Session) (rows : List Row) (old_bytes bytes : List ℕ) (done : Done) : Type 0 where
   pub call : Call
   pub meant : call_of r sent room ≡ Some call
   pub answers : AnswersAtTraces old.kernel r.thread call new.endings.items new.kernel
-  pub told : IsTold new.endings.items rows old_bytes bytes done
+  pub told : IsTold new.kernel new.endings.items rows old_bytes bytes done
+  pub informs : InformsAtTraces old.kernel r.thread call new.endings.items rows
 
 -- why a call is no event: there are fewer than 64 rows, or else the request means no call or there is no memory, or else the kernel counts none
 abbrev pub CallError : Session → Request → List ℕ → List ℕ → ℕ → Errno → Type 0

@@ -1,10 +1,13 @@
 -- The ending that a row tells.
-use Rattle.std.specs.Prelude.{◌≡◌, ℕ, ◌==◌, length, Option, None, Some, option_map, if◌then◌else◌}
+use Rattle.std.specs.Prelude.{◌≡◌, ℕ, ◌==◌, length, List, [], take, Option, None, Some, option_map, if◌then◌else◌}
 use Rattle.qbase.specs.declared.state.ThreadState.{ThreadState}
 use Rattle.qbase.specs.declared.state.ThreadState.TheVariants as state
 use Rattle.qqueue.specs.declared.item.What.{What}
 use Rattle.qqueue.specs.declared.item.What.TheVariants as what
+use Rattle.qkernel.specs.Kernel.{State}
+use Rattle.qkernel.specs.Stands.{InfoAtTraces}
 use Rattle.qmodel.specs.declared.call.Completion.{Completion}
+use Rattle.qmodel.specs.declared.call.Info.{Info}
 use Rattle.qmodel.specs.declared.call.Mark.{Mark}
 use Rattle.qmodel.specs.declared.call.Mark.TheVariants as mark
 use Rattle.balsaeuchre_c.specs.declared.error.TheConstants.{ERRNOS}
@@ -29,6 +32,10 @@ state_of r =
     else if r.state == 4 then Some (state.ReplyBlocked r.id)
     else None
 
+-- what a row tells of a held message
+abbrev pub info_in : Row → Info
+info_in r = record { process = r.process; thread = r.sender; priority = r.priority; connection = r.id; msglen = r.count; srcmsglen = r.srcmsglen; dstmsglen = r.dstmsglen }
+
 -- how the call of a row ended
 abbrev pub mark_of : Row → Option Mark
 mark_of r =
@@ -40,20 +47,49 @@ mark_of r =
     else if r.mark == 6 then Some (mark.Message r.rcvid r.count)
     else if r.mark == 7 then Some (mark.Errored r.value)
     else if r.mark == 8 then Some (mark.Count r.count)
-    else if r.mark == 9 then Some (mark.Info (record { process = r.process; thread = r.sender; priority = r.priority; connection = r.id; msglen = r.count; srcmsglen = r.srcmsglen; dstmsglen = r.dstmsglen }))
+    else if r.mark == 9 then Some (mark.Info (info_in r))
     else if r.mark == 10 then option_map (λ what. mark.Pulse r.id r.priority what) (what_of r)
     else if r.mark == 11 then option_map (λ state. mark.State state r.priority) (state_of r)
     else None
 
--- a row is of this ending, whose buffer begins at a place of the room for bytes, and of which so many were written
+-- what is told of the buffer of a call that ended so: the bytes that were copied into the front of it; nothing of one that took a pulse; else
+-- all of it, since a Write may have written anywhere over a reply buffer
+abbrev pub told_of : Mark → List ℕ → List ℕ
+told_of (mark.Message rcvid copied) buffer = take copied buffer
+told_of (mark.Count copied) buffer = take copied buffer
+told_of (mark.Pulse item priority what) buffer = []
+told_of other buffer = buffer
+
+-- the bytes that are told of an ending
+abbrev pub told_bytes : Completion → List ℕ
+told_bytes e = told_of e.mark e.buffer
+
+-- a row is of this ending, whose told bytes begin at a place of the room for bytes, and of which so many were written
 pub record IsOf (r : Row) (e : Completion) (at count : ℕ) : Type 0 where
   pub call : r.call ≡ e.call
   pub thread : r.thread ≡ e.thread
-  pub length : r.length ≡ length e.buffer
+  pub length : r.length ≡ length (told_bytes e)
   pub start : r.start ≡ at
   pub written : r.written ≡ count
 
--- it tells the ending whole
-pub record Tells (r : Row) (e : Completion) (at count : ℕ) : Type 0 where
+-- what a row tells of a message but how many bytes were copied is what is told of it, if anything is
+abbrev pub Fills : Row → Option Info → Type 0
+Fills r None = Unit {0}
+Fills r (Some info) = record info { msglen = r.count } ≡ info_in r
+
+-- it tells the message of this id that was received with this count, and what a kernel says of it
+pub record TellsMessage (r : Row) (s : State) (rcvid copied : ℕ) : Type 0 where
+  pub count : r.count ≡ copied
+  pub info : Option Info
+  pub said : InfoAtTraces s rcvid info
+  pub filled : Fills r info
+
+-- where the ending is the receipt of a message it tells that
+abbrev pub TellsReceipt : Row → State → Completion → Type 0
+TellsReceipt r s e = (rcvid copied : ℕ) → e.mark ≡ mark.Message rcvid copied → TellsMessage r s rcvid copied
+
+-- it tells the ending whole, and what the kernel says after it of a message that was received
+pub record Tells (r : Row) (s : State) (e : Completion) (at count : ℕ) : Type 0 where
   pub of : IsOf r e at count
   pub mark : mark_of r ≡ Some e.mark
+  pub message : TellsReceipt r s e

@@ -37,7 +37,7 @@ pub fn make_call(
     match request.call(alloc, sent, room) {
         Ok(call) => match session.call(ThreadNo(request.thread), call) {
             Ok(()) => {
-                *done = tell(session.endings.as_slice(), rows, bytes);
+                *done = tell(&session.kernel, session.endings.as_slice(), rows, bytes);
                 Ok(())
             }
             Err(errno) => Err(errno),

@@ -19,6 +19,7 @@ mod opening;
 mod request;
 mod roster;
 mod row;
+mod sending;
 mod session;
 mod telling;
 
@@ -30,6 +31,17 @@ use row::Row;
 use std::alloc::Global;
 use std::ptr::NonNull;
 use telling::Done;
+
+/// The version of the library and of its header: a hundred times the first number and then the second, so 10 is 0.10.
+const VERSION: u32 = 10;
+
+/// The version, which is that of the header that fits.
+#[unsafe(no_mangle)]
+pub extern "C" fn balsaeuchre_version() -> u32
+    ensures { result ≡ 10 }
+{
+    VERSION
+}
 
 /// Makes a kernel of these threads, and writes where it lies: 0, or an error's number, and nothing is written.
 #[unsafe(no_mangle)]

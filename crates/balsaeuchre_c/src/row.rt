@@ -1,15 +1,28 @@
 //! An ending as C reads it: numbers alone.
 
-ghost use Rattle.std.specs.Prelude.{◌≡◌, ℕ, Some};
+ghost use Rattle.std.specs.Prelude.{◌≡◌, ℕ, length, Some};
+ghost use Rattle.qkernel.specs.Stands.{InfoAtTraces};
 ghost use Rattle.qmodel.specs.declared.call.Completion.{Completion};
-ghost use Rattle.balsaeuchre_c.specs.Rows.{mark_of, IsOf, Tells};
+ghost use Rattle.balsaeuchre_c.specs.Rows.{mark_of, told_bytes, Fills, IsOf, Tells};
 
 use crate::error::errno_number;
 use qbase::errno::Errno;
+use qbase::ids::ReceiveId;
 use qbase::priority::Priority;
 use qbase::state::ThreadState;
 use qkernel::call::{Completion, Info, Mark};
+use qkernel::kernel::Kernel;
 use qqueue::item::What;
+
+/// What is told of the message that was received with this mark.
+fn info_beside(kernel: &Kernel, mark: Mark) -> Option<Info>
+    ensures { (rcvid copied : ℕ) → mark ≡ Mark.Message rcvid copied → InfoAtTraces kernel.now rcvid result }
+{
+    match mark {
+        Mark::Message { rcvid, .. } => kernel.message_info(rcvid),
+        _ => None,
+    }
+}
 
 /// How a call ended. `mark` says which fields hold something; the others are 0.
 #[repr(C)]
@@ -23,7 +36,7 @@ pub struct Row {
     pub mark: u8,
     /// The error's number, 1 to 11.
     pub errno: u8,
-    /// A priority, 1 to 255.
+    /// A priority, 1 to 255; of a message the one that it was received with.
     pub priority: u8,
     /// A thread's state, 1 to 4.
     pub state: u8,
@@ -31,7 +44,7 @@ pub struct Row {
     pub what: u8,
     /// A pulse's code.
     pub pulse_code: i8,
-    /// A process.
+    /// A process; of a message the sender's.
     pub process: u8,
     /// A pulse's value, or an Error's code.
     pub value: i32,
@@ -49,18 +62,19 @@ pub struct Row {
     pub srcmsglen: usize,
     /// How many bytes a sender's reply buffer has.
     pub dstmsglen: usize,
-    /// Where the buffer begins in the room for bytes.
+    /// Where the bytes begin in the room for bytes.
     pub start: usize,
-    /// How many bytes the buffer has.
+    /// How many bytes of the buffer are told.
     pub length: usize,
     /// How many of them were written: all, or as many as there was room for.
     pub written: usize,
 }
 
 impl Row {
-    /// The row of an ending but for its mark, whose buffer begins at a place of the room, and of which so many
-    /// bytes were written.
-    fn without_mark(ending: &Completion, start: usize, written: usize) -> Row
+    /// The row of an ending but for its mark, of whose buffer so many bytes are told, which begin at a place of
+    /// the room, and of which so many were written.
+    fn without_mark(ending: &Completion, start: usize, told_len: usize, written: usize) -> Row
+        requires { told_len ≡ length (told_bytes ending.now) }
         ensures { IsOf result ending.now start written }
     {
         Row {
@@ -82,7 +96,7 @@ impl Row {
             srcmsglen: 0,
             dstmsglen: 0,
             start,
-            length: ending.buffer.len(),
+            length: told_len,
             written,
         }
     }
@@ -165,8 +179,35 @@ impl Row {
         }
     }
 
-    fn with_mark(self, mark: Mark) -> Row
+    fn message(self, rcvid: ReceiveId, copied: usize, info: Option<Info>) -> Row
+        ensures mark { mark_of result ≡ Some (Mark.Message rcvid copied) }
+        ensures count { result.count ≡ copied }
+        ensures info { Fills result info }
+        ensures same { (ending : Completion) → (start written : ℕ) → IsOf self ending start written → IsOf result ending start written }
+    {
+        let row = Row {
+            mark: 6,
+            rcvid: rcvid.0,
+            count: copied,
+            ..self
+        };
+        match info {
+            None => row,
+            Some(told) => Row {
+                process: told.process.0,
+                sender: told.thread.0,
+                priority: told.priority.get(),
+                id: told.connection.0,
+                srcmsglen: told.srcmsglen,
+                dstmsglen: told.dstmsglen,
+                ..row
+            },
+        }
+    }
+
+    fn with_mark(self, mark: Mark, info: Option<Info>) -> Row
         ensures mark { mark_of result ≡ Some mark }
+        ensures message { (rcvid copied : ℕ) → mark ≡ Mark.Message rcvid copied → (result.count ≡ copied) × Fills result info }
         ensures same { (ending : Completion) → (start written : ℕ) → IsOf self ending start written → IsOf result ending start written }
     {
         match mark {
@@ -188,12 +229,7 @@ impl Row {
                 count: copied,
                 ..self
             },
-            Mark::Message { rcvid, copied } => Row {
-                mark: 6,
-                rcvid: rcvid.0,
-                count: copied,
-                ..self
-            },
+            Mark::Message { rcvid, copied } => self.message(rcvid, copied, info),
             Mark::Errored(code) => Row {
                 mark: 7,
                 value: code,
@@ -214,11 +250,19 @@ impl Row {
         }
     }
 
-    /// The row of an ending, whose buffer begins at a place of the room for bytes, and of which so many were
-    /// written.
-    pub fn of(ending: &Completion, start: usize, written: usize) -> Row
-        ensures { Tells result ending.now start written }
+    /// The row of an ending of the kernel's last event, of whose buffer so many bytes are told, which begin at a
+    /// place of the room for bytes, and of which so many were written.
+    pub fn of(
+        kernel: &Kernel,
+        ending: &Completion,
+        start: usize,
+        told_len: usize,
+        written: usize,
+    ) -> Row
+        requires { told_len ≡ length (told_bytes ending.now) }
+        ensures { Tells result kernel.now ending.now start written }
     {
-        Row::without_mark(ending, start, written).with_mark(ending.mark)
+        let info = info_beside(kernel, ending.mark);
+        Row::without_mark(ending, start, told_len, written).with_mark(ending.mark, info)
     }
 }

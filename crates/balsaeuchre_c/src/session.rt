@@ -1,8 +1,10 @@
 //! A kernel with the list that its endings are put into.
 
-ghost use Rattle.std.specs.Prelude.{◌≡◌, IfOk, IfErr};
+ghost use Rattle.std.specs.Prelude.{◌≡◌, true, is_some, IfOk, IfErr};
+ghost use Rattle.qkernel.specs.Kernel.{IsSound};
 ghost use Rattle.qkernel.specs.Stands.{AnswersAtTraces, DispatchError};
 ghost use Rattle.qstate.specs.Thread.{members_of};
+ghost use Rattle.qtables.specs.Members.{member_at};
 
 use qbase::errno::Errno;
 use qbase::ids::ThreadNo;
@@ -22,6 +24,8 @@ impl Session {
     /// none.
     pub fn call(&mut self, thread: ThreadNo, call: Call) -> Result<(), Errno>
         ensures event { IfOk result (λ _. AnswersAtTraces self.old.kernel thread call self.new.endings.items self.new.kernel) }
+        ensures known { IfOk result (λ _. is_some (member_at (members_of self.old.kernel.threads) thread) ≡ true) }
+        ensures sound { IfOk result (λ _. IsSound self.old.kernel) }
         ensures roster { members_of self.new.kernel.threads ≡ members_of self.old.kernel.threads }
         ensures error { IfErr result (λ errno. DispatchError self.old.kernel thread errno) }
         ensures unchanged { IfErr result (λ _. self.new ≡ self.old) }

@@ -1,5 +1,5 @@
 -- A kernel stands at a trace if its content is that of the trace.
-use Rattle.std.specs.Prelude.{◌≡◌, ℕ, ◌^◌, ◌≤◌, Bool, true, false, is_some, List, [], ◌∷◌, length, ◌⊎◌}
+use Rattle.std.specs.Prelude.{◌≡◌, ℕ, ◌^◌, ◌≤◌, Bool, true, false, is_some, List, [], ◌∷◌, length, Option, ◌⊎◌}
 use Rattle.qbase.specs.declared.errno.Errno.{Errno}
 use Rattle.qbase.specs.declared.errno.Errno.TheVariants.{NoThread, Exhausted}
 use Rattle.qtables.specs.Entries.{entry_at}
@@ -7,8 +7,11 @@ use Rattle.qtables.specs.Members.{member_at}
 use Rattle.qtables.specs.declared.member.Member.{Member}
 use Rattle.qmodel.specs.declared.call.Call.{Call}
 use Rattle.qmodel.specs.declared.call.Completion.{Completion}
+use Rattle.qmodel.specs.declared.call.Info.{Info}
 use Rattle.qmodel.specs.Answer.{Outcome, Answers, refusal_ending}
 use Rattle.qstate.specs.Channel.{channel_in, pending_in}
+use Rattle.qmodel.specs.Calls.Info.{info_of}
+use Rattle.qmodel.specs.Facts.{sender}
 use Rattle.qmodel.specs.Laws.{IsOnlyCounted}
 use Rattle.qmodel.specs.Lawful.{IsLawful, facts_of, with_event}
 use Rattle.qmodel.specs.Past.{is_down, channel_at, open_channels, connection_at, live_connections, open_call, pending_items, priority_of_thread}
@@ -43,6 +46,10 @@ Steps old t c endings new = (accepted : Bool) × Step old t c accepted endings n
 abbrev pub AnswersAtTraces : State → ℕ → Call → List Completion → State → Type 0
 AnswersAtTraces old t c endings new = (roster : List Member) (past : Trace) → IsLawful roster past → StandsAt roster old past
     → Answers (facts_of roster past) t c endings × StandsAt roster new (with_event t c endings past)
+
+-- what is told of message i at every trace at which the kernel stands: what the row of an `Info` of it takes from that trace
+abbrev pub InfoAtTraces : State → ℕ → Option Info → Type 0
+InfoAtTraces s i info = (roster : List Member) (past : Trace) → StandsAt roster s past → info ≡ info_of (facts_of roster past) (sender (facts_of roster past) i)
 
 -- a refused call, whose one ending is its own failure, leaves all as it was but how many calls were made
 abbrev pub LeavesIfRefused : State → ℕ → Call → List Completion → State → Type 0

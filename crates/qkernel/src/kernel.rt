@@ -45,7 +45,7 @@ pub const CALL_LIMIT: u64 = 1 << 40;
 
 /// A kernel: its threads, its channels and its connections. Contracts see its content as a record of
 /// lists; what it answers is said of the list of all past calls.
-/// `one_thread.rt` of `crates/balsaeuchre_uses` shows how one is made and used.
+/// `simulator.rt` of `crates/qcalls` shows how one is made and used.
 #[derive(Drop)]
 pub struct Kernel {
     alloc: Global,
@@ -233,7 +233,7 @@ impl Kernel {
     /// Makes one call. Every `Ok` is an event, whose number is one more than the last, and holds the endings
     /// that it brought, in rising thread number. An `Err` is no event: it gives the call back and changes
     /// nothing.
-    /// `one_thread.rt` and `kept_waiting.rt` of `crates/balsaeuchre_uses` use it.
+    /// `dispatching.rt` of `crates/qtests` uses it.
     pub fn dispatch(&mut self, thread: ThreadNo, call: Call) -> Result<Endings, (Errno, Call)>
         ensures event { IfOk result (λ endings. AnswersAtTraces self.old thread call endings.items self.new) }
         ensures refused { IfOk result (λ endings. LeavesIfRefused self.old thread call endings.items self.new) }

@@ -19,11 +19,12 @@ use Rattle.qmodel.specs.Calls.Info.{info_of, info_of_open, info_ending}
 use Rattle.qmodel.specs.Facts.{is_send, sender, threads_of}
 use Rattle.qstate.specs.Held.{is_held_in}
 use Rattle.qkernel.specs.Kernel.{State, IsSound, facts_in}
-use Rattle.qkernel.specs.Stands.{Steps}
+use Rattle.qkernel.specs.Stands.{InfoAtTraces, Steps}
 use Rattle.qstate.specs.Thread.{held_over_in, members_of, open_in}
 use Rattle.qstate.proofs.Seats.{first_member, first_open}
-use Rattle.qstate.proofs.Senders.{first_there, held_there, sender_of_held, sender_there}
+use Rattle.qstate.proofs.Senders.{first_there, held_there, no_sender, sender_in-by, sender_of_held, sender_there}
 use Rattle.qmodel.proofs.Rosters.{among, only_own, rises}
+use Rattle.qkernel.proofs.Standing.{stands_facts}
 use Rattle.qkernel.proofs.Steps.Common.{uncut, counted, stays_free}
 use Rattle.qkernel.proofs.Steps.Held.{is_held}
 
@@ -35,6 +36,14 @@ info_there s i k d r at =
     ap (info_of (facts_in s)) (sender_there i s.threads k d r at)
     ∙ ap (option_and_then (λ m. info_of_open m (open_in s.threads (get_or s.threads k d).member.thread))) (first_member _ s.threads k d first)
     ∙ ap (info_of_open (get_or s.threads k d).member) (first_open _ s.threads k d first)
+
+-- nothing is told where no thread waits for the answer
+pub info_nowhere : (s : State) (i : ℕ) → IsRoster (members_of s.threads) → position (λ t. is_send i t.open_call) s.threads ≡ None → info_of (facts_in s) (sender (facts_in s) i) ≡ None
+info_nowhere s i r none = ap (info_of (facts_in s)) (sender_in-by i s.threads r ∙ no_sender i s.threads none)
+
+-- what is told by the kernel's content is told at every trace at which it stands
+pub info_at_traces : (s : State) (i : ℕ) (told : Option Told) → told ≡ info_of (facts_in s) (sender (facts_in s) i) → InfoAtTraces s i told
+info_at_traces s i told is roster past stands = is ∙ ap (λ f. info_of f (sender f i)) (stands_facts roster s past stands)
 
 -- what is held is told of
 told_some : (m : Member) (o : Option OpenCall) → is_some (held_over_in o) ≡ true → is_some (info_of_open m o) ≡ true

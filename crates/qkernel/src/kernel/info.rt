@@ -4,11 +4,23 @@ use super::Kernel;
 use super::turn::Turn;
 use qbase::errno::Errno;
 use qbase::ids::ReceiveId;
-use qmodel::call::{Call, Mark};
+use qmodel::call::{Call, Info, Mark};
 use qstate::endings::Endings;
+use qstate::thread::sender_seat;
 
 impl Kernel {
+    ghost use Rattle.qkernel.specs.Stands.{InfoAtTraces};
     ghost use Rattle.qkernel.specs.Turn.{MayCall, MakesOrRefuses};
+
+    /// What `Info` tells of a message, without a call: it takes no number, and no thread asks for it. `None`
+    /// where no message is held under this id; whose process owns its channel isn't looked at. For who tells
+    /// a receiver, with the message that it took, who sent it.
+    pub fn message_info(&self, rcvid: ReceiveId) -> Option<Info>
+        ensures { InfoAtTraces self.now rcvid result }
+    {
+        let seat = sender_seat(&self.threads, rcvid.0)?;
+        self.threads[seat].info()
+    }
 
     /// Tells of a held message. Changes nothing, never blocks, and takes no memory.
     pub(super) fn info(
