@@ -37,8 +37,8 @@ static void fill_info(const struct place *sender, const balsaeuchre_ending *row,
     info->priority = row->priority;
 }
 
-/* Reads in the receiver's name what a message has behind the front of its buffer. If the allocator refuses, then msglen says
- * that only the front was copied. */
+/* Reads in the receiver's name what a message has behind the front of its buffer. If the allocator refuses, then
+ * msglen says that only the front was copied. */
 static void read_on(neutrino *k, struct place *p, struct place *sender, const balsaeuchre_ending *row) {
     size_t length = (row->srcmsglen < p->call->room_len ? row->srcmsglen : p->call->room_len) - FRONT;
     uint8_t *behind = (uint8_t *)p->call->room + FRONT;

@@ -1,9 +1,10 @@
 /* What the parts of the layer share. Tested, not proved. sys/neutrino.h has what callers see.
  *
- * A kernel lies under one lock. Each of its threads has a place, with a word at which it sleeps while its call is open. A
- * call takes the lock, opens the word, and makes the call in the library, which brings endings: of this call, and of calls
- * that other threads wait in. Each ending is copied to where its own thread wants it (that thread sits in its call, so its
- * buffers live), and then the word is set to ENDED. When the lock is free again, those that sleep are woken.
+ * A kernel lies under one lock. Each of its threads has a place, with a word at which it sleeps while its call is
+ * open. A call takes the lock, opens the word, and makes the call in the library, which brings endings: of this call,
+ * and of calls that other threads wait in. Each ending is copied to where its own thread wants it (that thread sits
+ * in its call, so its buffers live), and then the word is set to ENDED. When the lock is free again, those that sleep
+ * are woken.
  */
 #ifndef LAYER_H
 #define LAYER_H
@@ -42,7 +43,8 @@ struct names {
 /* The table in which the id of a call's request has its name. */
 enum table { NO_TABLE, CHANNELS, CONNECTIONS, MESSAGES, TABLES };
 
-/* A call as its thread makes it. It lies on that thread's stack; while the call is open, who has the lock may read it. */
+/* A call as its thread makes it. It lies on that thread's stack; while the call is open, who has the lock may read
+ * it. */
 struct call {
     balsaeuchre_request request;
     enum table table;
@@ -58,7 +60,8 @@ struct call {
     struct _msg_info *info;
 };
 
-/* A thread. All but the word is read and written under the lock, or by the thread itself while no call of it is open. */
+/* A thread. All but the word is read and written under the lock, or by the thread itself while no call of it is
+ * open. */
 struct place {
     _Alignas(64) _Atomic uint32_t word;
     int error; /* how its call ended: an errno; or 0, and the result */

@@ -1,9 +1,9 @@
 /* Ints that stand for the kernel's ids of 40 bits. Tested, not proved.
  *
- * A name is a place in a table and how often that place was taken, so it leads to the id that it was made for and, once that
- * is gone, to none. Places are taken in turn. A name comes again only when its place has been taken 2^25 times (of a
- * connection 2^20 times), which is after 2^31 channels or messages, or 2^30 connections, where few are open at a time.
- * All of this is under the lock.
+ * A name is a place in a table and how often that place was taken, so it leads to the id that it was made for and,
+ * once that is gone, to none. Places are taken in turn. A name comes again only when its place has been taken 2^25
+ * times (of a connection 2^20 times), which is after 2^31 channels or messages, or 2^30 connections, where few are
+ * open at a time. All of this is under the lock.
  */
 static void open_names(neutrino *k) {
     k->tables[CHANNELS] = (struct names){k->channels, INT_MAX >> CHANNEL_BITS, CHANNEL_BITS, 0};

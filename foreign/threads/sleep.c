@@ -2,8 +2,8 @@
 #include <linux/futex.h>
 #include <sys/syscall.h>
 
-/* How often a thread looks for the lock before it sleeps at it, and at its word; fewer times where that was in vain. It never
- * yields its core: on a busy machine that takes milliseconds, and a sleep ends at once. */
+/* How often a thread looks for the lock before it sleeps at it, and at its word; fewer times where that was in
+ * vain. It never yields its core: on a busy machine that takes milliseconds, and a sleep ends at once. */
 #ifndef LOCK_LOOKS
 #define LOCK_LOOKS 20
 #endif
@@ -75,7 +75,8 @@ static uint64_t tell(neutrino *k, uint64_t ended) {
     return asleep;
 }
 
-/* Wakes these threads, with the lock free. They are joined until this thread leaves: the kernel is not closed before. */
+/* Wakes these threads, with the lock free. They are joined until this thread leaves: the kernel is not closed
+ * before. */
 static void wake(neutrino *k, uint64_t asleep) {
     for (; asleep; asleep &= asleep - 1) {
         syscall(SYS_futex, &k->places[__builtin_ctzll(asleep)].word, FUTEX_WAKE_PRIVATE, 1, NULL, NULL, 0);

@@ -1,9 +1,9 @@
-/* Timeouts: a thread that waits too long is unblocked in the name of its process's clock, a hidden thread of the kernel's that
- * does nothing else. Tested, not proved.
+/* Timeouts: a thread that waits too long is unblocked in the name of its process's clock, a hidden thread of the
+ * kernel's that does nothing else. Tested, not proved.
  */
 
-/* Unblocks a thread whose call is open, under the lock: whether the kernel did so. Adds those whose calls are ended by that;
- * a call of which its server is only told stays open. */
+/* Unblocks a thread whose call is open, under the lock: whether the kernel did so. Adds those whose calls are
+ * ended by that; a call of which its server is only told stays open. */
 static bool unblock(neutrino *k, struct place *p, uint64_t *ended) {
     uint8_t clock = k->clock_of[p->pid];
     if (balsaeuchre_unblock(&k->library, clock, p->tid, &k->event)) return false;

@@ -1,8 +1,8 @@
 /* A server and its clients as one writes them for QNX: accounts, with a pulse for each client that watches one.
  *
- * Three tellers book on one account at once, each with two hundred requests. An auditor watches the account: it gives the
- * server its own channel, and is told by a pulse of each round thousand that the balance passes. What QNX does not have:
- * the kernel is opened, and each thread joins it and leaves.
+ * Three tellers book on one account at once, each with two hundred requests. An auditor watches the account: it gives
+ * the server its own channel, and is told by a pulse of each round thousand that the balance passes. What QNX does
+ * not have: the kernel is opened, and each thread joins it and leaves.
  */
 #include <errno.h>
 #include <pthread.h>
@@ -12,7 +12,7 @@
 #include <string.h>
 #include <sys/neutrino.h>
 
-enum { BANK = 1, AUDITOR, MANAGER, SECOND, TELLERS = 10 }; /* threads; the first three are processes too, as the tellers */
+enum { BANK = 1, AUDITOR, MANAGER, TELLERS = 10, SECOND = 20 }; /* threads; the first four are processes too */
 enum { NTELLERS = 3, NSERVERS = 2, BOOKINGS = 200, ACCOUNTS = 4 };
 enum { MSG_BOOK = 0x201, MSG_BALANCE, MSG_WATCH };
 enum { CODE_PASSED = _PULSE_CODE_MINAVAIL, CODE_STOP };
@@ -151,7 +151,8 @@ static void close_accounts(int coid) {
 }
 
 int main(void) {
-    struct neutrino_thread threads[4 + NTELLERS] = {{BANK, BANK, 10}, {SECOND, BANK, 10}, {AUDITOR, AUDITOR, 20}, {MANAGER, MANAGER, 5}};
+    struct neutrino_thread threads[4 + NTELLERS] = {
+        {BANK, BANK, 10}, {SECOND, BANK, 10}, {AUDITOR, AUDITOR, 20}, {MANAGER, MANAGER, 5}};
     pthread_t tellers[NTELLERS], banks[NSERVERS], audits;
     intptr_t booked = 0;
     for (int i = 0; i < NTELLERS; i++) threads[4 + i] = (struct neutrino_thread){(uint8_t)(TELLERS + i), TELLERS, 15};

@@ -1,8 +1,9 @@
 /* A device driver as one writes it for QNX: a resource manager's loop.
  *
- * Clients write lines to the device and read them. A read of an empty device waits in the server, REPLY-blocked, until a line
- * comes; a client that is tired of waiting is unblocked by a pulse. The interrupt thread tells the driver by a pulse that
- * the line is free again. What QNX does not have: the kernel is opened, and each thread joins it and leaves.
+ * Clients write lines to the device and read them. A read of an empty device waits in the server, REPLY-blocked,
+ * until a line comes; a client that is tired of waiting is unblocked by a pulse. The interrupt thread tells the
+ * driver by a pulse that the line is free again. What QNX does not have: the kernel is opened, and each thread joins
+ * it and leaves.
  */
 #include <errno.h>
 #include <pthread.h>

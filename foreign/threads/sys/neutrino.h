@@ -2,19 +2,20 @@
  *
  * Tested, not proved. Below stands a proved kernel (balsaeuchre.h); this layer is C, and only tests speak for it.
  *
- * The calls have the shapes of QNX's Library Reference, by the pages of the same names. The numbers are not QNX's: errors
- * are the host's errno, and flags and pulse codes are this project's. Message vectors, the _r forms, MsgDeliverEvent,
- * timers, nodes, name lookup, process death and resource managers are not there.
+ * The calls have the shapes of QNX's Library Reference, by the pages of the same names. The numbers are not QNX's:
+ * errors are the host's errno, and flags and pulse codes are this project's. Message vectors, the _r forms,
+ * MsgDeliverEvent, timers, nodes, name lookup, process death and resource managers are not there.
  *
- * A program opens a kernel of all its threads, and each joins it by its number before its first call. A process is a group
- * of these threads. Every call also fails with:
+ * A program opens a kernel of all its threads, and each joins it by its number before its first call. A process is a
+ * group of these threads. Every call also fails with:
  *   EPERM      the thread has not joined, or it runs in a forked child
  *   EDEADLK    a signal handler makes the call, and has interrupted another call of its thread
  *   ESHUTDOWN  the kernel is shut down
  *   ENOMEM     the allocator refused
  *   EOVERFLOW  the kernel has made all the 2^40 calls that it can number
  *   EFAULT     a buffer is null and its length is not 0
- * No call is a cancellation point, and no signal ends one. The header wants POSIX.1-2008: -std=gnu11, or _POSIX_C_SOURCE.
+ * No call is a cancellation point, and no signal ends one. The header wants POSIX.1-2008: -std=gnu11, or
+ * _POSIX_C_SOURCE.
  */
 #ifndef BALSAEUCHRE_SYS_NEUTRINO_H
 #define BALSAEUCHRE_SYS_NEUTRINO_H
@@ -47,31 +48,31 @@ struct neutrino_thread {
     uint8_t priority; /* 1 to 255: the one that it begins with */
 };
 
-/* Makes a kernel of these threads. Null and errno: EINVAL (a number or priority is 0, or a tid stands twice), EAGAIN (the
- * threads and the processes are more than 64 together, or the host has no key for threads left), ENOMEM, ENOEXEC (this
- * header, the layer and the library are not of one version). */
+/* Makes a kernel of these threads. Null and errno: EINVAL (a number or priority is 0, or a tid stands twice),
+ * EAGAIN (the threads and the processes are more than 64 together, or the host has no key for threads left),
+ * ENOMEM, ENOEXEC (this header, the layer and the library are not of one version). */
 static inline neutrino *neutrino_open(const struct neutrino_thread *threads, size_t count);
 
 /* The same, by the version of the header that the caller was built with. */
 neutrino *neutrino_open_version(uint32_t version, const struct neutrino_thread *threads, size_t count);
 
-/* The calling thread is from now on the thread of this number. -1 and errno: ESRCH (there is no such number), EBUSY (another
- * thread is it, or this thread has joined a kernel already), EPERM (in a forked child), ENOMEM. */
+/* The calling thread is from now on the thread of this number. -1 and errno: ESRCH (there is no such number),
+ * EBUSY (another thread is it, or this thread has joined a kernel already), EPERM (in a forked child), ENOMEM. */
 int neutrino_join(neutrino *kernel, int tid);
 
-/* The calling thread is none of the kernel's from now on. A thread that ends, or is cancelled, leaves by itself; the messages
- * that it received stay held, and the other threads of its process can answer them. */
+/* The calling thread is none of the kernel's from now on. A thread that ends, or is cancelled, leaves by itself;
+ * the messages that it received stay held, and the other threads of its process can answer them. */
 int neutrino_leave(void);
 
-/* Ends every call that waits with ESRCH; every later call fails with ESHUTDOWN, and once more is no error. The caller need not
- * have joined. */
+/* Ends every call that waits with ESRCH; every later call fails with ESHUTDOWN, and once more is no error. The
+ * caller need not have joined. */
 int neutrino_shutdown(neutrino *kernel);
 
 /* Frees the kernel. -1 and errno: EBUSY (a thread is joined), EPERM (in a forked child). */
 int neutrino_close(neutrino *kernel);
 
-/* Ends what a thread of the caller's process waits in with EINTR. But where it is REPLY-blocked on a channel with the flag
- * _NTO_CHF_UNBLOCK, it stays so and the server gets an unblock pulse. ESRCH: it is of another process. */
+/* Ends what a thread of the caller's process waits in with EINTR. But where it is REPLY-blocked on a channel with
+ * the flag _NTO_CHF_UNBLOCK, it stays so and the server gets an unblock pulse. ESRCH: it is of another process. */
 int neutrino_unblock(int tid);
 
 enum neutrino_state { STATE_READY = 1, STATE_SEND, STATE_RECEIVE, STATE_REPLY };
@@ -135,19 +136,20 @@ int ChannelCreate(unsigned flags);
 /* Ends what waits on the channel with ESRCH. EINVAL: it is not open, or of another process. */
 int ChannelDestroy(int chid);
 
-/* A connection to a channel of the process pid (0: the caller's): its coid, or ESRCH (no such channel or node), EAGAIN (1,024
- * connections). index and flags are not read. */
+/* A connection to a channel of the process pid (0: the caller's): its coid, or ESRCH (no such channel or node),
+ * EAGAIN (1,024 connections). index and flags are not read. */
 int ConnectAttach(uint32_t nd, pid_t pid, int chid, unsigned index, int flags);
 
 /* Ends each MsgSend over it with EBADF. EINVAL: no such connection. For an scoid it does nothing. */
 int ConnectDetach(int coid);
 
-/* Waits for the answer. The status of the MsgReply; or -1 and the error of the MsgError, or EBADF (no such connection, or its
- * channel is gone), ESRCH (the channel was destroyed), EINTR, ETIMEDOUT. */
+/* Waits for the answer. The status of the MsgReply; or -1 and the error of the MsgError, or EBADF (no such
+ * connection, or its channel is gone), ESRCH (the channel was destroyed), EINTR, ETIMEDOUT. */
 long MsgSend(int coid, const void *smsg, size_t sbytes, void *rmsg, size_t rbytes);
 
-/* Waits for a message or a pulse. A message's rcvid; 0 for a pulse, of which as much is copied as finds room. info is written
- * for a message only, and may be null. ESRCH: no such channel of this process, or it was destroyed; EINTR; ETIMEDOUT. */
+/* Waits for a message or a pulse. A message's rcvid; 0 for a pulse, of which as much is copied as finds room. info
+ * is written for a message only, and may be null. ESRCH: no such channel of this process, or it was destroyed;
+ * EINTR; ETIMEDOUT. */
 int MsgReceive(int chid, void *msg, size_t bytes, struct _msg_info *info);
 
 /* Waits for a pulse. info is not written. */
@@ -162,11 +164,12 @@ ssize_t MsgRead(int rcvid, void *msg, size_t bytes, size_t offset);
 ssize_t MsgWrite(int rcvid, const void *msg, size_t bytes, size_t offset);
 int MsgInfo(int rcvid, struct _msg_info *info);
 
-/* priority 1 to 255, or -1 for the caller's; code 0 to 127. EBADF, EINVAL, EAGAIN (1,024 pulses wait on the channel). */
+/* priority 1 to 255, or -1 for the caller's; code 0 to 127. EBADF, EINVAL, EAGAIN (1,024 pulses wait on the
+ * channel). */
 int MsgSendPulse(int coid, int priority, int code, int value);
 
-/* Sets the priority of a thread (0: the caller) of the caller's process. It orders messages; the host's scheduling stays, and
- * policy is not read. ESRCH, EINVAL. */
+/* Sets the priority of a thread (0: the caller) of the caller's process. It orders messages; the host's scheduling
+ * stays, and policy is not read. ESRCH, EINVAL. */
 int SchedSet(pid_t pid, int tid, int policy, const struct sched_param *param);
 
 #define _NTO_TIMEOUT_SEND (1 << STATE_SEND)
@@ -178,11 +181,11 @@ int SchedSet(pid_t pid, int tid, int policy, const struct sched_param *param);
 #define SIGEV_UNBLOCK_INIT(event) ((void)((event)->sigev_notify = SIGEV_UNBLOCK))
 #endif
 
-/* The next call of this thread is unblocked as by neutrino_unblock, and then fails with ETIMEDOUT, once *ntime nanoseconds
- * have gone since it was made and it is in one of the states of flags. If ntime is null it does not wait in them at all.
- * flags 0 takes a timeout back. notify is null or of SIGEV_UNBLOCK. *otime, if otime is not null, is what an earlier
- * timeout had that this one replaces, or 0. EINVAL: another flag, event or clock than CLOCK_MONOTONIC or CLOCK_REALTIME,
- * which both count alike. */
+/* The next call of this thread is unblocked as by neutrino_unblock, and then fails with ETIMEDOUT, once *ntime
+ * nanoseconds have gone since it was made and it is in one of the states of flags. If ntime is null it does not
+ * wait in them at all. flags 0 takes a timeout back. notify is null or of SIGEV_UNBLOCK. *otime, if otime is not
+ * null, is what an earlier timeout had that this one replaces, or 0. EINVAL: another flag, event or clock than
+ * CLOCK_MONOTONIC or CLOCK_REALTIME, which both count alike. */
 int TimerTimeout(clockid_t id, int flags, const struct sigevent *notify, const uint64_t *ntime, uint64_t *otime);
 
 static inline neutrino *neutrino_open(const struct neutrino_thread *threads, size_t count) {

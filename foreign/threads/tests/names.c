@@ -33,7 +33,8 @@ static int all_at_once(enum table table, int count) {
     return 0;
 }
 
-/* Names that are made and ended one by one: all places are taken in turn, and none comes again before a place's turns are over. */
+/* Names that are made and ended one by one: all places are taken in turn, and none comes again before a place's
+ * turns are over. */
 static int one_by_one(enum table table) {
     struct names *names = &k.tables[table];
     int count = 1 << names->bits, first = 0;

@@ -1,6 +1,6 @@
-/* Keeps each call of the library in the order of the layer's lock, and what each thread got of its own calls. When a kernel
- * is freed, one thread makes all its calls again: each event must be the one before, and each ending the one that its
- * thread got. Linked with --wrap for the functions of which there is a __wrap_ here.
+/* Keeps each call of the library in the order of the layer's lock, and what each thread got of its own calls. When a
+ * kernel is freed, one thread makes all its calls again: each event must be the one before, and each ending the one
+ * that its thread got. Linked with --wrap for the functions of which there is a __wrap_ here.
  */
 #include "tests.h"
 #include "balsaeuchre.h"
@@ -159,7 +159,8 @@ static void compare(struct record *r, const struct entry *e, balsaeuchre *kernel
     event.bytes = malloc(e->bytes_len + 1);
     event.bytes_len = e->bytes_len;
     uint32_t answer = __real_balsaeuchre_make_call(kernel, &e->request, e->sent, e->sent_len, e->room, e->room_len,
-                                                   event.rows, BALSAEUCHRE_ROWS, event.bytes, event.bytes_len, &event.done);
+                                                   event.rows, BALSAEUCHRE_ROWS, event.bytes, event.bytes_len,
+                                                   &event.done);
     if (answer != e->answer) differs("another answer", at);
     again++;
     if (answer) {
@@ -263,15 +264,17 @@ WRAP(int, ConnectAttach, CONNECT_ATTACH, (uint32_t nd, pid_t pid, int chid, unsi
 WRAP(int, ConnectDetach, CONNECT_DETACH, (int coid), (coid), NULL, 0)
 WRAP(long, MsgSend, SEND, (int coid, const void *smsg, size_t sbytes, void *rmsg, size_t rbytes),
      (coid, smsg, sbytes, rmsg, rbytes), rmsg, rbytes)
-WRAP(int, MsgReceive, RECEIVE, (int chid, void *msg, size_t bytes, struct _msg_info *info), (chid, msg, bytes, info), msg,
-     bytes)
+WRAP(int, MsgReceive, RECEIVE, (int chid, void *msg, size_t bytes, struct _msg_info *info),
+     (chid, msg, bytes, info), msg, bytes)
 WRAP(int, MsgReceivePulse, RECEIVE_PULSE, (int chid, void *pulse, size_t bytes, struct _msg_info *info),
      (chid, pulse, bytes, info), pulse, bytes)
-WRAP(int, MsgReply, REPLY, (int rcvid, long status, const void *msg, size_t bytes), (rcvid, status, msg, bytes), NULL, 0)
+WRAP(int, MsgReply, REPLY, (int rcvid, long status, const void *msg, size_t bytes), (rcvid, status, msg, bytes),
+     NULL, 0)
 WRAP(int, MsgError, ERROR, (int rcvid, int error_), (rcvid, error_), NULL, 0)
-WRAP(ssize_t, MsgRead, READ, (int rcvid, void *msg, size_t bytes, size_t offset), (rcvid, msg, bytes, offset), msg, bytes)
-WRAP(ssize_t, MsgWrite, WRITE, (int rcvid, const void *msg, size_t bytes, size_t offset), (rcvid, msg, bytes, offset), NULL,
-     0)
+WRAP(ssize_t, MsgRead, READ, (int rcvid, void *msg, size_t bytes, size_t offset), (rcvid, msg, bytes, offset),
+     msg, bytes)
+WRAP(ssize_t, MsgWrite, WRITE, (int rcvid, const void *msg, size_t bytes, size_t offset), (rcvid, msg, bytes, offset),
+     NULL, 0)
 WRAP(int, MsgInfo, INFO, (int rcvid, struct _msg_info *info), (rcvid, info), NULL, 0)
 WRAP(int, MsgSendPulse, PULSE, (int coid, int priority, int code, int value), (coid, priority, code, value), NULL, 0)
 WRAP(int, SchedSet, PRIORITY_SET, (pid_t pid, int tid, int policy, const struct sched_param *param),
