@@ -23,10 +23,11 @@ the C program itself. One that isn't is left out, and it says by which command i
 Each repeat (7, if no other number is given) runs all programs in turn, case by case, so that what else runs on the
 machine meets all of them. `--before PROGRAM` runs an older `qroundtrips` too, as `kernel before` and `unkept before`.
 `--busy` lets a process that computes run on each core meanwhile, makes fewer round trips, and leaves out the peers that
-yield their core and so wait for it in milliseconds, as well as the row `alone`. The figures: microseconds a round trip, which is the time until all clients have ended by the
-number of all round trips, least and median; and the median of the sleeps a round trip, which are the voluntary context
-switches of all threads of the program, as the system tells them. At the end stands how many times a peer's median the
-kernel's is, and how many times another's that of the C program, with what is aimed at.
+yield their core and so wait for it in milliseconds, as well as the row `alone`. The figures: microseconds a round
+trip, which is the time until all clients have ended by the number of all round trips, least and median; and the
+median of the sleeps a round trip, which are the voluntary context switches of all threads of the program, as the
+system tells them. At the end stands how many times a peer's median the kernel's is, and how many times another's that
+of the C program, with what is aimed at.
 """
 
 import argparse
