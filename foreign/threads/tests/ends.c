@@ -83,6 +83,11 @@ static void timeout_errors(void) {
     fails(TimerTimeout(CLOCK_PROCESS_CPUTIME_ID, SENDING, NULL, &time, NULL), EINVAL);
 }
 
+static void *send_later(void *job) {
+    usleep(20000);
+    return send_once(job);
+}
+
 /* A timeout holds for its states alone, and for one call. */
 void timeout_states(void) {
     neutrino *kernel = open_few();
@@ -111,8 +116,11 @@ void timeout_states(void) {
     check(MsgReply(rcvid, 9, NULL, 0) == 0 && ended(client) == 9);
     set_timeout(_NTO_TIMEOUT_RECEIVE, 0);
     check(neutrino_state(0) == STATE_READY); /* takes the timeout */
-    struct job pulse = {.kernel = kernel, .tid = 2, .chid = chid, .states = 0};
-    client = start(send_once, &pulse);
+    job.states = 0;
+    client = start(send_later, &job);
+    check((rcvid = MsgReceive(chid, room, sizeof room, NULL)) > 0); /* waits */
+    check(MsgReply(rcvid, 2, NULL, 0) == 0 && ended(client) == 2);
+    client = start(send_once, &job);
     until_state(2, STATE_SEND);
     set_timeout(_NTO_TIMEOUT_RECEIVE, 0);
     check((rcvid = MsgReceive(chid, room, sizeof room, NULL)) > 0); /* does not wait */
