@@ -16,14 +16,14 @@ static uint8_t priority_of(neutrino *k, const struct place *p) {
 }
 
 /* How much of its buffer a call shows the kernel. */
-static size_t shown(const struct call *c) {
+static size_t visible_length(const struct call *c) {
     if (c->request.kind == BALSAEUCHRE_RECEIVE_PULSE) return 0;
     return c->request.kind == BALSAEUCHRE_RECEIVE && c->room_len > FRONT ? FRONT : c->room_len;
 }
 
 /* Makes the call under the lock, and brings the endings: 0, and whose calls are ended; or an errno, and none is. */
-static int make_locked(neutrino *k, struct place *p, struct call *c, uint64_t *ended) {
-    size_t room_len = shown(c);
+static int make_under_lock(neutrino *k, struct place *p, struct call *c, uint64_t *ended) {
+    size_t room_len = visible_length(c);
     bool receives = c->request.kind == BALSAEUCHRE_RECEIVE;
     if (!make_room(k, p, room_len) || (receives && !grow(&k->side, c->room_len - room_len))) return ENOMEM;
     if (c->table) c->request.id = id_of(k, c->table, c->number, c->owner);
@@ -44,7 +44,7 @@ static void make(neutrino *k, struct place *p, struct call *c) {
     uint64_t ended = 0, own = bit_of(k, p);
     start_timeout(p, c);
     lock(k);
-    int error = make_locked(k, p, c, &ended);
+    int error = make_under_lock(k, p, c, &ended);
     uint64_t asleep = tell(k, ended & ~own);
     unlock(k);
     wake(k, asleep);

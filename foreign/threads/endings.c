@@ -20,7 +20,7 @@ static bool make_room(neutrino *k, struct place *p, size_t length) {
     return true;
 }
 
-static int32_t told_length(size_t length) { return length < INT32_MAX ? (int32_t)length : INT32_MAX; }
+static int32_t length_of_info(size_t length) { return length < INT32_MAX ? (int32_t)length : INT32_MAX; }
 
 /* What is known of a held message, which stands in an Info's row and in a message's. */
 static void fill_info(const struct place *sender, const balsaeuchre_ending *row, struct _msg_info *info) {
@@ -31,9 +31,9 @@ static void fill_info(const struct place *sender, const balsaeuchre_ending *row,
     info->chid = sender->chid;
     info->scoid = SCOID | row->process;
     info->coid = sender->coid;
-    info->msglen = told_length(sender->msglen);
-    info->srcmsglen = told_length(row->srcmsglen);
-    info->dstmsglen = told_length(row->dstmsglen);
+    info->msglen = length_of_info(sender->msglen);
+    info->srcmsglen = length_of_info(row->srcmsglen);
+    info->dstmsglen = length_of_info(row->dstmsglen);
     info->priority = row->priority;
 }
 

@@ -25,7 +25,7 @@ void messages(void) {
     fails(MsgReceive(chid, room, 8, NULL), ESRCH);
     fails(ChannelDestroy(chid), EINVAL);
     become(kernel, 1);
-    check(MsgReply(rcvid, 77, "xy", 2) == 0 && ended(client) == 77 && memcmp(job.reply, "xy..abca", 8) == 0);
+    check(MsgReply(rcvid, 77, "xy", 2) == 0 && result_of(client) == 77 && memcmp(job.reply, "xy..abca", 8) == 0);
     fails(MsgReply(rcvid, 0, NULL, 0), ESRCH);
     fails(MsgError(rcvid, 1), ESRCH);
     fails(MsgInfo(rcvid, &info), ESRCH);
@@ -35,11 +35,11 @@ void messages(void) {
     int next = MsgReceive(chid, room, 8, NULL);
     check(next > 0 && next != rcvid);
     fails(MsgReply(rcvid, 0, NULL, 0), ESRCH);
-    check(MsgError(next, ENOTTY) == 0 && ended(client) == -ENOTTY);
+    check(MsgError(next, ENOTTY) == 0 && result_of(client) == -ENOTTY);
     client = start(send_once, &job);
-    check(MsgError(MsgReceive(chid, room, 8, NULL), EOK) == 0 && ended(client) == 0);
+    check(MsgError(MsgReceive(chid, room, 8, NULL), EOK) == 0 && result_of(client) == 0);
     client = start(send_once, &job);
-    check(MsgReply(MsgReceive(chid, room, 8, NULL), LONG_MIN, NULL, 0) == 0 && ended(client) == LONG_MIN);
+    check(MsgReply(MsgReceive(chid, room, 8, NULL), LONG_MIN, NULL, 0) == 0 && result_of(client) == LONG_MIN);
     check(ChannelDestroy(chid) == 0);
     fails(ChannelDestroy(chid), EINVAL);
     fails(MsgReceive(chid, room, 8, NULL), ESRCH);
@@ -78,7 +78,7 @@ void lengths(void) {
         for (size_t at = 0; at < sizeof room; at++) check(room[at] == (at < copied ? (char)at : '-'));
         check(MsgReply(rcvid, (long)length, room, 40) == 0);
     }
-    ended(client);
+    result_of(client);
     fails(MsgReceive(job.chid, NULL, 4, NULL), EFAULT);
     fails(MsgReceivePulse(job.chid, NULL, 4, NULL), EFAULT);
     fails(MsgSend(1, NULL, 4, NULL, 0), EFAULT);
@@ -136,7 +136,7 @@ void long_messages(void) {
         size_t back = copied < reply ? copied : reply;
         check(MsgReply(rcvid, (long)back, room, copied) == 0);
     }
-    ended(client);
+    result_of(client);
     free(room);
     close_few(kernel);
 }
@@ -176,7 +176,7 @@ void pulses(void) {
     struct job job = {.kernel = kernel, .tid = 4, .chid = chid};
     pthread_t client = start(send_once, &job);
     int rcvid = MsgReceive(chid, room, sizeof room, &info);
-    check(MsgReply(rcvid, 0, NULL, 0) == 0 && ended(client) == 0);
+    check(MsgReply(rcvid, 0, NULL, 0) == 0 && result_of(client) == 0);
     send_pulses(kernel, chid, &info);
     check(MsgReceive(chid, &pulse, sizeof pulse, NULL) == 0 && pulse.code == 6 && pulse.value.sival_int == 7);
     memset(&pulse, 9, sizeof pulse);
@@ -212,13 +212,13 @@ void priorities(void) {
     pthread_t client = start(send_once, &job);
     int rcvid = MsgReceive(fixed, room, sizeof room, &info);
     check(info.priority == 30 && neutrino_priority(0) == 44);
-    check(MsgReply(rcvid, 0, NULL, 0) == 0 && ended(client) == 0);
+    check(MsgReply(rcvid, 0, NULL, 0) == 0 && result_of(client) == 0);
     job.chid = chid;
     job.coid = 0;
     client = start(send_once, &job);
     rcvid = MsgReceive(chid, room, sizeof room, NULL);
     check(neutrino_priority(0) == 30 && neutrino_state(3) == STATE_REPLY);
-    check(MsgReply(rcvid, 0, NULL, 0) == 0 && ended(client) == 0 && neutrino_priority(0) == 30);
+    check(MsgReply(rcvid, 0, NULL, 0) == 0 && result_of(client) == 0 && neutrino_priority(0) == 30);
     close_few(kernel);
 }
 

@@ -104,9 +104,9 @@ static void echo(struct run run) {
         workers[at] = (struct worker){kernel, at + 1, at, &run};
         running[at] = start(at < run.servers ? serve : ask, &workers[at]);
     }
-    for (int at = run.servers; at < count; at++) late += ended(running[at]);
+    for (int at = run.servers; at < count; at++) late += result_of(running[at]);
     stop(kernel, run.servers);
-    for (int at = 0; at < run.servers; at++) ended(running[at]);
+    for (int at = 0; at < run.servers; at++) result_of(running[at]);
     if (!run.late) check(atomic_load(&answered) == run.clients * run.rounds && late == 0);
     check(neutrino_close(kernel) == 0);
 }

@@ -16,12 +16,12 @@ void unblocks(void) {
     fails(neutrino_unblock(256), ESRCH);
     check(neutrino_unblock(1) == 0 && neutrino_state(2) == STATE_SEND);
     become(kernel, 3);
-    check(neutrino_unblock(2) == 0 && ended(client) == -EINTR);
+    check(neutrino_unblock(2) == 0 && result_of(client) == -EINTR);
     become(kernel, 1);
     client = start(send_once, &job);
     int rcvid = MsgReceive(plain, room, sizeof room, NULL);
     become(kernel, 3);
-    check(neutrino_unblock(2) == 0 && ended(client) == -EINTR);
+    check(neutrino_unblock(2) == 0 && result_of(client) == -EINTR);
     become(kernel, 1);
     fails(MsgReply(rcvid, 0, NULL, 0), ESRCH);
     job.chid = told;
@@ -32,13 +32,13 @@ void unblocks(void) {
     check(neutrino_unblock(2) == 0 && neutrino_unblock(2) == 0 && neutrino_state(2) == STATE_REPLY);
     become(kernel, 1);
     check(MsgReceive(told, &pulse, sizeof pulse, NULL) == 0 && pulse.code == _PULSE_CODE_UNBLOCK);
-    check(pulse.value.sival_int == rcvid && MsgError(rcvid, EINTR) == 0 && ended(client) == -EINTR);
+    check(pulse.value.sival_int == rcvid && MsgError(rcvid, EINTR) == 0 && result_of(client) == -EINTR);
     client = start(send_once, &job);
     rcvid = MsgReceive(told, room, sizeof room, NULL);
     become(kernel, 3);
     check(neutrino_unblock(2) == 0);
     become(kernel, 1);
-    check(MsgReply(rcvid, 6, NULL, 0) == 0 && ended(client) == 6);
+    check(MsgReply(rcvid, 6, NULL, 0) == 0 && result_of(client) == 6);
     check(MsgReceivePulse(told, &pulse, sizeof pulse, NULL) == 0 && pulse.value.sival_int == 0); /* answered since */
     close_few(kernel);
 }
@@ -49,7 +49,7 @@ void timeouts(void) {
     char room[8];
     int told = ChannelCreate(_NTO_CHF_UNBLOCK), plain = ChannelCreate(0);
     struct job job = {.kernel = kernel, .tid = 2, .chid = plain, .states = SENDING, .time = SHORT};
-    check(ended(start(send_once, &job)) == -ETIMEDOUT);
+    check(result_of(start(send_once, &job)) == -ETIMEDOUT);
     set_timeout(_NTO_TIMEOUT_RECEIVE, SHORT);
     fails(MsgReceive(plain, room, sizeof room, NULL), ETIMEDOUT); /* the message is gone */
     check(TimerTimeout(CLOCK_REALTIME, _NTO_TIMEOUT_RECEIVE, NULL, NULL, NULL) == 0);
@@ -57,7 +57,7 @@ void timeouts(void) {
     job.time = LONG;
     pthread_t client = start(send_once, &job);
     int rcvid = MsgReceive(plain, room, sizeof room, NULL);
-    check(rcvid > 0 && ended(client) == -ETIMEDOUT);
+    check(rcvid > 0 && result_of(client) == -ETIMEDOUT);
     fails(MsgReply(rcvid, 0, NULL, 0), ESRCH);
     job.chid = told;
     job.coid = 0;
@@ -65,7 +65,7 @@ void timeouts(void) {
     rcvid = MsgReceive(told, room, sizeof room, NULL);
     check(rcvid > 0 && MsgReceivePulse(told, &pulse, sizeof pulse, NULL) == 0);
     check(pulse.code == _PULSE_CODE_UNBLOCK && pulse.value.sival_int == rcvid && neutrino_state(2) == STATE_REPLY);
-    check(MsgReply(rcvid, 5, NULL, 0) == 0 && ended(client) == 5);
+    check(MsgReply(rcvid, 5, NULL, 0) == 0 && result_of(client) == 5);
     close_few(kernel);
 }
 
@@ -100,31 +100,31 @@ void timeout_states(void) {
     usleep(20000);
     check(neutrino_state(2) == STATE_SEND); /* its time is over, but not in this state */
     int rcvid = MsgReceive(chid, room, sizeof room, NULL);
-    check(ended(client) == -ETIMEDOUT);
+    check(result_of(client) == -ETIMEDOUT);
     fails(MsgReply(rcvid, 0, NULL, 0), ESRCH);
     job.states = _NTO_TIMEOUT_SEND;
     job.time = 50000000;
     client = start(send_once, &job);
     rcvid = MsgReceive(chid, room, sizeof room, NULL);
     usleep(100000);
-    check(neutrino_state(2) == STATE_REPLY && MsgReply(rcvid, 8, NULL, 0) == 0 && ended(client) == 8);
+    check(neutrino_state(2) == STATE_REPLY && MsgReply(rcvid, 8, NULL, 0) == 0 && result_of(client) == 8);
     job.states = _NTO_TIMEOUT_RECEIVE;
     job.time = 0;
     client = start(send_once, &job);
     rcvid = MsgReceive(chid, room, sizeof room, NULL);
     usleep(5000);
-    check(MsgReply(rcvid, 9, NULL, 0) == 0 && ended(client) == 9);
+    check(MsgReply(rcvid, 9, NULL, 0) == 0 && result_of(client) == 9);
     set_timeout(_NTO_TIMEOUT_RECEIVE, 0);
     check(neutrino_state(0) == STATE_READY); /* takes the timeout */
     job.states = 0;
     client = start(send_later, &job);
     check((rcvid = MsgReceive(chid, room, sizeof room, NULL)) > 0); /* waits */
-    check(MsgReply(rcvid, 2, NULL, 0) == 0 && ended(client) == 2);
+    check(MsgReply(rcvid, 2, NULL, 0) == 0 && result_of(client) == 2);
     client = start(send_once, &job);
     until_state(2, STATE_SEND);
     set_timeout(_NTO_TIMEOUT_RECEIVE, 0);
     check((rcvid = MsgReceive(chid, room, sizeof room, NULL)) > 0); /* does not wait */
-    check(MsgReply(rcvid, 1, NULL, 0) == 0 && ended(client) == 1);
+    check(MsgReply(rcvid, 1, NULL, 0) == 0 && result_of(client) == 1);
     close_few(kernel);
 }
 
@@ -137,14 +137,14 @@ void detaches(void) {
     struct job job = {.kernel = kernel, .tid = 2, .coid = coid};
     pthread_t client = start(send_once, &job);
     until_state(2, STATE_SEND);
-    check(ConnectDetach(coid) == 0 && ended(client) == -EBADF);
+    check(ConnectDetach(coid) == 0 && result_of(client) == -EBADF);
     job.coid = coid = ConnectAttach(0, SERVER, chid, 0, 0);
     become(kernel, 1);
     client = start(send_once, &job);
     int rcvid = MsgReceive(chid, room, sizeof room, NULL);
     check(MsgWrite(rcvid, "abc", 3, 1) == 3);
     become(kernel, 3);
-    check(ConnectDetach(coid) == 0 && ended(client) == -EBADF && memcmp(job.reply, ".abc....", 8) == 0);
+    check(ConnectDetach(coid) == 0 && result_of(client) == -EBADF && memcmp(job.reply, ".abc....", 8) == 0);
     become(kernel, 1);
     fails(MsgReply(rcvid, 0, NULL, 0), ESRCH);
     close_few(kernel);
@@ -159,20 +159,20 @@ void destroys(void) {
     int rcvid = MsgReceive(chid, room, sizeof room, NULL);
     pthread_t second = start(send_once, &two);
     until_state(3, STATE_SEND);
-    check(ChannelDestroy(chid) == 0 && ended(first) == -ESRCH && ended(second) == -ESRCH);
+    check(ChannelDestroy(chid) == 0 && result_of(first) == -ESRCH && result_of(second) == -ESRCH);
     fails(MsgReply(rcvid, 0, NULL, 0), ESRCH);
     become(kernel, 2);
     struct job waits = {.kernel = kernel, .tid = 3, .chid = ChannelCreate(0)};
     first = start(receive_once, &waits);
     until_state(3, STATE_RECEIVE);
-    check(ChannelDestroy(waits.chid) == 0 && ended(first) == -ESRCH);
+    check(ChannelDestroy(waits.chid) == 0 && result_of(first) == -ESRCH);
     waits.chid = ChannelCreate(0);
     first = start(receive_once, &waits);
     until_state(3, STATE_RECEIVE);
-    check(neutrino_unblock(3) == 0 && ended(first) == -EINTR);
+    check(neutrino_unblock(3) == 0 && result_of(first) == -EINTR);
     waits.states = _NTO_TIMEOUT_RECEIVE;
     waits.time = SHORT;
-    check(ended(start(receive_once, &waits)) == -ETIMEDOUT);
+    check(result_of(start(receive_once, &waits)) == -ETIMEDOUT);
     close_few(kernel);
 }
 
@@ -188,7 +188,7 @@ void shutdowns(void) {
     until_state(3, STATE_SEND);
     until_state(4, STATE_SEND);
     check(neutrino_leave() == 0 && neutrino_shutdown(kernel) == 0); /* by a thread that has not joined */
-    check(ended(first) == -ESRCH && ended(second) == -ESRCH && ended(third) == -ESRCH);
+    check(result_of(first) == -ESRCH && result_of(second) == -ESRCH && result_of(third) == -ESRCH);
     check(neutrino_join(kernel, 1) == 0);
     fails(ChannelCreate(0), ESHUTDOWN);
     fails(MsgReceive(chid, room, 8, NULL), ESHUTDOWN);
@@ -200,6 +200,6 @@ void shutdowns(void) {
     struct job waits = {.kernel = kernel, .tid = 3, .chid = ChannelCreate(0)};
     first = start(receive_once, &waits);
     until_state(3, STATE_RECEIVE);
-    check(neutrino_shutdown(kernel) == 0 && ended(first) == -ESRCH);
+    check(neutrino_shutdown(kernel) == 0 && result_of(first) == -ESRCH);
     close_few(kernel);
 }

@@ -46,10 +46,10 @@ void joins(void) {
     fails(neutrino_join(kernel, 255), ESRCH); /* a clock's, or nobody's */
     check(neutrino_join(kernel, 1) == 0);
     fails(neutrino_join(kernel, 2), EBUSY);
-    check(ended(start(join_once, kernel)) == -EBUSY);
+    check(result_of(start(join_once, kernel)) == -EBUSY);
     fails(neutrino_close(kernel), EBUSY);
     check(neutrino_leave() == 0);
-    check(ended(start(join_once, kernel)) == 0); /* and it ends while it is joined */
+    check(result_of(start(join_once, kernel)) == 0); /* and it ends while it is joined */
     check(neutrino_join(kernel, 1) == 0);
     close_few(kernel);
 }
@@ -104,7 +104,7 @@ void two_kernels(void) {
         check((long)send_once(&job) == 70 + round % 2 && memcmp(job.reply, "hello", 5) == 0);
     }
     for (int at = 0; at < 2; at++) {
-        ended(running[at]);
+        result_of(running[at]);
         check(neutrino_close(servers[at].kernel) == 0);
     }
 }
@@ -145,7 +145,7 @@ void forks(void) {
         check(neutrino_state(0) == STATE_READY);
     }
     atomic_store(&goes_on, 0);
-    ended(other);
+    result_of(other);
     close_few(kernel);
 }
 
@@ -176,11 +176,11 @@ void cancels(void) {
     sends.coid = ConnectAttach(0, CLIENTS, waits.chid, 0, 0);
     check(sends.coid > 0 && neutrino_leave() == 0);
     pthread_t sending = start(send_once, &sends);
-    ended(waiting); /* which goes on for ever where it is not cancelled */
+    result_of(waiting); /* which goes on for ever where it is not cancelled */
     check(neutrino_join(kernel, 3) == 0); /* its number is free, and its process still holds the message */
     struct job again = {.kernel = kernel, .tid = 2, .chid = waits.chid, .states = _NTO_TIMEOUT_RECEIVE};
-    check(ended(start(receive_once, &again)) == -ETIMEDOUT);
-    check(neutrino_shutdown(kernel) == 0 && ended(sending) == -ESRCH);
+    check(result_of(start(receive_once, &again)) == -ETIMEDOUT);
+    check(neutrino_shutdown(kernel) == 0 && result_of(sending) == -ESRCH);
     close_few(kernel);
 }
 
@@ -192,7 +192,7 @@ static void *exit_joined(void *argument) {
 
 void exits(void) {
     neutrino *kernel = neutrino_open(few, 4);
-    for (int turn = 0; turn < 50; turn++) ended(start(exit_joined, kernel));
+    for (int turn = 0; turn < 50; turn++) result_of(start(exit_joined, kernel));
     check(neutrino_close(kernel) == 0); /* nobody is joined any more */
 }
 
@@ -223,7 +223,7 @@ void signals(void) {
         while (atomic_load(&deadlocks) < turn) usleep(50);
     }
     char room[8];
-    check(MsgReply(MsgReceive(job.chid, room, 8, NULL), 4, NULL, 0) == 0 && ended(client) == 4);
+    check(MsgReply(MsgReceive(job.chid, room, 8, NULL), 4, NULL, 0) == 0 && result_of(client) == 4);
     close_few(kernel);
 }
 

@@ -30,7 +30,7 @@ pthread_t start(void *(*work)(void *), void *argument) {
     return thread;
 }
 
-long ended(pthread_t thread) {
+long result_of(pthread_t thread) {
     void *result;
     check(pthread_join(thread, &result) == 0);
     return (long)result;

@@ -38,7 +38,7 @@ static _Thread_local int my_tid;
 static _Thread_local bool is_event; /* the library took this thread's own call */
 static size_t again, compared;
 
-static void *grown(void *all, size_t count, size_t *size, size_t each) {
+static void *grow(void *all, size_t count, size_t *size, size_t each) {
     if (count < *size) return all;
     *size = 2 * *size + 64;
     return realloc(all, *size * each);
@@ -88,7 +88,7 @@ uint32_t __wrap_balsaeuchre_make_call(balsaeuchre *handle, const balsaeuchre_req
                                                   bytes, bytes_len, done);
     struct record *r = record_of(handle->place);
     if (!r) return error; /* of a kernel that a child opened or that is made again */
-    r->entries = grown(r->entries, r->count, &r->size, sizeof *r->entries);
+    r->entries = grow(r->entries, r->count, &r->size, sizeof *r->entries);
     struct entry *e = &r->entries[r->count++];
     *e = (struct entry){.request = *request, .sent_len = sent_len, .room_len = room_len, .answer = error};
     e->sent = copy_of(sent, sent_len);
@@ -205,7 +205,7 @@ void __wrap_balsaeuchre_free(balsaeuchre handle) {
     __real_balsaeuchre_free(handle);
 }
 
-__attribute__((destructor)) static void told(void) {
+__attribute__((destructor)) static void report(void) {
     if (again) printf("%zu calls made again, %zu endings the same\n", again, compared);
 }
 
@@ -240,7 +240,7 @@ static void begin(int kind) {
 static void keep(long result, const void *bytes, size_t length) {
     if (!mine || !is_event) return;
     struct gots *gots = &mine->gots[my_tid];
-    gots->all = grown(gots->all, gots->count, &gots->size, sizeof *gots->all);
+    gots->all = grow(gots->all, gots->count, &gots->size, sizeof *gots->all);
     gots->all[gots->count++] = (struct got){result, result == -1 ? errno : 0, copy_of(bytes, length)};
     is_event = false;
 }

@@ -39,7 +39,7 @@ neutrino *open_few(void);       /* with the caller as thread 1 */
 void close_few(neutrino *kernel); /* that is joined by the caller alone */
 void become(neutrino *kernel, int tid);
 pthread_t start(void *(*work)(void *), void *argument);
-long ended(pthread_t thread);
+long result_of(pthread_t thread);
 void *send_once(void *job);    /* sends "hello" */
 void *receive_once(void *job); /* into 8 bytes */
 void until_state(int tid, int state);
