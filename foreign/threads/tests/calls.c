@@ -248,6 +248,27 @@ void limits(void) {
     close_few(kernel);
 }
 
+static int receive_from(struct job *job, pthread_t *client) {
+    char room[8];
+    *client = start(send_once, job);
+    return MsgReceive(job->chid, room, sizeof room, NULL);
+}
+
+/* A held message keeps its number, also where that is in the place of an earlier one whose sender ends another call. */
+static void held_number(neutrino *kernel) {
+    struct job one = {.kernel = kernel, .tid = 2, .chid = ChannelCreate(0)};
+    struct job other = {.kernel = kernel, .tid = 4, .chid = one.chid};
+    pthread_t client;
+    check(MsgReply(receive_from(&one, &client), 1, NULL, 0) == 0 && result_of(client) == 1);
+    for (int at = 0; at < 63; at++)
+        check(MsgReply(receive_from(&other, &client), 2, NULL, 0) == 0 && result_of(client) == 2);
+    int rcvid = receive_from(&other, &client);
+    one.states = _NTO_TIMEOUT_SEND;
+    check(result_of(start(send_once, &one)) == -ETIMEDOUT);
+    check(MsgReply(rcvid, 3, NULL, 0) == 0 && result_of(client) == 3);
+    check(ChannelDestroy(one.chid) == 0);
+}
+
 /* Numbers that were made and are gone, and numbers that never were, lead to nothing. */
 void numbers(void) {
     neutrino *kernel = open_few();
@@ -260,6 +281,7 @@ void numbers(void) {
         fails(ConnectDetach(wrong[at]), EINVAL);
         fails(ChannelDestroy(wrong[at]), EINVAL);
     }
+    held_number(kernel);
     fails(ChannelCreate(8), EINVAL);
     fails(ChannelCreate(256), EINVAL);
     static int old[200], coids[200];
