@@ -8,6 +8,8 @@ with 4, and the client collects and checks them. The programs:
 
   kernel      Send, Receive and Reply by the locked kernel, with a thread for each port, and its past in memory
   unkept      the same by a kernel that keeps no past
+  c           threads of a C program over the static library (foreign/threads), which keeps no past either
+  c 64 KiB    the same with a receive buffer of 64 KiB
   rendezvous  a channel of Rust's `std` without room, with a reply channel for each client
   condvar     a mutex over a queue, with condition variables
   crossbeam   a channel of crossbeam without room, with a reply channel for each client
@@ -16,16 +18,17 @@ with 4, and the client collects and checks them. The programs:
 The kernel also makes them in one thread that has the port of a client and that of a server and never waits: the row
 `alone`, which shows what its three calls and two looks cost by themselves.
 
-It wants them built, `bench/out/qroundtrips` and `bench/peers/out/peers`. One that isn't is left out, and
-it says by which command it is built.
+It wants them built, `bench/out/qroundtrips` and `bench/peers/out/peers`, and the static library, over which it builds
+the C program itself. One that isn't is left out, and it says by which command it is built.
 
 Each repeat (7, if no other number is given) runs all programs in turn, case by case, so that what else runs on the
 machine meets all of them. `--before PROGRAM` runs an older `qroundtrips` too, as `kernel before` and `unkept before`.
 `--busy` lets a process that computes run on each core meanwhile, makes fewer round trips, and leaves out the peers that
-yield their core and so wait for it in milliseconds, as well as the row `alone`. The figures: microseconds a round trip, which is the time until all clients have ended by the
-number of all round trips, least and median; and the median of the sleeps a round trip, which are the voluntary context
-switches of all threads of the program, as the system tells them. At the end stands how many times a peer's median the
-kernel's is, with what is aimed at.
+yield their core and so wait for it in milliseconds, as well as the row `alone`. The figures: microseconds a round
+trip, which is the time until all clients have ended by the number of all round trips, least and median; and the
+median of the sleeps a round trip, which are the voluntary context switches of all threads of the program, as the
+system tells them. At the end stands how many times a peer's median the kernel's is, and how many times another's that
+of the C program, with what is aimed at.
 """
 
 import argparse
@@ -41,21 +44,26 @@ ROOT = os.path.dirname(os.path.dirname(os.path.abspath(__file__)))
 KERNEL = os.path.join(ROOT, "bench/out/qroundtrips")
 PEERS = os.path.join(ROOT, "bench/peers/out/peers")
 RUST = os.path.join(ROOT, "foreign/rust/target/release/examples/bench")
+C = os.path.join(ROOT, "bench/out/c_roundtrips")
+LIBRARY = os.path.join(ROOT, "crates/balsaeuchre_c/out/libbalsaeuchre_c.a")
 
 PROGRAMS = {
     "kernel": [KERNEL],
     "unkept": [KERNEL],
+    "c": [C],
+    "c 64 KiB": [C],
     "rendezvous": [PEERS, "rendezvous"],
     "condvar": [PEERS, "condvar"],
     "crossbeam": [PEERS, "crossbeam"],
     "rust": [RUST],
 }
 # What follows the numbers in a program's words.
-LAST_WORDS = {"unkept": ["unkept"], "unkept before": ["unkept"]}
+LAST_WORDS = {"unkept": ["unkept"], "unkept before": ["unkept"], "c 64 KiB": ["65536"]}
 BUILT_BY = {
     KERNEL: "bench/build qroundtrips",
     PEERS: "bench/peers/build",
     RUST: "cargo build --offline --release --manifest-path foreign/rust/Cargo.toml --example bench",
+    C: "(cd crates/balsaeuchre_c && rt lib), and then by this script",
 }
 
 # Clients and servers. Each run makes as many round trips, which takes about a second at most, and stays far below the
@@ -80,9 +88,26 @@ AIMS = {
 }
 BUSY_AIMS = {"condvar": {case: 3 for case in CASES}}
 
+# The same of the C program: what is compared with what, and at most so many times, on a quiet and on a busy machine.
+C_AIMS = (("c", "unkept", 1.2, None), ("c", "condvar", None, 3), ("c 64 KiB", "c", 1.3, None))
+
+
+def build_c():
+    """Builds the C program, where the library is."""
+    if not os.path.exists(LIBRARY):
+        return
+    doc = subprocess.run(["rt", "doc"], capture_output=True, text=True, check=True).stdout.strip()
+    heap = os.path.join(os.path.dirname(doc), "c/liblibc_c.a")
+    foreign = os.path.join(ROOT, "foreign")
+    sources = [os.path.join(foreign, "threads", name) for name in ("bench.c", "neutrino.c")]
+    folders = [f"-I{foreign}/threads", f"-I{foreign}/include"]
+    os.makedirs(os.path.dirname(C), exist_ok=True)
+    subprocess.run(["cc", "-std=gnu11", "-O2", "-pthread", *folders, "-o", C, *sources, LIBRARY, heap], check=True)
+
 
 def built(busy):
     """The programs that are built. Of the others it says how they are."""
+    build_c()
     for path, command in BUILT_BY.items():
         if not os.access(path, os.X_OK):
             print(f"not built: {os.path.relpath(path, ROOT)}; in {ROOT} build it by: {command}")
@@ -164,6 +189,19 @@ def ratios(programs, runs, aims):
     print(f"\nin one thread, with no past kept: {alone:.2f} us, aim {ALONE_AIM:.2f}{missed}")
 
 
+def ratios_of_c(programs, runs, busy):
+    """How many times another program's median the C program's is."""
+    print(f"\n{'clients-servers':<18}{'of':<15}{'to':<15}{'times':>10}{'aim':>10}")
+    for case in CASES:
+        for name, other, quiet, loaded in C_AIMS:
+            if name not in programs or other not in programs:
+                continue
+            mine, its = (statistics.median(micros for micros, _ in runs[case, one]) for one in (name, other))
+            aim = loaded if busy else quiet
+            missed = "  missed" if aim and mine / its > aim else ""
+            print(f"{named(case):<18}{name:<15}{other:<15}{mine / its:>10.2f}{f'{aim:.2f}' if aim else '':>10}{missed}")
+
+
 def read_words():
     """What is asked for."""
     parser = argparse.ArgumentParser(usage=__doc__.split("usage: ")[1].splitlines()[0])
@@ -202,6 +240,8 @@ def main():
     rows(programs, runs)
     if "kernel" in programs:
         ratios(programs, runs, BUSY_AIMS if words.busy else AIMS)
+    if "c" in programs:
+        ratios_of_c(programs, runs, words.busy)
 
 
 if __name__ == "__main__":

@@ -1,0 +1,72 @@
+/* A call: made under the lock, and waited for. Tested, not proved. */
+
+/* Starts the timeout that the thread set for this call, if any. */
+static void start_timeout(struct place *p, struct call *c) {
+    c->states = p->states;
+    p->states = 0;
+    if (!c->states) return;
+    uint64_t start = now();
+    c->until = start + p->time < start ? UINT64_MAX : start + p->time;
+}
+
+/* The priority of a pulse that has its sender's. If the kernel does not tell it, then it refuses the pulse too. */
+static uint8_t priority_of(neutrino *k, const struct place *p) {
+    uint32_t error = balsaeuchre_thread_state(&k->library, p->tid, p->tid, &k->event);
+    return error || k->event.rows[0].mark != BALSAEUCHRE_THREAD_STATE ? 1 : k->event.rows[0].priority;
+}
+
+/* How much of its buffer a call shows the kernel. */
+static size_t visible_length(const struct call *c) {
+    if (c->request.kind == BALSAEUCHRE_RECEIVE_PULSE) return 0;
+    return c->request.kind == BALSAEUCHRE_RECEIVE && c->room_len > FRONT ? FRONT : c->room_len;
+}
+
+/* Makes the call under the lock, and brings the endings: 0, and whose calls are ended; or an errno, and none is. */
+static int make_under_lock(neutrino *k, struct place *p, struct call *c, uint64_t *ended) {
+    size_t room_len = visible_length(c);
+    bool receives = c->request.kind == BALSAEUCHRE_RECEIVE;
+    if (!make_room(k, p, room_len) || (receives && !grow(&k->side, c->room_len - room_len))) return ENOMEM;
+    if (c->table) c->request.id = id_of(k, c->table, c->number, c->owner);
+    if (c->request.kind == BALSAEUCHRE_PULSE && c->own_priority) c->request.priority = priority_of(k, p);
+    if (c->request.kind == BALSAEUCHRE_SEND) p->coid = c->number;
+    c->request.thread = p->tid;
+    p->state = c->request.kind == BALSAEUCHRE_SEND ? STATE_SEND : STATE_RECEIVE;
+    p->call = c;
+    open_word(p);
+    uint32_t error = balsaeuchre_make(&k->library, c->request, c->sent, c->sent_len, c->room, room_len, &k->event);
+    if (error) return host_error(error);
+    *ended = deliver_all(k);
+    return 0;
+}
+
+/* Makes the call and waits for its ending, which p->error and p->result tell. */
+static void make(neutrino *k, struct place *p, struct call *c) {
+    uint64_t ended = 0, own = bit_of(k, p);
+    start_timeout(p, c);
+    lock(k);
+    int error = make_under_lock(k, p, c, &ended);
+    uint64_t asleep = tell(k, ended & ~own);
+    unlock(k);
+    wake(k, asleep);
+    if (error) p->error = error;
+    if (error || ended & own) return;
+    while (!sleep_until(p, c->until)) c->until = time_out(k, p);
+}
+
+static long call_long(struct call *c) {
+    int cancel, ignored;
+    struct place *p = self;
+    if (!p) return fail(EPERM);
+    if (p->inside) return fail(EDEADLK);
+    if ((!c->sent && c->sent_len) || (!c->room && c->room_len)) return fail(EFAULT);
+    pthread_setcancelstate(PTHREAD_CANCEL_DISABLE, &cancel);
+    p->inside = 1;
+    make(kernel, p, c);
+    int error = p->error;
+    long result = p->result;
+    p->inside = 0;
+    pthread_setcancelstate(cancel, &ignored);
+    return error ? fail(error) : result;
+}
+
+static int call(struct call *c) { return (int)call_long(c); }

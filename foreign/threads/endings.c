@@ -1,0 +1,125 @@
+/* Endings, brought from the kernel's rows to the threads that wait for them. Tested, not proved.
+ * All of this is under the lock. A thread whose call is open sits in it, so its struct call and its buffers live.
+ */
+/* Makes an event's room for bytes at least this long: whether the allocator gave it. */
+static bool grow(balsaeuchre_event *event, size_t length) {
+    if (length <= event->bytes_len) return true;
+    void *grown = realloc(event->bytes, length);
+    if (!grown) return false;
+    event->bytes = grown;
+    event->bytes_len = length;
+    return true;
+}
+
+/* Makes room for the buffers of all calls that can be open, of which each thread has one. */
+static bool make_room(neutrino *k, struct place *p, size_t length) {
+    if (length <= p->longest) return true;
+    size_t whole = k->event.bytes_len + (length - p->longest);
+    if (whole < length || !grow(&k->event, whole)) return false;
+    p->longest = length;
+    return true;
+}
+
+static int32_t length_of_info(size_t length) { return length < INT32_MAX ? (int32_t)length : INT32_MAX; }
+
+/* What is known of a held message, which stands in an Info's row and in a message's. */
+static void fill_info(const struct place *sender, const balsaeuchre_ending *row, struct _msg_info *info) {
+    memset(info, 0, sizeof *info);
+    info->nd = info->srcnd = ND_LOCAL_NODE;
+    info->pid = row->process;
+    info->tid = row->sender;
+    info->chid = sender->chid;
+    info->scoid = SCOID | row->process;
+    info->coid = sender->coid;
+    info->msglen = length_of_info(sender->msglen);
+    info->srcmsglen = length_of_info(row->srcmsglen);
+    info->dstmsglen = length_of_info(row->dstmsglen);
+    info->priority = row->priority;
+}
+
+/* Reads in the receiver's name what a message has behind the front of its buffer. If the allocator refuses, then
+ * msglen says that only the front was copied. */
+static void read_on(neutrino *k, struct place *p, struct place *sender, const balsaeuchre_ending *row) {
+    size_t length = (row->srcmsglen < p->call->room_len ? row->srcmsglen : p->call->room_len) - FRONT;
+    uint8_t *behind = (uint8_t *)p->call->room + FRONT;
+    if (balsaeuchre_read(&k->library, p->tid, row->rcvid, FRONT, behind, length, &k->side)) return;
+    const balsaeuchre_ending *read = &k->side.rows[0];
+    if (read->mark != BALSAEUCHRE_COUNT) return;
+    memcpy(behind, k->side.bytes + read->start, read->count);
+    sender->msglen += read->count;
+}
+
+static void receive_message(neutrino *k, struct place *p, const balsaeuchre_ending *row) {
+    struct place *sender = &k->places[k->place_of[row->sender]];
+    sender->rcvid = new_name(k, MESSAGES, row->rcvid, p->pid);
+    sender->chid = p->call->number;
+    sender->msglen = row->count;
+    sender->state = STATE_REPLY;
+    if (row->count == FRONT && p->call->room_len > FRONT && row->srcmsglen > FRONT) read_on(k, p, sender, row);
+    if (p->call->info) fill_info(sender, row, p->call->info);
+    p->result = sender->rcvid;
+}
+
+static void receive_pulse(neutrino *k, struct place *p, const balsaeuchre_ending *row) {
+    struct _pulse pulse;
+    memset(&pulse, 0, sizeof pulse);
+    pulse.type = _PULSE_TYPE;
+    pulse.code = row->pulse_code;
+    pulse.value.sival_int = row->value;
+    if (row->what == BALSAEUCHRE_WHAT_UNBLOCK) {
+        pulse.code = _PULSE_CODE_UNBLOCK;
+        pulse.value.sival_int = number_of(k, MESSAGES, row->rcvid);
+    } else if (row->what == BALSAEUCHRE_WHAT_DISCONNECT) {
+        pulse.code = _PULSE_CODE_DISCONNECT;
+        pulse.scoid = SCOID | row->process;
+    }
+    size_t length = p->call->room_len < sizeof pulse ? p->call->room_len : sizeof pulse;
+    if (length) memcpy(p->call->room, &pulse, length);
+}
+
+/* What an ending answers its thread. */
+static void answer(neutrino *k, struct place *p, const balsaeuchre_ending *row) {
+    switch (row->mark) {
+    case BALSAEUCHRE_MESSAGE: receive_message(k, p, row); break;
+    case BALSAEUCHRE_PULSED: receive_pulse(k, p, row); break;
+    case BALSAEUCHRE_FAILED: p->error = host_error(row->errno_); break;
+    case BALSAEUCHRE_ERRORED: p->error = row->value; break;
+    case BALSAEUCHRE_REPLIED: p->result = (long)row->status; break;
+    case BALSAEUCHRE_COUNT: p->result = (long)row->count; break;
+    case BALSAEUCHRE_CHANNEL: p->result = new_name(k, CHANNELS, row->id, p->pid); break;
+    case BALSAEUCHRE_CONNECTION: p->result = new_name(k, CONNECTIONS, row->id, p->pid); break;
+    case BALSAEUCHRE_INFORMED: fill_info(&k->places[k->place_of[row->sender]], row, p->call->info); break;
+    case BALSAEUCHRE_THREAD_STATE: p->result = p->call->own_priority ? row->priority : row->state; break;
+    case BALSAEUCHRE_DONE:
+        if (p->call->request.kind == BALSAEUCHRE_CHANNEL_DESTROY || p->call->request.kind == BALSAEUCHRE_CONNECT_DETACH)
+            end_name(k, p->call->table, p->call->number);
+        break;
+    default: abort();
+    }
+}
+
+static void deliver(neutrino *k, struct place *p, const balsaeuchre_ending *row) {
+    p->error = 0;
+    p->result = 0;
+    if (row->written) memcpy(p->call->room, k->event.bytes + row->start, row->written);
+    answer(k, p, row);
+    if (p->rcvid && p->call->request.kind == BALSAEUCHRE_SEND) {
+        end_name(k, MESSAGES, p->rcvid);
+        p->rcvid = 0;
+    }
+    p->state = STATE_READY;
+    p->call = NULL;
+}
+
+/* Brings each thread its ending of the last event, but not the clocks: whose calls are ended. */
+static uint64_t deliver_all(neutrino *k) {
+    uint64_t ended = 0;
+    for (size_t at = 0; at < k->event.done.endings; at++) {
+        const balsaeuchre_ending *row = &k->event.rows[at];
+        int place = k->place_of[row->thread];
+        if (place == PLACES) continue;
+        deliver(k, &k->places[place], row);
+        ended |= 1ull << place;
+    }
+    return ended;
+}

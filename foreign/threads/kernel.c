@@ -1,0 +1,132 @@
+/* A kernel: opened, joined, left, shut down and closed. Tested, not proved. */
+_Static_assert(NEUTRINO_VERSION == BALSAEUCHRE_VERSION, "both headers are of one version");
+
+static pthread_once_t once = PTHREAD_ONCE_INIT;
+static pthread_key_t ending; /* of a thread: its destructor leaves */
+static int refused;          /* the error with which the host refused the key or the handler */
+
+static void leave_at_end(void *place) {
+    (void)place;
+    if (self) neutrino_leave();
+}
+
+/* In a forked child, whose one thread may have inherited the lock as another thread held it. */
+static void forget(void) { self = NULL; }
+
+static void prepare(void) {
+    refused = pthread_key_create(&ending, leave_at_end);
+    if (!refused) refused = pthread_atfork(NULL, NULL, forget);
+}
+
+static bool in_a_child(const neutrino *k) { return k->process != getpid(); }
+
+/* The roster: the threads, and a clock for each process, whose number is one that no thread has. */
+static size_t roster_of(neutrino *k, const struct neutrino_thread *threads, size_t count, balsaeuchre_thread *roster) {
+    bool is_taken[256] = {true}, has_clock[256] = {false};
+    size_t length = count;
+    int clock = UINT8_MAX;
+    for (size_t at = 0; at < count; at++) {
+        roster[at] = (balsaeuchre_thread){threads[at].tid, threads[at].pid, threads[at].priority};
+        is_taken[threads[at].tid] = true;
+    }
+    for (size_t at = 0; at < count; at++) {
+        uint8_t pid = threads[at].pid;
+        if (has_clock[pid]) continue;
+        while (is_taken[clock]) clock--;
+        is_taken[clock] = has_clock[pid] = true;
+        k->clock_of[pid] = (uint8_t)clock;
+        roster[length++] = (balsaeuchre_thread){(uint8_t)clock, pid, 1};
+    }
+    return length;
+}
+
+/* Fills a kernel: 0 or an errno. */
+static int open_kernel(neutrino *k, const struct neutrino_thread *threads, size_t count) {
+    balsaeuchre_thread roster[2 * PLACES] = {{0, 0, 0}};
+    memset(k, 0, sizeof *k);
+    uint32_t error = balsaeuchre_open(roster, roster_of(k, threads, count, roster), &k->library);
+    if (error) return host_error(error);
+    k->process = getpid();
+    memset(k->place_of, PLACES, sizeof k->place_of);
+    for (size_t at = 0; at < count; at++) {
+        k->place_of[threads[at].tid] = (uint8_t)at;
+        k->places[at] = (struct place){.word = ENDED, .tid = threads[at].tid, .pid = threads[at].pid, .looks = 1};
+    }
+    open_names(k);
+    pthread_mutex_init(&k->lock, NULL);
+    return 0;
+}
+
+neutrino *neutrino_open_version(uint32_t version, const struct neutrino_thread *threads, size_t count) {
+    int error = version != NEUTRINO_VERSION || balsaeuchre_version() != BALSAEUCHRE_VERSION ? ENOEXEC : 0;
+    if (!error && !pthread_once(&once, prepare)) error = refused;
+    if (!error) error = count > PLACES ? EAGAIN : count ? 0 : EINVAL;
+    for (size_t at = 0; !error && at < count; at++) {
+        if (!threads[at].tid || !threads[at].pid) error = EINVAL;
+    }
+    neutrino *k = error ? NULL : aligned_alloc(_Alignof(neutrino), sizeof *k);
+    if (k) error = open_kernel(k, threads, count);
+    else if (!error) error = ENOMEM;
+    if (!error) return k;
+    free(k);
+    errno = error;
+    return NULL;
+}
+
+int neutrino_join(neutrino *k, int tid) {
+    if (in_a_child(k)) return fail(EPERM);
+    if (self) return fail(EBUSY);
+    if (tid < 0 || tid > UINT8_MAX || k->place_of[tid] == PLACES) return fail(ESRCH);
+    struct place *p = &k->places[k->place_of[tid]];
+    lock(k);
+    bool is_taken = p->joined;
+    p->joined = true;
+    k->joined += !is_taken;
+    unlock(k);
+    if (is_taken) return fail(EBUSY);
+    kernel = k;
+    self = p;
+    self->states = 0;
+    if (!pthread_setspecific(ending, p)) return 0;
+    neutrino_leave();
+    return fail(ENOMEM);
+}
+
+int neutrino_leave(void) {
+    if (!self) return fail(EPERM);
+    if (self->inside) return fail(EDEADLK);
+    lock(kernel);
+    self->joined = false;
+    kernel->joined--;
+    unlock(kernel);
+    self = NULL;
+    pthread_setspecific(ending, NULL);
+    return 0;
+}
+
+int neutrino_shutdown(neutrino *k) {
+    if (in_a_child(k)) return fail(EPERM);
+    if (self && self->inside) return fail(EDEADLK);
+    uint64_t asleep = 0;
+    lock(k);
+    uint32_t error = balsaeuchre_shutdown(&k->library, k->clock_of[k->places[0].pid], &k->event);
+    if (!error) asleep = tell(k, deliver_all(k));
+    unlock(k);
+    wake(k, asleep);
+    return error ? fail(host_error(error)) : 0;
+}
+
+int neutrino_close(neutrino *k) {
+    if (in_a_child(k)) return fail(EPERM);
+    if (self && self->inside) return fail(EDEADLK);
+    lock(k);
+    bool busy = k->joined;
+    unlock(k);
+    if (busy) return fail(EBUSY);
+    balsaeuchre_close(&k->library);
+    pthread_mutex_destroy(&k->lock);
+    free(k->event.bytes);
+    free(k->side.bytes);
+    free(k);
+    return 0;
+}

@@ -1,0 +1,112 @@
+/* What the parts of the layer share. Tested, not proved. sys/neutrino.h has what callers see.
+ *
+ * A kernel lies under one lock. Each of its threads has a place, with a word at which it sleeps while its call is
+ * open. A call takes the lock, opens the word, and makes the call in the library, which brings endings: of this call,
+ * and of calls that other threads wait in. Each ending is copied to where its own thread wants it (that thread sits
+ * in its call, so its buffers live), and then the word is set to ENDED. When the lock is free again, those that sleep
+ * are woken.
+ */
+#ifndef LAYER_H
+#define LAYER_H
+
+#include "balsaeuchre.h"
+#include "sys/neutrino.h"
+
+#include <errno.h>
+#include <limits.h>
+#include <pthread.h>
+#include <stdatomic.h>
+#include <stdbool.h>
+#include <stdlib.h>
+#include <string.h>
+#include <unistd.h>
+
+enum { PLACES = BALSAEUCHRE_ROWS, CHANNEL_BITS = 6, CONNECTION_BITS = 10, MESSAGE_BITS = 6 };
+enum { SCOID = 0x40000000 };  /* a server connection id is this and the client's process */
+enum { FRONT = 4096 };        /* how much of a receive buffer the kernel sees; a Read brings what is behind */
+enum { OPEN, ASLEEP, ENDED }; /* a word: the call is open; and its thread sleeps; the ending is there */
+
+/* An id of the kernel's, which has 40 bits, and the int that stands for it: a place, and how often that was taken. */
+struct name {
+    uint64_t id; /* 0: the place is free */
+    uint32_t turn;
+    uint8_t owner;
+};
+
+struct names {
+    struct name *places;
+    uint32_t turns; /* a name's turns go from 1 to this, and begin again */
+    int bits;       /* of the place */
+    int next;       /* where the search for a free place begins */
+};
+
+/* The table in which the id of a call's request has its name. */
+enum table { NO_TABLE, CHANNELS, CONNECTIONS, MESSAGES, TABLES };
+
+/* A call as its thread makes it. It lies on that thread's stack; while the call is open, who has the lock may read
+ * it. */
+struct call {
+    balsaeuchre_request request;
+    enum table table;
+    int number;        /* the name of the request's id */
+    uint8_t owner;     /* whose name it must be, or 0 */
+    bool own_priority; /* a pulse has its sender's; a State is asked for it */
+    int states;        /* those that may be timed out, as _NTO_TIMEOUT_* */
+    uint64_t until;    /* when its time is over */
+    const void *sent;
+    size_t sent_len;
+    void *room;
+    size_t room_len;
+    struct _msg_info *info;
+};
+
+/* A thread. All but the word is read and written under the lock, or by the thread itself while no call of it is
+ * open. */
+struct place {
+    _Alignas(64) _Atomic uint32_t word;
+    int error; /* how its call ended: an errno; or 0, and the result */
+    long result;
+    struct call *call;            /* while that is open */
+    volatile sig_atomic_t inside; /* a call: for signal handlers of the thread's own */
+    uint8_t tid, pid;
+    bool joined;
+    int state;
+    int looks;             /* how often it looks at its word before it sleeps */
+    int coid, chid, rcvid; /* of the message that it sent; rcvid is 0 until that is received */
+    size_t msglen;         /* of that message, as it was received */
+    size_t longest;        /* of its buffers */
+    int states;            /* of the timeout of its next call, or 0 */
+    uint64_t time;
+};
+
+struct neutrino {
+    pthread_mutex_t lock;
+    balsaeuchre library;
+    pid_t process; /* the host's, which opened it */
+    size_t joined;
+    uint8_t place_of[256]; /* PLACES: it is no thread's number */
+    uint8_t clock_of[256]; /* by process: the thread in whose name its calls are timed out */
+    struct names tables[TABLES];
+    struct name channels[1 << CHANNEL_BITS], connections[1 << CONNECTION_BITS], messages[1 << MESSAGE_BITS];
+    balsaeuchre_event event, side;
+    struct place places[PLACES];
+};
+
+/* The kernel and the place of the calling thread. self is null where it has not joined. */
+static _Thread_local neutrino *kernel;
+static _Thread_local struct place *self;
+
+static uint64_t bit_of(const neutrino *k, const struct place *p) { return 1ull << (p - k->places); }
+
+static int host_error(uint32_t error) {
+    static const int host_errors[] = {0,      ESRCH,     EBADF,     EINVAL,    EAGAIN, EINTR, EBUSY,
+                                      ENOMEM, ESHUTDOWN, EOVERFLOW, EOVERFLOW, ESRCH,  EPERM, EBUSY};
+    return host_errors[error];
+}
+
+static int fail(int error) {
+    errno = error;
+    return -1;
+}
+
+#endif

@@ -1,0 +1,58 @@
+/* Ints that stand for the kernel's ids of 40 bits. Tested, not proved.
+ *
+ * A name is a place in a table and how often that place was taken, so it leads to the id that it was made for and,
+ * once that is gone, to none. Places are taken in turn. A name comes again only when its place has been taken 2^25
+ * times (of a connection 2^20 times), which is after 2^31 channels or messages, or 2^30 connections, where few are
+ * open at a time. All of this is under the lock.
+ */
+static void open_names(neutrino *k) {
+    k->tables[CHANNELS] = (struct names){k->channels, INT_MAX >> CHANNEL_BITS, CHANNEL_BITS, 0};
+    k->tables[CONNECTIONS] = (struct names){k->connections, (SCOID - 1) >> CONNECTION_BITS, CONNECTION_BITS, 0};
+    k->tables[MESSAGES] = (struct names){k->messages, INT_MAX >> MESSAGE_BITS, MESSAGE_BITS, 0};
+}
+
+static int place_in(const struct names *names, int number) { return number & ((1 << names->bits) - 1); }
+
+/* A free place of which the kernel has one too: it allows as many ids at a time as there are places. */
+static int free_place(const struct names *names) {
+    int count = 1 << names->bits;
+    for (int looked = 0; looked < count; looked++) {
+        int place = (names->next + looked) & (count - 1);
+        if (!names->places[place].id) return place;
+    }
+    abort();
+}
+
+static int new_name(neutrino *k, enum table table, uint64_t id, uint8_t owner) {
+    struct names *names = &k->tables[table];
+    int place = free_place(names);
+    struct name *name = &names->places[place];
+    names->next = place + 1;
+    name->id = id;
+    name->owner = owner;
+    name->turn = name->turn == names->turns ? 1 : name->turn + 1;
+    return (int)(name->turn << names->bits) | place;
+}
+
+/* The id that a number stands for, if the owner is 0 or the name's; or 0, which the kernel refuses. */
+static uint64_t id_of(const neutrino *k, enum table table, int number, uint8_t owner) {
+    const struct names *names = &k->tables[table];
+    if (number <= 0) return 0;
+    const struct name *name = &names->places[place_in(names, number)];
+    if (name->turn != (uint32_t)number >> names->bits || (owner && owner != name->owner)) return 0;
+    return name->id;
+}
+
+/* The number that stands for an id, or 0. */
+static int number_of(const neutrino *k, enum table table, uint64_t id) {
+    const struct names *names = &k->tables[table];
+    for (int place = 0; place < 1 << names->bits; place++) {
+        if (names->places[place].id == id) return (int)(names->places[place].turn << names->bits) | place;
+    }
+    return 0;
+}
+
+static void end_name(neutrino *k, enum table table, int number) {
+    const struct names *names = &k->tables[table];
+    names->places[place_in(names, number)].id = 0;
+}

@@ -1,0 +1,13 @@
+/* The layer of threads as one object, from which only the names of sys/neutrino.h are seen. Tested, not proved. */
+#define _GNU_SOURCE
+#include "layer.h"
+
+#include "names.c"
+#include "sleep.c"
+#include "endings.c"
+#include "timeouts.c"
+#include "call.c"
+#include "messages.c"
+#include "channels.c"
+#include "threads.c"
+#include "kernel.c"

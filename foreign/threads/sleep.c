@@ -1,0 +1,84 @@
+/* The lock, and the words at which threads sleep. Tested, not proved; models/sleeping.py explores the word. */
+#include <linux/futex.h>
+#include <sys/syscall.h>
+
+/* How often a thread looks for the lock before it sleeps at it, and at its word; fewer times where that was in
+ * vain. It never yields its core: on a busy machine that takes milliseconds, and a sleep ends at once. */
+#ifndef LOCK_LOOKS
+#define LOCK_LOOKS 20
+#endif
+#ifndef WORD_LOOKS
+#define WORD_LOOKS 400
+#endif
+
+static void pause_briefly(void) {
+#if defined(__x86_64__)
+    __builtin_ia32_pause();
+#endif
+}
+
+static void lock(neutrino *k) {
+    for (int looks = 0; looks < LOCK_LOOKS; looks++) {
+        if (pthread_mutex_trylock(&k->lock) == 0) return;
+        for (int pauses = 0; pauses < 8; pauses++) pause_briefly();
+    }
+    pthread_mutex_lock(&k->lock);
+}
+
+static void unlock(neutrino *k) { pthread_mutex_unlock(&k->lock); }
+
+/* Nanoseconds of CLOCK_MONOTONIC. */
+static uint64_t now(void) {
+    struct timespec t;
+    clock_gettime(CLOCK_MONOTONIC, &t);
+    return (uint64_t)t.tv_sec * 1000000000u + (uint64_t)t.tv_nsec;
+}
+
+static void open_word(struct place *p) { atomic_store_explicit(&p->word, OPEN, memory_order_relaxed); }
+
+static bool is_ended(struct place *p) { return atomic_load_explicit(&p->word, memory_order_acquire) == ENDED; }
+
+/* Looks at the word for a while: whether the ending came. */
+static bool look(struct place *p) {
+    for (int looks = -1; looks < p->looks; looks++) {
+        if (is_ended(p)) {
+            p->looks = p->looks < WORD_LOOKS / 2 ? 2 * p->looks + 1 : WORD_LOOKS;
+            return true;
+        }
+        pause_briefly();
+    }
+    p->looks /= 2;
+    return false;
+}
+
+/* Waits until the call is ended, or until a time that is not 0: whether it is ended. */
+static bool sleep_until(struct place *p, uint64_t until) {
+    struct timespec end = {(time_t)(until / 1000000000u), (long)(until % 1000000000u)};
+    uint32_t open = OPEN;
+    if (look(p)) return true;
+    atomic_compare_exchange_strong(&p->word, &open, ASLEEP);
+    while (!is_ended(p)) {
+        long woken = syscall(SYS_futex, &p->word, FUTEX_WAIT_BITSET_PRIVATE, ASLEEP, until ? &end : NULL, NULL,
+                             FUTEX_BITSET_MATCH_ANY);
+        if (woken == -1 && errno == ETIMEDOUT) return is_ended(p);
+    }
+    return true;
+}
+
+/* Tells these threads that their calls are ended: which of them sleep. */
+static uint64_t tell(neutrino *k, uint64_t ended) {
+    uint64_t asleep = 0;
+    for (; ended; ended &= ended - 1) {
+        int place = __builtin_ctzll(ended);
+        if (atomic_exchange(&k->places[place].word, ENDED) == ASLEEP) asleep |= 1ull << place;
+    }
+    return asleep;
+}
+
+/* Wakes these threads, with the lock free. They are joined until this thread leaves: the kernel is not closed
+ * before. */
+static void wake(neutrino *k, uint64_t asleep) {
+    for (; asleep; asleep &= asleep - 1) {
+        syscall(SYS_futex, &k->places[__builtin_ctzll(asleep)].word, FUTEX_WAKE_PRIVATE, 1, NULL, NULL, 0);
+    }
+}

@@ -1,0 +1,62 @@
+/* The tables of names by themselves: that turns go round, and that an old name leads to nothing. */
+#define _GNU_SOURCE
+#include "../neutrino.c"
+
+#include <stdio.h>
+
+#define check(holds) \
+    do { \
+        if (!(holds)) { \
+            fprintf(stderr, "%s:%d: %s\n", __FILE__, __LINE__, #holds); \
+            return 1; \
+        } \
+    } while (0)
+
+static neutrino k;
+
+/* As many names at once as there are places, with ids beyond an int: each leads to its own id, and back. */
+static int all_at_once(enum table table, int count) {
+    static int names[1024];
+    for (int at = 0; at < count; at++) {
+        names[at] = new_name(&k, table, (1ull << 39) + (uint64_t)at * 4294967296u + 1, (uint8_t)(at % 200 + 1));
+        check(names[at] > 0 && (table != CONNECTIONS || names[at] < SCOID));
+    }
+    for (int at = 0; at < count; at++) {
+        uint64_t id = (1ull << 39) + (uint64_t)at * 4294967296u + 1;
+        check(id_of(&k, table, names[at], 0) == id && number_of(&k, table, id) == names[at]);
+        check(id_of(&k, table, names[at], (uint8_t)(at % 200 + 1)) == id && id_of(&k, table, names[at], 201) == 0);
+    }
+    for (int at = 0; at < count; at++) {
+        end_name(&k, table, names[at]);
+        check(id_of(&k, table, names[at], 0) == 0);
+    }
+    return 0;
+}
+
+/* Names that are made and ended one by one: all places are taken in turn, and none comes again before a place's
+ * turns are over. */
+static int one_by_one(enum table table) {
+    struct names *names = &k.tables[table];
+    int count = 1 << names->bits, first = 0;
+    names->next = 0;
+    for (int place = 0; place < count; place++) names->places[place].turn = names->turns - 2;
+    for (int at = 0; at < 3 * count; at++) {
+        int number = new_name(&k, table, (uint64_t)at + 1, 1);
+        check(number > 0 && place_in(names, number) == at % count && id_of(&k, table, number, 0) == (uint64_t)at + 1);
+        check(table != CONNECTIONS || number < SCOID);
+        if (at == 0) first = number;
+        else check(number != first && id_of(&k, table, first, 0) == 0);
+        end_name(&k, table, number);
+    }
+    check(names->places[0].turn == 1); /* and not 0: no number is less than 1 */
+    return 0;
+}
+
+int main(void) {
+    open_names(&k);
+    for (int table = CHANNELS; table < TABLES; table++) {
+        if (all_at_once((enum table)table, 1 << k.tables[table].bits) || one_by_one((enum table)table)) return 1;
+    }
+    printf("names\n");
+    return 0;
+}
