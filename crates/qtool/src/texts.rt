@@ -1,7 +1,7 @@
 //! The texts of the help.
 
 /// The version of the program.
-pub const VERSION: &str = "0.9.0";
+pub const VERSION: &str = "0.10.0";
 
 /// What the program is.
 pub const ABOUT: &str = "A kernel of synchronous messages, after QNX Neutrino's";

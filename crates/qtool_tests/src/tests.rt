@@ -99,7 +99,7 @@ fn the_version_is_told(rt: HostRuntime) {
     for word in ["--version", "-V"] {
         let (status, text) = text_for(&rt, rt.alloc(), &[word]);
         assert_eq!(rt; status, 0);
-        assert_eq!(rt; text.as_str(), "qdemo 0.9.0\n");
+        assert_eq!(rt; text.as_str(), "qdemo 0.10.0\n");
     }
 }
 
