@@ -1,0 +1,7 @@
+use Rattle.qcalls.proofs.opening.close.Goals as goal
+
+pub finish-requires : goal.finish-requires
+finish-requires g c = record { all = rw (← c.as_slice.ensures.value) (c.all.ensures.0 search) }
+
+pub returns : goal.returns
+returns g c = record { lawful = c.finish.ensures.lawful.1.0; properties = c.finish.ensures.lawful.1.1 }
