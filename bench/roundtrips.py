@@ -8,6 +8,7 @@ with 4, and the client collects and checks them. The programs:
 
   kernel      Send, Receive and Reply by the locked kernel, with a thread for each port, and its past in memory
   unkept      the same by a kernel that keeps no past
+  calls       the same under QNX's names, by a `Caller` for each thread, with the reply and the next receive in one
   c           threads of a C program over the static library (foreign/threads), which keeps no past either
   c 64 KiB    the same with a receive buffer of 64 KiB
   rendezvous  a channel of Rust's `std` without room, with a reply channel for each client
@@ -28,7 +29,7 @@ yield their core and so wait for it in milliseconds, as well as the row `alone`.
 trip, which is the time until all clients have ended by the number of all round trips, least and median; and the
 median of the sleeps a round trip, which are the voluntary context switches of all threads of the program, as the
 system tells them. At the end stands how many times a peer's median the kernel's is, and how many times another's that
-of the C program, with what is aimed at.
+of the calls, of C and of Rust, with what is aimed at.
 """
 
 import argparse
@@ -50,6 +51,7 @@ LIBRARY = os.path.join(ROOT, "crates/balsaeuchre_c/out/libbalsaeuchre_c.a")
 PROGRAMS = {
     "kernel": [KERNEL],
     "unkept": [KERNEL],
+    "calls": [KERNEL],
     "c": [C],
     "c 64 KiB": [C],
     "rendezvous": [PEERS, "rendezvous"],
@@ -58,7 +60,7 @@ PROGRAMS = {
     "rust": [RUST],
 }
 # What follows the numbers in a program's words.
-LAST_WORDS = {"unkept": ["unkept"], "unkept before": ["unkept"], "c 64 KiB": ["65536"]}
+LAST_WORDS = {"unkept": ["unkept"], "calls": ["calls", "unkept"], "unkept before": ["unkept"], "c 64 KiB": ["65536"]}
 BUILT_BY = {
     KERNEL: "bench/build qroundtrips",
     PEERS: "bench/peers/build",
@@ -88,8 +90,15 @@ AIMS = {
 }
 BUSY_AIMS = {"condvar": {case: 3 for case in CASES}}
 
-# The same of the C program: what is compared with what, and at most so many times, on a quiet and on a busy machine.
-C_AIMS = (("c", "unkept", 1.2, None), ("c", "condvar", None, 3), ("c 64 KiB", "c", 1.3, None))
+# Other pairs: what is compared with what, and at most so many times, on a quiet and on a busy machine.
+PAIR_AIMS = (
+    ("calls", "unkept", 1.05, None),
+    ("c", "unkept", 1.2, None),
+    ("rust", "unkept", 1.2, None),
+    ("c", "condvar", None, 3),
+    ("rust", "condvar", None, 3),
+    ("c 64 KiB", "c", 1.3, None),
+)
 
 
 def build_c():
@@ -189,11 +198,11 @@ def ratios(programs, runs, aims):
     print(f"\nin one thread, with no past kept: {alone:.2f} us, aim {ALONE_AIM:.2f}{missed}")
 
 
-def ratios_of_c(programs, runs, busy):
-    """How many times another program's median the C program's is."""
+def ratios_of_pairs(programs, runs, busy):
+    """How many times another program's median a program's is."""
     print(f"\n{'clients-servers':<18}{'of':<15}{'to':<15}{'times':>10}{'aim':>10}")
     for case in CASES:
-        for name, other, quiet, loaded in C_AIMS:
+        for name, other, quiet, loaded in PAIR_AIMS:
             if name not in programs or other not in programs:
                 continue
             mine, its = (statistics.median(micros for micros, _ in runs[case, one]) for one in (name, other))
@@ -240,8 +249,7 @@ def main():
     rows(programs, runs)
     if "kernel" in programs:
         ratios(programs, runs, BUSY_AIMS if words.busy else AIMS)
-    if "c" in programs:
-        ratios_of_c(programs, runs, words.busy)
+    ratios_of_pairs(programs, runs, words.busy)
 
 
 if __name__ == "__main__":
