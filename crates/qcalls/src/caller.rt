@@ -60,10 +60,10 @@ impl<'a, E: Endpoint, R: Wait> Caller<'a, E, R> {
 
     /// Does a thread's work, and shuts the kernel down if it fails, so that no other thread is left blocked. Returns
     /// what the work returned.
-    pub fn run<T, F: FnOnce(&mut Caller<'a, E, R>) -> Result<T, CallError>>(
+    pub fn run<T, X, F: FnOnce(&mut Caller<'a, E, R>) -> Result<T, X>>(
         &mut self,
         work: F,
-    ) -> Result<T, CallError>
+    ) -> Result<T, X>
         requires { F.IsAlwaysCallable work }
     {
         let done = work(self);
