@@ -4,4 +4,4 @@ pub finish-requires : goal.finish-requires
 finish-requires g c = record { all = rw (← c.as_slice.ensures.value) (c.all.ensures.0 search) }
 
 pub returns : goal.returns
-returns g c = record { lawful = c.finish.ensures.lawful.1.0; properties = c.finish.ensures.lawful.1.1 }
+returns g c = record { lawful = c.finish.ensures.lawful.1; properties = c.finish.ensures.lawful.2 }
