@@ -117,17 +117,17 @@ second_makes first second answer made {given} {before} {between} {waited} {after
     }
 
 -- a call that follows is made with what is read off its ending
-follows-off : {A : Type 0} (read : Reading A) (call : Call) (came : Result ⊤ CallError) {before after : History}
-    {made : Result Ending CallError} → Follows ending_in call came before after made
+follows-off : {A : Type 0} (read : Reading A) (call : Call) (came : Result ⊤ CallError) (before after : History)
+    (made : Result Ending CallError) → Follows ending_in call came before after made
     → Follows read call came before after (read_off read made)
-follows-off read call (Ok done) follows = makes_off read follows
-follows-off read call (Err e) (same, is) = (same, ap (read_off read) is)
+follows-off read call (Ok done) before after made follows = makes_off read follows
+follows-off read call (Err e) before after made (same, is) = (same, ap (read_off read) is)
 
 -- two calls are made in turn with what is read off the ending of the second
 both-off : {A : Type 0} (read : Reading A) {first second : Call} {before after : History} {made : Result Ending CallError}
     → MakesBoth ending_in first second before after made → MakesBoth read first second before after (read_off read made)
 both-off read {first} {second} {before} {after} {made} m =
-    record { between = m.between; came = m.came; makes = m.makes; follows = follows-off read second m.came m.follows }
+    record { between = m.between; came = m.came; makes = m.makes; follows = follows-off read second m.came m.between after made m.follows }
 
 -- and so they are where the result is read off it
 pub both_read : {A : Type 0} {read : Reading A} {first second one other : Call} {before after : History}
