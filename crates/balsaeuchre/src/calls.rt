@@ -6,7 +6,7 @@
 pub use qcalls::Result;
 pub use qcalls::alarms::Alarms;
 pub use qcalls::caller::Caller;
-pub use qcalls::endpoint::{Endpoint, KernelPort, Told, call_in_turn};
+pub use qcalls::endpoint::{Endpoint, KernelPort, Told};
 pub use qcalls::error::CallError;
 pub use qcalls::opening::{PortCaller, close, two_callers};
 pub use qcalls::results::{Answer, Pulse, Received, Request, State};

@@ -8,7 +8,7 @@ ghost use Rattle.qcalls.specs.History.{History, IsInTurn, told_by, told_by_both}
 
 use qbase::errno::Errno;
 use qbase::ids::ThreadNo;
-use qmodel::call::{Call, Completion, Mark};
+use qmodel::call::{Call, Completion};
 use qshared::log::Log;
 use qshared::port::{Called, CalledBoth, Port};
 use qshared::shared::Shared;
@@ -42,7 +42,7 @@ pub trait Endpoint {
         ensures told { (history self.new).told ≡ told_by result };
 
     /// Makes two calls in turn: the second only if the first ends in its own event with the mark `Ok`. A port takes the
-    /// lock once for both. Another endpoint may do it by `call_in_turn`.
+    /// lock once for both.
     fn call_both<R: Wait>(&mut self, rt: &R, first: Call, second: Call) -> CalledBoth
         ensures asked { (history self.new).asked ≡ (history self.old).asked ++ asked_by first second result }
         ensures taken { (history self.new).taken ≡ (history self.old).taken ++ gives_both result }
@@ -97,32 +97,6 @@ impl<'a, K: Tie, L: Log> KernelPort<'a, K, L> {
         ensures { result ≡ self.now.told }
     {
         self.told
-    }
-}
-
-/// Makes two calls in turn, for an endpoint that can't make both at once.
-pub fn call_in_turn<E: Endpoint, R: Wait>(
-    endpoint: &mut E,
-    rt: &R,
-    first: Call,
-    second: Call,
-) -> CalledBoth
-    ensures asked { (E.history endpoint.new).asked ≡ (E.history endpoint.old).asked ++ asked_by first second result }
-    ensures taken { (E.history endpoint.new).taken ≡ (E.history endpoint.old).taken ++ gives_both result }
-    ensures pending { (E.history endpoint.new).pending ≡ pends_both result (E.history endpoint.old).pending }
-    ensures told { (E.history endpoint.new).told ≡ told_by_both result }
-    ensures turn { IsInTurn second result }
-{
-    match endpoint.call(rt, first) {
-        Called::Done(completion) => {
-            if completion.mark == Mark::Ok {
-                CalledBoth::Both(completion, endpoint.call(rt, second))
-            } else {
-                CalledBoth::First(Called::Done(completion), second)
-            }
-        }
-        Called::Blocked => CalledBoth::First(Called::Blocked, second),
-        Called::Refused(errno, call) => CalledBoth::First(Called::Refused(errno, call), second),
     }
 }
 

@@ -1,7 +1,7 @@
 //! How far a run is, on a line that is written over twice a second.
 
 use qbase::ids::ThreadNo;
-use qcalls::endpoint::{Endpoint, call_in_turn};
+use qcalls::endpoint::Endpoint;
 use qmodel::call::{Call, Completion};
 use qshared::port::{Called, CalledBoth};
 use std::alloc::{AllocError, Global};
@@ -102,7 +102,20 @@ impl<'p, E: Endpoint> Endpoint for Counted<'p, E> {
     }
 
     fn call_both<R: Wait>(&mut self, rt: &R, first: Call, second: Call) -> CalledBoth {
-        call_in_turn(self, rt, first, second)
+        let sends = (
+            matches!(first, Call::Send { .. }),
+            matches!(second, Call::Send { .. }),
+        );
+        let both = self.inner.call_both(rt, first, second);
+        let (sending, called) = match &both {
+            CalledBoth::Both(_, called) => (sends.1, called),
+            CalledBoth::First(called, _) => (sends.0, called),
+        };
+        self.sending = sending;
+        if sending && matches!(called, Called::Done(_)) {
+            self.progress.round();
+        }
+        both
     }
 
     fn poll(&mut self) -> Option<Completion> {

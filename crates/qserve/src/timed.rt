@@ -3,7 +3,7 @@
 use crate::fault::WorkerFault;
 use crate::tally::Tally;
 use qbase::ids::ThreadNo;
-use qcalls::endpoint::{Endpoint, call_in_turn};
+use qcalls::endpoint::Endpoint;
 use qcalls::error::CallError;
 use qmodel::call::{Call, Completion};
 use qshared::port::{Called, CalledBoth};
@@ -81,7 +81,7 @@ pub fn nanoseconds_of(duration: Duration) -> u64 {
     u64::try_from(duration.as_nanos()).unwrap_or(u64::MAX)
 }
 
-/// Passes calls on, and times each Send.
+/// Passes calls on, and times each Send. Of two calls in turn it times the second alone.
 #[derive(Drop)]
 pub struct Timed<'c, E, C> {
     pub inner: E,
@@ -105,7 +105,14 @@ impl<'c, E: Endpoint, C: Clock> Endpoint for Timed<'c, E, C> {
     }
 
     fn call_both<R: Wait>(&mut self, rt: &R, first: Call, second: Call) -> CalledBoth {
-        call_in_turn(self, rt, first, second)
+        self.stopwatch.called(&second);
+        let both = self.inner.call_both(rt, first, second);
+        match &both {
+            CalledBoth::Both(_, Called::Done(_)) => self.stopwatch.note_ending(),
+            CalledBoth::Both(_, _) => {}
+            CalledBoth::First(_, _) => self.stopwatch.start = None,
+        }
+        both
     }
 
     fn poll(&mut self) -> Option<Completion> {

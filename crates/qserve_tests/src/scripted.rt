@@ -6,7 +6,7 @@ ghost use Rattle.qshared.specs.Counting.{gives, is_call, pends};
 
 use qbase::errno::Errno;
 use qbase::ids::ThreadNo;
-use qcalls::endpoint::{Endpoint, Told, call_in_turn, told_by};
+use qcalls::endpoint::{Endpoint, Told, told_by};
 use qmodel::call::{Call, Completion, Mark};
 use qshared::port::{Called, CalledBoth};
 use std::alloc::Global;
@@ -115,7 +115,17 @@ impl<'a> Endpoint for Scripted<'a> {
     }
 
     fn call_both<R: Wait>(&mut self, rt: &R, first: Call, second: Call) -> CalledBoth {
-        call_in_turn(self, rt, first, second)
+        match self.call(rt, first) {
+            Called::Done(completion) => {
+                if completion.mark == Mark::Ok {
+                    CalledBoth::Both(completion, self.call(rt, second))
+                } else {
+                    CalledBoth::First(Called::Done(completion), second)
+                }
+            }
+            Called::Blocked => CalledBoth::First(Called::Blocked, second),
+            Called::Refused(errno, call) => CalledBoth::First(Called::Refused(errno, call), second),
+        }
     }
 
     fn poll(&mut self) -> Option<Completion> {
@@ -175,7 +185,17 @@ impl<E: Endpoint> Endpoint for Refusing<E> {
     }
 
     fn call_both<R: Wait>(&mut self, rt: &R, first: Call, second: Call) -> CalledBoth {
-        call_in_turn(self, rt, first, second)
+        match self.call(rt, first) {
+            Called::Done(completion) => {
+                if completion.mark == Mark::Ok {
+                    CalledBoth::Both(completion, self.call(rt, second))
+                } else {
+                    CalledBoth::First(Called::Done(completion), second)
+                }
+            }
+            Called::Blocked => CalledBoth::First(Called::Blocked, second),
+            Called::Refused(errno, call) => CalledBoth::First(Called::Refused(errno, call), second),
+        }
     }
 
     fn poll(&mut self) -> Option<Completion> {
