@@ -1,7 +1,7 @@
 //! An endpoint whose answers are written down, and one that refuses a call before the kernel sees it.
 
-ghost use Rattle.std.specs.Prelude.{◌≡◌, ◌+◌, ◌≤◌, ◌++◌, [], ◌∷◌, if◌then◌else◌, IfSome, map, vec_capacity, vec_len};
-ghost use Rattle.std.specs.Option.{is_some};
+ghost use Rattle.std.specs.Prelude.{◌≡◌, ◌+◌, ◌≤◌, ◌++◌, [], ◌∷◌, if◌then◌else◌, map, vec_capacity, vec_len};
+ghost use Rattle.std.specs.Option.{ForSome, is_some};
 ghost use Rattle.qshared.specs.Counting.{gives, is_call, pends};
 
 use qbase::errno::Errno;
@@ -40,7 +40,7 @@ pub struct Scripted<'a> {
     /// The calls that were events, and the endings that were taken, for clauses alone.
     asked: Vec<Snapshot<Call>>,
     taken: Vec<Snapshot<Completion>>,
-    ghost room: { IfSome later (λ _. vec_len taken + 1 ≤ vec_capacity taken) },
+    ghost room: { ForSome later (λ _. vec_len taken + 1 ≤ vec_capacity taken) },
 }
 
 impl<'a> Scripted<'a> {
@@ -135,10 +135,11 @@ impl<'a> Endpoint for Scripted<'a> {
     }
 
     fn wait<R: Wait>(&mut self, _rt: &R) -> Completion {
-        match self.poll() {
-            Some(completion) => completion,
-            None => unreachable!(),
-        }
+        let Some(completion) = self.later.take() else {
+            unreachable!()
+        };
+        self.taken.push_reserved(Snapshot::of(&completion));
+        completion
     }
 }
 
