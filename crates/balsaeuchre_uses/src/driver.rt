@@ -3,7 +3,7 @@
 
 ghost use Rattle.balsaeuchre.specs.Naming.{AreParts};
 
-use balsaeuchre::calls::{self, CallError, Caller, Endpoint, Received};
+use balsaeuchre::calls::{self, CallError, Caller, Endpoint, KernelPort, Received};
 use balsaeuchre::shared::{Kept, Parts, Shared, Tie};
 use balsaeuchre::{ChannelFlags, ChannelId, Priority, ProcessNo, Roster, ThreadNo, What};
 use std::alloc::Global;
@@ -75,9 +75,9 @@ fn run<K: Tie + Send + Sync, R: Threads + Wait + Sync>(
     let (Some(third), Some(second), Some(first)) = (ports.pop(), ports.pop(), ports.pop()) else {
         return Err(CallError::Unexpected);
     };
-    let mut driver = Caller::of(first, &shared, rt, alloc);
-    let mut device = Caller::of(second, &shared, rt, alloc);
-    let mut client = Caller::of(third, &shared, rt, alloc);
+    let mut driver = Caller::new(KernelPort::new(first, &shared), rt, alloc);
+    let mut device = Caller::new(KernelPort::new(second, &shared), rt, alloc);
+    let mut client = Caller::new(KernelPort::new(third, &shared), rt, alloc);
     let chid = driver.channel_create(ChannelFlags::DISCONNECT)?;
     let (drove, (told, got)) = join(
         rt,

@@ -7,9 +7,9 @@ use qbase::flags::ChannelFlags;
 use qbase::ids::{ChannelId, ProcessNo, ReceiveId, ThreadNo};
 use qbase::priority::Priority;
 use qcalls::caller::Caller;
-use qcalls::endpoint::Endpoint;
+use qcalls::endpoint::{Endpoint, KernelPort};
 use qcalls::error::CallError;
-use qcalls::opening::{close, two_callers};
+use qcalls::opening::close;
 use qcalls::results::Received;
 use qkernel::trace::Trace;
 use qshared::kept::Kept;
@@ -66,8 +66,12 @@ fn three_messages<K: Tie + Send + Sync, R: Threads + Wait + Abort + Sync>(
 ) -> Result<Trace, CallError>
     requires named { AreParts K.names K.name K.parts parts }
 {
-    let (shared, ports) = Shared::<K, Kept<K>>::open(parts)?;
-    let (mut server, mut client) = two_callers(ports, &shared, rt, alloc)?;
+    let (shared, mut ports) = Shared::<K, Kept<K>>::open(parts)?;
+    let (Some(theirs), Some(own)) = (ports.pop(), ports.pop()) else {
+        panic!(rt; "no ports");
+    };
+    let mut server = Caller::new(KernelPort::new(own, &shared), rt, alloc);
+    let mut client = Caller::new(KernelPort::new(theirs, &shared), rt, alloc);
     let chid = server.channel_create(ChannelFlags::DISCONNECT)?;
     let (served, sent) = join(
         rt,
@@ -76,9 +80,8 @@ fn three_messages<K: Tie + Send + Sync, R: Threads + Wait + Abort + Sync>(
     );
     assert!(rt; served? == 3);
     sent?;
-    let mut ports = Vec::new(alloc);
-    ports.push(server.into_port())?;
-    ports.push(client.into_port())?;
+    ports.push(server.into_endpoint().into_port())?;
+    ports.push(client.into_endpoint().into_port())?;
     close(shared, ports)
 }
 

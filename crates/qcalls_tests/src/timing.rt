@@ -8,7 +8,7 @@ use qbase::ids::{ChannelId, ConnectionId, ProcessNo, ThreadNo};
 use qbase::priority::Priority;
 use qcalls::alarms::Alarms;
 use qcalls::caller::Caller;
-use qcalls::endpoint::Endpoint;
+use qcalls::endpoint::{Endpoint, KernelPort};
 use qcalls::error::CallError;
 use qcalls::results::{Received, Request};
 use qqueue::item::What;
@@ -100,9 +100,9 @@ fn with_a_timekeeper<K: Tie + Send + Sync, R: Threads + Wait + Clock + Abort + S
     let (Some(third), Some(second), Some(first)) = (ports.pop(), ports.pop(), ports.pop()) else {
         panic!(rt; "no ports");
     };
-    let mut server = Caller::of(first, &shared, rt, alloc);
-    let mut client = Caller::of(second, &shared, rt, alloc);
-    let mut keeper = Caller::of(third, &shared, rt, alloc);
+    let mut server = Caller::new(KernelPort::new(first, &shared), rt, alloc);
+    let mut client = Caller::new(KernelPort::new(second, &shared), rt, alloc);
+    let mut keeper = Caller::new(KernelPort::new(third, &shared), rt, alloc);
     let cut = server.channel_create(ChannelFlags::of(0))?;
     let told = server.channel_create(ChannelFlags::UNBLOCK)?;
     let alarms = Alarms::new(alloc);

@@ -8,9 +8,8 @@ use qbase::flags::ChannelFlags;
 use qbase::ids::{ChannelId, ConnectionId, ProcessNo, ThreadNo};
 use qbase::priority::Priority;
 use qcalls::caller::Caller;
-use qcalls::endpoint::Endpoint;
+use qcalls::endpoint::{Endpoint, KernelPort};
 use qcalls::error::CallError;
-use qcalls::opening::two_callers;
 use qcalls::results::{Pulse, Received};
 use qqueue::item::What;
 use qshared::kept::Kept;
@@ -141,8 +140,12 @@ fn cross_at_once<K: Tie + Send + Sync, R: Threads + Wait + Abort + Sync>(
 ) -> Report
     requires named { AreParts K.names K.name K.parts parts }
 {
-    let (shared, ports) = Shared::<K, Kept<K>>::open(parts).expect(rt, "a kernel");
-    let (mut first, mut second) = two_callers(ports, &shared, rt, alloc).expect(rt, "two ports");
+    let (shared, mut ports) = Shared::<K, Kept<K>>::open(parts).expect(rt, "a kernel");
+    let (Some(second), Some(first)) = (ports.pop(), ports.pop()) else {
+        panic!(rt; "no ports");
+    };
+    let mut first = Caller::new(KernelPort::new(first, &shared), rt, alloc);
+    let mut second = Caller::new(KernelPort::new(second, &shared), rt, alloc);
     let (one, two) = ways(rt, &mut first, &mut second);
     let (got, other_got) = join(
         rt,
@@ -152,7 +155,10 @@ fn cross_at_once<K: Tie + Send + Sync, R: Threads + Wait + Abort + Sync>(
     assert_eq!(rt; got, Ok(2));
     assert_eq!(rt; other_got, Ok(1));
     assert!(rt; first.shutdown().is_ok());
-    let ports = vec![in alloc; first.into_port(), second.into_port()];
+    let ports = vec![in alloc;
+        first.into_endpoint().into_port(),
+        second.into_endpoint().into_port(),
+    ];
     finished(rt, shared, ports.expect(rt, "memory"))
 }
 
@@ -170,8 +176,12 @@ fn crossing(rt: HostRuntime) {
 fn cross_in_turn<K: Tie, R: Wait + Abort>(rt: &R, alloc: Global, parts: Parts) -> Result<i32, Fault>
     requires named { AreParts K.names K.name K.parts parts }
 {
-    let (shared, ports) = Shared::<K, Kept<K>>::open(parts).expect(rt, "a kernel");
-    let (mut first, mut second) = two_callers(ports, &shared, rt, alloc).expect(rt, "two ports");
+    let (shared, mut ports) = Shared::<K, Kept<K>>::open(parts).expect(rt, "a kernel");
+    let (Some(second), Some(first)) = (ports.pop(), ports.pop()) else {
+        panic!(rt; "no ports");
+    };
+    let mut first = Caller::new(KernelPort::new(first, &shared), rt, alloc);
+    let mut second = Caller::new(KernelPort::new(second, &shared), rt, alloc);
     let (one, two) = ways(rt, &mut first, &mut second);
     let got = worker(&mut first, one);
     let other_got = worker(&mut second, two);

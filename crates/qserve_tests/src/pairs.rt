@@ -62,7 +62,7 @@ fn pair<K: Tie + Send + Sync, R: Threads + Wait + Sync>(
     requires named { AreParts K.names K.name K.parts parts }
 {
     let (shared, mut ports) = Shared::<K, Kept<K>>::open(parts).ok()?;
-    let mut alarm = Caller::of(ports.pop()?, &shared, rt, alloc);
+    let mut alarm = Caller::new(KernelPort::new(ports.pop()?, &shared), rt, alloc);
     let chid = alarm.channel_create(ChannelFlags::of(0)).ok()?;
     let _idle: Port<K> = ports.pop()?;
     let client_port = Refusing::new(KernelPort::new(ports.pop()?, &shared), client_left, errno);
@@ -98,9 +98,9 @@ fn in_turn<K: Tie, R: Wait>(
     second: Port<K>,
     chid: ChannelId,
 ) -> bool {
-    let mut first = Caller::of(first, shared, rt, alloc);
+    let mut first = Caller::new(KernelPort::new(first, shared), rt, alloc);
     let first = client(&mut first, chid, 0, 1);
-    let mut second = Caller::of(second, shared, rt, alloc);
+    let mut second = Caller::new(KernelPort::new(second, shared), rt, alloc);
     let second = client(&mut second, chid, 1, 1);
     first.is_err() && second.is_err()
 }
@@ -114,11 +114,11 @@ fn held_in_turn<K: Tie + Send + Sync, R: Threads + Wait + Sync>(
     requires named { AreParts K.names K.name K.parts parts }
 {
     let (shared, mut ports) = Shared::<K, Kept<K>>::open(parts).ok()?;
-    let mut alarm = Caller::of(ports.pop()?, &shared, rt, alloc);
+    let mut alarm = Caller::new(KernelPort::new(ports.pop()?, &shared), rt, alloc);
     let chid = alarm.channel_create(ChannelFlags::of(0)).ok()?;
     let second = ports.pop()?;
     let first = ports.pop()?;
-    let mut serving = Caller::of(ports.pop()?, &shared, rt, alloc);
+    let mut serving = Caller::new(KernelPort::new(ports.pop()?, &shared), rt, alloc);
     let (server, clients) = join(
         rt,
         || -> Result<Tally, WorkerFault> { holding_server(&mut serving, &mut alarm, chid) },
