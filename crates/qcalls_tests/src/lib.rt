@@ -4,9 +4,3 @@
 
 #[cfg(test)]
 mod calling;
-#[cfg(test)]
-mod reply_receive;
-#[cfg(test)]
-mod simulating;
-#[cfg(test)]
-mod timing;
