@@ -15,6 +15,7 @@ with 4, and the client collects and checks them. The programs:
   condvar     a mutex over a queue, with condition variables
   crossbeam   a channel of crossbeam without room, with a reply channel for each client
   rust        the library under the Rust package's ports, which keep no past
+  rust 64 KiB the same with a receive buffer of 64 KiB
 
 The kernel also makes them in one thread that has the port of a client and that of a server and never waits: the row
 `alone`, which shows what its three calls and two looks cost by themselves.
@@ -58,9 +59,11 @@ PROGRAMS = {
     "condvar": [PEERS, "condvar"],
     "crossbeam": [PEERS, "crossbeam"],
     "rust": [RUST],
+    "rust 64 KiB": [RUST],
 }
 # What follows the numbers in a program's words.
-LAST_WORDS = {"unkept": ["unkept"], "calls": ["calls", "unkept"], "unkept before": ["unkept"], "c 64 KiB": ["65536"]}
+LAST_WORDS = {"unkept": ["unkept"], "calls": ["calls", "unkept"], "unkept before": ["unkept"]}
+LAST_WORDS |= {"c 64 KiB": ["65536"], "rust 64 KiB": ["65536"]}
 BUILT_BY = {
     KERNEL: "bench/build qroundtrips",
     PEERS: "bench/peers/build",
@@ -98,6 +101,7 @@ PAIR_AIMS = (
     ("c", "condvar", None, 3),
     ("rust", "condvar", None, 3),
     ("c 64 KiB", "c", 1.3, None),
+    ("rust 64 KiB", "rust", 1.3, None),
 )
 
 

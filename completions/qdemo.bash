@@ -1,19 +1,24 @@
 # Completion of qdemo for bash. Made by tools/manual from the help of the program.
 _qdemo() {
     local word="${COMP_WORDS[COMP_CWORD]}" before="${COMP_WORDS[COMP_CWORD-1]}" command="" options=""
+    # Readline takes --output=FILE for three words.
+    if [ "$word" = = ]; then word=""; elif [ "$before" = = ]; then before="${COMP_WORDS[COMP_CWORD-2]}"; fi
     [ "$COMP_CWORD" -gt 1 ] && command="${COMP_WORDS[1]}"
     COMPREPLY=()
     case "$command" in
-        "") options="script check chart serve help -h --help -V --version" ;;
-        help) options="script check chart serve" ;;
-        script) options="--explain -h --help" ;;
-        check) options="--explain -h --help" ;;
-        chart) options="-o --output --text -h --help" ;;
-        serve) options="--clients --servers --rounds --hold --time --quiet --record -h --help" ;;
+        "") options="script check play chart serve help -h --help -V --version" ;;
+        help) [ "$COMP_CWORD" -eq 2 ] && options="script check play chart serve" ;;
+        script) options="--explain --plain --strict -h --help" ;;
+        check) options="--update --explain -h --help" ;;
+        play) options="-h --help" ;;
+        chart) options="-o --output --text --bytes --from --to -h --help" ;;
+        serve) options="--clients --servers --rounds --hold --time --json --quiet --record -h --help" ;;
     esac
     case "$command $before" in
-        "chart --output")
+        "chart -o" | "chart --output")
             mapfile -t COMPREPLY < <(compgen -f -- "$word"); return ;;
+        "chart --from") return ;;
+        "chart --to") return ;;
         "serve --clients") return ;;
         "serve --servers") return ;;
         "serve --rounds") return ;;
@@ -25,7 +30,9 @@ _qdemo() {
         script)
             [ "${word#-}" = "$word" ] && mapfile -t COMPREPLY < <(compgen -f -- "$word") ;;
         check)
-            [ "${word#-}" = "$word" ] && mapfile -t COMPREPLY < <(compgen -d -- "$word") ;;
+            [ "${word#-}" = "$word" ] && mapfile -t COMPREPLY < <(compgen -f -- "$word") ;;
+        play)
+            [ "${word#-}" = "$word" ] && mapfile -t COMPREPLY < <(compgen -f -- "$word") ;;
         chart)
             [ "${word#-}" = "$word" ] && mapfile -t COMPREPLY < <(compgen -f -- "$word") ;;
     esac

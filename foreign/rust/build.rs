@@ -3,7 +3,7 @@
 //! clone that this package lies in, and the heap the toolchain's.
 
 use std::path::{Path, PathBuf, absolute};
-use std::process::{Command, exit};
+use std::process::Command;
 use std::{env, fs};
 
 const VARIABLE: &str = "BALSAEUCHRE_LIB_DIR";
@@ -39,9 +39,6 @@ fn main() {
     let linked = link("balsaeuchre", &folders) || link("balsaeuchre_c", &folders) && link("libc_c", &folders);
     if !linked {
         println!("cargo::error=neither libbalsaeuchre.a nor libbalsaeuchre_c.a with liblibc_c.a is in {folders:?}");
-        println!(
-            "cargo::error=set {VARIABLE} to the library's folder, or build it by `rt lib` in crates/balsaeuchre_c"
-        );
-        exit(1);
+        println!("cargo::error=set {VARIABLE} to its folder, or build it by `rt lib` in crates/balsaeuchre_c");
     }
 }

@@ -56,15 +56,14 @@ static void make(neutrino *k, struct place *p, struct call *c) {
 static long call_long(struct call *c) {
     int cancel, ignored;
     struct place *p = self;
-    if (!p) return fail(EPERM);
-    if (p->inside) return fail(EDEADLK);
+    if (refuse_call()) return -1;
     if ((!c->sent && c->sent_len) || (!c->room && c->room_len)) return fail(EFAULT);
     pthread_setcancelstate(PTHREAD_CANCEL_DISABLE, &cancel);
-    p->inside = 1;
+    inside++;
     make(kernel, p, c);
     int error = p->error;
     long result = p->result;
-    p->inside = 0;
+    inside--;
     pthread_setcancelstate(cancel, &ignored);
     return error ? fail(error) : result;
 }

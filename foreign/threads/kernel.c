@@ -18,7 +18,8 @@ static void prepare(void) {
     if (!refused) refused = pthread_atfork(NULL, NULL, forget);
 }
 
-static bool in_a_child(const neutrino *k) { return k->process != getpid(); }
+/* Where the lock may not be taken. */
+static int refuse(const neutrino *k) { return k->process != getpid() ? fail(EPERM) : inside ? fail(EDEADLK) : 0; }
 
 /* The roster: the threads, and a clock for each process, whose number is one that no thread has. */
 static size_t roster_of(neutrino *k, const struct neutrino_thread *threads, size_t count, balsaeuchre_thread *roster) {
@@ -74,7 +75,7 @@ neutrino *neutrino_open_version(uint32_t version, const struct neutrino_thread *
 }
 
 int neutrino_join(neutrino *k, int tid) {
-    if (in_a_child(k)) return fail(EPERM);
+    if (refuse(k)) return -1;
     if (self) return fail(EBUSY);
     if (tid < 0 || tid > UINT8_MAX || k->place_of[tid] == PLACES) return fail(ESRCH);
     struct place *p = &k->places[k->place_of[tid]];
@@ -93,20 +94,18 @@ int neutrino_join(neutrino *k, int tid) {
 }
 
 int neutrino_leave(void) {
-    if (!self) return fail(EPERM);
-    if (self->inside) return fail(EDEADLK);
+    if (refuse_call()) return -1;
     lock(kernel);
     self->joined = false;
     kernel->joined--;
-    unlock(kernel);
     self = NULL;
+    unlock(kernel);
     pthread_setspecific(ending, NULL);
     return 0;
 }
 
 int neutrino_shutdown(neutrino *k) {
-    if (in_a_child(k)) return fail(EPERM);
-    if (self && self->inside) return fail(EDEADLK);
+    if (refuse(k)) return -1;
     uint64_t asleep = 0;
     lock(k);
     uint32_t error = balsaeuchre_shutdown(&k->library, k->clock_of[k->places[0].pid], &k->event);
@@ -117,8 +116,7 @@ int neutrino_shutdown(neutrino *k) {
 }
 
 int neutrino_close(neutrino *k) {
-    if (in_a_child(k)) return fail(EPERM);
-    if (self && self->inside) return fail(EDEADLK);
+    if (refuse(k)) return -1;
     lock(k);
     bool busy = k->joined;
     unlock(k);

@@ -23,7 +23,7 @@
 
 enum { PLACES = BALSAEUCHRE_ROWS, CHANNEL_BITS = 6, CONNECTION_BITS = 10, MESSAGE_BITS = 6 };
 enum { SCOID = 0x40000000 };  /* a server connection id is this and the client's process */
-enum { FRONT = 4096 };        /* how much of a receive buffer the kernel sees; a Read brings what is behind */
+enum { FRONT = 1024 };        /* how much of a receive buffer the kernel sees; a Read brings what is behind */
 enum { OPEN, ASLEEP, ENDED }; /* a word: the call is open; and its thread sleeps; the ending is there */
 
 /* An id of the kernel's, which has 40 bits, and the int that stands for it: a place, and how often that was taken. */
@@ -66,8 +66,7 @@ struct place {
     _Alignas(64) _Atomic uint32_t word;
     int error; /* how its call ended: an errno; or 0, and the result */
     long result;
-    struct call *call;            /* while that is open */
-    volatile sig_atomic_t inside; /* a call: for signal handlers of the thread's own */
+    struct call *call; /* while that is open */
     uint8_t tid, pid;
     bool joined;
     int state;
@@ -92,9 +91,11 @@ struct neutrino {
     struct place places[PLACES];
 };
 
-/* The kernel and the place of the calling thread. self is null where it has not joined. */
+/* The kernel and the place of the calling thread. self is null where it has not joined. inside counts the calls and
+ * locks that it is within, for its own signal handlers. */
 static _Thread_local neutrino *kernel;
 static _Thread_local struct place *self;
+static _Thread_local volatile sig_atomic_t inside;
 
 static uint64_t bit_of(const neutrino *k, const struct place *p) { return 1ull << (p - k->places); }
 
@@ -108,5 +109,8 @@ static int fail(int error) {
     errno = error;
     return -1;
 }
+
+/* Where the calling thread may make no call. */
+static int refuse_call(void) { return !self ? fail(EPERM) : inside ? fail(EDEADLK) : 0; }
 
 #endif

@@ -18,6 +18,7 @@ static void pause_briefly(void) {
 }
 
 static void lock(neutrino *k) {
+    inside++;
     for (int looks = 0; looks < LOCK_LOOKS; looks++) {
         if (pthread_mutex_trylock(&k->lock) == 0) return;
         for (int pauses = 0; pauses < 8; pauses++) pause_briefly();
@@ -25,7 +26,10 @@ static void lock(neutrino *k) {
     pthread_mutex_lock(&k->lock);
 }
 
-static void unlock(neutrino *k) { pthread_mutex_unlock(&k->lock); }
+static void unlock(neutrino *k) {
+    pthread_mutex_unlock(&k->lock);
+    inside--;
+}
 
 /* Nanoseconds of CLOCK_MONOTONIC. */
 static uint64_t now(void) {

@@ -29,8 +29,7 @@ int neutrino_unblock(int tid) {
 
 int TimerTimeout(clockid_t id, int flags, const struct sigevent *notify, const uint64_t *ntime, uint64_t *otime) {
     int known = _NTO_TIMEOUT_SEND | _NTO_TIMEOUT_RECEIVE | _NTO_TIMEOUT_REPLY;
-    if (!self) return fail(EPERM);
-    if (self->inside) return fail(EDEADLK);
+    if (refuse_call()) return -1;
     if ((flags & ~known) || (notify && notify->sigev_notify != SIGEV_UNBLOCK)) return fail(EINVAL);
     if (id != CLOCK_MONOTONIC && id != CLOCK_REALTIME) return fail(EINVAL);
     if (otime) *otime = self->states ? self->time : 0;

@@ -3,21 +3,23 @@
 pub use Rattle.qbase.specs.Laying
 -- rosters
 pub use Rattle.qtables.specs.Members
--- calls and their rows, the past, and what is so of every lawful trace
-pub use Rattle.qmodel.specs.Trace
-pub use Rattle.qmodel.specs.Facts
-pub use Rattle.qmodel.specs.Rows
-pub use Rattle.qmodel.specs.Calls
-pub use Rattle.qmodel.specs.Answer
-pub use Rattle.qmodel.specs.Past
-pub use Rattle.qmodel.specs.Lawful
-pub use Rattle.qmodel.specs.OnlyRun
-pub use Rattle.qmodel.specs.Properties
+-- the rules of the calls, the past, lawful traces and their properties
+pub use Rattle.qrules.specs.Words as RuleWords
+pub use Rattle.qrules.specs.Trace
+pub use Rattle.qrules.specs.Facts
+pub use Rattle.qrules.specs.Rule
+pub use Rattle.qrules.specs.Rules
+pub use Rattle.qrules.specs.Outcome
+pub use Rattle.qrules.specs.Past
+pub use Rattle.qrules.specs.Lawful
+pub use Rattle.qrules.specs.Properties
 -- the kernel at its past, and a run of it
 pub use Rattle.qstate.specs.Thread
 pub use Rattle.qkernel.specs.Kernel
+pub use Rattle.qkernel.specs.LentCall
 pub use Rattle.qkernel.specs.Stands
 pub use Rattle.qkernel.specs.Run
+pub use Rattle.qkernel.specs.Blocked
 -- the shared kernel and its ports
 pub use Rattle.qhandoff.specs.Words
 pub use Rattle.qshared.specs.Answered

@@ -15,6 +15,7 @@ pub use qbase::ids::{ChannelId, ConnectionId, ProcessNo, ReceiveId, ThreadNo};
 pub use qbase::priority::Priority;
 pub use qbase::state::ThreadState;
 pub use qkernel::kernel::{CALL_LIMIT, Kernel};
+pub use qkernel::lent_call::LentCall;
 pub use qkernel::run::run;
 pub use qkernel::trace::Trace;
 pub use qmodel::call::{Call, Completion, Info, Mark};

@@ -15,6 +15,9 @@ use Rattle.balsaeuchre_c.specs.Rows.{Fills, TellsReceipt, info_in}
 use Rattle.balsaeuchre_c.specs.Telling.{IsTold}
 use Rattle.balsaeuchre_c.specs.declared.row.Row.{Row}
 use Rattle.balsaeuchre_c.specs.declared.telling.Done.{Done}
+use Rattle.qrules.specs.Lawful.{IsLawful}
+use Rattle.qrules.specs.Trace.{Trace}
+use Rattle.qkernel.proofs.Traces.{answers_before, before, info_before, stands_roster}
 use Rattle.balsaeuchre_c.proofs.Holding.{received_told}
 use Rattle.balsaeuchre_c.proofs.Tellings.{some_same}
 
@@ -38,11 +41,15 @@ pub informs : (old : State) (t : ℕ) (c : Call) (X : List Completion) (new : St
     → AnswersAtTraces old t c X new → IsTold new X rows ob bytes done → InformsAtTraces old t c X rows
 informs old t c X new rows ob bytes done sound known answers told roster past lawful stands place e row so at rcvid copied m =
     let a = answers roster past lawful stands in
-    let rises : IsRoster roster = subst IsRoster stands.roster_is sound.roster in
-    let member : is_some (member_at roster t) ≡ true = subst (λ r. is_some (member_at r t) ≡ true) stands.roster_is known in
-    let held = all_at _ X place e (received_told roster past t c X rises lawful member a.0) so rcvid copied m in
+    let same_roster = stands_roster roster old past stands in
+    let rises : IsRoster roster = subst IsRoster same_roster sound.roster in
+    let member : is_some (member_at roster t) ≡ true = subst (λ r. is_some (member_at r t) ≡ true) same_roster known in
+    let held = all_at _ X place e (received_told roster past t c X rises (before roster past lawful) member (answers_before roster past lawful t c X a.0)) so rcvid copied m in
+    let trace : Trace = with_event t c X past in
+    let after : IsLawful roster trace = (lawful, (member, a.0)) in
+    let same_info = info_before roster trace after rcvid in
     let r = told.told place (get-below X place e so) e so in
     let same : r.0 ≡ row = some_same r.0 row (sym r.1 ∙ at) in
     let k = subst (λ (x : Row). TellsReceipt x new e) same r.2.message rcvid copied m in
-    let said = k.said roster (with_event t c X past) a.1 ∙ held.is in
-    held.is ∙ ap Some (filled_same row held.info (held.count ∙ sym k.count) (subst (Fills row) said k.filled))
+    let said = k.said roster trace a.1 ∙ same_info ∙ held.is in
+    same_info ∙ held.is ∙ ap Some (filled_same row held.info (held.count ∙ sym k.count) (subst (Fills row) said k.filled))

@@ -1,16 +1,18 @@
 -- What a call through C comes to.
-use Rattle.std.specs.Prelude.{◌≡◌, ℕ, ◌<◌, List, slice_get, Some, ◌⊎◌}
+use Rattle.std.specs.Prelude.{◌≡◌, ℕ, ◌<◌, true, is_some, List, ◌∷◌, slice_get, Some, ◌⊎◌}
 use Rattle.qbase.specs.declared.errno.Errno.{Errno}
 use Rattle.qbase.specs.declared.errno.Errno.TheVariants.{Inval}
-use Rattle.qkernel.specs.Kernel.{State}
+use Rattle.qkernel.specs.Kernel.{IsSound, State}
 use Rattle.qkernel.specs.Stands.{AnswersAtTraces, DispatchError, StandsAt}
-use Rattle.qmodel.specs.Calls.Info.{info_of}
-use Rattle.qmodel.specs.Facts.{Facts, sender}
-use Rattle.qmodel.specs.Lawful.{IsLawful, facts_of, with_event}
-use Rattle.qmodel.specs.Trace.{Trace}
+use Rattle.qrules.specs.Facts.{Facts}
+use Rattle.qrules.specs.Lawful.{IsLawful, facts_of}
+use Rattle.qrules.specs.Rules.Held.{info_of}
+use Rattle.qrules.specs.Trace.{Trace}
 use Rattle.qmodel.specs.declared.call.Call.{Call}
 use Rattle.qmodel.specs.declared.call.Completion.{Completion}
 use Rattle.qmodel.specs.declared.call.Mark.TheVariants as mark
+use Rattle.qstate.specs.Thread.{members_of}
+use Rattle.qtables.specs.Members.{member_at}
 use Rattle.qtables.specs.declared.member.Member.{Member}
 use Rattle.balsaeuchre_c.specs.declared.request.Request.{Request}
 use Rattle.balsaeuchre_c.specs.declared.row.Row.{Row}
@@ -23,7 +25,7 @@ use Rattle.balsaeuchre_c.specs.Telling.{IsTold}
 -- where the ending is the receipt of a message, the row says what an `Info` of it would by these facts
 abbrev pub Informs : Facts → Completion → Row → Type 0
 Informs f e row = (rcvid copied : ℕ) → e.mark ≡ mark.Message rcvid copied
-    → info_of f (sender f rcvid) ≡ Some (info_in row)
+    → info_of f rcvid ≡ Some (info_in row)
 
 -- so does each row of an event, at every lawful trace at which the kernel stood, followed by the event
 abbrev pub InformsAtTraces : State → ℕ → Call → List Completion → List Row → Type 0
@@ -31,7 +33,16 @@ InformsAtTraces old t call endings rows =
     (roster : List Member) (past : Trace) → IsLawful roster past → StandsAt roster old past
     → (place : ℕ) (e : Completion) (row : Row)
     → slice_get endings place ≡ Some e → slice_get rows place ≡ Some row
-    → Informs (facts_of roster (with_event t call endings past)) e row
+    → Informs (facts_of roster (record { thread = t; call = call; endings = endings } ∷ past)) e row
+
+-- the kernel made the very call that the request means, of a thread of its roster, and its endings answer every
+-- lawful trace at which the kernel stood
+pub record IsMade (old : Session) (r : Request) (sent room : List ℕ) (new : Session) : Type 0 where
+  pub call : Call
+  pub meant : call_of r sent room ≡ Some call
+  pub known : is_some (member_at (members_of old.kernel.threads) r.thread) ≡ true
+  pub sound : IsSound old.kernel
+  pub answers : AnswersAtTraces old.kernel r.thread call new.endings.items new.kernel
 
 -- the kernel made the very call that the request means, its endings answer every lawful trace at which the kernel
 -- stood, and they are told, with what `Info` would say of a message that was received

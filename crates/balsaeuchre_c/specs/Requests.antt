@@ -1,5 +1,5 @@
 -- The call that a request means.
-use Rattle.std.specs.Prelude.{◌≡◌, ℕ, true, is_some, List, Option, None, Some, option_map, option_and_then, ◌⊎◌}
+use Rattle.std.specs.Prelude.{◌≡◌, ℕ, Bool, false, true, is_some, List, Option, None, Some, option_map, option_and_then, ◌⊎◌}
 use Rattle.qbase.specs.Priority.{priority_of}
 use Rattle.qbase.specs.declared.errno.Errno.{Errno}
 use Rattle.qbase.specs.declared.errno.Errno.TheVariants.{Inval, NoMemory}
@@ -30,6 +30,26 @@ call_as ChannelDestroy r sent room = Some (call.ChannelDestroy r.id)
 call_as Shutdown r sent room = Some call.Shutdown
 call_as Unblock r sent room = Some (call.Unblock r.target)
 call_as ConnectDetach r sent room = Some (call.ConnectDetach r.id)
+
+-- whether a call of this kind borrows its bytes, since it never blocks
+abbrev pub borrows : Kind → Bool
+borrows Reply = true
+borrows Write = true
+borrows ChannelCreate = false
+borrows ConnectAttach = false
+borrows Send = false
+borrows Receive = false
+borrows Error = false
+borrows Read = false
+borrows Info = false
+borrows ReceivePulse = false
+borrows Pulse = false
+borrows PrioritySet = false
+borrows State = false
+borrows ChannelDestroy = false
+borrows Shutdown = false
+borrows Unblock = false
+borrows ConnectDetach = false
 
 -- what a request means; none where no kind has its number either
 abbrev pub call_of : Request → List ℕ → List ℕ → Option Call

@@ -9,7 +9,6 @@ use crate::row::Row;
 use crate::session::Session;
 use crate::telling::{Done, tell};
 use qbase::errno::Errno;
-use qbase::ids::ThreadNo;
 use std::alloc::Global;
 
 /// How many rows a call needs: an event has at most as many endings.
@@ -34,14 +33,7 @@ pub fn make_call(
     if rows.len() < ROW_LIMIT {
         return Err(Errno::Inval);
     }
-    match request.call(alloc, sent, room) {
-        Ok(call) => match session.call(ThreadNo(request.thread), call) {
-            Ok(()) => {
-                *done = tell(&session.kernel, session.endings.as_slice(), rows, bytes);
-                Ok(())
-            }
-            Err(errno) => Err(errno),
-        },
-        Err(errno) => Err(errno),
-    }
+    session.make(alloc, request, sent, room)?;
+    *done = tell(&session.kernel, session.endings.as_slice(), rows, bytes);
+    Ok(())
 }

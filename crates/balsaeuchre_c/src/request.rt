@@ -1,9 +1,9 @@
 //! A call as C writes it: numbers alone.
 
-ghost use Rattle.std.specs.Prelude.{◌≡◌, [], None, Some, MatchResult};
-ghost use Rattle.balsaeuchre_c.specs.Requests.{call_as, call_of, IsRefusedAs};
+ghost use Rattle.std.specs.Prelude.{◌≡◌, [], None, Some, MatchResult, false};
+ghost use Rattle.balsaeuchre_c.specs.Requests.{borrows, call_as, IsRefusedAs};
 
-use crate::kind::{Kind, kind_of};
+use crate::kind::Kind;
 use qbase::bytes::Bytes;
 use qbase::errno::Errno;
 use qbase::flags::ChannelFlags;
@@ -74,18 +74,6 @@ impl Request {
         })
     }
 
-    fn reply(&self, alloc: Global, sent: &[u8]) -> Result<Call, Errno>
-        ensures { MatchResult result
-            (λ call. call ≡ Call.Reply self.now.id self.now.status sent.now)
-            (λ errno. errno ≡ Errno.NoMemory) }
-    {
-        Ok(Call::Reply {
-            rcvid: ReceiveId(self.id),
-            status: self.status,
-            bytes: copy_bytes(alloc, sent)?,
-        })
-    }
-
     fn read(&self, alloc: Global, room: &[u8]) -> Result<Call, Errno>
         ensures { MatchResult result
             (λ call. call ≡ Call.Read self.now.id self.now.offset room.now)
@@ -95,18 +83,6 @@ impl Request {
             rcvid: ReceiveId(self.id),
             offset: self.offset,
             buffer: copy_bytes(alloc, room)?,
-        })
-    }
-
-    fn write(&self, alloc: Global, sent: &[u8]) -> Result<Call, Errno>
-        ensures { MatchResult result
-            (λ call. call ≡ Call.Write self.now.id self.now.offset sent.now)
-            (λ errno. errno ≡ Errno.NoMemory) }
-    {
-        Ok(Call::Write {
-            rcvid: ReceiveId(self.id),
-            offset: self.offset,
-            bytes: copy_bytes(alloc, sent)?,
         })
     }
 
@@ -140,7 +116,16 @@ impl Request {
         }
     }
 
-    fn call_as(&self, kind: Kind, alloc: Global, sent: &[u8], room: &[u8]) -> Result<Call, Errno>
+    /// What the request means as a call of this kind, which doesn't borrow its bytes. `Inval` where it means none, as
+    /// its priority is none; else `NoMemory`.
+    pub fn call_as(
+        &self,
+        kind: Kind,
+        alloc: Global,
+        sent: &[u8],
+        room: &[u8],
+    ) -> Result<Call, Errno>
+        requires { borrows kind ≡ false }
         ensures { MatchResult result
             (λ call. call_as kind self.now sent.now room.now ≡ Some call)
             (IsRefusedAs (call_as kind self.now sent.now room.now)) }
@@ -150,13 +135,12 @@ impl Request {
             Kind::ConnectAttach => Ok(Call::ConnectAttach(ChannelId(self.id))),
             Kind::Send => self.send(alloc, sent, room),
             Kind::Receive => self.receive(alloc, room),
-            Kind::Reply => self.reply(alloc, sent),
+            Kind::Reply | Kind::Write => unreachable!(),
             Kind::Error => Ok(Call::Error {
                 rcvid: ReceiveId(self.id),
                 code: self.code,
             }),
             Kind::Read => self.read(alloc, room),
-            Kind::Write => self.write(alloc, sent),
             Kind::Info => Ok(Call::Info(ReceiveId(self.id))),
             Kind::ReceivePulse => Ok(Call::ReceivePulse(ChannelId(self.id))),
             Kind::Pulse => self.pulse(),
@@ -166,19 +150,6 @@ impl Request {
             Kind::Shutdown => Ok(Call::Shutdown),
             Kind::Unblock => Ok(Call::Unblock(ThreadNo(self.target))),
             Kind::ConnectDetach => Ok(Call::ConnectDetach(ConnectionId(self.id))),
-        }
-    }
-
-    /// The call that the request means, with copies of the bytes. `Inval` where it means none, as its kind or
-    /// its priority is none; else `NoMemory`.
-    pub fn call(&self, alloc: Global, sent: &[u8], room: &[u8]) -> Result<Call, Errno>
-        ensures { MatchResult result
-            (λ call. call_of self.now sent.now room.now ≡ Some call)
-            (IsRefusedAs (call_of self.now sent.now room.now)) }
-    {
-        match kind_of(self.kind) {
-            Some(kind) => self.call_as(kind, alloc, sent, room),
-            None => Err(Errno::Inval),
         }
     }
 }

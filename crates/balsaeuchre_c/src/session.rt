@@ -1,16 +1,23 @@
 //! A kernel with the list that its endings are put into.
 
-ghost use Rattle.std.specs.Prelude.{◌≡◌, true, is_some, IfOk, IfErr};
+ghost use Rattle.std.specs.Prelude.{◌≡◌, ◌<◌, ◌^◌, ◌⊎◌, [], true, is_some, IfOk, IfErr};
 ghost use Rattle.qkernel.specs.Kernel.{IsSound};
+ghost use Rattle.qkernel.specs.LentCall.{call_lent};
 ghost use Rattle.qkernel.specs.Stands.{AnswersAtTraces, DispatchError};
 ghost use Rattle.qstate.specs.Thread.{members_of};
 ghost use Rattle.qtables.specs.Members.{member_at};
+ghost use Rattle.balsaeuchre_c.specs.Calling.{IsMade};
+ghost use Rattle.balsaeuchre_c.specs.Requests.{IsRefusedAs, call_of};
 
+use crate::kind::{Kind, kind_of};
+use crate::request::Request;
 use qbase::errno::Errno;
-use qbase::ids::ThreadNo;
+use qbase::ids::{ReceiveId, ThreadNo};
 use qkernel::call::Call;
 use qkernel::endings::Endings;
 use qkernel::kernel::{CALL_LIMIT, Kernel};
+use qkernel::lent_call::LentCall;
+use std::alloc::Global;
 
 /// A kernel, and the endings of its last event.
 #[derive(Drop)]
@@ -20,13 +27,12 @@ pub struct Session {
 }
 
 impl Session {
-    /// Makes a call. Ok is an event, whose endings stand in the list in rising thread number; an error is
-    /// none.
-    pub fn call(&mut self, thread: ThreadNo, call: Call) -> Result<(), Errno>
-        ensures event { IfOk result (λ _. AnswersAtTraces self.old.kernel thread call self.new.endings.items self.new.kernel) }
+    /// Empties the list for the next call of a thread, unless the kernel would count none.
+    fn begin(&mut self, thread: ThreadNo) -> Result<(), Errno>
         ensures known { IfOk result (λ _. is_some (member_at (members_of self.old.kernel.threads) thread) ≡ true) }
+        ensures limit { IfOk result (λ _. self.old.kernel.made < 2 ^ 40) }
         ensures sound { IfOk result (λ _. IsSound self.old.kernel) }
-        ensures roster { members_of self.new.kernel.threads ≡ members_of self.old.kernel.threads }
+        ensures empty { IfOk result (λ _. (self.new.kernel ≡ self.old.kernel) × (self.new.endings.items ≡ [])) }
         ensures error { IfErr result (λ errno. DispatchError self.old.kernel thread errno) }
         ensures unchanged { IfErr result (λ _. self.new ≡ self.old) }
     {
@@ -37,7 +43,87 @@ impl Session {
             return Err(Errno::Exhausted);
         }
         self.endings.clear();
+        Ok(())
+    }
+
+    /// Makes a call. Ok is an event, whose endings stand in the list in rising thread number; an error is
+    /// none.
+    fn call(&mut self, thread: ThreadNo, call: Call) -> Result<(), Errno>
+        ensures event { IfOk result (λ _. AnswersAtTraces self.old.kernel thread call self.new.endings.items self.new.kernel) }
+        ensures known { IfOk result (λ _. is_some (member_at (members_of self.old.kernel.threads) thread) ≡ true) }
+        ensures sound { IfOk result (λ _. IsSound self.old.kernel) }
+        ensures roster { members_of self.new.kernel.threads ≡ members_of self.old.kernel.threads }
+        ensures error { IfErr result (λ errno. DispatchError self.old.kernel thread errno) }
+        ensures unchanged { IfErr result (λ _. self.new ≡ self.old) }
+    {
+        self.begin(thread)?;
         self.kernel.step(thread, call, &mut self.endings);
+        Ok(())
+    }
+
+    /// `call` with bytes that are lent.
+    fn call_lent(&mut self, thread: ThreadNo, call: &LentCall) -> Result<(), Errno>
+        ensures event { IfOk result (λ _. AnswersAtTraces self.old.kernel thread (call_lent call.now) self.new.endings.items self.new.kernel) }
+        ensures known { IfOk result (λ _. is_some (member_at (members_of self.old.kernel.threads) thread) ≡ true) }
+        ensures sound { IfOk result (λ _. IsSound self.old.kernel) }
+        ensures roster { members_of self.new.kernel.threads ≡ members_of self.old.kernel.threads }
+        ensures error { IfErr result (λ errno. DispatchError self.old.kernel thread errno) }
+        ensures unchanged { IfErr result (λ _. self.new ≡ self.old) }
+    {
+        self.begin(thread)?;
+        self.kernel.step_lent(thread, call, &mut self.endings);
+        Ok(())
+    }
+
+    /// Makes the call that a request means. A Reply and a Write borrow their bytes; the others get copies of the bytes
+    /// and of the buffer that they need. `Inval` where the request means no call, as its kind or its priority is none.
+    pub fn make(
+        &mut self,
+        alloc: Global,
+        request: &Request,
+        sent: &[u8],
+        room: &[u8],
+    ) -> Result<(), Errno>
+        ensures made { IfOk result (λ _. IsMade self.old request.now sent.now room.now self.new) }
+        ensures roster { members_of self.new.kernel.threads ≡ members_of self.old.kernel.threads }
+        ensures error { IfErr result (λ errno. IsRefusedAs (call_of request.now sent.now room.now) errno ⊎ DispatchError self.old.kernel request.now.thread errno) }
+        ensures unchanged { IfErr result (λ _. self.new ≡ self.old) }
+    {
+        let thread = ThreadNo(request.thread);
+        let rcvid = ReceiveId(request.id);
+        let Some(kind) = kind_of(request.kind) else {
+            return Err(Errno::Inval);
+        };
+        match kind {
+            Kind::Reply => {
+                let status = request.status;
+                let bytes = sent;
+                self.call_lent(
+                    thread,
+                    &LentCall::Reply {
+                        rcvid,
+                        status,
+                        bytes,
+                    },
+                )?;
+            }
+            Kind::Write => {
+                let offset = request.offset;
+                let bytes = sent;
+                self.call_lent(
+                    thread,
+                    &LentCall::Write {
+                        rcvid,
+                        offset,
+                        bytes,
+                    },
+                )?;
+            }
+            kind => {
+                let call = request.call_as(kind, alloc, sent, room)?;
+                self.call(thread, call)?;
+            }
+        }
         Ok(())
     }
 }

@@ -1,8 +1,8 @@
 -- The runs that are written out are lawful, and had memory.
 use Rattle.std.proofs.Common.{ℕ, List, [], inl, inr, refl}
 use Rattle.qbase.specs.declared.errno.Errno.TheVariants.{Srch, Down}
-use Rattle.balsaeuchre.specs.Lawful.{IsLawful, followed_by}
-use Rattle.balsaeuchre.specs.OnlyRun.{HadMemory}
+use Rattle.balsaeuchre.specs.Lawful.{HadMemory, IsLawful}
+use Rattle.balsaeuchre.specs.Trace.{followed_by}
 use Rattle.balsaeuchre_uses.specs.FirstMessage as first
 use Rattle.balsaeuchre_uses.specs.ThreeThreads as three
 use Rattle.balsaeuchre_uses.specs.ShutDown as shut
@@ -11,14 +11,14 @@ use Rattle.balsaeuchre_uses.specs.Carried as carried
 
 pub first_lawful : (message answer : List ℕ) → IsLawful first.roster (followed_by [] (first.events message answer))
 first_lawful message answer =
-    (((((tt, search, inl (refl, refl)), search, inl (refl, refl)), search, inl (refl, refl)), search, inl (refl, refl)), search, inl (refl, refl))
+    (((((tt, (search, inl (refl, refl))), (search, inl (refl, refl))), (search, inl (refl, refl))), (search, inl (refl, refl))), (search, inl (refl, refl)))
 
 pub first_memory : (message answer : List ℕ) → HadMemory (first.events message answer)
 first_memory message answer = ((λ h. cc, tt), ((λ h. cc, tt), (tt, ((λ h. cc, tt), ((λ h. cc, (λ h. cc, tt)), tt)))))
 
 pub shut_down_lawful : IsLawful three.roster (followed_by [] shut.events)
 shut_down_lawful =
-    ((((((((((tt, search, inl (refl, refl)), search, inl (refl, refl)), search, inl (refl, refl)), search, inl (refl, refl)), search, inl (refl, refl)), search, inl (refl, refl)), search, inl (refl, refl)), search, inl (refl, refl)), search, inl (refl, refl)), search, inr (Down, inl refl, refl))
+    ((((((((((tt, (search, inl (refl, refl))), (search, inl (refl, refl))), (search, inl (refl, refl))), (search, inl (refl, refl))), (search, inl (refl, refl))), (search, inl (refl, refl))), (search, inl (refl, refl))), (search, inl (refl, refl))), (search, inl (refl, refl))), (search, inr (Down, inl refl, refl)))
 
 pub shut_down_memory : HadMemory shut.events
 shut_down_memory =
@@ -26,21 +26,21 @@ shut_down_memory =
 
 pub cut_lawful : IsLawful three.roster (followed_by [] timeout.cut_events)
 cut_lawful =
-    ((((((tt, search, inl (refl, refl)), search, inl (refl, refl)), search, inl (refl, refl)), search, inl (refl, refl)), search, inl (refl, refl)), search, inr (Srch, inl refl, refl))
+    ((((((tt, (search, inl (refl, refl))), (search, inl (refl, refl))), (search, inl (refl, refl))), (search, inl (refl, refl))), (search, inl (refl, refl))), (search, inr (Srch, inl refl, refl)))
 
 pub cut_memory : HadMemory timeout.cut_events
 cut_memory = ((λ h. cc, tt), ((λ h. cc, tt), (tt, ((λ h. cc, tt), ((λ h. cc, (λ h. cc, tt)), ((λ h. cc, tt), tt))))))
 
 pub told_lawful : IsLawful three.roster (followed_by [] timeout.told_events)
 told_lawful =
-    (((((((tt, search, inl (refl, refl)), search, inl (refl, refl)), search, inl (refl, refl)), search, inl (refl, refl)), search, inl (refl, refl)), search, inl (refl, refl)), search, inl (refl, refl))
+    (((((((tt, (search, inl (refl, refl))), (search, inl (refl, refl))), (search, inl (refl, refl))), (search, inl (refl, refl))), (search, inl (refl, refl))), (search, inl (refl, refl))), (search, inl (refl, refl)))
 
 pub told_memory : HadMemory timeout.told_events
 told_memory = ((λ h. cc, tt), ((λ h. cc, tt), (tt, ((λ h. cc, tt), ((λ h. cc, tt), ((λ h. cc, tt), ((λ h. cc, (λ h. cc, tt)), tt)))))))
 
 pub carried_lawful : IsLawful carried.roster (followed_by [] carried.events)
 carried_lawful =
-    (((((((((((((tt, search, inl (refl, refl)), search, inl (refl, refl)), search, inl (refl, refl)), search, inl (refl, refl)), search, inl (refl, refl)), search, inl (refl, refl)), search, inl (refl, refl)), search, inl (refl, refl)), search, inl (refl, refl)), search, inl (refl, refl)), search, inl (refl, refl)), search, inl (refl, refl)), search, inl (refl, refl))
+    (((((((((((((tt, (search, inl (refl, refl))), (search, inl (refl, refl))), (search, inl (refl, refl))), (search, inl (refl, refl))), (search, inl (refl, refl))), (search, inl (refl, refl))), (search, inl (refl, refl))), (search, inl (refl, refl))), (search, inl (refl, refl))), (search, inl (refl, refl))), (search, inl (refl, refl))), (search, inl (refl, refl))), (search, inl (refl, refl)))
 
 pub carried_memory : HadMemory carried.events
 carried_memory =

@@ -2,6 +2,7 @@
 #![tactic(auto)]
 
 mod carried;
+mod driver;
 mod first_message;
 mod kept_waiting;
 mod one_thread;
@@ -56,6 +57,9 @@ fn main(rt: HostRuntime) -> Result<(), Fail> {
     let trace = two_threads::on_two_threads(&rt, alloc)?;
     let messages = two_threads::MESSAGES.len();
     println!(rt; "two threads\n  {messages} messages, {} calls", trace.len())?;
+    let values = [7, -2, 30];
+    driver::with_a_driver(&rt, alloc, &values)?;
+    println!(rt; "driver\n  {} values", values.len())?;
     println!(rt; "kept waiting")?;
     for reply in &kept_waiting::kept_waiting(alloc)? {
         show_reply(&rt, reply)?;

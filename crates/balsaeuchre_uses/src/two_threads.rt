@@ -4,7 +4,7 @@ ghost use Rattle.std.specs.Prelude.{IfOk};
 ghost use Rattle.balsaeuchre.specs.Closing.{IsPast};
 ghost use Rattle.balsaeuchre.specs.Naming.{AreParts};
 
-use balsaeuchre::calls::{CallError, Caller, Endpoint, KernelPort, Received, Result, close};
+use balsaeuchre::calls::{CallError, Caller, Endpoint, Received, Result, close, two_callers};
 use balsaeuchre::shared::{Kept, Parts, Shared, Tie};
 use balsaeuchre::{ChannelFlags, ChannelId, Priority, ProcessNo, Roster, ThreadNo, Trace};
 use std::alloc::Global;
@@ -48,12 +48,8 @@ fn run<K: Tie + Send + Sync, R: Threads + Wait + Sync>(
     requires named { AreParts K.names K.name K.parts parts }
     ensures { IfOk result (λ trace. IsPast K.names.roster trace) }
 {
-    let (shared, mut ports) = Shared::<K, Kept<K>>::open(parts)?;
-    let (Some(second), Some(first)) = (ports.pop(), ports.pop()) else {
-        return Err(CallError::Unexpected);
-    };
-    let mut server = Caller::new(KernelPort::new(first, &shared), rt, alloc);
-    let mut client = Caller::new(KernelPort::new(second, &shared), rt, alloc);
+    let (shared, ports) = Shared::<K, Kept<K>>::open(parts)?;
+    let (mut server, mut client) = two_callers(ports, &shared, rt, alloc)?;
     let chid = server.channel_create(ChannelFlags::DISCONNECT)?;
     let (served, sent) = join(
         rt,
@@ -61,8 +57,7 @@ fn run<K: Tie + Send + Sync, R: Threads + Wait + Sync>(
         || client.run(|client| send(client, chid)),
     );
     served.and(sent)?;
-    ports.push(server.into_endpoint().into_port())?;
-    ports.push(client.into_endpoint().into_port())?;
+    let ports = vec![in alloc; server.into_port(), client.into_port()]?;
     close(shared, ports)
 }
 

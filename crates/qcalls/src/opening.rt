@@ -16,16 +16,16 @@ use std::alloc::Global;
 use std::sync::Wait;
 
 /// A thread that makes calls by its port of a shared kernel.
-pub type PortCaller<'a, K, L, R> = Caller<'a, KernelPort<'a, K, L>, R>;
+pub type PortCaller<'a, 'p, K, L, R> = Caller<'a, KernelPort<'p, K, L>, R>;
 
-impl<'a, K: Tie, L: Log, R: Wait> Caller<'a, KernelPort<'a, K, L>, R> {
+impl<'a, 'p, K: Tie, L: Log, R: Wait> Caller<'a, KernelPort<'p, K, L>, R> {
     /// A caller by this port of this kernel.
     pub fn of(
         port: Port<K>,
-        shared: &'a Shared<K, L>,
+        shared: &'p Shared<K, L>,
         rt: &'a R,
         alloc: Global,
-    ) -> Caller<'a, KernelPort<'a, K, L>, R>
+    ) -> Caller<'a, KernelPort<'p, K, L>, R>
         ensures { result.endpoint.port ≡ port }
     {
         Caller::new(KernelPort::new(port, shared), rt, alloc)
@@ -40,12 +40,12 @@ impl<'a, K: Tie, L: Log, R: Wait> Caller<'a, KernelPort<'a, K, L>, R> {
 }
 
 /// The callers of a kernel of two threads, in rising thread number. `Unexpected` if there aren't two ports.
-pub fn two_callers<'a, K: Tie, L: Log, R: Wait>(
+pub fn two_callers<'a, 'p, K: Tie, L: Log, R: Wait>(
     mut ports: Vec<Port<K>>,
-    shared: &'a Shared<K, L>,
+    shared: &'p Shared<K, L>,
     rt: &'a R,
     alloc: Global,
-) -> Result<(PortCaller<'a, K, L, R>, PortCaller<'a, K, L, R>), CallError> {
+) -> Result<(PortCaller<'a, 'p, K, L, R>, PortCaller<'a, 'p, K, L, R>), CallError> {
     let (Some(second), Some(first), None) = (ports.pop(), ports.pop(), ports.pop()) else {
         return Err(CallError::Unexpected);
     };

@@ -8,8 +8,9 @@ use qbase::ids::{ChannelId, ConnectionId, ProcessNo, ReceiveId, ThreadNo};
 use qbase::priority::Priority;
 use qbase::state::ThreadState;
 use qcalls::caller::Caller;
-use qcalls::endpoint::{Endpoint, KernelPort};
+use qcalls::endpoint::Endpoint;
 use qcalls::error::CallError;
+use qcalls::opening::two_callers;
 use qcalls::results::{Received, Request};
 use qqueue::item::What;
 use qshared::kept::Kept;
@@ -135,12 +136,8 @@ fn all_calls<K: Tie + Send + Sync, R: Threads + Wait + Abort + Sync>(
 ) -> Result<(), CallError>
     requires named { AreParts K.names K.name K.parts parts }
 {
-    let (shared, mut ports) = Shared::<K, Kept<K>>::open(parts)?;
-    let (Some(theirs), Some(own)) = (ports.pop(), ports.pop()) else {
-        panic!(rt; "no ports");
-    };
-    let mut server = Caller::new(KernelPort::new(own, &shared), rt, alloc);
-    let mut client = Caller::new(KernelPort::new(theirs, &shared), rt, alloc);
+    let (shared, ports) = Shared::<K, Kept<K>>::open(parts)?;
+    let (mut server, mut client) = two_callers(ports, &shared, rt, alloc)?;
     let chid = server.channel_create(ChannelFlags::DISCONNECT)?;
     let (served, sent) = join(
         rt,

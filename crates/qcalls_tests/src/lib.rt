@@ -4,3 +4,9 @@
 
 #[cfg(test)]
 mod calling;
+#[cfg(test)]
+mod reply_receive;
+#[cfg(test)]
+mod simulating;
+#[cfg(test)]
+mod timing;

@@ -4,12 +4,14 @@ use Rattle.std.specs.List.Sorted.{IsPermutation}
 use Rattle.qtables.specs.Members.{IsRoster}
 use Rattle.qtables.specs.declared.member.Member.{Member}
 use Rattle.qmodel.specs.declared.call.Call.{Call}
-use Rattle.qmodel.specs.Blocked.{blocked_threads_at}
-use Rattle.qmodel.specs.Lawful.{followed_by}
+use Rattle.qkernel.specs.Blocked.{blocked_threads}
+use Rattle.qrules.specs.Lawful.{facts_of}
+use Rattle.qrules.specs.Trace.{followed_by}
 use Rattle.qmodel.specs.Trace.{Run}
 use Rattle.qkernel.specs.Stands.{StandsAt}
 use Rattle.qkernel.specs.Kernel.{State}
 use Rattle.qkernel.proofs.Running.{headline_of}
+use Rattle.qkernel.proofs.Traces.{stands_made, stands_roster}
 use Rattle.qscript.specs.Enrolled.{roster_with}
 use Rattle.qchart.specs.declared.chart.Chart.{Chart}
 use Rattle.qchart.specs.Charts.{IsChartOf}
@@ -19,11 +21,12 @@ pub charted : (roster : List Member) (calls : List (ℕ × Call)) (old new : Sta
     → HasRows old calls new chart.rows.items → IsPermutation roster chart.lifelines.items → IsChartOf roster calls chart
 charted roster calls old new chart rises stands has lines =
     let run : Run = record { first = 1; events = has.events } in
-    let first : 1 ≡ old.made + 1 = omega (arith, stands.made) in
-    let well = headline_of old new 1 has.events (subst IsRoster (sym stands.roster_is) rises) first has.ran (roster_with [] roster) [] tt stands in
+    let made = stands_made (roster_with [] roster) old [] stands in
+    let first : 1 ≡ old.made + 1 = omega (arith, made) in
+    let well = headline_of old new 1 has.events (subst IsRoster (sym (stands_roster (roster_with [] roster) old [] stands)) rises) first has.ran (roster_with [] roster) [] tt stands in
     record {
       run = run;
-      left = blocked_threads_at (roster_with [] roster) (followed_by [] has.events);
+      left = blocked_threads (facts_of (roster_with [] roster) (followed_by [] has.events));
       ran = record { rising = well.rising; first = refl; made = has.made; lawful = well.lawful; properties = well.properties; left = refl };
       lines = lines;
       drawn = record { threads = has.threads; arrows = has.arrows; blocked = has.blocked (roster_with [] roster) [] tt stands };

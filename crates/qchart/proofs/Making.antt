@@ -8,10 +8,10 @@ use Rattle.std.specs.List.{filter_map}
 use Rattle.qmodel.specs.declared.call.Call.{Call}
 use Rattle.qmodel.specs.declared.call.Completion.{Completion}
 use Rattle.qchart.specs.Arrows.{arrow_of}
-use Rattle.qmodel.proofs.Following.{followed_push}
-use Rattle.qmodel.specs.Blocked.{blocked_threads_at}
-use Rattle.qmodel.specs.Lawful.{IsLawful, followed_by}
-use Rattle.qmodel.specs.OnlyRun.{event_call}
+use Rattle.qkernel.proofs.Traces.{followed_push}
+use Rattle.qkernel.specs.Blocked.{blocked_threads}
+use Rattle.qrules.specs.Trace.{followed_by}
+use Rattle.qrules.specs.Lawful.{event_call, facts_of}
 use Rattle.qmodel.specs.Trace.{Event, Trace}
 use Rattle.qstate.specs.Thread.{members_of}
 use Rattle.qkernel.specs.Run.{RunsAtTraces}
@@ -31,9 +31,9 @@ arrows_push before (x ∷ events) e =
 
 -- who is blocked after one event more
 blocked_push : (roster : List Member) (past : Trace) (events : List Event) (e : Event)
-    → blocked_from roster past (events ++ e ∷ []) ≡ blocked_from roster past events ++ blocked_threads_at roster (followed_by past (events ++ e ∷ [])) ∷ []
+    → blocked_from roster past (events ++ e ∷ []) ≡ blocked_from roster past events ++ blocked_threads (facts_of roster (followed_by past (events ++ e ∷ []))) ∷ []
 blocked_push roster past [] e = refl
-blocked_push roster past (x ∷ events) e = ap (λ rest. blocked_threads_at roster (x ∷ past) ∷ rest) (blocked_push roster (x ∷ past) events e)
+blocked_push roster past (x ∷ events) e = ap (λ rest. blocked_threads (facts_of roster (x ∷ past)) ∷ rest) (blocked_push roster (x ∷ past) events e)
 
 -- the rows so far: the roster stayed as it was, and these threads made the calls
 pub record Going (old : State) (calls : List (ℕ × Call)) (now : State) (drawn : List Row) (threads : List ℕ) : Type 0 where

@@ -11,7 +11,9 @@ use Rattle.qscript.specs.Script.{IsRunOf}
 use Rattle.qchart.specs.declared.chart.Chart.{Chart}
 use Rattle.qchart.specs.declared.fault.ChartFault.{ChartFault}
 use Rattle.qchart.specs.declared.fault.ChartFault.TheVariants.{Script, TooManyCalls}
+use Rattle.qchart.specs.declared.view.View.{View}
 use Rattle.qchart.specs.Rows.{IsDrawn}
+use Rattle.qchart.specs.View.{drawn_count}
 
 -- the chart of a run of these calls, which is lawful from the first call on: a line for each thread, and a row for each event that tells of it
 pub record IsChartOf (roster : List Member) (calls : List (ℕ × Call)) (chart : Chart) : Type 0 where
@@ -21,23 +23,23 @@ pub record IsChartOf (roster : List Member) (calls : List (ℕ × Call)) (chart 
   pub lines : IsPermutation roster chart.lifelines.items
   pub drawn : IsDrawn (roster_with [] roster) run.events chart.rows.items
 
--- the chart of what a text says, which is at most 400 calls
-pub record IsCharted (text : List ℕ) (chart : Chart) : Type 0 where
+-- the chart of what a text says, of which a view draws at most 400 calls
+pub record IsCharted (view : View) (text : List ℕ) (chart : Chart) : Type 0 where
   pub roster : List Member
   pub calls : List (ℕ × Call)
   pub meant : meaning text ≡ Says roster calls
-  pub few : length calls ≤ 400
+  pub few : drawn_count view (length calls) ≤ 400
   pub charted : IsChartOf roster calls chart
 
--- a text says so many calls, over 400
-pub record HasTooMany (text : List ℕ) (count : ℕ) : Type 0 where
+-- a text says so many calls, of which a view draws over 400
+pub record HasTooMany (view : View) (text : List ℕ) (count : ℕ) : Type 0 where
   pub roster : List Member
   pub calls : List (ℕ × Call)
   pub meant : meaning text ≡ Says roster calls
   pub counted : length calls ≡ count
-  pub many : 400 < count
+  pub many : 400 < drawn_count view count
 
 -- why a text has no chart: its own fault, or want of memory; or else too many calls
-abbrev pub IsChartFault : List ℕ → ChartFault → Type 0
-IsChartFault text (Script fault) = IsFaultOf fault (meaning text)
-IsChartFault text (TooManyCalls count) = HasTooMany text count
+abbrev pub IsChartFault : View → List ℕ → ChartFault → Type 0
+IsChartFault view text (Script fault) = IsFaultOf fault (meaning text)
+IsChartFault view text (TooManyCalls count) = HasTooMany view text count

@@ -1,4 +1,5 @@
 pub mod Fault
 pub mod Arrows
 pub mod Rows
+pub mod View
 pub mod Charts

@@ -3,10 +3,9 @@ use Rattle.std.specs.Prelude.{◌≡◌, ℕ, List, [], ◌∷◌, ◌++◌, map
 use Rattle.std.specs.List.{filter_map}
 use Rattle.qtables.specs.declared.member.Member.{Member}
 use Rattle.qmodel.specs.declared.call.Call.{Call}
-use Rattle.qmodel.specs.Lawful.{IsLawful}
 use Rattle.qmodel.specs.declared.open_call.Blocked.{Blocked}
-use Rattle.qmodel.specs.Blocked.{blocked_threads_at}
-use Rattle.qmodel.specs.OnlyRun.{event_call}
+use Rattle.qkernel.specs.Blocked.{blocked_threads}
+use Rattle.qrules.specs.Lawful.{event_call, facts_of, IsLawful}
 use Rattle.qmodel.specs.Trace.{Event, Trace}
 use Rattle.qkernel.specs.Run.{RunsAtTraces}
 use Rattle.qkernel.specs.Stands.{StandsAt}
@@ -31,7 +30,7 @@ arrows_from before (e ∷ events) = event_arrows before e ∷ arrows_from (befor
 -- who is blocked after each event, in which state and on which channel
 abbrev pub blocked_from : List Member → Trace → List Event → List (List Blocked)
 blocked_from roster past [] = []
-blocked_from roster past (e ∷ events) = blocked_threads_at roster (e ∷ past) ∷ blocked_from roster (e ∷ past) events
+blocked_from roster past (e ∷ events) = blocked_threads (facts_of roster (e ∷ past)) ∷ blocked_from roster (e ∷ past) events
 
 -- what a row tells of its event
 abbrev pub row_thread : Row → ℕ
@@ -47,7 +46,7 @@ row_blocked row = row.blocked.items
 
 -- this is who is blocked after each trace at which the kernel stands
 abbrev pub TellsBlocked : State → List Blocked → Type 0
-TellsBlocked s blocked = (roster : List Member) (past : Trace) → StandsAt roster s past → blocked ≡ blocked_threads_at roster past
+TellsBlocked s blocked = (roster : List Member) (past : Trace) → StandsAt roster s past → blocked ≡ blocked_threads (facts_of roster past)
 
 -- these calls were made by a kernel that was in the one state and is in the other, and the rows tell of their events at every lawful trace at which
 -- it stood

@@ -2,15 +2,32 @@
 
 use crate::row::Row;
 use qbase::ids::ThreadNo;
+use qbase::state::ThreadState;
+use qexplain::waiting::{Deadlock, Wait};
+use qkernel::open_call::Blocked;
 use qtables::member::Member;
+use std::alloc::{AllocError, Global};
+
+/// What is told of the end of a run.
+#[derive(Debug, Drop)]
+pub struct Outcome {
+    /// The threads whose messages aren't answered.
+    pub waits: Vec<Wait>,
+    /// The circles among them.
+    pub deadlocks: Vec<Deadlock>,
+}
 
 /// The chart of a run: a line for each thread, and a row for each call.
 #[derive(Debug, Drop)]
 pub struct Chart {
     /// The threads from left to right: those of a process stand together.
     pub lifelines: Vec<Member>,
-    /// The rows of the calls in order, from call 1 on.
+    /// The rows of the calls in order.
     pub rows: Vec<Row>,
+    /// The number of the call before the first row.
+    pub before: usize,
+    /// The threads that are blocked before the first row.
+    pub blocked: Vec<Blocked>,
 }
 
 impl Chart {
@@ -27,8 +44,32 @@ impl Chart {
     pub fn longest_words(&self) -> usize {
         let mut most = 0usize;
         for row in &self.rows {
-            most = most.max(row.words.len());
+            most = most.max(row.longest_words());
         }
         most
     }
+
+    /// The state of a thread before the first row.
+    pub fn first_state(&self, thread: ThreadNo) -> ThreadState {
+        match self.blocked.iter().find(|blocked| blocked.thread == thread) {
+            Some(blocked) => blocked.state,
+            None => ThreadState::Ready,
+        }
+    }
+
+    /// How many bytes the longest head has.
+    pub fn longest_head(&self, alloc: Global) -> Result<usize, AllocError> {
+        let mut most = 0usize;
+        for member in &self.lifelines {
+            most = most.max(head(alloc, member)?.len());
+        }
+        Ok(most)
+    }
+}
+
+/// `thread THREAD (process PROCESS)`
+pub fn head(alloc: Global, member: &Member) -> Result<String, AllocError> {
+    let thread = member.thread.0;
+    let process = member.process.0;
+    format!(in alloc; "thread {thread} (process {process})")
 }

@@ -5,12 +5,14 @@ ghost use Rattle.std.specs.List.Sorted.{IsPermutation};
 ghost use Rattle.qscript.specs.Script.{CanRun};
 ghost use Rattle.qchart.specs.Charts.{IsChartOf, IsCharted, IsChartFault};
 
-use crate::chart::Chart;
+use crate::chart::{Chart, Outcome};
 use crate::fault::ChartFault;
 use crate::run::rows_of;
 use crate::svg::svg_of;
 use crate::text::text_of;
+use crate::view::{Style, View};
 use qkernel::kernel::Kernel;
+use qreplay::report::report_of;
 use qscript::script::roster_with_all;
 use qscript::{Script, parse};
 use qtables::member::Member;
@@ -19,44 +21,48 @@ use std::alloc::{AllocError, Global};
 /// How many calls a chart may have.
 pub const MOST_CALLS: usize = 400;
 
-/// How a chart is drawn.
-#[derive(Clone, Copy, Debug, PartialEq, Eq)]
-pub enum Style {
-    /// As SVG, for a browser.
-    Svg,
-    /// In columns of text.
-    Text,
-}
-
-/// The drawing of a script's run: what the text says, run on a new kernel. No drawing where a script is faulty or
-/// has over 400 calls.
-pub fn drawing(alloc: Global, text: &[u8], style: Style) -> Result<String, ChartFault>
-    ensures { IfErr result (IsChartFault text.now) }
+/// The drawing of a script's run: what the text says, run on a new kernel. No drawing where a script is faulty, or has
+/// over 400 calls of which over 400 are to be drawn.
+pub fn drawing(alloc: Global, text: &[u8], view: &View) -> Result<String, ChartFault>
+    ensures { IfErr result (IsChartFault view.now text.now) }
 {
-    let chart = chart(alloc, text)?;
-    let drawn = match style {
-        Style::Svg => svg_of(alloc, &chart)?,
-        Style::Text => text_of(alloc, &chart)?,
+    let whole = chart(alloc, text, view)?;
+    let outcome = outcome_of(alloc, text)?;
+    let part = part_of(alloc, whole, view)?;
+    let drawn = match view.style {
+        Style::Svg => svg_of(alloc, &part, &outcome)?,
+        Style::Text => text_of(alloc, &part, &outcome)?,
     };
     Ok(drawn)
 }
 
-/// The chart of a script's run on a new kernel.
-pub fn chart(alloc: Global, text: &[u8]) -> Result<Chart, ChartFault>
-    ensures ok { IfOk result (IsCharted text.now) }
-    ensures err { IfErr result (IsChartFault text.now) }
+/// What is told of the end of a script's run.
+fn outcome_of(alloc: Global, text: &[u8]) -> Result<Outcome, AllocError> {
+    match report_of(alloc, text) {
+        Ok(report) => Ok(Outcome {
+            waits: report.waits,
+            deadlocks: report.deadlocks,
+        }),
+        Err(_) => Err(AllocError),
+    }
+}
+
+/// The chart of a script's run on a new kernel, with all its rows. None where over 400 of them are to be drawn.
+pub fn chart(alloc: Global, text: &[u8], view: &View) -> Result<Chart, ChartFault>
+    ensures ok { IfOk result (IsCharted view.now text.now) }
+    ensures err { IfErr result (IsChartFault view.now text.now) }
 {
     let script = parse(alloc, text)?;
     let calls = script.calls.len();
-    if calls > MOST_CALLS {
+    if view.span(calls) > MOST_CALLS {
         return Err(ChartFault::TooManyCalls(calls));
     }
-    let chart = chart_of(alloc, script)?;
+    let chart = chart_of(alloc, script, view.bytes)?;
     Ok(chart)
 }
 
 /// The chart of what a script says.
-fn chart_of(alloc: Global, script: Script) -> Result<Chart, AllocError>
+fn chart_of(alloc: Global, script: Script, bytes: bool) -> Result<Chart, AllocError>
     requires { CanRun script.roster.items script.calls.items }
     ensures { IfOk result (IsChartOf script.roster.items script.calls.items) }
 {
@@ -65,9 +71,45 @@ fn chart_of(alloc: Global, script: Script) -> Result<Chart, AllocError>
         Ok(kernel) => kernel,
         Err(_) => return Err(AllocError),
     };
-    let rows = rows_of(alloc, &mut kernel, roster.members(), script.calls)?;
+    let rows = rows_of(alloc, &mut kernel, roster.members(), script.calls, bytes)?;
     let lifelines = by_process(script.roster)?;
-    Ok(Chart { lifelines, rows })
+    let blocked = Vec::new(alloc);
+    Ok(Chart {
+        lifelines,
+        rows,
+        before: 0,
+        blocked,
+    })
+}
+
+/// The part of a chart that is to be drawn.
+fn part_of(alloc: Global, whole: Chart, view: &View) -> Result<Chart, AllocError> {
+    let Chart {
+        lifelines,
+        rows,
+        ..
+    } = whole;
+    let mut part = Vec::new(alloc);
+    let mut blocked = Vec::new(alloc);
+    let mut number = 0usize;
+    for row in rows {
+        number = number.saturating_add(1);
+        if number > view.to {
+            break;
+        }
+        if number > view.before() {
+            part.push(row)?;
+        } else {
+            blocked = row.blocked;
+        }
+    }
+    let before = view.before();
+    Ok(Chart {
+        lifelines,
+        rows: part,
+        before,
+        blocked,
+    })
 }
 
 /// The threads in the order of their processes, and those of a process in rising number.

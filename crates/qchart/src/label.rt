@@ -1,11 +1,14 @@
 //! A call in a few words.
 
-use crate::arrow::{Arrow, What};
+use crate::arrow::{Arrow, arrow_of};
 use crate::row::Cut;
+use qbase::bytes::Bytes;
 use qbase::errno::word;
+use qbase::ids::ThreadNo;
 use qbase::priority::Priority;
 use qbase::state::ThreadState;
-use qkernel::call::{Call, Mark};
+use qkernel::call::{Call, Completion, Mark};
+use qqueue::item::What;
 use std::alloc::{AllocError, Global};
 
 /// What a thread calls, as it stands beside its line. What a Send or a Pulse makes has the number of the call.
@@ -13,7 +16,7 @@ pub fn call_words(alloc: Global, number: u64, call: &Call) -> Result<String, All
     match call {
         Call::ChannelCreate(_) => format!(in alloc; "create"),
         Call::Send { .. } => format!(in alloc; "send {number}"),
-        Call::Pulse { .. } => format!(in alloc; "pulse {number}"),
+        Call::Pulse { code, value, .. } => user_words(alloc, number, *code, *value),
         Call::Shutdown => format!(in alloc; "shutdown"),
         Call::ConnectAttach(chid) => number_label(alloc, "attach to", chid.0),
         Call::ConnectDetach(coid) => number_label(alloc, "detach", coid.0),
@@ -93,15 +96,96 @@ pub fn state_name(state: ThreadState) -> &'static str {
     }
 }
 
-/// What an arrow stands for. A message is named by the call that sent it.
-pub fn arrow_words(alloc: Global, arrow: &Arrow) -> Result<String, AllocError> {
-    let number = arrow.number;
-    match arrow.what {
-        What::Message => number_label(alloc, "send", number),
-        What::Pulse => number_label(alloc, "pulse", number),
-        What::Reply(status) => answer_label(alloc, "reply", number, "status", status),
-        What::Error(code) => answer_label(alloc, "error", number, "code", i64::from(code)),
+/// How many bytes are shown of a message or an answer at most.
+const MOST_SHOWN: usize = 8;
+
+/// Adds bytes in hexadecimal digits behind a space: the first eight, and how many there are where these aren't all.
+fn push_bytes(words: &mut String, bytes: &[u8]) -> Result<(), AllocError> {
+    if bytes.is_empty() {
+        return words.push_str(" -");
     }
+    words.push(' ')?;
+    for byte in bytes.iter().take(MOST_SHOWN) {
+        write!(words, "{byte:02x}")?;
+    }
+    let count = bytes.len();
+    if count > MOST_SHOWN {
+        write!(words, ".. ({count} bytes)")?;
+    }
+    Ok(())
+}
+
+/// Adds the bytes that a call brings to another thread.
+pub fn push_call_bytes(words: &mut String, call: &Call) -> Result<(), AllocError> {
+    match call {
+        Call::Send { message, .. } => push_bytes(words, message.as_slice()),
+        Call::Reply { bytes, .. } => push_bytes(words, bytes.as_slice()),
+        Call::Write { bytes, .. } => push_bytes(words, bytes.as_slice()),
+        _ => Ok(()),
+    }
+}
+
+/// The words of the arrows of an event whose call this thread made, in the order of its endings; with bytes or
+/// without.
+pub fn arrow_labels(
+    alloc: Global,
+    callers: &[ThreadNo],
+    caller: ThreadNo,
+    endings: &[Completion],
+    bytes: bool,
+) -> Result<Vec<String>, AllocError> {
+    let mut labels = Vec::new(alloc);
+    for ending in endings {
+        if let Some(arrow) = arrow_of(callers, caller, ending) {
+            let mut words = arrow_words(alloc, &arrow, ending.mark)?;
+            if bytes {
+                push_copied(&mut words, ending.mark, &ending.buffer)?;
+            }
+            labels.push(words)?;
+        }
+    }
+    Ok(labels)
+}
+
+/// Adds what was copied into the buffer of a receiver or of a sender.
+fn push_copied(words: &mut String, mark: Mark, buffer: &Bytes) -> Result<(), AllocError> {
+    let copied = match mark {
+        Mark::Message { copied, .. } | Mark::Replied { copied, .. } => copied,
+        _ => return Ok(()),
+    };
+    push_bytes(words, buffer.as_slice().get(..copied).unwrap_or(&[]))
+}
+
+/// What an arrow stands for, which an ending with this mark brought. A message is named by the call that sent it.
+fn arrow_words(alloc: Global, arrow: &Arrow, mark: Mark) -> Result<String, AllocError> {
+    let number = arrow.number;
+    match mark {
+        Mark::Pulse { what, .. } => pulse_words(alloc, number, what),
+        Mark::Replied { status, .. } => answer_label(alloc, "reply", number, "status", status),
+        Mark::Errored(code) => answer_label(alloc, "error", number, "code", i64::from(code)),
+        _ => number_label(alloc, "send", number),
+    }
+}
+
+/// A pulse: the number of the call that made it, and what it brings.
+fn pulse_words(alloc: Global, number: u64, what: What) -> Result<String, AllocError> {
+    match what {
+        What::Message => number_label(alloc, "pulse", number),
+        What::User { code, value } => user_words(alloc, number, code, value),
+        What::Unblock(rcvid) => {
+            let message = rcvid.0;
+            format!(in alloc; "pulse {number} unblock of send {message}")
+        }
+        What::Disconnect(process) => {
+            let process = process.0;
+            format!(in alloc; "pulse {number} disconnect of process {process}")
+        }
+    }
+}
+
+/// A user's pulse.
+fn user_words(alloc: Global, number: u64, code: i8, value: i32) -> Result<String, AllocError> {
+    format!(in alloc; "pulse {number} code {code} value {value}")
 }
 
 /// A call that was ended by force: its number and the error.

@@ -13,3 +13,4 @@ pub mod row;
 mod run;
 mod svg;
 mod text;
+pub mod view;

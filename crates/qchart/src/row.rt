@@ -25,6 +25,8 @@ pub struct Row {
     pub words: String,
     /// What was received and answered, in the order of the endings.
     pub arrows: Vec<Arrow>,
+    /// The words of each of these arrows.
+    pub labels: Vec<String>,
     /// The calls of other threads that ended by force, in rising thread number.
     pub cuts: Vec<Cut>,
     /// The threads whose priority changed, with the new one.
@@ -34,6 +36,15 @@ pub struct Row {
 }
 
 impl Row {
+    /// How many bytes its longest words have.
+    pub fn longest_words(&self) -> usize {
+        let mut most = self.words.len();
+        for label in &self.labels {
+            most = most.max(label.len());
+        }
+        most
+    }
+
     /// The state of a thread after the call.
     pub fn state_of(&self, thread: ThreadNo) -> ThreadState {
         match self.blocked.iter().find(|blocked| blocked.thread == thread) {

@@ -10,7 +10,7 @@ ghost use Rattle.qchart.specs.Arrows.{arrow_of};
 ghost use Rattle.qchart.specs.Rows.{HasRows, TellsBlocked};
 
 use crate::arrow::arrows_of;
-use crate::label::{call_words, push_result};
+use crate::label::{arrow_labels, call_words, push_call_bytes, push_result};
 use crate::priorities::{Bearing, Priorities};
 use crate::row::{Cut, Row};
 use qbase::ids::ThreadNo;
@@ -25,14 +25,16 @@ use std::alloc::{AllocError, Global};
 struct Course {
     callers: Vec<ThreadNo>,
     priorities: Priorities,
+    bytes: bool,
 }
 
-/// Makes the calls in order on a new kernel of these threads, with a row for each.
+/// Makes the calls in order on a new kernel of these threads, with a row for each; its words have bytes or not.
 pub fn rows_of(
     alloc: Global,
     kernel: &mut Kernel,
     members: &[Member],
     calls: Vec<(ThreadNo, Call)>,
+    bytes: bool,
 ) -> Result<Vec<Row>, AllocError>
     requires known { AllKnown (members_of kernel.old.threads) calls.items }
     requires limit { kernel.old.made + length calls.items ≤ 2 ^ 40 }
@@ -41,6 +43,7 @@ pub fn rows_of(
     let mut course = Course {
         callers: Vec::new(alloc),
         priorities: Priorities::new(alloc, members)?,
+        bytes,
     };
     let mut rows = Vec::new(alloc);
     let mut endings = Endings::new_in(alloc);
@@ -74,13 +77,14 @@ impl Course {
         ensures made { OnOk result (kernel.new.made ≡ kernel.old.made + 1) }
     {
         let number = kernel.made() + 1;
-        let words = call_words(alloc, number, &call)?;
+        let words = self.words_of(alloc, number, &call)?;
         let bearing = Bearing::of(&call);
         self.callers.push(thread)?;
         kernel.step(thread, call, endings);
         let ended = endings.as_slice();
         let callers = self.callers.as_slice();
         let arrows = arrows_of(alloc, callers, thread, ended)?;
+        let labels = arrow_labels(alloc, callers, thread, ended, self.bytes)?;
         let cuts = cuts_of(alloc, number, ended)?;
         let changes = self.priorities.follow(alloc, callers, bearing, ended)?;
         let words = with_result(words, number, ended)?;
@@ -89,10 +93,22 @@ impl Course {
             thread,
             words,
             arrows,
+            labels,
             cuts,
             changes,
             blocked,
         })
+    }
+}
+
+impl Course {
+    /// The words of a call, before it is answered.
+    fn words_of(&self, alloc: Global, number: u64, call: &Call) -> Result<String, AllocError> {
+        let mut words = call_words(alloc, number, call)?;
+        if self.bytes {
+            push_call_bytes(&mut words, call)?;
+        }
+        Ok(words)
     }
 }
 

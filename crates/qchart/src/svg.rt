@@ -5,8 +5,8 @@ mod fixed;
 mod sheet;
 
 use crate::arrow::{Arrow, What};
-use crate::chart::Chart;
-use crate::label::{arrow_words, cut_words};
+use crate::chart::{Chart, Outcome, head};
+use crate::label::cut_words;
 use crate::plan::{Side, is_sent, leaves_at, words_side};
 use crate::row::Row;
 use bars::{Bar, bars_of};
@@ -16,8 +16,8 @@ use sheet::Sheet;
 use std::alloc::{AllocError, Global};
 
 /// The drawing of a chart as SVG, which a browser shows by itself and within a page.
-pub fn svg_of(alloc: Global, chart: &Chart) -> Result<String, AllocError> {
-    let sheet = Sheet::of(chart);
+pub fn svg_of(alloc: Global, chart: &Chart, outcome: &Outcome) -> Result<String, AllocError> {
+    let sheet = Sheet::of(alloc, chart, outcome.deadlocks.len())?;
     let mut out = String::new(alloc);
     push_start(&mut out, &sheet)?;
     push_processes(&mut out, &sheet)?;
@@ -28,6 +28,8 @@ pub fn svg_of(alloc: Global, chart: &Chart) -> Result<String, AllocError> {
         number = number.saturating_add(1);
         push_row(&mut out, alloc, &sheet, number, row)?;
     }
+    push_pending(&mut out, &sheet, outcome)?;
+    push_deadlocks(&mut out, &sheet, outcome)?;
     push_legend(&mut out, &sheet)?;
     out.push_str("</svg>\n")?;
     Ok(out)
@@ -72,10 +74,10 @@ fn push_process(
 ) -> Result<(), AllocError> {
     let x = sheet
         .x(first)
-        .saturating_sub(sheet::HEAD_HALF.saturating_add(6));
+        .saturating_sub(sheet.head_half.saturating_add(6));
     let width = sheet
         .x(last)
-        .saturating_add(sheet::HEAD_HALF.saturating_add(6))
+        .saturating_add(sheet.head_half.saturating_add(6))
         .saturating_sub(x);
     let height = sheet.foot().saturating_sub(4);
     write!(
@@ -92,13 +94,14 @@ fn push_guides(out: &mut String, sheet: &Sheet) -> Result<(), AllocError> {
         number = number.saturating_add(1);
         let y = sheet.y(number);
         let base = y.saturating_add(4);
+        let call = sheet.chart.before.saturating_add(number);
         write!(
             out,
             "<line class=\"guide\" x1=\"40\" y1=\"{y}\" x2=\"{right}\" y2=\"{y}\"/>"
         )?;
         write!(
             out,
-            "<text class=\"number\" x=\"32\" y=\"{base}\">{number}</text>\n"
+            "<text class=\"number\" x=\"32\" y=\"{base}\">{call}</text>\n"
         )?;
     }
     Ok(())
@@ -109,19 +112,15 @@ fn push_lifelines(out: &mut String, alloc: Global, sheet: &Sheet) -> Result<(), 
     let mut column = 0usize;
     for member in &sheet.chart.lifelines {
         let x = sheet.x(column);
-        let thread = member.thread.0;
-        let process = member.process.0;
+        let name = head(alloc, member)?;
         let level = member.priority.get();
-        let left = x.saturating_sub(sheet::HEAD_HALF);
-        let width = sheet::HEAD_HALF.saturating_mul(2);
+        let left = x.saturating_sub(sheet.head_half);
+        let width = sheet.head_half.saturating_mul(2);
         write!(
             out,
             "<rect class=\"head\" x=\"{left}\" y=\"14\" width=\"{width}\" height=\"38\" rx=\"4\"/>"
         )?;
-        write!(
-            out,
-            "<text class=\"name\" x=\"{x}\" y=\"30\">thread {thread} (process {process})</text>"
-        )?;
+        write!(out, "<text class=\"name\" x=\"{x}\" y=\"30\">{name}</text>")?;
         write!(
             out,
             "<text class=\"first\" x=\"{x}\" y=\"45\">priority {level}</text>\n"
@@ -165,24 +164,7 @@ fn push_row(
     row: &Row,
 ) -> Result<(), AllocError> {
     let y = sheet.y(number);
-    for arrow in &row.arrows {
-        push_arrow(out, sheet, y, row, arrow)?;
-        if !is_sent(row, arrow) {
-            let words = arrow_words(alloc, arrow)?;
-            let x = sheet.x(sheet.chart.column(arrow.from));
-            let side = leaves_at(sheet.chart, arrow);
-            let room = if arrow.from == arrow.to { 30 } else { 14 };
-            push_words(
-                out,
-                "words",
-                x,
-                y.saturating_sub(5),
-                side,
-                room,
-                words.as_str(),
-            )?;
-        }
-    }
+    push_arrows(out, sheet, y, row)?;
     push_call(out, sheet, y, row)?;
     for cut in &row.cuts {
         let words = cut_words(alloc, cut)?;
@@ -197,6 +179,69 @@ fn push_row(
         let x = sheet.x(sheet.chart.column(change.thread));
         let base = y.saturating_add(15);
         push_words(out, "change", x, base, Side::Right, 14, words.as_str())?;
+    }
+    Ok(())
+}
+
+/// The arrows of a row, with their words but for the one that the row's own words are of.
+fn push_arrows(out: &mut String, sheet: &Sheet, y: usize, row: &Row) -> Result<(), AllocError> {
+    for (arrow, words) in row.arrows.iter().zip(row.labels.iter()) {
+        push_arrow(out, sheet, y, row, arrow)?;
+        if !is_sent(row, arrow) {
+            let x = sheet.x(sheet.chart.column(arrow.from));
+            let side = leaves_at(sheet.chart, arrow);
+            let room = if arrow.from == arrow.to { 30 } else { 14 };
+            let base = y.saturating_sub(5);
+            push_words(out, "words", x, base, side, room, words.as_str())?;
+        }
+    }
+    Ok(())
+}
+
+/// An arrow that ends in the air for each message that nobody has received, in the row of its send.
+fn push_pending(out: &mut String, sheet: &Sheet, outcome: &Outcome) -> Result<(), AllocError> {
+    for wait in &outcome.waits {
+        let number = (wait.message as usize).saturating_sub(sheet.chart.before);
+        let is_drawn = number >= 1 && number <= sheet.chart.rows.len();
+        let (from, to) = (sheet.chart.column(wait.thread), sheet.chart.column(wait.on));
+        if !wait.is_held && is_drawn && from != to {
+            push_short_arrow(out, sheet, sheet.y(number), from, to)?;
+        }
+    }
+    Ok(())
+}
+
+/// An arrow from a column's line towards another, below the words and half as far as the next line.
+fn push_short_arrow(
+    out: &mut String,
+    sheet: &Sheet,
+    y: usize,
+    from: usize,
+    to: usize,
+) -> Result<(), AllocError> {
+    let x = sheet.x(from);
+    let base = y.saturating_add(9);
+    let half = sheet.gap().saturating_div(2);
+    let (start, end) = if to > from {
+        (x.saturating_add(9), x.saturating_add(half))
+    } else {
+        (x.saturating_sub(9), x.saturating_sub(half))
+    };
+    write!(
+        out,
+        "<line class=\"message\" x1=\"{start}\" y1=\"{base}\" x2=\"{end}\" y2=\"{base}\"/>\n"
+    )
+}
+
+/// A line for each circle in which threads wait, below the rows.
+fn push_deadlocks(out: &mut String, sheet: &Sheet, outcome: &Outcome) -> Result<(), AllocError> {
+    let mut y = sheet.foot().saturating_add(20);
+    for deadlock in &outcome.deadlocks {
+        write!(
+            out,
+            "<text class=\"cut\" x=\"40\" y=\"{y}\">{deadlock}</text>\n"
+        )?;
+        y = y.saturating_add(sheet::LINE);
     }
     Ok(())
 }
@@ -301,7 +346,7 @@ fn push_loop(out: &mut String, class: &str, x: usize, y: usize) -> Result<(), Al
 }
 
 fn push_legend(out: &mut String, sheet: &Sheet) -> Result<(), AllocError> {
-    let y = sheet.foot().saturating_add(14);
+    let y = sheet.legend();
     write!(out, "<g transform=\"translate(40,{y})\">\n")?;
     out.push_str(LEGEND)?;
     out.push_str("</g>\n")

@@ -3,14 +3,14 @@
 mod line;
 
 use crate::arrow::{Arrow, What};
-use crate::chart::Chart;
-use crate::label::{arrow_words, cut_words};
+use crate::chart::{Chart, Outcome, head};
+use crate::label::cut_words;
 use crate::plan::is_sent;
 use crate::row::Row;
 use line::Line;
 use qbase::ids::ThreadNo;
 use qbase::state::ThreadState;
-use qtables::member::Member;
+use qexplain::waiting::Wait;
 use std::alloc::{AllocError, Global};
 
 /// Where the first thread's line stands in a line of text.
@@ -31,22 +31,29 @@ P  REPLY-blocked    o      sent or made before
 struct Page<'a> {
     alloc: Global,
     chart: &'a Chart,
+    outcome: &'a Outcome,
     gap: usize,
 }
 
 /// The drawing of a chart in columns of text.
-pub fn text_of(alloc: Global, chart: &Chart) -> Result<String, AllocError> {
+pub fn text_of(alloc: Global, chart: &Chart, outcome: &Outcome) -> Result<String, AllocError> {
     let page = Page {
         alloc,
         chart,
-        gap: LEAST_GAP.max(chart.longest_words().saturating_add(6)),
+        outcome,
+        gap: LEAST_GAP
+            .max(chart.longest_words().saturating_add(6))
+            .max(chart.longest_head(alloc)?.saturating_add(2)),
     };
     let mut out = String::new(alloc);
     page.push_heads(&mut out)?;
-    let mut number = 0usize;
+    let mut number = chart.before;
     for row in &chart.rows {
         number = number.saturating_add(1);
         page.push_row(&mut out, number, row)?;
+    }
+    for deadlock in &outcome.deadlocks {
+        write!(out, "{deadlock}\n")?;
     }
     out.push_str(LEGEND)?;
     Ok(out)
@@ -98,10 +105,7 @@ impl Page<'_> {
             Some(arrow) if is_sent(row, arrow) => {
                 self.put_arrow(&mut first, arrow, row.words.as_str(), false)?;
             }
-            _ => {
-                let place = self.place_of(row.thread).saturating_add(2);
-                first.put(place, row.words.as_str())?;
-            }
+            _ => self.put_call(&mut first, number, row)?,
         }
         for cut in &row.cuts {
             let place = self.place_of(cut.thread).saturating_add(2);
@@ -112,11 +116,44 @@ impl Page<'_> {
         self.push_changes(out, row)
     }
 
+    /// A call that no arrow stands for: its words beside the caller's line, or at an arrow that ends in the air where
+    /// nobody has received what it sent.
+    fn put_call(&self, line: &mut Line, number: usize, row: &Row) -> Result<(), AllocError> {
+        let mut waits = self.outcome.waits.iter();
+        let pending = waits.find(|wait| wait.message as usize == number && !wait.is_held);
+        match pending {
+            Some(wait) if wait.on != wait.thread => {
+                self.put_short_arrow(line, wait, row.words.as_str())
+            }
+            _ => {
+                let place = self.place_of(row.thread).saturating_add(2);
+                line.put(place, row.words.as_str())
+            }
+        }
+    }
+
+    /// An arrow that ends behind its words.
+    fn put_short_arrow(&self, line: &mut Line, wait: &Wait, words: &str) -> Result<(), AllocError> {
+        let from = self.place_of(wait.thread);
+        let len = words.len().saturating_add(5);
+        if from < self.place_of(wait.on) {
+            let end = from.saturating_add(len);
+            line.fill(from.saturating_add(1), end, "-")?;
+            line.put(end, ">")?;
+            line.put_spaced(from.saturating_add(3), words)
+        } else {
+            let end = from.saturating_sub(len);
+            line.fill(end, from, "-")?;
+            line.put(end, "<")?;
+            let room = words.len().saturating_add(2);
+            line.put_spaced(from.saturating_sub(room), words)
+        }
+    }
+
     fn push_arrows(&self, out: &mut String, row: &Row) -> Result<(), AllocError> {
-        for arrow in &row.arrows {
+        for (arrow, words) in row.arrows.iter().zip(row.labels.iter()) {
             if !is_sent(row, arrow) {
                 let mut line = Line::new(self.alloc);
-                let words = arrow_words(self.alloc, arrow)?;
                 self.put_arrow(&mut line, arrow, words.as_str(), true)?;
                 self.end_line(out, line, row)?;
             }
@@ -169,13 +206,6 @@ impl Page<'_> {
             line.put_spaced(from.saturating_sub(room), words)
         }
     }
-}
-
-/// `thread THREAD (process PROCESS)`
-fn head(alloc: Global, member: &Member) -> Result<String, AllocError> {
-    let thread = member.thread.0;
-    let process = member.process.0;
-    format!(in alloc; "thread {thread} (process {process})")
 }
 
 /// What a thread's line is drawn with in a state.

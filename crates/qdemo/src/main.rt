@@ -8,8 +8,9 @@ use clap::Error;
 use clap::error::ErrorKind;
 use qtool::charts::run_chart;
 use qtool::check::run_check;
-use qtool::command::{Action, action_of};
+use qtool::command::{Action, ChartRun, ScriptRun, action_of};
 use qtool::ending::{end_failed, end_unwritten, end_with};
+use qtool::play::run_play;
 use qtool::scripts::run_script;
 use serving::run_serve;
 use std::io::IsTerminal;
@@ -26,9 +27,16 @@ fn main(rt: HostRuntime) -> ExitCode {
         return end_failed(&rt, "out of memory");
     };
     match action_of(rt.alloc(), words.as_slice()) {
-        Ok(Action::Script(run)) => run_script(&rt, &run),
+        Ok(Action::Script(run)) => {
+            let terminal = rt.stderr().is_terminal();
+            run_script(&rt, &ScriptRun { terminal, ..run })
+        }
         Ok(Action::Check(run)) => run_check(&rt, &run),
-        Ok(Action::Chart(run)) => run_chart(&rt, &run),
+        Ok(Action::Play(run)) => run_play(&rt, &run, rt.stdin().is_terminal()),
+        Ok(Action::Chart(run)) => {
+            let terminal = rt.stdout().is_terminal();
+            run_chart(&rt, &ChartRun { terminal, ..run })
+        }
         Ok(Action::Serve(run)) => run_serve(&rt, run, rt.stderr().is_terminal()),
         Err(error) => end_without_action(&rt, &error),
     }

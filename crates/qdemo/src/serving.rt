@@ -1,19 +1,23 @@
 //! Runs a server and its clients.
 
-use crate::files::RecordFiles;
+ghost use Rattle.qserve.specs.Fit.{Fit};
+
+use crate::files::{RecordFiles, Why};
 use qscript::watched::Watched;
 use qserve::fault::ServeFault;
 use qserve::recording::{Forget, Store};
 use qserve::serve::serve;
 use qserve::settings::Settings;
 use qtool::command::ServeRun;
-use qtool::ending::{end_quietly, end_with};
+use qtool::ending::{end_failed, end_quietly, end_unwritten, end_with};
 use qtool::streams::Outlet;
-use std::io;
+use qtool::summary::{json_of, with_units};
+use std::alloc::AllocError;
 use std::process::ExitCode;
 use std::rt::{Clock, Files};
 use std::sync::Wait;
 use std::thread::Threads;
+use std::{io, str};
 
 /// Runs a server and its clients, and records what the kernel did where there is a name for it. Progress is shown on a
 /// terminal alone.
@@ -22,6 +26,9 @@ pub fn run_serve<R: Files + Print + Eprint + AllocGlobal + Threads + Wait + Cloc
     run: ServeRun,
     terminal: bool,
 ) -> ExitCode {
+    if run.hold && (run.clients < 2 || run.servers != 1) {
+        return end_with(rt, "--hold needs at least two clients and one server", 2);
+    }
     let settings = Settings {
         clients: run.clients,
         servers: run.servers,
@@ -31,29 +38,78 @@ pub fn run_serve<R: Files + Print + Eprint + AllocGlobal + Threads + Wait + Cloc
         progress: terminal && !run.quiet,
         record: run.record.is_some(),
     };
+    // The command line allows no other settings than those that fit.
+    if !settings.fit() {
+        return end_with(rt, "worker failed", 3);
+    }
     match run.record {
-        Some(name) => serve_with(rt, settings, &mut RecordFiles::new(rt, name.as_str())),
-        None => serve_with(rt, settings, &mut Forget),
+        Some(name) => {
+            let mut files = RecordFiles::new(rt, name.as_str());
+            serve_with(rt, settings, run.json, &mut files)
+        }
+        None => serve_with(rt, settings, run.json, &mut Forget),
     }
 }
 
-/// Runs a server and its clients, and stores their recording. The command line allows no other settings than those that
-/// fit.
-fn serve_with<R: Print + Eprint + AllocGlobal + Threads + Wait + Clock + Sync, S: Store>(
+/// Runs a server and its clients, stores their recording, and prints what they did as it is wanted.
+fn serve_with<R: Print + Eprint + AllocGlobal + Threads + Wait + Clock + Sync, S: Store + Why>(
     rt: &R,
     settings: Settings,
+    json: bool,
     store: &mut S,
-) -> ExitCode {
-    if !settings.fit() {
-        return end_with(rt, "worker failed", 3);
+) -> ExitCode
+    requires { Fit settings }
+{
+    if json || settings.time {
+        return serve_in_words(rt, settings, json, store);
     }
     let mut writer = Watched::new(Outlet::new(io::writer(rt)));
     match serve(rt, rt.alloc(), settings, store, &mut writer) {
         Ok(()) => ExitCode::SUCCESS,
         Err(ServeFault::Write) if writer.into_inner().is_closed() => end_quietly(),
-        Err(fault) => {
-            let status = fault.status();
-            end_with(rt, fault, status)
-        }
+        Err(fault) => end_served(rt, store, fault),
+    }
+}
+
+/// Ends a run that failed.
+fn end_served<R: Eprint, S: Why>(rt: &R, store: &S, fault: ServeFault) -> ExitCode {
+    let status = fault.status();
+    if fault == ServeFault::Record && store.tell(rt) {
+        return ExitCode::from(status);
+    }
+    end_with(rt, fault, status)
+}
+
+/// The same, with the units of the times or as JSON.
+fn serve_in_words<R: Print + Eprint + AllocGlobal + Threads + Wait + Clock + Sync, S: Store + Why>(
+    rt: &R,
+    settings: Settings,
+    json: bool,
+    store: &mut S,
+) -> ExitCode
+    requires { Fit settings }
+{
+    let mut writer = Watched::new(Vec::new(rt.alloc()));
+    match serve(rt, rt.alloc(), settings, store, &mut writer) {
+        Ok(()) => print_lines(rt, writer.into_inner().as_slice(), json),
+        Err(ServeFault::Write) => end_failed(rt, "out of memory"),
+        Err(fault) => end_served(rt, store, fault),
+    }
+}
+
+/// Prints the lines of a run with units, or as JSON.
+fn print_lines<R: Print + Eprint + AllocGlobal>(rt: &R, lines: &[u8], json: bool) -> ExitCode {
+    let lines = str::from_utf8(lines).unwrap_or("");
+    let text: Result<String, AllocError> = if json {
+        json_of(rt.alloc(), lines)
+    } else {
+        with_units(rt.alloc(), lines)
+    };
+    let Ok(text) = text else {
+        return end_failed(rt, "out of memory");
+    };
+    match print!(rt; "{text}") {
+        Ok(()) => ExitCode::SUCCESS,
+        Err(error) => end_unwritten(rt, error),
     }
 }

@@ -106,3 +106,24 @@ pub fn first_enrolled(text: &[u8], thread: u8) -> usize {
     }
     number
 }
+
+/// Whether a line of a script is a call's.
+fn is_call(line: &[u8]) -> bool {
+    match next_word(line) {
+        Some((word, _)) => word.first() != Some(&b'#') && !is(word, "thread"),
+        None => false,
+    }
+}
+
+/// The numbers, counted from 1, of the lines of a script that are calls', in order.
+pub fn call_lines(alloc: Global, text: &[u8]) -> Result<Vec<usize>, AllocError> {
+    let mut lines = Vec::new(alloc);
+    let mut number = 0usize;
+    for line in Lines(text) {
+        number = number.saturating_add(1);
+        if is_call(line) {
+            lines.push(number)?;
+        }
+    }
+    Ok(lines)
+}

@@ -1,24 +1,34 @@
 -- The threads that are blocked, by their records.
-use Rattle.std.proofs.Common.{◌≡◌, ℕ, ◌+◌, ◌<◌, List, [], ◌∷◌, ◌++◌, length, take, get_or, refl, ap, ◌∙◌}
+use Rattle.std.proofs.Common.{◌≡◌, ℕ, ◌+◌, ◌<◌, List, [], ◌∷◌, ◌++◌, length, take, get_or, refl, ap, sym, ◌∙◌}
 use Rattle.std.specs.Prelude.{Option, None, Some}
 use Rattle.std.specs.List.{filter_map, cons_option, AllByRecursion}
-use Rattle.std.specs.Option.{option_to_list}
+use Rattle.std.specs.Option.{option_map, option_or, option_to_list}
 use Rattle.std.proofs.lemmas.Grind.{take_at_read}
 use Rattle.std.proofs.lemmas.List.Elements.{filter_map-append}
 use Rattle.qtables.specs.Members.{IsRoster}
 use Rattle.qtables.specs.declared.connection.Connection.{Connection}
 use Rattle.qtables.specs.declared.member.Member.{Member}
-use Rattle.qmodel.specs.Blocked.{blocked_thread, blocked_threads_in, blocked_threads_at}
-use Rattle.qmodel.specs.Facts.{threads_of}
+use Rattle.qmodel.specs.Blocked.{blocked_thread, blocked_threads_in}
+use Rattle.qmodel.specs.Facts.{threads_of, Facts}
+use Rattle.qmodel.specs.ThreadState.{state_in}
+use Rattle.qmodel.specs.declared.open_call.Wait.TheVariants.{Answer, Item as ForItem}
+use Rattle.qmodel.proofs.Rosters.{filter_map_same}
+use Rattle.qrules.specs.Lawful.{facts_of}
+use Rattle.qrules.specs.Same.{facts_view, receive_in, receive_view, send_in, send_view}
+use Rattle.qrules.proofs.Rows.Plain.{state_same}
+use Rattle.qrules.proofs.View.{receive_found, send_found, IsKnown}
+use Rattle.qkernel.specs.Blocked.{blocked_threads, number_of}
+use Rattle.qkernel.specs.Blocked as told
 use Rattle.qkernel.specs.Stands.{StandsAt}
-use Rattle.qkernel.specs.Kernel.{State, facts_in}
+use Rattle.qkernel.specs.Kernel.{State}
+use Rattle.qkernel.specs.Private.Steps.{facts_in}
 use Rattle.qstate.specs.Thread.{members_of, open_in}
 use Rattle.qmodel.specs.Trace.{Trace}
 use Rattle.qmodel.specs.declared.open_call.Blocked.{Blocked}
 use Rattle.qmodel.specs.declared.open_call.OpenCall.{OpenCall}
 use Rattle.qstate.specs.declared.thread.Thread.{Thread}
 use Rattle.qstate.proofs.Senders.{own_open}
-use Rattle.qkernel.proofs.Standing.{stands_facts}
+use Rattle.qkernel.proofs.Contents.{content_same, open_among}
 
 -- what is told of each thread that is blocked, by its record
 abbrev pub blocked_by : (ℕ → Option Connection) → List Thread → List Blocked
@@ -37,6 +47,31 @@ same_told : (connection : ℕ → Option Connection) (open_call : ℕ → Option
 same_told connection open_call [] h = refl
 same_told connection open_call (t ∷ threads) h = rw (h.0, same_told connection open_call threads h.1) refl
 
+-- ---- what is told by the rules
+
+module _ (f : Facts) (known : IsKnown f) where
+  number_same : (u : ℕ) → number_of (facts_view f) u ≡ option_map (λ o. o.number) (f.open_call u)
+  number_same u = rw (send_found f u known, receive_found f u known) (
+      elim (f.open_call u) as (λ o. option_or (option_map (λ s. s.number) (send_view u o)) (option_map (λ r. r.number) (receive_view u o)) ≡ option_map (λ o. o.number) o) [
+        | None ↦ refl
+        | Some o ↦ elim (o.wait) as (λ w. option_or (option_map (λ s. s.number) (send_in u o.number w)) (option_map (λ r. r.number) (receive_in u o.number w)) ≡ Some o.number) [
+          | Answer coid message reply_buffer receipt ↦ refl
+          | ForItem chid kind buffer ↦ refl
+        ]
+      ])
+
+  told_same : (u : ℕ) → blocked_thread f.connection u (f.open_call u) ≡ told.blocked_thread (facts_view f) u
+  told_same u = sym (
+      ap (λ s. option_map (λ n. record { number = n; thread = u; state = s }) (number_of (facts_view f) u)) (state_same f u known)
+      ∙ ap (option_map (λ n. record { number = n; thread = u; state = state_in f.connection (f.open_call u) })) (number_same u)
+      ∙ elim (f.open_call u) as (λ o. option_map (λ n. record { number = n; thread = u; state = state_in f.connection o }) (option_map (λ o. o.number) o) ≡ blocked_thread f.connection u o) [ None ↦ refl | Some o ↦ refl ])
+
+  all_told : blocked_threads_in f ≡ blocked_threads (facts_view f)
+  all_told = filter_map_same _ _ (threads_of f.roster) told_same
+
 pub blocked_now : (roster : List Member) (s : State) (past : Trace) → IsRoster (members_of s.threads) → StandsAt roster s past
-    → blocked_by (facts_in s).connection s.threads ≡ blocked_threads_at roster past
-blocked_now roster s past rises stands = same_told (facts_in s).connection (open_in s.threads) s.threads (own_open s.threads rises) ∙ ap blocked_threads_in (stands_facts roster s past stands)
+    → blocked_by (facts_in s).connection s.threads ≡ blocked_threads (facts_of roster past)
+blocked_now roster s past rises stands =
+    same_told (facts_in s).connection (open_in s.threads) s.threads (own_open s.threads rises)
+    ∙ all_told (facts_in s) (open_among s.threads)
+    ∙ ap blocked_threads (sym (content_same s rises) ∙ stands)

@@ -1,4 +1,6 @@
 pub mod Tables
+pub mod Contents
+pub mod Traces
 pub mod Turns
 pub mod Steps
 pub mod Standing

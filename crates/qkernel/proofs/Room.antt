@@ -14,8 +14,8 @@ use Rattle.qmodel.specs.Calls.{row_of}
 use Rattle.qmodel.specs.Facts.{Facts, sender, threads_of}
 use Rattle.qmodel.specs.Effects.{makes, unblocks, writes}
 use Rattle.qmodel.specs.Rows.{Received, Written, Made}
-use Rattle.qkernel.specs.Kernel.{State, facts_in}
-use Rattle.qkernel.specs.Stands.{Step, Steps}
+use Rattle.qkernel.specs.Kernel.{State}
+use Rattle.qkernel.specs.Private.Steps.{Step, Steps, facts_in}
 use Rattle.qmodel.specs.Step.{Follows, unless, after_receipt, after_write, is_thread, held_call, written_call, after_unblock, unblocked_call}
 use Rattle.qstate.specs.Thread.{members_of, open_in, blocked_count}
 use Rattle.qmodel.proofs.Past.Ends.{row_passes}

@@ -7,16 +7,17 @@ use Rattle.qmodel.specs.declared.call.Call.{Call}
 use Rattle.qmodel.specs.declared.call.Completion.{Completion}
 use Rattle.qstate.specs.declared.thread.Thread.{Thread}
 use Rattle.qkernel.specs.EventLog.{Logged, with_next}
-use Rattle.qmodel.specs.Lawful.{followed_by}
 use Rattle.qkernel.specs.Run.{RunsAtTraces, AllKnown, Headline}
-use Rattle.qmodel.specs.OnlyRun.{event_call}
+use Rattle.qmodel.specs.Lawful as old_lawful
+use Rattle.qrules.specs.Lawful.{event_call}
+use Rattle.qrules.specs.Trace.{followed_by}
 use Rattle.qkernel.specs.Stands.{AnswersAtTraces}
 use Rattle.qkernel.specs.Kernel.{State}
 use Rattle.qstate.specs.Thread.{members_of, blocked_count}
-use Rattle.qmodel.specs.Trace.{Event}
-use Rattle.qmodel.proofs.Following.{followed_push}
+use Rattle.qmodel.specs.Trace.{Event, Trace}
 use Rattle.qmodel.proofs.OnlyRun.{only_run}
-use Rattle.qmodel.proofs.Properties.All.{has_properties}
+use Rattle.qkernel.proofs.Traces.{before, followed_push, properties_of, stands_roster}
+use Rattle.qrules.proofs.Lawful.{same_followed, same_only_run}
 
 -- ---- events one after another
 
@@ -29,8 +30,8 @@ pub runs_more : (old mid new : State) (events : List Event) (e : Event) → Runs
 runs_more old mid new events e run known step = λ roster past l st.
     let now = run roster past l st in
     let next = step roster (followed_by past events) now.0 now.1 in
-    let among : is_some (member_at roster e.thread) ≡ true = subst (λ r. is_some (member_at r e.thread) ≡ true) now.1.roster_is known in
-    rw (followed_push past events e) ((now.0, among, next.0), next.1)
+    let among : is_some (member_at roster e.thread) ≡ true = subst (λ r. is_some (member_at r e.thread) ≡ true) (stands_roster roster mid (followed_by past events) now.1) known in
+    rw (followed_push past events e) ((now.0, (among, next.0)), next.1)
 
 -- ---- the run so far, where the calls to come are todo
 
@@ -106,12 +107,15 @@ blocked_most (t ∷ threads) = let rest : blocked_count threads ≤ length threa
 pub headline_of : (old new : State) (first : ℕ) (events : List Event) → IsRoster (members_of old.threads) → first ≡ old.made + 1 → RunsAtTraces old events new → Headline old (record { first = first; events = events }) new
 headline_of old new first events rises is run = λ roster past l st.
     let now = run roster past l st in
+    let rising : IsRoster roster = subst IsRoster (stands_roster roster old past st) rises in
+    let trace : Trace = followed_by past events in
+    let lawful : old_lawful.IsLawful roster trace = before roster trace now.0 in
     record {
-      rising = subst IsRoster st.roster_is rises;
-      first = is ∙ ap (λ n. n + 1) st.made;
+      rising = rising;
+      first = is ∙ ap (λ f. f.number) st;
       lawful = now.0;
-      properties = has_properties roster (followed_by past events) (subst IsRoster st.roster_is rises) now.0;
-      only = only_run roster past events now.0;
+      properties = properties_of roster trace now.0 rising;
+      only = (same_only_run roster past events).1 (only_run roster past events (subst (old_lawful.IsLawful roster) (same_followed past events) lawful));
       stands = now.1;
     }
 

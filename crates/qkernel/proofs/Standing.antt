@@ -9,25 +9,34 @@ use Rattle.qtables.specs.Members.{member_at, IsRoster}
 use Rattle.qtables.specs.declared.member.Member.{Member}
 use Rattle.qmodel.specs.declared.call.Call.{Call}
 use Rattle.qmodel.specs.declared.call.Completion.{Completion}
-use Rattle.qmodel.specs.Answer.{Outcome, Answers, ending, refusal_ending}
+use Rattle.qmodel.specs.declared.call.Mark.TheVariants as mark
+use Rattle.qmodel.specs.Answer.{Outcome, ending, refusal_ending}
+use Rattle.qmodel.specs.Answer as old_answer
 use Rattle.qmodel.specs.Facts.{Facts, threads_of}
 use Rattle.qmodel.specs.Laws.{IsOnlyCounted}
 use Rattle.qmodel.specs.Lawful.{facts_of, with_event}
+use Rattle.qrules.specs.Facts as rules
+use Rattle.qrules.specs.Outcome.{Answers}
+use Rattle.qrules.specs.Same.{facts_view, AreOfRoster}
+use Rattle.qrules.proofs.Lawful.{of_roster, same_lawful}
+use Rattle.qrules.proofs.Outcomes.{same_answers, same_buffer}
+use Rattle.qrules.proofs.Past.Facts.{facts_known, same_facts}
 use Rattle.qmodel.specs.Past.{is_failure, priority_in}
-use Rattle.qkernel.specs.Stands.{StandsAt, Step, Steps, AnswersAtTraces, LeavesIfRefused}
-use Rattle.qkernel.specs.Kernel.{State, IsSound, facts_in}
+use Rattle.qkernel.specs.Stands.{StandsAt, AnswersAtTraces, LeavesIfRefused}
+use Rattle.qkernel.specs.Kernel.{State, IsSound}
+use Rattle.qkernel.specs.Private.Steps.{Step, Steps, facts_in}
 use Rattle.qmodel.specs.Step.{Follows}
 use Rattle.qstate.specs.Thread.{members_of, open_in, level_in, ready_thread}
-use Rattle.qmodel.specs.Trace.{Trace}
 use Rattle.qbase.proofs.Lists.{all_filter_map}
 use Rattle.qmodel.proofs.Past.Ends.{ending_names, laws_of}
 use Rattle.qmodel.proofs.Past.Follows.{past_follows}
 use Rattle.qmodel.proofs.TraceLaws.Refused.{only_counted}
+use Rattle.qkernel.proofs.Contents.{content_at, content_same, stands_by}
 
 -- facts that say the same of each thing are one
-same_facts : (f g : Facts) → f.roster ≡ g.roster → f.number ≡ g.number → f.down ≡ g.down → ((h : ℕ) → f.channel h ≡ g.channel h) → f.open_channels ≡ g.open_channels → ((k : ℕ) → f.connection k ≡ g.connection k)
+one_facts : (f g : Facts) → f.roster ≡ g.roster → f.number ≡ g.number → f.down ≡ g.down → ((h : ℕ) → f.channel h ≡ g.channel h) → f.open_channels ≡ g.open_channels → ((k : ℕ) → f.connection k ≡ g.connection k)
     → f.live_connections ≡ g.live_connections → ((u : ℕ) → f.open_call u ≡ g.open_call u) → ((h : ℕ) → f.pending h ≡ g.pending h) → ((u : ℕ) → f.priority u ≡ g.priority u) → f ≡ g
-same_facts f g r n d c oc k lk o p q = λ i. record {
+one_facts f g r n d c oc k lk o p q = λ i. record {
   roster = r i;
   number = n i;
   down = d i;
@@ -44,44 +53,33 @@ same_sum : (a b x y : ℕ) → a + x ≡ y → b + x ≡ y → a ≡ b
 same_sum a b x y p q = omega (arith, p, q)
 
 follows_once : (f g k : Facts) (t : ℕ) (c : Call) (accept : Bool) → Follows f t c accept g → Follows f t c accept k → g ≡ k
-follows_once f g k t c accept a b = same_facts g k (a.roster ∙ sym b.roster) (a.number ∙ sym b.number) (a.down ∙ sym b.down) (λ h. a.channel h ∙ sym (b.channel h)) (same_sum _ _ _ _ a.open_channels b.open_channels)
+follows_once f g k t c accept a b = one_facts g k (a.roster ∙ sym b.roster) (a.number ∙ sym b.number) (a.down ∙ sym b.down) (λ h. a.channel h ∙ sym (b.channel h)) (same_sum _ _ _ _ a.open_channels b.open_channels)
     (λ x. a.connection x ∙ sym (b.connection x)) (same_sum _ _ _ _ a.live_connections b.live_connections) (λ u. a.open_call u ∙ sym (b.open_call u)) (λ h. a.pending h ∙ sym (b.pending h)) (λ u. a.priority u ∙ sym (b.priority u))
 
-pub stands_facts : (roster : List Member) (s : State) (past : Trace) → StandsAt roster s past → facts_in s ≡ facts_of roster past
-stands_facts roster s past st = same_facts _ _ st.roster_is (ap (λ n. n + 1) st.made) st.down st.channel st.open_channels st.connection st.live_connections st.open_call st.pending st.priority
-
-answer_of : (accept : Bool) (f : Facts) (t : ℕ) (c : Call) (X : List Completion) → Outcome accept f t c X → Answers f t c X
+answer_of : (accept : Bool) (f : Facts) (t : ℕ) (c : Call) (X : List Completion) → Outcome accept f t c X → old_answer.Answers f t c X
 answer_of true f t c X a = inl a
 answer_of false f t c X a = inr a
-
-pub step_at_traces : (old : State) (t : ℕ) (c : Call) (X : List Completion) (new : State) → IsRoster (members_of old.threads) → is_some (member_at (members_of old.threads) t) ≡ true → Steps old t c X new → AnswersAtTraces old t c X new
-step_at_traces old t c X new rises known step roster past lawful stands =
-    let accept = step.0 in
-    let same : facts_in old ≡ facts_of roster past = stands_facts roster old past stands in
-    let outcome : Outcome accept (facts_of roster past) t c X = subst (λ f. Outcome accept f t c X) same step.1.answer in
-    let now : Follows (facts_of roster past) t c accept (facts_in new) = subst (λ f. Follows f t c accept (facts_in new)) same step.1.follows in
-    let is_roster : IsRoster roster = subst IsRoster stands.roster_is rises in
-    let is_known : is_some (member_at roster t) ≡ true = subst (λ r. is_some (member_at r t) ≡ true) stands.roster_is known in
-    let after : facts_in new ≡ facts_of roster (with_event t c X past) = follows_once _ _ _ t c accept now (past_follows accept roster past t c X is_roster lawful is_known outcome) in
-    let number : new.made + 1 ≡ length past + 1 + 1 = ap (λ f. f.number) after ∙ omega arith in (
-      answer_of accept _ t c X outcome,
-      record {
-        roster_is = ap (λ f. f.roster) after;
-        made = omega arith;
-        down = ap (λ f. f.down) after;
-        channel = λ h. ap (λ f. f.channel h) after;
-        open_channels = ap (λ f. f.open_channels) after;
-        connection = λ k. ap (λ f. f.connection k) after;
-        live_connections = ap (λ f. f.live_connections) after;
-        open_call = λ u. ap (λ f. f.open_call u) after;
-        pending = λ h. ap (λ f. f.pending h) after;
-        priority = λ u. ap (λ f. f.priority u) after;
-      },
-    )
 
 -- the roster stays
 pub steps_roster : (old : State) (t : ℕ) (c : Call) (X : List Completion) (new : State) → Steps old t c X new → members_of new.threads ≡ members_of old.threads
 steps_roster old t c X new step = step.1.follows.roster
+
+pub step_at_traces : (old : State) (t : ℕ) (c : Call) (X : List Completion) (new : State) → IsRoster (members_of old.threads) → is_some (member_at (members_of old.threads) t) ≡ true → Steps old t c X new → AnswersAtTraces old t c X new
+step_at_traces old t c X new rises known step roster past lawful stands =
+    let accept = step.0 in
+    let of : AreOfRoster roster past = of_roster roster past lawful in
+    let same : facts_in old ≡ facts_of roster past = content_at roster old past rises of stands in
+    let roster_is : members_of old.threads ≡ roster = ap (λ f. f.roster) same in
+    let outcome : Outcome accept (facts_of roster past) t c X = subst (λ f. Outcome accept f t c X) same step.1.answer in
+    let now : Follows (facts_of roster past) t c accept (facts_in new) = subst (λ f. Follows f t c accept (facts_in new)) same step.1.follows in
+    let is_roster : IsRoster roster = subst IsRoster roster_is rises in
+    let is_known : is_some (member_at roster t) ≡ true = subst (λ r. is_some (member_at r t) ≡ true) roster_is known in
+    let after : facts_in new ≡ facts_of roster (with_event t c X past) =
+    follows_once _ _ _ t c accept now (past_follows accept roster past t c X is_roster ((same_lawful roster past).0 lawful) is_known outcome) in
+    let still : IsRoster (members_of new.threads) = subst IsRoster (sym (steps_roster old t c X new step)) rises in (
+      subst (λ f. Answers f t c X) (sym (same_facts roster past of)) ((same_answers (facts_of roster past) t c (facts_known roster past of) X).1 (answer_of accept _ t c X outcome)),
+      stands_by roster new (with_event t c X past) still (of, is_known) after,
+    )
 
 -- the ending is no failure of thread t
 abbrev IsNoFailureOf : ℕ → Completion → Type 0
@@ -98,11 +96,27 @@ passed_unfailed f t c X a e is = (subst (AllByRecursion (IsNoFailureOf t)) (sym 
       ])
 
 -- what is refused leaves all but the count
-pub refused_leaves : (old : State) (t : ℕ) (c : Call) (X : List Completion) (new : State) → Steps old t c X new → LeavesIfRefused old t c X new
-refused_leaves old t c X new step e is = by_case step.0 step.1 where
+refused_counts : (old : State) (t : ℕ) (c : Call) (X : List Completion) (new : State) → Steps old t c X new → (e : Errno) → X ≡ refusal_ending (facts_in old) t c e ∷ [] → IsOnlyCounted (facts_in old) (facts_in new)
+refused_counts old t c X new step e is = by_case step.0 step.1 where
   by_case : (accepted : Bool) → Step old t c accepted X new → IsOnlyCounted (facts_in old) (facts_in new)
   by_case true k = absurd (passed_unfailed (facts_in old) t c X k.answer e is)
   by_case false k = only_counted (facts_in old) (facts_in new) t c k.follows
+
+-- the facts, where one more call was made
+abbrev counted : Facts → Facts
+counted f = record f { number = f.number + 1 }
+
+abbrev counted_in_rules : rules.Facts → rules.Facts
+counted_in_rules f = record f { number = f.number + 1 }
+
+counted_by : (f g : Facts) → IsOnlyCounted f g → g ≡ counted f
+counted_by f g h = one_facts g (counted f) h.roster h.number h.down h.channel h.open_channels h.connection h.live_connections h.open_call h.pending h.priority
+
+pub refused_leaves : (old : State) (t : ℕ) (c : Call) (X : List Completion) (new : State) → IsRoster (members_of old.threads) → Steps old t c X new → LeavesIfRefused old t c X new
+refused_leaves old t c X new rises step e is =
+    let still : IsRoster (members_of new.threads) = subst IsRoster (sym (steps_roster old t c X new step)) rises in
+    let ends : X ≡ refusal_ending (facts_in old) t c e ∷ [] = is ∙ ap (λ buffer. record { call = old.made + 1; thread = t; mark = mark.Failed e; buffer = buffer } ∷ []) (same_buffer c) in
+    content_same new still ∙ ap facts_view (counted_by (facts_in old) (facts_in new) (refused_counts old t c X new step e ends)) ∙ ap counted_in_rules (sym (content_same old rises))
 
 -- one more call was made
 pub steps_made : (old : State) (t : ℕ) (c : Call) (X : List Completion) (new : State) → Steps old t c X new → new.made ≡ old.made + 1
@@ -125,16 +139,8 @@ ready_level (m ∷ roster) u = elim (eqb m.thread u) as (λ b. cond b m.priority
 pub sound_new : (roster : List Member) → length roster ≤ 64 → IsRoster roster → IsSound (record { made = 0; down = false; threads = map ready_thread roster; channels = []; connections = [] })
 sound_new roster few r = record { few = rw (length-map roster ready_thread) few; roster = rw (ready_members roster) r; channel_ids = tt; connection_ids = tt; connections = (tt, tt); items = λ h. tt }
 
-pub stands_new : (roster : List Member) → StandsAt roster (record { made = 0; down = false; threads = map ready_thread roster; channels = []; connections = [] }) []
-stands_new roster = record {
-  roster_is = ready_members roster;
-  made = refl;
-  down = refl;
-  channel = λ h. refl;
-  open_channels = refl;
-  connection = λ k. refl;
-  live_connections = refl;
-  open_call = λ u. ready_open roster u;
-  pending = λ h. refl;
-  priority = λ u. ready_level roster u;
-}
+pub stands_new : (roster : List Member) → IsRoster roster → StandsAt roster (record { made = 0; down = false; threads = map ready_thread roster; channels = []; connections = [] }) []
+stands_new roster rises =
+    let s : State = record { made = 0; down = false; threads = map ready_thread roster; channels = []; connections = [] } in
+    stands_by roster s [] (rw (ready_members roster) rises) tt
+    (one_facts (facts_in s) (facts_of roster []) (ready_members roster) refl refl (λ h. refl) refl (λ k. refl) refl (ready_open roster) (λ h. refl) (ready_level roster))

@@ -23,10 +23,17 @@ AllWithin endings entries = AllByRecursion (λ e. (e.start ≤ e.end) × (e.end 
 abbrev pub entry_call : Entry → ℕ × Call
 entry_call e = (e.thread, e.call)
 
--- what is logged by these entries, of which so many are events, and by these endings, of which those from a place on are of the next call
+-- what is logged by these entries, of which so many are events, and by these endings, of which those from a
+-- place on are of the next call
 abbrev pub logged_by : List Entry → List Completion → ℕ → ℕ → ℕ → ℕ → Logged
 logged_by entries endings made start call_room ending_room =
-    record { events = events_of endings (take made entries); noted = map entry_call (drop made entries); endings = drop start endings; call_room = call_room; ending_room = ending_room }
+    record {
+      events = events_of endings (take made entries);
+      noted = map entry_call (drop made entries);
+      endings = drop start endings;
+      call_room = call_room;
+      ending_room = ending_room;
+    }
 
 -- what is so of them
 pub record IsKept (entries : List Entry) (endings : List Completion) (made start : ℕ) : Type 0 where

@@ -1,14 +1,15 @@
 -- What a kernel contains.
-use Rattle.std.specs.Prelude.{ℕ, ◌+◌, ◌≤◌, ◌<◌, Bool, List, length}
+use Rattle.std.specs.Prelude.{◌+◌, ◌≤◌, ◌<◌}
 use Rattle.std.specs.List.{AllByRecursion}
+use Rattle.qrules.specs.Words.{filter_map, length, Bool, Connection, List, ℕ}
+use Rattle.qrules.specs.Facts.{Facts}
+use Rattle.qrules.specs.Same.{receive_view, send_view}
 use Rattle.qtables.specs.Entries.{entry_at, IsRising}
 use Rattle.qtables.specs.Members.{IsRoster}
-use Rattle.qtables.specs.declared.connection.Connection.{Connection}
+use Rattle.qstate.specs.Channel.{channel_in, pending_in, ids_of}
+use Rattle.qstate.specs.Thread.{level_in, members_of}
 use Rattle.qstate.specs.declared.channel.Channel.{Channel}
 use Rattle.qstate.specs.declared.thread.Thread.{Thread}
-use Rattle.qstate.specs.Channel.{channel_in, pending_in, ids_of}
-use Rattle.qmodel.specs.Facts.{Facts}
-use Rattle.qstate.specs.Thread.{members_of, open_in, level_in}
 
 -- how many calls it made, whether it is shut down, its threads, its open channels and its live connections
 pub record State : Type 0 where
@@ -18,23 +19,24 @@ pub record State : Type 0 where
   pub channels : List (ℕ × Channel)
   pub connections : List (ℕ × Connection)
 
--- the same facts as are searched for in the past, looked up
+-- a kernel's content as facts: its open calls are kept with their threads
 abbrev pub facts_in : State → Facts
 facts_in s = record {
   roster = members_of s.threads;
   number = s.made + 1;
   down = s.down;
-  channel = λ h. channel_in s.channels h;
+  channel = channel_in s.channels;
   open_channels = length s.channels;
-  connection = λ k. entry_at s.connections k;
+  connection = entry_at s.connections;
   live_connections = length s.connections;
-  open_call = λ t. open_in s.threads t;
-  pending = λ h. pending_in s.channels h;
-  priority = λ t. level_in s.threads t;
+  sends = filter_map (λ t. send_view t.member.thread t.open_call) s.threads;
+  receives = filter_map (λ t. receive_view t.member.thread t.open_call) s.threads;
+  pending = pending_in s.channels;
+  priority = level_in s.threads;
 }
 
--- there are at most 64 threads, in rising number, connections stand in rising id from 1 on, and no channel, connection or item has the number of a
--- call to come
+-- there are at most 64 threads, in rising number, connections stand in rising id from 1 on, and no channel,
+-- connection or item has the number of a call to come
 pub record IsSound (s : State) : Type 0 where
   pub few : length s.threads ≤ 64
   pub roster : IsRoster (members_of s.threads)

@@ -1,6 +1,8 @@
 pub mod EventLog
 pub mod Kept
 pub mod Kernel
+pub mod LentCall
 pub mod Stands
-pub mod Turn
 pub mod Run
+pub mod Blocked
+pub mod Private

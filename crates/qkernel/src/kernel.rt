@@ -12,6 +12,7 @@ mod connect_detach;
 mod error;
 mod finding;
 mod info;
+mod lent;
 mod priority_set;
 mod pulse;
 mod read;
@@ -67,9 +68,10 @@ impl Model for Kernel {
 }
 
 impl Kernel {
-    ghost use Rattle.qkernel.specs.Stands.{Steps, StandsAt, AnswersAtTraces, DispatchError, LeavesIfRefused};
+    ghost use Rattle.qkernel.specs.Private.Steps.{Steps};
+    ghost use Rattle.qkernel.specs.Stands.{StandsAt, AnswersAtTraces, DispatchError, LeavesIfRefused};
     ghost use Rattle.qkernel.specs.Kernel.{IsSound};
-    ghost use Rattle.qkernel.specs.Turn.{IsTurnIn, MayCall, MakesOrRefuses};
+    ghost use Rattle.qkernel.specs.Private.Turn.{IsTurnIn, MayCall, MakesOrRefuses};
 
     /// A kernel without channels, all threads of the roster ready at the priority that they begin with. The
     /// room for thread records and open calls is made here; `NoMemory` is the only error.
@@ -147,7 +149,7 @@ impl Kernel {
                 rcvid,
                 status,
                 bytes,
-            } => self.reply(turn, rcvid, status, bytes, endings),
+            } => self.reply(turn, rcvid, status, bytes.as_slice(), endings),
             Call::Error { rcvid, code } => self.error(turn, rcvid, code, endings),
             Call::Read {
                 rcvid,
@@ -161,7 +163,7 @@ impl Kernel {
                 rcvid,
                 offset,
                 bytes,
-            } => self.write(turn, rcvid, offset, bytes, endings),
+            } => self.write(turn, rcvid, offset, bytes.as_slice(), endings),
             Call::Info(rcvid) => self.info(turn, rcvid, endings),
             Call::ReceivePulse(chid) => {
                 self.receive_pulse(turn, chid, endings);

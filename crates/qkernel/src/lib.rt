@@ -4,6 +4,7 @@
 
 pub mod event_log;
 pub mod kernel;
+pub mod lent_call;
 pub mod run;
 pub mod trace;
 

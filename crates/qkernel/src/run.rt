@@ -3,7 +3,7 @@
 ghost use Rattle.std.specs.Prelude.{◌≡◌, ◌+◌, ◌<◌, ◌≤◌, ◌^◌, [], length, map, true, IfOk, IfErr, OnOk, OnErr, vec_len};
 ghost use Rattle.std.specs.List.{AllByRecursion};
 ghost use Rattle.qkernel.specs.Run.{Headline, RunsAtTraces, AllKnown, RunError};
-ghost use Rattle.qmodel.specs.OnlyRun.{event_call};
+ghost use Rattle.qrules.specs.Lawful.{event_call};
 ghost use Rattle.qstate.specs.Thread.{blocked_count, members_of};
 
 use crate::event_log::EventLog;

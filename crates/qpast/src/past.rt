@@ -1,9 +1,8 @@
 //! A past that proofs alone have.
 
-ghost use Rattle.std.specs.Prelude.{◌≡◌, []};
+ghost use Rattle.std.specs.Prelude.{◌≡◌, [], ◌∷◌};
 ghost use base.Fml.{ftrue};
 ghost use Rattle.qmodel.specs.Trace.{Trace};
-ghost use Rattle.qmodel.specs.Lawful.{with_event};
 
 use qbase::ids::ThreadNo;
 use qmodel::call::Call;
@@ -31,7 +30,7 @@ impl Past {
 
     /// With one event more: this call of the thread, with these endings.
     pub fn with(&self, _thread: &ThreadNo, _call: &Snapshot<Call>, _endings: &Endings) -> Past
-        ensures { result.trace ≡ with_event _thread.now _call.now.value _endings.now.items self.now.trace }
+        ensures { result.trace ≡ record { thread = _thread.now; call = _call.now.value; endings = _endings.now.items } ∷ self.now.trace }
     {
         Past {}
     }

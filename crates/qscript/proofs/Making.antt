@@ -6,10 +6,10 @@ use Rattle.qtables.specs.Members.{member_at}
 use Rattle.qtables.specs.declared.member.Member.{Member}
 use Rattle.qmodel.specs.declared.call.Call.{Call}
 use Rattle.qmodel.specs.declared.call.Completion.{Completion}
-use Rattle.qmodel.specs.Lawful.{followed_by}
-use Rattle.qmodel.specs.OnlyRun.{event_call}
+use Rattle.qrules.specs.Trace.{followed_by}
+use Rattle.qrules.specs.Lawful.{event_call}
 use Rattle.qmodel.specs.Trace.{Event, Run}
-use Rattle.qmodel.proofs.Following.{followed_push}
+use Rattle.qkernel.proofs.Traces.{followed_push}
 use Rattle.qstate.specs.Thread.{members_of}
 use Rattle.qkernel.specs.Run.{RunsAtTraces, AllKnown}
 use Rattle.qkernel.specs.Stands.{AnswersAtTraces}

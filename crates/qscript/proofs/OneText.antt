@@ -4,9 +4,9 @@ use Rattle.qtables.specs.Members.{IsRoster}
 use Rattle.qtables.specs.declared.member.Member.{Member}
 use Rattle.qmodel.specs.declared.call.Call.{Call}
 use Rattle.qmodel.specs.declared.open_call.Blocked.{Blocked}
-use Rattle.qmodel.specs.Blocked.{blocked_threads_at}
-use Rattle.qmodel.specs.Lawful.{followed_by}
-use Rattle.qmodel.specs.OnlyRun.{event_call}
+use Rattle.qkernel.specs.Blocked.{blocked_threads}
+use Rattle.qrules.specs.Trace.{followed_by}
+use Rattle.qrules.specs.Lawful.{event_call, facts_of}
 use Rattle.qkernel.specs.Run.{IsWellRun}
 use Rattle.qkernel.specs.Stands.{StandsAt}
 use Rattle.qkernel.specs.Kernel.{State}
@@ -27,7 +27,7 @@ same_run a b first events = made_same a.first b.first a.events b.events first ev
 
 pub text_of_run : (roster : List Member) (calls : List (ℕ × Call)) (new : State) (run : Run) (blocked : List Blocked) (text : List ℕ)
     → IsWellRun (roster_with [] roster) [] run new → map event_call run.events ≡ calls
-    → blocked ≡ blocked_threads_at (roster_with [] roster) (followed_by [] run.events) → text ≡ printed run blocked → IsTextOfRun roster calls text
+    → blocked ≡ blocked_threads (facts_of (roster_with [] roster) (followed_by [] run.events)) → text ≡ printed run blocked → IsTextOfRun roster calls text
 text_of_run roster calls new run blocked text well told left is = record {
   run = run;
   blocked = blocked;
@@ -36,14 +36,14 @@ text_of_run roster calls new run blocked text well told left is = record {
   only = λ had other others ran held.
       let events = well.only had other.events (ran.made ∙ sym told) ran.lawful held in
       let first : other.first ≡ run.first = ran.first ∙ sym well.first in
-      let same : others ≡ blocked = ran.left ∙ ap (λ es. blocked_threads_at (roster_with [] roster) (followed_by [] es)) events ∙ sym left in
+      let same : others ≡ blocked = ran.left ∙ ap (λ es. blocked_threads (facts_of (roster_with [] roster) (followed_by [] es))) events ∙ sym left in
       rw (same, is) (ap (λ r. printed r blocked) (same_run other run first events));
 }
 
 -- the same of calls that were made one after another, each printed at once
 pub text_of_calls : (roster : List Member) (calls : List (ℕ × Call)) (old new : State) (p : Printer) (blocked : List Blocked) (text : List ℕ)
     → StandsAt (roster_with [] roster) old [] → IsRoster (members_of old.threads) → HasRun old calls new p
-    → ((members : List Member) (past : Trace) → StandsAt members new past → blocked ≡ blocked_threads_at members past)
+    → ((members : List Member) (past : Trace) → StandsAt members new past → blocked ≡ blocked_threads (facts_of members past))
     → ((run : Run) → HasPrinted run p → text ≡ printed run blocked) → IsTextOfRun roster calls text
 text_of_calls roster calls old new p blocked text stands rises made left is =
     let run : Run = record { first = old.made + 1; events = made.events } in

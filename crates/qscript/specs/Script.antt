@@ -5,12 +5,12 @@ use Rattle.qtables.specs.Members.{IsRoster}
 use Rattle.qtables.specs.declared.member.Member.{Member}
 use Rattle.qmodel.specs.declared.call.Call.{Call}
 use Rattle.qmodel.specs.declared.open_call.Blocked.{Blocked}
-use Rattle.qmodel.specs.Blocked.{blocked_threads_at}
+use Rattle.qkernel.specs.Blocked.{blocked_threads}
 use Rattle.qmodel.specs.Trace.{Run}
-use Rattle.qmodel.specs.OnlyRun.{HadMemory, event_call}
 use Rattle.qkernel.specs.Run.{AllKnown}
-use Rattle.qmodel.specs.Properties.{HasProperties}
-use Rattle.qmodel.specs.Lawful.{IsLawful, followed_by}
+use Rattle.qrules.specs.Properties.{HasProperties}
+use Rattle.qrules.specs.Lawful.{event_call, facts_of, HadMemory, IsLawful}
+use Rattle.qrules.specs.Trace.{followed_by}
 use Rattle.qreading.specs.declared.fault.LineFault.{LineFault}
 use Rattle.qscript.specs.Enrolled.{roster_with, AllJoin}
 use Rattle.qreading.specs.Reading.Meaning.{meaning, Says, Faulty}
@@ -31,7 +31,7 @@ pub record IsRunOf (roster : List Member) (calls : List (ℕ × Call)) (run : Ru
   pub made : map event_call run.events ≡ calls
   pub lawful : IsLawful (roster_with [] roster) (followed_by [] run.events)
   pub properties : HasProperties (roster_with [] roster) (followed_by [] run.events)
-  pub left : blocked ≡ blocked_threads_at (roster_with [] roster) (followed_by [] run.events)
+  pub left : blocked ≡ blocked_threads (facts_of (roster_with [] roster) (followed_by [] run.events))
 
 -- the text of such a run; if no call was refused for want of memory, it is the text of each other such run
 pub record IsTextOfRun (roster : List Member) (calls : List (ℕ × Call)) (text : List ℕ) : Type 0 where

@@ -1,8 +1,9 @@
 -- What a run's recording says.
 use Rattle.std.specs.Prelude.{◌≡◌, ℕ, ◌≤◌, List, [], length}
 use Rattle.qtables.specs.declared.member.Member.{Member}
-use Rattle.qmodel.specs.Lawful.{IsLawful, followed_by}
-use Rattle.qmodel.specs.Properties.{HasProperties}
+use Rattle.qrules.specs.Lawful.{IsLawful}
+use Rattle.qrules.specs.Trace.{followed_by}
+use Rattle.qrules.specs.Properties.{HasProperties}
 use Rattle.qmodel.specs.Trace.{Run}
 use Rattle.qscript.specs.Printing.Printed.{printed}
 use Rattle.qreading.specs.TextLimit.{most_text}

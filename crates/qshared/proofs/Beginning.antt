@@ -6,7 +6,6 @@ use Rattle.qtables.specs.Members.{IsRoster}
 use Rattle.qtables.specs.declared.member.Member.{Member}
 use Rattle.qmodel.specs.Facts.{threads_of}
 use Rattle.qmodel.specs.declared.call.Completion.{Completion}
-use Rattle.qmodel.proofs.Properties.All.{has_properties}
 use Rattle.qstate.specs.Thread.{members_of}
 use Rattle.qkernel.specs.Stands.{StandsAt}
 use Rattle.qkernel.specs.Kernel.{State, IsSound}
@@ -14,6 +13,7 @@ use Rattle.qhandoff.specs.declared.view.Line.{Line}
 use Rattle.qhandoff.specs.Rule.{idle_line}
 use Rattle.qhandoff.specs.Steps.{seated_desk}
 use Rattle.qshared.specs.UnderLock.{IsUnderLock}
+use Rattle.qkernel.proofs.Traces.{blocked_same, properties_of}
 
 same_replicate : {A : Type 0} (n i : ℕ) (x : A) → get_or (replicate n x) i x ≡ x
 same_replicate Prim.Native.Nat.zero i x = refl
@@ -37,9 +37,9 @@ held_first roster slots kernel threads sound same stands threads_are many =
       threads_are = threads_are ∙ ap threads_of same;
       told = record {
         lawful = tt;
-        properties = has_properties roster [] rises' tt;
+        properties = properties_of roster [] tt rises';
         stands = stands';
-        tied = λ t i is. (ap (λ (l : Line Completion). l.put) (same_replicate slots i idle_line), ap (λ (l : Line Completion). l.opened) (same_replicate slots i idle_line));
+        tied = λ t i is. (ap (λ (l : Line Completion). l.put) (same_replicate slots i idle_line), ap (λ (l : Line Completion). l.opened) (same_replicate slots i idle_line) ∙ sym (blocked_same roster [] tt t));
       };
       numbered = omega arith;
       emptied = refl;

@@ -9,7 +9,7 @@ use Rattle.qmodel.specs.declared.call.Completion.{Completion}
 use Rattle.qmodel.specs.Endings.{gets, AreApart}
 use Rattle.qkernel.specs.EventLog.{Logged}
 use Rattle.qshared.specs.Due.{place}
-use Rattle.qshared.specs.Rooms.{MayCopy, Copied}
+use Rattle.qshared.specs.Private.Rooms.{MayCopy, Copied}
 use Rattle.qshared.proofs.Places.{place_same}
 use Rattle.qshared.proofs.Puts.{gets_here, or_first, or_second, gets_middle, all_middle}
 

@@ -9,25 +9,27 @@ use Rattle.qtables.specs.Members.{member_at}
 use Rattle.qtables.specs.declared.member.Member.{Member}
 use Rattle.qmodel.specs.declared.call.Call.{Call}
 use Rattle.qmodel.specs.declared.call.Completion.{Completion}
-use Rattle.qmodel.specs.Answer.{Answers}
 use Rattle.qmodel.specs.Endings.{AreApart, gets}
 use Rattle.qmodel.specs.Facts.{threads_of}
-use Rattle.qmodel.specs.Lawful.{facts_of, with_event}
-use Rattle.qmodel.specs.Past.{is_down}
+use Rattle.qmodel.specs.Lawful.{with_event}
 use Rattle.qmodel.specs.Trace.{Trace}
 use Rattle.qmodel.proofs.Rosters.{among_member, known}
 use Rattle.qmodel.proofs.TraceLaws.Blocked.{caller_gets_its_own, endings_are_apart}
+use Rattle.qrules.specs.Lawful.{facts_of}
+use Rattle.qrules.specs.Outcome.{Answers}
 use Rattle.qkernel.specs.Stands.{AnswersAtTraces}
 use Rattle.qkernel.specs.Kernel.{State}
 use Rattle.qhandoff.specs.declared.view.Desk.{Desk}
 use Rattle.qhandoff.specs.Rule.{line}
 use Rattle.qhandoff.specs.Steps.{opened_desk, cancelled_desk, IsBusy}
 use Rattle.qshared.specs.Due.{place}
+use Rattle.qshared.specs.Past.{is_down}
 use Rattle.qshared.specs.UnderLock.{IsUnderLock}
 use Rattle.qshared.specs.Performing.{Admits, IsFree, IsServed, IsReason, IsEvent, Performs, Refuses}
-use Rattle.qshared.specs.Putting.{MayPut, Handed}
+use Rattle.qshared.specs.Private.Putting.{MayPut, Handed}
 use Rattle.qshared.specs.declared.performed.Performed.TheVariants.{Ended, Open}
 use Rattle.qshared.proofs.Places.{place_among, place_below, place_some}
+use Rattle.qkernel.proofs.Traces.{before, stands_down}
 use Rattle.qshared.proofs.Telling.{undone, is_free, lawful_after, all_may_put, told_after}
 
 module _ (roster : List Member) (slots : ℕ) (kernel : State) (d : Desk Completion) (threads : List ℕ) (past : Trace) (endings : List Completion)
@@ -50,11 +52,11 @@ module _ (roster : List Member) (slots : ℕ) (kernel : State) (d : Desk Complet
     is_known = among_member roster t (place_among (threads_of roster) t i at_roster)
 
     pub is_shut : kernel.down ≡ true → is_down past ≡ true
-    is_shut e = sym h.told.stands.down ∙ e
+    is_shut e = sym (stands_down roster kernel past h.told.stands) ∙ e
 
     module _ (up : kernel.down ≡ false) where
       pub is_served : IsServed roster past t
-      is_served = record { known = is_known; up = sym h.told.stands.down ∙ up }
+      is_served = record { known = is_known; up = sym (stands_down roster kernel past h.told.stands) ∙ up }
 
       pub is_busy : IsBusy (line d i) → IsReason roster past t Busy
       is_busy b = (
@@ -82,7 +84,7 @@ module _ (roster : List Member) (slots : ℕ) (kernel : State) (d : Desk Complet
           answers = (step roster past h.told.lawful h.told.stands).0
 
           pub apart : AreApart X
-          apart = endings_are_apart roster past (record { thread = t; call = c; endings = X }) h.rises (lawful_after roster kernel d past t i h.told at_roster near free c X answers h.rises)
+          apart = endings_are_apart roster past (record { thread = t; call = c; endings = X }) h.rises (before roster (with_event t c X past) (lawful_after roster kernel d past t i h.told at_roster near free c X answers h.rises))
 
           pub may_put : AllByRecursion (MayPut threads (opened_desk d i)) X
           may_put = subst (λ ts. AllByRecursion (MayPut ts (opened_desk d i)) X) (sym h.threads_are) (all_may_put roster kernel d past t i h.told at_roster near free c X answers h.rises)
@@ -102,7 +104,7 @@ module _ (roster : List Member) (slots : ℕ) (kernel : State) (d : Desk Complet
           pub performs : (refuses : Refuses) (admits : Admits) (d' : Desk Completion) → admits past c
               → Performs roster refuses admits (record { kernel = kernel; desk = d; past = past }) t c (cond (gets X t) Ended Open) (record { kernel = new; desk = d'; past = with_event t c X past })
           performs refuses admits d' admitted =
-              let own = caller_gets_its_own roster past (record { thread = t; call = c; endings = X }) h.rises (lawful_after roster kernel d past t i h.told at_roster near free c X answers h.rises) in
+              let own = caller_gets_its_own roster past (record { thread = t; call = c; endings = X }) h.rises (before roster (with_event t c X past) (lawful_after roster kernel d past t i h.told at_roster near free c X answers h.rises)) in
               let event : IsEvent roster admits past t c X = record { free = free; admitted = admitted; answers = answers } in
               elim (gets X t) as (λ b. gets X t ≡ b → Performs roster refuses admits (record { kernel = kernel; desk = d; past = past }) t c (cond b Ended Open) (record { kernel = new; desk = d'; past = with_event t c X past })) [
                 | true ↦ λ e. (X, event, refl, sym own ∙ e)

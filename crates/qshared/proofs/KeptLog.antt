@@ -13,21 +13,28 @@ use Rattle.qmodel.specs.declared.call.Call.{Call}
 use Rattle.qmodel.specs.declared.call.Call.TheVariants.{Shutdown}
 use Rattle.qmodel.specs.declared.call.Completion.{Completion}
 use Rattle.qmodel.specs.Answer.{Answers, refusal}
-use Rattle.qmodel.specs.Effects.{shuts_down}
 use Rattle.qmodel.specs.Endings.{AreApart, GoesToBlocked, buffer_brought, gets}
 use Rattle.qmodel.specs.Facts.{threads_of}
-use Rattle.qmodel.specs.Lawful.{IsLawful, facts_of, followed_by, with_event}
-use Rattle.qmodel.specs.Past.{is_down, open_call}
-use Rattle.qmodel.specs.Trace.{Event, Trace}
-use Rattle.qmodel.proofs.Following.{followed_length, followed_push}
+use Rattle.qmodel.specs.Lawful.{IsLawful, facts_of, with_event}
+use Rattle.qmodel.specs.Past.{open_call}
+use Rattle.qmodel.specs.Past as old_past
+use Rattle.qrules.specs.Facts.{is_blocked}
+use Rattle.qrules.specs.Lawful as rules
+use Rattle.qrules.specs.Outcome as outcome
+use Rattle.qrules.specs.Rules.{effect_of}
+use Rattle.qrules.specs.Trace.{followed_by, Event, Trace}
+use Rattle.qrules.proofs.Past.Done.{same_down}
 use Rattle.qmodel.proofs.Past.Ends.{accepted}
 use Rattle.qmodel.proofs.Rosters.{known}
 use Rattle.qmodel.proofs.TraceLaws.Blocked.{blocked_unless_ended, endings_are_apart, endings_go_to_blocked}
 use Rattle.qmodel.proofs.TraceLaws.Lengths.{after_fits, ending_fits}
 use Rattle.qkernel.specs.EventLog.{Logged, with_next}
 use Rattle.qshared.specs.Due.{place}
-use Rattle.qshared.specs.Rooms.{KeptPast, admits_kept, refuses_kept, HasRoomFor, HasRooms, MayCopy, Copied, IsKept}
+use Rattle.qshared.specs.Past.{is_down}
+use Rattle.qshared.specs.Rooms.{KeptPast, admits_kept, refuses_kept}
+use Rattle.qshared.specs.Private.Rooms.{HasRoomFor, HasRooms, MayCopy, Copied, IsKept}
 use Rattle.qshared.proofs.Places.{place_below, place_same, place_some}
+use Rattle.qkernel.proofs.Traces.{answers_before, before, blocked_same, followed_length, followed_push}
 
 -- ---- a call that isn't noted
 
@@ -55,12 +62,12 @@ few_noted roster limit threads rooms log c room ready h up = let len = past_leng
 -- ---- a Shutdown that isn't refused
 
 -- a call that shuts down is a Shutdown
-pub is_shutdown : (c : Call) → shuts_down c ≡ true → c ≡ Shutdown
+pub is_shutdown : (c : Call) → (effect_of c).shuts_down ≡ true → c ≡ Shutdown
 is_shutdown Shutdown e = refl
 is_shutdown c e = absurd (true≢false (sym e))
 
-pub shutdown_down : (roster : List Member) (past : Trace) (t : ℕ) (X : List Completion) → is_down past ≡ false → is_some (open_call roster past t) ≡ false → Answers (facts_of roster past) t Shutdown X → is_down (with_event t Shutdown X past) ≡ true
-shutdown_down roster past t X up idle a = elim a [
+old_shutdown_down : (roster : List Member) (past : Trace) (t : ℕ) (X : List Completion) → old_past.is_down past ≡ false → is_some (open_call roster past t) ≡ false → Answers (facts_of roster past) t Shutdown X → old_past.is_down (with_event t Shutdown X past) ≡ true
+old_shutdown_down roster past t X up idle a = elim a [
   | inl a ↦ rw (accepted roster past t Shutdown X a) refl
   | inr a ↦ absurd (elim (a.1) [
     | inl is ↦ none-some a.0 (sym none ∙ is)
@@ -69,6 +76,11 @@ shutdown_down roster past t X up idle a = elim a [
 ] where
   none : refusal (facts_of roster past) t Shutdown ≡ None
   none = rw (up, none_of (open_call roster past t) idle) refl
+
+pub shutdown_down : (roster : List Member) (past : Trace) (t : ℕ) (X : List Completion) → rules.IsLawful roster past → is_down past ≡ false → is_blocked (rules.facts_of roster past) t ≡ false → outcome.Answers (rules.facts_of roster past) t Shutdown X → is_down (with_event t Shutdown X past) ≡ true
+shutdown_down roster past t X lawful up idle a =
+    same_down (with_event t Shutdown X past)
+    ∙ old_shutdown_down roster past t X (sym (same_down past) ∙ up) (sym (blocked_same roster past lawful t) ∙ idle) (answers_before roster past lawful t Shutdown X a)
 
 -- ---- what an event requires
 
@@ -82,11 +94,18 @@ pub record Finds (roster : List Member) (limit : ℕ) (threads rooms : List ℕ)
   pub answers : Answers (facts_of roster (followed_by [] log.events)) t c X
 
 pub finds : (roster : List Member) (limit : ℕ) (threads rooms : List ℕ) (log : Logged) (c : Call) (room : ℕ) (ready : Bool) (t : ℕ) (X : List Completion) (v : KeptPast)
-    → IsKept roster limit threads rooms log c room ready → record { past = followed_by [] log.events; noted = c; ready = ready } ≡ v → v.ready ≡ true → is_down v.past ≡ false → IsLawful roster v.past
-    → (is_some (member_at roster t) ≡ true) × (is_some (open_call roster v.past t) ≡ false) → Answers (facts_of roster v.past) t v.noted X → Finds roster limit threads rooms log c room t X
+    → IsKept roster limit threads rooms log c room ready → record { past = followed_by [] log.events; noted = c; ready = ready } ≡ v → v.ready ≡ true → is_down v.past ≡ false → rules.IsLawful roster v.past
+    → (is_some (member_at roster t) ≡ true) × (is_blocked (rules.facts_of roster v.past) t ≡ false) → outcome.Answers (rules.facts_of roster v.past) t v.noted X → Finds roster limit threads rooms log c room t X
 finds roster limit threads rooms log c room ready t X v h z =
-    subst (λ w. w.ready ≡ true → is_down w.past ≡ false → IsLawful roster w.past → (is_some (member_at roster t) ≡ true) × (is_some (open_call roster w.past t) ≡ false) → Answers (facts_of roster w.past) t w.noted X → Finds roster limit threads rooms log c room t X) z
-    (λ is up lawful thread answers. record { kept = subst (λ b. IsKept roster limit threads rooms log c room b) is h; lawful = lawful; member = thread.0; idle = thread.1; up = up; answers = answers })
+    subst (λ w. w.ready ≡ true → is_down w.past ≡ false → rules.IsLawful roster w.past → (is_some (member_at roster t) ≡ true) × (is_blocked (rules.facts_of roster w.past) t ≡ false) → outcome.Answers (rules.facts_of roster w.past) t w.noted X → Finds roster limit threads rooms log c room t X) z
+    (λ is up lawful thread answers. record {
+      kept = subst (λ b. IsKept roster limit threads rooms log c room b) is h;
+      lawful = before roster (followed_by [] log.events) lawful;
+      member = thread.0;
+      idle = sym (blocked_same roster (followed_by [] log.events) lawful t) ∙ thread.1;
+      up = up;
+      answers = answers_before roster (followed_by [] log.events) lawful t c X answers;
+    })
 
 -- a log with one more event
 abbrev pub with_event_of : Logged → Event → Logged
@@ -177,7 +196,7 @@ module _ (roster : List Member) (limit : ℕ) (threads rooms : List ℕ) (log : 
             within = omega (arith, before.0, longer);
             spare = λ up'. elim (f.kept.noted_room refl).event [
               | inl shut ↦
-                  let down : is_down (e ∷ past) ≡ true = subst (λ k. is_down (with_event t k X past) ≡ true) (sym shut) (shutdown_down roster past t X f.up f.idle (subst (λ k. Answers (facts_of roster past) t k X) shut f.answers)) in
+                  let down : is_down (e ∷ past) ≡ true = same_down (e ∷ past) ∙ subst (λ k. old_past.is_down (with_event t k X past) ≡ true) (sym shut) (old_shutdown_down roster past t X (sym (same_down past) ∙ f.up) f.idle (subst (λ k. Answers (facts_of roster past) t k X) shut f.answers)) in
                   absurd (true≢false (sym down ∙ ap is_down (sym past_is) ∙ up'))
               | inr r ↦ (omega (arith, r.0, longer), omega (arith, r.1), omega (arith, r.2, few))
             ];

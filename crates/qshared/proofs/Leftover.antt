@@ -8,7 +8,6 @@ use mathlib.Core.Option.{some, some-injective, some-ne-none}
 use lib.ListN.{get_elem?}
 use Rattle.qbase.proofs.Lists.{all_more}
 use Rattle.qmodel.specs.declared.call.Completion.{Completion}
-use Rattle.qmodel.specs.Laws.{RiseByThread}
 use Rattle.qmodel.specs.Trace.{Trace}
 use Rattle.qmodel.proofs.Rosters.{Rises, all_at}
 use Rattle.qhandoff.specs.Words.{AreBelow, left_for}
@@ -17,6 +16,7 @@ use Rattle.qmodel.specs.Facts.{threads_of}
 use Rattle.qmodel.proofs.Rosters.{among_member}
 use Rattle.qtables.specs.declared.member.Member.{Member}
 use Rattle.qshared.specs.Due.{AreKnown, endings_due, of_thread, place}
+use Rattle.qshared.specs.Past.{RiseByThread}
 use Rattle.qshared.proofs.Places.{IsAt, at_among, is_at, place_among, place_at, place_same}
 
 -- a completion with the number of its cell

@@ -14,7 +14,7 @@ use Rattle.qhandoff.specs.Steps.{put_desk}
 use Rattle.qhandoff.proofs.Changes.{line_else, line_here}
 use Rattle.qmodel.specs.Endings.{gets, AreApart}
 use Rattle.qshared.specs.Due.{place, of_thread}
-use Rattle.qshared.specs.Putting.{MayPut, Handed}
+use Rattle.qshared.specs.Private.Putting.{MayPut, Handed}
 use Rattle.qshared.proofs.Places.{place_same}
 
 pub gets_here : (x : Completion) (t : ℕ) → eqb x.thread t ≡ true → gets (x ∷ []) t ≡ true

@@ -10,14 +10,14 @@ use Rattle.qtables.specs.Members.{IsRoster}
 use Rattle.qtables.specs.declared.member.Member.{Member}
 use Rattle.qmodel.specs.declared.call.Call.{Call}
 use Rattle.qmodel.specs.declared.call.Completion.{Completion}
-use Rattle.qmodel.specs.Answer.{Answers}
 use Rattle.qmodel.specs.Endings.{GoesToBlocked, gets, may_end}
 use Rattle.qmodel.specs.Facts.{threads_of}
-use Rattle.qmodel.specs.Lawful.{IsLawful, facts_of, with_event}
+use Rattle.qmodel.specs.Lawful.{with_event}
 use Rattle.qmodel.specs.Trace.{Event, Trace}
-use Rattle.qmodel.proofs.Properties.All.{has_properties}
 use Rattle.qmodel.proofs.Rosters.{among_member, known}
 use Rattle.qmodel.proofs.TraceLaws.Blocked.{blocked_unless_ended, endings_go_to_blocked}
+use Rattle.qrules.specs.Lawful.{IsLawful, facts_of}
+use Rattle.qrules.specs.Outcome.{Answers}
 use Rattle.qkernel.specs.Stands.{StandsAt}
 use Rattle.qkernel.specs.Kernel.{State}
 use Rattle.qhandoff.specs.declared.view.Desk.{Desk}
@@ -28,8 +28,9 @@ use Rattle.qhandoff.proofs.Changes.{line_else, line_here}
 use Rattle.qshared.specs.Due.{place, of_thread}
 use Rattle.qshared.specs.UnderLock.{Agrees}
 use Rattle.qshared.specs.Performing.{IsFree}
-use Rattle.qshared.specs.Putting.{MayPut, Handed}
+use Rattle.qshared.specs.Private.Putting.{MayPut, Handed}
 use Rattle.qshared.proofs.Places.{place_among, place_same, place_some}
+use Rattle.qkernel.proofs.Traces.{before, blocked_same, properties_of, stands_down}
 
 -- ---- an opened cell
 
@@ -66,7 +67,7 @@ module _ (roster : List Member) (kernel : State) (d : Desk Completion) (past : T
   -- whose cell was idle is free
   pub is_free : kernel.down ≡ false → (line d i).opened ≡ false → IsFree roster past t
   is_free up closed = record {
-    served = record { known = among_member roster t (place_among (threads_of roster) t i at); up = sym told.stands.down ∙ up };
+    served = record { known = among_member roster t (place_among (threads_of roster) t i at); up = sym (stands_down roster kernel past told.stands) ∙ up };
     idle = sym (told.tied t i at).1 ∙ closed;
   }
 
@@ -77,7 +78,7 @@ module _ (roster : List Member) (kernel : State) (d : Desk Completion) (past : T
       | inl e ↦
           let same : j ≡ i = same_Some j i (sym is ∙ ap (place (threads_of roster)) (eqb-true u t e) ∙ at) in
           ap (λ k. (line (opened_desk d i) k).opened) same ∙ open_here d i near ∙ rw e refl
-      | inr e ↦ open_else d i j (λ s. eqb-false u t e (place_same (threads_of roster) u t i (subst (λ k. place (threads_of roster) u ≡ Some k) s is) at)) ∙ (told.tied u j is).1 ∙ rw e refl
+      | inr e ↦ open_else d i j (λ s. eqb-false u t e (place_same (threads_of roster) u t i (subst (λ k. place (threads_of roster) u ≡ Some k) s is) at)) ∙ (told.tied u j is).1 ∙ blocked_same roster past told.lawful u ∙ rw e refl
     ]
 
     module _ (c : Call) (X : List Completion) (answers : Answers (facts_of roster past) t c X) (rises : IsRoster roster) where
@@ -85,10 +86,10 @@ module _ (roster : List Member) (kernel : State) (d : Desk Completion) (past : T
       e = record { thread = t; call = c; endings = X }
 
       pub lawful_after : IsLawful roster (with_event t c X past)
-      lawful_after = (told.lawful, free.served.known, answers)
+      lawful_after = (told.lawful, (free.served.known, answers))
 
       pub all_may_put : AllByRecursion (MayPut (threads_of roster) (opened_desk d i)) X
-      all_may_put = each X (endings_go_to_blocked roster past e rises lawful_after) where
+      all_may_put = each X (endings_go_to_blocked roster past e rises (before roster (e ∷ past) lawful_after)) where
         each : (Y : List Completion) → AllByRecursion (GoesToBlocked roster past t) Y → AllByRecursion (MayPut (threads_of roster) (opened_desk d i)) Y
         each [] a = tt
         each (x ∷ Y) a =
@@ -100,10 +101,10 @@ module _ (roster : List Member) (kernel : State) (d : Desk Completion) (past : T
         pub told_after : Agrees roster new d' (with_event t c X past)
         told_after = record {
           lawful = lawful_after;
-          properties = has_properties roster (with_event t c X past) rises lawful_after;
+          properties = properties_of roster (with_event t c X past) lawful_after rises;
           stands = stands;
           tied = λ u j is. (
             handed.put u j is ∙ ap (λ ys. ys ++ of_thread u X) (open_puts d i j near ∙ (told.tied u j is).0),
-            handed.opened u j is ∙ ap (λ b. cond (gets X u) false b) (opened_may u j is) ∙ sym (blocked_unless_ended roster past e rises lawful_after free.idle u),
+            handed.opened u j is ∙ ap (λ b. cond (gets X u) false b) (opened_may u j is) ∙ sym (blocked_unless_ended roster past e rises (before roster (e ∷ past) lawful_after) (sym (blocked_same roster past told.lawful t) ∙ free.idle) u) ∙ sym (blocked_same roster (e ∷ past) lawful_after u),
           );
         }

@@ -3,10 +3,10 @@ use Rattle.std.specs.Prelude.{◌≡◌, ℕ, ◌+◌, true, false, List, length
 use Rattle.qtables.specs.declared.member.Member.{Member}
 use Rattle.qmodel.specs.declared.call.Call.{Call}
 use Rattle.qmodel.specs.declared.call.Completion.{Completion}
-use Rattle.qmodel.specs.Lawful.{IsLawful}
-use Rattle.qmodel.specs.Past.{has_ending_of}
-use Rattle.qmodel.specs.Properties.{HasProperties}
-use Rattle.qmodel.specs.Trace.{Trace}
+use Rattle.qrules.specs.Lawful.{IsLawful}
+use Rattle.qshared.specs.Past.{has_ending_of}
+use Rattle.qrules.specs.Properties.{HasProperties}
+use Rattle.qrules.specs.Trace.{Trace}
 use Rattle.qshared.specs.Asking.{calls_of}
 use Rattle.qshared.specs.Performing.{Admits, IsEvent, IsRefused, Refuses}
 use Rattle.qshared.specs.declared.performed.Performed.{Performed}

@@ -4,8 +4,8 @@ use mathlib.Core.Option.{none, some}
 use mathlib.Core.Option as maybe
 use Rattle.qtables.specs.declared.member.Member.{Member}
 use Rattle.qmodel.specs.declared.call.Call.{Call}
-use Rattle.qmodel.specs.Facts.{threads_of}
-use Rattle.qmodel.specs.Trace.{Trace}
+use Rattle.qrules.specs.Facts.{threads_of}
+use Rattle.qrules.specs.Trace.{Trace}
 use Rattle.qpast.specs.declared.asking.Asked.{Asked}
 use Rattle.qpast.specs.declared.asking.Heard.{Heard}
 use Rattle.qshared.specs.Due.{place}

@@ -5,9 +5,9 @@ use Rattle.std.specs.List.{AllByRecursion}
 use Rattle.qtables.specs.Members.{member_at}
 use Rattle.qtables.specs.declared.member.Member.{Member}
 use Rattle.qmodel.specs.declared.call.Completion.{Completion}
-use Rattle.qmodel.specs.Facts.{threads_of}
-use Rattle.qmodel.specs.Past.{open_call}
-use Rattle.qmodel.specs.Trace.{Trace}
+use Rattle.qrules.specs.Facts.{is_blocked, threads_of}
+use Rattle.qrules.specs.Lawful.{facts_of}
+use Rattle.qrules.specs.Trace.{Trace}
 use Rattle.qhandoff.specs.declared.view.Desk.{Desk}
 use Rattle.qhandoff.specs.Rule.{line}
 
@@ -29,8 +29,8 @@ abbrev pub place : List ℕ → ℕ → Option ℕ
 place threads t = position (λ u. u == t) threads
 
 -- of each thread of the roster, what was put into its cell is what is due to it, and its cell is opened
--- just where it has an open call
+-- just where it is blocked
 abbrev pub IsTied : List Member → Desk Completion → Trace → Type 0
 IsTied roster d past =
     (t i : ℕ) → place (threads_of roster) t ≡ Some i → ((line d i).put ≡ endings_due past t)
-    × ((line d i).opened ≡ is_some (open_call roster past t))
+    × ((line d i).opened ≡ is_blocked (facts_of roster past) t)

@@ -5,8 +5,8 @@ use lib.ListN.{get_elem?}
 use Rattle.atomic_table.specs.Table.{State}
 use Rattle.qtables.specs.declared.member.Member.{Member}
 use Rattle.qmodel.specs.declared.call.Completion.{Completion}
-use Rattle.qmodel.specs.Facts.{threads_of}
-use Rattle.qmodel.specs.Trace.{Trace}
+use Rattle.qrules.specs.Facts.{threads_of}
+use Rattle.qrules.specs.Trace.{Trace}
 use Rattle.qhandoff.specs.declared.view.Desk.{Desk}
 use Rattle.qhandoff.specs.declared.view.Hand.{Hand}
 use Rattle.qhandoff.specs.declared.view.View.{View}

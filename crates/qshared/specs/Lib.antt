@@ -5,8 +5,9 @@ pub mod Due
 pub mod Laws
 pub mod Names
 pub mod Naming
+pub mod Past
 pub mod Performing
-pub mod Putting
+pub mod Private
 pub mod Rooms
 pub mod TwoCalls
 pub mod UnderLock

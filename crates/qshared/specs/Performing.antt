@@ -1,16 +1,17 @@
 -- What came of a call that was made under the lock.
-use Rattle.std.specs.Prelude.{◌≡◌, ◌⊎◌, ℕ, ◌+◌, true, false, is_some, List, [], length}
+use Rattle.std.specs.Prelude.{◌≡◌, ◌⊎◌, ℕ, ◌+◌, true, false, is_some, List, [], ◌∷◌, length}
 use Rattle.qbase.specs.declared.errno.Errno.{Errno}
 use Rattle.qbase.specs.declared.errno.Errno.TheVariants.{NoThread, Down, Busy}
 use Rattle.qtables.specs.Members.{member_at}
 use Rattle.qtables.specs.declared.member.Member.{Member}
 use Rattle.qmodel.specs.declared.call.Call.{Call}
 use Rattle.qmodel.specs.declared.call.Completion.{Completion}
-use Rattle.qmodel.specs.Answer.{Answers}
-use Rattle.qmodel.specs.Lawful.{facts_of, with_event}
-use Rattle.qmodel.specs.Past.{has_ending_of, is_down, open_call}
-use Rattle.qmodel.specs.Trace.{Trace}
+use Rattle.qrules.specs.Facts.{is_blocked}
+use Rattle.qrules.specs.Lawful.{facts_of}
+use Rattle.qrules.specs.Outcome.{Answers}
+use Rattle.qrules.specs.Trace.{Trace}
 use Rattle.qshared.specs.Due.{endings_due}
+use Rattle.qshared.specs.Past.{has_ending_of, is_down}
 use Rattle.qshared.specs.declared.performed.Performed.{Performed}
 use Rattle.qshared.specs.UnderLock.{UnderLock}
 use Rattle.qshared.specs.declared.performed.Performed.TheVariants.{Ended, Open, Refused}
@@ -31,15 +32,15 @@ pub record IsServed (roster : List Member) (past : Trace) (t : ℕ) : Type 0 whe
 -- and the thread isn't blocked
 pub record IsFree (roster : List Member) (past : Trace) (t : ℕ) : Type 0 where
   pub served : IsServed roster past t
-  pub idle : is_some (open_call roster past t) ≡ false
+  pub idle : is_blocked (facts_of roster past) t ≡ false
 
--- why no call of the thread is made, whichever it is: `Busy` where it has an open call, and else only where
+-- why no call of the thread is made, whichever it is: `Busy` where it is blocked, and else only where
 -- an ending was put for it
 abbrev pub IsReason : List Member → Trace → ℕ → Errno → Type 0
 IsReason roster past t NoThread = is_some (member_at roster t) ≡ false
 IsReason roster past t Down = (is_some (member_at roster t) ≡ true) × (is_down past ≡ true)
 IsReason roster past t Busy =
-    IsServed roster past t × ((is_some (open_call roster past t) ≡ true) ⊎ ¬ (endings_due past t ≡ []))
+    IsServed roster past t × ((is_blocked (facts_of roster past) t ≡ true) ⊎ ¬ (endings_due past t ≡ []))
 IsReason roster past t e = ⊥
 
 -- why a call is refused: for one of these reasons, or because a free thread's call may not be noted
@@ -60,8 +61,10 @@ abbrev pub Performs : List Member → Refuses → Admits → UnderLock → ℕ �
 Performs roster refuses admits old t c (Refused e given) new =
     (new ≡ old) × (given ≡ c) × IsRefused roster refuses old.past t c e
 Performs roster refuses admits old t c Ended new =
-    (X : List Completion) × IsEvent roster admits old.past t c X × (new.past ≡ with_event t c X old.past)
+    (X : List Completion) × IsEvent roster admits old.past t c X
+    × (new.past ≡ record { thread = t; call = c; endings = X } ∷ old.past)
     × (has_ending_of X (length old.past + 1) ≡ true)
 Performs roster refuses admits old t c Open new =
-    (X : List Completion) × IsEvent roster admits old.past t c X × (new.past ≡ with_event t c X old.past)
+    (X : List Completion) × IsEvent roster admits old.past t c X
+    × (new.past ≡ record { thread = t; call = c; endings = X } ∷ old.past)
     × (has_ending_of X (length old.past + 1) ≡ false)

@@ -1,21 +1,10 @@
--- A past that is kept: its limit, and room for copies of the buffers.
-use Rattle.std.specs.Prelude.{◌≡◌, ℕ, ◌+◌, ◌<◌, ◌≤◌, ◌⊎◌, ◌^◌}
-use Rattle.std.specs.Prelude.{Bool, true, false, List, [], length, Some, slice_index_or}
+-- A past that is kept, and its limit.
+use Rattle.std.specs.Prelude.{◌≡◌, ℕ, ◌+◌, ◌<◌, ◌⊎◌, Bool, length}
 use Rattle.qbase.specs.declared.errno.Errno.{Errno}
 use Rattle.qbase.specs.declared.errno.Errno.TheVariants.{TraceFull, NoMemory}
-use Rattle.qtables.specs.declared.member.Member.{Member}
-use Rattle.qtables.specs.Members.{IsRoster}
 use Rattle.qmodel.specs.declared.call.Call.{Call}
 use Rattle.qmodel.specs.declared.call.Call.TheVariants.{Shutdown}
-use Rattle.qmodel.specs.declared.call.Completion.{Completion}
-use Rattle.qmodel.specs.Effects.{buffer_of}
-use Rattle.qmodel.specs.Endings.{buffer_of_open, gets}
-use Rattle.qmodel.specs.Facts.{threads_of}
-use Rattle.qmodel.specs.Lawful.{followed_by}
-use Rattle.qmodel.specs.Past.{is_down, open_call}
-use Rattle.qmodel.specs.Trace.{Trace}
-use Rattle.qkernel.specs.EventLog.{Logged}
-use Rattle.qshared.specs.Due.{place}
+use Rattle.qrules.specs.Trace.{Trace}
 
 -- what contracts see of a kept past: the past, the call that was noted last, and whether it isn't made yet
 pub record KeptPast : Type 0 where
@@ -33,44 +22,3 @@ refuses_kept limit past c e = ⊥
 -- when a call is noted: two events of the limit are left, or it is a Shutdown
 abbrev pub admits_kept : ℕ → Trace → Call → Type 0
 admits_kept limit past c = (length past + 1 < limit) ⊎ (c ≡ Shutdown)
-
--- ---- room
-
--- for each thread of the roster there is room for a copy of the buffer that its open call gives back
-abbrev pub HasRooms : List Member → List ℕ → Trace → Type 0
-HasRooms roster rooms past =
-    (t i : ℕ) → place (threads_of roster) t ≡ Some i
-    → length (buffer_of_open (open_call roster past t)) ≤ slice_index_or rooms i 0
-
--- an ending may be copied: its thread is one of these, and has room for the buffer
-abbrev pub MayCopy : List ℕ → List ℕ → Completion → Type 0
-MayCopy threads rooms x =
-    (i : ℕ) × (place threads x.thread ≡ Some i) × (length x.buffer ≤ slice_index_or rooms i 0)
-
--- these endings were copied, each into its thread's room, and the rooms of the others are as they were
-pub record Copied (threads : List ℕ) (X : List Completion) (rooms rooms' : List ℕ) : Type 0 where
-  pub room : (t i : ℕ) → place threads t ≡ Some i → gets X t ≡ false
-      → slice_index_or rooms' i 0 ≡ slice_index_or rooms i 0
-  pub rooms_len : length rooms' ≡ length rooms
-
--- there is room for a call that was noted: for its buffer, its event and its endings, and for one event
--- more unless it is a Shutdown
-pub record HasRoomFor (limit : ℕ) (log : Logged) (noted : Call) (room : ℕ) : Type 0 where
-  pub buffer : length (buffer_of noted) ≤ room
-  pub event : (noted ≡ Shutdown)
-      ⊎ ((length log.events + 1 < limit) × (2 ≤ log.call_room) × (128 ≤ log.ending_room))
-
--- what is so of a kept past: it is within its limit, and until the kernel is shut down there is room for
--- one event more, and one of the limit is left
-pub record IsKept (roster : List Member) (limit : ℕ) (threads rooms : List ℕ) (log : Logged) (noted : Call)
-    (room : ℕ) (ready : Bool) : Type 0 where
-  pub rises : IsRoster roster
-  pub threads_are : threads ≡ threads_of roster
-  pub sized : length rooms ≡ length threads
-  pub settled : (log.noted ≡ []) × (log.endings ≡ [])
-  pub has_rooms : HasRooms roster rooms (followed_by [] log.events)
-  pub within : length log.events ≤ limit
-  pub spare : is_down (followed_by [] log.events) ≡ false → (length log.events < limit)
-      × (1 ≤ log.call_room) × (64 ≤ log.ending_room)
-  pub noted_room : ready ≡ true → HasRoomFor limit log noted room
-  pub bounded : limit ≤ 2 ^ 20

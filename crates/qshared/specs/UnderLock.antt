@@ -3,10 +3,10 @@ use Rattle.std.specs.Prelude.{◌≡◌, ℕ, ◌≤◌, List, [], length, ◌^�
 use Rattle.qtables.specs.Members.{IsRoster}
 use Rattle.qtables.specs.declared.member.Member.{Member}
 use Rattle.qmodel.specs.declared.call.Completion.{Completion}
-use Rattle.qmodel.specs.Facts.{threads_of}
-use Rattle.qmodel.specs.Lawful.{IsLawful}
-use Rattle.qmodel.specs.Properties.{HasProperties}
-use Rattle.qmodel.specs.Trace.{Trace}
+use Rattle.qrules.specs.Facts.{threads_of}
+use Rattle.qrules.specs.Lawful.{IsLawful}
+use Rattle.qrules.specs.Properties.{HasProperties}
+use Rattle.qrules.specs.Trace.{Trace}
 use Rattle.qkernel.specs.Stands.{StandsAt}
 use Rattle.qkernel.specs.Kernel.{State}
 use Rattle.qhandoff.specs.declared.view.Desk.{Desk}

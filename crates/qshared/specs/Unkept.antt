@@ -7,10 +7,10 @@ use Rattle.qtables.specs.declared.member.Member.{Member}
 use Rattle.qmodel.specs.declared.call.Call.{Call}
 use Rattle.qmodel.specs.declared.call.Call.TheVariants.{Shutdown}
 use Rattle.qmodel.specs.declared.call.Completion.{Completion}
-use Rattle.qmodel.specs.Facts.{threads_of}
-use Rattle.qmodel.specs.Lawful.{IsLawful}
-use Rattle.qmodel.specs.Properties.{HasProperties}
-use Rattle.qmodel.specs.Trace.{Trace}
+use Rattle.qrules.specs.Facts.{threads_of}
+use Rattle.qrules.specs.Lawful.{IsLawful}
+use Rattle.qrules.specs.Properties.{HasProperties}
+use Rattle.qrules.specs.Trace.{Trace}
 use Rattle.qhandoff.specs.declared.seats.ThreadSeat.{ThreadSeat}
 use Rattle.qhandoff.specs.Words.{took}
 use Rattle.qshared.specs.Asking.{AreCallsOf}

@@ -2,7 +2,7 @@
 ghost use Rattle.std.specs.Prelude.{◌≡◌, ◌<◌, ◌≤◌, ◌+◌, ◌⊎◌, length, IfOk, IfErr, OnOk, ◌^◌};
 ghost use Rattle.qmodel.specs.Effects.{buffer_of};
 ghost use Rattle.qmodel.specs.declared.call.Call.TheVariants.{Shutdown};
-ghost use Rattle.qshared.specs.Rooms.{HasRoomFor};
+ghost use Rattle.qshared.specs.Private.Rooms.{HasRoomFor};
 
 use crate::room::Room;
 use qbase::errno::Errno;

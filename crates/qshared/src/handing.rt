@@ -4,7 +4,7 @@ ghost use Rattle.std.specs.List.{AllByRecursion};
 ghost use Rattle.qhandoff.specs.Words.{cells_id, kernel_id, desk};
 ghost use Rattle.qmodel.specs.Endings.{gets, AreApart};
 ghost use Rattle.qshared.specs.Due.{place};
-ghost use Rattle.qshared.specs.Putting.{MayPut, Handed};
+ghost use Rattle.qshared.specs.Private.Putting.{MayPut, Handed};
 
 use qbase::ids::ThreadNo;
 use qhandoff::cells::Cells;

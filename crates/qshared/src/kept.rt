@@ -3,9 +3,9 @@ ghost use Rattle.std.specs.Prelude.{◌≡◌, ◌<◌, ◌≤◌, ◌-◌, ◌^
 ghost use Rattle.std.specs.List.{AllByRecursion};
 ghost use Rattle.qtables.specs.Members.{IsRoster};
 ghost use Rattle.qmodel.specs.Endings.{AreApart};
-ghost use Rattle.qmodel.specs.Facts.{threads_of};
-ghost use Rattle.qmodel.specs.Lawful.{followed_by};
-ghost use Rattle.qshared.specs.Rooms.{MayCopy, Copied};
+ghost use Rattle.qrules.specs.Facts.{threads_of};
+ghost use Rattle.qrules.specs.Trace.{followed_by};
+ghost use Rattle.qshared.specs.Private.Rooms.{MayCopy, Copied};
 
 use crate::admitting::admit;
 use crate::handing::place_of;
@@ -41,8 +41,9 @@ pub struct Kept<K: Tie> {
 
 impl<K: Tie> Model for Kept<K> {
     ghost use Rattle.std.specs.Prelude.{◌≡◌, []};
-    ghost use Rattle.qmodel.specs.Lawful.{followed_by};
-    ghost use Rattle.qshared.specs.Rooms.{KeptPast, IsKept};
+    ghost use Rattle.qrules.specs.Trace.{followed_by};
+    ghost use Rattle.qshared.specs.Rooms.{KeptPast};
+    ghost use Rattle.qshared.specs.Private.Rooms.{IsKept};
 
     ghost Value = { KeptPast };
 

@@ -1,7 +1,7 @@
 //! What lies under the lock.
 ghost use Rattle.std.specs.Prelude.{◌≡◌, ◌+◌, ◌++◌, ◌<◌, ◌≤◌, ◌^◌, ℕ, [], ◌∷◌, length, map, slice_index_or, vec_capacity, if◌then◌else◌, Some};
 ghost use lib.ListN.{get_elem?};
-ghost use Rattle.qmodel.specs.Facts.{threads_of};
+ghost use Rattle.qrules.specs.Facts.{threads_of};
 ghost use Rattle.qhandoff.specs.Words.{cells_id};
 ghost use Rattle.qshared.specs.Asking.{AreCallsOf, heard_in};
 ghost use Rattle.qshared.specs.Answered.{AtPast, Comes};

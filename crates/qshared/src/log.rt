@@ -1,12 +1,13 @@
 //! How the past of a locked kernel is kept.
-ghost use Rattle.std.specs.Prelude.{◌≡◌, ◌<◌, ◌^◌, Bool, List, length, IfErr, OnOk, is_some, true, false};
+ghost use Rattle.std.specs.Prelude.{◌≡◌, ◌∷◌, ◌<◌, ◌^◌, Bool, List, length, IfErr, OnOk, is_some, true, false};
 ghost use Rattle.qtables.specs.Members.{member_at};
 ghost use Rattle.qtables.specs.declared.member.Member.{Member};
 ghost use Rattle.qmodel.specs.declared.call.Call.{Call};
-ghost use Rattle.qmodel.specs.Answer.{Answers};
-ghost use Rattle.qmodel.specs.Lawful.{facts_of, IsLawful, with_event};
-ghost use Rattle.qmodel.specs.Past.{is_down, open_call};
-ghost use Rattle.qmodel.specs.Trace.{Trace};
+ghost use Rattle.qrules.specs.Facts.{is_blocked};
+ghost use Rattle.qrules.specs.Lawful.{facts_of, IsLawful};
+ghost use Rattle.qrules.specs.Outcome.{Answers};
+ghost use Rattle.qrules.specs.Trace.{Trace};
+ghost use Rattle.qshared.specs.Past.{is_down};
 ghost use Rattle.qshared.specs.Performing.{Admits, Refuses};
 
 use qbase::errno::Errno;
@@ -49,8 +50,8 @@ pub trait Log: Drop {
         requires ready { ready self.old ≡ true }
         requires up { is_down (past self.old) ≡ false }
         requires lawful { IsLawful (roster self.old) (past self.old) }
-        requires thread { (is_some (member_at (roster self.old) thread) ≡ true) × (is_some (open_call (roster self.old) (past self.old) thread) ≡ false) }
+        requires thread { (is_some (member_at (roster self.old) thread) ≡ true) × (is_blocked (facts_of (roster self.old) (past self.old)) thread ≡ false) }
         requires answers { Answers (facts_of (roster self.old) (past self.old)) thread (noted self.old) endings.now.items }
-        ensures event { past self.new ≡ with_event thread (noted self.old) endings.now.items (past self.old) }
+        ensures event { past self.new ≡ record { thread = thread; call = noted self.old; endings = endings.now.items } ∷ past self.old }
         ensures same { roster self.new ≡ roster self.old };
 }

@@ -1,7 +1,7 @@
 //! What a shared kernel is made of.
 ghost use Rattle.std.specs.Prelude.{◌≡◌, ◌≤◌, ◌^◌, ◌⊎◌, ◌<◌, ℕ, [], length, map, IfOk, IfErr};
 ghost use lib.ListN.{get_elem?};
-ghost use Rattle.qmodel.specs.Facts.{threads_of};
+ghost use Rattle.qrules.specs.Facts.{threads_of};
 ghost use Rattle.qstate.specs.Thread.{members_of};
 ghost use Rattle.qkernel.specs.Stands.{StandsAt};
 ghost use Rattle.qhandoff.specs.Steps.{seated_desk};

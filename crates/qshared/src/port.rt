@@ -1,7 +1,7 @@
 //! One thread's way to a shared kernel.
 
 ghost use Rattle.std.specs.Prelude.{◌≡◌, ◌+◌, ◌++◌, [], ◌∷◌, true, false, MatchOption, if◌then◌else◌, slice_index_or, Some};
-ghost use Rattle.qmodel.specs.Facts.{threads_of};
+ghost use Rattle.qrules.specs.Facts.{threads_of};
 ghost use Rattle.qhandoff.specs.Words.{cells_id, thread_id, thread_of, taken, IsThreadOf};
 ghost use Rattle.qshared.specs.Due.{place};
 ghost use Rattle.qshared.specs.Answered.{AtPast, Answered};

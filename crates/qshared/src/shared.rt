@@ -3,14 +3,15 @@ ghost use Rattle.std.specs.Prelude.{◌≡◌, ◌≤◌, ◌++◌, ℕ, [], len
 ghost use mathlib.Core.Option.{some};
 ghost use lib.ListN.{get_elem?};
 ghost use Rattle.qtables.specs.Members.{IsRoster};
-ghost use Rattle.qmodel.specs.Facts.{threads_of};
-ghost use Rattle.qmodel.specs.Lawful.{IsLawful, followed_by};
-ghost use Rattle.qmodel.specs.Laws.{RiseByThread};
-ghost use Rattle.qmodel.specs.Properties.{HasProperties};
+ghost use Rattle.qrules.specs.Facts.{threads_of};
+ghost use Rattle.qrules.specs.Lawful.{IsLawful};
+ghost use Rattle.qrules.specs.Trace.{followed_by};
+ghost use Rattle.qrules.specs.Properties.{HasProperties};
 ghost use Rattle.qhandoff.specs.Words.{cells_id, thread_of, taken, took, IsRow};
 ghost use Rattle.qshared.specs.Asking.{AreCallsOf, asked_in};
 ghost use Rattle.qshared.specs.Due.{place, endings_due, of_thread, AreKnown};
 ghost use Rattle.qshared.specs.Naming.{AreParts, AreAll};
+ghost use Rattle.qshared.specs.Past.{RiseByThread};
 ghost use Rattle.qshared.specs.Unkept.{HasPast};
 
 use crate::kept::Kept;

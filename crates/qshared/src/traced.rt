@@ -1,8 +1,8 @@
 //! A kernel with its past, and the kernel's seat of the cells.
 ghost use Rattle.std.specs.Prelude.{◌≡◌, ◌≤◌, ◌^◌, [], length, if◌then◌else◌};
-ghost use Rattle.qmodel.specs.Facts.{threads_of};
-ghost use Rattle.qmodel.specs.Lawful.{IsLawful};
-ghost use Rattle.qmodel.specs.Properties.{HasProperties};
+ghost use Rattle.qrules.specs.Facts.{threads_of};
+ghost use Rattle.qrules.specs.Lawful.{IsLawful};
+ghost use Rattle.qrules.specs.Properties.{HasProperties};
 ghost use Rattle.qstate.specs.Thread.{members_of};
 ghost use Rattle.qkernel.specs.Stands.{StandsAt};
 ghost use Rattle.qhandoff.specs.Steps.{seated_desk};

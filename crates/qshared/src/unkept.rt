@@ -1,8 +1,8 @@
 //! A past that is kept nowhere.
 
 ghost use Rattle.std.specs.Prelude.{◌≡◌, ◌+◌, ◌<◌, ◌^◌, [], length, false, true};
-ghost use Rattle.qmodel.specs.Past.{is_down};
-ghost use Rattle.qmodel.specs.Effects.{shuts_down};
+ghost use Rattle.qrules.specs.Rules.{effect_of};
+ghost use Rattle.qshared.specs.Past.{is_down};
 
 use crate::log::Log;
 use crate::tie::Tie;
@@ -24,7 +24,7 @@ pub struct Unkept<K: Tie> {
     call: Snapshot<Call>,
     of: PhantomData<K>,
     ghost spare: { is_down past.trace ≡ false → length past.trace < 2 ^ 40 },
-    ghost admitted: { shuts_down call.value ≡ false → length past.trace + 1 < 2 ^ 40 },
+    ghost admitted: { (effect_of call.value).shuts_down ≡ false → length past.trace + 1 < 2 ^ 40 },
 }
 
 impl<K: Tie> Unkept<K> {

@@ -13,7 +13,6 @@ ghost use Rattle.qstate.specs.Thread.{members_of, open_in, seat_in, sender_in, s
 
 use crate::channel::{Channel, owns, tells_unblock};
 use crate::thread::{Thread, sender_seat};
-use qbase::bytes::Bytes;
 use qbase::ids::{ChannelId, ConnectionId, ProcessNo, ReceiveId, ThreadNo};
 use qmodel::call::Info;
 use qmodel::open_call::{OpenCall, Receipt, Wait};
@@ -108,7 +107,7 @@ pub fn write_sent(
     seat: usize,
     number: u64,
     offset: usize,
-    bytes: &Bytes,
+    bytes: &[u8],
 ) -> usize
     requires roster { IsRoster (members_of threads.old.items) }
     requires seat { position (λ t. is_send number t.open_call) threads.old.items ≡ Some seat }
@@ -120,12 +119,12 @@ pub fn write_sent(
 }
 
 /// Copies bytes over the reply buffer of a wait for an answer, and answers how many.
-fn write_over(wait: &mut Wait, offset: usize, bytes: &Bytes) -> usize
+fn write_over(wait: &mut Wait, offset: usize, bytes: &[u8]) -> usize
     ensures after { wait.new ≡ with_buffer (λ b. lay_over b offset bytes.now) wait.old }
     ensures count { result ≡ laid_count (reply_buffer_of wait.old) offset bytes.now }
 {
     match wait {
-        Wait::Answer { reply_buffer, .. } => reply_buffer.lay(offset, bytes.as_slice()),
+        Wait::Answer { reply_buffer, .. } => reply_buffer.lay(offset, bytes),
         Wait::Item { .. } => 0,
     }
 }
@@ -188,7 +187,7 @@ impl Thread {
     }
 
     /// Copies bytes over the reply buffer of the Send that it is blocked in, and answers how many.
-    fn write(&mut self, offset: usize, bytes: &Bytes) -> usize
+    fn write(&mut self, offset: usize, bytes: &[u8]) -> usize
         ensures member { self.new.member ≡ self.old.member }
         ensures priority { self.new.priority ≡ self.old.priority }
         ensures after { self.new.open_call ≡ option_map (written_call offset bytes.now) self.old.open_call }

@@ -1,24 +1,31 @@
-//! Compares what each script of a folder prints with the trace that stands beside it.
+//! Compares what scripts print with the traces that stand beside them.
+
+mod named;
+mod origin;
+mod places;
+mod tally;
 
 use crate::command::CheckRun;
-use crate::ending::{end_failed, end_unread, end_unwritten};
-use crate::example::{Outcome, outcome_of};
+use crate::ending::{end_failed, end_unwritten, tell_unread};
+use crate::example::{Outcome, outcome_of, printed};
+use crate::lines::without_returns;
+use crate::names::is_named;
+use named::check_named;
+use origin::origin_of;
+use places::{Example, examples};
 use qexplain::explain;
 use qscript::fault::ScriptFault;
 use std::alloc::{AllocError, AllocFailed};
 use std::process::ExitCode;
 use std::rt::Files;
 use std::{fs, io};
+use tally::Tally;
 
-/// Why a folder can't be checked to its end.
+/// Why a check can't go on.
 #[derive(Debug, Drop)]
 enum CheckFault {
     /// There is no memory for it.
     NoMemory,
-    /// This file or folder can't be read.
-    Unread(String, io::Error),
-    /// The folder has no script.
-    NoScript,
     /// What came of it can't be written.
     Unwritten(io::Error),
 }
@@ -35,132 +42,177 @@ impl<T: Drop> From<AllocFailed<T>> for CheckFault {
     }
 }
 
-/// Checks the scripts of a folder. The status is 0 where each printed its trace, and 1 where one didn't.
+/// Checks the scripts of these files and folders. The status is 0 where each printed its trace, 1 where one differs, is
+/// faulty or has no trace, and 3 where a file can't be read or written.
 pub fn run_check<R: Files + Print + Eprint + AllocGlobal + Clone + Drop>(
     rt: &R,
     run: &CheckRun,
 ) -> ExitCode {
     match check_all(rt, run) {
-        Ok(true) => ExitCode::SUCCESS,
-        Ok(false) => ExitCode::FAILURE,
+        Ok(tally) => ExitCode::from(tally.status()),
         Err(CheckFault::NoMemory) => end_failed(rt, "out of memory"),
-        Err(CheckFault::Unread(path, error)) => end_unread(rt, path.as_str(), error),
-        Err(CheckFault::NoScript) => {
-            let folder = run.folder.as_str();
-            end_failed(rt, format_args!("{folder}: no file NAME.txt"))
-        }
         Err(CheckFault::Unwritten(error)) => end_unwritten(rt, error),
     }
 }
 
-/// Checks each script of the folder, and answers whether each printed its trace.
-fn check_all<R: Files + Print + AllocGlobal + Clone + Drop>(
+/// Checks each script, and prints what came of them in all.
+fn check_all<R: Files + Print + Eprint + AllocGlobal + Clone + Drop>(
     rt: &R,
     run: &CheckRun,
-) -> Result<bool, CheckFault> {
-    let names = names(rt, run.folder.as_str())?;
-    if names.is_empty() {
-        return Err(CheckFault::NoScript);
+) -> Result<Tally, CheckFault> {
+    let mut tally = Tally::default();
+    let examples = examples(rt, run.paths.as_slice(), &mut tally)?;
+    for example in &examples {
+        check_one(rt, run, example, &mut tally)?;
     }
-    let mut all = true;
-    for name in &names {
-        if !check_one(rt, run, name.as_str())? {
-            all = false;
-        }
+    if tally.has_some() {
+        println!(rt; "{tally}").map_err(CheckFault::Unwritten)?;
     }
-    Ok(all)
+    Ok(tally)
 }
 
-/// Checks the script of this name, tells what came of it, and answers whether it printed its trace.
-fn check_one<R: Files + Print + AllocGlobal>(
+/// Checks a script, tells what came of it, and counts it.
+fn check_one<R: Files + Print + Eprint + AllocGlobal>(
     rt: &R,
     run: &CheckRun,
-    name: &str,
-) -> Result<bool, CheckFault> {
-    let script = contents(rt, run.folder.as_str(), name, "txt")?;
-    let trace = contents(rt, run.folder.as_str(), name, "trace")?;
-    let outcome = outcome_of(rt.alloc(), script.as_slice(), trace.as_slice());
-    if lacks_memory(&outcome) {
+    example: &Example,
+    tally: &mut Tally,
+) -> Result<(), CheckFault> {
+    let script = match fs::read(rt, example.script.as_str()) {
+        Ok(script) => script,
+        Err(error) => return unread(rt, example.script.as_str(), error, tally),
+    };
+    if is_named(example.script.as_str()) {
+        return check_named(rt, example, script.as_slice(), tally);
+    }
+    match fs::read(rt, example.trace.as_str()) {
+        Ok(trace) => compare(
+            rt,
+            run,
+            example,
+            (script.as_slice(), trace.as_slice()),
+            tally,
+        ),
+        Err(error) if error.kind() == io::ErrorKind::NotFound => {
+            check_without(rt, run, example, script.as_slice(), tally)
+        }
+        Err(error) => unread(rt, example.trace.as_str(), error, tally),
+    }
+}
+
+/// Tells of a file that can't be read, or written, and counts it.
+fn unread<R: Eprint>(
+    rt: &R,
+    path: &str,
+    error: io::Error,
+    tally: &mut Tally,
+) -> Result<(), CheckFault> {
+    if error.kind() == io::ErrorKind::OutOfMemory {
         return Err(CheckFault::NoMemory);
     }
-    println!(rt; "{name}: {outcome}").map_err(CheckFault::Unwritten)?;
-    if run.explain {
-        explain_fault(rt, script.as_slice(), &outcome)?;
-    }
-    Ok(matches!(&outcome, Outcome::Same))
-}
-
-/// Whether a script has no run for want of memory.
-fn lacks_memory(outcome: &Outcome) -> bool {
-    match outcome {
-        Outcome::Fault(fault) => fault.status() == 3,
-        _ => false,
-    }
-}
-
-/// Explains why a script has no run, if its text is at fault.
-fn explain_fault<R: Print + AllocGlobal>(
-    rt: &R,
-    text: &[u8],
-    outcome: &Outcome,
-) -> Result<(), CheckFault> {
-    let Outcome::Fault(ScriptFault::Line { number, fault }) = outcome else {
-        return Ok(());
-    };
-    if let Some(explanation) = explain(rt.alloc(), text, *number, *fault)? {
-        println!(rt; "{explanation}").map_err(CheckFault::Unwritten)?;
-    }
+    tell_unread(rt, path, error);
+    tally.unread = tally.unread.saturating_add(1);
     Ok(())
 }
 
-/// The names of the scripts in a folder, in order.
-fn names<R: Files + AllocGlobal + Clone + Drop>(
+/// Compares what a script prints with its trace.
+fn compare<R: Files + Print + Eprint + AllocGlobal>(
     rt: &R,
-    folder: &str,
-) -> Result<Vec<String>, CheckFault> {
-    match names_read(rt, folder) {
-        Ok(names) => Ok(names),
-        Err(error) => Err(unread_fault(rt, folder, error)),
-    }
-}
-
-/// The names of the scripts in a folder, as the system gives them.
-fn names_read<R: Files + AllocGlobal + Clone + Drop>(
-    rt: &R,
-    folder: &str,
-) -> io::Result<Vec<String>> {
-    let mut names = Vec::new(rt.alloc());
-    for entry in fs::read_dir(rt, folder)? {
-        let entry = entry?;
-        if let Some(name) = entry.file_name().strip_suffix(".txt") {
-            names.push(String::from_str(rt.alloc(), name)?)?;
+    run: &CheckRun,
+    example: &Example,
+    texts: (&[u8], &[u8]),
+    tally: &mut Tally,
+) -> Result<(), CheckFault> {
+    let (script, trace) = texts;
+    let trace = without_returns(rt.alloc(), trace)?;
+    match outcome_of(rt.alloc(), script, trace.as_slice()) {
+        Outcome::Fault(fault) => tell_fault(rt, run, example, script, fault, tally),
+        Outcome::Differs(_) if run.update => write_trace(rt, example, script, tally),
+        outcome => {
+            tally.count(&outcome);
+            tell(rt, example, script, outcome)
         }
     }
-    names.sort_unstable();
-    Ok(names)
 }
 
-/// What stands in a file of an example.
-fn contents<R: Files + AllocGlobal>(
+/// Tells what came of a script, and from which of its lines a difference comes.
+fn tell<R: Print + AllocGlobal>(
     rt: &R,
-    folder: &str,
-    name: &str,
-    kind: &str,
-) -> Result<Vec<u8>, CheckFault> {
-    let path = format!(in rt.alloc(); "{folder}/{name}.{kind}")?;
-    match fs::read(rt, path.as_str()) {
-        Ok(bytes) => Ok(bytes),
-        Err(error) => Err(unread_fault(rt, path.as_str(), error)),
+    example: &Example,
+    script: &[u8],
+    outcome: Outcome,
+) -> Result<(), CheckFault> {
+    let name = example.name.as_str();
+    let origin = match &outcome {
+        Outcome::Differs(difference) => origin_of(rt.alloc(), script, difference)?,
+        _ => None,
+    };
+    println!(rt; "{name}: {outcome}").map_err(CheckFault::Unwritten)?;
+    match origin {
+        Some(origin) => println!(rt; "  script: {origin}").map_err(CheckFault::Unwritten),
+        None => Ok(()),
     }
 }
 
-/// The fault where this file or folder can't be read.
-fn unread_fault<R: AllocGlobal>(rt: &R, path: &str, error: io::Error) -> CheckFault {
-    if error.kind() == io::ErrorKind::OutOfMemory {
-        return CheckFault::NoMemory;
+/// Looks at a script that has no trace, which may be faulty too.
+fn check_without<R: Files + Print + Eprint + AllocGlobal>(
+    rt: &R,
+    run: &CheckRun,
+    example: &Example,
+    script: &[u8],
+    tally: &mut Tally,
+) -> Result<(), CheckFault> {
+    if let Err(fault) = printed(rt.alloc(), script) {
+        return tell_fault(rt, run, example, script, fault, tally);
     }
-    match String::from_str(rt.alloc(), path) {
-        Ok(path) => CheckFault::Unread(path, error),
-        Err(_) => CheckFault::NoMemory,
+    if run.update {
+        return write_trace(rt, example, script, tally);
+    }
+    let name = example.name.as_str();
+    tally.without = tally.without.saturating_add(1);
+    println!(rt; "{name}: no trace").map_err(CheckFault::Unwritten)
+}
+
+/// Writes what a script prints into its trace.
+fn write_trace<R: Files + Print + Eprint + AllocGlobal>(
+    rt: &R,
+    example: &Example,
+    script: &[u8],
+    tally: &mut Tally,
+) -> Result<(), CheckFault> {
+    let Ok(text) = printed(rt.alloc(), script) else {
+        return Err(CheckFault::NoMemory);
+    };
+    if let Err(error) = fs::write(rt, example.trace.as_str(), text.as_slice()) {
+        return unread(rt, example.trace.as_str(), error, tally);
+    }
+    let name = example.name.as_str();
+    tally.written = tally.written.saturating_add(1);
+    println!(rt; "{name}: trace written").map_err(CheckFault::Unwritten)
+}
+
+/// Tells why a script has no run, explains it where that is wanted, and counts it.
+fn tell_fault<R: Print + AllocGlobal>(
+    rt: &R,
+    run: &CheckRun,
+    example: &Example,
+    script: &[u8],
+    fault: ScriptFault,
+    tally: &mut Tally,
+) -> Result<(), CheckFault> {
+    if fault.status() == 3 {
+        return Err(CheckFault::NoMemory);
+    }
+    tally.faulty = tally.faulty.saturating_add(1);
+    let name = example.name.as_str();
+    println!(rt; "{name}: {fault}").map_err(CheckFault::Unwritten)?;
+    match fault {
+        ScriptFault::Line { number, fault } if run.explain => {
+            match explain(rt.alloc(), script, number, fault)? {
+                Some(explanation) => println!(rt; "{explanation}").map_err(CheckFault::Unwritten),
+                None => Ok(()),
+            }
+        }
+        _ => Ok(()),
     }
 }

@@ -2,10 +2,10 @@
 
 use crate::texts::{
     ABOUT, CHART_ABOUT, CHART_EXAMPLE, CHART_LONG, CHECK_ABOUT, CHECK_EXAMPLE, CHECK_LONG, EXAMPLE,
-    SCRIPT_ABOUT, SCRIPT_EXAMPLE, SCRIPT_LONG, SERVE_ABOUT, SERVE_EXAMPLE, SERVE_LONG, VERSION,
+    PLAY_ABOUT, PLAY_EXAMPLE, PLAY_LONG, SCRIPT_ABOUT, SCRIPT_EXAMPLE, SCRIPT_LONG, SERVE_ABOUT,
+    SERVE_EXAMPLE, SERVE_LONG, VERSION,
 };
 use clap::{Arg, ArgAction, ArgMatches, Command, Error, value_parser};
-use qchart::drawing::Style;
 use std::alloc::{AllocError, Global};
 
 /// A script that is to be run.
@@ -13,17 +13,32 @@ use std::alloc::{AllocError, Global};
 pub struct ScriptRun {
     /// Its file; `None` where it is on standard input.
     pub file: Option<String>,
+    /// Whether faults and failures are to be explained.
+    pub explain: bool,
+    /// Whether the plain script of one with names is to be printed, and not run.
+    pub plain: bool,
+    /// Whether a call that fails is a failure of the program.
+    pub strict: bool,
+    /// Whether standard error is a terminal, on which faults are explained unasked.
+    pub terminal: bool,
+}
+
+/// Scripts that are to be checked.
+#[derive(Drop)]
+pub struct CheckRun {
+    /// Their files and folders, one at least.
+    pub paths: Vec<String>,
+    /// Whether traces are to be written.
+    pub update: bool,
     /// Whether a fault is to be explained.
     pub explain: bool,
 }
 
-/// A folder of scripts that is to be checked.
+/// A kernel that is to be played with.
 #[derive(Drop)]
-pub struct CheckRun {
-    /// The folder.
-    pub folder: String,
-    /// Whether a fault is to be explained.
-    pub explain: bool,
+pub struct PlayRun {
+    /// The file of the script that it begins with; `None` for none.
+    pub file: Option<String>,
 }
 
 /// A script whose run is to be drawn.
@@ -33,8 +48,16 @@ pub struct ChartRun {
     pub file: Option<String>,
     /// The drawing's file; `None` where it is printed.
     pub output: Option<String>,
-    /// How it is drawn.
-    pub style: Style,
+    /// Whether text is asked for.
+    pub text: bool,
+    /// Whether the words have the bytes of messages and answers.
+    pub bytes: bool,
+    /// The number of the first call that is drawn, 1 at least.
+    pub from: u32,
+    /// The number of the last call that is drawn; `None` for the last of all.
+    pub to: Option<u32>,
+    /// Whether standard output is a terminal, on which text is drawn unasked.
+    pub terminal: bool,
 }
 
 /// A server with its clients that is to be run.
@@ -50,6 +73,8 @@ pub struct ServeRun {
     pub hold: bool,
     /// Whether the time that the run took is printed.
     pub time: bool,
+    /// Whether what is printed is JSON.
+    pub json: bool,
     /// Whether no progress is shown.
     pub quiet: bool,
     /// The name of the recording's files; `None` if there is to be none.
@@ -63,6 +88,8 @@ pub enum Action {
     Script(ScriptRun),
     /// To compare what the scripts of a folder print with their traces.
     Check(CheckRun),
+    /// To play with a kernel.
+    Play(PlayRun),
     /// To draw the run of a script.
     Chart(ChartRun),
     /// To run a server with its clients.
@@ -96,6 +123,10 @@ fn serve_command<'a>(alloc: Global) -> Result<Command<'a>, AllocError> {
         .long("time")
         .action(ArgAction::SetTrue)
         .help("Print how long the run and its round trips took");
+    let json = Arg::new(alloc, "json")
+        .long("json")
+        .action(ArgAction::SetTrue)
+        .help("Print an object of JSON in place of lines");
     let quiet = Arg::new(alloc, "quiet")
         .long("quiet")
         .action(ArgAction::SetTrue)
@@ -113,6 +144,7 @@ fn serve_command<'a>(alloc: Global) -> Result<Command<'a>, AllocError> {
         .arg(rounds)?
         .arg(hold)?
         .arg(time)?
+        .arg(json)?
         .arg(quiet)?
         .arg(record)
 }
@@ -122,32 +154,67 @@ fn explain_option<'a>(alloc: Global) -> Arg<'a> {
     Arg::new(alloc, "explain")
         .long("explain")
         .action(ArgAction::SetTrue)
-        .help("Show the part of a faulty line that is at fault, and what was wanted there")
+        .help("Explain faulty lines, and of script also calls that fail and threads that wait")
+}
+
+/// The option to take a call that fails for a failure.
+fn strict_option<'a>(alloc: Global) -> Arg<'a> {
+    Arg::new(alloc, "strict")
+        .long("strict")
+        .action(ArgAction::SetTrue)
+        .help("End with status 1 if a call failed")
+}
+
+/// The option to write traces.
+fn update_option<'a>(alloc: Global) -> Arg<'a> {
+    Arg::new(alloc, "update")
+        .long("update")
+        .action(ArgAction::SetTrue)
+        .help("Write the traces that are missing or differ")
 }
 
 fn script_command<'a>(alloc: Global) -> Result<Command<'a>, AllocError> {
     let file = Arg::new(alloc, "file")
         .value_name("FILE")
         .help("The script's file; none or - is standard input");
+    let plain = Arg::new(alloc, "plain")
+        .long("plain")
+        .action(ArgAction::SetTrue)
+        .help("Print the plain script of one with names, and don't run it");
     Command::new(alloc, "script")
         .about(SCRIPT_ABOUT)
         .long_about(SCRIPT_LONG)
         .after_help(SCRIPT_EXAMPLE)
         .arg(file)?
-        .arg(explain_option(alloc))
+        .arg(explain_option(alloc))?
+        .arg(plain)?
+        .arg(strict_option(alloc))
 }
 
 fn check_command<'a>(alloc: Global) -> Result<Command<'a>, AllocError> {
-    let folder = Arg::new(alloc, "folder")
-        .value_name("FOLDER")
-        .required(true)
-        .help("The folder of the scripts and their traces");
+    let paths = Arg::new(alloc, "path")
+        .value_name("PATH")
+        .num_args(0..)
+        .action(ArgAction::Append)
+        .help("Scripts, and folders of scripts; none is the current folder");
     Command::new(alloc, "check")
         .about(CHECK_ABOUT)
         .long_about(CHECK_LONG)
         .after_help(CHECK_EXAMPLE)
-        .arg(folder)?
+        .arg(paths)?
+        .arg(update_option(alloc))?
         .arg(explain_option(alloc))
+}
+
+fn play_command<'a>(alloc: Global) -> Result<Command<'a>, AllocError> {
+    let file = Arg::new(alloc, "file")
+        .value_name("FILE")
+        .help("A script to begin with");
+    Command::new(alloc, "play")
+        .about(PLAY_ABOUT)
+        .long_about(PLAY_LONG)
+        .after_help(PLAY_EXAMPLE)
+        .arg(file)
 }
 
 fn chart_command<'a>(alloc: Global) -> Result<Command<'a>, AllocError> {
@@ -162,14 +229,32 @@ fn chart_command<'a>(alloc: Global) -> Result<Command<'a>, AllocError> {
     let text = Arg::new(alloc, "text")
         .long("text")
         .action(ArgAction::SetTrue)
-        .help("Draw in columns of text, and not as SVG");
+        .help("Draw in columns of text, as is done on a terminal, and not as SVG");
+    let bytes = Arg::new(alloc, "bytes")
+        .long("bytes")
+        .action(ArgAction::SetTrue)
+        .help("Show the bytes of messages and answers, 8 at most");
+    let from = Arg::new(alloc, "from")
+        .long("from")
+        .value_name("N")
+        .value_parser(value_parser!(u32).range(1..4294967295))
+        .default_value("1")
+        .help("The number of the first call that is drawn");
+    let to = Arg::new(alloc, "to")
+        .long("to")
+        .value_name("M")
+        .value_parser(value_parser!(u32).range(1..4294967295))
+        .help("The number of the last call that is drawn");
     Command::new(alloc, "chart")
         .about(CHART_ABOUT)
         .long_about(CHART_LONG)
         .after_help(CHART_EXAMPLE)
         .arg(file)?
         .arg(output)?
-        .arg(text)
+        .arg(text)?
+        .arg(bytes)?
+        .arg(from)?
+        .arg(to)
 }
 
 fn command<'a>(alloc: Global) -> Result<Command<'a>, AllocError> {
@@ -180,6 +265,7 @@ fn command<'a>(alloc: Global) -> Result<Command<'a>, AllocError> {
         .subcommand_required(true)
         .subcommand(script_command(alloc)?)?
         .subcommand(check_command(alloc)?)?
+        .subcommand(play_command(alloc)?)?
         .subcommand(chart_command(alloc)?)?
         .subcommand(serve_command(alloc)?)
 }
@@ -201,27 +287,42 @@ fn script_of(alloc: Global, matches: &ArgMatches<'_>) -> Result<ScriptRun, Alloc
     Ok(ScriptRun {
         file: file_of(alloc, matches, "file")?,
         explain: matches.get_flag("explain"),
+        plain: matches.get_flag("plain"),
+        strict: matches.get_flag("strict"),
+        terminal: false,
     })
 }
 
 /// Which drawing these words ask for.
 fn chart_of(alloc: Global, matches: &ArgMatches<'_>) -> Result<ChartRun, AllocError> {
-    let style = if matches.get_flag("text") {
-        Style::Text
-    } else {
-        Style::Svg
-    };
     Ok(ChartRun {
         file: file_of(alloc, matches, "file")?,
         output: file_of(alloc, matches, "output")?,
-        style,
+        text: matches.get_flag("text"),
+        bytes: matches.get_flag("bytes"),
+        from: matches.get_one("from").unwrap_or(1),
+        to: matches.get_one("to"),
+        terminal: false,
     })
 }
 
-/// Which folder these words ask for.
-fn folder_of(alloc: Global, matches: &ArgMatches<'_>) -> Result<CheckRun, AllocError> {
+/// The files and folders that these words name; the current folder where they name none.
+fn paths_of(alloc: Global, matches: &ArgMatches<'_>) -> Result<Vec<String>, AllocError> {
+    let mut paths = Vec::new(alloc);
+    for path in matches.get_strs("path").unwrap_or(&[]) {
+        paths.push(String::from_str(alloc, path)?)?;
+    }
+    if paths.is_empty() {
+        paths.push(String::from_str(alloc, ".")?)?;
+    }
+    Ok(paths)
+}
+
+/// Which check these words ask for.
+fn check_of(alloc: Global, matches: &ArgMatches<'_>) -> Result<CheckRun, AllocError> {
     Ok(CheckRun {
-        folder: String::from_str(alloc, matches.get_str("folder").unwrap_or("."))?,
+        paths: paths_of(alloc, matches)?,
+        update: matches.get_flag("update"),
         explain: matches.get_flag("explain"),
     })
 }
@@ -242,6 +343,7 @@ fn serve_of(alloc: Global, matches: &ArgMatches<'_>) -> Result<ServeRun, AllocEr
         rounds: matches.get_one("rounds").unwrap_or(0),
         hold: matches.get_flag("hold"),
         time: matches.get_flag("time"),
+        json: matches.get_flag("json"),
         quiet: matches.get_flag("quiet"),
         record: record_of(alloc, matches)?,
     })
@@ -256,7 +358,11 @@ pub fn action_of(alloc: Global, words: &[String]) -> Result<Action, Error> {
         return Ok(Action::Serve(serve_of(alloc, serve)?));
     }
     if let Some(check) = matches.subcommand_matches("check") {
-        return Ok(Action::Check(folder_of(alloc, check)?));
+        return Ok(Action::Check(check_of(alloc, check)?));
+    }
+    if let Some(play) = matches.subcommand_matches("play") {
+        let file = file_of(alloc, play, "file")?;
+        return Ok(Action::Play(PlayRun { file }));
     }
     if let Some(chart) = matches.subcommand_matches("chart") {
         return Ok(Action::Chart(chart_of(alloc, chart)?));
@@ -266,6 +372,9 @@ pub fn action_of(alloc: Global, words: &[String]) -> Result<Action, Error> {
         None => Ok(Action::Script(ScriptRun {
             file: None,
             explain: false,
+            plain: false,
+            strict: false,
+            terminal: false,
         })),
     }
 }

@@ -16,6 +16,26 @@ impl Difference {
     pub fn line(&self) -> usize {
         self.line
     }
+
+    /// The number of the call that the line is about, of what was found or else of what was wanted.
+    pub fn call(&self) -> Option<u64> {
+        match call_of(self.found.as_str()) {
+            Some(number) => Some(number),
+            None => call_of(self.wanted.as_str()),
+        }
+    }
+}
+
+/// The number that a line of a trace begins with, or that stands behind `open`.
+fn call_of(line: &str) -> Option<u64> {
+    let mut words = line.split(' ');
+    let first = words.next()?;
+    let word = if first == "open" {
+        words.next()?
+    } else {
+        first
+    };
+    word.parse::<u64>().ok()
 }
 
 /// The two lines.

@@ -12,9 +12,19 @@ pub fn end_quietly() -> ExitCode {
     ExitCode::from(CLOSED)
 }
 
+/// One line of why on standard error.
+pub fn tell_failed<D: Display + Drop>(rt: &impl Eprint, why: D) {
+    let _ = eprintln!(rt; "qdemo: {why}");
+}
+
+/// That this file or folder can't be read or written.
+pub fn tell_unread(rt: &impl Eprint, path: &str, error: io::Error) {
+    tell_failed(rt, format_args!("{path}: {error}"));
+}
+
 /// With one line of why, and this status.
 pub fn end_with<D: Display + Drop>(rt: &impl Eprint, why: D, status: u8) -> ExitCode {
-    let _ = eprintln!(rt; "qdemo: {why}");
+    tell_failed(rt, why);
     ExitCode::from(status)
 }
 

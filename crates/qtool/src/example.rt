@@ -1,6 +1,6 @@
 //! One example: a script, and the trace that it has to print.
 
-ghost use Rattle.std.specs.Prelude.{◌≡◌};
+ghost use Rattle.std.specs.Prelude.{◌≡◌, IfOk};
 ghost use Rattle.qscript.specs.Script.{Runs};
 
 use crate::difference::{Difference, difference_of};
@@ -34,17 +34,25 @@ impl fmt::Display for Outcome {
     }
 }
 
+/// What a script prints: the text of a lawful run of it.
+pub fn printed(alloc: Global, input: &[u8]) -> Result<Vec<u8>, ScriptFault>
+    ensures { IfOk result (λ text. Runs input.now text.items) }
+{
+    let mut reader = Watched::new(input);
+    let mut writer = Watched::new(Vec::new(alloc));
+    script(alloc, &mut reader, &mut writer)?;
+    Ok(writer.into_inner())
+}
+
 /// Runs a script, and compares what it prints with its trace. A trace that is the same is the text of a lawful
 /// run of the script.
 pub fn outcome_of(alloc: Global, input: &[u8], trace: &[u8]) -> Outcome
     ensures same { result ≡ Outcome.Same → Runs input.now trace.now }
 {
-    let mut reader = Watched::new(input);
-    let mut writer = Watched::new(Vec::new(alloc));
-    if let Err(fault) = script(alloc, &mut reader, &mut writer) {
-        return Outcome::Fault(fault);
-    }
-    let printed = writer.into_inner();
+    let printed = match printed(alloc, input) {
+        Ok(printed) => printed,
+        Err(fault) => return Outcome::Fault(fault),
+    };
     if printed.as_slice() == trace {
         return Outcome::Same;
     }

@@ -1,10 +1,12 @@
 //! Runs a script, from a file or from standard input.
 
 use crate::command::ScriptRun;
-use crate::ending::{end_quietly, end_unread, end_with};
+use crate::ending::{end_failed, end_quietly, end_unread, end_with};
+use crate::names::{is_named, run_named};
+use crate::remarks::{tell_faults, tell_first_fault, tell_report};
 use crate::streams::{Outlet, Source};
-use qexplain::explain;
-use qscript::fault::{LineFault, ScriptFault};
+use qreplay::report::report_of;
+use qscript::fault::ScriptFault;
 use qscript::script::script;
 use qscript::watched::Watched;
 use std::io::Read;
@@ -12,11 +14,21 @@ use std::process::ExitCode;
 use std::rt::Files;
 use std::{fs, io};
 
-/// Runs the script of a file, or else that of standard input.
+/// Runs the script of a file, or else that of standard input, as its file's name says. What is wrong with a faulty line
+/// is explained where it is wanted, and on a terminal.
 pub fn run_script<R: Files + Input + Print + Eprint + AllocGlobal>(
     rt: &R,
     run: &ScriptRun,
 ) -> ExitCode {
+    match &run.file {
+        Some(name) if is_named(name.as_str()) => run_named(rt, run, name.as_str()),
+        _ if run.plain => end_with(rt, "--plain wants a file NAME.names", 2),
+        _ => run_plain(rt, run),
+    }
+}
+
+/// Runs the script of a file, or else that of standard input.
+fn run_plain<R: Files + Input + Print + Eprint + AllocGlobal>(rt: &R, run: &ScriptRun) -> ExitCode {
     let Some(name) = &run.file else {
         return run_from(rt, run, rt.reader());
     };
@@ -32,10 +44,11 @@ fn run_from<R: Print + Eprint + AllocGlobal, S: Read + Drop>(
     run: &ScriptRun,
     input: S,
 ) -> ExitCode {
-    let mut reader = Watched::new(Source::new(rt.alloc(), input, run.explain));
+    let keeps = run.explain || run.strict || run.terminal || run.file.is_some();
+    let mut reader = Watched::new(Source::new(rt.alloc(), input, keeps));
     let mut writer = Watched::new(Outlet::new(io::writer(rt)));
     match script(rt.alloc(), &mut reader, &mut writer) {
-        Ok(()) => ExitCode::SUCCESS,
+        Ok(()) => end_of_run(rt, run, reader.into_inner().text()),
         Err(ScriptFault::Write) if writer.into_inner().is_closed() => end_quietly(),
         Err(fault) => end_faulty(rt, run, fault, &reader.into_inner()),
     }
@@ -52,16 +65,44 @@ fn end_faulty<R: Eprint + AllocGlobal, S>(
         return end_unread(rt, name.as_str(), error);
     }
     let status = fault.status();
+    let is_line = matches!(&fault, ScriptFault::Line { .. });
     let code = end_with(rt, format_args!("{fault}"), status);
-    if let (ScriptFault::Line { number, fault }, Some(text)) = (&fault, source.text()) {
-        explain_fault(rt, text, *number, *fault);
+    if let (true, Some(text)) = (is_line, source.text()) {
+        tell_of_faults(rt, run, text);
     }
     code
 }
 
-/// Explains a fault on standard error. An explanation that there is no memory for is left out.
-fn explain_fault<R: Eprint + AllocGlobal>(rt: &R, text: &[u8], number: u64, fault: LineFault) {
-    if let Ok(Some(explanation)) = explain(rt.alloc(), text, number, fault) {
-        let _ = eprintln!(rt; "{explanation}");
+/// Tells of the faults of a text: all of them with explanations where that is wanted, and else where the first is, if
+/// the text has a file.
+fn tell_of_faults<R: Eprint + AllocGlobal>(rt: &R, run: &ScriptRun, text: &[u8]) {
+    let file = run.file.as_ref().map(|name| name.as_str());
+    if run.explain || run.terminal {
+        tell_faults(rt, file, text);
+    } else if let Some(name) = file {
+        tell_first_fault(rt, name, text);
     }
+}
+
+/// Ends a run whose trace is written: tells why calls failed where that is wanted, and takes a failure for one of the
+/// program where that is wanted.
+fn end_of_run<R: Eprint + AllocGlobal>(rt: &R, run: &ScriptRun, text: Option<&[u8]>) -> ExitCode {
+    if !run.explain && !run.strict {
+        return ExitCode::SUCCESS;
+    }
+    let report = match text {
+        Some(text) => report_of(rt.alloc(), text),
+        None => Err(ScriptFault::NoMemory),
+    };
+    let Ok(report) = report else {
+        return end_failed(rt, "out of memory");
+    };
+    if run.explain {
+        let file = run.file.as_ref().map(|name| name.as_str());
+        let _ = tell_report(rt, file, text.unwrap_or(&[]), &report);
+    }
+    if run.strict && report.failures > 0 {
+        return ExitCode::FAILURE;
+    }
+    ExitCode::SUCCESS
 }

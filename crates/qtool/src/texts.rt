@@ -7,17 +7,19 @@ pub const VERSION: &str = "0.10.0";
 pub const ABOUT: &str = "A kernel of synchronous messages, after QNX Neutrino's";
 
 /// Below the help of the program.
-pub const EXAMPLE: &str = "Example:
+pub const EXAMPLE: &str = "This is the program of Balsaeuchre, whose kernel is proved.
+
+Example:
   $ printf 'thread 1 1 10\\n1 create 0\\n' | qdemo script
   1 1 1 channel 1
 
 A script goes in, and what its calls are answered comes out on standard output.
 'qdemo help script' describes the lines of both.
 
-Status: 0; 1 for a faulty script, or a trace that differs; 2 for a faulty command
-line; 3 where reading, writing or memory fails; 4 where a worker fails. Where
-nobody reads the output any more, as behind '| head -1', the program ends without
-a message, with status 141.";
+Status: 0; 1 for a faulty script, a trace that differs, or a run that isn't as its
+script expects; 2 for a faulty command line; 3 where reading, writing or memory
+fails; 4 where a worker fails. Where nobody reads the output any more, as behind
+'| head -1', the program ends without a message, with status 141.";
 
 /// What `script` does, in a line.
 pub const SCRIPT_ABOUT: &str = "Runs a script and prints what its calls answer";
@@ -97,7 +99,33 @@ send, receive or reply:
   open CALL THREAD STATE CHANNEL
 
 A faulty script runs not at all: the first faulty line is told on standard
-error, as 'qdemo: line 2: word count'.";
+error, as 'qdemo: line 2: word count', and for a file then its place, as
+'FILE:2:9: word count'. With --explain, and on a terminal, up to 20 faulty lines
+are shown, with what was wanted there.
+
+With --explain it is also told, after the output and on standard error, why each
+call failed, who waits for whom at the end, and which of them wait in a circle:
+
+  FILE:7: 3 send 1: fail badf: 1 is no connection: call 1 made a channel; call 2 made connection 2
+  1 waits for 2: message 5 isn't received
+  deadlock: 1 waits for 2, 2 waits for 1
+
+A call that fails doesn't change the status, unless --strict is given.
+
+A file NAME.names is a script with names. A name in front of = stands for the
+thread, the channel, the connection or the message that its line makes. A line may
+say how its call has to end, and a line of its own in which state a thread is:
+
+  server = thread disk 10
+  ch = server create UNBLOCK|DISCONNECT  # flags by name, comments at the end
+  m = client send co \"get 7\" [8]  # a text, and room for 8 bytes
+  server receive ch [16] -> message m \"get 7\"
+  client is REPLY-blocked on ch
+  server reply m 0 \"seven\" -> ok; m -> reply 0 \"seven\"
+
+It runs as its plain script, in which each name is replaced by its number; --plain
+prints that. All faults, and all that isn't as expected in the run, are told on
+standard error, as 'qdemo: FILE:4:27: expected ..'. docs/SCRIPTS.md has all forms.";
 
 /// Below the help of `script`.
 pub const SCRIPT_EXAMPLE: &str = "Example:
@@ -111,21 +139,25 @@ pub const SCRIPT_EXAMPLE: &str = "Example:
   1 reply 3 0 -    5 5 1 ok
                    5 3 2 reply 0 0 -
 
-Status: 0; 1 for a faulty script; 2 for a faulty command line; 3 where reading,
-writing or memory fails; 141 where nobody reads the output.";
+Status: 0; 1 for a faulty script, a run that isn't as its script expects, or with
+--strict where a call failed; 2 for a faulty command line; 3 where reading, writing
+or memory fails; 141 where nobody reads the output.";
 
 /// What `check` does, in a line.
-pub const CHECK_ABOUT: &str =
-    "Runs the scripts of a folder and compares what they print with their traces";
+pub const CHECK_ABOUT: &str = "Runs scripts and compares what they print with their traces";
 
 /// What `check` does.
-pub const CHECK_LONG: &str =
-    "Runs the scripts of a folder and compares what they print with their traces.
+pub const CHECK_LONG: &str = "Runs scripts and compares what they print with their traces.
 
-Each file NAME.txt of the folder is a script, and NAME.trace beside it is what it
-has to print, byte for byte. The output has a line for each script, in the order
-of their names. Where one prints something else, the first line that differs comes
-after it, as it was found and as it was wanted.";
+A PATH is a script, or a folder, of which each file NAME.txt is one. NAME.trace
+beside it is what it has to print, byte for byte but for a carriage return before
+a line feed. The output has a line for each script, those of a folder in the order
+of their names, and a last line that counts. Where one prints something else, the
+first line that differs comes after it, as it was found and as it was wanted, and
+the line of the script that it comes from. A file NAME.names is a script with
+names, which says itself what it expects, and has no trace.
+
+With --update a trace that is missing or differs is written.";
 
 /// Below the help of `check`.
 pub const CHECK_EXAMPLE: &str = "Example:
@@ -134,10 +166,63 @@ pub const CHECK_EXAMPLE: &str = "Example:
   two-servers: differs from its trace at line 4
     found:  4 4 1 message 3 1 -
     wanted: 4 4 1 message 3 0 -
+    script: line 9: 1 receive 1 1x00
+  1 same, 1 differs
 
-Status: 0 where all are the same; 1 where one differs or is faulty; 2 for a faulty
-command line; 3 where a file can't be read, there is no script, or writing or
-memory fails; 141 where nobody reads the output.";
+Status: 0 where all are the same or written; 1 where one differs, is faulty or has
+no trace; 2 for a faulty command line; 3 where a file can't be read or written, a
+folder has no script, or memory fails; 141 where nobody reads the output.";
+
+/// What `play` does, in a line.
+pub const PLAY_ABOUT: &str = "Reads calls and commands, and answers each at once";
+
+/// What `play` does.
+pub const PLAY_LONG: &str = "Reads calls and commands, and answers each at once.
+
+Each line is one of a script, as 'qdemo help script' describes them, and what it
+adds to the trace is printed at once. Or it is a command:
+
+  state      a line for each thread: THREAD state STATE CHANNEL PRIORITY
+  undo       takes the last line back, and prints it
+  save FILE  writes the lines so far, which are a script
+  help       lists the commands
+  quit       ends, as the end of the input does
+
+Lines of a script with names are answered too, beside plain ones: from the first
+line on that only such a script has, as 'ch = 1 create 0', the lines are a script
+with names, and with a file NAME.names they are one from the start. It is to be
+saved as NAME.names. A call that isn't as expected is told; what is expected of a
+call that hasn't ended is looked at when it ends, or at the end of the input.
+
+A faulty line is told on standard error, and left out. With a FILE its script is
+run first. On a terminal there is a prompt, and it is also told why a call failed,
+who waits for whom, and which threads wait in a circle. Elsewhere nothing is
+printed but the answers, and at the end the threads that are blocked: so the output
+is that of 'qdemo script' for the same lines.
+
+For each line the script is run anew, so that 'undo' can go back. It is meant for
+some thousand lines, or some hundred with names, not for more.";
+
+/// Below the help of `play`.
+pub const PLAY_EXAMPLE: &str = "Example:
+  $ qdemo play
+  > thread 1 1 10
+  > 1 create 0
+  1 1 1 channel 1
+  > 1 receive 7 -
+  2 2 1 fail srch -
+    2 receive 7: fail srch: 7 is no channel: call 7 isn't made yet; call 1 made channel 1
+  > undo
+  undo 1 receive 7 -
+  > state
+  1 state ready 10
+  > co = 1 attach 1
+  2 2 1 connection 2
+  > m = 1 send co \"hi\" [8]
+
+Status: 0; 1 for a faulty FILE, or for a faulty line or a call that isn't as
+expected where the input is no terminal; 2 for a faulty command line; 3 where
+reading, writing or memory fails; 141 where nobody reads the output.";
 
 /// What `chart` does, in a line.
 pub const CHART_ABOUT: &str =
@@ -147,16 +232,20 @@ pub const CHART_ABOUT: &str =
 pub const CHART_LONG: &str = "Draws the run of a script: its threads, messages, answers and pulses.
 
 A line goes down for each thread, with its state as a bar, and an arrow for each
-message, answer and pulse, in the row of the call in which it arrives. The drawing
-is SVG, which a browser shows, or columns of text. docs/CHARTS.md says how to read
-it. A script may have 400 calls at most; 'qdemo help script' describes scripts.";
+message, answer and pulse, in the row of the call in which it arrives. A message
+that nobody has received is an arrow that ends in the air, and a circle of threads
+that wait for one another is told below the rows. The drawing is columns of text on
+a terminal and with --text, and else SVG, which a browser shows. docs/CHARTS.md says
+how to read it. At most 400 calls can be drawn: of a longer script draw a part, by
+--from and --to. 'qdemo help script' describes scripts.";
 
 /// Below the help of `chart`.
 pub const CHART_EXAMPLE: &str = "Example:
   $ qdemo chart first-message.txt -o run.svg
 
 Status: 0; 1 for a faulty script, or one of too many calls; 2 for a faulty command
-line; 3 where reading, writing or memory fails; 141 where nobody reads the output.";
+line, or a drawing that would be written over its script; 3 where reading, writing
+or memory fails; 141 where nobody reads the output.";
 
 /// What `serve` does, in a line.
 pub const SERVE_ABOUT: &str = "Runs a server and its clients on threads, and prints what they did";
@@ -187,10 +276,12 @@ of them at most, and 99 of a hundred at most. A round trip is from the call of
 a client's send until its answer is collected.
 
   seconds S
-  rate R
-  least L
-  median M
-  ninety-ninth N
+  rate R round trips a second
+  least L ns
+  median M ns
+  ninety-ninth N ns
+
+With --json the same numbers come as an object of JSON, in one line.
 
 With --record what the kernel did is written into two files before the lines are
 printed: NAME.txt, a script that makes the same calls in the same order, and

@@ -2,4 +2,6 @@
 #![tactic(auto)]
 
 #[cfg(test)]
+mod plays;
+#[cfg(test)]
 mod tests;

@@ -1,12 +1,14 @@
 //! What a command line is answered: the texts, and with which status.
 
 use clap::Error;
-use qchart::drawing::Style;
 use qexplain::{CALLS, ROSTER};
 use qtool::command::{Action, ChartRun, CheckRun, ScriptRun, ServeRun, action_of};
 use qtool::difference::difference_of;
 use qtool::example::{Outcome, outcome_of};
+use qtool::lines::without_returns;
+use qtool::names::is_named;
 use qtool::streams::{Outlet, Source};
+use qtool::summary::{json_of, with_units};
 use qtool::texts::SCRIPT_LONG;
 use std::alloc::Global;
 use std::io;
@@ -52,6 +54,14 @@ fn a_script_is_asked_for(rt: HostRuntime) {
     assert_eq!(rt; file.as_str(), "a/b.txt");
 }
 
+#[test]
+fn a_plain_script_is_asked_for(rt: HostRuntime) {
+    let run = script_run(&rt, rt.alloc(), &["script", "--plain", "a.names"]);
+    assert!(rt; run.plain && !run.explain);
+    assert!(rt; !script_run(&rt, rt.alloc(), &["script", "a.names"]).plain);
+    assert!(rt; is_named("a.names") && !is_named("a.txt") && !is_named("names"));
+}
+
 /// The drawing that these words ask for.
 fn chart_run(rt: &impl Abort, alloc: Global, words: &[&str]) -> ChartRun {
     let Ok(Action::Chart(run)) = answer(rt, alloc, words) else {
@@ -63,20 +73,86 @@ fn chart_run(rt: &impl Abort, alloc: Global, words: &[&str]) -> ChartRun {
 #[test]
 fn a_drawing_is_asked_for(rt: HostRuntime) {
     let run = chart_run(&rt, rt.alloc(), &["chart"]);
-    assert!(rt; run.file.is_none() && run.output.is_none() && run.style == Style::Svg);
+    assert!(rt; run.file.is_none() && run.output.is_none() && !run.text && !run.bytes);
+    assert!(rt; run.from == 1 && run.to.is_none() && !run.terminal);
     let run = chart_run(
         &rt,
         rt.alloc(),
         &["chart", "a.txt", "-o", "a.svg", "--text"],
     );
-    assert!(rt; run.style == Style::Text);
+    assert!(rt; run.text);
     let file = run.file.expect(&rt, "a file");
     assert_eq!(rt; file.as_str(), "a.txt");
     let output = run.output.expect(&rt, "a file");
     assert_eq!(rt; output.as_str(), "a.svg");
 }
 
-/// The folder that these words ask for.
+#[test]
+fn a_strict_script_is_asked_for(rt: HostRuntime) {
+    let run = script_run(&rt, rt.alloc(), &["script", "--strict", "a.txt"]);
+    assert!(rt; run.strict && !run.explain && !run.terminal);
+    assert!(rt; !script_run(&rt, rt.alloc(), &["script", "a.txt"]).strict);
+}
+
+#[test]
+fn a_part_is_asked_for(rt: HostRuntime) {
+    let words = ["chart", "--bytes", "--from", "100", "--to=160"];
+    let run = chart_run(&rt, rt.alloc(), &words);
+    assert!(rt; run.bytes && run.from == 100 && run.to == Some(160));
+    let (status, _) = text_for(&rt, rt.alloc(), &["chart", "--from", "0"]);
+    assert_eq!(rt; status, 2);
+}
+
+#[test]
+fn a_play_is_asked_for(rt: HostRuntime) {
+    for (words, wanted) in [
+        (["play"].as_slice(), ""),
+        (["play", "a.txt"].as_slice(), "a.txt"),
+    ] {
+        let Ok(Action::Play(run)) = answer(&rt, rt.alloc(), words) else {
+            panic!(rt; "another answer")
+        };
+        let file = match &run.file {
+            Some(file) => file.as_str(),
+            None => "",
+        };
+        assert_eq!(rt; file, wanted);
+    }
+}
+
+#[test]
+fn lines_of_a_run_in_other_words(rt: HostRuntime) {
+    let lines = "sent 2\nseconds 0.5\nrate 4\nleast 7\n";
+    let text = with_units(rt.alloc(), lines).expect(&rt, "room");
+    let wanted = "sent 2\nseconds 0.5\nrate 4 round trips a second\nleast 7 ns\n";
+    assert_eq!(rt; text.as_str(), wanted);
+    let text = json_of(rt.alloc(), lines).expect(&rt, "room");
+    let wanted =
+        "{\"sent\": 2, \"seconds\": 0.5, \"round_trips_per_second\": 4, \"least_nanoseconds\": 7}\n";
+    assert_eq!(rt; text.as_str(), wanted);
+}
+
+#[test]
+fn carriage_returns_before_line_feeds_are_dropped(rt: HostRuntime) {
+    let plain = without_returns(rt.alloc(), b"a\r\nb\rc\r\r\n\r").expect(&rt, "room");
+    assert!(rt; plain.as_slice() == b"a\nb\rc\r\n\r".as_slice());
+}
+
+#[test]
+fn the_call_of_a_difference(rt: HostRuntime) {
+    let rows = [
+        ("4 3 1 ok\n", "4 3 1 fail srch\n", Some(4)),
+        ("open 7 1 send 2\n", "", Some(7)),
+        ("", "9 9 1 ok\n", Some(9)),
+        ("x\n", "y\n", None),
+    ];
+    for (found, wanted, call) in rows {
+        let difference = difference_of(rt.alloc(), found.as_bytes(), wanted.as_bytes());
+        assert_eq!(rt; difference.expect(&rt, "room").call(), call);
+    }
+}
+
+/// The check that these words ask for.
 fn check_run(rt: &impl Abort, alloc: Global, words: &[&str]) -> CheckRun {
     let Ok(Action::Check(run)) = answer(rt, alloc, words) else {
         panic!(rt; "another answer")
@@ -84,14 +160,21 @@ fn check_run(rt: &impl Abort, alloc: Global, words: &[&str]) -> CheckRun {
     run
 }
 
+/// The only file or folder of a check.
+fn only_path(rt: &impl Abort, alloc: Global, words: &[&str]) -> String {
+    let mut run = check_run(rt, alloc, words);
+    assert_eq!(rt; run.paths.len(), 1);
+    run.paths.pop().expect(rt, "a path")
+}
+
 #[test]
 fn a_check_is_asked_for(rt: HostRuntime) {
-    let run = check_run(&rt, rt.alloc(), &["check", "a"]);
-    assert_eq!(rt; run.folder.as_str(), "a");
-    assert!(rt; !run.explain);
-    assert!(rt; check_run(&rt, rt.alloc(), &["check", ".", "--explain"]).explain);
-    let (status, _) = text_for(&rt, rt.alloc(), &["check"]);
-    assert_eq!(rt; status, 2);
+    assert_eq!(rt; only_path(&rt, rt.alloc(), &["check"]).as_str(), ".");
+    assert_eq!(rt; only_path(&rt, rt.alloc(), &["check", "a"]).as_str(), "a");
+    let run = check_run(&rt, rt.alloc(), &["check", "a", "b/c.txt"]);
+    assert!(rt; run.paths.len() == 2 && !run.explain && !run.update);
+    let run = check_run(&rt, rt.alloc(), &["check", ".", "--explain", "--update"]);
+    assert!(rt; run.explain && run.update);
 }
 
 #[test]
@@ -306,9 +389,7 @@ fn a_faulty_command_line_has_status_2(rt: HostRuntime) {
     let (status, text) = text_for(&rt, rt.alloc(), &["scripts"]);
     assert_eq!(rt; status, 2);
     assert!(rt; text.as_str().contains("unrecognized subcommand 'scripts'"));
-    for words in [["script", "a", "b"], ["check", "a", "b"]] {
-        let (status, text) = text_for(&rt, rt.alloc(), &words);
-        assert_eq!(rt; status, 2);
-        assert!(rt; text.as_str().contains("unexpected argument 'b'"));
-    }
+    let (status, text) = text_for(&rt, rt.alloc(), &["script", "a", "b"]);
+    assert_eq!(rt; status, 2);
+    assert!(rt; text.as_str().contains("unexpected argument 'b'"));
 }

@@ -1,18 +1,21 @@
 -- What is counted towards a limit: what is open, live or pending by now, and nothing else.
-use Rattle.std.specs.Prelude.{ℕ, List, [], ◌∷◌, pos, negsuc}
+use Rattle.std.specs.Prelude.{count_by, ℕ, List, [], ◌∷◌, pos, negsuc}
 use Rattle.qbase.specs.declared.errno.Errno.TheVariants.{Srch, Inval}
 use Rattle.qqueue.specs.declared.item.What.TheVariants as what
-use Rattle.qmodel.specs.declared.call.Call.TheVariants.{ChannelCreate, ChannelDestroy, ConnectAttach, ConnectDetach, Send, ReceivePulse, Pulse}
+use Rattle.qmodel.specs.declared.call.Call.TheVariants.{ChannelCreate, ChannelDestroy, ConnectAttach}
+use Rattle.qmodel.specs.declared.call.Call.TheVariants.{ConnectDetach, Send, ReceivePulse, Pulse}
 use Rattle.qmodel.specs.declared.call.Mark.TheVariants as mark
-use Rattle.qmodel.specs.Facts.{Facts}
-use Rattle.qmodel.specs.Lawful.{facts_of, followed_by}
-use Rattle.qmodel.specs.Pulses.{pulses_among}
-use Rattle.qmodel.specs.Trace.{Event}
+use Rattle.qrules.specs.Facts.{Facts}
+use Rattle.qrules.specs.Lawful.{facts_of}
+use Rattle.qrules.specs.Trace.{followed_by}
+use Rattle.qqueue.specs.Best.{is_pulse}
+use Rattle.qrules.specs.Trace.{Event}
 use Rattle.qworked.specs.Runs.{event, ended, flags_of}
 use Rattle.qworked.specs.ThreeProcesses.{attached, roster}
 
--- of three channels one is destroyed, and one isn't created; of five connections one is detached, and another isn't attached; two pulses and a message
--- are pending on channel 1, where one was received, and a pulse on channel 4
+-- of three channels one is destroyed, and one isn't created; of five connections one is detached, and another
+-- isn't attached; two pulses and a message are pending on channel 1, where one was received, and a pulse on
+-- channel 4
 abbrev pub events : List Event
 events = attached (
     event 35 (ChannelCreate (flags_of 0)) (ended 4 35 (mark.Channel 4) [] ∷ [])
@@ -39,4 +42,4 @@ facts = facts_of roster (followed_by [] events)
 
 -- how many pulses are pending on channel h then
 abbrev pub pulses_on : ℕ → ℕ
-pulses_on h = pulses_among (facts.pending h)
+pulses_on h = count_by (λ x. is_pulse x.what) (facts.pending h)

@@ -2,7 +2,7 @@
 use Rattle.std.specs.Prelude.{List, [], ◌∷◌, pos, negsuc}
 use Rattle.qmodel.specs.declared.call.Call.TheVariants.{Send, Receive, Reply, Write}
 use Rattle.qmodel.specs.declared.call.Mark.TheVariants as mark
-use Rattle.qmodel.specs.Trace.{Event}
+use Rattle.qrules.specs.Trace.{Event}
 use Rattle.qworked.specs.Runs.{event, ended}
 use Rattle.qworked.specs.Setting.{connected}
 
@@ -12,7 +12,8 @@ events = connected (
     event 2 (Send 2 (0x01 ∷ 0x02 ∷ 0x03 ∷ 0x04 ∷ 0x05 ∷ []) (0xcc ∷ 0xcc ∷ 0xcc ∷ [])) []
     ∷ event 1 (Receive 1 (0x00 ∷ 0x00 ∷ [])) (ended 4 1 (mark.Message 3 2) (0x01 ∷ 0x02 ∷ []) ∷ [])
     ∷ event 1 (Write 3 2 (0x06 ∷ 0x07 ∷ [])) (ended 5 1 (mark.Count 1) [] ∷ [])
-    ∷ event 1 (Reply 3 (negsuc 4) (0xaa ∷ 0xbb ∷ [])) (ended 6 1 mark.Ok [] ∷ ended 3 2 (mark.Replied (negsuc 4) 2) (0xaa ∷ 0xbb ∷ 0x06 ∷ []) ∷ [])
+    ∷ event 1 (Reply 3 (negsuc 4) (0xaa ∷ 0xbb ∷ []))
+    (ended 6 1 mark.Ok [] ∷ ended 3 2 (mark.Replied (negsuc 4) 2) (0xaa ∷ 0xbb ∷ 0x06 ∷ []) ∷ [])
     ∷ [])
 
 -- a reply that is longer than the sender's buffer
@@ -20,5 +21,6 @@ abbrev pub reply_cut : List Event
 reply_cut = connected (
     event 2 (Send 2 [] (0xcc ∷ 0xcc ∷ 0xcc ∷ [])) []
     ∷ event 1 (Receive 1 (0x09 ∷ 0x09 ∷ [])) (ended 4 1 (mark.Message 3 0) (0x09 ∷ 0x09 ∷ []) ∷ [])
-    ∷ event 1 (Reply 3 (pos 7) (0xaa ∷ 0xbb ∷ 0xcc ∷ 0xdd ∷ [])) (ended 5 1 mark.Ok [] ∷ ended 3 2 (mark.Replied (pos 7) 3) (0xaa ∷ 0xbb ∷ 0xcc ∷ []) ∷ [])
+    ∷ event 1 (Reply 3 (pos 7) (0xaa ∷ 0xbb ∷ 0xcc ∷ 0xdd ∷ []))
+    (ended 5 1 mark.Ok [] ∷ ended 3 2 (mark.Replied (pos 7) 3) (0xaa ∷ 0xbb ∷ 0xcc ∷ []) ∷ [])
     ∷ [])

@@ -2,20 +2,24 @@
 use Rattle.std.specs.Prelude.{List, [], ◌∷◌, pos}
 use Rattle.qbase.specs.declared.errno.Errno.TheVariants.{Srch, Badf, Inval}
 use Rattle.qqueue.specs.declared.item.What.TheVariants as what
-use Rattle.qmodel.specs.declared.call.Call.TheVariants.{ChannelCreate, ConnectAttach, Send, Receive, Reply, ReceivePulse, Pulse, ChannelDestroy}
+use Rattle.qmodel.specs.declared.call.Call.TheVariants.{ChannelCreate, ConnectAttach, Send, Receive, Reply}
+use Rattle.qmodel.specs.declared.call.Call.TheVariants.{ReceivePulse, Pulse, ChannelDestroy}
 use Rattle.qmodel.specs.declared.call.Mark.TheVariants as mark
-use Rattle.qmodel.specs.Trace.{Event}
+use Rattle.qrules.specs.Trace.{Event}
 use Rattle.qworked.specs.Runs.{event, ended, flags_of}
 use Rattle.qworked.specs.Setting.{connected}
 
--- a held message, a pending one and a receiver; then calls that name the channel, its connection and its messages
+-- a held message, a pending one and a receiver; then calls that name the channel, its connection and its
+-- messages
 abbrev pub events : List Event
 events = connected (
     event 2 (Send 2 (0xaa ∷ []) []) []
     ∷ event 1 (Receive 1 []) (ended 4 1 (mark.Message 3 0) [] ∷ [])
     ∷ event 3 (Send 2 (0xbb ∷ []) []) []
     ∷ event 4 (ReceivePulse 1) []
-    ∷ event 1 (ChannelDestroy 1) (ended 7 1 mark.Ok [] ∷ ended 3 2 (mark.Failed Srch) [] ∷ ended 5 3 (mark.Failed Srch) [] ∷ ended 6 4 (mark.Failed Srch) [] ∷ [])
+    ∷ event 1 (ChannelDestroy 1)
+    (ended 7 1 mark.Ok [] ∷ ended 3 2 (mark.Failed Srch) [] ∷ ended 5 3 (mark.Failed Srch) []
+    ∷ ended 6 4 (mark.Failed Srch) [] ∷ [])
     ∷ event 2 (Send 2 (0xcc ∷ []) (0xaa ∷ [])) (ended 8 2 (mark.Failed Badf) (0xaa ∷ []) ∷ [])
     ∷ event 3 (Pulse 2 20 (pos 0) (pos 0)) (ended 9 3 (mark.Failed Badf) [] ∷ [])
     ∷ event 1 (Receive 1 (0xbb ∷ [])) (ended 10 1 (mark.Failed Srch) (0xbb ∷ []) ∷ [])
@@ -33,5 +37,6 @@ others_stay = connected (
     ∷ event 2 (Pulse 2 20 (pos 0) (pos 0)) (ended 5 2 mark.Ok [] ∷ [])
     ∷ event 4 (ChannelDestroy 1) (ended 6 4 mark.Ok [] ∷ [])
     ∷ event 3 (ConnectAttach 3) (ended 7 3 (mark.Connection 7) [] ∷ [])
-    ∷ event 2 (Pulse 7 30 (pos 5) (pos 6)) (ended 4 1 (mark.Pulse 8 30 (what.User (pos 5) (pos 6))) [] ∷ ended 8 2 mark.Ok [] ∷ [])
+    ∷ event 2 (Pulse 7 30 (pos 5) (pos 6))
+    (ended 4 1 (mark.Pulse 8 30 (what.User (pos 5) (pos 6))) [] ∷ ended 8 2 mark.Ok [] ∷ [])
     ∷ [])

@@ -1,12 +1,14 @@
--- A detached connection cuts what was sent over it, and the server of a channel with the disconnect flag is told of the last one.
+-- A detached connection cancels what was sent over it, and the server of a channel with the disconnect flag
+-- is told of the last one.
 use Rattle.std.specs.Prelude.{List, [], ◌∷◌, pos}
 use Rattle.qbase.specs.declared.errno.Errno.TheVariants.{Badf, Inval, Srch}
 use Rattle.qbase.specs.declared.state.ThreadState.TheVariants.{ReceiveBlocked}
 use Rattle.qqueue.specs.declared.item.What.TheVariants as what
-use Rattle.qmodel.specs.declared.call.Call.TheVariants.{ChannelCreate, ConnectAttach, ConnectDetach, Send, Receive, Reply, ReceivePulse}
+use Rattle.qmodel.specs.declared.call.Call.TheVariants.{ChannelCreate, ConnectAttach, ConnectDetach, Send}
+use Rattle.qmodel.specs.declared.call.Call.TheVariants.{Receive, Reply, Read, Info, ReceivePulse}
 use Rattle.qmodel.specs.declared.call.Mark.TheVariants as mark
 use Rattle.qmodel.specs.declared.open_call.Blocked.{Blocked}
-use Rattle.qmodel.specs.Trace.{Event}
+use Rattle.qrules.specs.Trace.{Event}
 use Rattle.qworked.specs.Runs.{event, ended, blocked, flags_of}
 use Rattle.qworked.specs.Setting.{connected}
 
@@ -24,8 +26,8 @@ waiting = connected (
 abbrev pub nothing_there : List Blocked
 nothing_there = blocked 7 1 (ReceiveBlocked 1) ∷ []
 
--- message 3 is held, its server can't detach the client's connection, and after the client did there is nothing to answer; what
--- was sent over another connection of the client is answered
+-- message 3 is held, its server can't detach the client's connection, and after the client did there is
+-- nothing to answer; what was sent over another connection of the client is answered
 abbrev pub held : List Event
 held = connected (
     event 3 (Send 2 (0xaa ∷ []) (0x00 ∷ [])) []
@@ -61,12 +63,63 @@ told_once = twice_attached (
 abbrev pub no_more : List Blocked
 no_more = blocked 9 1 (ReceiveBlocked 3) ∷ []
 
--- a server that waits takes the pulse at once, in the event that cuts what was sent over the connection
+-- a server that waits takes the pulse at once, in the event that cancels what was sent over the connection
 abbrev pub taken_at_once : List Event
 taken_at_once = twice_attached (
     event 3 (ConnectDetach 4) (ended 6 3 mark.Ok [] ∷ [])
     ∷ event 3 (Send 5 [] (0x07 ∷ [])) []
     ∷ event 1 (ReceivePulse 3) []
-    ∷ event 2 (ConnectDetach 5) (ended 8 1 (mark.Pulse 9 20 (what.Disconnect 2)) [] ∷ ended 9 2 mark.Ok [] ∷ ended 7 3 (mark.Failed Badf) (0x07 ∷ []) ∷ [])
+    ∷ event 2 (ConnectDetach 5)
+    (ended 8 1 (mark.Pulse 9 20 (what.Disconnect 2)) [] ∷ ended 9 2 mark.Ok [] ∷ ended 7 3
+    (mark.Failed Badf) (0x07 ∷ []) ∷ [])
     ∷ event 1 (Receive 3 []) []
+    ∷ [])
+
+-- a client's process has connections 2 and 3 to one channel; a message that was sent over connection 3 is
+-- told as such, and stays held as connection 2 is detached
+abbrev pub beside_another : List Event
+beside_another = connected (
+    event 3 (ConnectAttach 1) (ended 3 3 (mark.Connection 3) [] ∷ [])
+    ∷ event 2 (Send 3 (0xaa ∷ []) (0x00 ∷ 0x00 ∷ [])) []
+    ∷ event 1 (Receive 1 (0x00 ∷ [])) (ended 5 1 (mark.Message 4 1) (0xaa ∷ []) ∷ [])
+    ∷ event 1 (Info 4)
+    (ended 6 1
+    (mark.Info
+    (record {
+      process = 2;
+      thread = 2;
+      connection = 3;
+      msglen = 1;
+      srcmsglen = 1;
+      dstmsglen = 2;
+      priority = 20;
+    })) [] ∷ [])
+    ∷ event 3 (ConnectDetach 2) (ended 7 3 mark.Ok [] ∷ [])
+    ∷ event 1 (Reply 4 (pos 0) (0xbb ∷ []))
+    (ended 8 1 mark.Ok [] ∷ ended 4 2 (mark.Replied (pos 0) 1) (0xbb ∷ 0x00 ∷ []) ∷ [])
+    ∷ [])
+
+-- a client's process has connections 2 and 3 to one channel; Info says of a message that was sent over the
+-- older one, 2, that it was; it stays held as connection 3 is detached, and is ended as connection 2 is
+abbrev pub beside_a_newer : List Event
+beside_a_newer = connected (
+    event 2 (ConnectAttach 1) (ended 3 2 (mark.Connection 3) [] ∷ [])
+    ∷ event 2 (Send 2 (0xaa ∷ []) (0x00 ∷ 0x00 ∷ [])) []
+    ∷ event 1 (Receive 1 (0x00 ∷ [])) (ended 5 1 (mark.Message 4 1) (0xaa ∷ []) ∷ [])
+    ∷ event 1 (Info 4)
+    (ended 6 1
+    (mark.Info
+    (record {
+      process = 2;
+      thread = 2;
+      connection = 2;
+      msglen = 1;
+      srcmsglen = 1;
+      dstmsglen = 2;
+      priority = 20;
+    })) [] ∷ [])
+    ∷ event 3 (ConnectDetach 3) (ended 7 3 mark.Ok [] ∷ [])
+    ∷ event 1 (Read 4 0 (0x00 ∷ [])) (ended 8 1 (mark.Count 1) (0xaa ∷ []) ∷ [])
+    ∷ event 3 (ConnectDetach 2) (ended 4 2 (mark.Failed Badf) (0x00 ∷ 0x00 ∷ []) ∷ ended 9 3 mark.Ok [] ∷ [])
+    ∷ event 1 (Reply 4 (pos 0) []) (ended 10 1 (mark.Failed Srch) [] ∷ [])
     ∷ [])

@@ -1,9 +1,10 @@
--- The first run: a server creates a channel; a client attaches to it and sends; the server receives and replies.
+-- The first run: a server creates a channel; a client attaches to it and sends; the server receives and
+-- replies.
 use Rattle.std.specs.Prelude.{List, [], ◌∷◌, pos}
 use Rattle.qtables.specs.declared.member.Member.{Member}
 use Rattle.qmodel.specs.declared.call.Call.TheVariants.{ChannelCreate, ConnectAttach, Send, Receive, Reply}
 use Rattle.qmodel.specs.declared.call.Mark.TheVariants as mark
-use Rattle.qmodel.specs.Trace.{Event}
+use Rattle.qrules.specs.Trace.{Event}
 use Rattle.qworked.specs.Runs.{member, event, ended, flags_of, with_endings}
 
 -- a server and a client, each a process of its own
@@ -38,4 +39,5 @@ thread_changed = with_endings 4 (ended 4 2 (mark.Message 3 0) [] ∷ []) events
 
 -- the message is answered as it is received, and not as the server replies
 abbrev pub one_moved : List Event
-one_moved = with_endings 5 (ended 5 1 mark.Ok [] ∷ []) (with_endings 4 (ended 4 1 (mark.Message 3 0) [] ∷ ended 3 2 (mark.Replied (pos 0) 0) [] ∷ []) events)
+one_moved = with_endings 5 (ended 5 1 mark.Ok [] ∷ [])
+    (with_endings 4 (ended 4 1 (mark.Message 3 0) [] ∷ ended 3 2 (mark.Replied (pos 0) 0) [] ∷ []) events)

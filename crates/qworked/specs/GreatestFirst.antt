@@ -1,10 +1,11 @@
--- Of the messages that are pending the server receives the one of greatest priority first, and among equals the one that was sent first.
+-- Of the messages that are pending the server receives the one of greatest priority first, and among equals
+-- the one that was sent first.
 use Rattle.std.specs.Prelude.{List, [], ◌∷◌}
 use Rattle.qbase.specs.declared.state.ThreadState.TheVariants.{ReplyBlocked}
 use Rattle.qmodel.specs.declared.call.Call.TheVariants.{ConnectAttach, Send, Receive}
 use Rattle.qmodel.specs.declared.call.Mark.TheVariants as mark
 use Rattle.qmodel.specs.declared.open_call.Blocked.{Blocked}
-use Rattle.qmodel.specs.Trace.{Event}
+use Rattle.qrules.specs.Trace.{Event}
 use Rattle.qworked.specs.Runs.{event, ended, blocked, with_endings}
 use Rattle.qworked.specs.Setting.{connected}
 
@@ -36,7 +37,8 @@ thread_changed = with_endings 6 (ended 6 4 (mark.Message 5 0) [] ∷ []) events
 
 -- the first Receive ends only with the second
 abbrev pub one_moved : List Event
-one_moved = with_endings 6 [] (with_endings 7 (ended 6 1 (mark.Message 5 0) [] ∷ ended 7 1 (mark.Message 4 0) [] ∷ []) events)
+one_moved = with_endings 6 []
+    (with_endings 7 (ended 6 1 (mark.Message 5 0) [] ∷ ended 7 1 (mark.Message 4 0) [] ∷ []) events)
 
 -- two of three messages are of equal priority
 abbrev pub ties : List Event

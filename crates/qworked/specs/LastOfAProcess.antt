@@ -2,15 +2,17 @@
 use Rattle.std.specs.Prelude.{List, [], ◌∷◌, pos, negsuc}
 use Rattle.qbase.specs.declared.errno.Errno.TheVariants.{Badf, Inval, Srch}
 use Rattle.qqueue.specs.declared.item.What.TheVariants as what
-use Rattle.qmodel.specs.declared.call.Call.TheVariants.{ConnectAttach, ConnectDetach, Send, Receive, Pulse, PrioritySet, ReceivePulse, ChannelDestroy}
+use Rattle.qmodel.specs.declared.call.Call.TheVariants.{ConnectAttach, ConnectDetach, Send, Receive, Pulse}
+use Rattle.qmodel.specs.declared.call.Call.TheVariants.{PrioritySet, ReceivePulse, ChannelDestroy}
 use Rattle.qmodel.specs.declared.call.Mark.TheVariants as mark
-use Rattle.qmodel.specs.Trace.{Event}
+use Rattle.qrules.specs.Trace.{Event}
 use Rattle.qworked.specs.Runs.{event, ended}
 use Rattle.qworked.specs.ThreeProcesses.{attached}
 
--- two Sends are open, over connections 4 and 3: the detach of connection 2 ends neither, that of connection 4 its own. The disconnect pulse names the
--- process and has the priority that the detaching thread has by now. The pulse that was sent over the connection before its end is still received, and
--- so is the other process's message
+-- two Sends are open, over connections 4 and 3: the detach of connection 2 ends neither, that of connection 4
+-- its own. The disconnect pulse names the process and has the priority that the detaching thread has by now.
+-- The pulse that was sent over the connection before its end is still received, and so is the other process's
+-- message
 abbrev pub two_processes : List Event
 two_processes = attached (
     event 42 (ConnectAttach 1) (ended 4 42 (mark.Connection 4) [] ∷ [])

@@ -27,6 +27,7 @@ pub mod ThreeProcesses
 pub mod AllFlags
 pub mod LastOfAProcess
 pub mod Overwritten
+pub mod PastTheEnd
 pub mod LaterPriority
 pub mod MovedMessage
 pub mod Broken

@@ -1,4 +1,5 @@
--- What is answered at a limit: 64 open channels, 1,024 live connections, and 1,024 pulses that are pending on a channel.
+-- What is answered at a limit: 64 open channels, 1,024 live connections, and 1,024 pulses that are pending on
+-- a channel.
 use Rattle.std.specs.Prelude.{◌≡◌, ℕ, ◌+◌, List, [], ◌∷◌, ◌++◌, replicate, pos}
 use Rattle.qbase.specs.declared.errno.Errno.{Errno}
 use Rattle.qqueue.specs.declared.item.Item.{Item}
@@ -6,12 +7,14 @@ use Rattle.qmodel.specs.declared.call.Call.{Call}
 use Rattle.qmodel.specs.declared.call.Call.TheVariants.{ChannelCreate, ChannelDestroy, ConnectDetach}
 use Rattle.qmodel.specs.declared.call.Completion.{Completion}
 use Rattle.qmodel.specs.declared.call.Mark.TheVariants as mark
-use Rattle.qmodel.specs.Answer.{Answers}
-use Rattle.qmodel.specs.Effects.{buffer_of}
-use Rattle.qmodel.specs.Facts.{Facts}
-use Rattle.qmodel.specs.Lawful.{facts_of, followed_by}
-use Rattle.qmodel.specs.Rows.{message_item, pulse_item}
-use Rattle.qmodel.specs.Trace.{Event}
+use Rattle.qrules.specs.Outcome.{Answers}
+use Rattle.qrules.specs.Rule.{buffer_of}
+use Rattle.qrules.specs.Rules.{effect_of}
+use Rattle.qrules.specs.Facts.{Facts}
+use Rattle.qrules.specs.Lawful.{facts_of}
+use Rattle.qrules.specs.Trace.{followed_by}
+use Rattle.qqueue.specs.declared.item.What.TheVariants.{Message, User}
+use Rattle.qrules.specs.Trace.{Event}
 use Rattle.qworked.specs.Runs.{event, ended, flags_of}
 use Rattle.qworked.specs.Detached.{twice_attached}
 use Rattle.qworked.specs.Setting.{roster, connected}
@@ -24,13 +27,15 @@ facts_after events = facts_of roster (followed_by [] events)
 -- the call is answered by a refusal with this error, and by nothing else
 abbrev pub IsRefusedWith : Facts → ℕ → Call → Errno → Type 0
 IsRefusedWith f t c e =
-    Answers f t c (ended f.number t (mark.Failed e) (buffer_of c) ∷ [])
-    × ((endings : List Completion) → Answers f t c endings → endings ≡ ended f.number t (mark.Failed e) (buffer_of c) ∷ [])
+    Answers f t c (ended f.number t (mark.Failed e) (buffer_of (effect_of c)) ∷ [])
+    × ((endings : List Completion) → Answers f t c endings → endings ≡ ended f.number t (mark.Failed e)
+    (buffer_of (effect_of c)) ∷ [])
 
 -- k channels are created, by the calls from n on
 abbrev pub creations : ℕ → ℕ → List Event
 creations n Prim.Native.Nat.zero = []
-creations n (Prim.Native.Nat.suc k) = event 1 (ChannelCreate (flags_of 0)) (ended n 1 (mark.Channel n) [] ∷ []) ∷ creations (n + 1) k
+creations n (Prim.Native.Nat.suc k) = event 1 (ChannelCreate (flags_of 0))
+    (ended n 1 (mark.Channel n) [] ∷ []) ∷ creations (n + 1) k
 
 -- a run after which 64 channels are open
 abbrev pub channels : List Event
@@ -46,24 +51,29 @@ with_connections n = record (facts_after (connected [])) { live_connections = n 
 
 -- so many pulses
 abbrev pub pulses : ℕ → ℕ → List Item
-pulses n h = replicate n (pulse_item 0 1 (pos 0) (pos 0))
+pulses n h = replicate n (record { number = 0; priority = 1; what = User (pos 0) (pos 0) })
 
 -- the facts where so many pulses are pending on each channel
 abbrev pub with_pulses : ℕ → Facts
 with_pulses n = record (facts_after (connected [])) { pending = pulses n }
 
--- the same where a message is held on a channel with the unblock flag
+-- those facts where a message is held on a channel with the unblock flag
 abbrev pub held_with_pulses : ℕ → Facts
 held_with_pulses n = record (facts_after (held [])) { pending = pulses n }
 
 -- the facts where so many pulses are pending on each channel, and 64 messages
 abbrev pub with_messages_and_pulses : ℕ → Facts
-with_messages_and_pulses n = record (facts_after (connected [])) { pending = λ h. replicate 64 (message_item 0 1) ++ pulses n h }
+with_messages_and_pulses n = record (facts_after (connected [])) {
+  pending = λ h. replicate 64 (record { number = 0; priority = 1; what = Message }) ++ pulses n h;
+}
 
--- the facts where so many pulses are pending and a process has connections 4 and 5 to a channel with the disconnect flag
+-- the facts where so many pulses are pending and a process has connections 4 and 5 to a channel with the
+-- disconnect flag
 abbrev pub twice_with_pulses : ℕ → Facts
 twice_with_pulses n = record (facts_after (twice_attached [])) { pending = pulses n }
 
--- the same where it has connection 5 alone
+-- those facts where it has connection 5 alone
 abbrev pub last_with_pulses : ℕ → Facts
-last_with_pulses n = record (facts_after (twice_attached (event 3 (ConnectDetach 4) (ended 6 3 mark.Ok [] ∷ []) ∷ []))) { pending = pulses n }
+last_with_pulses n = record
+    (facts_after
+    (twice_attached (event 3 (ConnectDetach 4) (ended 6 3 mark.Ok [] ∷ []) ∷ []))) { pending = pulses n }

@@ -1,11 +1,13 @@
--- A pending message has the priority that is set for its sender: it is received in its place among those of that priority. A held message and a pulse keep theirs.
+-- A pending message has the priority that is set for its sender: it is received in its place among those of
+-- that priority. A held message and a pulse keep theirs.
 use Rattle.std.specs.Prelude.{List, [], ◌∷◌, pos}
 use Rattle.qbase.specs.declared.errno.Errno.TheVariants.{Busy, Srch}
 use Rattle.qbase.specs.declared.state.ThreadState.TheVariants.{Ready, ReplyBlocked, SendBlocked}
 use Rattle.qqueue.specs.declared.item.What.TheVariants as what
-use Rattle.qmodel.specs.declared.call.Call.TheVariants.{ConnectAttach, Send, Receive, Info, ReceivePulse, Pulse, PrioritySet, State, Unblock}
+use Rattle.qmodel.specs.declared.call.Call.TheVariants.{ConnectAttach, Send, Receive, Info, ReceivePulse}
+use Rattle.qmodel.specs.declared.call.Call.TheVariants.{Pulse, PrioritySet, State, Unblock}
 use Rattle.qmodel.specs.declared.call.Mark.TheVariants as mark
-use Rattle.qmodel.specs.Trace.{Event}
+use Rattle.qrules.specs.Trace.{Event}
 use Rattle.qworked.specs.Runs.{event, ended}
 use Rattle.qworked.specs.Setting.{connected}
 use Rattle.qworked.specs.UnblockPulse.{held}
@@ -25,7 +27,18 @@ raised = both_sent (
     ∷ event 1 (State 4) (ended 7 1 (mark.State (SendBlocked 1) 30) [] ∷ [])
     ∷ event 1 (Receive 1 []) (ended 8 1 (mark.Message 5 0) [] ∷ [])
     ∷ event 1 (State 1) (ended 9 1 (mark.State Ready 30) [] ∷ [])
-    ∷ event 1 (Info 5) (ended 10 1 (mark.Info (record { process = 1; thread = 4; connection = 3; msglen = 0; srcmsglen = 0; dstmsglen = 0; priority = 30 })) [] ∷ [])
+    ∷ event 1 (Info 5)
+    (ended 10 1
+    (mark.Info
+    (record {
+      process = 1;
+      thread = 4;
+      connection = 3;
+      msglen = 0;
+      srcmsglen = 0;
+      dstmsglen = 0;
+      priority = 30;
+    })) [] ∷ [])
     ∷ event 1 (Receive 1 []) (ended 11 1 (mark.Message 4 0) [] ∷ [])
     ∷ [])
 
@@ -74,13 +87,25 @@ set_the_same = connected (
 abbrev pub held_stays : List Event
 held_stays = held (
     event 3 (PrioritySet 2 40) (ended 7 3 mark.Ok [] ∷ [])
-    ∷ event 1 (Info 5) (ended 8 1 (mark.Info (record { process = 2; thread = 2; connection = 4; msglen = 0; srcmsglen = 1; dstmsglen = 0; priority = 20 })) [] ∷ [])
+    ∷ event 1 (Info 5)
+    (ended 8 1
+    (mark.Info
+    (record {
+      process = 2;
+      thread = 2;
+      connection = 4;
+      msglen = 0;
+      srcmsglen = 1;
+      dstmsglen = 0;
+      priority = 20;
+    })) [] ∷ [])
     ∷ event 3 (Unblock 2) (ended 9 3 mark.Ok [] ∷ [])
     ∷ event 1 (ReceivePulse 3) (ended 10 1 (mark.Pulse 9 20 (what.Unblock 5)) [] ∷ [])
     ∷ event 1 (State 2) (ended 11 1 (mark.State (ReplyBlocked 3) 40) [] ∷ [])
     ∷ [])
 
--- a thread's pulse and its message are pending as its priority is set: the message has it, and the pulse its own
+-- a thread's pulse and its message are pending as its priority is set: the message has it, and the pulse its
+-- own
 abbrev pub pulse_stays : List Event
 pulse_stays = connected (
     event 2 (Pulse 2 25 (pos 1) (pos 0)) (ended 3 2 mark.Ok [] ∷ [])
@@ -91,7 +116,8 @@ pulse_stays = connected (
     ∷ event 1 (State 1) (ended 8 1 (mark.State Ready 25) [] ∷ [])
     ∷ [])
 
--- a thread's priority is set, it takes a lesser one with a pulse, and then it sends: its message has the lesser one, which no set since has changed
+-- a thread's priority is set, it takes a lesser one with a pulse, and then it sends: its message has the
+-- lesser one, which no set since has changed
 abbrev pub set_before : List Event
 set_before = connected (
     event 1 (PrioritySet 4 40) (ended 3 1 mark.Ok [] ∷ [])

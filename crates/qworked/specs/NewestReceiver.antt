@@ -5,7 +5,7 @@ use Rattle.qqueue.specs.declared.item.What.TheVariants as what
 use Rattle.qmodel.specs.declared.call.Call.TheVariants.{Send, Receive, ReceivePulse, Pulse}
 use Rattle.qmodel.specs.declared.call.Mark.TheVariants as mark
 use Rattle.qmodel.specs.declared.open_call.Blocked.{Blocked}
-use Rattle.qmodel.specs.Trace.{Event}
+use Rattle.qrules.specs.Trace.{Event}
 use Rattle.qworked.specs.Runs.{event, ended, blocked}
 use Rattle.qworked.specs.Setting.{connected}
 
@@ -23,7 +23,8 @@ passed_over = connected (
     event 1 (Receive 1 (0x00 ∷ [])) []
     ∷ event 4 (ReceivePulse 1) []
     ∷ event 2 (Send 2 (0xaa ∷ []) []) (ended 3 1 (mark.Message 5 1) (0xaa ∷ []) ∷ [])
-    ∷ event 3 (Pulse 2 5 (pos 0) (pos 0)) (ended 6 3 mark.Ok [] ∷ ended 4 4 (mark.Pulse 6 5 (what.User (pos 0) (pos 0))) [] ∷ [])
+    ∷ event 3 (Pulse 2 5 (pos 0) (pos 0))
+    (ended 6 3 mark.Ok [] ∷ ended 4 4 (mark.Pulse 6 5 (what.User (pos 0) (pos 0))) [] ∷ [])
     ∷ [])
 
 -- the earlier receiver, and the client that waits for its answer

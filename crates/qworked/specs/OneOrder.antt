@@ -1,11 +1,12 @@
--- Messages and pulses wait in one order: the greatest priority first, and among equals the one that was sent first.
+-- Messages and pulses wait in one order: the greatest priority first, and among equals the one that was sent
+-- first.
 use Rattle.std.specs.Prelude.{List, [], ◌∷◌, pos, negsuc}
 use Rattle.qbase.specs.declared.state.ThreadState.TheVariants.{ReplyBlocked}
 use Rattle.qqueue.specs.declared.item.What.TheVariants as what
 use Rattle.qmodel.specs.declared.call.Call.TheVariants.{Send, Receive, Pulse, PrioritySet}
 use Rattle.qmodel.specs.declared.call.Mark.TheVariants as mark
 use Rattle.qmodel.specs.declared.open_call.Blocked.{Blocked}
-use Rattle.qmodel.specs.Trace.{Event}
+use Rattle.qrules.specs.Trace.{Event}
 use Rattle.qworked.specs.Runs.{event, ended, blocked}
 use Rattle.qworked.specs.Setting.{connected}
 
@@ -38,7 +39,9 @@ greater_first = connected (
     event 2 (Send 2 (0xaa ∷ []) []) []
     ∷ event 3 (Pulse 2 19 (pos 1) (pos 0)) (ended 4 3 mark.Ok [] ∷ [])
     ∷ event 3 (Pulse 2 21 (pos 2) (pos 0)) (ended 5 3 mark.Ok [] ∷ [])
-    ∷ event 1 (Receive 1 (0x00 ∷ [])) (ended 6 1 (mark.Pulse 5 21 (what.User (pos 2) (pos 0))) (0x00 ∷ []) ∷ [])
+    ∷ event 1 (Receive 1 (0x00 ∷ []))
+    (ended 6 1 (mark.Pulse 5 21 (what.User (pos 2) (pos 0))) (0x00 ∷ []) ∷ [])
     ∷ event 1 (Receive 1 (0x00 ∷ [])) (ended 7 1 (mark.Message 3 1) (0xaa ∷ []) ∷ [])
-    ∷ event 1 (Receive 1 (0x00 ∷ [])) (ended 8 1 (mark.Pulse 4 19 (what.User (pos 1) (pos 0))) (0x00 ∷ []) ∷ [])
+    ∷ event 1 (Receive 1 (0x00 ∷ []))
+    (ended 8 1 (mark.Pulse 4 19 (what.User (pos 1) (pos 0))) (0x00 ∷ []) ∷ [])
     ∷ [])

@@ -3,7 +3,7 @@ use Rattle.std.specs.Prelude.{List, [], ◌∷◌, pos}
 use Rattle.qbase.specs.declared.errno.Errno.TheVariants.{Srch}
 use Rattle.qmodel.specs.declared.call.Call.TheVariants.{Send, Receive, Reply, Error, Read, Write, Info}
 use Rattle.qmodel.specs.declared.call.Mark.TheVariants as mark
-use Rattle.qmodel.specs.Trace.{Event}
+use Rattle.qrules.specs.Trace.{Event}
 use Rattle.qworked.specs.Runs.{event, ended}
 use Rattle.qworked.specs.Setting.{connected}
 
@@ -18,7 +18,8 @@ events = connected (
     ∷ event 3 (Read 3 0 (0x07 ∷ [])) (ended 8 3 (mark.Failed Srch) (0x07 ∷ []) ∷ [])
     ∷ event 3 (Write 3 0 (0x09 ∷ [])) (ended 9 3 (mark.Failed Srch) [] ∷ [])
     ∷ event 3 (Info 3) (ended 10 3 (mark.Failed Srch) [] ∷ [])
-    ∷ event 4 (Reply 3 (pos 0) []) (ended 3 2 (mark.Replied (pos 0) 0) (0x00 ∷ []) ∷ ended 11 4 mark.Ok [] ∷ [])
+    ∷ event 4 (Reply 3 (pos 0) [])
+    (ended 3 2 (mark.Replied (pos 0) 0) (0x00 ∷ []) ∷ ended 11 4 mark.Ok [] ∷ [])
     ∷ event 4 (Error 3 (pos 5)) (ended 12 4 (mark.Failed Srch) [] ∷ [])
     ∷ event 4 (Write 3 0 (0x09 ∷ [])) (ended 13 4 (mark.Failed Srch) [] ∷ [])
     ∷ [])

@@ -1,8 +1,9 @@
--- What is written later goes over what was written before, and the reply over both. A message is answered with a negative code.
+-- What is written later goes over what was written before, and the reply over both. A message is answered
+-- with a negative code.
 use Rattle.std.specs.Prelude.{List, [], ◌∷◌, pos, negsuc}
 use Rattle.qmodel.specs.declared.call.Call.TheVariants.{Send, Receive, Reply, Error, Write}
 use Rattle.qmodel.specs.declared.call.Mark.TheVariants as mark
-use Rattle.qmodel.specs.Trace.{Event}
+use Rattle.qrules.specs.Trace.{Event}
 use Rattle.qworked.specs.Runs.{event, ended}
 use Rattle.qworked.specs.ThreeProcesses.{attached}
 
@@ -13,7 +14,8 @@ events = attached (
     ∷ event 31 (Receive 1 []) (ended 5 31 (mark.Message 4 0) [] ∷ [])
     ∷ event 31 (Write 4 1 (0xaa ∷ 0xbb ∷ [])) (ended 6 31 (mark.Count 2) [] ∷ [])
     ∷ event 35 (Write 4 2 (0xcc ∷ [])) (ended 7 35 (mark.Count 1) [] ∷ [])
-    ∷ event 35 (Reply 4 (pos 61) (0xdd ∷ 0xee ∷ [])) (ended 8 35 mark.Ok [] ∷ ended 4 43 (mark.Replied (pos 61) 2) (0xdd ∷ 0xee ∷ 0xcc ∷ 0x00 ∷ []) ∷ [])
+    ∷ event 35 (Reply 4 (pos 61) (0xdd ∷ 0xee ∷ []))
+    (ended 8 35 mark.Ok [] ∷ ended 4 43 (mark.Replied (pos 61) 2) (0xdd ∷ 0xee ∷ 0xcc ∷ 0x00 ∷ []) ∷ [])
     ∷ [])
 
 -- the code -4, after a byte was written
@@ -22,5 +24,6 @@ negative_code = attached (
     event 43 (Send 2 [] (0x00 ∷ 0x00 ∷ [])) []
     ∷ event 31 (Receive 1 []) (ended 5 31 (mark.Message 4 0) [] ∷ [])
     ∷ event 31 (Write 4 1 (0xaa ∷ [])) (ended 6 31 (mark.Count 1) [] ∷ [])
-    ∷ event 35 (Error 4 (negsuc 3)) (ended 7 35 mark.Ok [] ∷ ended 4 43 (mark.Errored (negsuc 3)) (0x00 ∷ 0xaa ∷ []) ∷ [])
+    ∷ event 35 (Error 4 (negsuc 3))
+    (ended 7 35 mark.Ok [] ∷ ended 4 43 (mark.Errored (negsuc 3)) (0x00 ∷ 0xaa ∷ []) ∷ [])
     ∷ [])

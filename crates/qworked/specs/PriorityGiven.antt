@@ -5,7 +5,7 @@ use Rattle.qbase.specs.declared.state.ThreadState.TheVariants.{Ready}
 use Rattle.qqueue.specs.declared.item.What.TheVariants as what
 use Rattle.qmodel.specs.declared.call.Call.TheVariants.{Receive, Pulse, PrioritySet, State}
 use Rattle.qmodel.specs.declared.call.Mark.TheVariants as mark
-use Rattle.qmodel.specs.Trace.{Event}
+use Rattle.qrules.specs.Trace.{Event}
 use Rattle.qworked.specs.Runs.{event, ended}
 use Rattle.qworked.specs.Setting.{connected}
 
@@ -13,7 +13,8 @@ use Rattle.qworked.specs.Setting.{connected}
 abbrev pub events : List Event
 events = connected (
     event 1 (Receive 1 []) []
-    ∷ event 3 (Pulse 2 33 (pos 1) (pos 0)) (ended 3 1 (mark.Pulse 4 33 (what.User (pos 1) (pos 0))) [] ∷ ended 4 3 mark.Ok [] ∷ [])
+    ∷ event 3 (Pulse 2 33 (pos 1) (pos 0))
+    (ended 3 1 (mark.Pulse 4 33 (what.User (pos 1) (pos 0))) [] ∷ ended 4 3 mark.Ok [] ∷ [])
     ∷ event 1 (State 1) (ended 5 1 (mark.State Ready 33) [] ∷ [])
     ∷ event 4 (PrioritySet 1 12) (ended 6 4 mark.Ok [] ∷ [])
     ∷ event 1 (State 1) (ended 7 1 (mark.State Ready 12) [] ∷ [])

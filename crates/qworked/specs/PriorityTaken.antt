@@ -1,10 +1,12 @@
--- A server takes the priority of what it receives and sends with it, unless its channel leaves priorities as they are.
+-- A server takes the priority of what it receives and sends with it, unless its channel leaves priorities as
+-- they are.
 use Rattle.std.specs.Prelude.{List, [], ◌∷◌}
 use Rattle.qbase.specs.declared.state.ThreadState.TheVariants.{Ready, ReplyBlocked}
-use Rattle.qmodel.specs.declared.call.Call.TheVariants.{ChannelCreate, ConnectAttach, Send, Receive, Info, PrioritySet, State}
+use Rattle.qmodel.specs.declared.call.Call.TheVariants.{ChannelCreate, ConnectAttach, Send, Receive, Info}
+use Rattle.qmodel.specs.declared.call.Call.TheVariants.{PrioritySet, State}
 use Rattle.qmodel.specs.declared.call.Mark.TheVariants as mark
 use Rattle.qmodel.specs.declared.open_call.Blocked.{Blocked}
-use Rattle.qmodel.specs.Trace.{Event}
+use Rattle.qrules.specs.Trace.{Event}
 use Rattle.qworked.specs.Runs.{event, ended, blocked, flags_of}
 use Rattle.qworked.specs.Setting.{connected}
 
@@ -19,14 +21,25 @@ carried_on = connected (
     ∷ event 1 (ConnectAttach 7) (ended 8 1 (mark.Connection 8) [] ∷ [])
     ∷ event 1 (Send 8 (0xbb ∷ []) []) []
     ∷ event 3 (Receive 7 []) (ended 10 3 (mark.Message 9 0) [] ∷ [])
-    ∷ event 3 (Info 9) (ended 11 3 (mark.Info (record { process = 1; thread = 1; connection = 8; msglen = 0; srcmsglen = 1; dstmsglen = 0; priority = 40 })) [] ∷ [])
+    ∷ event 3 (Info 9)
+    (ended 11 3
+    (mark.Info
+    (record {
+      process = 1;
+      thread = 1;
+      connection = 8;
+      msglen = 0;
+      srcmsglen = 1;
+      dstmsglen = 0;
+      priority = 40;
+    })) [] ∷ [])
     ∷ [])
 
 -- both messages are held, each on its channel
 abbrev pub both_wait : List Blocked
 both_wait = blocked 9 1 (ReplyBlocked 7) ∷ blocked 4 2 (ReplyBlocked 1) ∷ []
 
--- the same receipt on a channel that leaves priorities as they are
+-- such a receipt on a channel that fixes priorities
 abbrev pub fixed : List Event
 fixed = connected (
     event 1 (ChannelCreate (flags_of 1)) (ended 3 1 (mark.Channel 3) [] ∷ [])

@@ -1,11 +1,12 @@
--- A receive that takes pulses alone takes a pulse though a message was sent before it, and waits though a message is pending.
+-- A receive that takes pulses alone takes a pulse though a message was sent before it, and waits though a
+-- message is pending.
 use Rattle.std.specs.Prelude.{List, [], ◌∷◌, pos}
 use Rattle.qbase.specs.declared.state.ThreadState.TheVariants.{ReceiveBlocked, ReplyBlocked}
 use Rattle.qqueue.specs.declared.item.What.TheVariants as what
 use Rattle.qmodel.specs.declared.call.Call.TheVariants.{Send, Receive, ReceivePulse, Pulse}
 use Rattle.qmodel.specs.declared.call.Mark.TheVariants as mark
 use Rattle.qmodel.specs.declared.open_call.Blocked.{Blocked}
-use Rattle.qmodel.specs.Trace.{Event}
+use Rattle.qrules.specs.Trace.{Event}
 use Rattle.qworked.specs.Runs.{event, ended, blocked}
 use Rattle.qworked.specs.Setting.{connected}
 

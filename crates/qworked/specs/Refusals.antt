@@ -3,7 +3,7 @@ use Rattle.std.specs.Prelude.{List, [], ◌∷◌, pos}
 use Rattle.qbase.specs.declared.errno.Errno.TheVariants.{Srch, Badf, Inval, Busy}
 use Rattle.qmodel.specs.declared.call.Call.TheVariants.{ChannelCreate, ConnectAttach, Send, Receive, Reply}
 use Rattle.qmodel.specs.declared.call.Mark.TheVariants as mark
-use Rattle.qmodel.specs.Trace.{Event}
+use Rattle.qrules.specs.Trace.{Event}
 use Rattle.qworked.specs.Runs.{event, ended, flags_of}
 use Rattle.qworked.specs.Setting.{connected}
 

@@ -1,9 +1,10 @@
--- Pulses with a negative code or over another process's connection, and what is asked of another process's channel.
+-- Pulses with a negative code or over another process's connection, and what is asked of another process's
+-- channel.
 use Rattle.std.specs.Prelude.{List, [], ◌∷◌, pos, negsuc}
 use Rattle.qbase.specs.declared.errno.Errno.TheVariants.{Srch, Badf, Inval}
 use Rattle.qmodel.specs.declared.call.Call.TheVariants.{Receive, ReceivePulse, Pulse, ChannelDestroy}
 use Rattle.qmodel.specs.declared.call.Mark.TheVariants as mark
-use Rattle.qmodel.specs.Trace.{Event}
+use Rattle.qrules.specs.Trace.{Event}
 use Rattle.qworked.specs.Runs.{event, ended}
 use Rattle.qworked.specs.Setting.{connected}
 

@@ -1,5 +1,7 @@
 -- How a run is written out.
-use Rattle.std.specs.Prelude.{◌≡◌, ◌⊎◌, ℕ, ◌-◌, ◌==◌, List, [], ◌∷◌, take, if◌then◌else◌}
+use Rattle.std.specs.Prelude.{◌≡◌, ◌⊎◌, ℕ, ◌-◌, ◌==◌, List, [], ◌∷◌, take, filter_map, Option, option_map}
+use Rattle.std.specs.Prelude.{if◌then◌else◌}
+use Rattle.std.specs.Option.{option_or}
 use Rattle.qbase.specs.declared.errno.Errno.TheVariants.{NoMemory}
 use Rattle.qbase.specs.declared.flags.ChannelFlags.{ChannelFlags}
 use Rattle.qbase.specs.declared.state.ThreadState.{ThreadState}
@@ -9,10 +11,13 @@ use Rattle.qmodel.specs.declared.call.Completion.{Completion}
 use Rattle.qmodel.specs.declared.call.Mark.{Mark}
 use Rattle.qmodel.specs.declared.call.Mark.TheVariants as mark
 use Rattle.qmodel.specs.declared.open_call.Blocked.{Blocked}
-use Rattle.qmodel.specs.Blocked.{blocked_threads_at}
-use Rattle.qmodel.specs.Effects.{buffer_of}
-use Rattle.qmodel.specs.Lawful.{IsLawful, followed_by}
-use Rattle.qmodel.specs.Trace.{Event}
+use Rattle.qrules.specs.Facts.{receive_of, send_of, threads_of, Facts}
+use Rattle.qrules.specs.Rules.Threads.{state_of}
+use Rattle.qrules.specs.Rule.{buffer_of}
+use Rattle.qrules.specs.Rules.{effect_of}
+use Rattle.qrules.specs.Lawful.{facts_of, IsLawful}
+use Rattle.qrules.specs.Trace.{followed_by}
+use Rattle.qrules.specs.Trace.{Event}
 
 -- a thread, its process and its priority
 abbrev pub member : ℕ → ℕ → ℕ → Member
@@ -42,16 +47,23 @@ IsLawfulRun roster events = IsLawful roster (followed_by [] events)
 abbrev pub IsUnlawfulRun : List Member → List Event → Type 0
 IsUnlawfulRun roster events = IsLawfulRun roster events → ⊥
 
+-- what is told of thread t, if it waits in an open call
+abbrev pub blocked_in : Facts → ℕ → Option Blocked
+blocked_in f t = option_map (λ n. blocked n t (state_of f t))
+    (option_or (option_map (λ s. s.number) (send_of f t)) (option_map (λ r. r.number) (receive_of f t)))
+
 -- who is blocked after the events
 abbrev pub blocked_after : List Member → List Event → List Blocked
-blocked_after roster events = blocked_threads_at roster (followed_by [] events)
+blocked_after roster events = filter_map (blocked_in (facts_of roster (followed_by [] events)))
+    (threads_of roster)
 
 -- ---- other endings
 
--- the same events, but these are the endings of event n
+-- these events, with other endings of event n
 abbrev pub with_endings : ℕ → List Completion → List Event → List Event
 with_endings n endings [] = []
-with_endings n endings (e ∷ events) = if n == 1 then event e.thread e.call endings ∷ events else e ∷ with_endings (n - 1) endings events
+with_endings n endings (e ∷ events) = if n == 1 then event e.thread e.call endings ∷ events else e
+    ∷ with_endings (n - 1) endings events
 
 -- what is told of event n
 abbrev pub of_event : (Event → List Completion) → ℕ → List Event → List Completion
@@ -64,7 +76,8 @@ endings_at n events = of_event (λ e. e.endings) n events
 
 -- event n as it ends where memory runs out: refused, with its buffer as it was
 abbrev pub refused_at : ℕ → List Event → List Completion
-refused_at n events = of_event (λ e. ended n e.thread (mark.Failed NoMemory) (buffer_of e.call) ∷ []) n events
+refused_at n events = of_event
+    (λ e. ended n e.thread (mark.Failed NoMemory) (buffer_of (effect_of e.call)) ∷ []) n events
 
 -- the events up to event n are a lawful trace where it has these endings
 abbrev pub MayEnd : List Member → List Event → ℕ → List Completion → Type 0
@@ -72,10 +85,12 @@ MayEnd roster events n endings = IsLawfulRun roster (with_endings n endings (tak
 
 -- event n has just the endings that are written: none is changed, left out or added
 abbrev pub EndsOnlySo : List Member → List Event → ℕ → Type 0
-EndsOnlySo roster events n = (endings : List Completion) → MayEnd roster events n endings → endings ≡ endings_at n events
+EndsOnlySo roster events n = (endings : List Completion) → MayEnd roster events n endings → endings
+    ≡ endings_at n events
 
 -- event n is refused where memory runs out, and else has just the endings that are written
 abbrev pub EndsOnlySoWithMemory : List Member → List Event → ℕ → Type 0
 EndsOnlySoWithMemory roster events n =
     MayEnd roster events n (refused_at n events)
-    × ((endings : List Completion) → MayEnd roster events n endings → (endings ≡ endings_at n events) ⊎ (endings ≡ refused_at n events))
+    × ((endings : List Completion) → MayEnd roster events n endings → (endings ≡ endings_at n events) ⊎
+    (endings ≡ refused_at n events))

@@ -3,7 +3,7 @@ use Rattle.std.specs.Prelude.{List, [], ◌∷◌}
 use Rattle.qtables.specs.declared.member.Member.{Member}
 use Rattle.qmodel.specs.declared.call.Call.TheVariants.{ChannelCreate, ConnectAttach}
 use Rattle.qmodel.specs.declared.call.Mark.TheVariants as mark
-use Rattle.qmodel.specs.Trace.{Event}
+use Rattle.qrules.specs.Trace.{Event}
 use Rattle.qworked.specs.Runs.{member, event, ended, flags_of}
 
 -- a server's process of threads 1 and 4, and a client's of threads 2 and 3

@@ -1,9 +1,10 @@
 -- A blocked thread is busy. A shutdown ends every open call, and every later call is refused.
 use Rattle.std.specs.Prelude.{List, [], ◌∷◌}
 use Rattle.qbase.specs.declared.errno.Errno.TheVariants.{Srch, Busy, Down}
-use Rattle.qmodel.specs.declared.call.Call.TheVariants.{ChannelCreate, Send, Receive, Write, ReceivePulse, State, Shutdown}
+use Rattle.qmodel.specs.declared.call.Call.TheVariants.{ChannelCreate, Send, Receive, Write, ReceivePulse}
+use Rattle.qmodel.specs.declared.call.Call.TheVariants.{State, Shutdown}
 use Rattle.qmodel.specs.declared.call.Mark.TheVariants as mark
-use Rattle.qmodel.specs.Trace.{Event}
+use Rattle.qrules.specs.Trace.{Event}
 use Rattle.qworked.specs.Runs.{event, ended, flags_of}
 use Rattle.qworked.specs.Setting.{connected}
 
@@ -26,5 +27,7 @@ all_ended = connected (
     ∷ event 1 (Write 3 0 (0xff ∷ [])) (ended 5 1 (mark.Count 1) [] ∷ [])
     ∷ event 3 (Send 2 (0xbb ∷ []) (0x08 ∷ [])) []
     ∷ event 4 (ReceivePulse 1) []
-    ∷ event 1 Shutdown (ended 8 1 mark.Ok [] ∷ ended 3 2 (mark.Failed Srch) (0xff ∷ []) ∷ ended 6 3 (mark.Failed Srch) (0x08 ∷ []) ∷ ended 7 4 (mark.Failed Srch) [] ∷ [])
+    ∷ event 1 Shutdown
+    (ended 8 1 mark.Ok [] ∷ ended 3 2 (mark.Failed Srch) (0xff ∷ []) ∷ ended 6 3 (mark.Failed Srch)
+    (0x08 ∷ []) ∷ ended 7 4 (mark.Failed Srch) [] ∷ [])
     ∷ [])

@@ -1,15 +1,16 @@
--- The id of a message whose sender was unblocked answers nothing, even while the sender waits in another Send.
+-- The id of a message whose sender was unblocked answers nothing, even while the sender waits in another
+-- Send.
 use Rattle.std.specs.Prelude.{List, [], ◌∷◌, pos}
 use Rattle.qbase.specs.declared.errno.Errno.TheVariants.{Srch, Intr}
 use Rattle.qbase.specs.declared.state.ThreadState.TheVariants.{ReplyBlocked}
 use Rattle.qmodel.specs.declared.call.Call.TheVariants.{Send, Receive, Reply, Unblock}
 use Rattle.qmodel.specs.declared.call.Mark.TheVariants as mark
 use Rattle.qmodel.specs.declared.open_call.Blocked.{Blocked}
-use Rattle.qmodel.specs.Trace.{Event}
+use Rattle.qrules.specs.Trace.{Event}
 use Rattle.qworked.specs.Runs.{event, ended, blocked}
 use Rattle.qworked.specs.Setting.{connected}
 
--- a Send is cut, and the same thread sends again
+-- a Send is cancelled, and the same thread sends again
 abbrev pub events : List Event
 events = connected (
     event 2 (Send 2 (0xaa ∷ []) (0x00 ∷ [])) []

@@ -1,9 +1,10 @@
 -- What a thread is told of another's state, through a receipt and an answer.
 use Rattle.std.specs.Prelude.{List, [], ◌∷◌, pos}
-use Rattle.qbase.specs.declared.state.ThreadState.TheVariants.{Ready, SendBlocked, ReceiveBlocked, ReplyBlocked}
+use Rattle.qbase.specs.declared.state.ThreadState.TheVariants.{Ready, SendBlocked, ReceiveBlocked}
+use Rattle.qbase.specs.declared.state.ThreadState.TheVariants.{ReplyBlocked}
 use Rattle.qmodel.specs.declared.call.Call.TheVariants.{Send, Receive, Reply, State}
 use Rattle.qmodel.specs.declared.call.Mark.TheVariants as mark
-use Rattle.qmodel.specs.Trace.{Event}
+use Rattle.qrules.specs.Trace.{Event}
 use Rattle.qworked.specs.Runs.{event, ended}
 use Rattle.qworked.specs.Setting.{connected}
 

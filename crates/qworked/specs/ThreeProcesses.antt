@@ -1,16 +1,19 @@
--- A setting in which no number stands for two things: three processes, their threads, a channel with all three flags, and a connection of each client.
+-- A setting in which no number stands for two things: three processes, their threads, a channel with all
+-- three flags, and a connection of each client.
 use Rattle.std.specs.Prelude.{List, [], ◌∷◌}
 use Rattle.qtables.specs.declared.member.Member.{Member}
 use Rattle.qmodel.specs.declared.call.Call.TheVariants.{ChannelCreate, ConnectAttach}
 use Rattle.qmodel.specs.declared.call.Mark.TheVariants as mark
-use Rattle.qmodel.specs.Trace.{Event}
+use Rattle.qrules.specs.Trace.{Event}
 use Rattle.qworked.specs.Runs.{member, event, ended, flags_of}
 
--- a server's process 107 of threads 31 and 35, a client's 152 of threads 42 and 43, and another client's 189 of thread 54
+-- a server's process 107 of threads 31 and 35, a client's 152 of threads 42 and 43, and another client's 189
+-- of thread 54
 abbrev pub roster : List Member
 roster = member 31 107 14 ∷ member 35 107 17 ∷ member 42 152 20 ∷ member 43 152 23 ∷ member 54 189 26 ∷ []
 
--- the server has channel 1 with all three flags, the clients have connections 2 and 3 to it, and then these events follow
+-- the server has channel 1 with all three flags, the clients have connections 2 and 3 to it, and then these
+-- events follow
 abbrev pub attached : List Event → List Event
 attached events =
     event 31 (ChannelCreate (flags_of 7)) (ended 1 31 (mark.Channel 1) [] ∷ [])

@@ -1,11 +1,13 @@
--- On a channel with the unblock flag the client of a held message stays blocked, and its server gets one pulse.
+-- On a channel with the unblock flag the client of a held message stays blocked, and its server gets one
+-- pulse.
 use Rattle.std.specs.Prelude.{List, [], ◌∷◌, pos}
 use Rattle.qbase.specs.declared.state.ThreadState.TheVariants.{ReceiveBlocked}
 use Rattle.qqueue.specs.declared.item.What.TheVariants as what
-use Rattle.qmodel.specs.declared.call.Call.TheVariants.{ChannelCreate, ConnectAttach, Send, Receive, Reply, ReceivePulse, Unblock}
+use Rattle.qmodel.specs.declared.call.Call.TheVariants.{ChannelCreate, ConnectAttach, Send, Receive, Reply}
+use Rattle.qmodel.specs.declared.call.Call.TheVariants.{ReceivePulse, Unblock}
 use Rattle.qmodel.specs.declared.call.Mark.TheVariants as mark
 use Rattle.qmodel.specs.declared.open_call.Blocked.{Blocked}
-use Rattle.qmodel.specs.Trace.{Event}
+use Rattle.qrules.specs.Trace.{Event}
 use Rattle.qworked.specs.Runs.{event, ended, blocked, flags_of}
 use Rattle.qworked.specs.Setting.{connected}
 
@@ -37,7 +39,8 @@ still_waiting = blocked 10 1 (ReceiveBlocked 3) ∷ []
 abbrev pub taken_at_once : List Event
 taken_at_once = held (
     event 1 (Receive 3 (0x00 ∷ [])) []
-    ∷ event 3 (Unblock 2) (ended 7 1 (mark.Pulse 8 20 (what.Unblock 5)) (0x00 ∷ []) ∷ ended 8 3 mark.Ok [] ∷ [])
+    ∷ event 3 (Unblock 2)
+    (ended 7 1 (mark.Pulse 8 20 (what.Unblock 5)) (0x00 ∷ []) ∷ ended 8 3 mark.Ok [] ∷ [])
     ∷ event 1 (Receive 3 []) []
     ∷ event 3 (Unblock 2) (ended 10 3 mark.Ok [] ∷ [])
     ∷ [])

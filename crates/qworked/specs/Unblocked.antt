@@ -4,11 +4,12 @@ use Rattle.qbase.specs.declared.errno.Errno.TheVariants.{Srch, Intr}
 use Rattle.qqueue.specs.declared.item.What.TheVariants as what
 use Rattle.qmodel.specs.declared.call.Call.TheVariants.{Send, Receive, ReceivePulse, Pulse, Unblock}
 use Rattle.qmodel.specs.declared.call.Mark.TheVariants as mark
-use Rattle.qmodel.specs.Trace.{Event}
+use Rattle.qrules.specs.Trace.{Event}
 use Rattle.qworked.specs.Runs.{event, ended}
 use Rattle.qworked.specs.Setting.{connected}
 
--- a message is cut before its receipt and never received; another process's thread and an unknown one are refused
+-- a message is cancelled before its receipt and never received; another process's thread and an unknown one
+-- are refused
 abbrev pub events : List Event
 events = connected (
     event 2 (Send 2 (0xaa ∷ []) (0x00 ∷ [])) []

@@ -1,9 +1,9 @@
--- A server that waits takes a message as it is sent; what is copied goes over the front of its buffer, and the reply over the front of the
--- sender's.
+-- A server that waits takes a message as it is sent; what is copied goes over the front of its buffer, and
+-- the reply over the front of the sender's.
 use Rattle.std.specs.Prelude.{List, [], ◌∷◌, ℕ, replicate, pos}
 use Rattle.qmodel.specs.declared.call.Call.TheVariants.{Send, Receive, Reply}
 use Rattle.qmodel.specs.declared.call.Mark.TheVariants as mark
-use Rattle.qmodel.specs.Trace.{Event}
+use Rattle.qrules.specs.Trace.{Event}
 use Rattle.qworked.specs.Runs.{event, ended}
 use Rattle.qworked.specs.Setting.{connected}
 
@@ -20,5 +20,6 @@ abbrev pub events : List Event
 events = connected (
     event 1 (Receive 1 (replicate 8 0xaa)) []
     ∷ event 2 (Send 2 hello (replicate 4 0x00)) (ended 3 1 (mark.Message 4 5) hello_over ∷ [])
-    ∷ event 1 (Reply 4 (pos 0) (0xff ∷ [])) (ended 5 1 mark.Ok [] ∷ ended 4 2 (mark.Replied (pos 0) 1) (0xff ∷ 0x00 ∷ 0x00 ∷ 0x00 ∷ []) ∷ [])
+    ∷ event 1 (Reply 4 (pos 0) (0xff ∷ []))
+    (ended 5 1 mark.Ok [] ∷ ended 4 2 (mark.Replied (pos 0) 1) (0xff ∷ 0x00 ∷ 0x00 ∷ 0x00 ∷ []) ∷ [])
     ∷ [])

@@ -1,20 +1,20 @@
 //! Runs that break one of the properties of a lawful trace: the property refuses them.
 
 ghost use Rattle.std.specs.Prelude.{[]};
-ghost use Rattle.qmodel.specs.Headline.AnsweredToSender.{AnsweredToSender};
-ghost use Rattle.qmodel.specs.Headline.BestFirst.{BestFirst};
-ghost use Rattle.qmodel.specs.Headline.CopiedExactly.{CopiedExactly};
-ghost use Rattle.qmodel.specs.Headline.ReceivedOnce.{ReceivedOnce};
-ghost use Rattle.qmodel.specs.Headline.SentOrder.{SentOrder};
-ghost use Rattle.qmodel.specs.Headline.ShutForGood.{ShutForGood};
-ghost use Rattle.qmodel.specs.Lawful.{IsLawful};
+ghost use Rattle.qrules.specs.Properties.{AnsweredToSender};
+ghost use Rattle.qrules.specs.Properties.{BestFirst};
+ghost use Rattle.qrules.specs.Properties.{CopiedExactly};
+ghost use Rattle.qrules.specs.Properties.{ReceivedOnce};
+ghost use Rattle.qrules.specs.Properties.{SentOrder};
+ghost use Rattle.qrules.specs.Properties.{ShutForGood};
+ghost use Rattle.qrules.specs.Lawful.{IsLawful};
 ghost use Rattle.qworked.specs.Broken.Answered as answered;
 ghost use Rattle.qworked.specs.Broken.Copied as copied;
 ghost use Rattle.qworked.specs.Broken.Held.{held, run_of, sent};
 ghost use Rattle.qworked.specs.Broken.Received as received;
 ghost use Rattle.qworked.specs.Broken.Shut as shut;
 ghost use Rattle.qworked.specs.Broken.Taken as taken;
-ghost use Rattle.qmodel.specs.OnlyRun.{HadMemory};
+ghost use Rattle.qrules.specs.Lawful.{HadMemory};
 ghost use Rattle.qworked.specs.FirstRun as first;
 ghost use Rattle.qworked.specs.Runs.{refused_at, with_endings};
 ghost use Rattle.qworked.specs.ThreeProcesses.{roster};
@@ -73,6 +73,7 @@ pub fn best_first()
     ensures later { BestFirst roster taken.later → ⊥ }
     ensures by_a_pulse_receive { BestFirst roster taken.by_a_pulse_receive → ⊥ }
     ensures on_another_channel { BestFirst roster taken.on_another_channel → ⊥ }
+    ensures raised_passed_over { BestFirst roster taken.raised_passed_over → ⊥ }
 {}
 
 /// Of two equals over one connection the later isn't received first.
@@ -80,6 +81,7 @@ pub fn sent_order()
     ensures overtaken { SentOrder roster taken.overtaken → ⊥ }
     ensures overtaken_by_a_pulse { SentOrder roster taken.overtaken_by_a_pulse → ⊥ }
     ensures overtaken_when_raised { SentOrder roster taken.overtaken_when_raised → ⊥ }
+    ensures overtaken_when_lowered { SentOrder roster taken.overtaken_when_lowered → ⊥ }
 {}
 
 /// Nothing is received from a destroyed channel, and nobody stays blocked on it.

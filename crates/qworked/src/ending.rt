@@ -22,11 +22,11 @@ pub fn stale_id()
 /// A thread that waits in a Send or a receive is unblocked.
 pub fn unblocked()
     ensures lawful { IsLawfulRun roster unblocked.events }
-    ensures cut { EndsOnlySo roster unblocked.events 4 }
+    ensures cancelled { EndsOnlySo roster unblocked.events 4 }
     ensures not_blocked { EndsOnlySo roster unblocked.events 5 }
     ensures of_others { EndsOnlySo roster unblocked.events 6 }
     ensures of_none { EndsOnlySo roster unblocked.events 7 }
-    ensures receiver_cut { EndsOnlySo roster unblocked.events 9 }
+    ensures receiver_cancelled { EndsOnlySo roster unblocked.events 9 }
     ensures pulsed { EndsOnlySoWithMemory roster unblocked.events 10 }
     ensures message_gone { EndsOnlySo roster unblocked.events 11 }
 {}
@@ -34,7 +34,7 @@ pub fn unblocked()
 /// A detached connection ends what was sent over it and isn't received.
 pub fn detached_connection()
     ensures lawful { IsLawfulRun roster detached.waiting }
-    ensures cut { EndsOnlySo roster detached.waiting 4 }
+    ensures cancelled { EndsOnlySo roster detached.waiting 4 }
     ensures detached_again { EndsOnlySo roster detached.waiting 5 }
     ensures sent { EndsOnlySo roster detached.waiting 6 }
     ensures message_gone { EndsOnlySo roster detached.waiting 7 }
@@ -45,10 +45,28 @@ pub fn detached_connection()
 pub fn detached_while_held()
     ensures lawful { IsLawfulRun roster detached.held }
     ensures of_others { EndsOnlySo roster detached.held 5 }
-    ensures cut { EndsOnlySo roster detached.held 7 }
+    ensures cancelled { EndsOnlySo roster detached.held 7 }
     ensures answered { EndsOnlySo roster detached.held 8 }
     ensures over_another { EndsOnlySo roster detached.held 10 }
     ensures of_none { EndsOnlySo roster detached.held 11 }
+{}
+
+/// A detached connection ends nothing that was sent over another one of its process to the same channel.
+pub fn held_beside_another_connection()
+    ensures lawful { IsLawfulRun roster detached.beside_another }
+    ensures told { EndsOnlySo roster detached.beside_another 6 }
+    ensures detached { EndsOnlySo roster detached.beside_another 7 }
+    ensures answered { EndsOnlySo roster detached.beside_another 8 }
+{}
+
+/// A message that was sent over the older of two connections is told of and ended by that one.
+pub fn held_beside_a_newer_connection()
+    ensures lawful { IsLawfulRun roster detached.beside_a_newer }
+    ensures told { EndsOnlySo roster detached.beside_a_newer 6 }
+    ensures detached { EndsOnlySo roster detached.beside_a_newer 7 }
+    ensures still_held { EndsOnlySo roster detached.beside_a_newer 8 }
+    ensures cancelled { EndsOnlySo roster detached.beside_a_newer 9 }
+    ensures answered { EndsOnlySo roster detached.beside_a_newer 10 }
 {}
 
 /// The server of a channel with the disconnect flag is told once, of the last connection of a process.

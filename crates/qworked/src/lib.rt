@@ -5,6 +5,7 @@
 #![tactic(auto)]
 
 pub mod broken;
+pub mod copied;
 pub mod ending;
 pub mod messages;
 pub mod moving;

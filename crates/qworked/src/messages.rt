@@ -7,9 +7,11 @@ ghost use Rattle.qworked.specs.FirstRun as first;
 ghost use Rattle.qworked.specs.GreatestFirst as greatest;
 ghost use Rattle.qworked.specs.HeldMessage as held;
 ghost use Rattle.qworked.specs.NewestReceiver as receivers;
+ghost use Rattle.qworked.specs.PastTheEnd as past_the_end;
 ghost use Rattle.qworked.specs.WaitingReceiver as waiting;
 ghost use Rattle.qworked.specs.Runs.{EndsOnlySo, EndsOnlySoWithMemory, IsLawfulRun, IsUnlawfulRun, blocked_after};
 ghost use Rattle.qworked.specs.Setting.{roster};
+ghost use Rattle.qworked.specs.ThreeProcesses as three;
 
 /// A server creates a channel; a client attaches to it and sends; the server receives and replies.
 pub fn first_run()
@@ -87,6 +89,19 @@ pub fn held_message()
     ensures written { EndsOnlySo roster held.events 7 }
     ensures answered { EndsOnlySo roster held.events 8 }
     ensures told_no_more { EndsOnlySo roster held.events 9 }
+{}
+
+/// An offset at the end or past it copies nothing and is no error.
+pub fn past_the_end()
+    ensures lawful { IsLawfulRun three.roster past_the_end.events }
+    ensures read_at_the_end { EndsOnlySo three.roster past_the_end.events 6 }
+    ensures read_past_the_end { EndsOnlySo three.roster past_the_end.events 7 }
+    ensures read_far_past { EndsOnlySo three.roster past_the_end.events 8 }
+    ensures written_at_the_end { EndsOnlySo three.roster past_the_end.events 9 }
+    ensures written_past_the_end { EndsOnlySo three.roster past_the_end.events 10 }
+    ensures written_far_past { EndsOnlySo three.roster past_the_end.events 11 }
+    ensures told { EndsOnlySo three.roster past_the_end.events 12 }
+    ensures answered { EndsOnlySo three.roster past_the_end.events 13 }
 {}
 
 /// An offset past the end copies nothing; a message is answered with a code and no bytes.

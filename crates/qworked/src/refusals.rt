@@ -2,7 +2,7 @@
 
 ghost use Rattle.std.specs.Prelude.{◌≡◌, [], ◌∷◌, pos, negsuc};
 ghost use Rattle.qbase.specs.declared.errno.Errno.TheVariants.{Again, Inval, Srch};
-ghost use Rattle.qmodel.specs.Answer.{Answers};
+ghost use Rattle.qrules.specs.Outcome.{Answers};
 ghost use Rattle.qmodel.specs.declared.call.Call.TheVariants.{ChannelCreate, ConnectAttach, ConnectDetach, Pulse, Unblock};
 ghost use Rattle.qmodel.specs.declared.call.Mark.TheVariants as mark;
 ghost use Rattle.qworked.specs.Counted as counted;

@@ -10,10 +10,7 @@ use crate::shared::FRONT;
 /// The result that a mark is of.
 macro_rules! result {
     ($mark:expr, $pattern:pat => $result:expr) => {
-        match $mark {
-            $pattern => Ok($result),
-            _ => Err(CallError::Unexpected),
-        }
+        if let $pattern = $mark { Ok($result) } else { Err(CallError::Unexpected) }
     };
 }
 

@@ -129,10 +129,7 @@ impl Error for CallError {}
 /// The kernel's refusal of a call.
 impl From<Errno> for CallError {
     fn from(errno: Errno) -> CallError {
-        match errno {
-            Errno::NoMemory => CallError::NoMemory,
-            errno => CallError::Refused(errno),
-        }
+        if errno == Errno::NoMemory { CallError::NoMemory } else { CallError::Refused(errno) }
     }
 }
 

@@ -95,18 +95,13 @@ impl Port {
         // doesn't return, nor unwind: what panics with the lock poisons it, and `wait` aborts.
         let lent = unsafe { Lent::of(buffer) };
         let mut locked = self.shared.lock();
-        let made = locked.make(&self.shared, self.thread.thread, lent, call);
-        if matches!(made, Ok((None, _))) {
+        let (own, asleep) = locked.make(&self.shared, self.thread.thread, lent, call);
+        if own.is_none() {
             locked.open(&self.shared, self.at, lent);
         }
         drop(locked);
-        let result = match made {
-            Err(errno) => Err(errno.into()),
-            Ok((own, asleep)) => {
-                asleep.iter().for_each(thread::Thread::unpark);
-                own.map_or_else(|| self.wait(end), |mark| outcome(mark, false))
-            }
-        };
+        asleep.iter().for_each(thread::Thread::unpark);
+        let result = own.map_or_else(|| self.wait(end), |mark| outcome(mark, false));
         #[cfg(feature = "record")]
         self.shared.record.end(self.at, result, buffer);
         result
@@ -143,16 +138,11 @@ impl Port {
         let unblock = Call::Unblock { thread: self.thread.thread };
         // SAFETY: it has no bytes.
         let none = unsafe { Lent::of(&mut []) };
-        let made = locked.make(&self.shared, clock, none, |_| unblock);
+        let (own, asleep) = locked.make(&self.shared, clock, none, |_| unblock);
         let is_late = place.is_ended();
         drop(locked);
-        match made {
-            Ok((Some(Mark::Done), asleep)) => {
-                asleep.iter().for_each(thread::Thread::unpark);
-                (is_late, None)
-            }
-            _ => (false, Some(Instant::now() + AGAIN)),
-        }
+        asleep.iter().for_each(thread::Thread::unpark);
+        (is_late, if own == Some(Mark::Done) { None } else { Some(Instant::now() + AGAIN) })
     }
 }
 

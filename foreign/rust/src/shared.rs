@@ -1,11 +1,13 @@
 //! The kernel under its lock, and how the endings of a call get to their threads.
 
 use crate::errors::{Errno, OpenError};
+use crate::ids::ReceiveId;
 use crate::kernel::{Call, Ending, Kernel, Mark, Thread};
 #[cfg(feature = "record")]
 use crate::record::Record;
 use crate::results::Info;
 use crate::sleeping::Place;
+use std::ops::Range;
 use std::process::abort;
 use std::sync::{Mutex, MutexGuard, TryLockError};
 use std::{hint, thread};
@@ -18,7 +20,7 @@ const LOCK_PAUSES: u32 = 8;
 
 /// How many bytes of a receive's buffer the kernel sees, which copies all of them. What a longer message has behind is
 /// read, if the buffer has room for it.
-pub(crate) const FRONT: usize = 4096;
+pub(crate) const FRONT: usize = 1024;
 
 /// The buffer of a call, which its thread lends until the call is ended.
 #[derive(Clone, Copy)]
@@ -60,15 +62,15 @@ pub(crate) struct Locked {
     msglens: [usize; 256],
 }
 
-/// How a call ended, if it did in its own event, and whom to wake, behind the lock.
+/// How a call ended, if it did at once, and whom to wake, behind the lock.
 pub(crate) type Made = (Option<Mark>, Vec<thread::Thread>);
 
 /// A kernel with the places of its ports.
 pub(crate) struct Shared {
     lock: Mutex<Locked>,
     pub(crate) places: Box<[Place]>,
-    /// By the number of a thread, which of the places is its.
-    place_of: [u8; 256],
+    /// By the number of a thread, which of the places is its. A clock has none.
+    place_of: [Option<usize>; 256],
     /// By the number of a process, the thread in whose name its calls time out.
     pub(crate) clock_of: [u8; 256],
     #[cfg(feature = "record")]
@@ -78,10 +80,10 @@ pub(crate) struct Shared {
 impl Shared {
     pub(crate) fn new(threads: &[Thread]) -> Result<Shared, OpenError> {
         let mut roster = threads.to_vec();
-        let (mut place_of, mut clock_of) = ([u8::MAX; 256], [0; 256]);
+        let (mut place_of, mut clock_of) = ([None; 256], [0; 256]);
         let mut free = (0..=u8::MAX).rev().filter(|number| threads.iter().all(|thread| thread.thread != *number));
         for (at, thread) in threads.iter().enumerate() {
-            place_of[usize::from(thread.thread)] = at as u8;
+            place_of[usize::from(thread.thread)] = Some(at);
             if threads[..at].iter().all(|earlier| earlier.process != thread.process) {
                 let clock = free.next().ok_or(OpenError::Refused(Errno::Again))?;
                 clock_of[usize::from(thread.process)] = clock;
@@ -97,12 +99,6 @@ impl Shared {
             #[cfg(feature = "record")]
             record: Record::new(&roster, threads.len()),
         })
-    }
-
-    /// The place of a thread that has a port.
-    pub(crate) fn place_of(&self, thread: u8) -> Option<usize> {
-        let at = usize::from(self.place_of[usize::from(thread)]);
-        (at < self.places.len()).then_some(at)
     }
 
     /// Takes the lock. If a thread broke off with it, the program is aborted: that thread's call would never end, nor
@@ -127,8 +123,8 @@ impl Locked {
         thread: u8,
         lent: Lent,
         call: impl FnOnce(&'a [u8]) -> Call<'a>,
-    ) -> Result<Made, Errno> {
-        let (mut own, mut asleep, mut long) = (None, Vec::new(), None);
+    ) -> Made {
+        let (mut own, mut asleep, mut message) = (None, Vec::new(), None);
         let mut end = |at: Option<usize>, mark| match at {
             None => own = Some(mark),
             // SAFETY: the caller has the lock, and the call was open: what it lent was taken from it, once.
@@ -137,49 +133,45 @@ impl Locked {
         let call = call(lent.bytes());
         #[cfg(feature = "record")]
         shared.record.call(thread, call, lent);
-        for ending in self.kernel.call(thread, call)?.iter() {
-            let at = shared.place_of(ending.thread).filter(|_| ending.thread != thread);
+        let endings = match self.kernel.call(thread, call) {
+            Ok(endings) => endings,
+            Err(errno) => return (Some(Mark::Failed(errno)), Vec::new()),
+        };
+        for ending in endings.iter() {
+            let at = shared.place_of[usize::from(ending.thread)].filter(|_| ending.thread != thread);
             let lent = at.map_or(lent, |at| self.lent[at].take().expect("a call that ends was open"));
             lent.fill(0, ending.buffer);
             match ending.mark {
-                Mark::Message { rcvid, info } if info.msglen < info.srcmsglen.min(lent.0.len()) => {
-                    long = Some((ending.thread, at, lent, rcvid, info));
-                }
-                Mark::Message { rcvid, info } => {
-                    self.msglens[usize::from(info.thread)] = info.msglen;
-                    end(at, Mark::Message { rcvid, info });
-                }
+                // An event brings one message at most.
+                Mark::Message { rcvid, info } => message = Some((ending.thread, at, lent, rcvid, info)),
                 Mark::Info(info) => {
-                    let msglen = self.msglens[usize::from(info.thread)];
-                    end(at, Mark::Info(Info { msglen, ..info }));
+                    end(at, Mark::Info(Info { msglen: self.msglens[usize::from(info.thread)], ..info }))
                 }
                 mark => end(at, mark),
             }
         }
-        // An event brings one message at most.
-        if let Some((receiver, at, lent, rcvid, info)) = long {
-            let rest = info.msglen..info.srcmsglen.min(lent.bytes().len());
-            let read = Call::Read { rcvid, offset: rest.start, buffer: &lent.bytes()[rest] };
-            #[cfg(feature = "record")]
-            shared.record.read_on(receiver, read);
-            let msglen = self.read_on(receiver, read, lent, info);
-            end(at, Mark::Message { rcvid, info: Info { msglen, ..info } });
+        if let Some((receiver, at, lent, rcvid, mut info)) = message {
+            let rest = info.msglen..info.srcmsglen.min(lent.0.len());
+            if !rest.is_empty() {
+                #[cfg(feature = "record")]
+                shared.record.read_on(receiver, rcvid, &lent.bytes()[rest.clone()], rest.start);
+                info.msglen += self.read_on(receiver, rcvid, lent, rest);
+            }
+            self.msglens[usize::from(info.thread)] = info.msglen;
+            end(at, Mark::Message { rcvid, info });
         }
-        Ok((own, asleep))
+        (own, asleep)
     }
 
-    /// Reads what a message has behind the front of the receiver's buffer, in the receiver's name, and returns how many
-    /// bytes are copied in all: no more than in the front, if the kernel is out of memory.
-    fn read_on(&mut self, receiver: u8, read: Call<'_>, lent: Lent, info: Info) -> usize {
-        let msglen = &mut self.msglens[usize::from(info.thread)];
-        *msglen = info.msglen;
-        if let Ok(endings) = self.kernel.call(receiver, read) {
-            for Ending { mark, buffer, .. } in endings.iter() {
-                lent.fill(info.msglen, buffer);
-                *msglen += if let Mark::Count(count) = mark { count } else { 0 };
-            }
-        }
-        *msglen
+    /// Reads in the receiver's name what a message has behind the front of the buffer, and returns how many bytes that is:
+    /// none, if the kernel is out of memory.
+    fn read_on(&mut self, receiver: u8, rcvid: ReceiveId, lent: Lent, rest: Range<usize>) -> usize {
+        let start = rest.start;
+        let read = Call::Read { rcvid, offset: start, buffer: &lent.bytes()[rest] };
+        let Ok(endings) = self.kernel.call(receiver, read) else { return 0 };
+        let Some(Ending { mark: Mark::Count(count), buffer, .. }) = endings.iter().next() else { return 0 };
+        lent.fill(start, buffer);
+        count
     }
 
     /// A port's call waits, and lends its buffer until it is ended.

@@ -87,13 +87,8 @@ impl Place {
     /// The caller is the owner, with a call that it opened and didn't see ended.
     pub(crate) unsafe fn sleep(&self, end: Option<Instant>) -> bool {
         if self.word.load(Ordering::Relaxed) == OPEN {
-            let sleeper = self.sleeper.get();
-            let me = thread::current();
             // SAFETY: the word isn't ASLEEP, so nobody else uses the sleeper.
-            if unsafe { (*sleeper).as_ref() }.is_none_or(|last| last.id() != me.id()) {
-                // SAFETY: as above.
-                unsafe { *sleeper = Some(me) };
-            }
+            unsafe { *self.sleeper.get() = Some(thread::current()) };
             if self.word.compare_exchange(OPEN, ASLEEP, Ordering::Release, Ordering::Acquire).is_err() {
                 return true;
             }

@@ -259,7 +259,7 @@ fn all_calls_are_refused_after_shutdown() {
 fn spread(number: usize, most: usize) -> usize {
     match number % 5 {
         0 => number * 7919 % most,
-        1 => 4095 + number % 3,
+        1 => 1023 + number % 3,
         2 => number % 20,
         3 => most,
         _ => 8000 + number * 31 % 500,

@@ -92,7 +92,7 @@ void lengths(void) {
 enum { LONGEST = 100000, LONG_ROUNDS = 120 };
 
 static size_t length_of(int round, int salt) {
-    static const size_t edges[] = {1, 4095, 4096, 4097, 8191, 8192, 8193, 65536, LONGEST};
+    static const size_t edges[] = {1, 1023, 1024, 1025, 2047, 2048, 2049, 65536, LONGEST};
     unsigned seed = (unsigned)(round * 7919 + salt);
     return round % 3 ? 1 + (size_t)rand_r(&seed) % LONGEST : edges[(size_t)(round / 3 + salt) % 9];
 }

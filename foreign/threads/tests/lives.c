@@ -208,13 +208,46 @@ static void call_within(int number) {
     errno = before;
 }
 
-/* A handler that interrupts a call is refused a call, and the call goes on. */
-void signals(void) {
-    neutrino *kernel = handled = open_few();
+static void shut_down_within(int number) {
+    (void)number;
+    int before = errno;
+    if (neutrino_shutdown(handled) == -1 && errno == EDEADLK) atomic_fetch_add(&deadlocks, 1);
+    errno = before;
+}
+
+static void *shut_down_on(void *kernel) {
+    while (atomic_load(&goes_on)) check(neutrino_shutdown(kernel) == 0);
+    return NULL;
+}
+
+static void handle(void (*handler)(int)) {
     struct sigaction action;
     memset(&action, 0, sizeof action);
-    action.sa_handler = call_within;
+    action.sa_handler = handler;
+    atomic_store(&deadlocks, 0);
     check(sigaction(SIGUSR1, &action, NULL) == 0);
+}
+
+/* A thread that has not joined is refused too what would take the lock that it has. */
+static void signals_unjoined(void) {
+    handled = neutrino_open(few, 4);
+    handle(shut_down_within);
+    atomic_store(&goes_on, 1);
+    pthread_t other = start(shut_down_on, handled);
+    while (atomic_load(&deadlocks) < 20) {
+        check(pthread_kill(other, SIGUSR1) == 0);
+        usleep(50);
+    }
+    atomic_store(&goes_on, 0);
+    result_of(other);
+    check(neutrino_close(handled) == 0);
+}
+
+/* A handler that interrupts a call is refused a call, and the call goes on. */
+void signals(void) {
+    signals_unjoined();
+    neutrino *kernel = handled = open_few();
+    handle(call_within);
     struct job job = {.kernel = kernel, .tid = 2, .chid = ChannelCreate(0)};
     pthread_t client = start(send_once, &job);
     until_state(2, STATE_SEND);

@@ -15,10 +15,10 @@ pub struct Bar {
     pub until: Option<usize>,
 }
 
-/// The states of a thread one after another. It is ready at the begin.
+/// The states of a thread one after another, from that before the first row on.
 pub fn bars_of(alloc: Global, chart: &Chart, thread: ThreadNo) -> Result<Vec<Bar>, AllocError> {
     let mut bars = Vec::new(alloc);
-    let mut state = ThreadState::Ready;
+    let mut state = chart.first_state(thread);
     let mut after = 0usize;
     let mut number = 0usize;
     for row in &chart.rows {

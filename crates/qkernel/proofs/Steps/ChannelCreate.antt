@@ -18,8 +18,8 @@ use Rattle.qstate.specs.declared.channel.Channel.{Channel}
 use Rattle.qmodel.specs.Answer.{MayRefuse, refusal_ending}
 use Rattle.qstate.specs.Channel.{open_channel_of, channel_in, items_waiting_on, pending_in, ids_of}
 use Rattle.qmodel.specs.Effects.{creates}
-use Rattle.qkernel.specs.Kernel.{State, IsSound, facts_in}
-use Rattle.qkernel.specs.Stands.{Steps}
+use Rattle.qkernel.specs.Kernel.{State, IsSound}
+use Rattle.qkernel.specs.Private.Steps.{Steps, facts_in}
 use Rattle.qmodel.specs.Step.{put_at, one_for}
 use Rattle.qstate.specs.Thread.{members_of, open_in}
 use Rattle.qmodel.proofs.Rosters.{rises, among, only_own}

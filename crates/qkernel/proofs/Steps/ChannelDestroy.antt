@@ -19,8 +19,8 @@ use Rattle.qstate.specs.Thread.{members_of, open_in}
 use Rattle.qstate.specs.declared.channel.Channel.{Channel}
 use Rattle.qstate.specs.declared.cutting.Cut.TheVariants.{On}
 use Rattle.qstate.specs.declared.thread.Thread.{Thread}
-use Rattle.qkernel.specs.Kernel.{State, IsSound, facts_in}
-use Rattle.qkernel.specs.Stands.{Steps}
+use Rattle.qkernel.specs.Kernel.{State, IsSound}
+use Rattle.qkernel.specs.Private.Steps.{Steps, facts_in}
 use Rattle.qkernel.proofs.Steps.Common.{counted, count_same, owned_by_member, step_refused_alone}
 use Rattle.qkernel.proofs.Steps.Cutting.{endings_cut, open_after, sound_cut}
 

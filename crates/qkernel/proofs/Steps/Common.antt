@@ -27,8 +27,8 @@ use Rattle.qmodel.proofs.Calls.{row_laws}
 use Rattle.qstate.specs.Channel.{channel_in, pending_in, ids_of, is_of, way_in}
 use Rattle.qmodel.specs.Facts.{Facts, OpenChannel, is_in_process}
 use Rattle.qmodel.proofs.Parts.{is_owned_by, leads_to}
-use Rattle.qkernel.specs.Kernel.{State, IsSound, facts_in}
-use Rattle.qkernel.specs.Stands.{Steps}
+use Rattle.qkernel.specs.Kernel.{State, IsSound}
+use Rattle.qkernel.specs.Private.Steps.{Steps, facts_in}
 use Rattle.qstate.specs.Thread.{members_of, open_in, level_in}
 
 -- ---- refused calls

@@ -12,8 +12,8 @@ use Rattle.qmodel.specs.declared.call.Mark.TheVariants as mark
 use Rattle.qmodel.specs.Answer.{MayRefuse, refusal_ending}
 use Rattle.qstate.specs.Channel.{channel_in}
 use Rattle.qmodel.specs.Effects.{attaches}
-use Rattle.qkernel.specs.Kernel.{State, IsSound, facts_in}
-use Rattle.qkernel.specs.Stands.{Steps}
+use Rattle.qkernel.specs.Kernel.{State, IsSound}
+use Rattle.qkernel.specs.Private.Steps.{Steps, facts_in}
 use Rattle.qmodel.specs.Step.{put_at, one_for}
 use Rattle.qstate.specs.Thread.{members_of, open_in}
 use Rattle.qmodel.proofs.Rosters.{rises, among, only_own}

@@ -37,8 +37,8 @@ use Rattle.qstate.specs.Endings.{with_ending_if}
 use Rattle.qstate.specs.Pulses.{has_room}
 use Rattle.qmodel.specs.Receivers.{newest_receiver}
 use Rattle.qstate.specs.Thread.{level_in, members_of, newest_in, open_in}
-use Rattle.qkernel.specs.Kernel.{State, IsSound, facts_in}
-use Rattle.qkernel.specs.Stands.{Steps}
+use Rattle.qkernel.specs.Kernel.{State, IsSound}
+use Rattle.qkernel.specs.Private.Steps.{Steps, facts_in}
 use Rattle.qtables.proofs.LookUps.{entry_at-without_entry}
 use Rattle.qmodel.proofs.Calls.Cutting.{cut_parts}
 use Rattle.qbase.proofs.Lists.{all_filter, cond_same, filter_twice, or_none}

@@ -12,7 +12,7 @@ use Rattle.qstate.specs.Endings.{with_ending_in_place}
 use Rattle.qmodel.specs.Held.{answer_ending}
 use Rattle.qstate.specs.Held.{is_held_in}
 use Rattle.qkernel.specs.Kernel.{State, IsSound}
-use Rattle.qkernel.specs.Stands.{Steps}
+use Rattle.qkernel.specs.Private.Steps.{Steps}
 use Rattle.qstate.specs.Thread.{members_of, open_in, sender_in, SetsOpen}
 use Rattle.qkernel.proofs.Steps.Common.{uncut}
 use Rattle.qkernel.proofs.Steps.Held.{is_held, two_ended, answered_calls}

@@ -24,8 +24,8 @@ use Rattle.qmodel.specs.Facts.{is_send, sender, sender_among, threads_of}
 use Rattle.qmodel.specs.Held.{Finish, ends_sender, answer_ending, answer_ending_of_wait, refusal}
 use Rattle.qmodel.proofs.Parts.{owns_end, is_held_for}
 use Rattle.qstate.specs.Held.{leads_to_own, is_held_over, is_held_in}
-use Rattle.qkernel.specs.Kernel.{State, IsSound, facts_in}
-use Rattle.qkernel.specs.Stands.{Steps}
+use Rattle.qkernel.specs.Kernel.{State, IsSound}
+use Rattle.qkernel.specs.Private.Steps.{Steps, facts_in}
 use Rattle.qmodel.specs.Step.{unless}
 use Rattle.qstate.specs.Thread.{members_of, open_in, held_over_in, sender_in, sent_call, SetsOpen}
 use Rattle.qstate.proofs.Inserting.{two_endings}

@@ -18,13 +18,16 @@ use Rattle.qmodel.specs.declared.call.Info.{Info as Told}
 use Rattle.qmodel.specs.Calls.Info.{info_of, info_of_open, info_ending}
 use Rattle.qmodel.specs.Facts.{is_send, sender, threads_of}
 use Rattle.qstate.specs.Held.{is_held_in}
-use Rattle.qkernel.specs.Kernel.{State, IsSound, facts_in}
-use Rattle.qkernel.specs.Stands.{InfoAtTraces, Steps}
+use Rattle.qkernel.specs.Kernel.{State, IsSound}
+use Rattle.qkernel.specs.Private.Steps.{Steps, facts_in}
+use Rattle.qkernel.specs.Stands.{InfoAtTraces}
 use Rattle.qstate.specs.Thread.{held_over_in, members_of, open_in}
 use Rattle.qstate.proofs.Seats.{first_member, first_open}
 use Rattle.qstate.proofs.Senders.{first_there, held_there, no_sender, sender_in-by, sender_of_held, sender_there}
 use Rattle.qmodel.proofs.Rosters.{among, only_own, rises}
-use Rattle.qkernel.proofs.Standing.{stands_facts}
+use Rattle.qrules.specs.Rules.Held as rules
+use Rattle.qrules.proofs.Rows.Held.{info_same}
+use Rattle.qkernel.proofs.Contents.{content_same, open_among}
 use Rattle.qkernel.proofs.Steps.Common.{uncut, counted, stays_free}
 use Rattle.qkernel.proofs.Steps.Held.{is_held}
 
@@ -42,8 +45,8 @@ pub info_nowhere : (s : State) (i : ℕ) → IsRoster (members_of s.threads) →
 info_nowhere s i r none = ap (info_of (facts_in s)) (sender_in-by i s.threads r ∙ no_sender i s.threads none)
 
 -- what is told by the kernel's content is told at every trace at which it stands
-pub info_at_traces : (s : State) (i : ℕ) (told : Option Told) → told ≡ info_of (facts_in s) (sender (facts_in s) i) → InfoAtTraces s i told
-info_at_traces s i told is roster past stands = is ∙ ap (λ f. info_of f (sender f i)) (stands_facts roster s past stands)
+pub info_at_traces : (s : State) (i : ℕ) (told : Option Told) → IsRoster (members_of s.threads) → told ≡ info_of (facts_in s) (sender (facts_in s) i) → InfoAtTraces s i told
+info_at_traces s i told rises is roster past stands = is ∙ sym (info_same (facts_in s) i (open_among s.threads)) ∙ ap (λ f. rules.info_of f i) (sym (content_same s rises) ∙ stands)
 
 -- what is held is told of
 told_some : (m : Member) (o : Option OpenCall) → is_some (held_over_in o) ≡ true → is_some (info_of_open m o) ≡ true

@@ -18,8 +18,8 @@ use Rattle.qmodel.specs.declared.call.Completion.{Completion}
 use Rattle.qmodel.specs.declared.call.Mark.TheVariants as mark
 use Rattle.qstate.specs.declared.channel.Channel.{Channel}
 use Rattle.qstate.specs.declared.thread.Thread.{Thread}
-use Rattle.qkernel.specs.Kernel.{State, IsSound, facts_in}
-use Rattle.qkernel.specs.Stands.{Steps}
+use Rattle.qkernel.specs.Kernel.{State, IsSound}
+use Rattle.qkernel.specs.Private.Steps.{Steps, facts_in}
 use Rattle.qstate.specs.Channel.{pending_in}
 use Rattle.qstate.specs.Thread.{level_in, members_of, open_in, SetsLevel}
 use Rattle.qstate.specs.Unread.{MovesUnread}

@@ -15,8 +15,8 @@ use Rattle.qstate.specs.Pulses.{has_room}
 use Rattle.qmodel.specs.Facts.{way}
 use Rattle.qmodel.specs.Rows.{pulse_item}
 use Rattle.qmodel.specs.Pulses.{refusal_if_full, ends_receiver, pulse_receipt, wants_room_for}
-use Rattle.qkernel.specs.Kernel.{State, facts_in}
-use Rattle.qkernel.specs.Stands.{Steps}
+use Rattle.qkernel.specs.Kernel.{State}
+use Rattle.qkernel.specs.Private.Steps.{Steps, facts_in}
 use Rattle.qmodel.specs.Receivers.{newest_receiver}
 use Rattle.qstate.specs.Thread.{members_of, newest_in, open_in}
 use Rattle.qkernel.proofs.Steps.Common.{counted, step_refused_alone, way-leads_to}

@@ -9,7 +9,7 @@ use Rattle.qmodel.specs.declared.call.Completion.{Completion}
 use Rattle.qmodel.specs.declared.call.Mark.TheVariants as mark
 use Rattle.qstate.specs.Held.{is_held_in}
 use Rattle.qkernel.specs.Kernel.{State, IsSound}
-use Rattle.qkernel.specs.Stands.{Steps}
+use Rattle.qkernel.specs.Private.Steps.{Steps}
 use Rattle.qstate.specs.Thread.{members_of, message_from, open_in}
 use Rattle.qmodel.proofs.Rosters.{among, only_own, rises}
 use Rattle.qkernel.proofs.Steps.Common.{uncut, counted, stays_free}

@@ -25,8 +25,8 @@ use Rattle.qstate.specs.Channel.{channel_in, pending_in, ids_of, is_of, SetsItem
 use Rattle.qmodel.specs.Facts.{owns, threads_of, is_fixed}
 use Rattle.qmodel.specs.Receiving.{own_receipt, receipt_when_taken, receive_of}
 use Rattle.qmodel.specs.Rows.{Received, receipt_ending}
-use Rattle.qkernel.specs.Kernel.{State, IsSound, facts_in}
-use Rattle.qkernel.specs.Stands.{Steps}
+use Rattle.qkernel.specs.Kernel.{State, IsSound}
+use Rattle.qkernel.specs.Private.Steps.{Steps, facts_in}
 use Rattle.qmodel.specs.Step.{after_receipt, is_thread, held_call, unreceived_items, unless, priority_taken}
 use Rattle.qstate.specs.Thread.{members_of, open_in, level_in, message_from, sender_in, SetsOpen, HandsOver, SetsLevel}
 use Rattle.qbase.proofs.Lists.{all_filter, eqb_either, cond_same}

@@ -22,8 +22,8 @@ use Rattle.qstate.specs.Channel.{pending_in, way_in, SetsItems}
 use Rattle.qmodel.specs.Facts.{way, threads_of}
 use Rattle.qmodel.specs.Receivers.{newest_receiver}
 use Rattle.qmodel.specs.Rows.{message_item, takes, item_in_mark, item_sent_over}
-use Rattle.qkernel.specs.Kernel.{State, IsSound, facts_in}
-use Rattle.qkernel.specs.Stands.{Steps}
+use Rattle.qkernel.specs.Kernel.{State, IsSound}
+use Rattle.qkernel.specs.Private.Steps.{Steps, facts_in}
 use Rattle.qmodel.specs.Step.{unless, held_call}
 use Rattle.qmodel.specs.Past.{made_on}
 use Rattle.qstate.specs.Thread.{members_of, open_in, level_in, newest_in, SetsOpen, Wakes}

@@ -15,8 +15,8 @@ use Rattle.qstate.specs.Thread.{members_of, open_in}
 use Rattle.qstate.specs.declared.channel.Channel.{Channel}
 use Rattle.qstate.specs.declared.cutting.Cut.TheVariants.{All}
 use Rattle.qstate.specs.declared.thread.Thread.{Thread}
-use Rattle.qkernel.specs.Kernel.{State, facts_in}
-use Rattle.qkernel.specs.Stands.{Steps}
+use Rattle.qkernel.specs.Kernel.{State}
+use Rattle.qkernel.specs.Private.Steps.{Steps, facts_in}
 use Rattle.qkernel.proofs.Steps.Cutting.{endings_cut, open_after}
 use Rattle.qkernel.proofs.Steps.Delivering.{count_kept}
 

@@ -24,8 +24,8 @@ use Rattle.qstate.specs.Endings.{with_ending_if}
 use Rattle.qstate.specs.Pulses.{IsSent, IsSentIfDue, IsTurnedAway, has_room}
 use Rattle.qstate.specs.Thread.{level_in, members_of, newest_in, open_in}
 use Rattle.qstate.proofs.Inserting.{own_first, own_one}
-use Rattle.qkernel.specs.Kernel.{State, IsSound, facts_in}
-use Rattle.qkernel.specs.Stands.{Steps}
+use Rattle.qkernel.specs.Kernel.{State, IsSound}
+use Rattle.qkernel.specs.Private.Steps.{Steps, facts_in}
 use Rattle.qmodel.proofs.Past.OpenCalls.{unblock_none}
 use Rattle.qmodel.proofs.Rosters.{among, filter_map_same, only_own, rises}
 use Rattle.qmodel.specs.Pulses.{ends_receiver, pulse_receipt}

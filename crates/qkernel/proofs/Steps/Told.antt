@@ -30,7 +30,8 @@ use Rattle.qstate.specs.declared.channel.Channel.{Channel}
 use Rattle.qstate.specs.declared.thread.Thread.{Thread}
 use Rattle.qstate.proofs.Inserting.{endings_fewer, inserted_among}
 use Rattle.qstate.proofs.Receivers.{ended_thread, newest_receives, waits_among}
-use Rattle.qkernel.specs.Kernel.{State, IsSound, facts_in}
+use Rattle.qkernel.specs.Kernel.{State, IsSound}
+use Rattle.qkernel.specs.Private.Steps.{facts_in}
 use Rattle.qkernel.proofs.Steps.Delivering.{items_after, with_item}
 
 -- the item that is due, with its channel

@@ -37,8 +37,8 @@ use Rattle.qstate.specs.Held.{guard_in, guarded_message_in, held_message_in}
 use Rattle.qstate.specs.Pulses.{has_room}
 use Rattle.qmodel.specs.Receivers.{newest_receiver}
 use Rattle.qstate.specs.Thread.{members_of, newest_in, open_in, MarksUnblocked}
-use Rattle.qkernel.specs.Kernel.{State, IsSound, facts_in}
-use Rattle.qkernel.specs.Stands.{Steps}
+use Rattle.qkernel.specs.Kernel.{State, IsSound}
+use Rattle.qkernel.specs.Private.Steps.{Steps, facts_in}
 use Rattle.qmodel.proofs.Rosters.{among, filter_map_same, only_own, rises}
 use Rattle.qkernel.proofs.Steps.Common.{counted, stays_free, step_refused_alone, uncut_by}
 use Rattle.qkernel.proofs.Steps.Cutting.{endings_cut, mine, open_after}

@@ -14,7 +14,7 @@ use Rattle.qmodel.specs.Held.{reply_buffer_in}
 use Rattle.qstate.specs.Held.{is_held_in}
 use Rattle.qmodel.specs.Step.{is_thread, written_call}
 use Rattle.qkernel.specs.Kernel.{State, IsSound}
-use Rattle.qkernel.specs.Stands.{Steps}
+use Rattle.qkernel.specs.Private.Steps.{Steps}
 use Rattle.qstate.specs.Thread.{members_of, open_in, sender_in, sent_call, ChangesSender}
 use Rattle.qbase.proofs.Lists.{cond_same}
 use Rattle.qmodel.proofs.Rosters.{among, only_own, rises}

@@ -5,8 +5,10 @@ ghost use Rattle.qstate.specs.Thread.{open_in};
 ghost use Rattle.std.specs.Option.{option_to_list};
 ghost use Rattle.qtables.specs.Entries.{entry_at};
 ghost use Rattle.qtables.specs.declared.member.Member.{Member};
-ghost use Rattle.qmodel.specs.Blocked.{blocked_thread, blocked_threads_at};
-ghost use Rattle.qmodel.specs.Trace.{Trace};
+ghost use Rattle.qmodel.specs.Blocked.{blocked_thread};
+ghost use Rattle.qrules.specs.Lawful.{facts_of};
+ghost use Rattle.qrules.specs.Trace.{Trace};
+ghost use Rattle.qkernel.specs.Blocked.{blocked_threads};
 
 use super::Kernel;
 use qbase::ids::ThreadNo;
@@ -52,7 +54,7 @@ impl Kernel {
     /// The threads that are blocked, in rising number, for a text of what a run left. The list is all that
     /// takes memory.
     pub fn blocked(&self, alloc: Global) -> Result<Vec<Blocked>, AllocError>
-        ensures { (roster : List Member) (past : Trace) → StandsAt roster self.now past → IfOk result (λ list. list.items ≡ blocked_threads_at roster past) }
+        ensures { (roster : List Member) (past : Trace) → StandsAt roster self.now past → IfOk result (λ list. list.items ≡ blocked_threads (facts_of roster past)) }
     {
         let mut list = Vec::new(alloc);
         for thread in &self.threads {

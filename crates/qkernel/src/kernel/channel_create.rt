@@ -11,7 +11,7 @@ use qstate::channel::Channel;
 use qstate::endings::Endings;
 
 impl Kernel {
-    ghost use Rattle.qkernel.specs.Turn.{MayCall, MakesOrRefuses};
+    ghost use Rattle.qkernel.specs.Private.Turn.{MayCall, MakesOrRefuses};
 
     /// Creates a channel of the caller's process. The channel's record is all that takes memory.
     pub(super) fn channel_create(

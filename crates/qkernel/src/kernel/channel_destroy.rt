@@ -10,7 +10,7 @@ use qstate::cutting::{Cut, cut_calls};
 use qstate::endings::Endings;
 
 impl Kernel {
-    ghost use Rattle.qkernel.specs.Turn.{MayCall, MakesOrRefuses};
+    ghost use Rattle.qkernel.specs.Private.Turn.{MayCall, MakesOrRefuses};
 
     /// Destroys a channel of the caller's process, after each call that is blocked on it has ended with
     /// `Srch`. What waits there is gone, and the connections to it stay: our own profile. Never blocks, and

@@ -10,7 +10,7 @@ use qstate::endings::Endings;
 use qtables::connection::Connection;
 
 impl Kernel {
-    ghost use Rattle.qkernel.specs.Turn.{MayCall, MakesOrRefuses};
+    ghost use Rattle.qkernel.specs.Private.Turn.{MayCall, MakesOrRefuses};
 
     /// Attaches the caller's process to an open channel. The connection's record is all that takes memory.
     pub(super) fn connect_attach(

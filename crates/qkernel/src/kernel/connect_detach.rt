@@ -31,7 +31,7 @@ fn pulse_for(last: bool, number: u64, priority: Priority, process: ProcessNo) ->
 }
 
 impl Kernel {
-    ghost use Rattle.qkernel.specs.Turn.{MayCall, MakesOrRefuses};
+    ghost use Rattle.qkernel.specs.Private.Turn.{MayCall, MakesOrRefuses};
 
     /// Detaches a connection of the caller's process, after each Send over it has ended with `Badf`. Where it
     /// was the last one of the process to a channel with the disconnect flag, the channel's server gets a

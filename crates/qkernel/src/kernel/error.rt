@@ -44,7 +44,7 @@ fn errored_to(call: Option<OpenCall>, thread: ThreadNo, code: i32) -> Option<Com
 }
 
 impl Kernel {
-    ghost use Rattle.qkernel.specs.Turn.{MayCall, MakesOrRefuses};
+    ghost use Rattle.qkernel.specs.Private.Turn.{MayCall, MakesOrRefuses};
 
     /// Answers a held message with a code and no bytes: its sender's call ends. Never blocks, and takes no
     /// memory.

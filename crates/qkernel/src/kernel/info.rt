@@ -10,7 +10,7 @@ use qstate::thread::sender_seat;
 
 impl Kernel {
     ghost use Rattle.qkernel.specs.Stands.{InfoAtTraces};
-    ghost use Rattle.qkernel.specs.Turn.{MayCall, MakesOrRefuses};
+    ghost use Rattle.qkernel.specs.Private.Turn.{MayCall, MakesOrRefuses};
 
     /// What `Info` tells of a message, without a call: it takes no number, and no thread asks for it. `None`
     /// where no message is held under this id; whose process owns its channel isn't looked at. For who tells

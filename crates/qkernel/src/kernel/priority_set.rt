@@ -11,7 +11,7 @@ use qstate::thread::set_level;
 use qstate::unread::requeue_unread;
 
 impl Kernel {
-    ghost use Rattle.qkernel.specs.Turn.{MayCall, MakesOrRefuses};
+    ghost use Rattle.qkernel.specs.Private.Turn.{MayCall, MakesOrRefuses};
 
     /// Gives a thread of the caller's process another priority, and with it the message that it is SEND-blocked
     /// with. Never blocks, and takes no memory.

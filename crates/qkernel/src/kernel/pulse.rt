@@ -12,7 +12,7 @@ use qstate::endings::Endings;
 use qstate::pulses::send_pulse;
 
 impl Kernel {
-    ghost use Rattle.qkernel.specs.Turn.{MayCall, MakesOrRefuses};
+    ghost use Rattle.qkernel.specs.Private.Turn.{MayCall, MakesOrRefuses};
 
     /// Sends a pulse: to the receiver that may take it and began to wait last, or into the channel's queue,
     /// whose room is all that takes memory. Never blocks. That a code below 0 is refused is our own profile.

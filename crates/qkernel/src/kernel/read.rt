@@ -8,7 +8,7 @@ use qmodel::call::{Call, Mark};
 use qstate::endings::Endings;
 
 impl Kernel {
-    ghost use Rattle.qkernel.specs.Turn.{MayCall, Makes};
+    ghost use Rattle.qkernel.specs.Private.Turn.{MayCall, Makes};
 
     /// Copies from a held message to the front of the buffer; an offset at or past its end copies nothing.
     /// Changes nothing, never blocks, and takes no memory.

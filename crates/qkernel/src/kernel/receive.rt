@@ -16,7 +16,7 @@ use qstate::endings::Endings;
 use qstate::thread::{hand_item, set_level};
 
 impl Kernel {
-    ghost use Rattle.qkernel.specs.Turn.{MayCall, Makes};
+    ghost use Rattle.qkernel.specs.Private.Turn.{MayCall, Makes};
 
     /// Takes the best message or pulse of a channel, or blocks until one comes; takes no memory.
     pub(super) fn receive(

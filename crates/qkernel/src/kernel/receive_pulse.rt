@@ -9,7 +9,7 @@ use qqueue::item::Kind;
 use qstate::endings::Endings;
 
 impl Kernel {
-    ghost use Rattle.qkernel.specs.Turn.{MayCall, Makes};
+    ghost use Rattle.qkernel.specs.Private.Turn.{MayCall, Makes};
 
     /// Takes the best pulse of a channel, or blocks until one comes; takes no memory, and never a message.
     pub(super) fn receive_pulse(&mut self, turn: &Turn, chid: ChannelId, endings: &mut Endings)

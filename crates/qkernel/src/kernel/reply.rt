@@ -6,7 +6,6 @@ ghost use Rattle.qmodel.specs.Held.{answer_ending};
 
 use super::Kernel;
 use super::turn::Turn;
-use qbase::bytes::Bytes;
 use qbase::errno::Errno;
 use qbase::ids::{ReceiveId, ThreadNo};
 use qmodel::call::{Call, Completion, Mark};
@@ -19,7 +18,7 @@ fn replied_to(
     call: Option<OpenCall>,
     thread: ThreadNo,
     status: i64,
-    bytes: &Bytes,
+    bytes: &[u8],
 ) -> Option<Completion>
     ensures { result ≡ answer_ending (reply_finish status bytes.now) thread call }
 {
@@ -28,7 +27,7 @@ fn replied_to(
         Wait::Item { .. } => None,
         Wait::Answer { reply_buffer, .. } => {
             let mut buffer = reply_buffer;
-            let copied = buffer.lay(0, bytes.as_slice());
+            let copied = buffer.lay(0, bytes);
             Some(Completion {
                 call: sent,
                 thread,
@@ -40,7 +39,7 @@ fn replied_to(
 }
 
 impl Kernel {
-    ghost use Rattle.qkernel.specs.Turn.{MayCall, MakesOrRefuses};
+    ghost use Rattle.qkernel.specs.Private.Turn.{MayCall, MakesOrRefuses};
 
     /// Answers a held message: its sender's call ends. Never blocks, and takes no memory.
     pub(super) fn reply(
@@ -48,15 +47,15 @@ impl Kernel {
         turn: &Turn,
         rcvid: ReceiveId,
         status: i64,
-        bytes: Bytes,
+        bytes: &[u8],
         endings: &mut Endings,
     ) -> Result<(), Errno>
         requires { MayCall self.old turn.now endings.old.items }
-        ensures { MakesOrRefuses self.old turn.now (Call.Reply rcvid status bytes) result endings.new.items self.new }
+        ensures { MakesOrRefuses self.old turn.now (Call.Reply rcvid status bytes.now) result endings.new.items self.new }
     {
         let held = self.held_seat(turn, rcvid)?;
         let (client, call) = take_sent(&mut self.threads, held, rcvid.0);
-        let Some(ended) = replied_to(call, client, status, &bytes) else {
+        let Some(ended) = replied_to(call, client, status, bytes) else {
             unreachable!();
         };
         turn.end_both(endings, ended);

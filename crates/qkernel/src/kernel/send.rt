@@ -94,7 +94,7 @@ fn meet(
 }
 
 impl Kernel {
-    ghost use Rattle.qkernel.specs.Turn.{MayCall, Makes};
+    ghost use Rattle.qkernel.specs.Private.Turn.{MayCall, Makes};
 
     /// Sends a message: to the receiver that began to wait last, or into the channel's queue, whose room is
     /// all that takes memory. The caller stays blocked until it is answered.

@@ -8,7 +8,7 @@ use qstate::cutting::{Cut, cut_calls};
 use qstate::endings::Endings;
 
 impl Kernel {
-    ghost use Rattle.qkernel.specs.Turn.{MayCall, Makes};
+    ghost use Rattle.qkernel.specs.Private.Turn.{MayCall, Makes};
 
     /// Ends every open call with `Srch`, and shuts the kernel down: every later call is refused. Our own
     /// profile. Never blocks, and takes no memory.

@@ -10,7 +10,7 @@ use qstate::thread::{level_of, seat_of};
 use qstate::thread_state::state_at;
 
 impl Kernel {
-    ghost use Rattle.qkernel.specs.Turn.{MayCall, MakesOrRefuses};
+    ghost use Rattle.qkernel.specs.Private.Turn.{MayCall, MakesOrRefuses};
 
     /// Tells the state and the priority of any thread. Changes nothing, never blocks, and takes no memory.
     pub(super) fn state(

@@ -26,7 +26,7 @@ fn pulse_for(number: u64, held: &Held) -> Item
 }
 
 impl Kernel {
-    ghost use Rattle.qkernel.specs.Turn.{MayCall, MakesOrRefuses};
+    ghost use Rattle.qkernel.specs.Private.Turn.{MayCall, MakesOrRefuses};
 
     /// Ends what a thread of the caller's process is blocked in, with `Intr`; but a message that is held on a
     /// channel with the unblock flag stays, and its server gets a pulse, once. Of a thread that isn't blocked

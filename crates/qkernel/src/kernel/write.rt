@@ -2,7 +2,6 @@
 
 use super::Kernel;
 use super::turn::Turn;
-use qbase::bytes::Bytes;
 use qbase::errno::Errno;
 use qbase::ids::ReceiveId;
 use qmodel::call::{Call, Mark};
@@ -10,7 +9,7 @@ use qstate::endings::Endings;
 use qstate::held::write_sent;
 
 impl Kernel {
-    ghost use Rattle.qkernel.specs.Turn.{MayCall, MakesOrRefuses};
+    ghost use Rattle.qkernel.specs.Private.Turn.{MayCall, MakesOrRefuses};
 
     /// Copies bytes over the reply buffer of a held message's sender, which stays blocked; an offset at or
     /// past the buffer's end copies nothing. Never blocks, and takes no memory.
@@ -19,14 +18,14 @@ impl Kernel {
         turn: &Turn,
         rcvid: ReceiveId,
         offset: usize,
-        bytes: Bytes,
+        bytes: &[u8],
         endings: &mut Endings,
     ) -> Result<(), Errno>
         requires { MayCall self.old turn.now endings.old.items }
-        ensures { MakesOrRefuses self.old turn.now (Call.Write rcvid offset bytes) result endings.new.items self.new }
+        ensures { MakesOrRefuses self.old turn.now (Call.Write rcvid offset bytes.now) result endings.new.items self.new }
     {
         let held = self.held_seat(turn, rcvid)?;
-        let copied = write_sent(&mut self.threads, held, rcvid.0, offset, &bytes);
+        let copied = write_sent(&mut self.threads, held, rcvid.0, offset, bytes);
         turn.end(endings, Mark::Count(copied));
         Ok(())
     }

@@ -5,7 +5,7 @@ use Rattle.std.proofs.lemmas.Bool.{lt-leb, ne_eqb, and_parts}
 use Rattle.std.proofs.lemmas.List.Elements.{All-cons, All-nil}
 use Rattle.qtables.specs.declared.member.Member.{Member}
 use Rattle.qmodel.specs.declared.call.Call.{Call}
-use Rattle.qmodel.specs.OnlyRun.{event_call}
+use Rattle.qrules.specs.Lawful.{event_call}
 use Rattle.qmodel.specs.Trace.{Event}
 use Rattle.qreading.specs.declared.reading.line.Line.TheVariants as lines
 use Rattle.qreading.specs.Reading.Line.{is_text}

@@ -1,9 +1,9 @@
 -- The text of a run.
-use Rattle.std.specs.Prelude.{ℕ, ◌+◌, ◌-◌, ◌&&◌, nat_le, Bool, true, false, List, [], ◌∷◌, ◌++◌, Option, Some, None, is_some, if◌then◌else◌, slice_get, decimal}
+use Rattle.std.specs.Prelude.{ℕ, ◌+◌, ◌-◌, ◌&&◌, nat_le, Bool, true, false, List, [], ◌∷◌, ◌++◌, Option, Some, None, if◌then◌else◌, slice_get, decimal}
 use Rattle.std.specs.List.{flat_map}
 use Rattle.std.specs.Option.{option_map}
 use Rattle.qmodel.specs.declared.call.Call.{Call}
-use Rattle.qmodel.specs.Calls.{effect_of}
+use Rattle.qmodel.specs.declared.call.Call.TheVariants.{Read, Receive, Send}
 use Rattle.qmodel.specs.declared.call.Completion.{Completion}
 use Rattle.qmodel.specs.declared.open_call.Blocked.{Blocked}
 use Rattle.qmodel.specs.Trace.{Event, Run}
@@ -14,7 +14,10 @@ use Rattle.qscript.specs.Printing.OpenLine.{open_text}
 
 -- whether a call's buffer is printed when it ends: that of each call that brings one, which are Send, Receive and Read
 abbrev pub shows_buffer : Call → Bool
-shows_buffer c = is_some (effect_of c).buffer
+shows_buffer (Send coid message reply_buffer) = true
+shows_buffer (Receive chid buffer) = true
+shows_buffer (Read rcvid offset buffer) = true
+shows_buffer other = false
 
 -- the call of this number, which is that of the event of this number, among a run's events up to another
 abbrev pub call_by : Run → ℕ → ℕ → Option Call

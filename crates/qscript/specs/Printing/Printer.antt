@@ -1,6 +1,6 @@
 -- The text of a run, made as the run goes.
 use Rattle.std.specs.Prelude.{◌≡◌, ℕ, ◌+◌, ◌-◌, ◌&&◌, nat_le, Bool, false, List, map, slice_index_or, string_bytes}
-use Rattle.qmodel.specs.OnlyRun.{event_call}
+use Rattle.qrules.specs.Lawful.{event_call}
 use Rattle.qmodel.specs.Trace.{Event, Run}
 use Rattle.qmodel.specs.declared.call.Call.{Call}
 use Rattle.qkernel.specs.Run.{RunsAtTraces}

@@ -5,7 +5,7 @@ use Rattle.hex.specs.Hex.{IsBytes}
 use Rattle.qtables.specs.declared.member.Member.{Member}
 use Rattle.qmodel.specs.declared.call.Call.{Call}
 use Rattle.qmodel.specs.declared.call.Call.TheVariants as calls
-use Rattle.qmodel.specs.OnlyRun.{event_call}
+use Rattle.qrules.specs.Lawful.{event_call}
 use Rattle.qmodel.specs.Trace.{Event}
 use Rattle.qreading.specs.Reading.Meaning.{Says, is_in, meaning}
 use Rattle.qreading.specs.Reading.Number.{is_within}

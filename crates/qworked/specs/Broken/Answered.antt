@@ -4,7 +4,7 @@ use Rattle.qbase.specs.declared.errno.Errno.TheVariants.{Srch}
 use Rattle.qmodel.specs.declared.call.Call.TheVariants.{Send, Receive, Reply, Error, ReceivePulse}
 use Rattle.qmodel.specs.declared.call.Completion.{Completion}
 use Rattle.qmodel.specs.declared.call.Mark.TheVariants as mark
-use Rattle.qmodel.specs.Trace.{Trace}
+use Rattle.qrules.specs.Trace.{Trace}
 use Rattle.qworked.specs.Runs.{event, ended}
 use Rattle.qworked.specs.Broken.Held.{held, sent}
 
@@ -14,11 +14,13 @@ answered t = ended 4 t (mark.Replied (pos 61) 1) (0xdd ∷ 0x22 ∷ 0x33 ∷ [])
 
 -- the answer goes to a thread that didn't send it
 abbrev pub to_another_thread : Trace
-to_another_thread = held (event 31 (Reply 4 (pos 61) (0xdd ∷ [])) (ended 6 31 mark.Ok [] ∷ answered 42 ∷ []) ∷ [])
+to_another_thread = held
+    (event 31 (Reply 4 (pos 61) (0xdd ∷ [])) (ended 6 31 mark.Ok [] ∷ answered 42 ∷ []) ∷ [])
 
 -- a thread answers whose process doesn't own the channel
 abbrev pub by_another_process : Trace
-by_another_process = held (event 54 (Reply 4 (pos 61) (0xdd ∷ [])) (answered 43 ∷ ended 6 54 mark.Ok [] ∷ []) ∷ [])
+by_another_process = held
+    (event 54 (Reply 4 (pos 61) (0xdd ∷ [])) (answered 43 ∷ ended 6 54 mark.Ok [] ∷ []) ∷ [])
 
 -- a Reply is accepted, and the sender isn't told
 abbrev pub by_nothing : Trace
@@ -30,11 +32,13 @@ by_no_code = held (event 31 (Error 4 (pos 61)) (ended 6 31 mark.Ok [] ∷ []) �
 
 -- the sender is told twice
 abbrev pub twice : Trace
-twice = held (event 31 (Reply 4 (pos 61) (0xdd ∷ [])) (ended 6 31 mark.Ok [] ∷ answered 43 ∷ answered 43 ∷ []) ∷ [])
+twice = held
+    (event 31 (Reply 4 (pos 61) (0xdd ∷ [])) (ended 6 31 mark.Ok [] ∷ answered 43 ∷ answered 43 ∷ []) ∷ [])
 
 -- the sender is told, and the Reply is refused
 abbrev pub though_refused : Trace
-though_refused = held (event 31 (Reply 4 (pos 61) (0xdd ∷ [])) (ended 6 31 (mark.Failed Srch) [] ∷ answered 43 ∷ []) ∷ [])
+though_refused = held
+    (event 31 (Reply 4 (pos 61) (0xdd ∷ [])) (ended 6 31 (mark.Failed Srch) [] ∷ answered 43 ∷ []) ∷ [])
 
 -- the message isn't received yet
 abbrev pub unreceived : Trace
@@ -45,7 +49,8 @@ abbrev pub another_too : Trace
 another_too = held (
     event 42 (Send 2 [] []) []
     ∷ event 35 (Receive 1 []) (ended 7 35 (mark.Message 6 0) [] ∷ [])
-    ∷ event 31 (Reply 4 (pos 61) (0xdd ∷ [])) (ended 8 31 mark.Ok [] ∷ ended 6 42 (mark.Replied (pos 61) 0) [] ∷ answered 43 ∷ [])
+    ∷ event 31 (Reply 4 (pos 61) (0xdd ∷ []))
+    (ended 8 31 mark.Ok [] ∷ ended 6 42 (mark.Replied (pos 61) 0) [] ∷ answered 43 ∷ [])
     ∷ [])
 
 -- a call that answers nothing answers message 4
@@ -54,15 +59,21 @@ by_a_receive = held (event 31 (ReceivePulse 1) (answered 43 ∷ []) ∷ [])
 
 -- a code goes to a thread that didn't send the message
 abbrev pub code_to_another_thread : Trace
-code_to_another_thread = held (event 31 (Error 4 (pos 61)) (ended 6 31 mark.Ok [] ∷ ended 4 42 (mark.Errored (pos 61)) (0x11 ∷ 0x22 ∷ 0x33 ∷ []) ∷ []) ∷ [])
+code_to_another_thread = held
+    (event 31 (Error 4 (pos 61))
+    (ended 6 31 mark.Ok [] ∷ ended 4 42 (mark.Errored (pos 61)) (0x11 ∷ 0x22 ∷ 0x33 ∷ []) ∷ []) ∷ [])
 
 -- a thread answers with a code whose process doesn't own the channel
 abbrev pub code_by_another_process : Trace
-code_by_another_process = held (event 54 (Error 4 (pos 61)) (ended 4 43 (mark.Errored (pos 61)) (0x11 ∷ 0x22 ∷ 0x33 ∷ []) ∷ ended 6 54 mark.Ok [] ∷ []) ∷ [])
+code_by_another_process = held
+    (event 54 (Error 4 (pos 61))
+    (ended 4 43 (mark.Errored (pos 61)) (0x11 ∷ 0x22 ∷ 0x33 ∷ []) ∷ ended 6 54 mark.Ok [] ∷ []) ∷ [])
 
 -- message 4 is answered a second time, though its Send has ended
 abbrev pub after_the_end : Trace
 after_the_end = held (
-    event 31 (Reply 4 (pos 61) []) (ended 6 31 mark.Ok [] ∷ ended 4 43 (mark.Replied (pos 61) 0) (0x11 ∷ 0x22 ∷ 0x33 ∷ []) ∷ [])
-    ∷ event 31 (Reply 4 (pos 61) []) (ended 7 31 mark.Ok [] ∷ ended 4 43 (mark.Replied (pos 61) 0) (0x11 ∷ 0x22 ∷ 0x33 ∷ []) ∷ [])
+    event 31 (Reply 4 (pos 61) [])
+    (ended 6 31 mark.Ok [] ∷ ended 4 43 (mark.Replied (pos 61) 0) (0x11 ∷ 0x22 ∷ 0x33 ∷ []) ∷ [])
+    ∷ event 31 (Reply 4 (pos 61) [])
+    (ended 7 31 mark.Ok [] ∷ ended 4 43 (mark.Replied (pos 61) 0) (0x11 ∷ 0x22 ∷ 0x33 ∷ []) ∷ [])
     ∷ [])

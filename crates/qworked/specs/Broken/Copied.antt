@@ -3,48 +3,64 @@ use Rattle.std.specs.Prelude.{[], ◌∷◌, pos}
 use Rattle.qbase.specs.declared.errno.Errno.TheVariants.{Intr}
 use Rattle.qbase.specs.declared.state.ThreadState.TheVariants.{Ready}
 use Rattle.qqueue.specs.declared.item.What.TheVariants as what
-use Rattle.qmodel.specs.declared.call.Call.TheVariants.{ChannelCreate, ConnectAttach, Receive, Reply, Error, Read, Write, Info, Pulse, Unblock, State}
+use Rattle.qmodel.specs.declared.call.Call.TheVariants.{ChannelCreate, ConnectAttach, Receive, Reply, Error}
+use Rattle.qmodel.specs.declared.call.Call.TheVariants.{Read, Write, Info, Pulse, Unblock, State}
 use Rattle.qmodel.specs.declared.call.Mark.TheVariants as mark
-use Rattle.qmodel.specs.Trace.{Trace}
+use Rattle.qrules.specs.Trace.{Trace}
 use Rattle.qworked.specs.Runs.{event, ended, flags_of}
 use Rattle.qworked.specs.Broken.Held.{held, run_of, sent}
 
 -- the second byte that is received isn't the one that was sent
 abbrev pub message_byte : Trace
-message_byte = sent (event 31 (Receive 1 (0x00 ∷ 0x00 ∷ 0x00 ∷ [])) (ended 5 31 (mark.Message 4 2) (0xaa ∷ 0xba ∷ 0x00 ∷ []) ∷ []) ∷ [])
+message_byte = sent
+    (event 31 (Receive 1 (0x00 ∷ 0x00 ∷ 0x00 ∷ []))
+    (ended 5 31 (mark.Message 4 2) (0xaa ∷ 0xba ∷ 0x00 ∷ []) ∷ []) ∷ [])
 
 -- the rest of the receiver's buffer is changed
 abbrev pub message_rest : Trace
-message_rest = sent (event 31 (Receive 1 (0x44 ∷ 0x44 ∷ 0x44 ∷ [])) (ended 5 31 (mark.Message 4 2) (0xaa ∷ 0xbb ∷ 0x00 ∷ []) ∷ []) ∷ [])
+message_rest = sent
+    (event 31 (Receive 1 (0x44 ∷ 0x44 ∷ 0x44 ∷ []))
+    (ended 5 31 (mark.Message 4 2) (0xaa ∷ 0xbb ∷ 0x00 ∷ []) ∷ []) ∷ [])
 
 -- two bytes are received, and three counted
 abbrev pub message_count : Trace
-message_count = sent (event 31 (Receive 1 (0x00 ∷ 0x00 ∷ 0x00 ∷ [])) (ended 5 31 (mark.Message 4 3) (0xaa ∷ 0xbb ∷ 0x00 ∷ []) ∷ []) ∷ [])
+message_count = sent
+    (event 31 (Receive 1 (0x00 ∷ 0x00 ∷ 0x00 ∷ []))
+    (ended 5 31 (mark.Message 4 3) (0xaa ∷ 0xbb ∷ 0x00 ∷ []) ∷ []) ∷ [])
 
 -- a pulse clears the buffer of its receiver
 abbrev pub pulse_buffer : Trace
 pulse_buffer = run_of (
     event 31 (Receive 1 (0x44 ∷ 0x55 ∷ [])) []
-    ∷ event 54 (Pulse 3 44 (pos 77) (pos 88)) (ended 4 31 (mark.Pulse 5 44 (what.User (pos 77) (pos 88))) (0x00 ∷ 0x00 ∷ []) ∷ ended 5 54 mark.Ok [] ∷ [])
+    ∷ event 54 (Pulse 3 44 (pos 77) (pos 88))
+    (ended 4 31 (mark.Pulse 5 44 (what.User (pos 77) (pos 88))) (0x00 ∷ 0x00 ∷ [])
+    ∷ ended 5 54 mark.Ok [] ∷ [])
     ∷ [])
 
 -- the byte of the reply isn't the one that was handed in
 abbrev pub reply_byte : Trace
-reply_byte = held (event 31 (Reply 4 (pos 61) (0xdd ∷ [])) (ended 6 31 mark.Ok [] ∷ ended 4 43 (mark.Replied (pos 61) 1) (0xdc ∷ 0x22 ∷ 0x33 ∷ []) ∷ []) ∷ [])
+reply_byte = held
+    (event 31 (Reply 4 (pos 61) (0xdd ∷ []))
+    (ended 6 31 mark.Ok [] ∷ ended 4 43 (mark.Replied (pos 61) 1) (0xdc ∷ 0x22 ∷ 0x33 ∷ []) ∷ []) ∷ [])
 
 -- one byte is replied, and none counted
 abbrev pub reply_count : Trace
-reply_count = held (event 31 (Reply 4 (pos 61) (0xdd ∷ [])) (ended 6 31 mark.Ok [] ∷ ended 4 43 (mark.Replied (pos 61) 0) (0xdd ∷ 0x22 ∷ 0x33 ∷ []) ∷ []) ∷ [])
+reply_count = held
+    (event 31 (Reply 4 (pos 61) (0xdd ∷ []))
+    (ended 6 31 mark.Ok [] ∷ ended 4 43 (mark.Replied (pos 61) 0) (0xdd ∷ 0x22 ∷ 0x33 ∷ []) ∷ []) ∷ [])
 
 -- the status isn't the one that was handed in
 abbrev pub reply_status : Trace
-reply_status = held (event 31 (Reply 4 (pos 61) (0xdd ∷ [])) (ended 6 31 mark.Ok [] ∷ ended 4 43 (mark.Replied (pos 60) 1) (0xdd ∷ 0x22 ∷ 0x33 ∷ []) ∷ []) ∷ [])
+reply_status = held
+    (event 31 (Reply 4 (pos 61) (0xdd ∷ []))
+    (ended 6 31 mark.Ok [] ∷ ended 4 43 (mark.Replied (pos 60) 1) (0xdd ∷ 0x22 ∷ 0x33 ∷ []) ∷ []) ∷ [])
 
 -- what was written isn't there at the answer
 abbrev pub write_lost : Trace
 write_lost = held (
     event 31 (Write 4 1 (0xcc ∷ [])) (ended 6 31 (mark.Count 1) [] ∷ [])
-    ∷ event 31 (Reply 4 (pos 61) (0xdd ∷ [])) (ended 7 31 mark.Ok [] ∷ ended 4 43 (mark.Replied (pos 61) 1) (0xdd ∷ 0x22 ∷ 0x33 ∷ []) ∷ [])
+    ∷ event 31 (Reply 4 (pos 61) (0xdd ∷ []))
+    (ended 7 31 mark.Ok [] ∷ ended 4 43 (mark.Replied (pos 61) 1) (0xdd ∷ 0x22 ∷ 0x33 ∷ []) ∷ [])
     ∷ [])
 
 -- one byte finds room, and two are counted
@@ -53,41 +69,60 @@ write_count = held (event 31 (Write 4 2 (0xcc ∷ 0xdd ∷ [])) (ended 6 31 (mar
 
 -- the byte that is read isn't the one at the offset
 abbrev pub read_byte : Trace
-read_byte = held (event 31 (Read 4 1 (0x00 ∷ 0x00 ∷ [])) (ended 6 31 (mark.Count 1) (0xaa ∷ 0x00 ∷ []) ∷ []) ∷ [])
+read_byte = held
+    (event 31 (Read 4 1 (0x00 ∷ 0x00 ∷ [])) (ended 6 31 (mark.Count 1) (0xaa ∷ 0x00 ∷ []) ∷ []) ∷ [])
 
 -- one byte is read, and two are counted
 abbrev pub read_count : Trace
-read_count = held (event 31 (Read 4 1 (0x00 ∷ 0x00 ∷ [])) (ended 6 31 (mark.Count 2) (0xbb ∷ 0x00 ∷ []) ∷ []) ∷ [])
+read_count = held
+    (event 31 (Read 4 1 (0x00 ∷ 0x00 ∷ [])) (ended 6 31 (mark.Count 2) (0xbb ∷ 0x00 ∷ []) ∷ []) ∷ [])
 
 -- a code comes with a byte of the reply buffer changed
 abbrev pub code_buffer : Trace
-code_buffer = held (event 31 (Error 4 (pos 61)) (ended 6 31 mark.Ok [] ∷ ended 4 43 (mark.Errored (pos 61)) (0x11 ∷ 0x22 ∷ 0x00 ∷ []) ∷ []) ∷ [])
+code_buffer = held
+    (event 31 (Error 4 (pos 61))
+    (ended 6 31 mark.Ok [] ∷ ended 4 43 (mark.Errored (pos 61)) (0x11 ∷ 0x22 ∷ 0x00 ∷ []) ∷ []) ∷ [])
 
 -- a Send fails with a byte of its reply buffer changed
 abbrev pub failed_buffer : Trace
-failed_buffer = sent (event 42 (Unblock 43) (ended 5 42 mark.Ok [] ∷ ended 4 43 (mark.Failed Intr) (0x11 ∷ 0x22 ∷ 0x00 ∷ []) ∷ []) ∷ [])
+failed_buffer = sent
+    (event 42 (Unblock 43)
+    (ended 5 42 mark.Ok [] ∷ ended 4 43 (mark.Failed Intr) (0x11 ∷ 0x22 ∷ 0x00 ∷ []) ∷ []) ∷ [])
 
 -- a call that brings no buffer gives one back
 abbrev pub buffer_from_nothing : Trace
 buffer_from_nothing = sent (event 42 (Unblock 42) (ended 5 42 mark.Ok (0xaa ∷ []) ∷ []) ∷ [])
 
--- the same of a channel that is created
+-- a channel is created with a buffer
 abbrev pub channel_buffer : Trace
-channel_buffer = run_of (event 31 (ChannelCreate (flags_of 0)) (ended 4 31 (mark.Channel 4) (0xaa ∷ []) ∷ []) ∷ [])
+channel_buffer = run_of
+    (event 31 (ChannelCreate (flags_of 0)) (ended 4 31 (mark.Channel 4) (0xaa ∷ []) ∷ []) ∷ [])
 
--- the same of a connection that is attached
+-- a connection is attached with a buffer
 abbrev pub connection_buffer : Trace
 connection_buffer = run_of (event 43 (ConnectAttach 1) (ended 4 43 (mark.Connection 4) (0xaa ∷ []) ∷ []) ∷ [])
 
--- the same of a message that is told of
+-- a message is told of with a buffer
 abbrev pub info_buffer : Trace
-info_buffer = held (event 31 (Info 4) (ended 6 31 (mark.Info (record { process = 152; thread = 43; connection = 2; msglen = 1; srcmsglen = 2; dstmsglen = 3; priority = 23 })) (0xaa ∷ []) ∷ []) ∷ [])
+info_buffer = held
+    (event 31 (Info 4)
+    (ended 6 31
+    (mark.Info
+    (record {
+      process = 152;
+      thread = 43;
+      connection = 2;
+      msglen = 1;
+      srcmsglen = 2;
+      dstmsglen = 3;
+      priority = 23;
+    })) (0xaa ∷ []) ∷ []) ∷ [])
 
--- the same of a thread's state
+-- a thread's state is told with a buffer
 abbrev pub state_buffer : Trace
 state_buffer = run_of (event 31 (State 54) (ended 4 31 (mark.State Ready 26) (0xaa ∷ []) ∷ []) ∷ [])
 
--- the same of a write
+-- a write ends with a buffer
 abbrev pub write_buffer : Trace
 write_buffer = held (event 31 (Write 4 2 (0xcc ∷ [])) (ended 6 31 (mark.Count 1) (0xaa ∷ []) ∷ []) ∷ [])
 

@@ -2,8 +2,8 @@
 use Rattle.std.specs.Prelude.{List, [], ◌∷◌}
 use Rattle.qmodel.specs.declared.call.Call.TheVariants.{Send, Receive}
 use Rattle.qmodel.specs.declared.call.Mark.TheVariants as mark
-use Rattle.qmodel.specs.Lawful.{followed_by}
-use Rattle.qmodel.specs.Trace.{Event, Trace}
+use Rattle.qrules.specs.Trace.{followed_by}
+use Rattle.qrules.specs.Trace.{Event, Trace}
 use Rattle.qworked.specs.Runs.{event, ended}
 use Rattle.qworked.specs.ThreeProcesses.{attached}
 
@@ -11,10 +11,12 @@ use Rattle.qworked.specs.ThreeProcesses.{attached}
 abbrev pub run_of : List Event → Trace
 run_of events = followed_by [] (attached events)
 
--- message 4 of two bytes is sent by thread 43 over connection 2, with a reply buffer of three, and then these events follow
+-- message 4 of two bytes is sent by thread 43 over connection 2, with a reply buffer of three, and then these
+-- events follow
 abbrev pub sent : List Event → Trace
 sent events = run_of (event 43 (Send 2 (0xaa ∷ 0xbb ∷ []) (0x11 ∷ 0x22 ∷ 0x33 ∷ [])) [] ∷ events)
 
--- the same message is received into one byte, and then these events follow
+-- message 4 is received into one byte, and then these events follow
 abbrev pub held : List Event → Trace
-held events = sent (event 31 (Receive 1 (0x00 ∷ [])) (ended 5 31 (mark.Message 4 1) (0xaa ∷ []) ∷ []) ∷ events)
+held events = sent
+    (event 31 (Receive 1 (0x00 ∷ [])) (ended 5 31 (mark.Message 4 1) (0xaa ∷ []) ∷ []) ∷ events)

@@ -4,7 +4,7 @@ use Rattle.qbase.specs.declared.errno.Errno.TheVariants.{Srch}
 use Rattle.qqueue.specs.declared.item.What.TheVariants as what
 use Rattle.qmodel.specs.declared.call.Call.TheVariants.{Send, Receive, Reply, ReceivePulse, Pulse, Shutdown}
 use Rattle.qmodel.specs.declared.call.Mark.TheVariants as mark
-use Rattle.qmodel.specs.Trace.{Trace}
+use Rattle.qrules.specs.Trace.{Trace}
 use Rattle.qworked.specs.Runs.{event, ended}
 use Rattle.qworked.specs.Broken.Held.{run_of, held}
 
@@ -18,7 +18,8 @@ pulse_twice = run_of (
     event 31 (ReceivePulse 1) []
     ∷ event 35 (ReceivePulse 1) []
     ∷ event 54 (Pulse 3 44 (pos 77) (pos 88))
-    (ended 4 31 (mark.Pulse 6 44 (what.User (pos 77) (pos 88))) [] ∷ ended 5 35 (mark.Pulse 6 44 (what.User (pos 77) (pos 88))) [] ∷ ended 6 54 mark.Ok [] ∷ [])
+    (ended 4 31 (mark.Pulse 6 44 (what.User (pos 77) (pos 88))) [] ∷ ended 5 35
+    (mark.Pulse 6 44 (what.User (pos 77) (pos 88))) [] ∷ ended 6 54 mark.Ok [] ∷ [])
     ∷ [])
 
 -- message 5 is received in event 4, and sent after it
@@ -31,6 +32,7 @@ early = run_of (
 -- message 4 is answered, and its Send fails after that
 abbrev pub ended_twice : Trace
 ended_twice = held (
-    event 31 (Reply 4 (pos 61) []) (ended 6 31 mark.Ok [] ∷ ended 4 43 (mark.Replied (pos 61) 0) (0x11 ∷ 0x22 ∷ 0x33 ∷ []) ∷ [])
+    event 31 (Reply 4 (pos 61) [])
+    (ended 6 31 mark.Ok [] ∷ ended 4 43 (mark.Replied (pos 61) 0) (0x11 ∷ 0x22 ∷ 0x33 ∷ []) ∷ [])
     ∷ event 31 Shutdown (ended 7 31 mark.Ok [] ∷ ended 4 43 (mark.Failed Srch) (0x11 ∷ 0x22 ∷ 0x33 ∷ []) ∷ [])
     ∷ [])

@@ -3,14 +3,15 @@ use Rattle.std.specs.Prelude.{[], ◌∷◌}
 use Rattle.qbase.specs.declared.errno.Errno.TheVariants.{Srch}
 use Rattle.qmodel.specs.declared.call.Call.TheVariants.{ConnectDetach, Receive, ReceivePulse, ChannelDestroy}
 use Rattle.qmodel.specs.declared.call.Mark.TheVariants as mark
-use Rattle.qmodel.specs.Trace.{Trace}
+use Rattle.qrules.specs.Trace.{Trace}
 use Rattle.qworked.specs.Runs.{event, ended}
 use Rattle.qworked.specs.Broken.Held.{held, run_of, sent}
 
 -- message 4 is received after its Send has failed with the channel
 abbrev pub received : Trace
 received = sent (
-    event 31 (ChannelDestroy 1) (ended 5 31 mark.Ok [] ∷ ended 4 43 (mark.Failed Srch) (0x11 ∷ 0x22 ∷ 0x33 ∷ []) ∷ [])
+    event 31 (ChannelDestroy 1)
+    (ended 5 31 mark.Ok [] ∷ ended 4 43 (mark.Failed Srch) (0x11 ∷ 0x22 ∷ 0x33 ∷ []) ∷ [])
     ∷ event 31 (Receive 1 []) (ended 6 31 (mark.Message 4 0) [] ∷ [])
     ∷ [])
 

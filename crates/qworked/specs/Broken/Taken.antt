@@ -1,9 +1,10 @@
 -- Another item is received than the one that was to be.
 use Rattle.std.specs.Prelude.{[], ◌∷◌, pos}
 use Rattle.qqueue.specs.declared.item.What.TheVariants as what
-use Rattle.qmodel.specs.declared.call.Call.TheVariants.{ChannelCreate, Send, Receive, Pulse, PrioritySet, ReceivePulse}
+use Rattle.qmodel.specs.declared.call.Call.TheVariants.{ChannelCreate, Send, Receive, Pulse, PrioritySet}
+use Rattle.qmodel.specs.declared.call.Call.TheVariants.{ReceivePulse}
 use Rattle.qmodel.specs.declared.call.Mark.TheVariants as mark
-use Rattle.qmodel.specs.Trace.{Trace}
+use Rattle.qrules.specs.Trace.{Trace}
 use Rattle.qworked.specs.Runs.{event, ended, flags_of}
 use Rattle.qworked.specs.Broken.Held.{sent}
 
@@ -54,4 +55,21 @@ overtaken_when_raised = sent (
     event 42 (Send 2 [] []) []
     ∷ event 43 (PrioritySet 42 23) (ended 6 43 mark.Ok [] ∷ [])
     ∷ event 31 (Receive 1 []) (ended 7 31 (mark.Message 5 0) [] ∷ [])
+    ∷ [])
+
+-- message 4 has the priority 23 and is lowered to 20, that of message 6, which is sent later over the same
+-- connection, and received first
+abbrev pub overtaken_when_lowered : Trace
+overtaken_when_lowered = sent (
+    event 42 (PrioritySet 43 20) (ended 5 42 mark.Ok [] ∷ [])
+    ∷ event 42 (Send 2 [] []) []
+    ∷ event 31 (Receive 1 []) (ended 7 31 (mark.Message 6 0) [] ∷ [])
+    ∷ [])
+
+-- message 4 has the priority 23 and is raised to 40, and message 6 is received, which has 26
+abbrev pub raised_passed_over : Trace
+raised_passed_over = sent (
+    event 42 (PrioritySet 43 40) (ended 5 42 mark.Ok [] ∷ [])
+    ∷ event 54 (Send 3 [] []) []
+    ∷ event 31 (Receive 1 []) (ended 7 31 (mark.Message 6 0) [] ∷ [])
     ∷ [])

@@ -2,6 +2,7 @@
 //! of it, to be made again by one thread.
 
 use crate::errors::{CallError, Errno, Result, outcome};
+use crate::ids::ReceiveId;
 use crate::kernel::{Call, Ending, Kernel, Mark, RawRequest, Thread};
 use crate::port::Port;
 use crate::results::Info;
@@ -48,8 +49,8 @@ impl Record {
     }
 
     /// The rest of a message is read. Under the kernel's lock.
-    pub(crate) fn read_on(&self, thread: u8, call: Call<'_>) {
-        let (request, _, room) = call.raw(thread);
+    pub(crate) fn read_on(&self, thread: u8, rcvid: ReceiveId, room: &[u8], offset: usize) {
+        let (request, ..) = Call::Read { rcvid, offset, buffer: room }.raw(thread);
         self.keep(Kept { request, sent: Vec::new(), room: room.to_vec(), seen: room.len(), reads_on: true });
     }
 

@@ -1,7 +1,7 @@
 -- proofs/carried/carried/Answers.antt
-use Rattle.std.proofs.Common.{◌≡◌, map, refl, ap, ◌∙◌}
+use Rattle.std.proofs.Common.{◌≡◌, [], map, refl, ap, ◌∙◌}
 use Rattle.qworked.specs.Runs.{flags_of}
-use Rattle.balsaeuchre.specs.OnlyRun.{event_call}
+use Rattle.balsaeuchre.specs.Lawful.{event_call}
 use Rattle.balsaeuchre_uses.specs.Carried.{roster, events}
 use Rattle.balsaeuchre_uses.proofs.Lawful.{carried_lawful, carried_memory}
 use Rattle.balsaeuchre_uses.proofs.RunLemmas.{run_of}
@@ -14,4 +14,4 @@ returns c =
     let flags-2 : c.of-2.result ≡ flags_of 0 = ap (λ n. flags_of n) c.of-2.ensures in
     c.in_ok-run.ensures.told ∙ c.in_ok-calls.ensures.items
     ∙ rw (c.send.ensures, c.send-2.ensures, c.send-3.ensures, c.receive.ensures, c.receive-2.ensures, c.reply.ensures, c.reply-2.ensures, flags, flags-2) refl in
-    run_of roster events c.in_ok-run.field-0 c.in_ok-kernel.ensures c.in_ok-run.ensures.headline told carried_lawful carried_memory
+    run_of roster events c.in_ok-run.field-0 (c.in_ok-run.ensures.headline roster [] tt c.in_ok-kernel.ensures) told carried_lawful carried_memory

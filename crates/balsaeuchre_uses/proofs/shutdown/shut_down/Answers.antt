@@ -1,6 +1,6 @@
-use Rattle.std.proofs.Common.{◌≡◌, map, refl, ap, ◌∙◌}
+use Rattle.std.proofs.Common.{◌≡◌, [], map, refl, ap, ◌∙◌}
 use Rattle.qworked.specs.Runs.{flags_of}
-use Rattle.balsaeuchre.specs.OnlyRun.{event_call}
+use Rattle.balsaeuchre.specs.Lawful.{event_call}
 use Rattle.balsaeuchre_uses.specs.ThreeThreads.{roster}
 use Rattle.balsaeuchre_uses.specs.ShutDown.{events}
 use Rattle.balsaeuchre_uses.proofs.Lawful.{shut_down_lawful, shut_down_memory}
@@ -12,4 +12,4 @@ returns c =
     let told : map event_call c.in_ok-run.field-0.events ≡ map event_call events =
     let flags : c.of.result ≡ flags_of 0 = ap (λ n. flags_of n) c.of.ensures in
     c.in_ok-run.ensures.told ∙ c.in_ok-calls.ensures.items ∙ rw (c.send.ensures, c.send-2.ensures, c.send-3.ensures, c.receive.ensures, c.reply.ensures, flags) refl in
-    run_of roster events c.in_ok-run.field-0 c.in_ok-kernel.ensures c.in_ok-run.ensures.headline told shut_down_lawful shut_down_memory
+    run_of roster events c.in_ok-run.field-0 (c.in_ok-run.ensures.headline roster [] tt c.in_ok-kernel.ensures) told shut_down_lawful shut_down_memory

@@ -1,5 +1,5 @@
-use Rattle.std.proofs.Common.{◌≡◌, map, refl, ◌∙◌}
-use Rattle.balsaeuchre.specs.OnlyRun.{event_call}
+use Rattle.std.proofs.Common.{◌≡◌, [], map, refl, ◌∙◌}
+use Rattle.balsaeuchre.specs.Lawful.{event_call}
 use Rattle.balsaeuchre_uses.specs.ThreeThreads.{roster}
 use Rattle.balsaeuchre_uses.specs.Timeout.{told_events}
 use Rattle.balsaeuchre_uses.proofs.Lawful.{told_lawful, told_memory}
@@ -10,4 +10,4 @@ pub returns : goal.returns
 returns c =
     let calls : map event_call c.in_ok-run.field-0.events ≡ map event_call told_events =
     c.in_ok-run.ensures.told ∙ c.in_ok-push-2.ensures.items ∙ rw (c.in_ok-push.ensures.items, c.in_ok-calls.ensures) refl in
-    run_of roster told_events c.in_ok-run.field-0 c.in_ok-kernel.ensures c.in_ok-run.ensures.headline calls told_lawful told_memory
+    run_of roster told_events c.in_ok-run.field-0 (c.in_ok-run.ensures.headline roster [] tt c.in_ok-kernel.ensures) calls told_lawful told_memory

@@ -1,5 +1,5 @@
 use Rattle.std.proofs.Common.{◌+◌, ◌≤◌, map, length, arith, ap, ◌∙◌}
-use Rattle.qmodel.specs.OnlyRun.{event_call}
+use Rattle.qrules.specs.Lawful.{event_call}
 use Rattle.qstate.specs.Thread.{blocked_count}
 use Rattle.qkernel.proofs.Running.{blocked_most, headline_of}
 use Rattle.qkernel.proofs.run.run.Goals as goal

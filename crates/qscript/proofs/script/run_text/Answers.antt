@@ -1,5 +1,6 @@
 use Rattle.std.proofs.Common.{[], refl, ap, ◌∙◌, arith}
 use Rattle.qkernel.specs.Stands.{StandsAt}
+use Rattle.qkernel.proofs.Traces.{stands_made, stands_roster}
 use Rattle.qscript.specs.Enrolled.{roster_with}
 use Rattle.qscript.specs.Printing.Printed.{printed}
 use Rattle.qscript.proofs.OneText.{text_of_calls}
@@ -8,10 +9,10 @@ use Rattle.qscript.proofs.script.run_text.Goals as goal
 pub run_calls-requires-clause-known : goal.run_calls-requires-clause-known
 run_calls-requires-clause-known c =
     let roster = c.roster_with_all-roster.ensures ∙ ap (roster_with []) c.as_slice.ensures.value in
-    rw (c.in-Ok.ensures.stands.roster_is, roster) c.requires.callers
+    rw (stands_roster _ _ [] c.in-Ok.ensures.stands, roster) c.requires.callers
 
 pub run_calls-requires-clause-limit : goal.run_calls-requires-clause-limit
-run_calls-requires-clause-limit c = omega (arith, c.in-Ok.ensures.stands.made, c.requires.few)
+run_calls-requires-clause-limit c = let made = stands_made _ _ [] c.in-Ok.ensures.stands in omega (arith, made, c.requires.few)
 
 pub run_calls-requires-clause-begun : goal.run_calls-requires-clause-begun
 run_calls-requires-clause-begun c = record {

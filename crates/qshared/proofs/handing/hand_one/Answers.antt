@@ -2,7 +2,7 @@ use Rattle.std.proofs.Common.{◌≡◌, ◌<◌, length, rules, sym, ◌∙◌,
 use Rattle.std.specs.Prelude.{Some}
 use Rattle.qhandoff.specs.Words.{desk}
 use Rattle.qshared.specs.Due.{place}
-use Rattle.qshared.specs.Putting.{Handed}
+use Rattle.qshared.specs.Private.Putting.{Handed}
 use Rattle.qshared.proofs.Puts.{one_handed}
 use Rattle.qshared.proofs.Places.{place_below}
 use Rattle.qshared.proofs.handing.hand_one.Goals as goal

@@ -1,13 +1,10 @@
-use Rattle.std.proofs.Common.{◌≡◌, [], sym, ◌∙◌, rules}
+use Rattle.std.proofs.Common.{◌≡◌, sym, ◌∙◌, rules}
 use Rattle.std.proofs.lemmas.Slice.Eq.{bytes_eq-Decides}
-use Rattle.qtool.proofs.Told.{told}
 use Rattle.qtool.proofs.example.outcome_of.Goals as goal
 
 -- what was printed is the trace, and it is the text of the run
 pub returns-then-eq : goal.returns-then-eq
 returns-then-eq c =
-    let empty : c.new-writer.result.inner.items ≡ [] = search rules in
-    let input : c.new-reader.result.inner.now ≡ c.args.input.now = search rules in
     let same : c.as_slice.result.now ≡ c.args.trace.now = (bytes_eq-Decides _ _).0 (sym c.eq.ensures ∙ c.if-eq.true) in
-    let kept : c.script.new.writer.inner.items ≡ c.as_slice.result.now = search rules in
-    record { same = λ e. rw (← input, ← same, ← kept) (told _ _ _ _ empty c.in_default.ensures.ok) }
+    let kept : c.in-Ok.printed.items ≡ c.as_slice.result.now = search rules in
+    record { same = λ e. rw (← same, ← kept) c.in-Ok.ensures }

@@ -6,4 +6,4 @@ invariant_of-result c =
     rw (c.new.ensures, c.new-2.ensures, c.in-Ok.ensures, c.members.ensures.all) (sound_new c.args.roster.now (rw c.members.ensures.all at c.members.ensures.fits) (rw c.members.ensures.all at c.members.ensures.rising))
 
 pub returns-clause-stands : goal.returns-clause-stands
-returns-clause-stands c = rw (c.new.ensures, c.new-2.ensures, c.in-Ok.ensures, c.members.ensures.all) (stands_new c.args.roster.now)
+returns-clause-stands c = rw (c.new.ensures, c.new-2.ensures, c.in-Ok.ensures, c.members.ensures.all) (stands_new c.args.roster.now (rw c.members.ensures.all at c.members.ensures.rising))

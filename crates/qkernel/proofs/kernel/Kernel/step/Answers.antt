@@ -19,7 +19,9 @@ returns-clause-event c =
     step_at_traces _ _ _ _ _ roster c.requires.known c.perform.ensures
 
 pub returns-clause-refused : goal.returns-clause-refused
-returns-clause-refused c = refused_leaves _ _ _ _ _ c.perform.ensures
+returns-clause-refused c =
+    let roster : IsRoster (members_of c.args.self.now.threads) = rw (← c.self.view_is) c.self.invariant.roster in
+    refused_leaves _ _ _ _ _ roster c.perform.ensures
 
 pub returns-clause-room : goal.returns-clause-room
 returns-clause-room c =

@@ -3,7 +3,7 @@ use Rattle.std.specs.Prelude.{Some, is_some}
 use Rattle.std.proofs.lemmas.Bool.{true≢false}
 use Rattle.qmodel.specs.Endings.{AreApart}
 use Rattle.qshared.specs.Due.{place}
-use Rattle.qshared.specs.Rooms.{IsKept}
+use Rattle.qshared.specs.Private.Rooms.{IsKept}
 use Rattle.qshared.proofs.KeptLog.{finds, all_may_copy, apart, kept_after, next_log, past_is, placed}
 use Rattle.qshared.proofs.kept.KeptLog.event.Goals as goal
 

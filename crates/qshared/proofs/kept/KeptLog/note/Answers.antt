@@ -1,5 +1,5 @@
 use Rattle.std.proofs.Common.{◌<◌, ◌^◌, length, ap, ◌∙◌, subst}
-use Rattle.qmodel.specs.Past.{is_down}
+use Rattle.qshared.specs.Past.{is_down}
 use Rattle.qshared.proofs.KeptLog.{admitted_kept, few_noted, refused_kept}
 use Rattle.qshared.proofs.kept.KeptLog.note.Goals as goal
 

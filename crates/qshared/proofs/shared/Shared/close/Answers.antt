@@ -5,9 +5,9 @@ use lib.ListN.{get_elem?}
 use Rattle.qmodel.specs.Facts.{threads_of}
 use Rattle.qmodel.proofs.Rosters.{rises}
 use Rattle.qhandoff.specs.Words.{cells_id, count, took, left_for, AreBelow, IsRow}
-use Rattle.qmodel.specs.Laws.{RiseByThread}
 use Rattle.qshared.specs.Asking.{calls_of}
 use Rattle.qshared.specs.Due.{AreKnown, endings_due, of_thread, place}
+use Rattle.qshared.specs.Past.{RiseByThread}
 use Rattle.qshared.proofs.Leftover.{few_left, left_by_thread, left_due, left_known}
 use Rattle.qshared.proofs.Lists.{map_both, names_of}
 use Rattle.qshared.proofs.Places.{place_below}

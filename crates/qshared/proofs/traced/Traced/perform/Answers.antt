@@ -4,6 +4,7 @@ use Rattle.qmodel.specs.Lawful.{with_event}
 use Rattle.qhandoff.specs.Words.{desk}
 use Rattle.qshared.specs.Due.{place}
 use Rattle.qshared.proofs.Keeps.{not_known, is_known, is_shut, is_busy, free, same_desk, held_after, apart, may_put, performs}
+use Rattle.qkernel.proofs.Traces.{stands_down, stands_made, stands_roster}
 use Rattle.qshared.proofs.traced.Traced.perform.Goals as goal
 
 pub returns-in_default : goal.returns-in_default
@@ -47,7 +48,7 @@ returns-in-Err g c =
 pub step-requires-clause-known : goal.step-requires-clause-known
 step-requires-clause-known g c =
     let at : place c.self.inside.threads.items c.args.thread ≡ Some c.in-Some.place = ap (λ ts. place ts c.args.thread) (sym c.deref.ensures.value) ∙ sym c.place_of.ensures ∙ c.in-Some.is in
-    rw (c.self.invariant.2.told.stands.roster_is) (is_known _ _ _ _ _ _ _ c.self.invariant.2 c.args.thread c.in-Some.place at)
+    rw (stands_roster _ _ _ c.self.invariant.2.told.stands) (is_known _ _ _ _ _ _ _ c.self.invariant.2 c.args.thread c.in-Some.place at)
 
 pub event-requires-clause-lawful : goal.event-requires-clause-lawful
 event-requires-clause-lawful g c =
@@ -108,9 +109,9 @@ returns g c =
 
 pub note-requires : goal.note-requires
 note-requires g c = record {
-  up = sym c.self.invariant.2.told.stands.down ∙ sym c.is_down.ensures ∙ c.if-is_down.false;
-  made = c.made-made.ensures.value ∙ c.self.invariant.2.told.stands.made;
+  up = sym (stands_down _ _ _ c.self.invariant.2.told.stands) ∙ sym c.is_down.ensures ∙ c.if-is_down.false;
+  made = c.made-made.ensures.value ∙ stands_made _ _ _ c.self.invariant.2.told.stands;
 }
 
 pub event-requires-clause-up : goal.event-requires-clause-up
-event-requires-clause-up g c = rw (c.note.ensures.same.0) (sym c.self.invariant.2.told.stands.down ∙ sym c.is_down.ensures ∙ c.if-is_down.false)
+event-requires-clause-up g c = rw (c.note.ensures.same.0) (sym (stands_down _ _ _ c.self.invariant.2.told.stands) ∙ sym c.is_down.ensures ∙ c.if-is_down.false)

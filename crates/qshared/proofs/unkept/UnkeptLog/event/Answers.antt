@@ -1,21 +1,22 @@
 use Rattle.std.proofs.Common.{◌≡◌, ◌∙◌, ap, sym, subst, true, inl, inr, arith}
 use Rattle.std.proofs.lemmas.Bool.{cases_Bool, true≢false}
-use Rattle.qmodel.specs.Answer.{Answers}
-use Rattle.qmodel.specs.Effects.{shuts_down}
-use Rattle.qmodel.specs.Lawful.{facts_of, with_event}
-use Rattle.qmodel.specs.Past.{is_down}
+use Rattle.qmodel.specs.Lawful.{with_event}
+use Rattle.qrules.specs.Lawful.{facts_of}
+use Rattle.qrules.specs.Outcome.{Answers}
+use Rattle.qrules.specs.Rules.{effect_of}
+use Rattle.qshared.specs.Past.{is_down}
 use Rattle.qshared.proofs.KeptLog.{is_shutdown, shutdown_down}
 use Rattle.qshared.proofs.unkept.UnkeptLog.event.Goals as goal
 
 pub invariant_of-self-clause-spare : goal.invariant_of-self-clause-spare
 invariant_of-self-clause-spare g c = λ up.
     let s = c.args.self.now in
-    elim (cases_Bool (shuts_down s.call.value)) [
+    elim (cases_Bool (effect_of s.call.value).shuts_down) [
       | inl shut ↦
           let is = is_shutdown s.call.value shut in
           let answers = subst (λ k. Answers (facts_of g.K.Tie.names.roster s.past.trace) c.args.thread k c.args.endings.now.items) is c.requires.answers in
           let down : is_down (with_event c.args.thread s.call.value c.args.endings.now.items s.past.trace) ≡ true =
-          subst (λ k. is_down (with_event c.args.thread k c.args.endings.now.items s.past.trace) ≡ true) (sym is) (shutdown_down g.K.Tie.names.roster s.past.trace c.args.thread c.args.endings.now.items c.requires.up c.requires.thread.1 answers) in
+          subst (λ k. is_down (with_event c.args.thread k c.args.endings.now.items s.past.trace) ≡ true) (sym is) (shutdown_down g.K.Tie.names.roster s.past.trace c.args.thread c.args.endings.now.items c.requires.lawful c.requires.up c.requires.thread.1 answers) in
           absurd (true≢false (sym down ∙ ap is_down (sym c.with-self.ensures) ∙ up))
       | inr other ↦ let few = s.admitted other in rw (c.with-self.ensures) (omega (arith, few))
     ]

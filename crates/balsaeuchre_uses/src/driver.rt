@@ -1,0 +1,121 @@
+//! A driver: a server that keeps its client waiting until the device has a value, of which a third thread tells it by a
+//! pulse.
+
+ghost use Rattle.balsaeuchre.specs.Naming.{AreParts};
+
+use balsaeuchre::calls::{CallError, Caller, Endpoint, Received, Result};
+use balsaeuchre::shared::{Kept, Parts, Shared, Tie};
+use balsaeuchre::{ChannelFlags, ChannelId, Priority, ProcessNo, Roster, ThreadNo, What};
+use std::alloc::Global;
+use std::marker::Brand;
+use std::sync::Wait;
+use std::thread::{Threads, join};
+
+/// The driver's work: answers each message with the device's next value, whichever of the two comes first, until the
+/// client has detached.
+fn drive<E: Endpoint, R: Wait>(driver: &mut Caller<E, R>, chid: ChannelId) -> Result<()> {
+    let mut values = Vec::new(driver.alloc());
+    let mut held = None;
+    for _ in driver.rt().forever() {
+        match driver.msg_receive(chid, 0)? {
+            Received::Message(request) => held = Some(request.rcvid),
+            Received::Pulse(pulse) => match pulse.what {
+                What::User { value, .. } => values.push(value)?,
+                _ => break,
+            },
+        }
+        let Some(rcvid) = held else { continue };
+        if !values.is_empty() {
+            driver.msg_reply(rcvid, 0, &values.remove(0).to_be_bytes())?;
+            held = None;
+        }
+    }
+    Ok(())
+}
+
+/// The device's thread: tells the driver of each value, as an interrupt would.
+fn interrupt<E: Endpoint, R: Wait>(
+    device: &mut Caller<E, R>,
+    chid: ChannelId,
+    values: &[i32],
+) -> Result<()> {
+    let coid = device.connect_attach(chid)?;
+    for value in values {
+        device.msg_send_pulse(coid, Priority::lowest(), 0, *value)?;
+    }
+    Ok(())
+}
+
+/// The client: asks for as many values, and waits for each.
+fn read<E: Endpoint, R: Wait>(
+    client: &mut Caller<E, R>,
+    chid: ChannelId,
+    values: &[i32],
+) -> Result<()> {
+    let coid = client.connect_attach(chid)?;
+    for value in values {
+        let answer = client.msg_send(coid, b"", 4)?;
+        if answer.bytes() != value.to_be_bytes().as_slice() {
+            return Err(CallError::Unexpected);
+        }
+    }
+    client.connect_detach(coid)
+}
+
+/// The device's thread and the client's, side by side.
+fn use_device<D: Endpoint + Send, C: Endpoint + Send, R: Threads + Wait + Sync>(
+    rt: &R,
+    device: &mut Caller<D, R>,
+    client: &mut Caller<C, R>,
+    chid: ChannelId,
+    values: &[i32],
+) -> Result<()> {
+    let (told, got) = join(
+        rt,
+        || device.run(|device| interrupt(device, chid, values)),
+        || client.run(|client| read(client, chid, values)),
+    );
+    told.and(got)
+}
+
+/// Opens the kernel, starts the three threads, and waits for them.
+fn run<K: Tie + Send + Sync, R: Threads + Wait + Sync>(
+    rt: &R,
+    alloc: Global,
+    parts: Parts,
+    values: &[i32],
+) -> Result<()>
+    requires named { AreParts K.names K.name K.parts parts }
+{
+    let (shared, mut ports) = Shared::<K, Kept<K>>::open(parts)?;
+    let (Some(third), Some(second), Some(first)) = (ports.pop(), ports.pop(), ports.pop()) else {
+        return Err(CallError::Unexpected);
+    };
+    let mut driver = Caller::of(first, &shared, rt, alloc);
+    let mut device = Caller::of(second, &shared, rt, alloc);
+    let mut client = Caller::of(third, &shared, rt, alloc);
+    let chid = driver.channel_create(ChannelFlags::DISCONNECT)?;
+    let (drove, done) = join(
+        rt,
+        || {
+            let drove = drive(&mut driver, chid);
+            driver.or_shutdown(drove)
+        },
+        || use_device(rt, &mut device, &mut client, chid, values),
+    );
+    drove.and(done)
+}
+
+/// A client reads these values of a device by its driver. The driver and the device's thread are of one process.
+pub fn with_a_driver<R: Threads + Wait + Sync>(
+    rt: &R,
+    alloc: Global,
+    values: &[i32],
+) -> Result<()> {
+    let mut roster = Roster::new(alloc);
+    roster.add(ThreadNo(1), ProcessNo(1), Priority::lowest())?;
+    roster.add(ThreadNo(2), ProcessNo(1), Priority::lowest())?;
+    roster.add(ThreadNo(3), ProcessNo(2), Priority::lowest())?;
+    let parts = Parts::new(alloc, &roster, 1 << 10)?;
+    run::<Brand, R>(rt, alloc, parts, values)
+}

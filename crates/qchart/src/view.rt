@@ -1,0 +1,55 @@
+//! What of a run is drawn, and how.
+
+ghost use Rattle.std.specs.Prelude.{◌≡◌, ◌-◌, ◌^◌};
+
+/// How a chart is drawn.
+#[derive(Clone, Copy, Debug, PartialEq, Eq)]
+pub enum Style {
+    /// As SVG, for a browser.
+    Svg,
+    /// In columns of text.
+    Text,
+}
+
+/// What of a run is drawn, and how.
+#[derive(Clone, Copy, Debug, PartialEq, Eq)]
+pub struct View {
+    pub style: Style,
+    /// Whether the words have the bytes of messages and answers.
+    pub bytes: bool,
+    /// The number of the first call that is drawn, from 1.
+    pub from: usize,
+    /// The number of the last call that is drawn; behind the last call is the last.
+    pub to: usize,
+}
+
+impl View {
+    ghost use Rattle.qchart.specs.View.{drawn_count};
+
+    /// The whole run, without bytes.
+    pub fn whole(style: Style) -> View
+        ensures from { result.from ≡ 1 }
+        ensures to { result.to ≡ 2 ^ 64 - 1 }
+    {
+        View {
+            style,
+            bytes: false,
+            from: 1,
+            to: usize::MAX,
+        }
+    }
+
+    /// How many calls come before the first that is drawn.
+    pub fn before(&self) -> usize
+        ensures { result ≡ self.now.from - 1 }
+    {
+        self.from.saturating_sub(1)
+    }
+
+    /// How many of so many calls are drawn.
+    pub fn span(&self, calls: usize) -> usize
+        ensures { result ≡ drawn_count self.now calls }
+    {
+        self.to.min(calls).saturating_sub(self.before())
+    }
+}

@@ -1,0 +1,274 @@
+//! What is often written in a script, and what to write in its place.
+
+use crate::grammar::Operand;
+use qreading::reading::call::is;
+use std::alloc::{AllocError, Global};
+use std::str;
+
+/// A name of QNX, in small letters without underscores, and the word of a script for it.
+struct QnxName {
+    name: &'static str,
+    word: &'static str,
+}
+
+static QNX_NAMES: [QnxName; 18] = [
+    QnxName {
+        name: "channelcreate",
+        word: "create",
+    },
+    QnxName {
+        name: "channeldestroy",
+        word: "destroy",
+    },
+    QnxName {
+        name: "connectattach",
+        word: "attach",
+    },
+    QnxName {
+        name: "connectdetach",
+        word: "detach",
+    },
+    QnxName {
+        name: "msgsend",
+        word: "send",
+    },
+    QnxName {
+        name: "msgsendv",
+        word: "send",
+    },
+    QnxName {
+        name: "msgsendnc",
+        word: "send",
+    },
+    QnxName {
+        name: "msgreceive",
+        word: "receive",
+    },
+    QnxName {
+        name: "msgreceivepulse",
+        word: "receivepulse",
+    },
+    QnxName {
+        name: "msgsendpulse",
+        word: "pulse",
+    },
+    QnxName {
+        name: "msgreply",
+        word: "reply",
+    },
+    QnxName {
+        name: "msgerror",
+        word: "error",
+    },
+    QnxName {
+        name: "msgread",
+        word: "read",
+    },
+    QnxName {
+        name: "msgwrite",
+        word: "write",
+    },
+    QnxName {
+        name: "msginfo",
+        word: "info",
+    },
+    QnxName {
+        name: "schedset",
+        word: "setprio",
+    },
+    QnxName {
+        name: "schedget",
+        word: "state",
+    },
+    QnxName {
+        name: "timertimeout",
+        word: "unblock",
+    },
+];
+
+/// The call that QNX has under this name, in whichever case, also with underscores.
+pub fn qnx_call(alloc: Global, word: &[u8]) -> Result<Option<&'static str>, AllocError> {
+    let mut plain = Vec::new(alloc);
+    for byte in word {
+        if *byte != b'_' {
+            plain.push(byte.to_ascii_lowercase())?;
+        }
+    }
+    for name in &QNX_NAMES {
+        if is(plain.as_slice(), name.name) {
+            return Ok(Some(name.word));
+        }
+    }
+    Ok(None)
+}
+
+/// Whether a word begins a comment in other languages.
+pub fn is_comment(word: &[u8]) -> bool {
+    word.starts_with(b"//")
+        || word.starts_with(b"/*")
+        || word.starts_with(b"--")
+        || word.starts_with(b";")
+}
+
+/// What to say of a line with names in a plain script.
+pub const NAMES_HINT: &str = "; a script with names is a file NAME.names";
+
+/// Whether a word is a sign that scripts with names have.
+pub fn is_names_sign(word: &[u8]) -> bool {
+    is(word, "=") || is(word, "->")
+}
+
+/// What to say of a word that is too many; nothing where it is no comment.
+pub fn extra_hint(word: &[u8]) -> &'static str {
+    if word.starts_with(b"#") {
+        "; a comment has a line of its own"
+    } else if is_comment(word) {
+        "; a comment begins with # and has a line of its own"
+    } else {
+        ""
+    }
+}
+
+/// What to say of a byte at a place of a line that has none but tabs and what prints before it.
+pub fn byte_hint(line: &[u8], at: usize) -> &'static str {
+    if line.starts_with(b"\xef\xbb\xbf") {
+        "; this is a byte order mark: save the text without it"
+    } else if line.starts_with(b"\xff\xfe") || line.starts_with(b"\xfe\xff") || line.contains(&0) {
+        "; this is UTF-16: save the text as UTF-8"
+    } else if line.get(at) == Some(&b'\r') {
+        "; this is a carriage return: a line ends with a line feed"
+    } else if line.get(at..).unwrap_or(&[]).starts_with(b"\xc2\xa0") {
+        "; this is a no-break space: write a space"
+    } else {
+        ""
+    }
+}
+
+/// Whether a text is in UTF-16, of which no line can be read.
+pub fn is_utf_16(text: &[u8]) -> bool {
+    text.starts_with(b"\xff\xfe") || text.starts_with(b"\xfe\xff") || text.get(1) == Some(&0)
+}
+
+/// Adds what to write in place of a word that can't be read as this operand, if that is known.
+pub fn push_operand_hint(
+    wanted: &mut String,
+    operand: Operand,
+    word: &[u8],
+) -> Result<(), AllocError> {
+    match operand {
+        Operand::Flags => push_flag_hint(wanted, word),
+        Operand::Message | Operand::ReplyBuffer | Operand::Buffer | Operand::Data => {
+            push_bytes_hint(wanted, word)
+        }
+        _ => Ok(()),
+    }
+}
+
+/// The number of a flag that is written by its name, in whichever way QNX spells it, or by its number.
+fn flag_number(word: &[u8]) -> Option<u8> {
+    if word.ends_with(b"FIXED_PRIORITY") || is(word, "1") {
+        Some(1)
+    } else if word.ends_with(b"DISCONNECT") || is(word, "4") {
+        Some(4)
+    } else if word.ends_with(b"UNBLOCK") || is(word, "2") {
+        Some(2)
+    } else {
+        None
+    }
+}
+
+/// The sum of the flags that a word has with `|` or `+` between; `None` where one of them isn't known.
+fn flag_sum(word: &[u8]) -> Option<u8> {
+    let mut sum = 0u8;
+    for part in word.split(|byte| *byte == b'|' || *byte == b'+') {
+        sum |= flag_number(part)?;
+    }
+    Some(sum)
+}
+
+/// Adds the number of flags that are written by their names.
+fn push_flag_hint(wanted: &mut String, word: &[u8]) -> Result<(), AllocError> {
+    match flag_sum(word) {
+        Some(sum) => write!(wanted, ": write {sum}"),
+        None => Ok(()),
+    }
+}
+
+/// Whether a word is of decimal digits alone.
+fn is_decimal(word: &[u8]) -> bool {
+    !word.is_empty() && word.iter().all(|byte| byte.is_ascii_digit())
+}
+
+/// Adds how bytes are written.
+fn push_bytes_hint(wanted: &mut String, word: &[u8]) -> Result<(), AllocError> {
+    match word {
+        [b'0', b'x' | b'X', ..] => wanted.push_str("; they have no 0x before them"),
+        [b'"', ..] => wanted.push_str("; text in quotes is no form of bytes"),
+        [b'[', count @ .., b']'] => push_count_hint(wanted, count),
+        _ if is_decimal(word) => push_count_hint(wanted, word),
+        _ if word.contains(&b'x') => push_equal_hint(wanted, word),
+        _ => push_text_hint(wanted, word),
+    }
+}
+
+/// Adds how so many bytes of zero are written, if there may be so many.
+fn push_count_hint(wanted: &mut String, count: &[u8]) -> Result<(), AllocError> {
+    let Ok(shown) = str::from_utf8(count) else {
+        return Ok(());
+    };
+    if !is_decimal(count) || count.len() > 4 {
+        return Ok(());
+    }
+    write!(wanted, "; for {shown} bytes of zero write {shown}x00")
+}
+
+/// Adds what is wrong with so many equal bytes: their byte hasn't two digits, or they are too many.
+fn push_equal_hint(wanted: &mut String, word: &[u8]) -> Result<(), AllocError> {
+    let digits = word.iter().position(|byte| *byte == b'x').unwrap_or(0);
+    if !is_decimal(word.get(..digits).unwrap_or(&[])) {
+        return Ok(());
+    }
+    if word.len().saturating_sub(digits) != 3 {
+        wanted.push_str("; behind x stand the two digits of one byte")
+    } else {
+        wanted.push_str("; there are 4,096 at most")
+    }
+}
+
+/// How many letters of a word are written as bytes at most.
+const MOST_LETTERS: usize = 16;
+
+/// Whether a word is of letters alone, not all of which are hexadecimal digits.
+fn is_text(word: &[u8]) -> bool {
+    word.len() <= MOST_LETTERS
+        && word.iter().all(|byte| byte.is_ascii_alphabetic())
+        && !word.iter().all(|byte| byte.is_ascii_hexdigit())
+}
+
+/// Adds the bytes of a word of letters, as they are to be written.
+fn push_text_hint(wanted: &mut String, word: &[u8]) -> Result<(), AllocError> {
+    if !is_text(word) {
+        return Ok(());
+    }
+    wanted.push_str("; these letters are ")?;
+    for byte in word {
+        write!(wanted, "{byte:02x}")?;
+    }
+    Ok(())
+}
+
+/// What to say of a buffer that may be meant as a length; `None` where it can't be.
+pub fn buffer_hint(alloc: Global, word: &[u8]) -> Result<Option<String>, AllocError> {
+    if !is_decimal(word) || word.first() == Some(&b'0') || word.len() > 4 {
+        return Ok(None);
+    }
+    let Ok(shown) = str::from_utf8(word) else {
+        return Ok(None);
+    };
+    let count = word.len() / 2;
+    let bytes = if count == 1 { "byte" } else { "bytes" };
+    let hint = format!(in alloc;
+        "{shown} is {count} {bytes}; for {shown} bytes of zero write {shown}x00"
+    )?;
+    Ok(Some(hint))
+}

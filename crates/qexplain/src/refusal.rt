@@ -1,0 +1,167 @@
+//! Which rule refused a call, as the past calls tell.
+
+use crate::found::{Delivery, Life};
+use crate::history::{History, Past};
+use qbase::errno::Errno;
+use qbase::ids::ProcessNo;
+use qreading::reading::call::Verb;
+
+/// What a call may name of another process.
+#[derive(Clone, Copy, Debug, PartialEq, Eq)]
+pub enum Thing {
+    Channel,
+    Connection,
+    Thread,
+    /// A message, which is of the process that its channel is of.
+    Message,
+}
+
+/// Which rule refused a call, of those in the table of `docs/MODEL.md`.
+#[derive(Clone, Copy, Debug, PartialEq, Eq)]
+pub enum Reason {
+    /// The call of this number shut the kernel down.
+    Down(u64),
+    /// Its thread is blocked in the call of this number.
+    Busy(u64),
+    /// An unknown flag is set.
+    Flags(u64),
+    /// The code of a pulse is below 0.
+    Code,
+    /// It names a channel that isn't there.
+    NoChannel(u64, Life),
+    /// It names a connection that isn't there.
+    NoConnection(u64, Life),
+    /// Its connection leads to this channel, which the call of the second number destroyed.
+    Nowhere(u64, u64),
+    /// It names a thread that the roster doesn't have.
+    NoThread(u64),
+    /// It names a message that isn't held.
+    NoMessage(u64, Delivery),
+    /// It names a thing of this process, which isn't its thread's.
+    Others(Thing, u64, ProcessNo),
+    /// As many channels as there may be are open.
+    Channels,
+    /// There are as many connections as there may be.
+    Connections,
+    /// As many pulses wait on a channel as may.
+    Pulses,
+    /// There was no memory.
+    NoMemory,
+    /// None of these.
+    Unknown,
+}
+
+impl History {
+    /// Which rule refused a call with this error, which is none of the calls so far.
+    pub fn reason(&self, past: &Past, errno: Errno) -> Reason {
+        match errno {
+            Errno::Down => Reason::Down(self.shutdown()),
+            Errno::Busy => Reason::Busy(self.open_call(past.thread).unwrap_or(0)),
+            Errno::NoMemory => Reason::NoMemory,
+            Errno::Again => limit(past.verb),
+            Errno::Inval => self.invalid(past),
+            Errno::Badf => self.bad_connection(past),
+            Errno::Srch => self.nothing_found(past),
+            _ => Reason::Unknown,
+        }
+    }
+
+    /// The number of the call that shut the kernel down; 0 where none did.
+    fn shutdown(&self) -> u64 {
+        let is_last = |past: &Past| matches!(past.verb, Verb::Shutdown) && past.is_accepted();
+        match self.calls().iter().position(is_last) {
+            Some(place) => (place as u64).saturating_add(1),
+            None => 0,
+        }
+    }
+
+    /// Why a call is refused with `Inval`.
+    fn invalid(&self, past: &Past) -> Reason {
+        match past.verb {
+            Verb::Create => Reason::Flags(past.operand),
+            Verb::Pulse => Reason::Code,
+            Verb::Destroy => self.bad_channel(past),
+            Verb::Detach => self.bad_connection(past),
+            _ => Reason::Unknown,
+        }
+    }
+
+    /// Why a call is refused with `Srch`.
+    fn nothing_found(&self, past: &Past) -> Reason {
+        match past.verb {
+            Verb::Attach | Verb::Receive | Verb::ReceivePulse => self.bad_channel(past),
+            Verb::SetPrio | Verb::State | Verb::Unblock => self.bad_thread(past),
+            Verb::Reply | Verb::Error | Verb::Read | Verb::Write | Verb::Info => {
+                self.bad_message(past)
+            }
+            _ => Reason::Unknown,
+        }
+    }
+
+    /// What is wrong with the channel that a call names.
+    fn bad_channel(&self, past: &Past) -> Reason {
+        let channel = past.operand;
+        match self.channel_life(channel) {
+            Life::Live => match self.maker_of(channel) {
+                Some(process) => Reason::Others(Thing::Channel, channel, process),
+                None => Reason::Unknown,
+            },
+            life => Reason::NoChannel(channel, life),
+        }
+    }
+
+    /// What is wrong with the connection that a call names.
+    fn bad_connection(&self, past: &Past) -> Reason {
+        let connection = past.operand;
+        let life = self.connection_life(connection);
+        if life != Life::Live {
+            return Reason::NoConnection(connection, life);
+        }
+        match self.maker_of(connection) {
+            Some(process) if self.process_of(past.thread) != Some(process) => {
+                Reason::Others(Thing::Connection, connection, process)
+            }
+            _ => self.bad_way(connection),
+        }
+    }
+
+    /// What is wrong with the channel that a connection leads to.
+    fn bad_way(&self, connection: u64) -> Reason {
+        let channel = self.channel_of(connection);
+        match self.channel_life(channel) {
+            Life::Gone(by) => Reason::Nowhere(channel, by),
+            _ => Reason::Unknown,
+        }
+    }
+
+    /// What is wrong with the thread that a call names.
+    fn bad_thread(&self, past: &Past) -> Reason {
+        let thread = past.operand;
+        let mut members = self.members().iter();
+        match members.find(|member| u64::from(member.thread.0) == thread) {
+            Some(member) => Reason::Others(Thing::Thread, thread, member.process),
+            None => Reason::NoThread(thread),
+        }
+    }
+
+    /// What is wrong with the message that a call names.
+    fn bad_message(&self, past: &Past) -> Reason {
+        let message = past.operand;
+        match self.delivery(message) {
+            Delivery::Held => match self.maker_of(self.channel_of_message(message)) {
+                Some(process) => Reason::Others(Thing::Message, message, process),
+                None => Reason::Unknown,
+            },
+            delivery => Reason::NoMessage(message, delivery),
+        }
+    }
+}
+
+/// The limit that a call met.
+fn limit(verb: Verb) -> Reason {
+    match verb {
+        Verb::Create => Reason::Channels,
+        Verb::Attach => Reason::Connections,
+        _ => Reason::Pulses,
+    }
+}

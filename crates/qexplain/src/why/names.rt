@@ -1,0 +1,50 @@
+//! What a number names, in words.
+
+use crate::history::{End, History, Past, verb_word};
+use qreading::reading::call::Verb;
+use std::alloc::{AllocError, Global};
+
+/// What the call of a number did, for one that names something else by that number.
+pub fn call_words(alloc: Global, history: &History, number: u64) -> Result<String, AllocError> {
+    if number == 0 {
+        return String::from_str(alloc, "calls are numbered from 1");
+    }
+    match history.call(number) {
+        Some(past) => past_words(alloc, number, &past),
+        None => no_call_words(alloc, history, number),
+    }
+}
+
+/// Where no call before this one has a number.
+fn no_call_words(alloc: Global, history: &History, number: u64) -> Result<String, AllocError> {
+    if number == history.made().saturating_add(1) {
+        return format!(in alloc; "call {number} is this one");
+    }
+    format!(in alloc; "call {number} isn't made yet")
+}
+
+/// What a past call did.
+fn past_words(alloc: Global, number: u64, past: &Past) -> Result<String, AllocError> {
+    if past.is_refused(number) {
+        return format!(in alloc; "call {number} was refused");
+    }
+    match past.end {
+        End::Channel => format!(in alloc; "call {number} made a channel"),
+        End::Connection => format!(in alloc; "call {number} made a connection"),
+        End::Message(message) => { format!(in alloc; "call {number} received message {message}") }
+        End::Pulse(item) => format!(in alloc; "call {number} received pulse {item}"),
+        _ => verb_words(alloc, number, past.verb),
+    }
+}
+
+/// What a past call was, where its end says nothing of it.
+fn verb_words(alloc: Global, number: u64, verb: Verb) -> Result<String, AllocError> {
+    if matches!(verb, Verb::Send) {
+        return format!(in alloc; "call {number} sent message {number}");
+    }
+    if matches!(verb, Verb::Pulse) {
+        return format!(in alloc; "call {number} sent a pulse");
+    }
+    let word = verb_word(verb);
+    format!(in alloc; "call {number} is the call '{word}'")
+}

@@ -1,0 +1,123 @@
+-- A kernel's content, as the rules have it and as its inner functions have it.
+use Rattle.std.proofs.Common.{◌≡◌, ◌∙◌, ◌<◌, ℕ, ◌+◌, List, [], ◌∷◌, length, refl, ap, sym, cond, arith, true, false, eqb}
+use Rattle.std.specs.Prelude.{Option, None, Some, is_some, filter_map, option_map, ◌||◌}
+use Rattle.std.specs.List.{cons_option, AllByRecursion}
+use Rattle.std.proofs.lemmas.Bool.{ne_eqb, true≢false}
+use Rattle.qbase.proofs.Lists.{eqb_same, is_among}
+use Rattle.qtables.specs.Members.{IsRoster}
+use Rattle.qtables.specs.declared.member.Member.{Member}
+use Rattle.qmodel.specs.Facts.{threads_of, Facts as OldFacts}
+use Rattle.qmodel.specs.Lawful as old_lawful
+use Rattle.qmodel.specs.declared.open_call.OpenCall.{OpenCall}
+use Rattle.qmodel.specs.declared.open_call.Receipt.{Receipt as OldReceipt}
+use Rattle.qmodel.specs.declared.open_call.Wait.{Wait}
+use Rattle.qmodel.specs.declared.open_call.Wait.TheVariants.{Answer, Item as ForItem}
+use Rattle.qstate.specs.Thread.{members_of, open_in}
+use Rattle.qstate.specs.declared.thread.Thread.{Thread}
+use Rattle.qkernel.specs.Kernel.{facts_in as content_of, State}
+use Rattle.qkernel.specs.Private.Steps.{facts_in}
+use Rattle.qkernel.specs.Stands.{StandsAt}
+use Rattle.qrules.specs.Facts.{receive_of, send_of, OpenReceive, OpenSend, Receipt}
+use Rattle.qrules.specs.Same.{facts_view, receive_in, receive_view, send_in, send_view, AreOfRoster}
+use Rattle.qrules.specs.Trace.{Trace}
+use Rattle.qrules.proofs.Past.Facts.{facts_known, same_facts}
+use Rattle.qrules.proofs.View.{receive_found, send_found, IsKnown}
+
+-- ---- the open calls, by threads
+
+open_first : (t : Thread) (threads : List Thread) → open_in (t ∷ threads) t.member.thread ≡ t.open_call
+open_first t threads = rw (eqb_same t.member.thread) refl
+
+open_other : (t : Thread) (threads : List Thread) (u : ℕ) → t.member.thread < u → open_in (t ∷ threads) u ≡ open_in threads u
+open_other t threads u less = let other : eqb t.member.thread u ≡ false = ne_eqb _ _ (λ same. omega arith) in rw other refl
+
+module _ {X : Type 0} (g : ℕ → Option OpenCall → Option X) where
+  by_others : (t : Thread) (threads ts : List Thread) → AllByRecursion (λ m. t.member.thread < m.thread) (members_of ts)
+      → filter_map (λ u. g u (open_in (t ∷ threads) u)) (threads_of (members_of ts)) ≡ filter_map (λ u. g u (open_in threads u)) (threads_of (members_of ts))
+  by_others t threads [] h = refl
+  by_others t threads (x ∷ ts) h = rw (open_other t threads x.member.thread h.0, by_others t threads ts h.1) refl
+
+  by_thread : (threads : List Thread) → IsRoster (members_of threads) → filter_map (λ t. g t.member.thread t.open_call) threads ≡ filter_map (λ u. g u (open_in threads u)) (threads_of (members_of threads))
+  by_thread [] r = refl
+  by_thread (t ∷ threads) r =
+      ap (cons_option (g t.member.thread t.open_call)) (by_thread threads r.1 ∙ sym (by_others t threads threads r.0))
+      ∙ ap (λ o. cons_option (g t.member.thread o) (filter_map (λ u. g u (open_in (t ∷ threads) u)) (threads_of (members_of threads)))) (sym (open_first t threads))
+
+-- one content
+pub content_same : (s : State) → IsRoster (members_of s.threads) → content_of s ≡ facts_view (facts_in s)
+content_same s r =
+    let sends = by_thread send_view s.threads r in
+    let receives = by_thread receive_view s.threads r in
+    λ i. record {
+      roster = members_of s.threads;
+      number = s.made + 1;
+      down = s.down;
+      channel = (content_of s).channel;
+      open_channels = length s.channels;
+      connection = (content_of s).connection;
+      live_connections = length s.connections;
+      sends = sends i;
+      receives = receives i;
+      pending = (content_of s).pending;
+      priority = (content_of s).priority;
+    }
+
+pub open_among : (threads : List Thread) (u : ℕ) → is_some (open_in threads u) ≡ true → is_among (threads_of (members_of threads)) u ≡ true
+open_among [] u e = absurd (true≢false (sym e))
+open_among (t ∷ threads) u e =
+    elim (eqb t.member.thread u) as (λ b. is_some (cond b t.open_call (open_in threads u)) ≡ true → (b || is_among (threads_of (members_of threads)) u) ≡ true) [
+      | true ↦ λ e. refl
+      | false ↦ λ e. open_among threads u e
+    ] e
+
+-- ---- an open call, read off its views
+
+abbrev receipt_back : Receipt → OldReceipt
+receipt_back r = record { priority = r.priority; unblocked = r.unblocked; copied = r.copied }
+
+abbrev back : Option OpenSend → Option OpenReceive → Option OpenCall
+back (Some s) r = Some (record { number = s.number; wait = Answer s.connection s.message s.reply_buffer (option_map receipt_back s.receipt) })
+back None (Some r) = Some (record { number = r.number; wait = ForItem r.channel r.kind r.buffer })
+back None None = None
+
+back_in : (u n : ℕ) (w : Wait) → back (send_in u n w) (receive_in u n w) ≡ Some (record { number = n; wait = w })
+back_in u n (Answer coid message reply_buffer None) = refl
+back_in u n (Answer coid message reply_buffer (Some receipt)) = refl
+back_in u n (ForItem chid kind buffer) = refl
+
+back_view : (u : ℕ) (o : Option OpenCall) → back (send_view u o) (receive_view u o) ≡ o
+back_view u None = refl
+back_view u (Some o) = back_in u o.number o.wait
+
+pub same_open : (f g : OldFacts) (u : ℕ) → IsKnown f → IsKnown g → facts_view f ≡ facts_view g → f.open_call u ≡ g.open_call u
+same_open f g u of og same =
+    let sends : send_view u (f.open_call u) ≡ send_view u (g.open_call u) = sym (send_found f u of) ∙ ap (λ h. send_of h u) same ∙ send_found g u og in
+    let receives : receive_view u (f.open_call u) ≡ receive_view u (g.open_call u) = sym (receive_found f u of) ∙ ap (λ h. receive_of h u) same ∙ receive_found g u og in
+    sym (back_view u (f.open_call u)) ∙ ap (λ s. back s (receive_view u (f.open_call u))) sends ∙ ap (back (send_view u (g.open_call u))) receives ∙ back_view u (g.open_call u)
+
+-- facts are told by their view
+same_view : (f g : OldFacts) → IsKnown f → IsKnown g → facts_view f ≡ facts_view g → f ≡ g
+same_view f g of og view =
+    let open_call = λ (u : ℕ). same_open f g u of og view in
+    λ i. record {
+      roster = (view i).roster;
+      number = (view i).number;
+      down = (view i).down;
+      channel = (view i).channel;
+      open_channels = (view i).open_channels;
+      connection = (view i).connection;
+      live_connections = (view i).live_connections;
+      open_call = λ u. open_call u i;
+      pending = (view i).pending;
+      priority = (view i).priority;
+    }
+
+-- ---- at a trace
+
+module _ (roster : List Member) (s : State) (past : Trace) (rises : IsRoster (members_of s.threads)) (of : AreOfRoster roster past) where
+  -- a kernel that stands at a trace contains what its inner functions find in it
+  pub content_at : StandsAt roster s past → facts_in s ≡ old_lawful.facts_of roster past
+  content_at stands = same_view (facts_in s) (old_lawful.facts_of roster past) (open_among s.threads) (facts_known roster past of) (sym (content_same s rises) ∙ stands ∙ same_facts roster past of)
+
+  pub stands_by : facts_in s ≡ old_lawful.facts_of roster past → StandsAt roster s past
+  stands_by same = content_same s rises ∙ ap facts_view same ∙ sym (same_facts roster past of)

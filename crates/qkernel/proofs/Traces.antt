@@ -1,0 +1,71 @@
+-- What the rules say of a past and of a kernel that stands at it, in the words of the laws of `qmodel`.
+use Rattle.std.proofs.Common.{◌≡◌, ◌∙◌, ◌+◌, ℕ, List, [], ◌∷◌, ◌++◌, arith, length, refl, ap, subst}
+use Rattle.std.specs.Prelude.{is_some}
+use Rattle.qtables.specs.Members.{IsRoster}
+use Rattle.qtables.specs.declared.member.Member.{Member}
+use Rattle.qmodel.specs.Answer as old_answer
+use Rattle.qmodel.specs.Calls.Info as old_info
+use Rattle.qmodel.specs.Facts.{sender}
+use Rattle.qmodel.specs.Lawful as old_lawful
+use Rattle.qmodel.specs.Past.{open_call}
+use Rattle.qmodel.specs.declared.call.Call.{Call}
+use Rattle.qmodel.specs.declared.call.Completion.{Completion}
+use Rattle.qmodel.proofs.Properties.All.{has_properties}
+use Rattle.qrules.specs.Facts.{is_blocked}
+use Rattle.qrules.specs.Lawful.{facts_of, IsLawful}
+use Rattle.qrules.specs.Outcome.{Answers}
+use Rattle.qrules.specs.Past.{was_done}
+use Rattle.qrules.specs.Properties.{HasProperties}
+use Rattle.qrules.specs.Rules.Held.{info_of}
+use Rattle.qrules.specs.Same.{AreOfRoster}
+use Rattle.qrules.specs.Trace.{followed_by, Event, Trace}
+use Rattle.qrules.proofs.Lawful.{of_roster, same_lawful}
+use Rattle.qrules.proofs.Outcomes.{same_answers}
+use Rattle.qrules.proofs.Past.Facts.{facts_known, same_facts}
+use Rattle.qrules.proofs.Properties.All.{same_properties}
+use Rattle.qrules.proofs.Rows.Held.{info_same}
+use Rattle.qrules.proofs.View as view
+use Rattle.qstate.specs.Thread.{members_of}
+use Rattle.qkernel.specs.Kernel.{State}
+use Rattle.qkernel.specs.Stands.{StandsAt}
+
+-- ---- a past
+
+module _ (roster : List Member) (past : Trace) (lawful : IsLawful roster past) where
+  of : AreOfRoster roster past
+  of = of_roster roster past lawful
+
+  pub before : old_lawful.IsLawful roster past
+  before = (same_lawful roster past).0 lawful
+
+  pub blocked_same : (t : ℕ) → is_blocked (facts_of roster past) t ≡ is_some (open_call roster past t)
+  blocked_same t = ap (λ f. is_blocked f t) (same_facts roster past of) ∙ view.blocked_same (old_lawful.facts_of roster past) t (facts_known roster past of)
+
+  pub answers_before : (t : ℕ) (c : Call) (X : List Completion) → Answers (facts_of roster past) t c X → old_answer.Answers (old_lawful.facts_of roster past) t c X
+  answers_before t c X a = (same_answers (old_lawful.facts_of roster past) t c (facts_known roster past of) X).0 (subst (λ f. Answers f t c X) (same_facts roster past of) a)
+
+  pub info_before : (i : ℕ) → info_of (facts_of roster past) i ≡ old_info.info_of (old_lawful.facts_of roster past) (sender (old_lawful.facts_of roster past) i)
+  info_before i = ap (λ f. info_of f i) (same_facts roster past of) ∙ info_same (old_lawful.facts_of roster past) i (facts_known roster past of)
+
+  pub properties_of : IsRoster roster → HasProperties roster past
+  properties_of rises = (same_properties roster past of).1 (has_properties roster past rises before)
+
+pub followed_push : (past : Trace) (events : List Event) (e : Event) → followed_by past (events ++ e ∷ []) ≡ e ∷ followed_by past events
+followed_push past [] e = refl
+followed_push past (x ∷ events) e = followed_push (x ∷ past) events e
+
+pub followed_length : (past : Trace) (events : List Event) → length (followed_by past events) ≡ length past + length events
+followed_length past [] = omega arith
+followed_length past (e ∷ events) = let rest : length (followed_by (e ∷ past) events) ≡ length (e ∷ past) + length events = followed_length (e ∷ past) events in omega arith
+
+-- ---- a kernel that stands at it
+
+module _ (roster : List Member) (s : State) (past : Trace) (stands : StandsAt roster s past) where
+  pub stands_roster : members_of s.threads ≡ roster
+  stands_roster = ap (λ f. f.roster) stands
+
+  pub stands_made : s.made ≡ length past
+  stands_made = let number : s.made + 1 ≡ length past + 1 = ap (λ f. f.number) stands in omega arith
+
+  pub stands_down : s.down ≡ was_done (λ e. e.shuts_down) past
+  stands_down = ap (λ f. f.down) stands

@@ -1,0 +1,89 @@
+//! A call whose bytes are lent.
+
+ghost use Rattle.std.specs.Prelude.{◌≡◌, ◌+◌, ◌<◌, ◌≤◌, ◌^◌, [], length, Some, is_some, true};
+ghost use Rattle.qtables.specs.Members.{member_at};
+ghost use Rattle.qstate.specs.Thread.{blocked_count, members_of, seat_in};
+ghost use Rattle.qkernel.specs.LentCall.{call_lent};
+
+use super::Kernel;
+use super::turn::Turn;
+use crate::lent_call::LentCall;
+use qbase::bytes::Bytes;
+use qbase::errno::Errno;
+use qbase::ids::ThreadNo;
+use qstate::endings::Endings;
+use qstate::thread::seat_of;
+
+impl Kernel {
+    ghost use Rattle.qkernel.specs.Private.Steps.{Steps};
+    ghost use Rattle.qkernel.specs.Stands.{AnswersAtTraces, LeavesIfRefused};
+    ghost use Rattle.qkernel.specs.Private.Turn.{MayCall, MakesOrRefuses};
+
+    /// Makes a counted call that nothing refuses whichever call it is, by the call's own method.
+    fn make_lent(
+        &mut self,
+        turn: &Turn,
+        call: &LentCall,
+        endings: &mut Endings,
+    ) -> Result<(), Errno>
+        requires { MayCall self.old turn.now endings.old.items }
+        ensures { MakesOrRefuses self.old turn.now (call_lent call.now) result endings.new.items self.new }
+    {
+        match call {
+            LentCall::Reply {
+                rcvid,
+                status,
+                bytes,
+            } => self.reply(turn, *rcvid, *status, bytes, endings),
+            LentCall::Write {
+                rcvid,
+                offset,
+                bytes,
+            } => self.write(turn, *rcvid, *offset, bytes, endings),
+        }
+    }
+
+    /// Makes one call of the thread at a seat: it is counted, and then refused whichever call it is, or made.
+    fn perform_lent(
+        &mut self,
+        seat: usize,
+        thread: ThreadNo,
+        call: &LentCall,
+        endings: &mut Endings,
+    )
+        requires limit { self.old.made < 2 ^ 40 }
+        requires seat { seat_in self.old.threads thread ≡ Some seat }
+        requires none { endings.old.items ≡ [] }
+        ensures { Steps self.old thread (call_lent call.now) endings.new.items self.new }
+    {
+        let refusal = self.refusal(seat, thread);
+        let turn = self.turn_of(seat, thread);
+        self.made += 1;
+        if let Some(errno) = refusal {
+            return turn.refuse(endings, errno, Bytes::new(self.alloc));
+        }
+        if let Err(errno) = self.make_lent(&turn, call, endings) {
+            turn.refuse(endings, errno, Bytes::new(self.alloc));
+        }
+    }
+
+    /// `step` of a call whose bytes are lent: they are copied once, into the reply buffer.
+    pub fn step_lent(&mut self, thread: ThreadNo, call: &LentCall, endings: &mut Endings)
+        requires known { is_some (member_at (members_of self.old.threads) thread) ≡ true }
+        requires limit { self.old.made < 2 ^ 40 }
+        requires none { endings.old.items ≡ [] }
+        ensures event { AnswersAtTraces self.old thread (call_lent call.now) endings.new.items self.new }
+        ensures roster { members_of self.new.threads ≡ members_of self.old.threads }
+        ensures made { self.new.made ≡ self.old.made + 1 }
+        ensures refused { LeavesIfRefused self.old thread (call_lent call.now) endings.new.items self.new }
+
+        // An event ends at most its own call and calls that were open.
+        ensures room { length endings.new.items + blocked_count self.new.threads ≤ blocked_count self.old.threads + 1 }
+    {
+        if let Some(seat) = seat_of(&self.threads, thread) {
+            self.perform_lent(seat, thread, call, endings);
+        } else {
+            unreachable!();
+        }
+    }
+}

@@ -1,0 +1,69 @@
+-- One line more.
+use Rattle.std.proofs.Common.{◌≡◌, ℕ, ◌+◌, ◌<◌, ◌≤◌, Bool, true, false, List, [], ◌∷◌, ◌++◌, length, get_or, drop, Some, None, sym, ap, ◌∙◌, refl, arith, length-append, if◌then◌else◌}
+use Rattle.std.proofs.lemmas.Grind.{common_steps}
+use Rattle.std.proofs.lemmas.List.{append_assoc, at_drop_more}
+use Rattle.std.specs.List.{list_any}
+use Rattle.std.specs.Str.{bytes_eq}
+use Rattle.qnames.specs.declared.line.Process.{Process}
+use Rattle.qnames.specs.declared.line.Process.TheVariants as processes
+use Rattle.qnames.specs.declared.line.Line.{Line}
+use Rattle.qnames.specs.declared.line.Line.TheVariants as lines
+use Rattle.qnames.specs.declared.label.NameFault.{NameFault}
+use Rattle.qnames.specs.Names.{Names, with_line, with_process, with_name}
+use Rattle.qnames.specs.Plain.{line_text, plain_lines, plain_text, line_fault, listed, name_faults}
+
+-- the text of the lines that are left is that of the next one and of those after it
+text_left : (names : Names) (all : List Line) (i : ℕ) (line : Line) → i < length all → get_or all i line ≡ line
+    → plain_text names (drop i all) ≡ line_text names line ++ 10 ∷ [] ++ plain_text (with_line names line) (drop (i + 1) all)
+unfolding plain_lines
+text_left names all i line lt is =
+    at_drop_more (plain_text names) all i line lt ∙ ap (λ l. plain_text names (l ∷ drop (i + 1) all)) is
+
+-- their faults are that of the next one and those of the lines after it
+faults_left : (names : Names) (all : List Line) (i : ℕ) (line : Line) → i < length all → get_or all i line ≡ line
+    → name_faults names (drop i all) ≡ listed (line_fault names.labels line) ++ name_faults (with_line names line) (drop (i + 1) all)
+unfolding name_faults
+faults_left names all i line lt is =
+    at_drop_more (name_faults names) all i line lt ∙ ap (λ l. name_faults names (l ∷ drop (i + 1) all)) is
+
+-- what is written with the next line, and what is left after it, are the same whole
+pub text_next : (names after : Names) (all : List Line) (i : ℕ) (line : Line) (out more whole : List ℕ) → i < length all → get_or all i line ≡ line
+    → more ≡ out ++ line_text names line ++ 10 ∷ [] → after ≡ with_line names line
+    → out ++ plain_text names (drop i all) ≡ whole → more ++ plain_text after (drop (i + 1) all) ≡ whole
+text_next names after all i line out more whole lt is written known so_far =
+    let left = text_left names all i line lt is in
+    grind (arith, common_steps, append_assoc, left, written, known, so_far)
+
+-- the same of the faults
+pub faults_next : (names after : Names) (all : List Line) (i : ℕ) (line : Line) (out more whole : List NameFault) → i < length all → get_or all i line ≡ line
+    → more ≡ out ++ listed (line_fault names.labels line) → after ≡ with_line names line
+    → out ++ name_faults names (drop i all) ≡ whole → more ++ name_faults after (drop (i + 1) all) ≡ whole
+faults_next names after all i line out more whole lt is written known so_far =
+    let left = faults_left names all i line lt is in
+    grind (arith, common_steps, append_assoc, left, written, known, so_far)
+
+-- a line adds at most one name of a process
+named : (b : Bool) (names : List (List ℕ)) (name : List ℕ) → length (if b then names else names ++ name ∷ []) ≤ length names + 1
+named true names name = omega arith
+named false names name = omega (arith, length-append names (name ∷ []))
+
+one_process : (names : List (List ℕ)) (p : Process) → length (with_process names p) ≤ length names + 1
+one_process names (processes.Number n) = omega arith
+one_process names (processes.Name name) = named (list_any (λ p. bytes_eq p name) names) names name
+
+pub few_processes : (names : Names) (line : Line) → length (with_line names line).processes ≤ length names.processes + 1
+few_processes names (lines.Aside text) = omega arith
+few_processes names (lines.Thread t) = one_process names.processes t.process
+few_processes names (lines.Call c) = omega arith
+
+-- a line adds at most one thread
+pub few_threads : (names : Names) (line : Line) → (with_line names line).threads ≤ names.threads + 1
+few_threads names (lines.Aside text) = omega arith
+few_threads names (lines.Thread t) = omega arith
+few_threads names (lines.Call c) = omega arith
+
+-- a line adds at most one call
+pub few_calls : (names : Names) (line : Line) → (with_line names line).calls ≤ names.calls + 1
+few_calls names (lines.Aside text) = omega arith
+few_calls names (lines.Thread t) = omega arith
+few_calls names (lines.Call c) = omega arith

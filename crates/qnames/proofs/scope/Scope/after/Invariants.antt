@@ -1,0 +1,9 @@
+use Rattle.std.proofs.Common.{◌≤◌, length}
+use Rattle.qnames.proofs.scope.Scope.after.Given as goal
+
+abbrev pub invariant-lines : goal.invariant-lines
+invariant-lines l = record {
+  threads : l.scope.threads ≤ l.line-index;
+  calls : l.scope.calls ≤ l.line-index;
+  processes : length l.scope.processes.items ≤ l.line-index;
+}

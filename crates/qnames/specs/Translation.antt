@@ -1,0 +1,21 @@
+-- The plain script of one with names, and what it means.
+use Rattle.std.specs.Prelude.{◌≡◌, ◌≢◌, ℕ, List, [], string_bytes}
+use Rattle.qreading.specs.Reading.Meaning.{Says, IsFaultOf, meaning}
+use Rattle.qnames.specs.declared.line.Line.{Line}
+use Rattle.qnames.specs.declared.translation.Translation.{Translation}
+use Rattle.qnames.specs.declared.translation.Refusal.{Refusal}
+use Rattle.qnames.specs.declared.translation.Refusal.TheVariants as refusals
+use Rattle.qnames.specs.Names.{none}
+use Rattle.qnames.specs.Plain.{plain_text, name_faults}
+
+-- the text is that of the lines with each name replaced by its number, no name is at fault, and the script is what the text means
+pub record IsTranslation (lines : List Line) (t : Translation) : Type 0 where
+  pub text : string_bytes t.text ≡ plain_text none lines
+  pub names : name_faults none lines ≡ []
+  pub meant : meaning (plain_text none lines) ≡ Says t.script.roster.items t.script.calls.items
+
+-- the names at fault are told, if there are any, and else the fault of the plain script
+abbrev pub IsRefusal : List Line → Refusal → Type 0
+IsRefusal lines refusals.Memory = Unit {0}
+IsRefusal lines (refusals.Names faults) = (faults.items ≡ name_faults none lines) × (faults.items ≢ [])
+IsRefusal lines (refusals.Script e) = (name_faults none lines ≡ []) × IsFaultOf e (meaning (plain_text none lines))

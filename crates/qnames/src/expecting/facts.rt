@@ -1,0 +1,64 @@
+//! What a script's calls are, as far as the states of threads depend on them.
+
+use crate::expecting::trace::number_in;
+use crate::line::{CallLine, Line, Operand};
+use crate::scope::Scope;
+use std::alloc::{AllocError, Global};
+
+/// What a call is.
+#[derive(Clone, Copy, Debug, PartialEq, Eq)]
+pub enum Deed {
+    /// Attaches a connection to this channel.
+    Attach(u64),
+    /// Sends a message over this connection.
+    Send(u64),
+    /// Receives on this channel.
+    Receive(u64),
+    /// Anything else.
+    Other,
+}
+
+/// A call: the thread that makes it, and what it is.
+#[derive(Clone, Copy, Debug, PartialEq, Eq)]
+pub struct Fact {
+    pub thread: u64,
+    pub deed: Deed,
+}
+
+/// The number that an operand stands for; 0 for one that says none.
+pub fn operand_number(scope: &Scope, operand: &Operand) -> u64 {
+    match operand {
+        Operand::Name(mention) => scope.number(&mention.name),
+        Operand::Number(number) => *number,
+        Operand::Plain(word) => number_in(word.as_str().as_bytes()).unwrap_or(0),
+        Operand::Text(_) | Operand::Zeros(_) => 0,
+    }
+}
+
+/// What the call of a line is.
+fn deed_of(scope: &Scope, call: &CallLine) -> Deed {
+    let Some(first) = call.operands.first() else {
+        return Deed::Other;
+    };
+    let number = operand_number(scope, first);
+    match call.verb.as_str() {
+        "attach" => Deed::Attach(number),
+        "send" => Deed::Send(number),
+        "receive" | "receivepulse" => Deed::Receive(number),
+        _ => Deed::Other,
+    }
+}
+
+/// The calls of some lines, in order.
+pub fn facts(alloc: Global, scope: &Scope, lines: &[Line]) -> Result<Vec<Fact>, AllocError> {
+    let mut facts = Vec::new(alloc);
+    for line in lines {
+        if let Line::Call(call) = line {
+            facts.push(Fact {
+                thread: operand_number(scope, &call.caller),
+                deed: deed_of(scope, call),
+            })?;
+        }
+    }
+    Ok(facts)
+}

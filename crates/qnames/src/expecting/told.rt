@@ -1,0 +1,151 @@
+//! How a call ended, in the words of a script with names.
+
+use crate::expecting::trace::number_in;
+use crate::lexing::quoted::shown_bytes;
+use crate::line::Kind;
+use crate::scope::Scope;
+use std::alloc::{AllocError, Global};
+use std::str;
+
+/// A printed word as text.
+fn text(word: &[u8]) -> &str {
+    str::from_utf8(word).unwrap_or("?")
+}
+
+/// A word with a space before it.
+fn push(out: &mut String, word: &str) -> Result<(), AllocError> {
+    out.push(' ')?;
+    out.push_str(word)
+}
+
+/// The number that a word says, by its name, if a line defines one for it.
+fn push_named(
+    out: &mut String,
+    scope: &Scope,
+    of_thread: bool,
+    word: &[u8],
+) -> Result<(), AllocError> {
+    let number = number_in(word);
+    for label in scope.labels() {
+        if Some(label.number) == number && (label.kind == Kind::Thread) == of_thread {
+            return push(out, label.name.as_str());
+        }
+    }
+    push(out, text(word))
+}
+
+/// The name of a process, if it has one.
+fn push_process(out: &mut String, scope: &Scope, word: &[u8]) -> Result<(), AllocError> {
+    let at = number_in(word).unwrap_or(0).saturating_sub(1) as usize;
+    match scope.process_names().get(at) {
+        Some(name) if number_in(word) != Some(0) => push(out, name.as_str()),
+        _ => push(out, text(word)),
+    }
+}
+
+/// The first so many bytes of a buffer.
+fn push_content(
+    alloc: Global,
+    out: &mut String,
+    count: &[u8],
+    buffer: &[u8],
+) -> Result<(), AllocError> {
+    let bytes = match hex::decode(alloc, buffer) {
+        Ok(bytes) => bytes,
+        Err(hex::FromHexError::OutOfMemory) => return Err(AllocError),
+        Err(_) => Vec::new(alloc),
+    };
+    let count = number_in(count).unwrap_or(0) as usize;
+    let content = bytes.get(..count).unwrap_or(bytes.as_slice());
+    push(out, shown_bytes(alloc, content)?.as_str())
+}
+
+/// What a pulse brings.
+fn push_pulse(out: &mut String, scope: &Scope, words: &[&[u8]]) -> Result<(), AllocError> {
+    let [item, priority, kind, rest @ ..] = words else {
+        return Ok(());
+    };
+    push_named(out, scope, false, item)?;
+    push(out, text(priority))?;
+    push(out, text(kind))?;
+    match (*kind, rest) {
+        (b"unblock", [message, ..]) => push_named(out, scope, false, message),
+        (b"disconnect", [process, ..]) => push_process(out, scope, process),
+        (b"user", [code, value, ..]) => {
+            push(out, text(code))?;
+            push(out, text(value))
+        }
+        _ => Ok(()),
+    }
+}
+
+/// What is told of a message: its sender's process and thread, its connection and numbers.
+fn push_info(out: &mut String, scope: &Scope, words: &[&[u8]]) -> Result<(), AllocError> {
+    let [process, thread, connection, rest @ ..] = words else {
+        return Ok(());
+    };
+    push_process(out, scope, process)?;
+    push_named(out, scope, true, thread)?;
+    push_named(out, scope, false, connection)?;
+    push_plain(out, rest)
+}
+
+/// Words as they are.
+fn push_plain(out: &mut String, words: &[&[u8]]) -> Result<(), AllocError> {
+    for word in words {
+        push(out, text(word))?;
+    }
+    Ok(())
+}
+
+/// The words behind the first one.
+fn push_rest(
+    alloc: Global,
+    out: &mut String,
+    scope: &Scope,
+    first: &[u8],
+    rest: &[&[u8]],
+) -> Result<(), AllocError> {
+    match (first, rest) {
+        (b"channel" | b"connection", [id, ..]) => push_named(out, scope, false, id),
+        (b"message", [id, count, buffer, ..]) => {
+            push_named(out, scope, false, id)?;
+            push_content(alloc, out, count, buffer)
+        }
+        (b"reply", [status, count, buffer, ..]) => {
+            push(out, text(status))?;
+            push_content(alloc, out, count, buffer)
+        }
+        (b"count", [count, buffer, ..]) => {
+            push(out, text(count))?;
+            push_content(alloc, out, count, buffer)
+        }
+        (b"error" | b"fail", [word, ..]) => push(out, text(word)),
+        (
+            b"state",
+            [
+                state @ (b"send" | b"receive" | b"reply"),
+                channel,
+                priority,
+                ..
+            ],
+        ) => {
+            push(out, text(state))?;
+            push_named(out, scope, false, channel)?;
+            push(out, text(priority))
+        }
+        (b"pulse", words) => push_pulse(out, scope, words),
+        (b"info", words) => push_info(out, scope, words),
+        (_, words) => push_plain(out, words),
+    }
+}
+
+/// How a call ended: the printed words, with names in place of numbers, and bytes as they were copied.
+pub fn told(alloc: Global, scope: &Scope, words: &[&[u8]]) -> Result<String, AllocError> {
+    let mut out = String::new(alloc);
+    if let [first, rest @ ..] = words {
+        out.push_str(text(first))?;
+        push_rest(alloc, &mut out, scope, first, rest)?;
+    }
+    Ok(out)
+}

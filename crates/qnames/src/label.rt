@@ -1,0 +1,33 @@
+//! What a name stands for once its line is read, and what can be wrong with names.
+
+use crate::line::{Kind, Place};
+use crate::word::Word;
+
+/// A name and what it stands for.
+#[derive(Debug, Drop)]
+pub struct Label {
+    pub name: Word,
+    pub kind: Kind,
+    /// The number of the thread, or that of the call.
+    pub number: u64,
+    /// The line that defines it, counted from 1.
+    pub line: u64,
+}
+
+/// What is wrong with a name.
+#[derive(Clone, Copy, Debug, PartialEq, Eq)]
+pub enum NameError {
+    /// No line above defines it.
+    Undefined,
+    /// It stands for something of this kind, and another is wanted.
+    OtherKind(Kind),
+    /// This line has defined it already.
+    Twice(u64),
+}
+
+/// What is wrong with the name at a place.
+#[derive(Clone, Copy, Debug, PartialEq, Eq)]
+pub struct NameFault {
+    pub place: Place,
+    pub error: NameError,
+}

@@ -1,0 +1,5 @@
+//! The parts of a line: words, texts in quotes, sizes in brackets and signs, up to a comment.
+
+pub mod name;
+pub mod quoted;
+pub mod token;

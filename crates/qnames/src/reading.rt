@@ -1,0 +1,9 @@
+//! What the text of a script with names says.
+
+pub mod calls;
+pub mod endings;
+pub mod near;
+pub mod operands;
+pub mod script;
+pub mod states;
+pub mod threads;

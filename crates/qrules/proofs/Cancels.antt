@@ -1,0 +1,67 @@
+-- The open calls that are cancelled.
+use Rattle.std.proofs.Common.{◌≡◌, ◌∙◌, ℕ, List, map, refl, ap, sym, cond, Bool, true, false, eqb}
+use Rattle.std.specs.Prelude.{Option, None, Some, filter, find, filter_map, option_map, option_and_then}
+use Rattle.std.specs.Option.{option_or}
+use Rattle.std.proofs.lemmas.Option.{none-some, same_Some}
+use Rattle.std.proofs.lemmas.List.Folds.{find-append}
+use Rattle.qbase.proofs.Lists.{is_among}
+use Rattle.qbase.specs.declared.errno.Errno.{Errno}
+use Rattle.qmodel.specs.Cutting.{cut_where, cuts}
+use Rattle.qmodel.specs.Facts.{threads_of, Facts as OldFacts}
+use Rattle.qmodel.specs.declared.call.Completion.{Completion}
+use Rattle.qmodel.specs.declared.open_call.Receipt.{Receipt as OldReceipt}
+use Rattle.qmodel.specs.declared.open_call.Wait.{Wait}
+use Rattle.qmodel.specs.declared.open_call.Wait.TheVariants.{Answer, Item as ForItem}
+use Rattle.qqueue.specs.declared.item.Kind.{Kind}
+use Rattle.qrules.specs.Facts.{OpenReceive, OpenSend}
+use Rattle.qrules.specs.Delivery.{cancel, cancel_receive, cancel_send}
+use Rattle.qrules.proofs.Lists.{filter-filter_map, found, map-filter_map}
+use Rattle.qrules.specs.Same.{facts_view, receipt_view, receive_in, receive_view, send_in, send_view}
+use Rattle.qrules.proofs.View.{receive_thread, send_thread, unknown, IsKnown}
+
+-- what passes a test
+abbrev pub pass : {X : Type 0} → (X → Bool) → Option X → Option X
+pass p o = option_and_then (λ x. cond (p x) (Some x) None) o
+
+-- what passes is of the thread that it was of, and changes so
+pass_thread : {X : Type 0} (thread : X → ℕ) (k : X → Completion) (p : X → Bool) (o : Option X) (v : ℕ) → ((x : X) → (k x).thread ≡ thread x) → ((x : X) → o ≡ Some x → thread x ≡ v)
+    → (y : Completion) → option_map k (pass p o) ≡ Some y → y.thread ≡ v
+pass_thread thread k p None v keeps its y e = absurd (none-some y e)
+pass_thread {X} thread k p (Some x) v keeps its y e =
+    elim (p x) as (λ b. option_map k (cond b (Some x) None) ≡ Some y → y.thread ≡ v) [
+      | true ↦ λ e. ap (λ y. y.thread) (sym (same_Some _ y e)) ∙ keeps x ∙ its x refl
+      | false ↦ λ e. absurd (none-some y e)
+    ] e
+
+cancelled : {X : Type 0} (thread : X → ℕ) (k : X → Completion) (p : X → Bool) (g : ℕ → Option X) (ts : List ℕ) (u : ℕ) → ((x : X) → (k x).thread ≡ thread x)
+    → ((v : ℕ) (x : X) → g v ≡ Some x → thread x ≡ v) → (is_among ts u ≡ false → g u ≡ None)
+    → find (λ x. eqb x.thread u) (map k (filter p (filter_map g ts))) ≡ option_map k (pass p (g u))
+cancelled thread k p g ts u keeps its known =
+    ap (find (λ x. eqb x.thread u)) (ap (map k) (filter-filter_map p g ts) ∙ map-filter_map k (λ t. pass p (g t)) ts)
+    ∙ found (λ x. x.thread) (λ t. option_map k (pass p (g t))) ts u (λ v y e. pass_thread thread k p (g v) v keeps (its v) y e) (λ e. ap (λ o. option_map k (pass p o)) (known e))
+
+module _ (f : OldFacts) (sends : OpenSend → Bool) (receives : OpenReceive → Bool) (is_cut : ℕ → Wait → Bool) (e : Errno) where
+  pub cancel_same : (u : ℕ) → IsKnown f
+      → ((v n k : ℕ) (m b : List ℕ) (r : Option OldReceipt) → sends (record { number = n; thread = v; connection = k; message = m; reply_buffer = b; receipt = option_map receipt_view r }) ≡ is_cut v (Answer k m b r))
+      → ((v n h : ℕ) (kind : Kind) (b : List ℕ) → receives (record { number = n; thread = v; channel = h; kind = kind; buffer = b }) ≡ is_cut v (ForItem h kind b))
+      → find (λ x. eqb x.thread u) (cancel (facts_view f) sends receives e) ≡ cuts f is_cut e u
+  cancel_same u known of_send of_receive =
+      let ts : List ℕ = threads_of f.roster in
+      find-append (λ x. eqb x.thread u) (map (cancel_send e) (filter sends (facts_view f).sends)) (map (cancel_receive e) (filter receives (facts_view f).receives))
+      ∙ ap (λ o. option_or o (find (λ x. eqb x.thread u) (map (cancel_receive e) (filter receives (facts_view f).receives))))
+      (cancelled (λ s. s.thread) (cancel_send e) sends (λ v. send_view v (f.open_call v)) ts u (λ s. refl) (λ v s is. send_thread v (f.open_call v) s is) (λ none. ap (send_view u) (unknown f u known none)))
+      ∙ ap (option_or (option_map (cancel_send e) (pass sends (send_view u (f.open_call u)))))
+      (cancelled (λ r. r.thread) (cancel_receive e) receives (λ v. receive_view v (f.open_call v)) ts u (λ r. refl) (λ v r is. receive_thread v (f.open_call v) r is) (λ none. ap (receive_view u) (unknown f u known none)))
+      ∙ elim (f.open_call u) as (λ o. option_or (option_map (cancel_send e) (pass sends (send_view u o))) (option_map (cancel_receive e) (pass receives (receive_view u o))) ≡ cut_where (is_cut u) e u o) [
+        | None ↦ refl
+        | Some o ↦ elim (o.wait) as (λ w. option_or (option_map (cancel_send e) (pass sends (send_in u o.number w))) (option_map (cancel_receive e) (pass receives (receive_in u o.number w))) ≡ cut_where (is_cut u) e u (Some (record { number = o.number; wait = w }))) [
+          | Answer coid message reply_buffer receipt ↦
+              let s : OpenSend = record { number = o.number; thread = u; connection = coid; message = message; reply_buffer = reply_buffer; receipt = option_map receipt_view receipt } in
+              rw (of_send u o.number coid message reply_buffer receipt) (
+              elim (is_cut u (Answer coid message reply_buffer receipt)) as (λ b. option_or (option_map (cancel_send e) (cond b (Some s) None)) None ≡ cond b (Some (cancel_send e s)) None) [ true ↦ refl | false ↦ refl ])
+          | ForItem chid kind buffer ↦
+              let r : OpenReceive = record { number = o.number; thread = u; channel = chid; kind = kind; buffer = buffer } in
+              rw (of_receive u o.number chid kind buffer) (
+              elim (is_cut u (ForItem chid kind buffer)) as (λ b. option_map (cancel_receive e) (cond b (Some r) None) ≡ cond b (Some (cancel_receive e r)) None) [ true ↦ refl | false ↦ refl ])
+        ]
+      ]

@@ -1,0 +1,53 @@
+-- A trace is lawful by the one model exactly where it is by the other.
+use Rattle.std.proofs.Common.{◌≡◌, ◌↔◌, List, [], ◌∷◌, refl, sym, subst}
+use Rattle.qtables.specs.declared.member.Member.{Member}
+use Rattle.qmodel.specs.Lawful as old
+use Rattle.qmodel.specs.OnlyRun as old_only
+use Rattle.qmodel.specs.Trace.{Event, Trace}
+use Rattle.qrules.specs.Lawful.{IsLawful, IsOnlyRun}
+use Rattle.qrules.specs.Outcome.{Answers}
+use Rattle.qrules.specs.Trace.{followed_by}
+use Rattle.qrules.proofs.Outcomes.{same_answers}
+use Rattle.qrules.proofs.Past.Facts.{facts_known, same_facts}
+use Rattle.qrules.specs.Same.{AreOfRoster}
+
+pub of_roster : (roster : List Member) (past : Trace) → IsLawful roster past → AreOfRoster roster past
+of_roster roster [] l = tt
+of_roster roster (e ∷ past) l = (of_roster roster past l.0, l.1.0)
+
+pub old_of_roster : (roster : List Member) (past : Trace) → old.IsLawful roster past → AreOfRoster roster past
+old_of_roster roster [] l = tt
+old_of_roster roster (e ∷ past) l = (old_of_roster roster past l.0, l.1)
+
+lawful_as_before : (roster : List Member) (past : Trace) → IsLawful roster past → old.IsLawful roster past
+lawful_as_before roster [] l = tt
+lawful_as_before roster (e ∷ past) l =
+    let of : AreOfRoster roster past = of_roster roster past l.0 in (
+      lawful_as_before roster past l.0,
+      l.1.0,
+      (same_answers (old.facts_of roster past) e.thread e.call (facts_known roster past of) e.endings).0 (subst (λ f. Answers f e.thread e.call e.endings) (same_facts roster past of) l.1.1),
+    )
+
+lawful_by_rules : (roster : List Member) (past : Trace) → old.IsLawful roster past → IsLawful roster past
+lawful_by_rules roster [] l = tt
+lawful_by_rules roster (e ∷ past) l =
+    let of : AreOfRoster roster past = old_of_roster roster past l.0 in (
+      lawful_by_rules roster past l.0,
+      (
+        l.1,
+        subst (λ f. Answers f e.thread e.call e.endings) (sym (same_facts roster past of)) ((same_answers (old.facts_of roster past) e.thread e.call (facts_known roster past of) e.endings).1 l.2),
+      ),
+    )
+
+pub same_lawful : (roster : List Member) (past : Trace) → IsLawful roster past ↔ old.IsLawful roster past
+same_lawful roster past = (lawful_as_before roster past, lawful_by_rules roster past)
+
+pub same_followed : (past : Trace) (events : List Event) → followed_by past events ≡ old.followed_by past events
+same_followed past [] = refl
+same_followed past (e ∷ events) = same_followed (e ∷ past) events
+
+pub same_only_run : (roster : List Member) (past : Trace) (events : List Event) → IsOnlyRun roster past events ↔ old_only.IsOnlyRun roster past events
+same_only_run roster past events = (
+  λ only had others calls lawful others_had. only had others calls (subst (IsLawful roster) (sym (same_followed past others)) (lawful_by_rules roster (old.followed_by past others) lawful)) others_had,
+  λ only had others calls lawful others_had. only had others calls (subst (old.IsLawful roster) (same_followed past others) (lawful_as_before roster (followed_by past others) lawful)) others_had,
+)

@@ -1,0 +1,11 @@
+pub mod Lists
+pub mod View
+pub mod Messages
+pub mod Newest
+pub mod Cancels
+pub mod Deliveries
+pub mod Rows
+pub mod Outcomes
+pub mod Past
+pub mod Lawful
+pub mod Properties

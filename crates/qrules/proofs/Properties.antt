@@ -1,0 +1,10 @@
+-- The six properties are those of both models.
+pub mod Items
+pub mod Calls
+pub mod ReceivedOnce
+pub mod AnsweredToSender
+pub mod CopiedExactly
+pub mod BestFirst
+pub mod SentOrder
+pub mod ShutForGood
+pub mod All

@@ -1,0 +1,76 @@
+-- A message is answered once, by a call that may answer it, and to its sender.
+use Rattle.std.proofs.Common.{◌≡◌, ◌∙◌, ◌↔◌, ℕ, List, [], ◌∷◌, refl, ap, sym, false}
+use Rattle.std.specs.Prelude.{Option, None, Some, not, ◌&&◌, option_map}
+use Rattle.std.specs.Option.{option_map_or}
+use Rattle.qbase.proofs.Lists.{all_more}
+use Rattle.qtables.specs.declared.member.Member.{Member}
+use Rattle.qmodel.specs.Facts.{owns as old_owns, Facts as OldFacts}
+use Rattle.qmodel.specs.Headline.AnsweredToSender as old
+use Rattle.qmodel.specs.Lawful as old_lawful
+use Rattle.qmodel.specs.Past as past_of
+use Rattle.qmodel.specs.Rows.{Made}
+use Rattle.qmodel.specs.Trace.{Event, Trace}
+use Rattle.qmodel.specs.declared.call.Completion.{Completion}
+use Rattle.qrules.specs.Facts.{owns}
+use Rattle.qrules.specs.Lawful.{facts_of}
+use Rattle.qrules.specs.Past.{is_ended, is_received, item_among}
+use Rattle.qrules.specs.Properties.{items, AnsweredToSender, AnswersIts}
+use Rattle.qrules.proofs.Past.Done.{same_sender_of}
+use Rattle.qrules.proofs.Past.Effects.{same_answers}
+use Rattle.qrules.proofs.Past.Facts.{same_facts}
+use Rattle.qrules.proofs.Past.Receipts.{same_ended, same_received}
+use Rattle.qrules.proofs.Properties.Items.{same_channel_among, same_items}
+use Rattle.qrules.specs.Same.{facts_view, AreOfRoster}
+use Rattle.qrules.proofs.View.{owns_same}
+
+same_held : (past : Trace) (i : ℕ) → (is_received past i && not (is_ended past i)) ≡ old.is_held past i
+same_held past i = ap (λ b. b && not (is_ended past i)) (same_received past i) ∙ ap (λ b. past_of.is_taken past i && not b) (same_ended past i)
+
+owner_of : (f : OldFacts) (t : ℕ) (m : Option Made) → option_map_or (λ m. owns (facts_view f) t m.channel) m false ≡ option_map_or (λ h. old_owns f t h) (option_map (λ m. m.channel) m) false
+owner_of f t None = refl
+owner_of f t (Some m) = owns_same f t m.channel
+
+same_owner : (roster : List Member) (past : Trace) (t i : ℕ) → AreOfRoster roster past → option_map_or (λ m. owns (facts_of roster past) t m.channel) (item_among (items roster past) i) false ≡ old.owns_channel_of roster past t i
+same_owner roster past t i l =
+    ap (λ f. option_map_or (λ m. owns f t m.channel) (item_among (items roster past) i) false) (same_facts roster past l)
+    ∙ owner_of (old_lawful.facts_of roster past) t (item_among (items roster past) i)
+    ∙ ap (λ h. option_map_or (λ h. old_owns (old_lawful.facts_of roster past) t h) h false) (ap (λ (made : List Made). option_map (λ m. m.channel) (item_among made i)) (same_items roster past l) ∙ same_channel_among (past_of.items roster past) i)
+
+answers_as_before : (roster : List Member) (past : Trace) (e : Event) (x : Completion) → AreOfRoster roster past → AnswersIts roster past e x → old.AnswersIts roster past e x
+answers_as_before roster past e x l h = record {
+  named = sym (same_answers e.call) ∙ h.named;
+  accepted = h.accepted;
+  held = sym (same_held past x.call) ∙ h.held;
+  owner = sym (same_owner roster past e.thread x.call l) ∙ h.owner;
+  sender = sym (same_sender_of past x.call) ∙ h.sender;
+}
+
+answers_by_rules : (roster : List Member) (past : Trace) (e : Event) (x : Completion) → AreOfRoster roster past → old.AnswersIts roster past e x → AnswersIts roster past e x
+answers_by_rules roster past e x l h = record {
+  named = same_answers e.call ∙ h.named;
+  accepted = h.accepted;
+  held = same_held past x.call ∙ h.held;
+  owner = same_owner roster past e.thread x.call l ∙ h.owner;
+  sender = same_sender_of past x.call ∙ h.sender;
+}
+
+as_before : (roster : List Member) (past : Trace) → AreOfRoster roster past → AnsweredToSender roster past → old.AnsweredToSender roster past
+as_before roster [] l h = tt
+as_before roster (e ∷ past) l h = (
+  all_more _ _ e.endings h.1.0 (λ x its answer. answers_as_before roster past e x l.0 (its answer)),
+  λ i named. h.1.1 i (same_answers e.call ∙ named),
+  as_before roster past l.0 h.0,
+)
+
+by_rules : (roster : List Member) (past : Trace) → AreOfRoster roster past → old.AnsweredToSender roster past → AnsweredToSender roster past
+by_rules roster [] l h = tt
+by_rules roster (e ∷ past) l h = (
+  by_rules roster past l.0 h.2,
+  (
+    all_more _ _ e.endings h.0 (λ x its answer. answers_by_rules roster past e x l.0 (its answer)),
+    λ i named. h.1 i (sym (same_answers e.call) ∙ named),
+  ),
+)
+
+pub same_answered_to_sender : (roster : List Member) (past : Trace) → AreOfRoster roster past → AnsweredToSender roster past ↔ old.AnsweredToSender roster past
+same_answered_to_sender roster past l = (as_before roster past l, by_rules roster past l)

@@ -1,0 +1,110 @@
+-- What a rule may read of the past.
+use Rattle.std.specs.Prelude.{◌&&◌, ◌+◌, ◌==◌, ◌||◌, if◌then◌else◌}
+use Rattle.qrules.specs.Words.{[], bit_and, false, find, is_some, map, member_at, option_and_then}
+use Rattle.qrules.specs.Words.{option_map_or, Bool, Connection, Item, Kind, List, Member, None, Option, Some}
+use Rattle.qrules.specs.Words.{ℕ}
+use Rattle.qrules.specs.Trace.{Bytes, CallNo, ChannelId, ConnectionId, Priority, ProcessNo, ReceiveId}
+use Rattle.qrules.specs.Trace.{ThreadNo}
+pub use Rattle.qmodel.specs.Facts.{OpenChannel}
+
+-- how a message was received
+pub record Receipt : Type 0 where
+  pub priority : Priority  -- the message's, as it was received
+  pub copied : ℕ  -- how many of its bytes
+  pub unblocked : Bool  -- an unblock pulse was made for it
+
+-- a Send that isn't ended: SEND-blocked without a receipt, REPLY-blocked with one
+pub record OpenSend : Type 0 where
+  pub number : ReceiveId
+  pub thread : ThreadNo
+  pub connection : ConnectionId
+  pub message : Bytes
+  pub reply_buffer : Bytes  -- with all that was written over it
+  pub receipt : Option Receipt
+
+-- a Receive or a ReceivePulse that isn't ended: RECEIVE-blocked
+pub record OpenReceive : Type 0 where
+  pub number : CallNo
+  pub thread : ThreadNo
+  pub channel : ChannelId
+  pub kind : Kind  -- what it may take
+  pub buffer : Bytes
+
+-- what is so after all past calls
+pub record Facts : Type 0 where
+  pub roster : List Member  -- the threads, in rising number
+  pub number : CallNo  -- of the call that is answered
+  pub down : Bool  -- whether the kernel is shut down
+  pub channel : ChannelId → Option OpenChannel  -- the open channel of this id
+  pub open_channels : ℕ  -- how many there are
+  pub connection : ConnectionId → Option Connection  -- the live connection of this id
+  pub live_connections : ℕ  -- how many there are
+  pub sends : List OpenSend  -- the open Sends, in rising thread number
+  pub receives : List OpenReceive  -- the open receives, in rising thread number
+  pub pending : ChannelId → List Item  -- what waits on a channel to be received, in rising number
+  pub priority : ThreadNo → Priority  -- of each thread
+
+-- the threads of a roster
+abbrev pub threads_of : List Member → List ThreadNo
+threads_of roster = map (λ m. m.thread) roster
+
+-- the channel is open and has this flag: 1 fixes priorities, 2 tells of unblocks, 4 tells of disconnects
+abbrev pub has_flag : ℕ → Option OpenChannel → Bool
+has_flag flag channel = option_map_or (λ c. bit_and c.flags.0 flag == flag) channel false
+
+-- how many of the numbers up to n have something
+abbrev pub count_to : {A : Type 0} → (ℕ → Option A) → ℕ → ℕ
+count_to at Prim.Native.Nat.zero = 0
+count_to at (Prim.Native.Nat.suc n) = (if is_some (at (n + 1)) then 1 else 0) + count_to at n
+
+module _ (f : Facts) where
+  -- the thread is one of this process
+  abbrev pub is_of_process : ThreadNo → ProcessNo → Bool
+  is_of_process t p = option_map_or (λ m. m.process == p) (member_at f.roster t) false
+
+  -- both threads are of one process
+  abbrev pub is_of_same_process : ThreadNo → ThreadNo → Bool
+  is_of_same_process t u = option_map_or (λ m. is_of_process u m.process) (member_at f.roster t) false
+
+  -- the channel is open, and of the thread's process
+  abbrev pub owns : ThreadNo → ChannelId → Bool
+  owns t h = option_map_or (λ c. is_of_process t c.owner) (f.channel h) false
+
+  -- the connection is live, and leads to channel h
+  abbrev pub leads_to : ConnectionId → ChannelId → Bool
+  leads_to k h = option_map_or (λ c. c.channel == h) (f.connection k) false
+
+  -- the open channel that the thread may send to over connection k, which its process attached
+  abbrev pub route : ThreadNo → ConnectionId → Option ChannelId
+  route t k = option_and_then
+      (λ c. if is_of_process t c.process && is_some (f.channel c.channel) then Some c.channel else None)
+      (f.connection k)
+
+  -- the Send that thread t waits in
+  abbrev pub send_of : ThreadNo → Option OpenSend
+  send_of t = find (λ s. s.thread == t) f.sends
+
+  -- the Receive or ReceivePulse that thread t waits in
+  abbrev pub receive_of : ThreadNo → Option OpenReceive
+  receive_of t = find (λ r. r.thread == t) f.receives
+
+  -- thread t waits in an open call
+  abbrev pub is_blocked : ThreadNo → Bool
+  is_blocked t = is_some (send_of t) || is_some (receive_of t)
+
+  -- the open Send of number i
+  abbrev pub open_send : ReceiveId → Option OpenSend
+  open_send i = find (λ s. s.number == i) f.sends
+
+  -- the bytes of message i
+  abbrev pub message : ReceiveId → Bytes
+  message i = option_map_or (λ s. s.message) (open_send i) []
+
+  -- the message is received, and its channel is one of the thread's process
+  abbrev pub is_held_for : ThreadNo → OpenSend → Bool
+  is_held_for t s =
+      is_some s.receipt && option_map_or (λ c. owns t c.channel) (f.connection s.connection) false
+
+  -- message i is held for thread t, which may answer it, read it and write to its reply buffer
+  abbrev pub holds : ThreadNo → ReceiveId → Bool
+  holds t i = option_map_or (is_held_for t) (open_send i) false

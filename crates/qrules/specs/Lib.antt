@@ -1,0 +1,11 @@
+pub mod Words
+pub mod Trace
+pub mod Facts
+pub mod Rule
+pub mod Delivery
+pub mod Rules
+pub mod Outcome
+pub mod Past
+pub mod Lawful
+pub mod Properties
+pub mod Same

@@ -1,0 +1,192 @@
+-- What is searched for in the list of all past calls.
+use Rattle.std.specs.Prelude.{◌&&◌, ◌+◌, ◌==◌, ◌||◌, ◌∷◌, if◌then◌else◌}
+use Rattle.qrules.specs.Words.{[], false, filter, filter_map, find, fold, is_pulse, is_some, lay_over, length}
+use Rattle.qrules.specs.Words.{list_any, map, member_at, not, option_and_then, option_map, option_map_or}
+use Rattle.qrules.specs.Words.{option_or, reverse, true, unwrap_or, with_priority, Bool, Connection, Item}
+use Rattle.qrules.specs.Words.{List, Mark, Member, None, Option, Some, What, ℕ}
+use Rattle.qrules.specs.Trace.{endings_of, Bytes, CallNo, ChannelId, ConnectionId, Event, Priority, ReceiveId}
+use Rattle.qrules.specs.Trace.{ThreadNo, Trace}
+use Rattle.qrules.specs.Facts.{OpenChannel, OpenReceive, OpenSend}
+use Rattle.qrules.specs.Rule.{Effect, SentItem}
+use Rattle.qrules.specs.Rules.{effect_of}
+use Rattle.qrules.specs.Words.mark
+use Rattle.qrules.specs.Words.what
+
+-- ---- accepted calls
+
+-- the mark is a failure
+abbrev pub is_failure : Mark → Bool
+is_failure (mark.Failed errno) = true
+is_failure other = false
+
+-- the event after this past was accepted: none of its endings is its own failure
+abbrev pub is_accepted : Event → Trace → Bool
+is_accepted e past = not (list_any (λ x. (x.call == length past + 1) && is_failure x.mark) e.endings)
+
+-- an accepted call
+pub record AcceptedCall : Type 0 where
+  pub number : CallNo
+  pub thread : ThreadNo
+  pub effect : Effect
+
+-- all accepted calls, the newest first
+abbrev pub accepted_calls : Trace → List AcceptedCall
+accepted_calls [] = []
+accepted_calls (e ∷ past) = let call : AcceptedCall =
+    record { number = length past + 1; thread = e.thread; effect = effect_of e.call } in
+    if is_accepted e past then call ∷ accepted_calls past else accepted_calls past
+
+-- the accepted call of number i
+abbrev pub accepted_call : Trace → CallNo → Option AcceptedCall
+accepted_call past i = find (λ c. c.number == i) (accepted_calls past)
+
+-- an accepted call did this
+abbrev pub was_done : (Effect → Bool) → Trace → Bool
+was_done is_such past = list_any (λ c. is_such c.effect) (accepted_calls past)
+
+-- the number is this one
+abbrev pub is_number : Option ℕ → ℕ → Bool
+is_number number i = option_map_or (λ n. n == i) number false
+
+-- ---- endings and receipts
+
+-- call i is ended
+abbrev pub is_ended : Trace → CallNo → Bool
+is_ended past i = list_any (λ x. x.call == i) (endings_of past)
+
+-- an item that is received, and how many bytes were copied, none of a pulse
+pub record ReceivedItem : Type 0 where
+  pub number : CallNo
+  pub copied : ℕ
+
+-- the item that an ending with this mark receives
+abbrev pub item_in : Mark → Option ReceivedItem
+item_in (mark.Message rcvid copied) = Some (record { number = rcvid; copied = copied })
+item_in (mark.Pulse item priority what) = Some (record { number = item; copied = 0 })
+item_in other = None
+
+-- item i, if it is received
+abbrev pub received_item : Trace → CallNo → Option ReceivedItem
+received_item past i = find (λ r. r.number == i) (filter_map (λ x. item_in x.mark) (endings_of past))
+
+-- item i is received
+abbrev pub is_received : Trace → CallNo → Bool
+is_received past i = is_some (received_item past i)
+
+-- ---- channels and connections
+
+-- channel h is destroyed
+abbrev pub is_destroyed : Trace → ChannelId → Bool
+is_destroyed past h = was_done (λ e. is_number e.destroys h) past
+
+-- channel h as it was created: of its thread's process
+abbrev pub created_channel : List Member → Trace → ChannelId → Option OpenChannel
+created_channel roster past h = option_and_then (λ c. option_and_then
+    (λ m. option_map (λ flags. record { owner = m.process; flags = flags }) c.effect.creates)
+    (member_at roster c.thread)) (accepted_call past h)
+
+-- the open channel h
+abbrev pub channel_at : List Member → Trace → ChannelId → Option OpenChannel
+channel_at roster past h = if is_destroyed past h then None else created_channel roster past h
+
+-- connection k as it was attached: of its thread's process
+abbrev pub attached_connection : List Member → Trace → ConnectionId → Option Connection
+attached_connection roster past k = option_and_then (λ c. option_and_then
+    (λ m. option_map (λ h. record { process = m.process; channel = h }) c.effect.attaches)
+    (member_at roster c.thread)) (accepted_call past k)
+
+-- the live connection k
+abbrev pub connection_at : List Member → Trace → ConnectionId → Option Connection
+connection_at roster past k =
+    if was_done (λ e. is_number e.detaches k) past then None else attached_connection roster past k
+
+-- ---- items
+
+-- of these items the one of number i
+abbrev pub item_among : List SentItem → CallNo → Option SentItem
+item_among items i = find (λ m. m.item.number == i) items
+
+-- the priority of an item, 0 where there is none
+abbrev pub priority_of_item : Option SentItem → Priority
+priority_of_item item = option_map_or (λ m. m.item.priority) item 0
+
+-- the thread that sent message i
+abbrev pub sender_of : Trace → ReceiveId → Option ThreadNo
+sender_of past i = option_and_then (λ c. option_map (λ s. c.thread) c.effect.sends) (accepted_call past i)
+
+-- the priority that event e sets for thread t
+abbrev pub priority_set_by : Event → Trace → ThreadNo → Option Priority
+priority_set_by e past t = if is_accepted e past
+    then option_and_then (λ s. if s.thread == t then Some s.priority else None) (effect_of e.call).sets
+    else None
+
+-- the priority that was set last for thread t after message i was sent and before it was received
+abbrev pub priority_set_since : Trace → ReceiveId → ThreadNo → Option Priority
+priority_set_since [] i t = None
+priority_set_since (e ∷ past) i t = if i == length past + 1 then None
+    else option_or (if is_received past i then None else priority_set_by e past t)
+    (priority_set_since past i t)
+
+-- an item's priority by now: a message takes on what is set for its sender until it is received
+abbrev pub current_priority : Trace → Item → Priority
+current_priority past item = if is_pulse item.what then item.priority
+    else unwrap_or (option_and_then (priority_set_since past item.number) (sender_of past item.number))
+    item.priority
+
+-- these items as they are by now
+abbrev pub items_by_now : Trace → List SentItem → List SentItem
+items_by_now past items = map
+    (λ m. record { item = with_priority (current_priority past m.item) m.item; channel = m.channel }) items
+
+-- the item waits no more: it is received, or is a message whose Send is ended
+abbrev pub is_gone : Trace → Item → Bool
+is_gone past item = is_received past item.number || (not (is_pulse item.what) && is_ended past item.number)
+
+-- of these items those that wait on channel h to be received
+abbrev pub pending_among : Trace → List SentItem → ChannelId → List Item
+pending_among past items h = if is_destroyed past h then []
+    else map (λ m. m.item) (filter (λ m. (m.channel == h) && not (is_gone past m.item)) items)
+
+-- ---- open calls
+
+-- the call that thread t waits in: its newest accepted one that may wait, unless that is ended
+abbrev pub waiting_call : Trace → ThreadNo → Option AcceptedCall
+waiting_call past t = option_and_then (λ c. if is_ended past c.number then None else Some c)
+    (find (λ c. (c.thread == t) && (is_some c.effect.sends || is_some c.effect.receives))
+    (accepted_calls past))
+
+-- a reply buffer of message i with each accepted Write to it, in order
+abbrev pub with_writes : Trace → ReceiveId → Bytes → Bytes
+with_writes past i buffer = fold (λ b w. lay_over b w.offset w.bytes) buffer (reverse (filter_map
+    (λ c. option_and_then (λ w. if w.message == i then Some w else None) c.effect.writes)
+    (accepted_calls past)))
+
+-- the item is an unblock pulse for message i
+abbrev pub is_unblock_for : ReceiveId → What → Bool
+is_unblock_for i (what.Unblock rcvid) = rcvid == i
+is_unblock_for i other = false
+
+-- the open Send of thread t, by all items as they are by now
+abbrev pub send_after : Trace → List SentItem → ThreadNo → Option OpenSend
+send_after past items t = option_and_then (λ c. option_map (λ s. record {
+  number = c.number;
+  thread = t;
+  connection = s.connection;
+  message = s.message;
+  reply_buffer = with_writes past c.number s.reply_buffer;
+  receipt = option_map (λ r. record {
+    priority = priority_of_item (item_among items c.number);
+    copied = r.copied;
+    unblocked = list_any (λ m. is_unblock_for c.number m.item.what) items;
+  }) (received_item past c.number);
+}) c.effect.sends) (waiting_call past t)
+
+-- the open Receive or ReceivePulse of thread t
+abbrev pub receive_after : Trace → ThreadNo → Option OpenReceive
+receive_after past t = option_and_then (λ c. option_map (λ r. record {
+  number = c.number;
+  thread = t;
+  channel = r.channel;
+  kind = r.kind;
+  buffer = r.buffer;
+}) c.effect.receives) (waiting_call past t)

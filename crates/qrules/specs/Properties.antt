@@ -1,0 +1,194 @@
+-- The six properties of a lawful trace on which the kernel's users rely.
+use Rattle.std.specs.Prelude.{◌&&◌, ◌++◌, ◌==◌, ◌∷◌, ◌≡◌, ◌≤◌, if◌then◌else◌}
+use Rattle.qrules.specs.Words.{[], best_of, count_by, drop, false, filter, filter_map, is_some, laid_count}
+use Rattle.qrules.specs.Words.{lay_over, map, not, option_and_then, option_map, option_map_or, option_or}
+use Rattle.qrules.specs.Words.{option_to_list, true, AllByRecursion, Any, Bool, Completion, IsSomeAnd, Item}
+use Rattle.qrules.specs.Words.{List, Mark, MatchOption, Member, Option, Some, ℕ}
+use Rattle.qrules.specs.Trace.{call_at, endings_of, Bytes, CallNo, ChannelId, ConnectionId, Event}
+use Rattle.qrules.specs.Trace.{InEachEvent, Priority, ReceiveId, Trace}
+use Rattle.qrules.specs.Facts.{owns}
+use Rattle.qrules.specs.Rule.{buffer_of, Effect, ReceiveRequest, SentItem}
+use Rattle.qrules.specs.Rules.{effect_of}
+use Rattle.qrules.specs.Past.{attached_connection, is_accepted, is_destroyed, is_ended, is_received}
+use Rattle.qrules.specs.Past.{item_among, item_in, items_by_now, priority_of_item, sender_of, with_writes}
+use Rattle.qrules.specs.Lawful.{facts_of, item_made_by, items_and_priorities}
+use Rattle.qrules.specs.Words.mark
+
+-- P holds of each ending of each event, together with the event and the events before it
+abbrev pub InEachEnding : (Trace → Event → Completion → Type 0) → Trace → Type 0
+InEachEnding P = InEachEvent (λ past e. AllByRecursion (P past e) e.endings)
+
+-- ---- each item is received at most once, and each call ended at most once
+
+-- no two of these numbers are equal
+abbrev pub AllDifferent : List ℕ → Type 0
+AllDifferent [] = Unit {0}
+AllDifferent (n ∷ ns) = AllByRecursion (λ m. (n == m) ≡ false) ns × AllDifferent ns
+
+-- the number of the item that an ending receives
+abbrev pub number_received : Completion → Option CallNo
+number_received x = option_map (λ r. r.number) (item_in x.mark)
+
+-- all items made so far, each as it was made
+abbrev pub items : List Member → Trace → List SentItem
+items roster past = (items_and_priorities roster past).items
+
+-- no item is received twice, none before it was made, and no call is ended twice
+pub record ReceivedOnce (roster : List Member) (past : Trace) : Type 0 where
+  pub each_item : AllDifferent (filter_map number_received (endings_of past))
+  pub none_early : InEachEvent (λ past e. AllByRecursion
+      (λ i. is_some (item_among (items roster (e ∷ past)) i) ≡ true)
+      (filter_map number_received e.endings)) past
+  pub each_call : AllDifferent (map (λ x. x.call) (endings_of past))
+
+-- ---- a message is answered at most once, by a call that may answer it, and to the thread that sent it
+
+-- the mark is an answer
+abbrev pub is_answer : Mark → Bool
+is_answer (mark.Replied status copied) = true
+is_answer (mark.Errored code) = true
+is_answer other = false
+
+-- the ending answers the message that the event's call names: while it was held, by a thread of the process
+-- that owns its channel, and to the thread that sent it
+pub record AnswersIts (roster : List Member) (past : Trace) (e : Event) (x : Completion) : Type 0 where
+  pub named : (effect_of e.call).answers ≡ Some x.call
+  pub accepted : is_accepted e past ≡ true
+  pub held : (is_received past x.call && not (is_ended past x.call)) ≡ true
+  pub owner : option_map_or (λ m. owns (facts_of roster past) e.thread m.channel)
+      (item_among (items roster past) x.call) false ≡ true
+  pub sender : sender_of past x.call ≡ Some x.thread
+
+-- an accepted call that answers a message has just one ending of its Send
+abbrev pub AnswersOnce : Trace → Event → Type 0
+AnswersOnce past e = (i : ReceiveId) → (effect_of e.call).answers ≡ Some i → is_accepted e past ≡ true
+    → count_by (λ x. x.call == i) e.endings ≡ 1
+
+-- each ending that is an answer answers its message so, and each accepted answer has one
+abbrev pub AnsweredToSender : List Member → Trace → Type 0
+AnsweredToSender roster = InEachEvent (λ past e.
+    AllByRecursion (λ x. is_answer x.mark ≡ true → AnswersIts roster past e x) e.endings × AnswersOnce past e)
+
+-- ---- every buffer and every count is what was to be copied
+
+-- the bytes of message i
+abbrev pub message_at : Trace → ReceiveId → Bytes
+message_at past i =
+    option_map_or (λ s. s.message) (option_and_then (λ c. (effect_of c).sends) (call_at past i)) []
+
+-- the buffer of call i: a Send's with what was written over it, and any other's as the call brought it
+abbrev pub buffer_at : Trace → CallNo → Bytes
+buffer_at past i = option_map_or (λ c. if is_some (effect_of c).sends
+    then with_writes past i (buffer_of (effect_of c)) else buffer_of (effect_of c)) (call_at past i) []
+
+-- these bytes are laid over the buffer from the offset on, and counted: what it is after, and how many
+abbrev pub IsLaid : Bytes → ℕ → Bytes → Bytes → ℕ → Type 0
+IsLaid buffer offset bytes after copied =
+    (after ≡ lay_over buffer offset bytes) × (copied ≡ laid_count buffer offset bytes)
+
+-- a Read lays the message from its offset on over its buffer, a Write has no buffer, and no other call counts
+abbrev pub IsCounted : Trace → Effect → Completion → ℕ → Type 0
+IsCounted past e x copied = MatchOption e.reads
+    (IsSomeAnd e.writes
+    (λ w. (x.buffer ≡ []) × (copied ≡ laid_count (buffer_at past w.message) w.offset w.bytes)))
+    (λ r. IsLaid r.bytes 0 (drop r.offset (message_at past r.message)) x.buffer copied)
+
+-- a receipt lays the message over the front of the receiver's buffer, a reply its bytes over the sender's,
+-- a Read and a Write copy what they count, and any other ending gives the buffer as it is by then
+abbrev pub IsCopied : Trace → Event → Completion → Mark → Type 0
+IsCopied past e x (mark.Message rcvid copied) =
+    IsLaid (buffer_at (e ∷ past) x.call) 0 (message_at (e ∷ past) rcvid) x.buffer copied
+IsCopied past e x (mark.Replied status copied) =
+    (bytes : Bytes) × ((effect_of e.call).replies ≡ Some (status, bytes))
+    × IsLaid (buffer_at (e ∷ past) x.call) 0 bytes x.buffer copied
+IsCopied past e x (mark.Count copied) = IsCounted past (effect_of e.call) x copied
+IsCopied past e x other = x.buffer ≡ buffer_at (e ∷ past) x.call
+
+-- each ending is copied so
+abbrev pub CopiedExactly : Trace → Type 0
+CopiedExactly = InEachEnding (λ past e x. IsCopied past e x x.mark)
+
+-- ---- a receipt takes the item of greatest priority, and among equals the one that was made first
+
+-- what could be taken from channel h in this event: what was pending before it, and the item that it makes
+abbrev pub takeable : List Member → Trace → Event → ChannelId → List Item
+takeable roster past e h = (facts_of roster past).pending h ++ map (λ m. m.item)
+    (filter (λ m. m.channel == h) (option_to_list (item_made_by (facts_of roster past) e past)))
+
+-- what call i asks to receive
+abbrev pub request_of : Trace → CallNo → Option ReceiveRequest
+request_of past i = option_and_then (λ c. (effect_of c).receives) (call_at past i)
+
+-- the ending receives item i as the best of what its call may take
+pub record TakesBest
+    (roster : List Member) (past : Trace) (e : Event) (x : Completion) (i : CallNo) : Type 0 where
+  pub request : ReceiveRequest
+  pub call : request_of (e ∷ past) x.call ≡ Some request
+  pub best : option_map (λ item. item.number)
+      (best_of request.kind (takeable roster past e request.channel)) ≡ Some i
+
+-- each receipt takes the best
+abbrev pub BestFirst : List Member → Trace → Type 0
+BestFirst roster =
+    InEachEnding (λ past e x. (i : CallNo) → number_received x ≡ Some i → TakesBest roster past e x i)
+
+-- ---- of what was sent over one connection and has one priority, what was sent first is received first
+
+-- the connection over which item i was sent
+abbrev pub connection_of : Trace → CallNo → Option ConnectionId
+connection_of past i = option_and_then
+    (λ c. option_or (option_map (λ s. s.connection) (effect_of c).sends) (effect_of c).pulses_over)
+    (call_at past i)
+
+-- the ending is one of a Receive, and takes item j, which was sent over connection k
+pub record TakesSent (past : Trace) (x : Completion) (j : CallNo) (k : ConnectionId) : Type 0 where
+  pub request : ReceiveRequest
+  pub call : request_of past x.call ≡ Some request
+  pub any : request.kind ≡ Any
+  pub item : number_received x ≡ Some j
+  pub connection : connection_of past j ≡ Some k
+
+-- the priority of item i before event e, or as the event makes it
+abbrev pub priority_before : List Member → Trace → Event → CallNo → Priority
+priority_before roster past e i =
+    priority_of_item (item_among (items_by_now past (items roster (e ∷ past))) i)
+
+-- nothing that could be taken, was sent over connection k and had the priority of item j is earlier than j
+abbrev pub IsEarliest : List Member → Trace → Event → CallNo → ConnectionId → Type 0
+IsEarliest roster past e j k = (h : ChannelId) → AllByRecursion
+    (λ item. connection_of (e ∷ past) item.number ≡ Some k → item.priority ≡ priority_before roster past e j
+    → j ≤ item.number) (takeable roster past e h)
+
+-- each receipt by a Receive of what was sent over a connection takes the earliest of its priority
+abbrev pub SentOrder : List Member → Trace → Type 0
+SentOrder roster = InEachEnding
+    (λ past e x. (j : CallNo) (k : ConnectionId) → TakesSent (e ∷ past) x j k → IsEarliest roster past e j k)
+
+-- ---- once a channel is destroyed nothing is received from it, and no thread is blocked on it
+
+-- these endings receive nothing from channel h, and no call is open on it after these events; a Send is open
+-- on the channel that its connection was attached to, detached or not
+pub record IsShut
+    (roster : List Member) (past : Trace) (endings : List Completion) (h : ChannelId) : Type 0 where
+  pub received : AllByRecursion (λ x. (i : CallNo) → number_received x ≡ Some i
+      → option_map (λ m. m.channel) (item_among (items roster past) i) ≡ Some h → ⊥) endings
+  pub sends : AllByRecursion
+      (λ s. option_map (λ c. c.channel) (attached_connection roster past s.connection) ≡ Some h → ⊥)
+      (facts_of roster past).sends
+  pub receives : AllByRecursion (λ r. r.channel ≡ h → ⊥) (facts_of roster past).receives
+
+-- after each event, each channel that is destroyed by then is shut
+abbrev pub ShutForGood : List Member → Trace → Type 0
+ShutForGood roster = InEachEvent
+    (λ past e. (h : ChannelId) → is_destroyed (e ∷ past) h ≡ true → IsShut roster (e ∷ past) e.endings h)
+
+-- ---- all six
+
+-- what every lawful trace has
+pub record HasProperties (roster : List Member) (past : Trace) : Type 0 where
+  pub received_once : ReceivedOnce roster past
+  pub answered_to_sender : AnsweredToSender roster past
+  pub copied_exactly : CopiedExactly past
+  pub best_first : BestFirst roster past
+  pub sent_order : SentOrder roster past
+  pub shut_for_good : ShutForGood roster past

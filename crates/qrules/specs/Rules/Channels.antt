@@ -1,0 +1,25 @@
+-- ChannelCreate and ChannelDestroy.
+use Rattle.std.specs.Prelude.{◌==◌, if◌then◌else◌}
+use Rattle.qrules.specs.Words.{nat_lt, true, Again, ChannelFlags, Inval, None, Some, Srch}
+use Rattle.qrules.specs.Trace.{ChannelId}
+use Rattle.qrules.specs.Facts.{leads_to, owns}
+use Rattle.qrules.specs.Rule.{no_effect, plain_row, with_endings, Rule}
+use Rattle.qrules.specs.Delivery.{cancel}
+use Rattle.qrules.specs.Words.mark
+
+-- a new channel of the caller's process, whose id is its number; refused with other flags, or past 64 of them
+abbrev pub channel_create : ChannelFlags → Rule
+channel_create flags = record {
+  row = λ f t. record (plain_row f t
+      (if nat_lt flags.0 8 then (if nat_lt f.open_channels 64 then None else Some Again) else Some Inval)
+      (mark.Channel f.number)) { takes_memory = true };
+  effect = record no_effect { creates = Some flags };
+}
+
+-- the end of a channel of the caller's process, which cancels each call that is blocked on it
+abbrev pub channel_destroy : ChannelId → Rule
+channel_destroy h = record {
+  row = λ f t. with_endings (plain_row f t (if owns f t h then None else Some Inval) mark.Ok)
+      (cancel f (λ s. leads_to f s.connection h) (λ r. r.channel == h) Srch);
+  effect = record no_effect { destroys = Some h };
+}

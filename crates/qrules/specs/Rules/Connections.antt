@@ -1,0 +1,42 @@
+-- ConnectAttach and ConnectDetach.
+use Rattle.std.specs.Prelude.{◌&&◌, ◌==◌, if◌then◌else◌}
+use Rattle.qrules.specs.Words.{false, is_some, nat_lt, option_and_then, option_map_or, true, Again, Badf}
+use Rattle.qrules.specs.Words.{Connection, Inval, None, Option, Some, Srch, ℕ}
+use Rattle.qrules.specs.Trace.{ChannelId, ConnectionId, ThreadNo}
+use Rattle.qrules.specs.Facts.{count_to, has_flag, is_of_process, Facts}
+use Rattle.qrules.specs.Rule.{new_item, no_effect, plain_row, Rule, SentItem}
+use Rattle.qrules.specs.Delivery.{cancel, pulse_row, refusal_if_full}
+use Rattle.qrules.specs.Words.mark
+use Rattle.qrules.specs.Words.what
+
+-- a new connection of the caller's process to an open channel, whose id is its number; at most 1,024 live
+abbrev pub connect_attach : ChannelId → Rule
+connect_attach h = record {
+  row = λ f t. record (plain_row f t
+      (if is_some (f.channel h) then (if nat_lt f.live_connections 1024 then None else Some Again)
+      else Some Srch)
+      (mark.Connection f.number)) { takes_memory = true };
+  effect = record no_effect { attaches = Some h };
+}
+
+-- how many live connections lead from c's process to c's channel
+abbrev pub connections_like : Facts → Connection → ℕ
+connections_like f c = count_to (λ k. option_and_then
+    (λ d. if (d.process == c.process) && (d.channel == c.channel) then Some d else None)
+    (f.connection k)) f.number
+
+-- the pulse that tells that a process detaches its last connection to a channel with the disconnect flag
+abbrev pub disconnect_pulse : Facts → ThreadNo → ConnectionId → Option SentItem
+disconnect_pulse f t k = option_and_then
+    (λ c. if has_flag 4 (f.channel c.channel) && (connections_like f c == 1)
+    then Some (new_item f (f.priority t) (what.Disconnect c.process) c.channel) else None) (f.connection k)
+
+-- the end of a connection of the caller's process, which cancels each Send over it
+abbrev pub connect_detach : ConnectionId → Rule
+connect_detach k = record {
+  row = λ f t. pulse_row f t
+      (if option_map_or (λ c. is_of_process f t c.process) (f.connection k) false
+      then refusal_if_full f (disconnect_pulse f t k) else Some Inval)
+      (cancel f (λ s. s.connection == k) (λ r. false) Badf) (disconnect_pulse f t k);
+  effect = record no_effect { detaches = Some k; makes = λ f t. disconnect_pulse f t k };
+}

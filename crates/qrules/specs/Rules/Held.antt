@@ -1,0 +1,79 @@
+-- The calls on a held message: Reply, Error, Read, Write and Info.
+use Rattle.std.specs.Prelude.{if◌then◌else◌}
+use Rattle.qrules.specs.Words.{[], drop, int_eq, laid_count, lay_over, length, member_at, option_and_then}
+use Rattle.qrules.specs.Words.{option_map, option_map_or, option_to_list, pos, Errno, Info, Mark, None}
+use Rattle.qrules.specs.Words.{Option, Some, Srch, ℤ}
+use Rattle.qrules.specs.Trace.{Bytes, ReceiveId, ThreadNo}
+use Rattle.qrules.specs.Facts.{holds, message, open_send, Facts}
+use Rattle.qrules.specs.Rule.{no_effect, own_ending, own_row, plain_row, with_endings, Row, Rule, Transfer}
+use Rattle.qrules.specs.Words.mark
+
+-- the refusal of a call whose message isn't held for the caller
+abbrev pub refusal_unless_held : Facts → ThreadNo → ReceiveId → Option Errno
+refusal_unless_held f t i = if holds f t i then None else Some Srch
+
+-- the row of a call that answers message i; answer makes of the reply buffer the Send's mark and its buffer
+abbrev pub answer_row : ReceiveId → (Bytes → Mark × Bytes) → Facts → ThreadNo → Row
+answer_row i answer f t = with_endings (plain_row f t (refusal_unless_held f t i) mark.Ok)
+    (option_to_list (option_map (λ s. record {
+      call = s.number;
+      thread = s.thread;
+      mark = (answer s.reply_buffer).0;
+      buffer = (answer s.reply_buffer).1;
+    }) (open_send f i)))
+
+-- Reply: the bytes over the front of the reply buffer
+abbrev pub reply : ReceiveId → ℤ → Bytes → Rule
+reply i status bytes = record {
+  row = answer_row i (λ buffer. (mark.Replied status (laid_count buffer 0 bytes), lay_over buffer 0 bytes));
+  effect = record no_effect { answers = Some i; replies = Some (status, bytes) };
+}
+
+-- Error: a code, and no bytes; the code 0 is a reply of status 0
+abbrev pub error : ReceiveId → ℤ → Rule
+error i code = record {
+  row = answer_row i (λ buffer.
+      (if int_eq code (pos 0) then mark.Replied (pos 0) 0 else mark.Errored code, buffer));
+  effect = record no_effect {
+    answers = Some i;
+    replies = if int_eq code (pos 0) then Some (pos 0, []) else None;
+  };
+}
+
+-- Read: what stands in the message from the offset on, over the front of the buffer
+abbrev pub read : Transfer → Rule
+read r = record {
+  row = λ f t. own_row f t (refusal_unless_held f t r.message)
+      (mark.Count (laid_count r.bytes 0 (drop r.offset (message f r.message))))
+      (lay_over r.bytes 0 (drop r.offset (message f r.message)));
+  effect = record no_effect { reads = Some r };
+}
+
+-- Write: the bytes over the sender's reply buffer from the offset on; it ends with how many found room
+abbrev pub write : Transfer → Rule
+write w = record {
+  row = λ f t. plain_row f t (refusal_unless_held f t w.message) (mark.Count
+      (option_map_or (λ s. laid_count s.reply_buffer w.offset w.bytes) (open_send f w.message) 0));
+  effect = record no_effect { writes = Some w };
+}
+
+-- what is told of message i, if it is received
+abbrev pub info_of : Facts → ReceiveId → Option Info
+info_of f i = option_and_then (λ s. option_map (λ receipt. record {
+  process = option_map_or (λ m. m.process) (member_at f.roster s.thread) 0;
+  thread = s.thread;
+  connection = s.connection;
+  msglen = receipt.copied;
+  srcmsglen = length s.message;
+  dstmsglen = length s.reply_buffer;
+  priority = receipt.priority;
+}) s.receipt) (open_send f i)
+
+-- Info: what is told of a held message
+abbrev pub info : ReceiveId → Rule
+info i = record {
+  row = λ f t. record (plain_row f t (refusal_unless_held f t i) mark.Ok) {
+    endings = option_to_list (option_map (λ told. own_ending f t (mark.Info told) []) (info_of f i));
+  };
+  effect = no_effect;
+}

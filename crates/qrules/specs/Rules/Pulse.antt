@@ -1,0 +1,21 @@
+-- Pulse: a pulse to the newest receiver, or to what waits on the channel.
+use Rattle.std.specs.Prelude.{if◌then◌else◌}
+use Rattle.qrules.specs.Words.{[], int_lt, option_map, option_map_or, pos, Badf, Inval, Option, Some, User, ℤ}
+use Rattle.qrules.specs.Trace.{ConnectionId, Priority}
+use Rattle.qrules.specs.Facts.{route, Facts}
+use Rattle.qrules.specs.Rule.{new_item, no_effect, Rule, SentItem}
+use Rattle.qrules.specs.Delivery.{pulse_row, refusal_if_full}
+
+-- the pulse over connection k, of the priority that is given
+abbrev pub pulse_over : Facts → ConnectionId → Priority → ℤ → ℤ → Option SentItem
+pulse_over f k priority code value =
+    option_map (λ c. new_item f priority (User code value) c.channel) (f.connection k)
+
+-- refused without a route, with a code below 0, and past 1,024 pulses
+abbrev pub pulse : ConnectionId → Priority → ℤ → ℤ → Rule
+pulse k priority code value = record {
+  row = λ f t. pulse_row f t (option_map_or (λ h. if int_lt code (pos 0) then Some Inval
+      else refusal_if_full f (pulse_over f k priority code value)) (route f t k) (Some Badf))
+      [] (pulse_over f k priority code value);
+  effect = record no_effect { makes = λ f t. pulse_over f k priority code value; pulses_over = Some k };
+}

@@ -1,0 +1,32 @@
+-- The list of all past calls, and what is read of it alone.
+use Rattle.std.specs.Prelude.{◌+◌, ◌==◌, ◌∷◌, if◌then◌else◌}
+use Rattle.qrules.specs.Words.{[], flat_map, length, Call, Completion, List, None, Option, Some, ℕ}
+pub use Rattle.qmodel.specs.Ids.{CallNo, ChannelId, ConnectionId, ProcessNo, ReceiveId, ThreadNo}
+pub use Rattle.qmodel.specs.Trace.{Event, Trace}
+
+-- a priority
+abbrev pub Priority : Type 0
+Priority = ℕ
+
+-- a message, a buffer or the data of a reply
+abbrev pub Bytes : Type 0
+Bytes = List ℕ
+
+-- P holds of each event, together with the events before it
+abbrev pub InEachEvent : (Trace → Event → Type 0) → Trace → Type 0
+InEachEvent P [] = Unit {0}
+InEachEvent P (e ∷ past) = InEachEvent P past × P past e
+
+-- the past followed by events, of which the oldest stands first
+abbrev pub followed_by : Trace → List Event → Trace
+followed_by past [] = past
+followed_by past (e ∷ events) = followed_by (e ∷ past) events
+
+-- the call of number i
+abbrev pub call_at : Trace → CallNo → Option Call
+call_at [] i = None
+call_at (e ∷ past) i = if i == length past + 1 then Some e.call else call_at past i
+
+-- all endings so far
+abbrev pub endings_of : Trace → List Completion
+endings_of past = flat_map (λ e. e.endings) past

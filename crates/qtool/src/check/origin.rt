@@ -1,0 +1,42 @@
+//! From which line of a script a line of its trace comes.
+
+use crate::difference::Difference;
+use qexplain::parts::{Lines, call_lines};
+use std::alloc::{AllocError, Global};
+
+/// How many bytes of a line are shown at most.
+const MOST_SHOWN: usize = 72;
+
+/// `line NUMBER: LINE` of the call that a difference is about; `None` where it is about none.
+pub fn origin_of(
+    alloc: Global,
+    script: &[u8],
+    difference: &Difference,
+) -> Result<Option<String>, AllocError> {
+    let Some(call) = difference.call() else {
+        return Ok(None);
+    };
+    let lines = call_lines(alloc, script)?;
+    let Some(number) = lines.get(call.saturating_sub(1) as usize) else {
+        return Ok(None);
+    };
+    let mut shown = format!(in alloc; "line {number}: ")?;
+    if let Some(line) = Lines(script).nth(number.saturating_sub(1)) {
+        push_front(&mut shown, line)?;
+    }
+    Ok(Some(shown))
+}
+
+/// Adds the front of a line, and two dots where something is left out.
+fn push_front(shown: &mut String, line: &[u8]) -> Result<(), AllocError> {
+    for byte in line.iter().take(MOST_SHOWN) {
+        match *byte {
+            0x20..=0x7e => shown.push(*byte as char)?,
+            _ => shown.push(' ')?,
+        }
+    }
+    if line.len() > MOST_SHOWN {
+        shown.push_str("..")?;
+    }
+    Ok(())
+}

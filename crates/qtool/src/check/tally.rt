@@ -1,0 +1,82 @@
+//! How many scripts came to what.
+
+use crate::example::Outcome;
+use std::fmt;
+
+/// How many scripts came to what.
+#[derive(Clone, Copy, Debug, Default, PartialEq, Eq)]
+pub struct Tally {
+    /// Those that printed their traces.
+    pub same: usize,
+    /// Those that printed something else.
+    pub differ: usize,
+    /// Those without a trace.
+    pub without: usize,
+    /// Those whose traces were written.
+    pub written: usize,
+    /// Those that have no run.
+    pub faulty: usize,
+    /// The files and folders that can't be read, or written.
+    pub unread: usize,
+}
+
+/// `11 same, 1 differs, 3 without a trace`: what there is any of.
+impl fmt::Display for Tally {
+    fn fmt<W: fmt::Write>(&self, f: &mut fmt::Formatter<W>) -> fmt::Result {
+        let first = put(f, true, self.same, "same")?;
+        let first = put(f, first, self.differ, differ_word(self.differ))?;
+        let first = put(f, first, self.without, "without a trace")?;
+        let first = put(f, first, self.written, "written")?;
+        let first = put(f, first, self.faulty, "faulty")?;
+        put(f, first, self.unread, "unread")?;
+        Ok(())
+    }
+}
+
+/// Writes a count that isn't 0, behind a comma if it isn't the first; answers whether none is written yet.
+fn put<W: fmt::Write>(
+    f: &mut fmt::Formatter<W>,
+    first: bool,
+    count: usize,
+    name: &str,
+) -> Result<bool, fmt::Error> {
+    if count == 0 {
+        return Ok(first);
+    }
+    if !first {
+        write!(f, ", ")?;
+    }
+    write!(f, "{count} {name}")?;
+    Ok(false)
+}
+
+fn differ_word(count: usize) -> &'static str {
+    if count == 1 { "differs" } else { "differ" }
+}
+
+impl Tally {
+    /// Counts a script that ran.
+    pub fn count(&mut self, outcome: &Outcome) {
+        if matches!(outcome, Outcome::Same) {
+            self.same = self.same.saturating_add(1);
+        } else {
+            self.differ = self.differ.saturating_add(1);
+        }
+    }
+
+    /// Whether a script was looked at.
+    pub fn has_some(&self) -> bool {
+        self.same > 0 || self.differ > 0 || self.without > 0 || self.written > 0 || self.faulty > 0
+    }
+
+    /// The status that the check ends with.
+    pub fn status(&self) -> u8 {
+        if self.unread > 0 {
+            3
+        } else if self.differ > 0 || self.without > 0 || self.faulty > 0 {
+            1
+        } else {
+            0
+        }
+    }
+}

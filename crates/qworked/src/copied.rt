@@ -1,0 +1,19 @@
+//! Lawful runs in which every buffer and every count is what was to be copied.
+
+ghost use Rattle.std.specs.Prelude.{[]};
+ghost use Rattle.qrules.specs.Properties.{CopiedExactly};
+ghost use Rattle.qrules.specs.Trace.{followed_by};
+ghost use Rattle.qworked.specs.AnsweredWithCode as code;
+ghost use Rattle.qworked.specs.HeldMessage as held;
+ghost use Rattle.qworked.specs.Overwritten as overwritten;
+ghost use Rattle.qworked.specs.PastTheEnd as past_the_end;
+ghost use Rattle.qworked.specs.UnblockPulse as unblock_pulse;
+
+/// A receipt of a pulse leaves its buffer, and a receipt, a Read, a Write and an answer copy what they count.
+pub fn copied_exactly()
+    ensures pulse { CopiedExactly (followed_by [] unblock_pulse.taken_at_once) }
+    ensures held { CopiedExactly (followed_by [] held.events) }
+    ensures overwritten { CopiedExactly (followed_by [] overwritten.events) }
+    ensures past_the_end { CopiedExactly (followed_by [] past_the_end.events) }
+    ensures code { CopiedExactly (followed_by [] code.events) }
+{}
