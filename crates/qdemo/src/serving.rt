@@ -42,13 +42,12 @@ pub fn run_serve<R: Files + Print + Eprint + AllocGlobal + Threads + Wait + Cloc
     if !settings.fit() {
         return end_with(rt, "worker failed", 3);
     }
-    match run.record {
-        Some(name) => {
-            let mut files = RecordFiles::new(rt, name.as_str());
-            serve_with(rt, settings, run.json, &mut files)
-        }
-        None => serve_with(rt, settings, run.json, &mut Forget),
-    }
+    let json = run.json;
+    let Some(name) = run.record else {
+        return serve_with(rt, settings, json, &mut Forget);
+    };
+    let mut files = RecordFiles::new(rt, name.as_str());
+    serve_with(rt, settings, json, &mut files)
 }
 
 /// Runs a server and its clients, stores their recording, and prints what they did as it is wanted.
