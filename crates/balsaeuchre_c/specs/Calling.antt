@@ -35,8 +35,8 @@ InformsAtTraces old t call endings rows =
     → slice_get endings place ≡ Some e → slice_get rows place ≡ Some row
     → Informs (facts_of roster (record { thread = t; call = call; endings = endings } ∷ past)) e row
 
--- the kernel made the very call that the request means, of a thread of its roster, and its endings answer every
--- lawful trace at which the kernel stood
+-- the kernel made the very call that the request means, of a thread of its roster, and its endings answer
+-- every lawful trace at which the kernel stood
 pub record IsMade (old : Session) (r : Request) (sent room : List ℕ) (new : Session) : Type 0 where
   pub call : Call
   pub meant : call_of r sent room ≡ Some call
@@ -44,16 +44,19 @@ pub record IsMade (old : Session) (r : Request) (sent room : List ℕ) (new : Se
   pub sound : IsSound old.kernel
   pub answers : AnswersAtTraces old.kernel r.thread call new.endings.items new.kernel
 
--- the kernel made the very call that the request means, its endings answer every lawful trace at which the kernel
--- stood, and they are told, with what `Info` would say of a message that was received
-pub record IsEvent (old : Session) (r : Request) (sent room : List ℕ) (new : Session) (rows : List Row) (old_bytes bytes : List ℕ) (done : Done) : Type 0 where
+-- the kernel made the very call that the request means, its endings answer every lawful trace at which the
+-- kernel stood, and they are told, with what `Info` would say of a message that was received
+pub record IsEvent (old : Session) (r : Request) (sent room : List ℕ) (new : Session) (rows : List Row)
+    (old_bytes bytes : List ℕ) (done : Done) : Type 0 where
   pub call : Call
   pub meant : call_of r sent room ≡ Some call
   pub answers : AnswersAtTraces old.kernel r.thread call new.endings.items new.kernel
   pub told : IsTold new.kernel new.endings.items rows old_bytes bytes done
   pub informs : InformsAtTraces old.kernel r.thread call new.endings.items rows
 
--- why a call is no event: there are fewer than 64 rows, or else the request means no call or there is no memory, or else the kernel counts none
+-- why a call is no event: there are fewer than 64 rows, or else the request means no call or there is no
+-- memory, or else the kernel counts none
 abbrev pub CallError : Session → Request → List ℕ → List ℕ → ℕ → Errno → Type 0
 CallError session r sent room row_count errno =
-    ((row_count < 64) × (errno ≡ Inval)) ⊎ (IsRefusedAs (call_of r sent room) errno ⊎ DispatchError session.kernel r.thread errno)
+    ((row_count < 64) × (errno ≡ Inval))
+    ⊎ (IsRefusedAs (call_of r sent room) errno ⊎ DispatchError session.kernel r.thread errno)

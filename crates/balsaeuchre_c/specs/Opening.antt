@@ -1,5 +1,6 @@
 -- The kernel that is opened.
-use Rattle.std.specs.Prelude.{◌≡◌, is_some, List, [], ◌∷◌, Option, None, Some, Result, Ok, Err, if◌then◌else◌, ◌⊎◌}
+use Rattle.std.specs.Prelude.{◌≡◌, is_some, List, [], ◌∷◌, Option, None, Some, Result, Ok, Err, if◌then◌else◌}
+use Rattle.std.specs.Prelude.{◌⊎◌}
 use Rattle.qbase.specs.Priority.{priority_of}
 use Rattle.qbase.specs.declared.errno.Errno.{Errno}
 use Rattle.qbase.specs.declared.errno.Errno.TheVariants.{Inval, NoMemory}
@@ -13,9 +14,11 @@ use Rattle.balsaeuchre_c.specs.declared.session.Session.{Session}
 abbrev pub member_of : Thread → Member
 member_of t = record { thread = t.thread; process = t.process; priority = t.priority }
 
--- why a thread may not join these members: it has the priority 0, or it is there, or else there are 64 threads
+-- why a thread may not join these members: it has the priority 0, or it is there, or else there are 64
+-- threads
 abbrev pub thread_refusal : List Member → Thread → Option Errno
-thread_refusal members t = if is_some (priority_of t.priority) then join_refusal members t.thread else Some Inval
+thread_refusal members t = if is_some (priority_of t.priority) then join_refusal members t.thread
+    else Some Inval
 
 -- the error where there is one
 abbrev pub unless : Option Errno → Result (List Member) Errno → Result (List Member) Errno
@@ -25,7 +28,8 @@ unless (Some errno) members = Err errno
 -- the members with these threads besides, or why the first that may not join may not
 abbrev pub roster_from : List Member → List Thread → Result (List Member) Errno
 roster_from members [] = Ok members
-roster_from members (t ∷ threads) = unless (thread_refusal members t) (roster_from (with_member (member_of t) members) threads)
+roster_from members (t ∷ threads) =
+    unless (thread_refusal members t) (roster_from (with_member (member_of t) members) threads)
 
 -- a kernel of these threads that stands where no call has been made
 pub record IsNewOf (threads : List Thread) (session : Session) : Type 0 where

@@ -1,17 +1,22 @@
 -- The call that a request means.
-use Rattle.std.specs.Prelude.{◌≡◌, ℕ, Bool, false, true, is_some, List, Option, None, Some, option_map, option_and_then, ◌⊎◌}
+use Rattle.std.specs.Prelude.{◌≡◌, ℕ, Bool, false, true, is_some, List, Option, None, Some, option_map}
+use Rattle.std.specs.Prelude.{option_and_then, ◌⊎◌}
 use Rattle.qbase.specs.Priority.{priority_of}
 use Rattle.qbase.specs.declared.errno.Errno.{Errno}
 use Rattle.qbase.specs.declared.errno.Errno.TheVariants.{Inval, NoMemory}
 use Rattle.qmodel.specs.declared.call.Call.{Call}
 use Rattle.qmodel.specs.declared.call.Call.TheVariants as call
 use Rattle.balsaeuchre_c.specs.declared.kind.Kind.{Kind}
-use Rattle.balsaeuchre_c.specs.declared.kind.Kind.TheVariants.{ChannelCreate, ConnectAttach, Send, Receive, Reply, Error, Read, Write, Info, ReceivePulse, Pulse, PrioritySet, State, ChannelDestroy, Shutdown, Unblock, ConnectDetach}
+use Rattle.balsaeuchre_c.specs.declared.kind.Kind.TheVariants.{ChannelCreate, ConnectAttach, Send, Receive}
+use Rattle.balsaeuchre_c.specs.declared.kind.Kind.TheVariants.{Reply, Error, Read, Write, Info, ReceivePulse}
+use Rattle.balsaeuchre_c.specs.declared.kind.Kind.TheVariants.{Pulse, PrioritySet, State, ChannelDestroy}
+use Rattle.balsaeuchre_c.specs.declared.kind.Kind.TheVariants.{Shutdown, Unblock, ConnectDetach}
 use Rattle.balsaeuchre_c.specs.declared.kind.TheConstants.{KINDS}
 use Rattle.balsaeuchre_c.specs.declared.request.Request.{Request}
 use Rattle.balsaeuchre_c.specs.Numbers.{numbered}
 
--- what a request of this kind means, with the bytes that it brings and its buffer; none where it names the priority 0
+-- what a request of this kind means, with the bytes that it brings and its buffer; none where it names the
+-- priority 0
 abbrev pub call_as : Kind → Request → List ℕ → List ℕ → Option Call
 call_as ChannelCreate r sent room = Some (call.ChannelCreate (record { 0 = r.flags }))
 call_as ConnectAttach r sent room = Some (call.ConnectAttach r.id)
@@ -23,8 +28,10 @@ call_as Read r sent room = Some (call.Read r.id r.offset room)
 call_as Write r sent room = Some (call.Write r.id r.offset sent)
 call_as Info r sent room = Some (call.Info r.id)
 call_as ReceivePulse r sent room = Some (call.ReceivePulse r.id)
-call_as Pulse r sent room = option_map (λ priority. call.Pulse r.id priority r.pulse_code r.value) (priority_of r.priority)
-call_as PrioritySet r sent room = option_map (λ priority. call.PrioritySet r.target priority) (priority_of r.priority)
+call_as Pulse r sent room = option_map (λ priority. call.Pulse r.id priority r.pulse_code r.value)
+    (priority_of r.priority)
+call_as PrioritySet r sent room =
+    option_map (λ priority. call.PrioritySet r.target priority) (priority_of r.priority)
 call_as State r sent room = Some (call.State r.target)
 call_as ChannelDestroy r sent room = Some (call.ChannelDestroy r.id)
 call_as Shutdown r sent room = Some call.Shutdown

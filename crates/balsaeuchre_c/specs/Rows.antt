@@ -1,5 +1,6 @@
 -- The ending that a row tells.
-use Rattle.std.specs.Prelude.{◌≡◌, ℕ, ◌==◌, length, List, [], take, Option, None, Some, option_map, if◌then◌else◌}
+use Rattle.std.specs.Prelude.{◌≡◌, ℕ, ◌==◌, length, List, [], take, Option, None, Some, option_map}
+use Rattle.std.specs.Prelude.{if◌then◌else◌}
 use Rattle.qbase.specs.declared.state.ThreadState.{ThreadState}
 use Rattle.qbase.specs.declared.state.ThreadState.TheVariants as state
 use Rattle.qqueue.specs.declared.item.What.{What}
@@ -60,8 +61,9 @@ mark_of r =
     else if r.mark == 11 then option_map (λ state. mark.State state r.priority) (state_of r)
     else None
 
--- what is told of the buffer of a call that ended so: the bytes that were copied into the front of it; nothing of one
--- that took a pulse; else all of it, since a Write may have written anywhere over a reply buffer
+-- what is told of the buffer of a call that ended so: the bytes that were copied into the front of it;
+-- nothing of one that took a pulse; else all of it, since a Write may have written anywhere over a reply
+-- buffer
 abbrev pub told_of : Mark → List ℕ → List ℕ
 told_of (mark.Message rcvid copied) buffer = take copied buffer
 told_of (mark.Count copied) buffer = take copied buffer

@@ -11,17 +11,22 @@ use Rattle.balsaeuchre_c.specs.Rows.{Tells, told_bytes}
 abbrev pub buffers : List Completion → List ℕ
 buffers endings = flat_map told_bytes endings
 
--- where the bytes of the ending at a place begin in a room for bytes: behind those of the endings before it, at the room's end at the latest
+-- where the bytes of the ending at a place begin in a room for bytes: behind those of the endings before it,
+-- at the room's end at the latest
 abbrev pub start_of : List Completion → List ℕ → ℕ → ℕ
 start_of endings room place = laid_count room 0 (buffers (take place endings))
 
 -- the row at a place tells the ending at that place
 abbrev pub TellsAt : State → List Completion → List ℕ → List Row → ℕ → Type 0
 TellsAt s endings room rows place = (e : Completion) → slice_get endings place ≡ Some e
-    → (row : Row) × (slice_get rows place ≡ Some row) × Tells row s e (start_of endings room place) (laid_count room (start_of endings room place) (told_bytes e))
+    → (row : Row) × (slice_get rows place ≡ Some row)
+    × Tells row s e (start_of endings room place)
+    (laid_count room (start_of endings room place) (told_bytes e))
 
--- the first rows tell the endings in their order, the bytes lie in the room one behind another, cut at its end, and so it is counted
-pub record IsTold (s : State) (endings : List Completion) (rows : List Row) (old_bytes new_bytes : List ℕ) (done : Done) : Type 0 where
+-- the first rows tell the endings in their order, the bytes lie in the room one behind another, cut at its
+-- end, and so it is counted
+pub record IsTold (s : State) (endings : List Completion) (rows : List Row) (old_bytes new_bytes : List ℕ)
+    (done : Done) : Type 0 where
   pub told : (place : ℕ) → place < length endings → TellsAt s endings old_bytes rows place
   pub bytes : new_bytes ≡ lay_over old_bytes 0 (buffers endings)
   pub count : done.endings ≡ length endings

@@ -2,7 +2,8 @@
 use Rattle.std.specs.Prelude.{List, [], ◌∷◌, pos}
 use Rattle.qbase.specs.declared.state.ThreadState.TheVariants.{Ready}
 use Rattle.qtables.specs.declared.member.Member.{Member}
-use Rattle.qmodel.specs.declared.call.Call.TheVariants.{ChannelCreate, ConnectAttach, Send, Receive, Reply, State}
+use Rattle.qmodel.specs.declared.call.Call.TheVariants.{ChannelCreate, ConnectAttach, Send, Receive, Reply}
+use Rattle.qmodel.specs.declared.call.Call.TheVariants.{State}
 use Rattle.qmodel.specs.declared.call.Mark.TheVariants as mark
 use Rattle.qworked.specs.Runs.{member, event, ended, flags_of}
 use Rattle.balsaeuchre.specs.Trace.{Event}
@@ -11,7 +12,8 @@ use Rattle.balsaeuchre.specs.Trace.{Event}
 abbrev pub roster : List Member
 roster = member 1 1 10 ∷ member 2 2 10 ∷ member 3 3 40 ∷ member 4 4 20 ∷ []
 
--- message 9, which the server sends at the urgent client's priority, is received before the middling client's message 6
+-- message 9, which the server sends at the urgent client's priority, is received before the middling client's
+-- message 6
 abbrev pub events : List Event
 events =
     event 1 (ChannelCreate (flags_of 0)) (ended 1 1 (mark.Channel 1) [] ∷ [])

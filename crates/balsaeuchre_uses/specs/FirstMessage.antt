@@ -21,6 +21,9 @@ events message answer =
     event 1 (ChannelCreate (flags_of 0)) (ended 1 1 (mark.Channel 1) [] ∷ [])
     ∷ event 2 (ConnectAttach 1) (ended 2 2 (mark.Connection 2) [] ∷ [])
     ∷ event 2 (Send 2 message zeros) []
-    ∷ event 1 (Receive 1 zeros) (ended 4 1 (mark.Message 3 (laid_count zeros 0 message)) (lay_over zeros 0 message) ∷ [])
-    ∷ event 1 (Reply 3 (pos 0) answer) (ended 5 1 mark.Ok [] ∷ ended 3 2 (mark.Replied (pos 0) (laid_count zeros 0 answer)) (lay_over zeros 0 answer) ∷ [])
+    ∷ event 1 (Receive 1 zeros)
+    (ended 4 1 (mark.Message 3 (laid_count zeros 0 message)) (lay_over zeros 0 message) ∷ [])
+    ∷ event 1 (Reply 3 (pos 0) answer)
+    (ended 5 1 mark.Ok [] ∷ ended 3 2 (mark.Replied (pos 0) (laid_count zeros 0 answer))
+    (lay_over zeros 0 answer) ∷ [])
     ∷ []

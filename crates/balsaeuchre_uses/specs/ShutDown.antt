@@ -1,7 +1,8 @@
 -- A clean shutdown, written out.
 use Rattle.std.specs.Prelude.{List, [], ◌∷◌, pos}
 use Rattle.qbase.specs.declared.errno.Errno.TheVariants.{Srch, Down}
-use Rattle.qmodel.specs.declared.call.Call.TheVariants.{ChannelCreate, ConnectAttach, Send, Receive, Reply, ChannelDestroy, ConnectDetach, Shutdown}
+use Rattle.qmodel.specs.declared.call.Call.TheVariants.{ChannelCreate, ConnectAttach, Send, Receive, Reply}
+use Rattle.qmodel.specs.declared.call.Call.TheVariants.{ChannelDestroy, ConnectDetach, Shutdown}
 use Rattle.qmodel.specs.declared.call.Mark.TheVariants as mark
 use Rattle.qworked.specs.Runs.{event, ended, flags_of}
 use Rattle.balsaeuchre.specs.Trace.{Event}

@@ -4,14 +4,16 @@ use Rattle.qbase.specs.declared.errno.Errno.TheVariants.{Srch, Intr}
 use Rattle.qqueue.specs.declared.item.What.TheVariants as what
 use Rattle.qbase.specs.declared.flags.ChannelFlags.{ChannelFlags}
 use Rattle.qmodel.specs.declared.call.Call.{Call}
-use Rattle.qmodel.specs.declared.call.Call.TheVariants.{ChannelCreate, ConnectAttach, Send, Receive, Reply, Error, ReceivePulse, Unblock}
+use Rattle.qmodel.specs.declared.call.Call.TheVariants.{ChannelCreate, ConnectAttach, Send, Receive, Reply}
+use Rattle.qmodel.specs.declared.call.Call.TheVariants.{Error, ReceivePulse, Unblock}
 use Rattle.qmodel.specs.declared.call.Mark.TheVariants as mark
 use Rattle.qworked.specs.Runs.{event, ended, flags_of}
 use Rattle.balsaeuchre.specs.Trace.{Event}
 
 -- the server holds message 3, and the timer unblocks its sender
 abbrev pub begun : ChannelFlags → List (ℕ × Call)
-begun flags = (1, ChannelCreate flags) ∷ (2, ConnectAttach 1) ∷ (2, Send 2 [] []) ∷ (1, Receive 1 []) ∷ (3, Unblock 2) ∷ []
+begun flags = (1, ChannelCreate flags) ∷ (2, ConnectAttach 1) ∷ (2, Send 2 [] []) ∷ (1, Receive 1 [])
+    ∷ (3, Unblock 2) ∷ []
 
 -- no flag: the Send ends with Intr in the event of the Unblock, and the Reply comes too late
 abbrev pub cut_events : List Event

@@ -1,7 +1,8 @@
 -- The words of the errors.
 use Rattle.std.specs.Prelude.{ℕ, List, codes}
 use Rattle.qbase.specs.declared.errno.Errno.{Errno}
-use Rattle.qbase.specs.declared.errno.Errno.TheVariants.{Srch, Badf, Inval, Again, Intr, Busy, NoMemory, Down, Exhausted, TraceFull, NoThread}
+use Rattle.qbase.specs.declared.errno.Errno.TheVariants.{Srch, Badf, Inval, Again, Intr, Busy, NoMemory, Down}
+use Rattle.qbase.specs.declared.errno.Errno.TheVariants.{Exhausted, TraceFull, NoThread}
 
 -- the error's name in small letters
 abbrev pub word_of : Errno → List ℕ

@@ -14,15 +14,20 @@ caller_of callers number = if number == 0 then None else slice_get callers (numb
 
 -- what a thread made goes from it to another thread
 abbrev pub sent_by : Option ℕ → ℕ → ℕ → What → Option Arrow
-sent_by from number to what = option_map (λ t. record { number = number; from = t; to = to; what = what }) from
+sent_by from number to what =
+    option_map (λ t. record { number = number; from = t; to = to; what = what }) from
 
--- the arrow of a call's ending, of the call of this number and thread, in an event that a caller's call made: what is received comes from the thread
--- that sent it, and an answer from the caller
+-- the arrow of a call's ending, of the call of this number and thread, in an event that a caller's call made:
+-- what is received comes from the thread that sent it, and an answer from the caller
 unfoldable pub arrow_by : List ℕ → ℕ → ℕ → ℕ → Mark → Option Arrow
-arrow_by callers caller call thread (mark.Message rcvid copied) = sent_by (caller_of callers rcvid) rcvid thread arrows.Message
-arrow_by callers caller call thread (mark.Pulse item priority what) = sent_by (caller_of callers item) item thread arrows.Pulse
-arrow_by callers caller call thread (mark.Replied status copied) = sent_by (Some caller) call thread (arrows.Reply status)
-arrow_by callers caller call thread (mark.Errored code) = sent_by (Some caller) call thread (arrows.Error code)
+arrow_by callers caller call thread (mark.Message rcvid copied) =
+    sent_by (caller_of callers rcvid) rcvid thread arrows.Message
+arrow_by callers caller call thread (mark.Pulse item priority what) =
+    sent_by (caller_of callers item) item thread arrows.Pulse
+arrow_by callers caller call thread (mark.Replied status copied) =
+    sent_by (Some caller) call thread (arrows.Reply status)
+arrow_by callers caller call thread (mark.Errored code) =
+    sent_by (Some caller) call thread (arrows.Error code)
 arrow_by callers caller call thread mark.Ok = None
 arrow_by callers caller call thread (mark.Failed errno) = None
 arrow_by callers caller call thread (mark.Channel chid) = None

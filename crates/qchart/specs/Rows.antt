@@ -30,7 +30,8 @@ arrows_from before (e ∷ events) = event_arrows before e ∷ arrows_from (befor
 -- who is blocked after each event, in which state and on which channel
 abbrev pub blocked_from : List Member → Trace → List Event → List (List Blocked)
 blocked_from roster past [] = []
-blocked_from roster past (e ∷ events) = blocked_threads (facts_of roster (e ∷ past)) ∷ blocked_from roster (e ∷ past) events
+blocked_from roster past (e ∷ events) =
+    blocked_threads (facts_of roster (e ∷ past)) ∷ blocked_from roster (e ∷ past) events
 
 -- what a row tells of its event
 abbrev pub row_thread : Row → ℕ
@@ -46,20 +47,22 @@ row_blocked row = row.blocked.items
 
 -- this is who is blocked after each trace at which the kernel stands
 abbrev pub TellsBlocked : State → List Blocked → Type 0
-TellsBlocked s blocked = (roster : List Member) (past : Trace) → StandsAt roster s past → blocked ≡ blocked_threads (facts_of roster past)
+TellsBlocked s blocked = (roster : List Member) (past : Trace) → StandsAt roster s past
+    → blocked ≡ blocked_threads (facts_of roster past)
 
--- these calls were made by a kernel that was in the one state and is in the other, and the rows tell of their events at every lawful trace at which
--- it stood
+-- these calls were made by a kernel that was in the one state and is in the other, and the rows tell of their
+-- events at every lawful trace at which it stood
 pub record HasRows (old : State) (calls : List (ℕ × Call)) (new : State) (rows : List Row) : Type 0 where
   pub events : List Event
   pub ran : RunsAtTraces old events new
   pub made : map event_call events ≡ calls
   pub threads : map row_thread rows ≡ map event_thread events
   pub arrows : map row_arrows rows ≡ arrows_from [] events
-  pub blocked : (roster : List Member) (past : Trace) → IsLawful roster past → StandsAt roster old past → map row_blocked rows ≡ blocked_from roster past events
+  pub blocked : (roster : List Member) (past : Trace) → IsLawful roster past → StandsAt roster old past
+      → map row_blocked rows ≡ blocked_from roster past events
 
--- the rows tell of these events, the first of a kernel: who called, what was received and answered in the order of the endings, and who is blocked
--- after each
+-- the rows tell of these events, the first of a kernel: who called, what was received and answered in the
+-- order of the endings, and who is blocked after each
 pub record IsDrawn (roster : List Member) (events : List Event) (rows : List Row) : Type 0 where
   pub threads : map row_thread rows ≡ map event_thread events
   pub arrows : map row_arrows rows ≡ arrows_from [] events

@@ -9,7 +9,10 @@ use Rattle.qhandoff.specs.declared.view.View.{View}
 use Rattle.qhandoff.specs.declared.view.View.TheVariants.{Kernel, Thread}
 use Rattle.qhandoff.specs.Rule.{line, KeepsRule}
 
--- between any two steps, what the seat of a thread took is a beginning of what the kernel's seat put for it, at most one shorter
+-- between any two steps, what the seat of a thread took is a beginning of what the kernel's seat put for it,
+-- at most one shorter
 abbrev pub TakenIsABeginning : Type 0 → Type 0
-TakenIsABeginning T = (n : ℕ) (s : State (Option T) (View T)) (d : Desk T) (h : Hand T) (i j : ℕ) → KeepsRule n s → get_elem? s.views i ≡ some (Kernel d) → get_elem? s.views j ≡ some (Thread h) → h.thread < n
+TakenIsABeginning T = (n : ℕ) (s : State (Option T) (View T)) (d : Desk T) (h : Hand T) (i j : ℕ)
+    → KeepsRule n s → get_elem? s.views i ≡ some (Kernel d) → get_elem? s.views j ≡ some (Thread h)
+    → h.thread < n
     → (rest : List T) × ((line d h.thread).put ≡ h.taken ++ rest) × (length rest ≤ 1)

@@ -1,6 +1,7 @@
 -- The rule of the cells: what holds between any two steps of any seats.
 -- A cell is a word and a slot. The word is 0 idle, 1 opened, 2 putting, 3 full or 4 taking.
-use Rattle.std.specs.Prelude.{◌≡◌, ℕ, zero, suc, ◌*◌, ◌/◌, ◌<◌, ◌≤◌, true, false, List, [], ◌∷◌, ◌++◌, length, Option, Some, None, slice_index, slice_index_or, slice_set}
+use Rattle.std.specs.Prelude.{◌≡◌, ℕ, zero, suc, ◌*◌, ◌/◌, ◌<◌, ◌≤◌, true, false, List, [], ◌∷◌, ◌++◌, length}
+use Rattle.std.specs.Prelude.{Option, Some, None, slice_index, slice_index_or, slice_set}
 use mathlib.Core.Option.{some, none}
 use mathlib.Core.Option as maybe
 use lib.ListN.{get_elem?}
@@ -15,7 +16,8 @@ use Rattle.qhandoff.specs.declared.view.View.TheVariants.{Kernel, Thread, Joined
 abbrev pub Slot : Type 0 → Type 0
 Slot T = maybe.Option (maybe.Option (Option T))
 
--- which of the table's words is that of the cell t: one in eight, so that each has a cache line of its own; the words between aren't used
+-- which of the table's words is that of the cell t: one in eight, so that each has a cache line of its own;
+-- the words between aren't used
 abbrev pub word_of : ℕ → ℕ
 word_of t = t * 8
 
@@ -60,13 +62,19 @@ module _ {T : Type 0} where
   abbrev pub AllTakenBut : Line T → Hand T → T → Type 0
   AllTakenBut l h x = l.put ≡ h.taken ++ x ∷ []
 
-  -- for each word of a cell: is it opened, is it being put, is its thread taking, how far is the taking behind the putting, and where is what the slot has
+  -- for each word of a cell: is it opened, is it being put, is its thread taking, how far is the taking
+  -- behind the putting, and where is what the slot has
   abbrev pub Fits : ℕ → Line T → Hand T → Slot T → Type 0
   Fits zero l h o = (l.opened ≡ false) × (l.putting ≡ false) × (h.taking ≡ None) × AllTaken l h × IsEmpty o
-  Fits (suc zero) l h o = (l.opened ≡ true) × (l.putting ≡ false) × (h.taking ≡ None) × AllTaken l h × IsEmpty o
-  Fits (suc (suc zero)) l h o = (l.opened ≡ true) × (l.putting ≡ true) × (h.taking ≡ None) × AllTaken l h × IsHeld o
-  Fits (suc (suc (suc zero))) l h o = (l.opened ≡ false) × (l.putting ≡ false) × (h.taking ≡ None) × ((x : T) × AllTakenBut l h x × Has o x)
-  Fits (suc (suc (suc (suc zero)))) l h o = (l.opened ≡ false) × (l.putting ≡ false) × ((x : T) × (h.taking ≡ Some x) × AllTakenBut l h x × IsHeld o)
+  Fits (suc zero) l h o = (l.opened ≡ true) × (l.putting ≡ false) × (h.taking ≡ None) × AllTaken l h
+      × IsEmpty o
+  Fits (suc (suc zero)) l h o =
+      (l.opened ≡ true) × (l.putting ≡ true) × (h.taking ≡ None) × AllTaken l h × IsHeld o
+  Fits (suc (suc (suc zero))) l h o =
+      (l.opened ≡ false) × (l.putting ≡ false) × (h.taking ≡ None) × ((x : T) × AllTakenBut l h x × Has o x)
+  Fits (suc (suc (suc (suc zero)))) l h o =
+      (l.opened ≡ false) × (l.putting ≡ false)
+      × ((x : T) × (h.taking ≡ Some x) × AllTakenBut l h x × IsHeld o)
   Fits (suc (suc (suc (suc (suc n))))) l h o = ⊥
 
   -- a joined seat took what its line says, and isn't taking
@@ -74,13 +82,16 @@ module _ {T : Type 0} where
   Settled None h = Unit {0}
   Settled (Some ts) h = (ts ≡ h.taken) × (h.taking ≡ None)
 
-  -- seat 0 is the kernel's and knows the desk; seat t + 1 is that of the thread t and knows its hand until it is joined
+  -- seat 0 is the kernel's and knows the desk; seat t + 1 is that of the thread t and knows its hand until it
+  -- is joined
   abbrev pub Knows : Desk T → (ℕ → Hand T) → ℕ → View T → Type 0
   Knows desk hand j (Kernel d) = (j ≡ 0) × (d ≡ desk)
-  Knows desk hand j (Thread h) = (j ≡ suc h.thread) × (h ≡ hand h.thread) × ((line desk h.thread).taken ≡ None)
+  Knows desk hand j (Thread h) =
+      (j ≡ suc h.thread) × (h ≡ hand h.thread) × ((line desk h.thread).taken ≡ None)
   Knows desk hand j Joined = Unit {0}
 
-  -- there are n cells, and a desk and a hand for each thread that their words, their slots and all seats agree with; a thread whose seat isn't made yet took nothing
+  -- there are n cells, and a desk and a hand for each thread that their words, their slots and all seats
+  -- agree with; a thread whose seat isn't made yet took nothing
   pub record KeepsRule (n : ℕ) (s : State (Option T) (View T)) : Type 0 where
     pub desk : Desk T
     pub hand : ℕ → Hand T
@@ -90,5 +101,7 @@ module _ {T : Type 0} where
     pub kernel : get_elem? s.views 0 ≡ some (Kernel desk)
     pub seats : length s.views ≡ suc desk.seats
     pub unmade : (t : ℕ) → desk.seats ≤ t → (hand t ≡ new_hand t) × ((line desk t).taken ≡ None)
-    pub each_cell : (t : ℕ) → t < n → Fits (slice_index s.words (word_of t)) (line desk t) (hand t) (get_elem? s.homes t) × Settled (line desk t).taken (hand t)
+    pub each_cell : (t : ℕ) → t < n
+        → Fits (slice_index s.words (word_of t)) (line desk t) (hand t) (get_elem? s.homes t)
+        × Settled (line desk t).taken (hand t)
     pub each_seat : (j : ℕ) (v : View T) → get_elem? s.views j ≡ some v → Knows desk hand j v

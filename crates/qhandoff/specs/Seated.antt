@@ -9,8 +9,10 @@ use Rattle.qhandoff.specs.Steps.{desk_in, hand_in}
 module _ {T : Type 0} where
   -- it is the kernel's, holds no slot, has a line for each cell, and puts nothing
   abbrev pub IsKernel : Seat (Option T) (View T) → Type 0
-  IsKernel s = (s.me ≡ (Kernel (desk_in s.me.0), [])) × (length (desk_in s.me.0).lines ≡ s.table_id.slots) × ((t : ℕ) → (line (desk_in s.me.0) t).putting ≡ false)
+  IsKernel s = (s.me ≡ (Kernel (desk_in s.me.0), [])) × (length (desk_in s.me.0).lines ≡ s.table_id.slots)
+      × ((t : ℕ) → (line (desk_in s.me.0) t).putting ≡ false)
 
   -- it is that of the thread t, which has a cell, holds no slot, and takes nothing
   abbrev pub IsThread : Seat (Option T) (View T) → ℕ → Type 0
-  IsThread s t = (s.me ≡ (Thread (hand_in s.me.0), [])) × (t < s.table_id.slots) × ((hand_in s.me.0).thread ≡ t) × ((hand_in s.me.0).taking ≡ None)
+  IsThread s t = (s.me ≡ (Thread (hand_in s.me.0), [])) × (t < s.table_id.slots)
+      × ((hand_in s.me.0).thread ≡ t) × ((hand_in s.me.0).taking ≡ None)

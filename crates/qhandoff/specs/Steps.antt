@@ -1,6 +1,8 @@
--- The kinds of step, each with what it tells its seat: what the seat knows and holds afterwards.
--- In each, `st.word` says which word, and so which cell, `m` is the seat before, `r` what was found in the word, and `m'` the seat after.
-use Rattle.std.specs.Prelude.{◌≡◌, ◌⊎◌, ℕ, suc, true, false, List, [], ◌∷◌, ◌++◌, replicate, Option, Some, None}
+-- The kinds of step, each with what it tells its seat: what the seat knows and holds afterwards. In each,
+-- `st.word` says which word, and so which cell, `m` is the seat before, `r` what was found in the word, and
+-- `m'` the seat after.
+use Rattle.std.specs.Prelude.{◌≡◌, ◌⊎◌, ℕ, suc, true, false, List, [], ◌∷◌, ◌++◌, replicate, Option, Some}
+use Rattle.std.specs.Prelude.{None}
 use Rattle.atomic_table.specs.Table.{Me, Step}
 use Rattle.qhandoff.specs.declared.view.Line.{Line}
 use Rattle.qhandoff.specs.declared.view.Desk.{Desk}
@@ -56,7 +58,8 @@ module _ {T : Type 0} where
 
   -- x was put for it
   abbrev pub put_desk : Desk T → ℕ → T → Desk T
-  put_desk d t x = with_line d t (record (line d t) { opened = false; putting = false; put = (line d t).put ++ x ∷ [] })
+  put_desk d t x = with_line d t
+      (record (line d t) { opened = false; putting = false; put = (line d t).put ++ x ∷ [] })
 
   -- its seat, which took these, is joined
   abbrev pub joined_at : Desk T → ℕ → List T → Desk T
@@ -78,9 +81,13 @@ module _ {T : Type 0} where
   abbrev pub IsBusy : Line T → Type 0
   IsBusy l = (l.opened ≡ true) ⊎ ¬ (l.put ≡ [])
 
-  -- open, by the kernel's seat, 0 to 1: where it found 0 the cell is opened, which it wasn't; else nothing changes, and the cell is opened or something was put
+  -- open, by the kernel's seat, 0 to 1: where it found 0 the cell is opened, which it wasn't; else nothing
+  -- changes, and the cell is opened or something was put
   abbrev pub OpenTells : Tells T
-  OpenTells st m r m' = (r ≡ 0 → (m' ≡ (Kernel (opened_desk (desk_in m.0) (cell_of st.word)), m.1)) × ((line (desk_in m.0) (cell_of st.word)).opened ≡ false)) × (¬ (r ≡ 0) → (m' ≡ m) × IsBusy (line (desk_in m.0) (cell_of st.word)))
+  OpenTells st m r m' = (r ≡ 0
+      → (m' ≡ (Kernel (opened_desk (desk_in m.0) (cell_of st.word)), m.1))
+      × ((line (desk_in m.0) (cell_of st.word)).opened ≡ false))
+      × (¬ (r ≡ 0) → (m' ≡ m) × IsBusy (line (desk_in m.0) (cell_of st.word)))
 
   -- cancel, by the kernel's seat, 0 over 1: the cell isn't opened any more
   abbrev pub CancelTells : Tells T
@@ -88,19 +95,25 @@ module _ {T : Type 0} where
 
   -- begin put, by the kernel's seat, 2 over 1: it holds the slot, which is empty
   abbrev pub BeginPutTells : Tells T
-  BeginPutTells st m r m' = m' ≡ (Kernel (putting_desk (desk_in m.0) (cell_of st.word)), (cell_of st.word, None) ∷ m.1)
+  BeginPutTells st m r m' = m'
+      ≡ (Kernel (putting_desk (desk_in m.0) (cell_of st.word)), (cell_of st.word, None) ∷ m.1)
 
   -- end put, by the kernel's seat, 3 over 2: what the slot has by then was put, and the slot is let go
   abbrev pub EndPutTells : Tells T
-  EndPutTells st m r m' = (x : T) → m.1 ≡ (cell_of st.word, Some x) ∷ [] → m' ≡ (Kernel (put_desk (desk_in m.0) (cell_of st.word) x), [])
+  EndPutTells st m r m' = (x : T) → m.1 ≡ (cell_of st.word, Some x) ∷ []
+      → m' ≡ (Kernel (put_desk (desk_in m.0) (cell_of st.word) x), [])
 
-  -- take, by the thread's seat, 3 to 4: where it found 3 it holds the slot and what is in it; else nothing changes
+  -- take, by the thread's seat, 3 to 4: where it found 3 it holds the slot and what is in it; else nothing
+  -- changes
   abbrev pub TakeTells : Tells T
-  TakeTells st m r m' = (r ≡ 3 → (x : T) × (m' ≡ (Thread (taking_hand (hand_in m.0) x), (cell_of st.word, Some x) ∷ m.1))) × (¬ (r ≡ 3) → m' ≡ m)
+  TakeTells st m r m' = (r ≡ 3
+      → (x : T) × (m' ≡ (Thread (taking_hand (hand_in m.0) x), (cell_of st.word, Some x) ∷ m.1)))
+      × (¬ (r ≡ 3) → m' ≡ m)
 
   -- give back, by the thread's seat, 0 over 4: what it was taking it took, and the slot is let go
   abbrev pub GiveBackTells : Tells T
-  GiveBackTells st m r m' = (x : T) → (hand_in m.0).taking ≡ Some x → m' ≡ (Thread (taken_hand (hand_in m.0) x), [])
+  GiveBackTells st m r m' = (x : T) → (hand_in m.0).taking ≡ Some x
+      → m' ≡ (Thread (taken_hand (hand_in m.0) x), [])
 
   -- join, by the kernel's seat: what the thread's seat took comes into its line
   abbrev pub joined_views : View T → View T → View T

@@ -49,7 +49,8 @@ module _ {T : Type 0} where
 
   -- seats of these cells, by rising number of the cell
   abbrev pub IsRow : TableId → List (ThreadSeat T) → Type 0
-  IsRow z seats = (k : ℕ) (s : ThreadSeat T) → get_elem? seats k ≡ some s → (thread_id s ≡ z) × (thread_of s ≡ k)
+  IsRow z seats = (k : ℕ) (s : ThreadSeat T) → get_elem? seats k ≡ some s
+      → (thread_id s ≡ z) × (thread_of s ≡ k)
 
   -- what the seat at a place took, and nothing where there is none
   abbrev pub took : maybe.Option (ThreadSeat T) → List T

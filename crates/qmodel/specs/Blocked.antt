@@ -14,7 +14,8 @@ use Rattle.qmodel.specs.Trace.{Trace}
 
 -- what is told of a thread, if it has an open call
 abbrev pub blocked_thread : (ConnectionId → Option Connection) → ThreadNo → Option OpenCall → Option Blocked
-blocked_thread connection u call = option_map (λ o. record { number = o.number; thread = u; state = state_of connection o.wait }) call
+blocked_thread connection u call =
+    option_map (λ o. record { number = o.number; thread = u; state = state_of connection o.wait }) call
 
 -- the threads that are blocked, in rising number
 abbrev pub blocked_threads_in : Facts → List Blocked

@@ -20,7 +20,8 @@ buffer_of_wait (ForItem chid kind buffer) = buffer
 abbrev pub is_to : ChannelId → Option Connection → Bool
 is_to h connection = option_map_or (λ c. c.channel == h) connection false
 
--- the wait is on channel h: a Send's on the channel of its connection, a receive's on the channel that it names
+-- the wait is on channel h: a Send's on the channel of its connection, a receive's on the channel that it
+-- names
 abbrev pub is_on : (ConnectionId → Option Connection) → ChannelId → Wait → Bool
 is_on connection h (Answer coid message reply_buffer receipt) = is_to h (connection coid)
 is_on connection h (ForItem chid kind buffer) = chid == h

@@ -1,4 +1,5 @@
--- Delivering: an item that is sent goes to the receiver that began to wait last, or to the channel's pending items.
+-- Delivering: an item that is sent goes to the receiver that began to wait last, or to the channel's pending
+-- items.
 use Rattle.std.specs.Prelude.{ℕ, ◌==◌, not, is_some, Bool, List, Option, None, if◌then◌else◌}
 use Rattle.std.specs.Option.{option_and_then}
 use Rattle.qqueue.specs.declared.item.Item.{Item}
@@ -22,9 +23,12 @@ receipt_by f item message r = takes item message r (f.open_call r)
 
 -- the receiver's call ends, and no other
 abbrev pub meets : Facts → Item → List ℕ → Option ThreadNo → ThreadNo → Option Completion
-meets f item message receiver u = option_and_then (λ r. if u == r then receipt_by f item message u else None) receiver
+meets f item message receiver u =
+    option_and_then (λ r. if u == r then receipt_by f item message u else None) receiver
 
 -- the same as a receipt of what was sent to channel h; a message has a sender that waits for its answer
-abbrev pub receipt_when_sent : Facts → Option ThreadNo → Item → List ℕ → Option ChannelId → Option ThreadNo → Option Received
+abbrev pub receipt_when_sent : Facts → Option ThreadNo → Item → List ℕ → Option ChannelId → Option ThreadNo
+    → Option Received
 receipt_when_sent f sender item message channel receiver =
-    option_and_then (λ h. receipt_in h sender item.priority (option_and_then (receipt_by f item message) receiver)) channel
+    option_and_then (λ h. receipt_in h sender item.priority
+    (option_and_then (receipt_by f item message) receiver)) channel

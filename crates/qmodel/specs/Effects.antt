@@ -26,7 +26,8 @@ buffer_of c = unwrap_or (effect_of c).buffer []
 -- the channel that a call creates: of its thread's process, with the flags that it names
 abbrev pub creates : Option Member → Call → Option OpenChannel
 creates member c =
-    option_and_then (λ m. option_map (λ flags. record { owner = m.process; flags = flags }) (effect_of c).creates) member
+    option_and_then (λ m. option_map (λ flags. record { owner = m.process; flags = flags })
+    (effect_of c).creates) member
 
 -- the channel that a call destroys
 abbrev pub closes : Call → Option ChannelId
@@ -35,7 +36,8 @@ closes c = (effect_of c).closes
 -- the connection that a call attaches: of its thread's process, to the channel that it names
 abbrev pub attaches : Option Member → Call → Option Connection
 attaches member c =
-    option_and_then (λ m. option_map (λ h. record { process = m.process; channel = h }) (effect_of c).attaches) member
+    option_and_then (λ m. option_map (λ h. record { process = m.process; channel = h })
+    (effect_of c).attaches) member
 
 -- the connection that a call detaches
 abbrev pub detaches : Call → Option ConnectionId

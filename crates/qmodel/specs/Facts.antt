@@ -1,5 +1,6 @@
 -- What may be read of the past as a call is answered.
-use Rattle.std.specs.Prelude.{ℕ, ◌+◌, ◌==◌, ◌&&◌, Bool, true, false, is_some, List, [], ◌∷◌, map, Option, None, Some, if◌then◌else◌, bit_and}
+use Rattle.std.specs.Prelude.{ℕ, ◌+◌, ◌==◌, ◌&&◌, Bool, true, false, is_some, List, [], ◌∷◌, map, Option}
+use Rattle.std.specs.Prelude.{None, Some, if◌then◌else◌, bit_and}
 use Rattle.std.specs.Option.{option_and_then, option_map_or}
 use Rattle.qbase.specs.declared.flags.ChannelFlags.{ChannelFlags}
 use Rattle.qqueue.specs.declared.item.Item.{Item}
@@ -16,8 +17,9 @@ pub record OpenChannel : Type 0 where
   pub owner : ProcessNo
   pub flags : ChannelFlags
 
--- the threads, the number of the call that is answered, whether the kernel is shut down, each open channel and how many there are, each live
--- connection and how many there are, each thread's open call, what waits on each channel in rising number, and each thread's priority
+-- the threads, the number of the call that is answered, whether the kernel is shut down, each open channel
+-- and how many there are, each live connection and how many there are, each thread's open call, what waits on
+-- each channel in rising number, and each thread's priority
 pub record Facts : Type 0 where
   pub roster : List Member
   pub number : CallNo
@@ -55,11 +57,12 @@ is_fellow f t u = option_map_or (λ m. is_of_process f u m.process) (member_at f
 abbrev pub owns : Facts → ThreadNo → ChannelId → Bool
 owns f t h = option_map_or (λ c. is_of_process f t c.owner) (f.channel h) false
 
--- the channel that the thread may send to over connection k: the one that it leads to, where the thread's process attached it and the
--- channel is open
+-- the channel that the thread may send to over connection k: the one that it leads to, where the thread's
+-- process attached it and the channel is open
 abbrev pub way : Facts → ThreadNo → ConnectionId → Option ChannelId
 way f t k =
-    option_and_then (λ c. if is_of_process f t c.process && is_some (f.channel c.channel) then Some c.channel else None) (f.connection k)
+    option_and_then (λ c. if is_of_process f t c.process && is_some (f.channel c.channel) then Some c.channel
+    else None) (f.connection k)
 
 -- the channel is open, and has this flag
 abbrev pub has_flag : ℕ → Option OpenChannel → Bool

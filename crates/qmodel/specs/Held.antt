@@ -15,12 +15,14 @@ use Rattle.qmodel.specs.Facts.{Facts, owns, sender, open_send}
 
 -- a message that is held, on a channel of the thread's process
 abbrev pub is_held_by : Facts → ThreadNo → Wait → Bool
-is_held_by f t (Answer coid message reply_buffer (Some receipt)) = option_map_or (λ c. owns f t c.channel) (f.connection coid) false
+is_held_by f t (Answer coid message reply_buffer (Some receipt)) =
+    option_map_or (λ c. owns f t c.channel) (f.connection coid) false
 is_held_by f t wait = false
 
 -- no such message is held, or its channel is another process's
 abbrev pub refusal : Facts → ThreadNo → ReceiveId → Option Errno
-refusal f t rcvid = if option_map_or (λ o. is_held_by f t o.wait) (open_send f rcvid) false then None else Some Srch
+refusal f t rcvid = if option_map_or (λ o. is_held_by f t o.wait) (open_send f rcvid) false then None
+    else Some Srch
 
 -- ---- answering
 
@@ -40,7 +42,8 @@ answer_ending finish u call = option_and_then (λ o. answer_ending_of_wait finis
 
 -- the sender's call ends, and no other
 abbrev pub ends_sender : Facts → Finish → Option ThreadNo → ThreadNo → Option Completion
-ends_sender f finish sender u = option_and_then (λ s. if u == s then answer_ending finish u (f.open_call u) else None) sender
+ends_sender f finish sender u =
+    option_and_then (λ s. if u == s then answer_ending finish u (f.open_call u) else None) sender
 
 -- ---- what is kept of a message
 

@@ -1,4 +1,5 @@
--- The numbers by which threads, processes, channels, connections, messages and calls are known, and priorities.
+-- The numbers by which threads, processes, channels, connections, messages and calls are known, and
+-- priorities.
 use Rattle.std.specs.Prelude.{ℕ}
 
 -- the number of a thread

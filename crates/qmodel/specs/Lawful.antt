@@ -18,7 +18,8 @@ facts_of roster past = facts_by roster past (knowledge_of roster past)
 abbrev pub IsLawful : List Member → Trace → Type 0
 IsLawful roster [] = Unit {0}
 IsLawful roster (e ∷ past) =
-    IsLawful roster past × IsTrue (is_some (member_at roster e.thread)) × Answers (facts_of roster past) e.thread e.call e.endings
+    IsLawful roster past × IsTrue (is_some (member_at roster e.thread))
+    × Answers (facts_of roster past) e.thread e.call e.endings
 
 -- the past followed by events, of which the oldest stands first
 abbrev pub followed_by : Trace → List Event → Trace

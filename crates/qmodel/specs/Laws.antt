@@ -1,5 +1,6 @@
 -- What the definitions of the past mean, as laws of all lawful traces.
-use Rattle.std.specs.Prelude.{◌≡◌, ◌↔◌, ℕ, ◌+◌, ◌<◌, ◌≤◌, ◌==◌, ◌&&◌, Bool, true, false, is_some, filter, length, List, [], ◌∷◌, ◌++◌, map, not, Option, None, Some, if◌then◌else◌}
+use Rattle.std.specs.Prelude.{◌≡◌, ◌↔◌, ℕ, ◌+◌, ◌<◌, ◌≤◌, ◌==◌, ◌&&◌, Bool, true, false, is_some, filter}
+use Rattle.std.specs.Prelude.{length, List, [], ◌∷◌, ◌++◌, map, not, Option, None, Some, if◌then◌else◌}
 use Rattle.std.specs.List.{AllByRecursion, list_any}
 use Rattle.std.specs.Option.{option_map}
 use Rattle.qbase.specs.declared.errno.Errno.TheVariants.{Down}
@@ -29,7 +30,9 @@ use Rattle.qmodel.specs.Headline.SentOrder.{connection_of}
 use Rattle.qmodel.specs.Headline.ShutForGood.{NoneReceivedFrom}
 use Rattle.qmodel.specs.Lawful.{IsLawful, facts_of}
 use Rattle.qmodel.specs.Pulses.{pulses_among}
-use Rattle.qmodel.specs.Past.{attached_connection, channel_at, connection_at, made_at, is_accepted, is_closed, is_down, is_ended, is_gone, items, open_call, pending_items, priority_of_item, priority_of_thread, sender_of}
+use Rattle.qmodel.specs.Past.{attached_connection, channel_at, connection_at, made_at, is_accepted, is_closed}
+use Rattle.qmodel.specs.Past.{is_down, is_ended, is_gone, items, open_call, pending_items, priority_of_item}
+use Rattle.qmodel.specs.Past.{priority_of_thread, sender_of}
 use Rattle.qmodel.specs.Receivers.{newest_receiver, wait_on}
 use Rattle.qmodel.specs.Rows.{names}
 use Rattle.qmodel.specs.Trace.{Event, Trace}
@@ -46,8 +49,8 @@ pub record LeadsTo (roster : List Member) (past : Trace) (k : ConnectionId) (h :
 abbrev pub is_made_on : List Member → Trace → CallNo → ChannelId → Bool
 is_made_on roster past i h = list_any (λ m. (m.item.number == i) && (m.channel == h)) (items roster past)
 
--- item i, which the ending receives, was made by then on the channel on which the ended call receives, to which the connection leads over which
--- it was sent, if it was sent over one
+-- item i, which the ending receives, was made by then on the channel on which the ended call receives, to
+-- which the connection leads over which it was sent, if it was sent over one
 pub record WasSent (roster : List Member) (past : Trace) (x : Completion) (i : CallNo) : Type 0 where
   pub call : Call
   pub channel : ChannelId
@@ -59,7 +62,8 @@ pub record WasSent (roster : List Member) (past : Trace) (x : Completion) (i : C
 
 -- what the newest event of a lawful trace receives was made so, by an earlier event or by this one
 abbrev pub ReceivedWasSent : Type 0
-ReceivedWasSent = (roster : List Member) (past : Trace) (e : Event) → IsRoster roster → IsLawful roster (e ∷ past)
+ReceivedWasSent = (roster : List Member) (past : Trace) (e : Event) → IsRoster roster
+    → IsLawful roster (e ∷ past)
     → AllByRecursion (λ x. (i : CallNo) → item_received x ≡ Some i → WasSent roster (e ∷ past) x i) e.endings
 
 -- ---- open calls
@@ -81,7 +85,8 @@ AtMostOneOpen = (roster : List Member) (past : Trace) → IsRoster roster → Is
 -- and its open call is just that
 abbrev pub OpenIsUnended : Type 0
 OpenIsUnended = (roster : List Member) (past : Trace) → IsRoster roster → IsLawful roster past
-    → (t : ThreadNo) (i : CallNo) → (option_map (λ o. o.number) (open_call roster past t) ≡ Some i) ↔ IsUnended past t i
+    → (t : ThreadNo) (i : CallNo) → (option_map (λ o. o.number) (open_call roster past t) ≡ Some i)
+    ↔ IsUnended past t i
 
 -- connection k is live, and its channel open
 pub record IsLiveWay (roster : List Member) (past : Trace) (k : ConnectionId) : Type 0 where
@@ -92,8 +97,10 @@ pub record IsLiveWay (roster : List Member) (past : Trace) (k : ConnectionId) : 
 -- the connection of each open Send is live, and its channel open
 abbrev pub OpenSendsAreLive : Type 0
 OpenSendsAreLive = (roster : List Member) (past : Trace) → IsRoster roster → IsLawful roster past
-    → (u : ThreadNo) (n : CallNo) (coid : ConnectionId) (message reply_buffer : List ℕ) (receipt : Option Receipt)
-    → open_call roster past u ≡ Some (record { number = n; wait = Answer coid message reply_buffer receipt }) → IsLiveWay roster past coid
+    → (u : ThreadNo) (n : CallNo) (coid : ConnectionId) (message reply_buffer : List ℕ)
+    (receipt : Option Receipt)
+    → open_call roster past u ≡ Some (record { number = n; wait = Answer coid message reply_buffer receipt })
+    → IsLiveWay roster past coid
 
 -- ---- receivers
 
@@ -106,12 +113,14 @@ pub record IsLastWait (f : Facts) (h : ChannelId) (item : Item) (u : ThreadNo) :
 -- the newest receiver of an item is the one whose call has the greatest number of all that may take it
 abbrev pub NewestIsGreatest : Type 0
 NewestIsGreatest = (roster : List Member) (past : Trace) → IsRoster roster → IsLawful roster past
-    → (h : ChannelId) (u : ThreadNo) (item : Item) → newest_receiver (facts_of roster past) h item ≡ Some u → IsLastWait (facts_of roster past) h item u
+    → (h : ChannelId) (u : ThreadNo) (item : Item) → newest_receiver (facts_of roster past) h item ≡ Some u
+    → IsLastWait (facts_of roster past) h item u
 
 -- there is none exactly where no thread waits that may take it
 abbrev pub NoneIsNewest : Type 0
 NoneIsNewest = (roster : List Member) (past : Trace) → IsRoster roster → IsLawful roster past
-    → (h : ChannelId) (item : Item) → (newest_receiver (facts_of roster past) h item ≡ None) ↔ ((u : ThreadNo) → wait_on h item (open_call roster past u) ≡ None)
+    → (h : ChannelId) (item : Item) → (newest_receiver (facts_of roster past) h item ≡ None)
+    ↔ ((u : ThreadNo) → wait_on h item (open_call roster past u) ≡ None)
 
 -- nothing is pending on a channel that a thread may take which waits there
 abbrev pub NothingPendingForWaiting : Type 0
@@ -130,17 +139,20 @@ is_for_reply (ForItem chid kind buffer) = false
 
 -- the items of a channel are pending in rising number
 abbrev pub PendingRises : Type 0
-PendingRises = (roster : List Member) (past : Trace) → IsRoster roster → IsLawful roster past → (h : ChannelId) → IsRising (pending_items roster past h)
+PendingRises = (roster : List Member) (past : Trace) → IsRoster roster → IsLawful roster past
+    → (h : ChannelId) → IsRising (pending_items roster past h)
 
 -- neither the past nor an open call says of item i that it is a message received and not answered
 pub record IsNotHeld (roster : List Member) (past : Trace) (i : CallNo) : Type 0 where
   pub unread : is_held past i ≡ false
-  pub unkept : (u : ThreadNo) (o : OpenCall) → open_call roster past u ≡ Some o → is_for_reply o.wait ≡ true → (o.number == i) ≡ false
+  pub unkept : (u : ThreadNo) (o : OpenCall) → open_call roster past u ≡ Some o → is_for_reply o.wait ≡ true
+      → (o.number == i) ≡ false
 
 -- nothing is both pending and held
 abbrev pub NonePendingIsHeld : Type 0
 NonePendingIsHeld = (roster : List Member) (past : Trace) → IsRoster roster → IsLawful roster past
-    → (h : ChannelId) → AllByRecursion (λ item. IsNotHeld roster past item.number) (pending_items roster past h)
+    → (h : ChannelId) → AllByRecursion (λ item. IsNotHeld roster past item.number)
+    (pending_items roster past h)
 
 -- the Send of number i is what its sender is blocked in, and not received
 pub record IsOpenSend (roster : List Member) (past : Trace) (i : ReceiveId) : Type 0 where
@@ -154,12 +166,15 @@ pub record IsOpenSend (roster : List Member) (past : Trace) (i : ReceiveId) : Ty
 -- the Send of each pending message is the open call of its sender
 abbrev pub PendingIsOpen : Type 0
 PendingIsOpen = (roster : List Member) (past : Trace) → IsRoster roster → IsLawful roster past
-    → (h : ChannelId) → AllByRecursion (λ item. is_pulse item.what ≡ false → IsOpenSend roster past item.number) (pending_items roster past h)
+    → (h : ChannelId) → AllByRecursion
+    (λ item. is_pulse item.what ≡ false → IsOpenSend roster past item.number) (pending_items roster past h)
 
 -- a pending message has the priority that its sender has by now
 abbrev pub PendingFollowsItsSender : Type 0
 PendingFollowsItsSender = (roster : List Member) (past : Trace) → IsRoster roster → IsLawful roster past
-    → (h : ChannelId) → AllByRecursion (λ item. is_pulse item.what ≡ false → (t : ThreadNo) → sender_of past item.number ≡ Some t → item.priority ≡ priority_of_thread roster past t) (pending_items roster past h)
+    → (h : ChannelId) → AllByRecursion
+    (λ item. is_pulse item.what ≡ false → (t : ThreadNo) → sender_of past item.number ≡ Some t
+    → item.priority ≡ priority_of_thread roster past t) (pending_items roster past h)
 
 -- ---- the order of receipt
 
@@ -176,12 +191,16 @@ pub record TakesBeside (past : Trace) (z : Completion) (i : CallNo) (h : Channel
 abbrev pub HasPriority : List Member → Trace → Item → Type 0
 HasPriority roster past x = priority_of_item roster past x.number ≡ x.priority
 
--- of two items that were pending on a channel, of which x comes before y, and that have their priorities still, y isn't received by a call that may take x
--- before x is gone
+-- of two items that were pending on a channel, of which x comes before y, and that have their priorities
+-- still, y isn't received by a call that may take x before x is gone
 abbrev pub FirstGoesFirst : Type 0
-FirstGoesFirst = (roster : List Member) (past later : Trace) (e : Event) → IsRoster roster → IsLawful roster (e ∷ later ++ past) → (h : ChannelId)
-    → AllByRecursion (λ x. AllByRecursion (λ y. comes_before x y ≡ true → HasPriority roster (later ++ past) x → HasPriority roster (later ++ past) y
-    → AllByRecursion (λ z. TakesBeside (e ∷ later ++ past) z y.number h x → is_gone (later ++ past) x ≡ true) e.endings) (pending_items roster past h)) (pending_items roster past h)
+FirstGoesFirst = (roster : List Member) (past later : Trace) (e : Event) → IsRoster roster
+    → IsLawful roster (e ∷ later ++ past) → (h : ChannelId)
+    → AllByRecursion (λ x. AllByRecursion
+    (λ y. comes_before x y ≡ true → HasPriority roster (later ++ past) x
+    → HasPriority roster (later ++ past) y
+    → AllByRecursion (λ z. TakesBeside (e ∷ later ++ past) z y.number h x → is_gone (later ++ past) x ≡ true)
+    e.endings) (pending_items roster past h)) (pending_items roster past h)
 
 -- ---- setting a priority
 
@@ -191,13 +210,17 @@ is_message_of past t item = not (is_pulse item.what) && names (sender_of past it
 
 -- the items, where each message of thread t has this priority
 abbrev pub with_messages_at : Trace → ThreadNo → Level → List Item → List Item
-with_messages_at past t priority items = map (λ item. if is_message_of past t item then with_priority priority item else item) items
+with_messages_at past t priority items =
+    map (λ item. if is_message_of past t item then with_priority priority item else item) items
 
--- an accepted PrioritySet gives its thread's pending message that priority, and changes nothing else that is pending
+-- an accepted PrioritySet gives its thread's pending message that priority, and changes nothing else that is
+-- pending
 abbrev pub SettingMovesItsOwn : Type 0
-SettingMovesItsOwn = (roster : List Member) (past : Trace) (e : Event) → IsRoster roster → IsLawful roster (e ∷ past) → is_accepted e past ≡ true
+SettingMovesItsOwn = (roster : List Member) (past : Trace) (e : Event) → IsRoster roster
+    → IsLawful roster (e ∷ past) → is_accepted e past ≡ true
     → (t : ThreadNo) (priority : Level) → e.call ≡ PrioritySet t priority
-    → (h : ChannelId) → pending_items roster (e ∷ past) h ≡ with_messages_at past t priority (pending_items roster past h)
+    → (h : ChannelId) → pending_items roster (e ∷ past) h
+    ≡ with_messages_at past t priority (pending_items roster past h)
 
 -- the items but the messages of thread t
 abbrev pub others_than : Trace → ThreadNo → List Item → List Item
@@ -205,9 +228,11 @@ others_than past t items = filter (λ item. not (is_message_of past t item)) ite
 
 -- so the others are what they were, in their order
 abbrev pub OthersKeepTheirOrder : Type 0
-OthersKeepTheirOrder = (roster : List Member) (past : Trace) (e : Event) → IsRoster roster → IsLawful roster (e ∷ past) → is_accepted e past ≡ true
+OthersKeepTheirOrder = (roster : List Member) (past : Trace) (e : Event) → IsRoster roster
+    → IsLawful roster (e ∷ past) → is_accepted e past ≡ true
     → (t : ThreadNo) (priority : Level) → e.call ≡ PrioritySet t priority
-    → (h : ChannelId) → others_than past t (pending_items roster (e ∷ past) h) ≡ others_than past t (pending_items roster past h)
+    → (h : ChannelId) → others_than past t (pending_items roster (e ∷ past) h)
+    ≡ others_than past t (pending_items roster past h)
 
 -- ---- held messages
 
@@ -219,7 +244,8 @@ pub record IsHeldSend (roster : List Member) (past : Trace) (i : ReceiveId) : Ty
   pub is_open : open_call roster past thread ≡ Some waiting
   pub received : is_for_reply waiting.wait ≡ true
 
--- a message is held as the past has it, received and its Send not ended, exactly where it is held as the rows have it
+-- a message is held as the past has it, received and its Send not ended, exactly where it is held as the rows
+-- have it
 abbrev pub HeldIsHeldSend : Type 0
 HeldIsHeldSend = (roster : List Member) (past : Trace) → IsRoster roster → IsLawful roster past
     → (i : ReceiveId) → (is_held past i ≡ true) ↔ IsHeldSend roster past i
@@ -241,20 +267,26 @@ pub record IsOnlyCounted (f g : Facts) : Type 0 where
 
 -- a refused call changes nothing but how many were made
 abbrev pub RefusedChangesNothing : Type 0
-RefusedChangesNothing = (roster : List Member) (past : Trace) (e : Event) → IsRoster roster → IsLawful roster (e ∷ past)
+RefusedChangesNothing = (roster : List Member) (past : Trace) (e : Event) → IsRoster roster
+    → IsLawful roster (e ∷ past)
     → is_accepted e past ≡ false → IsOnlyCounted (facts_of roster past) (facts_of roster (e ∷ past))
 
 -- ---- the end of a channel, and of the kernel
 
 -- nothing is received from a channel that is destroyed
 abbrev pub NothingFromDestroyed : Type 0
-NothingFromDestroyed = (roster : List Member) (past : Trace) (e : Event) → IsRoster roster → IsLawful roster (e ∷ past)
+NothingFromDestroyed = (roster : List Member) (past : Trace) (e : Event) → IsRoster roster
+    → IsLawful roster (e ∷ past)
     → (h : ChannelId) → is_closed (e ∷ past) h ≡ true → NoneReceivedFrom roster (e ∷ past) h e.endings
 
--- after an accepted Shutdown each event is a refusal: its one ending is its own, with Down and the buffer that the call brought
+-- after an accepted Shutdown each event is a refusal: its one ending is its own, with Down and the buffer
+-- that the call brought
 abbrev pub OnlyRefusedWhenDown : Type 0
-OnlyRefusedWhenDown = (roster : List Member) (past : Trace) (e : Event) → IsRoster roster → IsLawful roster (e ∷ past)
-    → is_down past ≡ true → e.endings ≡ record { call = length past + 1; thread = e.thread; mark = mark.Failed Down; buffer = buffer_of e.call } ∷ []
+OnlyRefusedWhenDown = (roster : List Member) (past : Trace) (e : Event) → IsRoster roster
+    → IsLawful roster (e ∷ past)
+    → is_down past ≡ true → e.endings
+    ≡ record { call = length past + 1; thread = e.thread; mark = mark.Failed Down; buffer = buffer_of e.call }
+    ∷ []
 
 -- ---- endings
 
@@ -265,7 +297,8 @@ thread_at (e ∷ past) i = if i == length past + 1 then Some e.thread else threa
 
 -- each ending goes to the thread that made the call that it ends
 abbrev pub EndingsNameOwnCalls : Type 0
-EndingsNameOwnCalls = (roster : List Member) (past : Trace) (e : Event) → IsRoster roster → IsLawful roster (e ∷ past)
+EndingsNameOwnCalls = (roster : List Member) (past : Trace) (e : Event) → IsRoster roster
+    → IsLawful roster (e ∷ past)
     → AllByRecursion (λ x. thread_at (e ∷ past) x.call ≡ Some x.thread) e.endings
 
 -- these endings rise in the number of their threads, so each goes to a thread of its own
@@ -275,7 +308,8 @@ RiseByThread (x ∷ endings) = AllByRecursion (λ y. x.thread < y.thread) ending
 
 -- so it is in each event
 abbrev pub EndingsRiseByThread : Type 0
-EndingsRiseByThread = (roster : List Member) (past : Trace) (e : Event) → IsRoster roster → IsLawful roster (e ∷ past) → RiseByThread e.endings
+EndingsRiseByThread = (roster : List Member) (past : Trace) (e : Event) → IsRoster roster
+    → IsLawful roster (e ∷ past) → RiseByThread e.endings
 
 -- ---- limits
 

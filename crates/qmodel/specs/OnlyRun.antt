@@ -15,7 +15,8 @@ event_call e = (e.thread, e.call)
 
 -- no call of these events was refused for want of memory
 abbrev pub HadMemory : List Event → Type 0
-HadMemory events = AllByRecursion (λ e. AllByRecursion (λ x. x.mark ≡ mark.Failed NoMemory → ⊥) e.endings) events
+HadMemory events = AllByRecursion (λ e. AllByRecursion (λ x. x.mark ≡ mark.Failed NoMemory → ⊥) e.endings)
+    events
 
 -- if these events had memory, then no others with the same calls that had it are lawful after the same past
 abbrev pub IsOnlyRun : List Member → Trace → List Event → Type 0

@@ -1,5 +1,7 @@
 -- What is searched for in the list of all past calls. The newest event stands first.
-use Rattle.std.specs.Prelude.{ℕ, ◌+◌, ◌==◌, ◌&&◌, ◌||◌, not, Bool, true, false, is_some, List, [], ◌∷◌, ◌++◌, length, map, filter, Option, None, Some, if◌then◌else◌, option_and_then, unwrap_or}
+use Rattle.std.specs.Prelude.{ℕ, ◌+◌, ◌==◌, ◌&&◌, ◌||◌, not, Bool, true, false, is_some, List, [], ◌∷◌, ◌++◌}
+use Rattle.std.specs.Prelude.{length, map, filter, Option, None, Some, if◌then◌else◌, option_and_then}
+use Rattle.std.specs.Prelude.{unwrap_or}
 use Rattle.std.specs.List.{list_any}
 use Rattle.std.specs.Option.{option_map, option_map_or, option_to_list, option_or}
 use Rattle.qqueue.specs.Best.{is_pulse, with_priority}
@@ -21,7 +23,8 @@ use Rattle.qmodel.specs.Ids.{CallNo, ChannelId, ConnectionId, Level, ReceiveId, 
 use Rattle.qmodel.specs.Trace.{Event, Trace}
 use Rattle.qmodel.specs.Facts.{Facts, OpenChannel, count_to, is_fixed}
 use Rattle.qmodel.specs.Rows.{Made, names, item_in_mark, buffer_after_write, with_buffer, priority_set_for}
-use Rattle.qmodel.specs.Effects.{asks, attaches, closes, creates, detaches, makes, sets, shuts_down, thread_of_send, writes}
+use Rattle.qmodel.specs.Effects.{asks, attaches, closes, creates, detaches, makes, sets, shuts_down}
+use Rattle.qmodel.specs.Effects.{thread_of_send, writes}
 
 -- ---- accepted, ended
 
@@ -51,7 +54,8 @@ is_ended past i = list_any (λ e. has_ending_of e.endings i) past
 -- what the event of number i made, where it was accepted
 abbrev pub made_at : {A : Type 0} → (Event → Option A) → Trace → CallNo → Option A
 made_at make [] i = None
-made_at make (e ∷ past) i = if i == length past + 1 then (if is_accepted e past then make e else None) else made_at make past i
+made_at make (e ∷ past) i = if i == length past + 1 then (if is_accepted e past then make e else None)
+    else made_at make past i
 
 -- a call of which this is so was accepted
 abbrev pub was_accepted : (Call → Bool) → Trace → Bool
@@ -140,7 +144,8 @@ is_gone past item = is_taken past item.number || (not (is_pulse item.what) && is
 -- the items of channel h that are not gone, of these items, in rising number; none where it is destroyed
 abbrev pub pending_among : Trace → List Made → ChannelId → List Item
 pending_among past made h =
-    if is_closed past h then [] else filter (λ item. not (is_gone past item)) (map (λ m. m.item) (filter (λ m. m.channel == h) made))
+    if is_closed past h then []
+    else filter (λ item. not (is_gone past item)) (map (λ m. m.item) (filter (λ m. m.channel == h) made))
 
 -- ---- what a message is worth by now
 
@@ -152,22 +157,26 @@ sender_of past i = made_at (λ e. thread_of_send e.thread e.call) past i
 abbrev pub priority_set_by : Event → Trace → ThreadNo → Option Level
 priority_set_by e past t = if is_accepted e past then priority_set_for (sets e.call) t else None
 
--- the priority that was set last for thread t after message i was sent and before it was received:
--- the search goes back from the newest event, ends at the Send itself, and passes over what came after the receipt
+-- the priority that was set last for thread t after message i was sent and before it was received: the search
+-- goes back from the newest event, ends at the Send itself, and passes over what came after the receipt
 abbrev pub priority_set_since : Trace → ReceiveId → ThreadNo → Option Level
 priority_set_since [] i t = None
 priority_set_since (e ∷ past) i t =
-    if i == length past + 1 then None else option_or (if is_taken past i then None else priority_set_by e past t) (priority_set_since past i t)
+    if i == length past + 1 then None
+    else option_or (if is_taken past i then None else priority_set_by e past t) (priority_set_since past i t)
 
--- the priority of an item by now: a message has what was set last for its thread while it was pending, and else, as each pulse, what it was made with
+-- the priority of an item by now: a message has what was set last for its thread while it was pending, and
+-- else, as each pulse, what it was made with
 abbrev pub worth : Trace → Item → Level
 worth past item =
     if is_pulse item.what then item.priority
-    else unwrap_or (option_and_then (priority_set_since past item.number) (sender_of past item.number)) item.priority
+    else unwrap_or (option_and_then (priority_set_since past item.number) (sender_of past item.number))
+        item.priority
 
 -- these items as they are by now
 abbrev pub items_by_now : Trace → List Made → List Made
-items_by_now past made = map (λ m. record { item = with_priority (worth past m.item) m.item; channel = m.channel }) made
+items_by_now past made = map
+    (λ m. record { item = with_priority (worth past m.item) m.item; channel = m.channel }) made
 
 -- ---- open calls
 
@@ -175,17 +184,21 @@ items_by_now past made = map (λ m. record { item = with_priority (worth past m.
 abbrev pub newest_block : Trace → ThreadNo → Option OpenCall
 newest_block [] t = None
 newest_block (e ∷ past) t =
-    if (e.thread == t) && is_accepted e past && is_some (asks (length past + 1) e.call) then asks (length past + 1) e.call else newest_block past t
+    if (e.thread == t) && is_accepted e past && is_some (asks (length past + 1) e.call)
+    then asks (length past + 1) e.call else newest_block past t
 
 -- a wait for an answer with what is kept of the message's receipt
 abbrev pub wait_with_receipt : Receipt → Wait → Wait
-wait_with_receipt receipt (Answer coid message reply_buffer before) = Answer coid message reply_buffer (Some receipt)
+wait_with_receipt receipt (Answer coid message reply_buffer before) =
+    Answer coid message reply_buffer (Some receipt)
 wait_with_receipt receipt wait = wait
 
 -- a reply buffer of message i with the data of each accepted Write to it, in order
 abbrev pub with_writes : Trace → ReceiveId → List ℕ → List ℕ
 with_writes [] i b = b
-with_writes (e ∷ past) i b = if is_accepted e past then buffer_after_write (writes e.call) i (with_writes past i b) else with_writes past i b
+with_writes (e ∷ past) i b =
+    if is_accepted e past then buffer_after_write (writes e.call) i (with_writes past i b)
+    else with_writes past i b
 
 -- a call with its reply buffer as it is by now
 abbrev pub call_by_now : Trace → OpenCall → OpenCall
@@ -198,7 +211,9 @@ unless_ended past call = option_and_then (λ o. if is_ended past o.number then N
 -- a call with what is kept of its message's receipt, where there was one
 abbrev pub with_receipt : Level → Bool → Option ℕ → OpenCall → OpenCall
 with_receipt priority unblocked copied o =
-    option_map_or (λ n. record o { wait = wait_with_receipt (record { priority = priority; copied = n; unblocked = unblocked }) o.wait }) copied o
+    option_map_or (λ n. record o
+    { wait = wait_with_receipt (record { priority = priority; copied = n; unblocked = unblocked }) o.wait })
+    copied o
 
 -- the item is an unblock pulse for message i
 abbrev pub is_unblock_for : ReceiveId → What → Bool
@@ -213,7 +228,8 @@ unblocked_among made i = list_any (λ m. is_unblock_for i m.item.what) made
 abbrev pub open_call_by : Trace → List Made → ThreadNo → Option OpenCall
 open_call_by past made t =
     option_map
-    (λ o. with_receipt (priority_of_made (made_among made o.number)) (unblocked_among made o.number) (copied_count_of past o.number) (call_by_now past o))
+    (λ o. with_receipt (priority_of_made (made_among made o.number)) (unblocked_among made o.number)
+    (copied_count_of past o.number) (call_by_now past o))
     (unless_ended past (newest_block past t))
 
 -- ---- all that a row may read
@@ -244,32 +260,40 @@ item_by f e past = if is_accepted e past then makes f e.thread e.call else None
 
 -- ---- items and priorities
 
--- the priority that a receiver of the item takes: the item's, unless its channel leaves priorities as they are
+-- the priority that a receiver of the item takes: the item's, unless its channel leaves priorities as they
+-- are
 abbrev pub carried_priority : (ChannelId → Option OpenChannel) → Option Made → Option Level
-carried_priority channel made = option_and_then (λ m. if is_fixed (channel m.channel) then None else Some m.item.priority) made
+carried_priority channel made =
+    option_and_then (λ m. if is_fixed (channel m.channel) then None else Some m.item.priority) made
 
 -- the priority that an ending gives thread t, where each item that is received carries one or none
 abbrev pub priority_from_ending : (CallNo → Option Level) → ThreadNo → Completion → Option Level
-priority_from_ending priority t x = if x.thread == t then option_and_then (λ r. priority r.0) (item_in_mark x.mark) else None
+priority_from_ending priority t x =
+    if x.thread == t then option_and_then (λ r. priority r.0) (item_in_mark x.mark) else None
 
--- the priority that event e gives thread t, of all that was made by then: an accepted PrioritySet sets it, or the thread receives an item,
--- as that was before the event
+-- the priority that event e gives thread t, of all that was made by then: an accepted PrioritySet sets it, or
+-- the thread receives an item, as that was before the event
 abbrev pub priority_from_event : List Member → Event → Trace → List Made → ThreadNo → Option Level
 priority_from_event roster e past made t =
     option_or (priority_set_by e past t)
-    (first_among (priority_from_ending (λ i. carried_priority (channel_at roster past) (made_among (items_by_now past made) i)) t) e.endings)
+    (first_among (priority_from_ending
+    (λ i. carried_priority (channel_at roster past) (made_among (items_by_now past made) i)) t) e.endings)
 
--- what is known after event e, by when these items were made: a thread's priority is what the event gave it, or else what it was
+-- what is known after event e, by when these items were made: a thread's priority is what the event gave it,
+-- or else what it was
 abbrev pub knowledge_after : List Member → Event → Trace → Knowledge → List Made → Knowledge
 knowledge_after roster e past k made =
-    record { made = made; priority = λ t. unwrap_or (priority_from_event roster e past made t) (k.priority t) }
+    record { made = made; priority = λ t. unwrap_or (priority_from_event roster e past made t)
+    (k.priority t) }
 
--- what is known of a past: each accepted event may make an item, and a thread begins with the priority that the roster gives it
+-- what is known of a past: each accepted event may make an item, and a thread begins with the priority that
+-- the roster gives it
 abbrev pub knowledge_of : List Member → Trace → Knowledge
 knowledge_of roster [] = record { made = []; priority = λ t. priority_in (member_at roster t) }
 knowledge_of roster (e ∷ past) =
     knowledge_after roster e past (knowledge_of roster past)
-    ((knowledge_of roster past).made ++ option_to_list (item_by (facts_by roster past (knowledge_of roster past)) e past))
+    ((knowledge_of roster past).made
+    ++ option_to_list (item_by (facts_by roster past (knowledge_of roster past)) e past))
 
 -- all items made so far, each as it was made, in rising number
 abbrev pub items : List Member → Trace → List Made
@@ -295,7 +319,8 @@ priority_of_item roster past i = priority_of_made (made_among (items_by_now past
 
 -- the priority of item i before event e, or as the event makes it
 abbrev pub priority_before : List Member → Event → Trace → CallNo → Level
-priority_before roster e past i = priority_of_made (made_among (items_by_now past (items roster (e ∷ past))) i)
+priority_before roster e past i =
+    priority_of_made (made_among (items_by_now past (items roster (e ∷ past))) i)
 
 -- what is pending on channel h, in rising number
 abbrev pub pending_items : List Member → Trace → ChannelId → List Item

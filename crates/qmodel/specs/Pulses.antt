@@ -30,14 +30,17 @@ wants_room_for f pulse = option_map_or (λ m. wants_room f m.item (Some m.channe
 
 -- the call of the receiver ends that a pulse which is made meets
 abbrev pub ends_receiver : Facts → Option Made → ThreadNo → Option Completion
-ends_receiver f pulse u = option_and_then (λ m. meets f m.item [] (receiver f m.item (Some m.channel)) u) pulse
+ends_receiver f pulse u = option_and_then (λ m. meets f m.item [] (receiver f m.item (Some m.channel)) u)
+    pulse
 
 -- the same as a receipt
 abbrev pub pulse_receipt : Facts → Option Made → Option Received
-pulse_receipt f pulse = option_and_then (λ m. receipt_when_sent f None m.item [] (Some m.channel) (receiver f m.item (Some m.channel))) pulse
+pulse_receipt f pulse = option_and_then
+    (λ m. receipt_when_sent f None m.item [] (Some m.channel) (receiver f m.item (Some m.channel))) pulse
 
--- the row of a call that may make this pulse, ends so what others wait in, and ends with Ok: it never blocks, and wants memory only for a
--- pulse that waits
+-- the row of a call that may make this pulse, ends so what others wait in, and ends with Ok: it never blocks,
+-- and wants memory only for a pulse that waits
 abbrev pub pulse_row : Facts → ThreadNo → Option Errno → Option Made → (ThreadNo → Option Completion) → Row
 pulse_row f t refusal pulse ends =
-    record (plain_row f.number t refusal mark.Ok) { takes_memory = wants_room_for f pulse; ends = ends; receipt = pulse_receipt f pulse }
+    record (plain_row f.number t refusal mark.Ok)
+    { takes_memory = wants_room_for f pulse; ends = ends; receipt = pulse_receipt f pulse }

@@ -25,15 +25,20 @@ is_after m number = option_map_or (λ n. nat_lt m n) number false
 
 -- of these threads none waits for such an item in a call later than m
 abbrev pub is_last_wait : (ThreadNo → Option OpenCall) → ChannelId → Item → List ThreadNo → CallNo → Bool
-is_last_wait open_call h item threads m = not (list_any (λ v. is_after m (wait_on h item (open_call v))) threads)
+is_last_wait open_call h item threads m =
+    not (list_any (λ v. is_after m (wait_on h item (open_call v))) threads)
 
 -- thread u waits for such an item, and of these threads none does in a later call
 abbrev pub is_newest : (ThreadNo → Option OpenCall) → ChannelId → Item → List ThreadNo → ThreadNo → Bool
-is_newest open_call h item threads u = option_map_or (is_last_wait open_call h item threads) (wait_on h item (open_call u)) false
+is_newest open_call h item threads u =
+    option_map_or (is_last_wait open_call h item threads) (wait_on h item (open_call u)) false
 
--- of these threads the one whose open receive on channel h has the greatest number, of those that may take the item
-abbrev pub newest_receiver_among : (ThreadNo → Option OpenCall) → ChannelId → Item → List ThreadNo → Option ThreadNo
-newest_receiver_among open_call h item threads = first_where (λ u. is_newest open_call h item threads u) threads
+-- of these threads the one whose open receive on channel h has the greatest number, of those that may take
+-- the item
+abbrev pub newest_receiver_among : (ThreadNo → Option OpenCall) → ChannelId → Item → List ThreadNo
+    → Option ThreadNo
+newest_receiver_among open_call h item threads =
+    first_where (λ u. is_newest open_call h item threads u) threads
 
 -- the same of all threads
 abbrev pub newest_receiver : Facts → ChannelId → Item → Option ThreadNo

@@ -28,17 +28,20 @@ sender_for f item = if is_pulse item.what then None else sender f item.number
 
 -- the same as a receipt of what was sent
 abbrev pub receipt_when_taken : Facts → ChannelId → Option Completion → Option Item → Option Received
-receipt_when_taken f h ending item = option_and_then (λ i. receipt_in h (sender_for f i) i.priority ending) item
+receipt_when_taken f h ending item =
+    option_and_then (λ i. receipt_in h (sender_for f i) i.priority ending) item
 
 -- the best item that the kind may take; with none the call is blocked until one comes
 abbrev pub receive_row : Facts → ThreadNo → ChannelId → Kind → List ℕ → Row
 receive_row f t chid kind buffer = record empty_row {
   refusal = refusal f t chid;
   own = own_receipt f t buffer (best_of kind (f.pending chid));
-  receipt = receipt_when_taken f chid (own_receipt f t buffer (best_of kind (f.pending chid))) (best_of kind (f.pending chid));
+  receipt = receipt_when_taken f chid (own_receipt f t buffer (best_of kind (f.pending chid)))
+      (best_of kind (f.pending chid));
 }
 
--- the call that receives so: a Receive may take any item; a ReceivePulse takes pulses alone, and has no buffer
+-- the call that receives so: a Receive may take any item; a ReceivePulse takes pulses alone, and has no
+-- buffer
 abbrev pub receive_of : Kind → ChannelId → List ℕ → Call
 receive_of Any chid buffer = Receive chid buffer
 receive_of PulseOnly chid buffer = ReceivePulse chid

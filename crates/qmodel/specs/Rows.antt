@@ -22,7 +22,8 @@ pub record Made : Type 0 where
   pub item : Item
   pub channel : ChannelId
 
--- a receipt: the item's number and channel, the thread that takes it, the thread that waits for its answer, and what is kept of the receipt
+-- a receipt: the item's number and channel, the thread that takes it, the thread that waits for its answer,
+-- and what is kept of the receipt
 pub record Received : Type 0 where
   pub item : CallNo
   pub channel : ChannelId
@@ -30,9 +31,10 @@ pub record Received : Type 0 where
   pub sender : Option ThreadNo
   pub kept : Receipt
 
--- what a call is answered: the first of its own refusals that applies, whether it may also be refused for want of memory, how it ends in
--- its own event where it does, and how it ends the open call of another thread; and the receipt that it brings about, which says nothing of
--- what is answered: it serves to tell what is so after the call (Step)
+-- what a call is answered: the first of its own refusals that applies, whether it may also be refused for
+-- want of memory, how it ends in its own event where it does, and how it ends the open call of another
+-- thread; and the receipt that it brings about, which says nothing of what is answered: it serves to tell
+-- what is so after the call (Step)
 pub record Row : Type 0 where
   pub refusal : Option Errno
   pub takes_memory : Bool
@@ -103,7 +105,8 @@ names number h = option_map_or (λ k. k == h) number false
 
 -- the reply buffer of message i with what is written over it
 abbrev pub buffer_after_write : Option Written → ReceiveId → List ℕ → List ℕ
-buffer_after_write written i b = option_map_or (λ w. if w.message == i then lay_over b w.offset w.bytes else b) written b
+buffer_after_write written i b =
+    option_map_or (λ w. if w.message == i then lay_over b w.offset w.bytes else b) written b
 
 -- a wait with its reply buffer changed
 abbrev pub with_buffer : (List ℕ → List ℕ) → Wait → Wait
@@ -112,7 +115,8 @@ with_buffer f (ForItem chid kind buffer) = ForItem chid kind buffer
 
 -- ---- receipts
 
--- how a receive ends that takes an item into its buffer: a message is laid over the front, with that count; a pulse stands in the mark alone
+-- how a receive ends that takes an item into its buffer: a message is laid over the front, with that count; a
+-- pulse stands in the mark alone
 abbrev pub delivery_of : Item → List ℕ → List ℕ → Mark × List ℕ
 delivery_of item message buffer =
     if is_pulse item.what then (mark.Pulse item.number item.priority item.what, buffer)
@@ -121,7 +125,8 @@ delivery_of item message buffer =
 -- the ending of call m of thread u that takes the item so
 abbrev pub receipt_ending : Item → List ℕ → ThreadNo → CallNo → List ℕ → Completion
 receipt_ending item message u m buffer =
-    record { call = m; thread = u; mark = (delivery_of item message buffer).0; buffer = (delivery_of item message buffer).1 }
+    record { call = m; thread = u; mark = (delivery_of item message buffer).0; buffer = (delivery_of item
+    message buffer).1 }
 
 -- how the open call of number m ends, of thread u, that takes the item into what it waits with
 abbrev pub takes_into : Item → List ℕ → ThreadNo → CallNo → Wait → Option Completion

@@ -10,8 +10,11 @@ use Rattle.qnames.specs.declared.line.Line.{Line}
 use Rattle.qnames.specs.Names.{none}
 use Rattle.qnames.specs.Plain.{plain_lines, plain_text}
 
--- what each line says in the plain script is what it says with its names replaced: the threads and the calls are those of the plain lines, one by one
+-- what each line says in the plain script is what it says with its names replaced: the threads and the calls
+-- are those of the plain lines, one by one
 abbrev pub CallsAreReplaced : Type 0
-CallsAreReplaced = (all : List Line) (roster : List Member) (calls : List (ℕ × Call)) → AllByRecursion IsOneLine (plain_lines none all)
+CallsAreReplaced = (all : List Line) (roster : List Member) (calls : List (ℕ × Call))
+    → AllByRecursion IsOneLine (plain_lines none all)
     → meaning (plain_text none all) ≡ Says roster calls
-    → (roster ≡ roster_of (map without_return (plain_lines none all))) × (calls ≡ calls_of (map without_return (plain_lines none all)))
+    → (roster ≡ roster_of (map without_return (plain_lines none all)))
+    × (calls ≡ calls_of (map without_return (plain_lines none all)))

@@ -1,5 +1,6 @@
 -- What the names of a script stand for.
-use Rattle.std.specs.Prelude.{ℕ, ◌+◌, ◌==◌, Bool, List, [], ◌∷◌, ◌++◌, reverse, find, Option, Some, None, if◌then◌else◌}
+use Rattle.std.specs.Prelude.{ℕ, ◌+◌, ◌==◌, Bool, List, [], ◌∷◌, ◌++◌, reverse, find, Option, Some, None}
+use Rattle.std.specs.Prelude.{if◌then◌else◌}
 use Rattle.std.specs.Str.{bytes_eq}
 use Rattle.std.specs.List.{list_any, position_or_len}
 use Rattle.std.specs.Option.{unwrap_or, option_map_or}
@@ -13,7 +14,8 @@ use Rattle.qnames.specs.declared.line.Line.{Line}
 use Rattle.qnames.specs.declared.line.Line.TheVariants as lines
 use Rattle.qnames.specs.declared.label.Label.{Label}
 
--- what is known after some lines: how many threads and calls they have, the names of their processes, and what their names stand for
+-- what is known after some lines: how many threads and calls they have, the names of their processes, and
+-- what their names stand for
 pub record Names : Type 0 where
   pub threads : ℕ
   pub calls : ℕ
@@ -35,13 +37,15 @@ number_of name labels = option_map_or (λ l. l.number) (latest name labels) 0
 -- a line's definition behind those above, with the number that its name stands for
 abbrev pub with_label : Option Definition → ℕ → List Label → List Label
 with_label None number labels = labels
-with_label (Some d) number labels = labels ++ record { name = d.name; kind = d.kind; number = number; line = d.place.line } ∷ []
+with_label (Some d) number labels =
+    labels ++ record { name = d.name; kind = d.kind; number = number; line = d.place.line } ∷ []
 
 -- the number of a thread: that of its line, or else its place among the threads, counted from 1
 abbrev pub thread_number : Names → ThreadLine → ℕ
 thread_number names t = unwrap_or t.thread (names.threads + 1)
 
--- the number of a process: that of its line, or else the place of its name among those of the processes, counted from 1
+-- the number of a process: that of its line, or else the place of its name among those of the processes,
+-- counted from 1
 abbrev pub process_number : List (List ℕ) → Process → ℕ
 process_number names (processes.Number n) = n
 process_number names (processes.Name name) = position_or_len (λ p. bytes_eq p name) names + 1
@@ -55,7 +59,8 @@ abbrev pub with_process : List (List ℕ) → Process → List (List ℕ)
 with_process names (processes.Number n) = names
 with_process names (processes.Name name) = with_name names name
 
--- what is known after one more line: the nth thread line is thread n, if it doesn't say another number, and the nth call line is call n
+-- what is known after one more line: the nth thread line is thread n, if it doesn't say another number, and
+-- the nth call line is call n
 abbrev pub with_line : Names → Line → Names
 with_line names (lines.Aside text) = names
 with_line names (lines.Thread t) = record {

@@ -1,5 +1,6 @@
 -- The plain script of one with names.
-use Rattle.std.specs.Prelude.{ℕ, ◌==◌, List, [], ◌∷◌, ◌++◌, length, Option, Some, None, if◌then◌else◌, codes, decimal}
+use Rattle.std.specs.Prelude.{ℕ, ◌==◌, List, [], ◌∷◌, ◌++◌, length, Option, Some, None, if◌then◌else◌, codes}
+use Rattle.std.specs.Prelude.{decimal}
 use Rattle.std.specs.List.{flat_map}
 use Rattle.std.specs.Option.{option_or}
 use Rattle.hex.specs.Hex.{encode_lower}
@@ -43,8 +44,10 @@ words_of labels all = flat_map (λ o. 32 ∷ word_of labels o) all
 abbrev pub line_text : Names → Line → List ℕ
 line_text names (lines.Aside text) = text
 line_text names (lines.Thread t) =
-    codes "thread " ++ decimal (thread_number names t) ++ 32 ∷ decimal (process_number names.processes t.process) ++ 32 ∷ t.priority
-line_text names (lines.Call c) = word_of names.labels c.caller ++ 32 ∷ c.verb ++ words_of names.labels c.operands.items
+    codes "thread " ++ decimal (thread_number names t) ++ 32
+    ∷ decimal (process_number names.processes t.process) ++ 32 ∷ t.priority
+line_text names (lines.Call c) =
+    word_of names.labels c.caller ++ 32 ∷ c.verb ++ words_of names.labels c.operands.items
 
 -- the plain lines of some lines, after what the lines above say: each with its names replaced
 unfoldable pub plain_lines : Names → List Line → List (List ℕ)
@@ -95,7 +98,8 @@ abbrev pub line_fault : List Label → Line → Option NameFault
 line_fault labels (lines.Aside text) = None
 line_fault labels (lines.Thread t) = definition_fault labels t.definition
 line_fault labels (lines.Call c) =
-    option_or (option_or (definition_fault labels c.definition) (operand_fault labels c.caller)) (operands_fault labels c.operands.items)
+    option_or (option_or (definition_fault labels c.definition) (operand_fault labels c.caller))
+    (operands_fault labels c.operands.items)
 
 -- a fault, if there is one
 abbrev pub listed : Option NameFault → List NameFault
@@ -105,4 +109,5 @@ listed (Some f) = f ∷ []
 -- the faults of some lines, after what the lines above say: the first of each line
 unfoldable pub name_faults : Names → List Line → List NameFault
 name_faults names [] = []
-name_faults names (line ∷ rest) = listed (line_fault names.labels line) ++ name_faults (with_line names line) rest
+name_faults names (line ∷ rest) =
+    listed (line_fault names.labels line) ++ name_faults (with_line names line) rest

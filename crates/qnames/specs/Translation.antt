@@ -8,7 +8,8 @@ use Rattle.qnames.specs.declared.translation.Refusal.TheVariants as refusals
 use Rattle.qnames.specs.Names.{none}
 use Rattle.qnames.specs.Plain.{plain_text, name_faults}
 
--- the text is that of the lines with each name replaced by its number, no name is at fault, and the script is what the text means
+-- the text is that of the lines with each name replaced by its number, no name is at fault, and the script is
+-- what the text means
 pub record IsTranslation (lines : List Line) (t : Translation) : Type 0 where
   pub text : string_bytes t.text ≡ plain_text none lines
   pub names : name_faults none lines ≡ []
@@ -18,4 +19,5 @@ pub record IsTranslation (lines : List Line) (t : Translation) : Type 0 where
 abbrev pub IsRefusal : List Line → Refusal → Type 0
 IsRefusal lines refusals.Memory = Unit {0}
 IsRefusal lines (refusals.Names faults) = (faults.items ≡ name_faults none lines) × (faults.items ≢ [])
-IsRefusal lines (refusals.Script e) = (name_faults none lines ≡ []) × IsFaultOf e (meaning (plain_text none lines))
+IsRefusal lines (refusals.Script e) =
+    (name_faults none lines ≡ []) × IsFaultOf e (meaning (plain_text none lines))

@@ -1,5 +1,6 @@
 -- Which of the items that wait is received first.
-use Rattle.std.specs.Prelude.{ℕ, ◌==◌, not, nat_lt, Bool, true, false, List, [], ◌∷◌, filter, map, Option, None, Some, if◌then◌else◌}
+use Rattle.std.specs.Prelude.{ℕ, ◌==◌, not, nat_lt, Bool, true, false, List, [], ◌∷◌, filter, map, Option}
+use Rattle.std.specs.Prelude.{None, Some, if◌then◌else◌}
 use Rattle.qqueue.specs.declared.item.What.{What}
 use Rattle.qqueue.specs.declared.item.What.TheVariants.{Message, User, Unblock, Disconnect}
 use Rattle.qqueue.specs.declared.item.Item.{Item}
@@ -18,15 +19,18 @@ abbrev pub may_take : Kind → Item → Bool
 may_take Any item = true
 may_take PulseOnly item = is_pulse item.what
 
--- of an item and the best of those after it, the one to be received first: the later one only where its priority is greater
+-- of an item and the best of those after it, the one to be received first: the later one only where its
+-- priority is greater
 abbrev pub first_of_two : Item → Option Item → Item
 first_of_two x None = x
 first_of_two x (Some y) = if nat_lt x.priority y.priority then y else x
 
--- of the items that the kind may take, the one of greatest priority, and among equals the one that was made first
+-- of the items that the kind may take, the one of greatest priority, and among equals the one that was made
+-- first
 abbrev pub best_of : Kind → List Item → Option Item
 best_of kind [] = None
-best_of kind (x ∷ items) = if may_take kind x then Some (first_of_two x (best_of kind items)) else best_of kind items
+best_of kind (x ∷ items) = if may_take kind x then Some (first_of_two x (best_of kind items))
+    else best_of kind items
 
 -- the items but the one of this number
 abbrev pub without_item : ℕ → List Item → List Item
@@ -43,4 +47,5 @@ with_priority priority item = record { number = item.number; priority = priority
 
 -- the items, where the one of this number has another priority
 abbrev pub with_item_priority : ℕ → ℕ → List Item → List Item
-with_item_priority number priority items = map (λ item. if item.number == number then with_priority priority item else item) items
+with_item_priority number priority items =
+    map (λ item. if item.number == number then with_priority priority item else item) items

@@ -16,12 +16,15 @@ first_at messages pulses false level = first_in messages level
 -- the nodes of each kind and level are one ring, in rising number, that begins at the first key
 abbrev pub AreRings : (Bool → ℕ → Option ℕ) → Slab Node → Type 0
 AreRings first nodes =
-    (pulse : Bool) (level : ℕ) → (first pulse level ≡ first_of (keys_on pulse level (places_of nodes))) × Ring nodes (keys_on pulse level (places_of nodes))
+    (pulse : Bool) (level : ℕ) → (first pulse level ≡ first_of (keys_on pulse level (places_of nodes)))
+    × Ring nodes (keys_on pulse level (places_of nodes))
 
--- each item has a number of its own and stands on just one ring; the slab has the room that is counted; where there are nodes or room for them, there are first keys
+-- each item has a number of its own and stands on just one ring; the slab has the room that is counted; where
+-- there are nodes or room for them, there are first keys
 pub record IsKept (lists : Lists) : Type 0 where
   pub rises : Rises (places_of lists.nodes)
   pub rings : AreRings (first_at lists.messages lists.pulses) lists.nodes
   pub short : (vec_len lists.messages.firsts ≤ 256) × (vec_len lists.pulses.firsts ≤ 256)
   pub within : slab_len lists.nodes + lists.room ≤ lists.nodes.capacity
-  pub made : 0 < lists.room + slab_len lists.nodes → (vec_len lists.messages.firsts ≡ 256) × (vec_len lists.pulses.firsts ≡ 256)
+  pub made : 0 < lists.room + slab_len lists.nodes
+      → (vec_len lists.messages.firsts ≡ 256) × (vec_len lists.pulses.firsts ≡ 256)

@@ -1,5 +1,6 @@
 -- The first keys of the levels that a lane has.
-use Rattle.std.specs.Prelude.{◌≡◌, ℕ, ◌<◌, ◌==◌, ◌&&◌, ◌||◌, nat_lt, Option, None, Some, if◌then◌else◌, slice_index}
+use Rattle.std.specs.Prelude.{◌≡◌, ℕ, ◌<◌, ◌==◌, ◌&&◌, ◌||◌, nat_lt, Option, None, Some, if◌then◌else◌}
+use Rattle.std.specs.Prelude.{slice_index}
 use Rattle.qqueue.specs.declared.item.Item.{Item}
 use Rattle.qqueue.specs.declared.lane.Lane.{Lane}
 use Rattle.qqueue.specs.Levels.{has}
@@ -12,7 +13,9 @@ first_in lane level = if has lane.levels level then Some (slice_index lane.first
 abbrev pub IsForemost : (ℕ → Option ℕ) → ℕ × ℕ → Type 0
 IsForemost first found = (first found.0 ≡ Some found.1) × ((above : ℕ) → found.0 < above → first above ≡ None)
 
--- of a message and a pulse, each under its level and key, the chosen key is that of the greater level, or of the lesser number
+-- of a message and a pulse, each under its level and key, the chosen key is that of the greater level, or of
+-- the lesser number
 abbrev pub IsEarlier : ℕ × ℕ → Item → ℕ × ℕ → Item → ℕ → Type 0
 IsEarlier message m pulse p chosen =
-    chosen ≡ (if nat_lt pulse.0 message.0 || ((message.0 == pulse.0) && nat_lt m.number p.number) then message.1 else pulse.1)
+    chosen ≡ (if nat_lt pulse.0 message.0 || ((message.0 == pulse.0) && nat_lt m.number p.number)
+    then message.1 else pulse.1)

@@ -3,7 +3,8 @@ use Rattle.std.specs.Prelude.{◌≡◌, ℕ, ◌/◌, ◌%◌, ◌<◌, ◌==�
 use Rattle.std.specs.Int.{bit_at}
 use Rattle.qqueue.specs.declared.levels.Levels.{Levels}
 
--- the level's bit is set: of 64 levels in each word, the first ones in the first word; from 256 on there is no word
+-- the level's bit is set: of 64 levels in each word, the first ones in the first word; from 256 on there is
+-- no word
 abbrev pub has : Levels → ℕ → Bool
 has levels level = bit_at (slice_index levels.words (level / 64)) (level % 64) == 1
 

@@ -1,5 +1,6 @@
 -- The order in which items are received.
-use Rattle.std.specs.Prelude.{◌≡◌, ◌≢◌, ◌↔◌, ◌==◌, ◌&&◌, ◌||◌, not, nat_lt, Bool, List, None, Some, IsTrue, IsFalse, All, Contains}
+use Rattle.std.specs.Prelude.{◌≡◌, ◌≢◌, ◌↔◌, ◌==◌, ◌&&◌, ◌||◌, not, nat_lt, Bool, List, None, Some, IsTrue}
+use Rattle.std.specs.Prelude.{IsFalse, All, Contains}
 use Rattle.qqueue.specs.declared.item.Item.{Item}
 use Rattle.qqueue.specs.declared.item.Kind.{Kind}
 use Rattle.qqueue.specs.Best.{may_take, best_of}
@@ -15,7 +16,8 @@ JustOneComesBefore = (a b : Item) → a.number ≢ b.number → comes_before a b
 
 -- what comes before an item that comes before a third comes before that third
 abbrev pub BeforeIsTransitive : Type 0
-BeforeIsTransitive = (a b c : Item) → IsTrue (comes_before a b) → IsTrue (comes_before b c) → IsTrue (comes_before a c)
+BeforeIsTransitive = (a b c : Item) → IsTrue (comes_before a b) → IsTrue (comes_before b c)
+    → IsTrue (comes_before a c)
 
 -- no item comes before itself
 abbrev pub NoneBeforeItself : Type 0
@@ -29,8 +31,10 @@ pub record IsFirst (kind : Kind) (items : List Item) (x : Item) : Type 0 where
 
 -- in a list of rising numbers the best is first
 abbrev pub BestIsFirst : Type 0
-BestIsFirst = (kind : Kind) (items : List Item) (x : Item) → IsRising items → best_of kind items ≡ Some x → IsFirst kind items x
+BestIsFirst = (kind : Kind) (items : List Item) (x : Item) → IsRising items → best_of kind items ≡ Some x
+    → IsFirst kind items x
 
 -- there is no best exactly where no item may be taken
 abbrev pub NoBestIfNoneMayBeTaken : Type 0
-NoBestIfNoneMayBeTaken = (kind : Kind) (items : List Item) → (best_of kind items ≡ None) ↔ All (λ y. IsFalse (may_take kind y)) items
+NoBestIfNoneMayBeTaken = (kind : Kind) (items : List Item) → (best_of kind items ≡ None)
+    ↔ All (λ y. IsFalse (may_take kind y)) items

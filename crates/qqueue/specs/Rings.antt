@@ -1,5 +1,7 @@
--- How a queue keeps its items: each in a node under a key, and for each level a ring of messages and a ring of pulses. No public clause cites this module.
-use Rattle.std.specs.Prelude.{◌≡◌, ℕ, ◌+◌, ◌<◌, ◌==◌, ◌&&◌, not, nat_lt, Bool, true, false, List, [], ◌∷◌, Option, None, Some, if◌then◌else◌, filter, map, count_by}
+-- How a queue keeps its items: each in a node under a key, and for each level a ring of messages and a ring
+-- of pulses. No public clause cites this module.
+use Rattle.std.specs.Prelude.{◌≡◌, ℕ, ◌+◌, ◌<◌, ◌==◌, ◌&&◌, not, nat_lt, Bool, true, false, List, [], ◌∷◌}
+use Rattle.std.specs.Prelude.{Option, None, Some, if◌then◌else◌, filter, map, count_by}
 use Rattle.std.specs.List.{AllByRecursion}
 use Rattle.std.specs.Option.{option_map}
 use Rattle.slab.specs.Slab.{Slab, get}
@@ -10,7 +12,8 @@ use Rattle.qqueue.specs.Best.{is_pulse}
 -- an item with the key of its node, put at its place by number
 abbrev pub put_place : Item × ℕ → List (Item × ℕ) → List (Item × ℕ)
 put_place place [] = place ∷ []
-put_place place (first ∷ places) = if nat_lt place.0.number first.0.number then place ∷ first ∷ places else first ∷ put_place place places
+put_place place (first ∷ places) =
+    if nat_lt place.0.number first.0.number then place ∷ first ∷ places else first ∷ put_place place places
 
 -- the places whose items have greater numbers
 abbrev pub places_after : ℕ → List (Item × ℕ) → List (Item × ℕ)

@@ -17,15 +17,17 @@ use Rattle.qreading.specs.Reading.Meaning.{meaning, Says, Faulty}
 use Rattle.qscript.specs.Printing.Printed.{printed}
 use Rattle.qscript.specs.Transfer.{IsReading, FailsWithin, IsOverfull, StopsWithin}
 
--- the threads may join one roster, each call is of one of them, and there are no more calls than a kernel can number
+-- the threads may join one roster, each call is of one of them, and there are no more calls than a kernel can
+-- number
 pub record CanRun (roster : List Member) (calls : List (ℕ × Call)) : Type 0 where
   pub members : AllJoin [] roster
   pub callers : AllKnown (roster_with [] roster) calls
   pub few : length calls ≤ 2 ^ 40
 
--- a run of just these calls, lawful from the first call on, and who is blocked after it; the roster's threads stand in rising number, which the
--- laws of lawful traces ask
-pub record IsRunOf (roster : List Member) (calls : List (ℕ × Call)) (run : Run) (blocked : List Blocked) : Type 0 where
+-- a run of just these calls, lawful from the first call on, and who is blocked after it; the roster's threads
+-- stand in rising number, which the laws of lawful traces ask
+pub record IsRunOf (roster : List Member) (calls : List (ℕ × Call)) (run : Run)
+    (blocked : List Blocked) : Type 0 where
   pub rising : IsRoster (roster_with [] roster)
   pub first : run.first ≡ 1
   pub made : map event_call run.events ≡ calls
@@ -39,7 +41,8 @@ pub record IsTextOfRun (roster : List Member) (calls : List (ℕ × Call)) (text
   pub blocked : List Blocked
   pub ran : IsRunOf roster calls run blocked
   pub printed_so : text ≡ printed run blocked
-  pub only : HadMemory run.events → (other : Run) (left : List Blocked) → IsRunOf roster calls other left → HadMemory other.events → printed other left ≡ text
+  pub only : HadMemory run.events → (other : Run) (left : List Blocked) → IsRunOf roster calls other left
+      → HadMemory other.events → printed other left ≡ text
 
 -- the text of a run of the script that was read
 pub record Runs (input : List ℕ) (text : List ℕ) : Type 0 where

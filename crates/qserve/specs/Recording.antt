@@ -11,9 +11,11 @@ use Rattle.qscript.specs.Writing.Text.{script_text}
 
 -- the run begins with the first call, is lawful and has the six properties
 abbrev pub IsRun : List Member → Run → Type 0
-IsRun roster run = (run.first ≡ 1) × IsLawful roster (followed_by [] run.events) × HasProperties roster (followed_by [] run.events)
+IsRun roster run = (run.first ≡ 1) × IsLawful roster (followed_by [] run.events)
+    × HasProperties roster (followed_by [] run.events)
 
--- the script is that of the roster and the run's calls, and no longer than a script may be; the trace is what is printed of the run, with nobody blocked after it
+-- the script is that of the roster and the run's calls, and no longer than a script may be; the trace is what
+-- is printed of the run, with nobody blocked after it
 pub record Records (roster : List Member) (run : Run) (script trace : List ℕ) : Type 0 where
   pub script_is : script ≡ script_text roster run.events
   pub short : length script ≤ most_text

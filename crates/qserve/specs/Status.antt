@@ -1,7 +1,8 @@
 -- The statuses that a demonstration's fault ends the program with.
 use Rattle.std.specs.Prelude.{ℕ}
 use Rattle.qserve.specs.declared.fault.ServeFault.{ServeFault}
-use Rattle.qserve.specs.declared.fault.ServeFault.TheVariants.{Hold, NoMemory, Worker, LongRecord, Record, Write}
+use Rattle.qserve.specs.declared.fault.ServeFault.TheVariants.{Hold, NoMemory, Worker, LongRecord, Record}
+use Rattle.qserve.specs.declared.fault.ServeFault.TheVariants.{Write}
 
 -- 2 where what was asked for is at fault, 4 where a worker is, and else 3
 abbrev pub status_of : ServeFault → ℕ

@@ -1,5 +1,6 @@
 -- The channels of a kernel, by id.
-use Rattle.std.specs.Prelude.{◌≡◌, ◌≤◌, ◌+◌, ℕ, ◌==◌, ◌&&◌, Bool, false, is_some, List, [], length, map, Option, None, Some, if◌then◌else◌}
+use Rattle.std.specs.Prelude.{◌≡◌, ◌≤◌, ◌+◌, ℕ, ◌==◌, ◌&&◌, Bool, false, is_some, List, [], length, map}
+use Rattle.std.specs.Prelude.{Option, None, Some, if◌then◌else◌}
 use Rattle.std.specs.List.{AllByRecursion}
 use Rattle.std.specs.Option.{option_map}
 use Rattle.qqueue.specs.declared.item.Item.{Item}
@@ -42,7 +43,8 @@ is_of p (Some c) = p == c.owner
 -- the channel that this connection leads to, where it is one of this process and the channel is open
 abbrev pub way_in : ℕ → List (ℕ × Channel) → Option Connection → Option ℕ
 way_in p channels None = None
-way_in p channels (Some c) = if (p == c.process) && is_some (channel_in channels c.channel) then Some c.channel else None
+way_in p channels (Some c) =
+    if (p == c.process) && is_some (channel_in channels c.channel) then Some c.channel else None
 
 -- the channel of this connection, where it is one of this process
 abbrev pub own_channel_in : ℕ → Option Connection → Option ℕ

@@ -1,5 +1,6 @@
 -- What becomes of the threads and the channels as calls are cut.
-use Rattle.std.specs.Prelude.{◌≡◌, ℕ, ◌==◌, ◌&&◌, Bool, true, false, not, is_some, List, [], ◌∷◌, ◌++◌, filter, Option, None, Some, if◌then◌else◌}
+use Rattle.std.specs.Prelude.{◌≡◌, ℕ, ◌==◌, ◌&&◌, Bool, true, false, not, is_some, List, [], ◌∷◌, ◌++◌}
+use Rattle.std.specs.Prelude.{filter, Option, None, Some, if◌then◌else◌}
 use Rattle.std.specs.List.{list_any}
 use Rattle.std.specs.Option.{option_map, option_and_then}
 use Rattle.qbase.specs.declared.errno.Errno.{Errno}
@@ -26,25 +27,33 @@ is_cut_by connection (Of thread) u wait = u == thread
 is_cut_by connection (Over coid) u wait = is_over coid wait
 
 -- how the call of thread u ends: the caller's own so, and another's if it is cut
-abbrev pub ending_for : (ℕ → Option Connection) → Cut → Errno → Completion → ℕ → Option OpenCall → Option Completion
-ending_for connection cut e own u o = if u == own.thread then Some own else cut_where (is_cut_by connection cut u) e u o
+abbrev pub ending_for : (ℕ → Option Connection) → Cut → Errno → Completion → ℕ → Option OpenCall
+    → Option Completion
+ending_for connection cut e own u o =
+    if u == own.thread then Some own else cut_where (is_cut_by connection cut u) e u o
 
 -- each thread whose call is cut has none any more, and all else is as it was
-pub record AreCut (connection : ℕ → Option Connection) (cut : Cut) (e : Errno) (old new : List Thread) : Type 0 where
+pub record AreCut (connection : ℕ → Option Connection) (cut : Cut) (e : Errno) (old new : List Thread) : Type
+    0 where
   pub members : members_of new ≡ members_of old
-  pub open_call : (v : ℕ) → open_in new v ≡ (if is_some (cut_where (is_cut_by connection cut v) e v (open_in old v)) then None else open_in old v)
+  pub open_call : (v : ℕ) → open_in new v
+      ≡ (if is_some (cut_where (is_cut_by connection cut v) e v (open_in old v)) then None else open_in old v)
   pub priority : (v : ℕ) → level_in new v ≡ level_in old v
 
 -- a Send of number i that is blocked on channel h and not received is cut, of one of these threads
 abbrev pub is_cut_among : (ℕ → Option Connection) → Cut → Errno → List Thread → ℕ → ℕ → Bool
 is_cut_among connection cut e threads h i =
-    list_any (λ s. is_unread_send connection h i (open_in threads s) && is_some (cut_where (is_cut_by connection cut s) e s (open_in threads s))) (threads_of (members_of threads))
+    list_any (λ s. is_unread_send connection h i (open_in threads s)
+    && is_some (cut_where (is_cut_by connection cut s) e s (open_in threads s)))
+    (threads_of (members_of threads))
 
 -- each message whose Send is cut leaves its channel, and all else is as it was
-pub record LoseCut (connection : ℕ → Option Connection) (cut : Cut) (e : Errno) (threads : List Thread) (old new : List (ℕ × Channel)) : Type 0 where
+pub record LoseCut (connection : ℕ → Option Connection) (cut : Cut) (e : Errno) (threads : List Thread)
+    (old new : List (ℕ × Channel)) : Type 0 where
   pub ids : ids_of new ≡ ids_of old
   pub channel : (k : ℕ) → channel_in new k ≡ channel_in old k
-  pub pending : (k : ℕ) → pending_in new k ≡ filter (λ item. not (is_cut_among connection cut e threads k item.number)) (pending_in old k)
+  pub pending : (k : ℕ) → pending_in new k
+      ≡ filter (λ item. not (is_cut_among connection cut e threads k item.number)) (pending_in old k)
 
 -- ---- one thread
 
@@ -74,7 +83,9 @@ call_if_cut is_cut o = if is_cut_open is_cut o then o else None
 
 -- the thread with no open call, if that is cut
 abbrev pub thread_unless_cut : (Wait → Bool) → Thread → Thread
-thread_unless_cut is_cut t = record { member = t.member; priority = t.priority; open_call = if is_cut_open is_cut t.open_call then None else t.open_call }
+thread_unless_cut is_cut t =
+    record { member = t.member; priority = t.priority; open_call = if is_cut_open is_cut t.open_call then None
+    else t.open_call }
 
 -- the thread with no open call, if this cuts that
 abbrev pub thread_after_cut : (ℕ → Option Connection) → Cut → Thread → Thread

@@ -13,9 +13,11 @@ use Rattle.qstate.specs.declared.thread.Thread.{Thread}
 use Rattle.qstate.specs.Channel.{channel_in, is_of}
 use Rattle.qstate.specs.Thread.{held_over_in, sent_call}
 
--- what is told of a message that is held: its number, the connection over which it was sent, and what is kept of its receipt
+-- what is told of a message that is held: its number, the connection over which it was sent, and what is kept
+-- of its receipt
 abbrev pub held_message_of : ℕ → Wait → Option Held
-held_message_of n (Answer coid message reply_buffer (Some receipt)) = Some (record { rcvid = n; coid = coid; receipt = receipt })
+held_message_of n (Answer coid message reply_buffer (Some receipt)) =
+    Some (record { rcvid = n; coid = coid; receipt = receipt })
 held_message_of n (Answer coid message reply_buffer None) = None
 held_message_of n (ForItem chid kind buffer) = None
 
@@ -32,7 +34,8 @@ guard_in channels (Some c) = if tells_unblock (channel_in channels c.channel) th
 -- a message that is held, with its channel, where that has the unblock flag
 abbrev pub guarded_message_in : List (ℕ × Connection) → List (ℕ × Channel) → Option Held → Option (Held × ℕ)
 guarded_message_in connections channels None = None
-guarded_message_in connections channels (Some held) = option_map (λ h. (held, h)) (guard_in channels (entry_at connections held.coid))
+guarded_message_in connections channels (Some held) =
+    option_map (λ h. (held, h)) (guard_in channels (entry_at connections held.coid))
 
 -- the channel of a connection is of this process
 abbrev pub leads_to_own : List (ℕ × Channel) → ℕ → Option Connection → Bool
@@ -46,4 +49,5 @@ is_held_over connections channels p (Some coid) = leads_to_own channels p (entry
 
 -- the message of number i is held for this process
 abbrev pub is_held_in : List Thread → List (ℕ × Connection) → List (ℕ × Channel) → ℕ → ℕ → Bool
-is_held_in threads connections channels p i = is_held_over connections channels p (held_over_in (sent_call threads i))
+is_held_in threads connections channels p i =
+    is_held_over connections channels p (held_over_in (sent_call threads i))

@@ -1,5 +1,6 @@
 -- What becomes of a pulse that is sent to a channel.
-use Rattle.std.specs.Prelude.{◌≡◌, ◌⊎◌, ℕ, nat_lt, Bool, true, false, List, [], ◌∷◌, ◌++◌, Option, None, Some, if◌then◌else◌}
+use Rattle.std.specs.Prelude.{◌≡◌, ◌⊎◌, ℕ, nat_lt, Bool, true, false, List, [], ◌∷◌, ◌++◌, Option, None, Some}
+use Rattle.std.specs.Prelude.{if◌then◌else◌}
 use Rattle.qbase.specs.declared.errno.Errno.{Errno}
 use Rattle.qbase.specs.declared.errno.Errno.TheVariants.{Again, NoMemory}
 use Rattle.qqueue.specs.declared.item.Item.{Item}
@@ -21,14 +22,16 @@ abbrev pub level_on : List (ℕ × Channel) → ℕ → ℕ → Option ℕ
 level_on channels h priority = if is_fixed (channel_in channels h) then None else Some priority
 
 -- no receiver may take the pulse, and it waits behind all others
-pub record IsLeft (h : ℕ) (item : Item) (threads : List Thread) (channels : List (ℕ × Channel)) (after : List Thread) (now : List (ℕ × Channel)) : Type 0 where
+pub record IsLeft (h : ℕ) (item : Item) (threads : List Thread) (channels : List (ℕ × Channel))
+    (after : List Thread) (now : List (ℕ × Channel)) : Type 0 where
   pub room : has_room channels h ≡ true
   pub nobody : newest_in h item threads ≡ None
   pub threads_are : after ≡ threads
   pub sets : SetsItems h (pending_in channels h ++ item ∷ []) channels now
 
 -- the receiver that may take the pulse and began last takes it, and its call ends so
-pub record IsMet (h : ℕ) (item : Item) (threads : List Thread) (channels : List (ℕ × Channel)) (after : List Thread) (now : List (ℕ × Channel)) (y : Completion) : Type 0 where
+pub record IsMet (h : ℕ) (item : Item) (threads : List Thread) (channels : List (ℕ × Channel))
+    (after : List Thread) (now : List (ℕ × Channel)) (y : Completion) : Type 0 where
   pub room : has_room channels h ≡ true
   pub receiver : ℕ
   pub newest : newest_in h item threads ≡ Some receiver
@@ -37,12 +40,14 @@ pub record IsMet (h : ℕ) (item : Item) (threads : List Thread) (channels : Lis
   pub channels_are : now ≡ channels
 
 -- one or the other
-abbrev pub IsSent : ℕ → Item → List Thread → List (ℕ × Channel) → List Thread → List (ℕ × Channel) → Option Completion → Type 0
+abbrev pub IsSent : ℕ → Item → List Thread → List (ℕ × Channel) → List Thread → List (ℕ × Channel)
+    → Option Completion → Type 0
 IsSent h item threads channels after now None = IsLeft h item threads channels after now
 IsSent h item threads channels after now (Some y) = IsMet h item threads channels after now y
 
 -- the same of a pulse that may be due; where none is, all is as it was
-abbrev pub IsSentIfDue : ℕ → Option Item → List Thread → List (ℕ × Channel) → List Thread → List (ℕ × Channel) → Option Completion → Type 0
+abbrev pub IsSentIfDue : ℕ → Option Item → List Thread → List (ℕ × Channel) → List Thread → List (ℕ × Channel)
+    → Option Completion → Type 0
 IsSentIfDue h None threads channels after now met = (after ≡ threads) × (now ≡ channels) × (met ≡ None)
 IsSentIfDue h (Some item) threads channels after now met = IsSent h item threads channels after now met
 
@@ -52,19 +57,24 @@ pub record IsFull (h : ℕ) (channels now : List (ℕ × Channel)) (e : Errno) :
   pub channels_are : now ≡ channels
   pub error : e ≡ Again
 
--- no receiver may take the pulse, and no memory was found for it to wait in: nothing is changed but the room of the channel's queue
-pub record IsUnstored (h : ℕ) (item : Item) (threads : List Thread) (channels now : List (ℕ × Channel)) (e : Errno) : Type 0 where
+-- no receiver may take the pulse, and no memory was found for it to wait in: nothing is changed but the room
+-- of the channel's queue
+pub record IsUnstored (h : ℕ) (item : Item) (threads : List Thread) (channels now : List (ℕ × Channel))
+    (e : Errno) : Type 0 where
   pub room : has_room channels h ≡ true
   pub nobody : newest_in h item threads ≡ None
   pub sets : SetsItems h (pending_in channels h) channels now
   pub error : e ≡ NoMemory
 
 -- why a pulse isn't sent; no thread is changed
-abbrev pub IsTurnedAway : ℕ → Item → List Thread → List (ℕ × Channel) → List Thread → List (ℕ × Channel) → Errno → Type 0
-IsTurnedAway h item threads channels after now e = (after ≡ threads) × (IsFull h channels now e ⊎ IsUnstored h item threads channels now e)
+abbrev pub IsTurnedAway : ℕ → Item → List Thread → List (ℕ × Channel) → List Thread → List (ℕ × Channel)
+    → Errno → Type 0
+IsTurnedAway h item threads channels after now e =
+    (after ≡ threads) × (IsFull h channels now e ⊎ IsUnstored h item threads channels now e)
 
 -- a pulse is due, and isn't sent
-pub record IsUnsent (h : ℕ) (due : Option Item) (threads : List Thread) (channels : List (ℕ × Channel)) (after : List Thread) (now : List (ℕ × Channel)) (e : Errno) : Type 0 where
+pub record IsUnsent (h : ℕ) (due : Option Item) (threads : List Thread) (channels : List (ℕ × Channel))
+    (after : List Thread) (now : List (ℕ × Channel)) (e : Errno) : Type 0 where
   pub item : Item
   pub is_due : due ≡ Some item
   pub away : IsTurnedAway h item threads channels after now e

@@ -1,5 +1,6 @@
 -- The threads of a kernel, one after another.
-use Rattle.std.specs.Prelude.{◌≡◌, ℕ, ◌+◌, ◌==◌, nat_lt, Bool, true, false, List, [], ◌∷◌, map, position, is_some, unwrap_or, Option, None, Some, if◌then◌else◌}
+use Rattle.std.specs.Prelude.{◌≡◌, ℕ, ◌+◌, ◌==◌, nat_lt, Bool, true, false, List, [], ◌∷◌, map, position}
+use Rattle.std.specs.Prelude.{is_some, unwrap_or, Option, None, Some, if◌then◌else◌}
 use Rattle.std.specs.Option.{option_map, option_and_then}
 use Rattle.qqueue.specs.declared.item.Item.{Item}
 use Rattle.qtables.specs.declared.member.Member.{Member}
@@ -74,7 +75,8 @@ pub record Wakes (u : ℕ) (p : Option ℕ) (old new : List Thread) : Type 0 whe
 -- an unblock pulse was made for what thread u is blocked in, and all else is as it was
 pub record MarksUnblocked (u : ℕ) (old new : List Thread) : Type 0 where
   pub members : members_of new ≡ members_of old
-  pub open_call : (v : ℕ) → open_in new v ≡ (if v == u then option_map unblocked_call (open_in old v) else open_in old v)
+  pub open_call : (v : ℕ) → open_in new v
+      ≡ (if v == u then option_map unblocked_call (open_in old v) else open_in old v)
   pub priority : (v : ℕ) → level_in new v ≡ level_in old v
 
 -- the connection over which a message was sent that is held
@@ -103,7 +105,8 @@ message_from threads i = message_in (sent_call threads i)
 -- the open call of the thread that sent message i is changed so, and all else is as it was
 pub record ChangesSender (i : ℕ) (change : OpenCall → OpenCall) (old new : List Thread) : Type 0 where
   pub members : members_of new ≡ members_of old
-  pub open_call : (v : ℕ) → open_in new v ≡ (if is_thread (sender_in old i) v then option_map change (open_in old v) else open_in old v)
+  pub open_call : (v : ℕ) → open_in new v
+      ≡ (if is_thread (sender_in old i) v then option_map change (open_in old v) else open_in old v)
   pub priority : (v : ℕ) → level_in new v ≡ level_in old v
 
 -- the sender of a message that is received keeps its receipt, and a pulse changes nothing

@@ -23,7 +23,10 @@ unread_in None = None
 unread_in (Some o) = unread_of o.number o.wait
 
 -- the message of this open call has this priority where it waits to be received, and all else is as it was
-pub record MovesUnread (o : Option OpenCall) (connections : List (ℕ × Connection)) (priority : ℕ) (old new : List (ℕ × Channel)) : Type 0 where
+pub record MovesUnread (o : Option OpenCall) (connections : List (ℕ × Connection)) (priority : ℕ)
+    (old new : List (ℕ × Channel)) : Type 0 where
   pub ids : ids_of new ≡ ids_of old
   pub channel : (h : ℕ) → channel_in new h ≡ channel_in old h
-  pub pending : (h : ℕ) → pending_in new h ≡ map (λ item. if is_unread_send (λ k. entry_at connections k) h item.number o then with_priority priority item else item) (pending_in old h)
+  pub pending : (h : ℕ) → pending_in new h
+      ≡ map (λ item. if is_unread_send (λ k. entry_at connections k) h item.number o
+      then with_priority priority item else item) (pending_in old h)

@@ -1,5 +1,6 @@
 -- A table as its entries, each a number and a record, in rising number.
-use Rattle.std.specs.Prelude.{ℕ, ◌==◌, ◌<◌, not, List, [], ◌∷◌, filter, map, Option, None, Some, if◌then◌else◌}
+use Rattle.std.specs.Prelude.{ℕ, ◌==◌, ◌<◌, not, List, [], ◌∷◌, filter, map, Option, None, Some}
+use Rattle.std.specs.Prelude.{if◌then◌else◌}
 use Rattle.std.specs.List.{AllByRecursion}
 
 -- the record of this number

@@ -1,4 +1,5 @@
--- What a table ends as, once a `&mut` to one of its records has ended: the record of this number is the last value written through r, and at `None` the table stays as it is.
+-- What a table ends as, once a `&mut` to one of its records has ended: the record of this number is the last
+-- value written through r, and at `None` the table stays as it is.
 use Rattle.std.specs.Prelude.{ℕ, List, Option}
 use Rattle.std.specs.Borrow.{LendsIf, Fml, RattleType, MutBor}
 use Rattle.qtables.specs.Entries.{with_record}

@@ -1,5 +1,6 @@
 -- A roster as its members, in rising thread number.
-use Rattle.std.specs.Prelude.{ℕ, ◌==◌, ◌<◌, nat_lt, List, [], ◌∷◌, length, Option, None, Some, is_some, if◌then◌else◌}
+use Rattle.std.specs.Prelude.{ℕ, ◌==◌, ◌<◌, nat_lt, List, [], ◌∷◌, length, Option, None, Some, is_some}
+use Rattle.std.specs.Prelude.{if◌then◌else◌}
 use Rattle.std.specs.List.{AllByRecursion}
 use Rattle.qbase.specs.declared.errno.Errno.{Errno}
 use Rattle.qbase.specs.declared.errno.Errno.TheVariants.{Inval, Again}
@@ -22,4 +23,6 @@ IsRoster (m ∷ members) = AllByRecursion (λ x. m.thread < x.thread) members ×
 
 -- why a thread may not join: it is there, or else there are 64 threads
 abbrev pub join_refusal : List Member → ℕ → Option Errno
-join_refusal members thread = if is_some (member_at members thread) then Some Inval else (if nat_lt (length members) 64 then None else Some Again)
+join_refusal members thread =
+    if is_some (member_at members thread) then Some Inval
+    else (if nat_lt (length members) 64 then None else Some Again)

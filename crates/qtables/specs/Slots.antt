@@ -1,4 +1,5 @@
--- How a table keeps its entries: each in a slot, under a key, and beside the slots an index of pairs of number and key. No public clause cites this module.
+-- How a table keeps its entries: each in a slot, under a key, and beside the slots an index of pairs of
+-- number and key. No public clause cites this module.
 use Rattle.std.specs.Prelude.{◌≡◌, ℕ, List, length, Some, filter_map}
 use Rattle.std.specs.List.{AllByRecursion}
 use Rattle.slab.specs.Slab.{Slab, get, slab_len}

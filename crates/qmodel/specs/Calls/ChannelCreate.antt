@@ -11,11 +11,13 @@ use Rattle.qmodel.specs.Effect.{Effect, no_effect}
 
 -- a flag that isn't one of the three, and then 64 open channels
 abbrev pub refusal : Facts → ChannelFlags → Option Errno
-refusal f flags = if nat_lt flags.0 8 then (if nat_lt f.open_channels 64 then None else Some Again) else Some Inval
+refusal f flags = if nat_lt flags.0 8 then (if nat_lt f.open_channels 64 then None else Some Again)
+    else Some Inval
 
 -- its id is its number
 abbrev pub row : Facts → ThreadNo → ChannelFlags → Row
-row f t flags = record (plain_row f.number t (refusal f flags) (mark.Channel f.number)) { takes_memory = true }
+row f t flags = record (plain_row f.number t (refusal f flags) (mark.Channel f.number))
+    { takes_memory = true }
 
 -- it creates a channel
 abbrev pub effect : ChannelFlags → Effect

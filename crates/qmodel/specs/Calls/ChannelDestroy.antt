@@ -15,7 +15,8 @@ refusal f t chid = if owns f t chid then None else Some Inval
 
 -- that the channel is closed is read off the past calls
 abbrev pub row : Facts → ThreadNo → ChannelId → Row
-row f t chid = record (plain_row f.number t (refusal f t chid) mark.Ok) { ends = cuts f (λ u. is_on f.connection chid) Srch }
+row f t chid = record (plain_row f.number t (refusal f t chid) mark.Ok)
+    { ends = cuts f (λ u. is_on f.connection chid) Srch }
 
 -- it destroys the channel
 abbrev pub effect : ChannelId → Effect

@@ -10,11 +10,13 @@ use Rattle.qmodel.specs.Effect.{Effect, no_effect}
 
 -- no such channel, and then 1,024 live connections
 abbrev pub refusal : Facts → ChannelId → Option Errno
-refusal f chid = if is_some (f.channel chid) then (if nat_lt f.live_connections 1024 then None else Some Again) else Some Srch
+refusal f chid = if is_some (f.channel chid)
+    then (if nat_lt f.live_connections 1024 then None else Some Again) else Some Srch
 
 -- its id is its number
 abbrev pub row : Facts → ThreadNo → ChannelId → Row
-row f t chid = record (plain_row f.number t (refusal f chid) (mark.Connection f.number)) { takes_memory = true }
+row f t chid = record (plain_row f.number t (refusal f chid) (mark.Connection f.number))
+    { takes_memory = true }
 
 -- it attaches a connection to the channel
 abbrev pub effect : ChannelId → Effect

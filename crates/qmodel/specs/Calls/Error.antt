@@ -19,8 +19,10 @@ error_finish code buffer = (mark_of code, buffer)
 
 -- it never blocks
 abbrev pub row : Facts → ThreadNo → ReceiveId → ℤ → Row
-row f t rcvid code = record (plain_row f.number t (refusal f t rcvid) mark.Ok) { ends = ends_sender f (error_finish code) (sender f rcvid) }
+row f t rcvid code = record (plain_row f.number t (refusal f t rcvid) mark.Ok)
+    { ends = ends_sender f (error_finish code) (sender f rcvid) }
 
 -- it answers the message; the code 0 is a reply of status 0 with no bytes
 abbrev pub effect : ReceiveId → ℤ → Effect
-effect rcvid code = record no_effect { answers = Some rcvid; replies = if int_eq code (pos 0) then Some (pos 0, []) else None }
+effect rcvid code = record no_effect
+    { answers = Some rcvid; replies = if int_eq code (pos 0) then Some (pos 0, []) else None }

@@ -15,8 +15,8 @@ use Rattle.qmodel.specs.Held.{refusal}
 use Rattle.qmodel.specs.Rows.{Row, ends_with, empty_row}
 use Rattle.qmodel.specs.Effect.{Effect, no_effect}
 
--- the sender, the connection, how many bytes were copied at the receipt, the lengths of message and reply buffer, and the priority of the
--- receipt
+-- the sender, the connection, how many bytes were copied at the receipt, the lengths of message and reply
+-- buffer, and the priority of the receipt
 abbrev pub info_of_wait : Member → Wait → Option Info
 info_of_wait m (Answer coid message reply_buffer (Some receipt)) = Some (record {
   process = m.process;
@@ -35,7 +35,8 @@ info_of_open m call = option_and_then (λ o. info_of_wait m o.wait) call
 
 -- the same of the thread that sent it
 abbrev pub info_of : Facts → Option ThreadNo → Option Info
-info_of f sender = option_and_then (λ s. option_and_then (λ m. info_of_open m (f.open_call s)) (member_at f.roster s)) sender
+info_of f sender = option_and_then
+    (λ s. option_and_then (λ m. info_of_open m (f.open_call s)) (member_at f.roster s)) sender
 
 -- how the call ends that tells so
 abbrev pub info_ending : CallNo → ThreadNo → Info → Completion
@@ -43,7 +44,8 @@ info_ending n t info = ends_with n t (mark.Info info)
 
 -- it changes nothing
 abbrev pub row : Facts → ThreadNo → ReceiveId → Row
-row f t rcvid = record empty_row { refusal = refusal f t rcvid; own = option_map (info_ending f.number t) (info_of f (sender f rcvid)) }
+row f t rcvid = record empty_row
+    { refusal = refusal f t rcvid; own = option_map (info_ending f.number t) (info_of f (sender f rcvid)) }
 
 -- it changes nothing
 abbrev pub effect : Effect

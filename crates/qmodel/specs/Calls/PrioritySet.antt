@@ -1,4 +1,5 @@
--- PrioritySet: another priority for a thread of the caller's process, and for the message that it waits with to be received.
+-- PrioritySet: another priority for a thread of the caller's process, and for the message that it waits with
+-- to be received.
 use Rattle.std.specs.Prelude.{Option, None, Some, if◌then◌else◌}
 use Rattle.qbase.specs.declared.errno.Errno.{Errno}
 use Rattle.qbase.specs.declared.errno.Errno.TheVariants.{Srch}

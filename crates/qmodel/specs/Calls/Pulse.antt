@@ -14,20 +14,24 @@ abbrev pub is_negative : ℤ → Bool
 is_negative (pos n) = false
 is_negative (negsuc n) = true
 
--- a connection that the thread's process hasn't, or whose channel isn't open, and then a code below 0, and then 1,024 pulses pending on
--- the channel
+-- a connection that the thread's process hasn't, or whose channel isn't open, and then a code below 0, and
+-- then 1,024 pulses pending on the channel
 abbrev pub refusal : Facts → ThreadNo → ConnectionId → ℤ → Option Errno
-refusal f t coid code = option_map_or (λ h. if is_negative code then Some Inval else refusal_if_full f h) (way f t coid) (Some Badf)
+refusal f t coid code = option_map_or (λ h. if is_negative code then Some Inval else refusal_if_full f h)
+    (way f t coid) (Some Badf)
 
 -- the pulse of the priority that is given, sent over the connection
 abbrev pub sent_pulse : Facts → ConnectionId → Level → ℤ → ℤ → Option Made
-sent_pulse f coid priority code value = item_sent_over (f.connection coid) (pulse_item f.number priority code value)
+sent_pulse f coid priority code value =
+    item_sent_over (f.connection coid) (pulse_item f.number priority code value)
 
 -- it never blocks; memory is wanted only for a pulse that waits
 abbrev pub row : Facts → ThreadNo → ConnectionId → Level → ℤ → ℤ → Row
 row f t coid priority code value =
-    pulse_row f t (refusal f t coid code) (sent_pulse f coid priority code value) (ends_receiver f (sent_pulse f coid priority code value))
+    pulse_row f t (refusal f t coid code) (sent_pulse f coid priority code value)
+    (ends_receiver f (sent_pulse f coid priority code value))
 
 -- it makes that pulse, and sends it over the connection
 abbrev pub effect : ConnectionId → Level → ℤ → ℤ → Effect
-effect coid priority code value = record no_effect { makes = λ f t. sent_pulse f coid priority code value; sends_over = Some coid }
+effect coid priority code value =
+    record no_effect { makes = λ f t. sent_pulse f coid priority code value; sends_over = Some coid }

@@ -14,4 +14,5 @@ row f t chid buffer = receive_row f t chid Any buffer
 
 -- it waits for an item, and may take any
 abbrev pub effect : ChannelId → List ℕ → Effect
-effect chid buffer = record no_effect { waits = Some (ForItem chid Any buffer); buffer = Some buffer; receives_on = Some (chid, Any) }
+effect chid buffer = record no_effect
+    { waits = Some (ForItem chid Any buffer); buffer = Some buffer; receives_on = Some (chid, Any) }

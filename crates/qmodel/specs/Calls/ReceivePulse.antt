@@ -14,4 +14,5 @@ row f t chid = receive_row f t chid PulseOnly []
 
 -- it waits for a pulse, and brings no buffer
 abbrev pub effect : ChannelId → Effect
-effect chid = record no_effect { waits = Some (ForItem chid PulseOnly []); receives_on = Some (chid, PulseOnly) }
+effect chid = record no_effect
+    { waits = Some (ForItem chid PulseOnly []); receives_on = Some (chid, PulseOnly) }

@@ -15,7 +15,8 @@ reply_finish status bytes buffer = (mark.Replied status (laid_count buffer 0 byt
 -- it never blocks
 abbrev pub row : Facts → ThreadNo → ReceiveId → ℤ → List ℕ → Row
 row f t rcvid status bytes =
-    record (plain_row f.number t (refusal f t rcvid) mark.Ok) { ends = ends_sender f (reply_finish status bytes) (sender f rcvid) }
+    record (plain_row f.number t (refusal f t rcvid) mark.Ok)
+    { ends = ends_sender f (reply_finish status bytes) (sender f rcvid) }
 
 -- it answers the message
 abbrev pub effect : ReceiveId → ℤ → List ℕ → Effect

@@ -24,7 +24,8 @@ row f t coid message = record empty_row {
   refusal = refusal f t coid;
   takes_memory = wants_room f (item f t) (way f t coid);
   ends = meets f (item f t) message (receiver f (item f t) (way f t coid));
-  receipt = receipt_when_sent f (Some t) (item f t) message (way f t coid) (receiver f (item f t) (way f t coid));
+  receipt = receipt_when_sent f (Some t) (item f t) message (way f t coid)
+      (receiver f (item f t) (way f t coid));
 }
 
 -- it makes a message of its thread's priority, sends it over the connection, and waits for the answer

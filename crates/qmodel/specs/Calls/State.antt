@@ -16,7 +16,8 @@ refusal f thread = if is_some (member_at f.roster thread) then None else Some Sr
 
 -- any thread may ask for any
 abbrev pub row : Facts → ThreadNo → ThreadNo → Row
-row f t thread = plain_row f.number t (refusal f thread) (mark.State (state_in f.connection (f.open_call thread)) (f.priority thread))
+row f t thread = plain_row f.number t (refusal f thread)
+    (mark.State (state_in f.connection (f.open_call thread)) (f.priority thread))
 
 -- it changes nothing
 abbrev pub effect : Effect

@@ -1,5 +1,5 @@
--- Unblock: what stands for a signal or a timeout. A thread's open call is cut; but for a message that is held on a channel with the
--- unblock flag the server gets a pulse, once, and the thread stays blocked.
+-- Unblock: what stands for a signal or a timeout. A thread's open call is cut; but for a message that is held
+-- on a channel with the unblock flag the server gets a pulse, once, and the thread stays blocked.
 use Rattle.std.specs.Option.{option_and_then}
 use Rattle.std.specs.Prelude.{◌==◌, ◌&&◌, not, is_some, Option, None, Some, if◌then◌else◌}
 use Rattle.qbase.specs.declared.errno.Errno.{Errno}
@@ -17,17 +17,20 @@ use Rattle.qmodel.specs.Effect.{Effect, no_effect}
 
 -- the channel that the connection leads to, where that has the unblock flag
 abbrev pub guard_over : Facts → Option Connection → Option ChannelId
-guard_over f connection = option_and_then (λ c. if tells_unblock (f.channel c.channel) then Some c.channel else None) connection
+guard_over f connection = option_and_then
+    (λ c. if tells_unblock (f.channel c.channel) then Some c.channel else None) connection
 
 -- the channel that guards a wait: that of a message that is held, where it has the unblock flag
 abbrev pub guard : Facts → Wait → Option ChannelId
 guard f (Answer coid message reply_buffer (Some receipt)) = guard_over f (f.connection coid)
 guard f wait = None
 
--- the pulse for message i, of the priority that it was received with, where it is held and guarded; none where one was made
+-- the pulse for message i, of the priority that it was received with, where it is held and guarded; none
+-- where one was made
 abbrev pub due_pulse_of_wait : Facts → ReceiveId → Wait → Option Made
 due_pulse_of_wait f i (Answer coid message reply_buffer (Some receipt)) =
-    option_and_then (λ h. if receipt.unblocked then None else Some (record { item = unblock_item f.number receipt.priority i; channel = h }))
+    option_and_then (λ h. if receipt.unblocked then None
+    else Some (record { item = unblock_item f.number receipt.priority i; channel = h }))
     (guard_over f (f.connection coid))
 due_pulse_of_wait f i wait = None
 
@@ -39,14 +42,16 @@ due_pulse f thread = option_and_then (λ o. due_pulse_of_wait f o.number o.wait)
 abbrev pub refusal : Facts → ThreadNo → ThreadNo → Option Errno
 refusal f t thread = if is_fellow f t thread then refusal_if_full_for f (due_pulse f thread) else Some Srch
 
--- with no pulse due the thread's open call is cut that no channel guards; else the call of the pulse's receiver ends
+-- with no pulse due the thread's open call is cut that no channel guards; else the call of the pulse's
+-- receiver ends
 abbrev pub other_ending : Facts → ThreadNo → Option Made → ThreadNo → Option Completion
 other_ending f thread None u = cuts f (λ v wait. (v == thread) && not (is_some (guard f wait))) Intr u
 other_ending f thread (Some m) u = ends_receiver f (Some m) u
 
 -- it never blocks; memory is wanted only for a pulse that waits
 abbrev pub row : Facts → ThreadNo → ThreadNo → Row
-row f t thread = pulse_row f t (refusal f t thread) (due_pulse f thread) (other_ending f thread (due_pulse f thread))
+row f t thread = pulse_row f t (refusal f t thread) (due_pulse f thread)
+    (other_ending f thread (due_pulse f thread))
 
 -- it is to unblock the thread, and makes a pulse where one is due
 abbrev pub effect : ThreadNo → Effect

@@ -10,8 +10,10 @@ use Rattle.qmodel.specs.Effect.{Effect, no_effect}
 
 -- how many bytes found room; what was written is read off the past calls
 abbrev pub row : Facts → ThreadNo → ReceiveId → ℕ → List ℕ → Row
-row f t rcvid offset bytes = plain_row f.number t (refusal f t rcvid) (mark.Count (laid_count (reply_buffer f rcvid) offset bytes))
+row f t rcvid offset bytes =
+    plain_row f.number t (refusal f t rcvid) (mark.Count (laid_count (reply_buffer f rcvid) offset bytes))
 
 -- it writes over the message's reply buffer
 abbrev pub effect : ReceiveId → ℕ → List ℕ → Effect
-effect rcvid offset bytes = record no_effect { writes = Some (record { message = rcvid; offset = offset; bytes = bytes }) }
+effect rcvid offset bytes = record no_effect
+    { writes = Some (record { message = rcvid; offset = offset; bytes = bytes }) }

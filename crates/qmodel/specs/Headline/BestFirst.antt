@@ -20,7 +20,8 @@ abbrev pub takeable : List Member → Trace → Event → ChannelId → List Ite
 takeable roster past e h = pending_items roster past h ++ made_on h (item_of roster e past)
 
 -- the ending receives item i as the best of what its call may take
-pub record TakesBest (roster : List Member) (past : Trace) (e : Event) (x : Completion) (i : CallNo) : Type 0 where
+pub record TakesBest (roster : List Member) (past : Trace) (e : Event) (x : Completion) (i : CallNo) : Type
+    0 where
   pub call : Call
   pub channel : ChannelId
   pub kind : Kind
@@ -32,4 +33,5 @@ pub record TakesBest (roster : List Member) (past : Trace) (e : Event) (x : Comp
 abbrev pub BestFirst : List Member → Trace → Type 0
 BestFirst roster [] = Unit {0}
 BestFirst roster (e ∷ past) =
-    AllByRecursion (λ x. (i : CallNo) → item_received x ≡ Some i → TakesBest roster past e x i) e.endings × BestFirst roster past
+    AllByRecursion (λ x. (i : CallNo) → item_received x ≡ Some i → TakesBest roster past e x i) e.endings
+    × BestFirst roster past

@@ -1,5 +1,6 @@
 -- Every buffer and every count is what was to be copied.
-use Rattle.std.specs.Prelude.{◌≡◌, ℕ, ◌+◌, ◌==◌, List, [], ◌∷◌, length, drop, Option, None, Some, if◌then◌else◌, is_some}
+use Rattle.std.specs.Prelude.{◌≡◌, ℕ, ◌+◌, ◌==◌, List, [], ◌∷◌, length, drop, Option, None, Some}
+use Rattle.std.specs.Prelude.{if◌then◌else◌, is_some}
 use Rattle.std.specs.List.{AllByRecursion}
 use Rattle.std.specs.Option.{option_map_or}
 use Rattle.qbase.specs.Laying.{laid_count, lay_over}
@@ -32,24 +33,30 @@ buffer_at past i = option_map_or (buffer_by past i) (call_at past i) []
 abbrev pub message_at : Trace → ReceiveId → List ℕ
 message_at past i = option_map_or message_sent (call_at past i) []
 
--- what is counted of a call that reads: the bytes of the message from the offset on that it lays over its buffer; of one that writes:
--- those that it lays over the reply buffer from the offset on; no other call counts
+-- what is counted of a call that reads: the bytes of the message from the offset on that it lays over its
+-- buffer; of one that writes: those that it lays over the reply buffer from the offset on; no other call
+-- counts
 abbrev pub IsCountOf : Trace → Option Reading → Option Written → Completion → ℕ → Type 0
 IsCountOf past (Some r) w x copied =
     (x.buffer ≡ lay_over r.buffer 0 (drop r.offset (message_at past r.message)))
     × (copied ≡ laid_count r.buffer 0 (drop r.offset (message_at past r.message)))
-IsCountOf past None (Some w) x copied = (x.buffer ≡ []) × (copied ≡ laid_count (buffer_at past w.message) w.offset w.bytes)
+IsCountOf past None (Some w) x copied =
+    (x.buffer ≡ []) × (copied ≡ laid_count (buffer_at past w.message) w.offset w.bytes)
 IsCountOf past None None x copied = ⊥
 
--- a receipt lays the message over the front of the receiver's buffer, a reply its bytes over the front of the sender's reply buffer, each to
--- the shorter length and with that count; a Read and a Write copy what they count; any other ending gives the buffer as it is by then
+-- a receipt lays the message over the front of the receiver's buffer, a reply its bytes over the front of the
+-- sender's reply buffer, each to the shorter length and with that count; a Read and a Write copy what they
+-- count; any other ending gives the buffer as it is by then
 abbrev pub IsCopied : Trace → Event → Completion → Mark → Type 0
 IsCopied past e x (mark.Message rcvid copied) =
     (x.buffer ≡ lay_over (buffer_at (e ∷ past) x.call) 0 (message_at (e ∷ past) rcvid))
     × (copied ≡ laid_count (buffer_at (e ∷ past) x.call) 0 (message_at (e ∷ past) rcvid))
-IsCopied past e x (mark.Replied status copied) = (bytes : List ℕ) × (replies_with e.call ≡ Some (status, bytes))
-    × (x.buffer ≡ lay_over (buffer_at (e ∷ past) x.call) 0 bytes) × (copied ≡ laid_count (buffer_at (e ∷ past) x.call) 0 bytes)
-IsCopied past e x (mark.Count copied) = IsCountOf past (effect_of e.call).reads (effect_of e.call).writes x copied
+IsCopied past e x (mark.Replied status copied) =
+    (bytes : List ℕ) × (replies_with e.call ≡ Some (status, bytes))
+    × (x.buffer ≡ lay_over (buffer_at (e ∷ past) x.call) 0 bytes)
+    × (copied ≡ laid_count (buffer_at (e ∷ past) x.call) 0 bytes)
+IsCopied past e x (mark.Count copied) =
+    IsCountOf past (effect_of e.call).reads (effect_of e.call).writes x copied
 IsCopied past e x other = x.buffer ≡ buffer_at (e ∷ past) x.call
 
 -- so it is with each ending of each event

@@ -38,7 +38,9 @@ is_made roster past i = list_any (λ m. m.item.number == i) (items roster past)
 -- each event receives only what was made by then
 abbrev pub NoneEarly : List Member → Trace → Type 0
 NoneEarly roster [] = Unit {0}
-NoneEarly roster (e ∷ past) = AllByRecursion (λ i. is_made roster (e ∷ past) i ≡ true) (items_received e.endings) × NoneEarly roster past
+NoneEarly roster (e ∷ past) =
+    AllByRecursion (λ i. is_made roster (e ∷ past) i ≡ true) (items_received e.endings)
+    × NoneEarly roster past
 
 -- no item is received twice, none before it was made, and no call is ended twice
 pub record ReceivedOnce (roster : List Member) (past : Trace) : Type 0 where

@@ -14,16 +14,20 @@ use Rattle.qmodel.specs.Trace.{Trace}
 -- none of these endings receives an item of channel h
 abbrev pub NoneReceivedFrom : List Member → Trace → ChannelId → List Completion → Type 0
 NoneReceivedFrom roster past h endings =
-    AllByRecursion (λ x. (i : CallNo) → item_received x ≡ Some i → channel_among (items roster past) i ≡ Some h → ⊥) endings
+    AllByRecursion (λ x. (i : CallNo) → item_received x ≡ Some i
+    → channel_among (items roster past) i ≡ Some h → ⊥) endings
 
--- no open call is blocked on channel h; a Send is blocked on the channel that its connection was attached to, detached or not
+-- no open call is blocked on channel h; a Send is blocked on the channel that its connection was attached to,
+-- detached or not
 abbrev pub NoneBlockedOn : List Member → Trace → ChannelId → Type 0
 NoneBlockedOn roster past h =
-    (u : ThreadNo) (o : OpenCall) → open_call roster past u ≡ Some o → is_on (λ k. attached_connection roster past k) h o.wait ≡ false
+    (u : ThreadNo) (o : OpenCall) → open_call roster past u ≡ Some o
+    → is_on (λ k. attached_connection roster past k) h o.wait ≡ false
 
 -- after each event, and in it, so it is with each channel that is destroyed by then
 abbrev pub ShutForGood : List Member → Trace → Type 0
 ShutForGood roster [] = Unit {0}
 ShutForGood roster (e ∷ past) =
-    ((h : ChannelId) → is_closed (e ∷ past) h ≡ true → NoneReceivedFrom roster (e ∷ past) h e.endings × NoneBlockedOn roster (e ∷ past) h)
+    ((h : ChannelId) → is_closed (e ∷ past) h ≡ true
+    → NoneReceivedFrom roster (e ∷ past) h e.endings × NoneBlockedOn roster (e ∷ past) h)
     × ShutForGood roster past

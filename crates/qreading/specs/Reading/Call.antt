@@ -9,7 +9,8 @@ use Rattle.qreading.specs.declared.reading.call.Verb.TheVariants as verbs
 use Rattle.qreading.specs.declared.fault.LineFault.{LineFault}
 use Rattle.qreading.specs.declared.fault.LineFault.TheVariants.{UnknownWord}
 use Rattle.qreading.specs.Reading.Steps.{◌>>=◌}
-use Rattle.qreading.specs.Reading.Forms.{id_of, small_of, nothing_of, setprio_of, error_of, pulse_of, receive_of, send_of, reply_of, read_of, write_of}
+use Rattle.qreading.specs.Reading.Forms.{id_of, small_of, nothing_of, setprio_of, error_of, pulse_of}
+use Rattle.qreading.specs.Reading.Forms.{receive_of, send_of, reply_of, read_of, write_of}
 
 -- the verb that a word is, of a call on channels and connections
 unfoldable pub channel_verb : List ℕ → Option Verb
@@ -49,7 +50,8 @@ verb_of word = option_or (channel_verb word) (option_or (message_verb word) (thr
 
 -- the call of a verb and its operands
 abbrev pub call_by : Option Verb → List (List ℕ) → Result Call LineFault
-call_by (Some verbs.Create) operands = small_of operands >>= (λ flags. Ok (calls.ChannelCreate (record { 0 = flags })))
+call_by (Some verbs.Create) operands =
+    small_of operands >>= (λ flags. Ok (calls.ChannelCreate (record { 0 = flags })))
 call_by (Some verbs.Attach) operands = id_of operands >>= (λ channel. Ok (calls.ConnectAttach channel))
 call_by (Some verbs.Send) operands = send_of operands
 call_by (Some verbs.Receive) operands = receive_of operands

@@ -1,4 +1,5 @@
--- The operands of a line, from the left: ids, receive ids and offsets are numbers of 64 bits, threads and processes numbers of a byte.
+-- The operands of a line, from the left: ids, receive ids and offsets are numbers of 64 bits, threads and
+-- processes numbers of a byte.
 use Rattle.std.specs.Prelude.{ℕ, ◌^◌, List, [], ◌∷◌, Result, Ok, Err}
 use Rattle.qtables.specs.declared.member.Member.{Member}
 use Rattle.qmodel.specs.declared.call.Call.{Call}

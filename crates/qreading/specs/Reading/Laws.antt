@@ -1,5 +1,6 @@
 -- What the meaning of a script doesn't depend on.
-use Rattle.std.specs.Prelude.{◌≡◌, ◌≢◌, ℕ, ◌+◌, ◌-◌, ◌<◌, ◌≤◌, ◌==◌, ◌⊎◌, Bool, true, false, List, [], ◌∷◌, ◌++◌, length, nat_le, if◌then◌else◌, slice_index}
+use Rattle.std.specs.Prelude.{◌≡◌, ◌≢◌, ℕ, ◌+◌, ◌-◌, ◌<◌, ◌≤◌, ◌==◌, ◌⊎◌, Bool, true, false, List, [], ◌∷◌}
+use Rattle.std.specs.Prelude.{◌++◌, length, nat_le, if◌then◌else◌, slice_index}
 use Rattle.std.specs.List.{All}
 use Rattle.qreading.specs.TextLimit.{most_text}
 use Rattle.qreading.specs.Reading.Words.{words_of}
@@ -33,7 +34,8 @@ meaning_one_line_later k (Says roster calls) = Says roster calls
 abbrev pub PassesOver : Type 0
 PassesOver = (front line back : List ℕ) → IsWhole front → IsOneLine line → IsPassedOver (without_return line)
     → length (front ++ line ++ 10 ∷ back) ≤ most_text
-    → meaning (front ++ line ++ 10 ∷ back) ≡ meaning_one_line_later (length (lines_of front)) (meaning (front ++ back))
+    → meaning (front ++ line ++ 10 ∷ back)
+    ≡ meaning_one_line_later (length (lines_of front)) (meaning (front ++ back))
 
 -- one carriage return before a line end changes nothing
 abbrev pub DropsReturn : Type 0

@@ -1,5 +1,6 @@
 -- What one line says, or the first fault of it.
-use Rattle.std.specs.Prelude.{ℕ, ◌==◌, ◌&&◌, ◌||◌, not, Bool, List, [], ◌∷◌, length, Result, Ok, Err, nat_lt, nat_le, if◌then◌else◌, slice_index, codes}
+use Rattle.std.specs.Prelude.{ℕ, ◌==◌, ◌&&◌, ◌||◌, not, Bool, List, [], ◌∷◌, length, Result, Ok, Err, nat_lt}
+use Rattle.std.specs.Prelude.{nat_le, if◌then◌else◌, slice_index, codes}
 use Rattle.std.specs.Str.{bytes_eq}
 use Rattle.std.specs.List.{list_all}
 use Rattle.qreading.specs.declared.reading.line.Line.{Line}
@@ -44,4 +45,5 @@ said_of is_late line (first ∷ rest) =
 
 -- a line, after call lines or before them
 unfoldable pub line_of : Bool → List ℕ → Result Line LineFault
-line_of is_late line = if nat_lt 4096 (length line) then Err LongLine else said_of is_late line (words_of line)
+line_of is_late line = if nat_lt 4096 (length line) then Err LongLine
+    else said_of is_late line (words_of line)

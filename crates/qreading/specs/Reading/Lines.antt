@@ -17,4 +17,5 @@ without_last_end text = if slice_index text (length text - 1) == 10 then take (l
 
 -- the lines of a text, cut at each line end
 unfoldable pub lines_of : List ℕ → List (List ℕ)
-lines_of text = if is_empty text then [] else map without_return (slice_split is_newline (without_last_end text))
+lines_of text = if is_empty text then []
+    else map without_return (slice_split is_newline (without_last_end text))

@@ -1,5 +1,6 @@
 -- What a text means, read off the list of its lines.
-use Rattle.std.specs.Prelude.{◌≡◌, ℕ, zero, suc, ◌+◌, ◌==◌, Bool, false, List, [], length, take, Option, Some, None, Result, Ok, Err, nat_lt, nat_le, if◌then◌else◌, slice_index_or}
+use Rattle.std.specs.Prelude.{◌≡◌, ℕ, zero, suc, ◌+◌, ◌==◌, Bool, false, List, [], length, take, Option, Some}
+use Rattle.std.specs.Prelude.{None, Result, Ok, Err, nat_lt, nat_le, if◌then◌else◌, slice_index_or}
 use Rattle.std.specs.List.{list_any, filter_map}
 use Rattle.std.specs.Option.{option_or}
 use Rattle.qtables.specs.declared.member.Member.{Member}
@@ -55,7 +56,8 @@ line_after_roster roster (lines.Roster m) =
     if is_in m.thread roster then Err DoubleThread
     else if nat_le 64 (length roster) then Err TooManyThreads
     else Ok (lines.Roster m)
-line_after_roster roster (lines.Call thread call) = if is_in thread roster then Ok (lines.Call thread call) else Err UnknownThread
+line_after_roster roster (lines.Call thread call) =
+    if is_in thread roster then Ok (lines.Call thread call) else Err UnknownThread
 
 -- what a line says after a roster and calls
 unfoldable pub line_with : List Member → List (ℕ × Call) → List ℕ → Result Line LineFault

@@ -1,5 +1,6 @@
 -- The numbers of a script.
-use Rattle.std.specs.Prelude.{ℕ, ◌==◌, ◌&&◌, Bool, List, length, drop, Option, Some, None, Result, Ok, Err, nat_lt, nat_le, if◌then◌else◌, slice_index, ℤ, pos, negsuc, neg_ℤ}
+use Rattle.std.specs.Prelude.{ℕ, ◌==◌, ◌&&◌, Bool, List, length, drop, Option, Some, None, Result, Ok, Err}
+use Rattle.std.specs.Prelude.{nat_lt, nat_le, if◌then◌else◌, slice_index, ℤ, pos, negsuc, neg_ℤ}
 use Rattle.std.specs.Option.{option_map}
 use Rattle.std.specs.Str.{all_ascii_digits}
 use Rattle.std.specs.Str.Parse.{digits_value}
@@ -10,7 +11,8 @@ use Rattle.qreading.specs.Reading.Steps.{◌>>=◌}
 
 -- one to twenty decimal digits, leading zeros allowed
 unfoldable pub digits_of : List ℕ → Option ℕ
-digits_of word = if nat_lt 0 (length word) && nat_le (length word) 20 && all_ascii_digits word then Some (digits_value 10 word) else None
+digits_of word = if nat_lt 0 (length word) && nat_le (length word) 20 && all_ascii_digits word
+    then Some (digits_value 10 word) else None
 
 -- the value, where it is below the limit
 abbrev pub value_below : ℕ → Option ℕ → Result ℕ LineFault

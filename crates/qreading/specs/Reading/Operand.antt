@@ -1,5 +1,6 @@
 -- The bytes that a word of a script says.
-use Rattle.std.specs.Prelude.{ℕ, Bool, ◌+◌, ◌==◌, ◌&&◌, List, [], length, take, drop, replicate, position, Option, Some, None, Result, Ok, Err, nat_le, if◌then◌else◌, slice_index}
+use Rattle.std.specs.Prelude.{ℕ, Bool, ◌+◌, ◌==◌, ◌&&◌, List, [], length, take, drop, replicate, position}
+use Rattle.std.specs.Prelude.{Option, Some, None, Result, Ok, Err, nat_le, if◌then◌else◌, slice_index}
 use Rattle.hex.specs.declared.error.FromHexError.{FromHexError}
 use Rattle.hex.specs.Hex.{decode_of, decode_sized}
 use Rattle.qreading.specs.declared.fault.LineFault.{LineFault}
@@ -19,7 +20,8 @@ plain_of word = if (length word == 1) && (slice_index word 0 == 45) then Ok [] e
 abbrev pub repeat_of : Option ℕ → Result (List ℕ) FromHexError → Result (List ℕ) LineFault
 repeat_of None bytes = Err BadBytes
 repeat_of (Some n) (Err e) = Err BadBytes
-repeat_of (Some n) (Ok bytes) = if nat_le 1 n && nat_le n 4096 then Ok (replicate n (slice_index bytes 0)) else Err BadBytes
+repeat_of (Some n) (Ok bytes) =
+    if nat_le 1 n && nat_le n 4096 then Ok (replicate n (slice_index bytes 0)) else Err BadBytes
 
 -- a number from 1 to 4,096, and the two hex digits of the byte that comes so often
 unfoldable pub repeated_of : List ℕ → List ℕ → Result (List ℕ) LineFault

@@ -10,11 +10,13 @@ use Rattle.qscript.specs.Printing.Printed.{texts_from, printed}
 abbrev pub with_more : Run → List Event → Run
 with_more run more = record { first = run.first; events = run.events ++ more }
 
--- the text of a run that goes on is its own text up to the open lines, then the lines of the further events, and then the open lines after those
+-- the text of a run that goes on is its own text up to the open lines, then the lines of the further events,
+-- and then the open lines after those
 abbrev pub GoesOn : Type 0
 GoesOn = (run : Run) (more : List Event) (blocked : List Blocked)
     → printed (with_more run more) blocked
-    ≡ texts_from run run.first run.events ++ (texts_from (with_more run more) (run.first + length run.events) more ++ flat_map open_text blocked)
+    ≡ texts_from run run.first run.events
+    ++ (texts_from (with_more run more) (run.first + length run.events) more ++ flat_map open_text blocked)
 
 -- no newline stands in it
 abbrev pub IsOneLine : List ℕ → Type 0
@@ -38,4 +40,5 @@ endings_in (e ∷ events) = length e.endings + endings_in events
 
 -- the text of a run has a line for each call that ends in it and one for each blocked thread
 abbrev pub HasLines : Type 0
-HasLines = (run : Run) (blocked : List Blocked) → IsLines (printed run blocked) (endings_in run.events + length blocked)
+HasLines = (run : Run) (blocked : List Blocked)
+    → IsLines (printed run blocked) (endings_in run.events + length blocked)

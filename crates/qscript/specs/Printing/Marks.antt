@@ -10,11 +10,14 @@ use Rattle.qmodel.specs.declared.call.Mark.{Mark}
 use Rattle.qmodel.specs.declared.call.Mark.TheVariants as marks
 use Rattle.qscript.specs.Printing.State.{state_words}
 
--- what is told of a held message: the sender's process and thread, the connection, the three lengths and the priority
+-- what is told of a held message: the sender's process and thread, the connection, the three lengths and the
+-- priority
 abbrev pub info_words : Info → List (List ℕ)
-info_words i = codes "info" ∷ decimal i.process ∷ decimal i.thread ∷ decimal i.connection ∷ decimal i.msglen ∷ decimal i.srcmsglen ∷ decimal i.dstmsglen ∷ decimal i.priority ∷ []
+info_words i = codes "info" ∷ decimal i.process ∷ decimal i.thread ∷ decimal i.connection ∷ decimal i.msglen
+    ∷ decimal i.srcmsglen ∷ decimal i.dstmsglen ∷ decimal i.priority ∷ []
 
--- what a pulse brings: a code and a value, the message whose sender wants to be unblocked, or the process that detached
+-- what a pulse brings: a code and a value, the message whose sender wants to be unblocked, or the process
+-- that detached
 abbrev pub brought_words : What → List (List ℕ)
 brought_words Message = []
 brought_words (User code value) = codes "user" ∷ signed_decimal code ∷ signed_decimal value ∷ []

@@ -6,4 +6,5 @@ use Rattle.qscript.specs.Printing.Words.{words_with_spaces}
 
 -- one line: the open call, its thread and what that waits for
 abbrev pub open_text : Blocked → List ℕ
-open_text b = codes "open" ++ words_with_spaces ((decimal b.number ∷ decimal b.thread ∷ []) ++ state_words b.state) ++ 10 ∷ []
+open_text b = codes "open" ++ words_with_spaces
+    ((decimal b.number ∷ decimal b.thread ∷ []) ++ state_words b.state) ++ 10 ∷ []

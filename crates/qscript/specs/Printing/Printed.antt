@@ -1,5 +1,6 @@
 -- The text of a run.
-use Rattle.std.specs.Prelude.{ℕ, ◌+◌, ◌-◌, ◌&&◌, nat_le, Bool, true, false, List, [], ◌∷◌, ◌++◌, Option, Some, None, if◌then◌else◌, slice_get, decimal}
+use Rattle.std.specs.Prelude.{ℕ, ◌+◌, ◌-◌, ◌&&◌, nat_le, Bool, true, false, List, [], ◌∷◌, ◌++◌, Option, Some}
+use Rattle.std.specs.Prelude.{None, if◌then◌else◌, slice_get, decimal}
 use Rattle.std.specs.List.{flat_map}
 use Rattle.std.specs.Option.{option_map}
 use Rattle.qmodel.specs.declared.call.Call.{Call}
@@ -12,7 +13,8 @@ use Rattle.qscript.specs.Printing.Marks.{mark_words}
 use Rattle.qscript.specs.Printing.Buffer.{buffer_words}
 use Rattle.qscript.specs.Printing.OpenLine.{open_text}
 
--- whether a call's buffer is printed when it ends: that of each call that brings one, which are Send, Receive and Read
+-- whether a call's buffer is printed when it ends: that of each call that brings one, which are Send, Receive
+-- and Read
 abbrev pub shows_buffer : Call → Bool
 shows_buffer (Send coid message reply_buffer) = true
 shows_buffer (Receive chid buffer) = true
@@ -21,7 +23,8 @@ shows_buffer other = false
 
 -- the call of this number, which is that of the event of this number, among a run's events up to another
 abbrev pub call_by : Run → ℕ → ℕ → Option Call
-call_by run event number = if nat_le run.first number && nat_le number event then option_map (λ e. e.call) (slice_get run.events (number - run.first)) else None
+call_by run event number = if nat_le run.first number && nat_le number event
+    then option_map (λ e. e.call) (slice_get run.events (number - run.first)) else None
 
 -- whether an ended call's buffer is printed; that of a call made before the run isn't
 abbrev pub is_shown : Option Call → Bool
@@ -35,7 +38,8 @@ ended_words e shows = if shows then buffer_words e.buffer else []
 -- one line: the event, the ended call, its thread, its mark, and its buffer if it is printed
 abbrev pub ended_text : ℕ → Completion → Bool → List ℕ
 ended_text event e shows =
-    decimal event ++ words_with_spaces (decimal e.call ∷ decimal e.thread ∷ []) ++ words_with_spaces (mark_words e.mark) ++ words_with_spaces (ended_words e shows) ++ 10 ∷ []
+    decimal event ++ words_with_spaces (decimal e.call ∷ decimal e.thread ∷ [])
+    ++ words_with_spaces (mark_words e.mark) ++ words_with_spaces (ended_words e shows) ++ 10 ∷ []
 
 -- the line of an ending in a run
 abbrev pub ending_text : Run → ℕ → Completion → List ℕ

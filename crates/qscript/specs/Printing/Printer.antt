@@ -1,5 +1,6 @@
 -- The text of a run, made as the run goes.
-use Rattle.std.specs.Prelude.{◌≡◌, ℕ, ◌+◌, ◌-◌, ◌&&◌, nat_le, Bool, false, List, map, slice_index_or, string_bytes}
+use Rattle.std.specs.Prelude.{◌≡◌, ℕ, ◌+◌, ◌-◌, ◌&&◌, nat_le, Bool, false, List, map, slice_index_or}
+use Rattle.std.specs.Prelude.{string_bytes}
 use Rattle.qrules.specs.Lawful.{event_call}
 use Rattle.qmodel.specs.Trace.{Event, Run}
 use Rattle.qmodel.specs.declared.call.Call.{Call}
@@ -22,7 +23,8 @@ pub record HasPrinted (run : Run) (p : Printer) : Type 0 where
   pub shown : p.shown.items ≡ map shows_own run.events
   pub text : string_bytes p.text ≡ texts_from run run.first run.events
 
--- these calls were made by a kernel that was in the one state and is in the other, and the lines of their events are printed
+-- these calls were made by a kernel that was in the one state and is in the other, and the lines of their
+-- events are printed
 pub record HasRun (old : State) (calls : List (ℕ × Call)) (new : State) (p : Printer) : Type 0 where
   pub events : List Event
   pub ran : RunsAtTraces old events new

@@ -1,7 +1,8 @@
 -- The state of a thread.
 use Rattle.std.specs.Prelude.{ℕ, List, [], ◌∷◌, codes, decimal}
 use Rattle.qbase.specs.declared.state.ThreadState.{ThreadState}
-use Rattle.qbase.specs.declared.state.ThreadState.TheVariants.{Ready, SendBlocked, ReceiveBlocked, ReplyBlocked}
+use Rattle.qbase.specs.declared.state.ThreadState.TheVariants.{Ready, SendBlocked, ReceiveBlocked}
+use Rattle.qbase.specs.declared.state.ThreadState.TheVariants.{ReplyBlocked}
 
 -- the state's word and its channel
 abbrev pub state_words : ThreadState → List (List ℕ)

@@ -37,7 +37,8 @@ IsTyped (calls.Read rcvid offset buffer) = IsNumber rcvid × IsNumber offset × 
 IsTyped (calls.Write rcvid offset bytes) = IsNumber rcvid × IsNumber offset × IsBytes bytes
 IsTyped (calls.Info rcvid) = IsNumber rcvid
 IsTyped (calls.ReceivePulse chid) = IsNumber chid
-IsTyped (calls.Pulse coid priority code value) = IsNumber coid × IsLevel priority × (is_within (2 ^ 7) code ≡ true) × (is_within (2 ^ 31) value ≡ true)
+IsTyped (calls.Pulse coid priority code value) =
+    IsNumber coid × IsLevel priority × (is_within (2 ^ 7) code ≡ true) × (is_within (2 ^ 31) value ≡ true)
 IsTyped (calls.PrioritySet thread priority) = IsSmall thread × IsLevel priority
 IsTyped (calls.State thread) = IsSmall thread
 IsTyped (calls.ChannelDestroy chid) = IsNumber chid
@@ -49,17 +50,21 @@ IsTyped (calls.ConnectDetach coid) = IsNumber coid
 abbrev pub IsTypedMember : Member → Type 0
 IsTypedMember m = IsSmall m.thread × IsSmall m.process × IsLevel m.priority
 
--- an event's call can stand in a script of these threads: one of them made it, it is typed, and its line isn't too long
+-- an event's call can stand in a script of these threads: one of them made it, it is typed, and its line
+-- isn't too long
 abbrev pub IsWritable : List Member → Event → Type 0
-IsWritable roster e = (is_in e.thread roster ≡ true) × IsSmall e.thread × IsTyped e.call × (length (call_line e.thread e.call) ≤ 4096)
+IsWritable roster e = (is_in e.thread roster ≡ true) × IsSmall e.thread × IsTyped e.call
+    × (length (call_line e.thread e.call) ≤ 4096)
 
 -- after some threads these may stand in a script: none comes twice, and there are at most 64
 abbrev pub MayStand : List Member → List Member → Type 0
 MayStand before [] = Unit {0}
-MayStand before (m ∷ members) = (is_in m.thread before ≡ false) × (length before < 64) × MayStand (before ++ m ∷ []) members
+MayStand before (m ∷ members) =
+    (is_in m.thread before ≡ false) × (length before < 64) × MayStand (before ++ m ∷ []) members
 
 -- a script that was written means just the threads and the calls that it was written for
 abbrev pub ScriptsAreRead : Type 0
-ScriptsAreRead = (roster : List Member) (events : List Event) → MayStand [] roster → AllByRecursion IsTypedMember roster → AllByRecursion (IsWritable roster) events
+ScriptsAreRead = (roster : List Member) (events : List Event) → MayStand [] roster
+    → AllByRecursion IsTypedMember roster → AllByRecursion (IsWritable roster) events
     → length (script_text roster events) ≤ most_text
     → meaning (script_text roster events) ≡ Says roster (map event_call events)
