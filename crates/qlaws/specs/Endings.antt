@@ -1,0 +1,136 @@
+-- Laws of the endings of one event: whose they are, what they may receive, and who waits afterwards.
+use Rattle.std.specs.Prelude.{◌&&◌, ◌+◌, ◌<◌, ◌==◌, ◌||◌, ◌∷◌, ◌≡◌, ◌↔◌, if◌then◌else◌}
+use Rattle.qrules.specs.Words.{[], false, is_some, length, list_any, member_at, option_map, option_map_or}
+use Rattle.qrules.specs.Words.{option_or, true, unwrap_or, AllByRecursion, Bool, Call, Completion, Down, List}
+use Rattle.qrules.specs.Words.{Member, None, Option, Some}
+use Rattle.qrules.specs.Words.mark
+use Rattle.qrules.specs.Trace.{Bytes, CallNo, ChannelId, ConnectionId, Event, ThreadNo, Trace}
+use Rattle.qrules.specs.Facts.{is_blocked, receive_of, send_of, Facts}
+use Rattle.qrules.specs.Rule.{buffer_of, own_ending, ReceiveRequest}
+use Rattle.qrules.specs.Rules.{effect_of}
+use Rattle.qrules.specs.Past.{attached_connection, is_accepted, is_destroyed, item_among, was_done}
+use Rattle.qrules.specs.Lawful.{facts_of}
+use Rattle.qrules.specs.Properties.{connection_of, items, number_received, request_of}
+use Rattle.qlaws.specs.Lawful.{InEachNewest}
+use Rattle.qlaws.specs.OpenCalls.{waiting_number}
+
+-- P holds of each ending of each event
+abbrev pub OfEachEnding : (List Member → Trace → Event → Completion → Type 0) → Type 0
+OfEachEnding P = InEachNewest (λ roster past e. AllByRecursion (P roster past e) e.endings)
+
+-- ---- whose they are
+
+-- the thread that made the call of number i
+abbrev pub thread_at : Trace → CallNo → Option ThreadNo
+thread_at [] i = None
+thread_at (e ∷ past) i = if i == length past + 1 then Some e.thread else thread_at past i
+
+-- each ending goes to the thread that made the call that it ends
+abbrev pub EndingsNameOwnCalls : Type 0
+EndingsNameOwnCalls = OfEachEnding (λ roster past e x. thread_at (e ∷ past) x.call ≡ Some x.thread)
+
+-- these endings rise in the number of their threads, so each goes to a thread of its own
+abbrev pub RiseByThread : List Completion → Type 0
+RiseByThread [] = Unit {0}
+RiseByThread (x ∷ endings) = AllByRecursion (λ y. x.thread < y.thread) endings × RiseByThread endings
+
+-- so it is in each event
+abbrev pub EndingsRiseByThread : Type 0
+EndingsRiseByThread = InEachNewest (λ roster past e. RiseByThread e.endings)
+
+-- one of these endings goes to thread t
+abbrev pub gets : List Completion → ThreadNo → Bool
+gets endings t = list_any (λ x. x.thread == t) endings
+
+-- each of these endings goes to a thread of its own
+abbrev pub AreApart : List Completion → Type 0
+AreApart [] = Unit {0}
+AreApart (x ∷ endings) = (gets endings x.thread ≡ false) × AreApart endings
+
+-- so it is in each event
+abbrev pub EndingsAreApart : Type 0
+EndingsAreApart = InEachNewest (λ roster past e. AreApart e.endings)
+
+-- a call of thread u may end in an event of thread t: it is the event's own, or u waits in it
+abbrev pub may_end : Facts → ThreadNo → ThreadNo → Bool
+may_end f t u = (u == t) || is_blocked f u
+
+-- each ending goes to a thread of the roster, and one whose call may end
+abbrev pub EndingsGoToBlocked : Type 0
+EndingsGoToBlocked = OfEachEnding (λ roster past e x.
+    (is_some (member_at roster x.thread) ≡ true) × (may_end (facts_of roster past) e.thread x.thread ≡ true))
+
+-- ---- who waits afterwards
+
+-- after an event of a thread that didn't wait those threads wait whose calls might have ended and did not
+abbrev pub BlockedUnlessEnded : Type 0
+BlockedUnlessEnded = InEachNewest (λ roster past e. is_blocked (facts_of roster past) e.thread ≡ false
+    → (u : ThreadNo) → is_blocked (facts_of roster (e ∷ past)) u
+    ≡ (if gets e.endings u then false else may_end (facts_of roster past) e.thread u))
+
+-- one of the endings is of the event's own call
+abbrev pub ends_itself : Trace → Event → Bool
+ends_itself past e = list_any (λ x. x.call == length past + 1) e.endings
+
+-- a call either ends in its own event, or its thread waits in it afterwards
+abbrev pub EndsOrWaits : Type 0
+EndsOrWaits = InEachNewest (λ roster past e. (ends_itself past e ≡ false)
+    ↔ (waiting_number (facts_of roster (e ∷ past)) e.thread ≡ Some (length past + 1)))
+
+-- the caller gets an ending just where its call ends in its own event
+abbrev pub CallerGetsItsOwn : Type 0
+CallerGetsItsOwn = InEachNewest (λ roster past e. gets e.endings e.thread ≡ ends_itself past e)
+
+-- ---- their buffers
+
+-- the buffer of the call that thread u waits in
+abbrev pub waiting_buffer : Facts → ThreadNo → Bytes
+waiting_buffer f u = unwrap_or
+    (option_or (option_map (λ s. s.reply_buffer) (send_of f u)) (option_map (λ r. r.buffer) (receive_of f u)))
+    []
+
+-- each ending's buffer is as long as the one that its thread brought, with this call or with one it waits in
+abbrev pub EndingsKeepLength : Type 0
+EndingsKeepLength = OfEachEnding (λ roster past e x. length x.buffer
+    ≡ length (if x.thread == e.thread then buffer_of (effect_of e.call)
+    else waiting_buffer (facts_of roster past) x.thread))
+
+-- ---- what they receive
+
+-- connection k, attached, leads to channel h
+abbrev pub LeadsTo : List Member → Trace → ConnectionId → ChannelId → Type 0
+LeadsTo roster past k h = option_map (λ c. c.channel) (attached_connection roster past k) ≡ Some h
+
+-- item i, which the ending receives, was made by then on the channel on which the ended call receives; and
+-- the connection over which it was sent, if it was sent over one, leads there
+pub record WasSent (roster : List Member) (past : Trace) (x : Completion) (i : CallNo) : Type 0 where
+  pub request : ReceiveRequest
+  pub call : request_of past x.call ≡ Some request
+  pub made :
+      list_any (λ m. (m.item.number == i) && (m.channel == request.channel)) (items roster past) ≡ true
+  pub sent : (k : ConnectionId) → connection_of past i ≡ Some k → LeadsTo roster past k request.channel
+
+-- what is received was sent so
+abbrev pub ReceivedWasSent : Type 0
+ReceivedWasSent = OfEachEnding (λ roster past e x. (i : CallNo) → number_received x ≡ Some i
+    → WasSent roster (e ∷ past) x i)
+
+-- nothing is received from a channel once it is destroyed
+abbrev pub NothingFromDestroyed : Type 0
+NothingFromDestroyed = OfEachEnding (λ roster past e x. (h : ChannelId) (i : CallNo)
+    → is_destroyed (e ∷ past) h ≡ true → number_received x ≡ Some i
+    → option_map (λ m. m.channel) (item_among (items roster (e ∷ past)) i) ≡ Some h → ⊥)
+
+-- ---- refusals
+
+-- a refused call changes nothing but how many calls were made
+abbrev pub RefusedChangesNothing : Type 0
+RefusedChangesNothing = InEachNewest (λ roster past e. is_accepted e past ≡ false
+    → facts_of roster (e ∷ past)
+    ≡ record (facts_of roster past) { number = (facts_of roster past).number + 1 })
+
+-- after an accepted Shutdown each call is refused with Down, gets its buffer back, and ends no other
+abbrev pub OnlyRefusedWhenDown : Type 0
+OnlyRefusedWhenDown = InEachNewest (λ roster past e. was_done (λ f. f.shuts_down) past ≡ true
+    → e.endings ≡ own_ending (facts_of roster past) e.thread (mark.Failed Down) (buffer_of (effect_of e.call))
+    ∷ [])

@@ -1,0 +1,4 @@
+pub mod Lawful
+pub mod OpenCalls
+pub mod Pending
+pub mod Endings

@@ -1,0 +1,102 @@
+-- Laws of the calls that threads wait in.
+use Rattle.std.specs.Prelude.{◌&&◌, ◌==◌, ◌||◌, ◌≡◌, ◌↔◌, ◌≤◌}
+use Rattle.qrules.specs.Words.{false, is_some, length, may_take, not, option_map, option_map_or, option_or}
+use Rattle.qrules.specs.Words.{true}
+use Rattle.qrules.specs.Words.{AllByRecursion, Bool, Call, Connection, None, Option, Some}
+use Rattle.qrules.specs.Trace.{call_at, Bytes, CallNo, ReceiveId, ThreadNo, Trace}
+use Rattle.qrules.specs.Facts.{open_send, receive_of, send_of, Facts, OpenReceive, OpenSend}
+use Rattle.qrules.specs.Rule.{buffer_of, SentItem}
+use Rattle.qrules.specs.Rules.{effect_of}
+use Rattle.qrules.specs.Delivery.{newest_receiver}
+use Rattle.qrules.specs.Past.{accepted_call, is_ended, is_received, AcceptedCall}
+use Rattle.qrules.specs.Lawful.{facts_of}
+use Rattle.qlaws.specs.Lawful.{AfterEach}
+
+-- ---- at most one for each thread
+
+-- call i is one of thread t that was accepted, may wait and isn't ended
+pub record IsUnended (past : Trace) (t : ThreadNo) (i : CallNo) : Type 0 where
+  pub call : AcceptedCall
+  pub is : accepted_call past i ≡ Some call
+  pub thread : call.thread ≡ t
+  pub waits : (is_some call.effect.sends || is_some call.effect.receives) ≡ true
+  pub going : is_ended past i ≡ false
+
+-- a thread has at most one such call
+abbrev pub AtMostOneOpen : Type 0
+AtMostOneOpen = AfterEach (λ roster past. (t : ThreadNo) (i j : CallNo)
+    → IsUnended past t i → IsUnended past t j → i ≡ j)
+
+-- the number of the call that thread t waits in
+abbrev pub waiting_number : Facts → ThreadNo → Option CallNo
+waiting_number f t =
+    option_or (option_map (λ s. s.number) (send_of f t)) (option_map (λ r. r.number) (receive_of f t))
+
+-- a thread waits in just that call
+abbrev pub OpenIsUnended : Type 0
+OpenIsUnended = AfterEach (λ roster past. (t : ThreadNo) (i : CallNo)
+    → (waiting_number (facts_of roster past) t ≡ Some i) ↔ IsUnended past t i)
+
+-- ---- Sends
+
+-- the connection of the Send is live, and its channel open
+pub record IsRouted (f : Facts) (s : OpenSend) : Type 0 where
+  pub connection : Connection
+  pub is_live : f.connection s.connection ≡ Some connection
+  pub is_open : is_some (f.channel connection.channel) ≡ true
+
+-- so it is with each open Send
+abbrev pub OpenSendsAreRouted : Type 0
+OpenSendsAreRouted =
+    AfterEach (λ roster past. AllByRecursion (IsRouted (facts_of roster past)) (facts_of roster past).sends)
+
+-- message i is received, and its Send isn't ended
+abbrev pub is_held : Trace → ReceiveId → Bool
+is_held past i = is_received past i && not (is_ended past i)
+
+-- a message is held exactly where its Send is open and has a receipt
+abbrev pub HeldIsOpenSend : Type 0
+HeldIsOpenSend = AfterEach (λ roster past. (i : ReceiveId)
+    → is_held past i ≡ option_map_or (λ s. is_some s.receipt) (open_send (facts_of roster past) i) false)
+
+-- ---- receives
+
+-- the receive is on the item's channel, and may take it
+abbrev pub may_receive : SentItem → OpenReceive → Bool
+may_receive m r = (r.channel == m.channel) && may_take r.kind m.item
+
+-- the receive is open and may take the item, and none that may began later
+pub record IsNewest (f : Facts) (m : SentItem) (r : OpenReceive) : Type 0 where
+  pub is_open : receive_of f r.thread ≡ Some r
+  pub may : may_receive m r ≡ true
+  pub last : AllByRecursion (λ s. may_receive m s ≡ true → s.number ≤ r.number) f.receives
+
+-- the newest receiver of an item is such a receive
+abbrev pub NewestIsLast : Type 0
+NewestIsLast = AfterEach (λ roster past. (m : SentItem) (r : OpenReceive)
+    → newest_receiver (facts_of roster past) m ≡ Some r → IsNewest (facts_of roster past) m r)
+
+-- there is none exactly where no open receive may take the item
+abbrev pub NoneIsNewest : Type 0
+NoneIsNewest = AfterEach (λ roster past. (m : SentItem)
+    → (newest_receiver (facts_of roster past) m ≡ None)
+    ↔ AllByRecursion (λ r. may_receive m r ≡ false) (facts_of roster past).receives)
+
+-- nothing is pending on the channel of an open receive that this may take
+abbrev pub NothingPendingForWaiting : Type 0
+NothingPendingForWaiting = AfterEach (λ roster past. AllByRecursion
+    (λ r. AllByRecursion (λ item. may_take r.kind item ≡ false) ((facts_of roster past).pending r.channel))
+    (facts_of roster past).receives)
+
+-- ---- buffers
+
+-- this buffer of call i is as long as the one that the call brought
+pub record IsAsLong (past : Trace) (i : CallNo) (buffer : Bytes) : Type 0 where
+  pub call : Call
+  pub is : call_at past i ≡ Some call
+  pub same : length buffer ≡ length (buffer_of (effect_of call))
+
+-- the reply buffer of each open Send keeps its length
+abbrev pub ReplyBuffersKeepLength : Type 0
+ReplyBuffersKeepLength = AfterEach (λ roster past.
+    AllByRecursion (λ s. IsAsLong past s.number s.reply_buffer) (facts_of roster past).sends)

@@ -1,0 +1,103 @@
+-- Laws of the items that wait to be received.
+use Rattle.std.specs.Prelude.{◌&&◌, ◌++◌, ◌+◌, ◌==◌, ◌∷◌, ◌≡◌, ◌≤◌, if◌then◌else◌}
+use Rattle.qrules.specs.Words.{count_by, false, filter, is_pulse, is_some, map, may_take, not, true}
+use Rattle.qrules.specs.Words.{with_priority, AllByRecursion, Bool, Completion, Item, List, Member, None}
+use Rattle.qrules.specs.Words.{Some}
+use Rattle.qrules.specs.Words.calls
+use Rattle.qrules.specs.Trace.{CallNo, ChannelId, Event, Priority, ReceiveId, ThreadNo, Trace}
+use Rattle.qrules.specs.Facts.{send_of, Facts, OpenSend}
+use Rattle.qrules.specs.Rule.{ReceiveRequest}
+use Rattle.qrules.specs.Past.{is_accepted, is_gone, is_number, item_among, items_by_now, priority_of_item}
+use Rattle.qrules.specs.Past.{sender_of}
+use Rattle.qrules.specs.Lawful.{facts_of}
+use Rattle.qrules.specs.Properties.{items, number_received, request_of}
+use Rattle.qqueue.specs.Contents.{IsRising}
+use Rattle.qqueue.specs.Order.{comes_before}
+use Rattle.qlaws.specs.Lawful.{AfterEach, InEachNewest}
+use Rattle.qlaws.specs.OpenCalls.{is_held}
+
+-- P holds of each item that is pending on a channel
+abbrev pub OfEachPending : (List Member → Trace → Item → Type 0) → Type 0
+OfEachPending P = AfterEach (λ roster past. (h : ChannelId)
+    → AllByRecursion (P roster past) ((facts_of roster past).pending h))
+
+-- ---- what is pending
+
+-- the items of a channel are pending in rising number
+abbrev pub PendingRises : Type 0
+PendingRises = AfterEach (λ roster past. (h : ChannelId) → IsRising ((facts_of roster past).pending h))
+
+-- no more than 1,024 of them are pulses
+abbrev pub PulsesAreLimited : Type 0
+PulsesAreLimited = AfterEach (λ roster past. (h : ChannelId)
+    → count_by (λ x. is_pulse x.what) ((facts_of roster past).pending h) ≤ 1024)
+
+-- nothing is both pending and held
+abbrev pub NonePendingIsHeld : Type 0
+NonePendingIsHeld = OfEachPending (λ roster past item. is_held past item.number ≡ false)
+
+-- the sender of message i waits in its Send, which has no receipt
+pub record IsUnreceived (roster : List Member) (past : Trace) (i : ReceiveId) : Type 0 where
+  pub send : OpenSend
+  pub number : send.number ≡ i
+  pub sent : sender_of past i ≡ Some send.thread
+  pub is_open : send_of (facts_of roster past) send.thread ≡ Some send
+  pub unread : send.receipt ≡ None
+
+-- so it is with each message that is pending
+abbrev pub PendingIsOpen : Type 0
+PendingIsOpen =
+    OfEachPending (λ roster past item. is_pulse item.what ≡ false → IsUnreceived roster past item.number)
+
+-- a pending message has the priority that its sender has by now
+abbrev pub PendingFollowsItsSender : Type 0
+PendingFollowsItsSender = OfEachPending (λ roster past item. is_pulse item.what ≡ false
+    → (t : ThreadNo) → sender_of past item.number ≡ Some t
+    → item.priority ≡ (facts_of roster past).priority t)
+
+-- ---- the order of receipt
+
+-- item i is received by a call that receives on channel h, and may take item x
+pub record TakesBeside (past : Trace) (z : Completion) (i : CallNo) (h : ChannelId) (x : Item) : Type 0 where
+  pub request : ReceiveRequest
+  pub call : request_of past z.call ≡ Some request
+  pub channel : request.channel ≡ h
+  pub may : may_take request.kind x ≡ true
+  pub item : number_received z ≡ Some i
+
+-- item x has the priority that its number has by now
+abbrev pub HasPriority : List Member → Trace → Item → Type 0
+HasPriority roster past x =
+    priority_of_item (item_among (items_by_now past (items roster past)) x.number) ≡ x.priority
+
+-- of two items that were pending on a channel, of which x comes before y, and that have their priorities
+-- still, y isn't received by a call that may take x before x is gone
+abbrev pub FirstGoesFirst : Type 0
+FirstGoesFirst = (past : Trace) → InEachNewest (λ roster after e. (later : List Event) → after ≡ later ++ past
+    → (h : ChannelId) → AllByRecursion (λ x. AllByRecursion (λ y. comes_before x y ≡ true
+    → HasPriority roster after x → HasPriority roster after y
+    → AllByRecursion (λ z. TakesBeside (e ∷ after) z y.number h x → is_gone after x ≡ true) e.endings)
+    ((facts_of roster past).pending h)) ((facts_of roster past).pending h))
+
+-- ---- setting a priority
+
+-- the item is a message of thread t
+abbrev pub is_message_of : Trace → ThreadNo → Item → Bool
+is_message_of past t item = not (is_pulse item.what) && is_number (sender_of past item.number) t
+
+-- P holds of each accepted PrioritySet and each channel, by what is pending there before and after it
+abbrev pub OfEachSetting : (Trace → ThreadNo → Priority → List Item → List Item → Type 0) → Type 0
+OfEachSetting P = InEachNewest (λ roster past e. is_accepted e past ≡ true
+    → (t : ThreadNo) (priority : Priority) → e.call ≡ calls.PrioritySet t priority → (h : ChannelId)
+    → P past t priority ((facts_of roster past).pending h) ((facts_of roster (e ∷ past)).pending h))
+
+-- it gives the pending message of its thread that priority, and changes nothing else that is pending
+abbrev pub SettingMovesItsOwn : Type 0
+SettingMovesItsOwn = OfEachSetting (λ past t priority before after. after
+    ≡ map (λ item. if is_message_of past t item then with_priority priority item else item) before)
+
+-- so the others are what they were, in their order
+abbrev pub OthersKeepTheirOrder : Type 0
+OthersKeepTheirOrder = OfEachSetting (λ past t priority before after.
+    filter (λ item. not (is_message_of past t item)) after
+    ≡ filter (λ item. not (is_message_of past t item)) before)

@@ -1,0 +1,60 @@
+//! Laws of the endings of one event.
+
+ghost use Rattle.qlaws.specs.Endings.{BlockedUnlessEnded, CallerGetsItsOwn, EndingsAreApart, EndingsGoToBlocked};
+ghost use Rattle.qlaws.specs.Endings.{EndingsKeepLength, EndingsNameOwnCalls, EndingsRiseByThread, EndsOrWaits};
+ghost use Rattle.qlaws.specs.Endings.{NothingFromDestroyed, OnlyRefusedWhenDown, ReceivedWasSent};
+ghost use Rattle.qlaws.specs.Endings.{RefusedChangesNothing};
+
+/// Each ending goes to the thread that made the call that it ends.
+pub fn endings_name_own_calls()
+    ensures { EndingsNameOwnCalls }
+{}
+
+/// The endings of one event rise by thread.
+pub fn endings_rise_by_thread()
+    ensures { EndingsRiseByThread }
+{}
+
+/// The endings of one event go to threads of the roster, each to one of its own: to the caller, or to one that waited.
+pub fn endings_go_to_blocked()
+    ensures apart { EndingsAreApart }
+    ensures blocked { EndingsGoToBlocked }
+{}
+
+/// After an event those threads wait that waited before it or made its call, and got no ending in it.
+pub fn blocked_unless_ended()
+    ensures { BlockedUnlessEnded }
+{}
+
+/// A call either ends in its own event, or its thread waits in it afterwards. The caller gets an ending just where its
+/// call ends.
+pub fn ends_or_waits()
+    ensures waits { EndsOrWaits }
+    ensures gets { CallerGetsItsOwn }
+{}
+
+/// The buffer of each ending is as long as the one that its thread brought.
+pub fn endings_keep_length()
+    ensures { EndingsKeepLength }
+{}
+
+/// What is received was made before or in the same event, for the channel on which it is received. What was sent over a
+/// connection was sent to the channel that this leads to.
+pub fn received_was_sent()
+    ensures { ReceivedWasSent }
+{}
+
+/// Nothing is received from a channel once it is destroyed, in the event that destroys it or later.
+pub fn nothing_from_destroyed()
+    ensures { NothingFromDestroyed }
+{}
+
+/// A refused call changes nothing but how many calls were made.
+pub fn refused_changes_nothing()
+    ensures { RefusedChangesNothing }
+{}
+
+/// After an accepted Shutdown every call is refused with `Down`, gets its buffer back, and ends no other.
+pub fn only_refused_when_down()
+    ensures { OnlyRefusedWhenDown }
+{}

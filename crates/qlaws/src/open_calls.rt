@@ -1,0 +1,38 @@
+//! Laws of the calls that threads wait in.
+
+ghost use Rattle.qlaws.specs.OpenCalls.{AtMostOneOpen, HeldIsOpenSend, NewestIsLast, NoneIsNewest};
+ghost use Rattle.qlaws.specs.OpenCalls.{NothingPendingForWaiting, OpenIsUnended, OpenSendsAreRouted};
+ghost use Rattle.qlaws.specs.OpenCalls.{ReplyBuffersKeepLength};
+
+/// Of a thread's accepted calls that may wait at most one isn't ended, and the thread waits in just that one.
+pub fn one_open_call()
+    ensures one { AtMostOneOpen }
+    ensures same { OpenIsUnended }
+{}
+
+/// The connection of each open Send is live, and its channel open.
+pub fn open_sends_are_routed()
+    ensures { OpenSendsAreRouted }
+{}
+
+/// A message is held, that is received and not answered, exactly where its Send is open and has a receipt.
+pub fn held_is_open_send()
+    ensures { HeldIsOpenSend }
+{}
+
+/// The newest receiver of an item is the open receive that began last of all on its channel that may take it. There is
+/// none exactly where no open receive may.
+pub fn newest_is_last()
+    ensures last { NewestIsLast }
+    ensures none { NoneIsNewest }
+{}
+
+/// Nothing is pending on a channel while a receive is open there that may take it.
+pub fn nothing_pending_for_waiting()
+    ensures { NothingPendingForWaiting }
+{}
+
+/// The reply buffer of an open Send is as long as the one that it brought.
+pub fn reply_buffers_keep_length()
+    ensures { ReplyBuffersKeepLength }
+{}
