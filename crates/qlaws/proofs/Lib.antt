@@ -1,2 +1,4 @@
 pub mod Waits
+pub mod OpenCallLaws
 pub mod EndingLaws
+pub mod PendingLaws

@@ -1,0 +1,223 @@
+-- The laws of the calls that threads wait in.
+use Rattle.std.proofs.Common.{◌≡◌, ◌∙◌, ◌↔◌, ◌<◌, ◌≤◌, ℕ, List, [], ◌∷◌, length, refl, ap, sym, subst, cond, arith, Bool, true, false, inl, inr}
+use Rattle.std.specs.Prelude.{Option, None, Some, is_some, not, nat_lt, ◌||◌, ◌&&◌, filter, fold, option_map, option_and_then}
+use Rattle.std.specs.List.{AllByRecursion, reduce}
+use Rattle.std.specs.Option.{option_map_or}
+use Rattle.std.proofs.lemmas.Bool.{false_from_ne_true, ltb-true, ltb-false, true≢false}
+use Rattle.std.proofs.lemmas.Option.{none-some, same_Some}
+use Rattle.qbase.proofs.Lists.{all_more}
+use Rattle.qtables.specs.declared.member.Member.{Member}
+use Rattle.qmodel.specs.Effects.{asks}
+use Rattle.qmodel.specs.Facts.{Facts as OldFacts}
+use Rattle.qmodel.specs.Headline.AnsweredToSender.{is_held as was_held}
+use Rattle.qmodel.specs.Laws as old_laws
+use Rattle.qmodel.specs.Lawful as old
+use Rattle.qmodel.specs.Past.{is_taken, made_at, open_call}
+use Rattle.qmodel.specs.Trace.{Event, Trace}
+use Rattle.qmodel.specs.declared.call.Call.{Call}
+use Rattle.qmodel.specs.declared.call.Call.TheVariants as calls
+use Rattle.qmodel.specs.declared.open_call.OpenCall.{OpenCall}
+use Rattle.qmodel.specs.declared.open_call.Wait.TheVariants.{Answer}
+use Rattle.qqueue.specs.Best.{may_take}
+use Rattle.qmodel.specs.declared.open_call.Receipt.{Receipt as OldReceipt}
+use Rattle.qmodel.proofs.TraceLaws.Held as held
+use Rattle.qmodel.proofs.TraceLaws.Lengths as lengths
+use Rattle.qmodel.proofs.TraceLaws.Unended as unended
+use Rattle.qmodel.proofs.TraceLaws.Waiting as waiting
+use Rattle.qrules.specs.Delivery.{newer}
+use Rattle.qrules.specs.Facts.{open_send, receive_of, Facts, OpenReceive, OpenSend}
+use Rattle.qrules.specs.Lawful.{facts_of, IsLawful}
+use Rattle.qrules.specs.Past.{accepted_call, is_ended, AcceptedCall}
+use Rattle.qrules.specs.Rule.{SentItem}
+use Rattle.qrules.specs.Rules.{effect_of}
+use Rattle.qrules.specs.Same.{facts_view, receipt_view, receive_view, send_view}
+use Rattle.qrules.proofs.Messages.{send_cases, NoSend, OneSend}
+use Rattle.qrules.proofs.Outcomes.{same_buffer}
+use Rattle.qrules.proofs.Past.Done.{same_channel, same_connection_at, same_made}
+use Rattle.qrules.proofs.Past.Receipts.{same_ended, same_received}
+use Rattle.qrules.proofs.Properties.Calls.{same_call_at}
+use Rattle.qlaws.specs.OpenCalls as laws
+use Rattle.qlaws.proofs.Waits.{all_receives, all_sends, before, facts_at, number_at, receive_at, receive_parts, send_parts}
+
+-- ---- at most one for each thread
+
+waits_same : (c : Call) → (is_some (effect_of c).sends || is_some (effect_of c).receives) ≡ is_some (asks 0 c)
+waits_same calls.Shutdown = refl
+waits_same _ = refl
+
+-- the thread of a call that may wait
+abbrev waiter : AcceptedCall → Option ℕ
+waiter c = cond (is_some c.effect.sends || is_some c.effect.receives) (Some c.thread) None
+
+waiter_at : (past : Trace) (i : ℕ) → option_and_then waiter (accepted_call past i) ≡ made_at old_laws.blocker past i
+waiter_at past i = same_made waiter old_laws.blocker past i (λ e n. ap (λ b. cond b (Some e.thread) None) (waits_same e.call))
+
+unended_before : (past : Trace) (t i : ℕ) → laws.IsUnended past t i → old_laws.IsUnended past t i
+unended_before past t i h = record {
+  blocks = sym (waiter_at past i) ∙ ap (option_and_then waiter) h.is ∙ ap (λ b. cond b (Some h.call.thread) None) h.waits ∙ ap Some h.thread;
+  going = sym (same_ended past i) ∙ h.going;
+}
+
+unended_by_rules : (past : Trace) (t i : ℕ) → old_laws.IsUnended past t i → laws.IsUnended past t i
+unended_by_rules past t i h =
+    elim (accepted_call past i) as (λ o. accepted_call past i ≡ o → option_and_then waiter o ≡ Some t → laws.IsUnended past t i) [
+      | None ↦ λ is e. absurd (none-some t e)
+      | Some c ↦ λ is e.
+          elim (is_some c.effect.sends || is_some c.effect.receives) as (λ b. (is_some c.effect.sends || is_some c.effect.receives) ≡ b → cond b (Some c.thread) None ≡ Some t → laws.IsUnended past t i) [
+            | true ↦ λ waits e. record { call = c; is = is; thread = same_Some c.thread t e; waits = waits; going = same_ended past i ∙ h.going }
+            | false ↦ λ waits e. absurd (none-some t e)
+          ] refl e
+    ] refl (waiter_at past i ∙ h.blocks)
+
+pub at_most_one_open : laws.AtMostOneOpen
+at_most_one_open roster past r l t i j first second =
+    unended.at_most_one_open roster past r (before roster past l) t i j (unended_before past t i first) (unended_before past t j second)
+
+pub open_is_unended : laws.OpenIsUnended
+open_is_unended roster past r l t i =
+    let both = unended.open_is_unended roster past r (before roster past l) t i in
+    (λ is. unended_by_rules past t i (both.0 (sym (number_at roster past l t) ∙ is)), λ going. number_at roster past l t ∙ both.1 (unended_before past t i going))
+
+-- ---- Sends
+
+pub open_sends_are_routed : laws.OpenSendsAreRouted
+open_sends_are_routed roster past r l = all_sends roster past l (laws.IsRouted (facts_of roster past)) (λ u s e.
+    let k = send_parts roster past l u s e in
+    let w = waiting.open_sends_are_live roster past r (before roster past l) u s.number s.connection s.message s.reply_buffer k.receipt k.is in
+    record {
+      connection = w.connection;
+      is_live = same_connection_at roster past s.connection ∙ w.is_live;
+      is_open = ap is_some (same_channel roster past w.connection.channel) ∙ w.is_open;
+    })
+
+pub same_held : (past : Trace) (i : ℕ) → laws.is_held past i ≡ was_held past i
+same_held past i = ap (λ b. b && not (is_ended past i)) (same_received past i) ∙ ap (λ b. is_taken past i && not b) (same_ended past i)
+
+-- whether the Send of a held message has a receipt
+abbrev has_receipt : Facts → ℕ → Bool
+has_receipt f i = option_map_or (λ s. is_some s.receipt) (open_send f i) false
+
+module _ (roster : List Member) (past : Trace) (i : ℕ) (law : (was_held past i ≡ true) ↔ old_laws.IsHeldSend roster past i) where
+  abbrev facts : OldFacts
+  facts = old.facts_of roster past
+
+  no_send : NoSend facts i → was_held past i ≡ false
+  no_send k = false_from_ne_true _ (λ held. none-some _ (sym k.none ∙ (law.0 held).is_sender))
+
+  one_send : (receipt : Option OldReceipt) (k : OneSend facts i) → k.receipt ≡ receipt → was_held past i ≡ is_some receipt
+  one_send None k e = false_from_ne_true _ (λ held.
+      let h = law.0 held in
+      let thread : k.thread ≡ h.thread = same_Some _ _ (sym k.sent ∙ h.is_sender) in
+      let waiting : record { number = k.number; wait = Answer k.connection k.message k.reply_buffer None } ≡ h.waiting =
+      same_Some _ _ (ap (λ r. Some (record { number = k.number; wait = Answer k.connection k.message k.reply_buffer r })) (sym e) ∙ sym k.is ∙ ap (open_call roster past) thread ∙ h.is_open) in
+      true≢false (sym h.received ∙ ap (λ (o : OpenCall). old_laws.is_for_reply o.wait) (sym waiting)))
+  one_send (Some receipt) k e = law.1 (record {
+    thread = k.thread;
+    waiting = record { number = k.number; wait = Answer k.connection k.message k.reply_buffer (Some receipt) };
+    is_sender = k.sent;
+    is_open = k.is ∙ ap (λ r. Some (record { number = k.number; wait = Answer k.connection k.message k.reply_buffer r })) e;
+    received = refl;
+  })
+
+some_view : (receipt : Option OldReceipt) → is_some receipt ≡ is_some (option_map receipt_view receipt)
+some_view None = refl
+some_view (Some receipt) = refl
+
+pub held_is_open_send : laws.HeldIsOpenSend
+held_is_open_send roster past r l i =
+    let law = held.held_is_held_send roster past r (before roster past l) i in
+    let f : OldFacts = old.facts_of roster past in
+    same_held past i
+    ∙ elim (send_cases f i) as (λ k. was_held past i ≡ has_receipt (facts_view f) i) [
+      | inl k ↦ no_send roster past i law k ∙ ap (λ o. option_map_or (λ (s : OpenSend). is_some s.receipt) o false) (sym k.new)
+      | inr k ↦ one_send roster past i law k.receipt k refl ∙ some_view k.receipt ∙ ap (λ o. option_map_or (λ (s : OpenSend). is_some s.receipt) o false) (sym k.new)
+    ]
+    ∙ ap (λ f. has_receipt f i) (sym (facts_at roster past l))
+
+-- ---- receives
+
+newest_all : (P : OpenReceive → Type 0) (a : OpenReceive) (rs : List OpenReceive) → P a → AllByRecursion P rs → P (fold newer a rs)
+newest_all P a [] here rest = here
+newest_all P a (x ∷ rs) here rest =
+    elim (nat_lt a.number x.number) as (λ b. P (fold newer (cond b x a) rs)) [
+      | true ↦ newest_all P x rs rest.0 rest.1
+      | false ↦ newest_all P a rs here rest.1
+    ]
+
+newest_last : (a : OpenReceive) (rs : List OpenReceive) → (a.number ≤ (fold newer a rs).number) × AllByRecursion (λ r. r.number ≤ (fold newer a rs).number) rs
+newest_last a [] = (omega arith, tt)
+newest_last a (x ∷ rs) =
+    elim (nat_lt a.number x.number) as (λ b. nat_lt a.number x.number ≡ b → (a.number ≤ (fold newer (cond b x a) rs).number) × AllByRecursion (λ r. r.number ≤ (fold newer (cond b x a) rs).number) (x ∷ rs)) [
+      | true ↦ λ e.
+          let less : a.number < x.number = ltb-true _ _ e in
+          let k = newest_last x rs in
+          let most : x.number ≤ (fold newer x rs).number = k.0 in
+          (omega arith, (most, k.1))
+      | false ↦ λ e.
+          let more : x.number ≤ a.number = ltb-false _ _ e in
+          let k = newest_last a rs in
+          let most : a.number ≤ (fold newer a rs).number = k.0 in
+          (most, (omega arith, k.1))
+    ] refl
+
+-- what is so of the items that pass
+of_passing : {X : Type 0} (P : X → Type 0) (p : X → Bool) (xs : List X) → AllByRecursion P (filter p xs) → AllByRecursion (λ x. p x ≡ true → P x) xs
+of_passing P p [] h = tt
+of_passing P p (x ∷ xs) h =
+    elim (p x) as (λ b. p x ≡ b → AllByRecursion P (cond b (x ∷ filter p xs) (filter p xs)) → AllByRecursion (λ x. p x ≡ true → P x) (x ∷ xs)) [
+      | true ↦ λ e h. (λ passes. h.0, of_passing P p xs h.1)
+      | false ↦ λ e h. (λ passes. absurd (true≢false (sym passes ∙ e)), of_passing P p xs h)
+    ] refl h
+
+-- each item that passes does so
+all_pass : {X : Type 0} (P : X → Type 0) (p : X → Bool) (xs : List X) → AllByRecursion P xs → AllByRecursion (λ x. P x × (p x ≡ true)) (filter p xs)
+all_pass P p [] h = tt
+all_pass P p (x ∷ xs) h =
+    elim (p x) as (λ b. p x ≡ b → AllByRecursion (λ x. P x × (p x ≡ true)) (cond b (x ∷ filter p xs) (filter p xs))) [
+      | true ↦ λ e. ((h.0, e), all_pass P p xs h.1)
+      | false ↦ λ e. all_pass P p xs h.1
+    ] refl
+
+newest_of : (P : OpenReceive → Type 0) (rs : List OpenReceive) (r : OpenReceive) → AllByRecursion P rs → reduce newer rs ≡ Some r → P r × AllByRecursion (λ s. s.number ≤ r.number) rs
+newest_of P [] r all e = absurd (none-some r e)
+newest_of P (a ∷ rs) r all e =
+    let k = newest_last a rs in
+    subst (λ r. P r × AllByRecursion (λ s. s.number ≤ r.number) (a ∷ rs)) (same_Some _ r e) (newest_all P a rs all.0 all.1, (k.0, k.1))
+
+pub newest_is_last : laws.NewestIsLast
+newest_is_last roster past r l m x e =
+    let f : Facts = facts_of roster past in
+    let may : OpenReceive → Bool = laws.may_receive m in
+    let each : AllByRecursion (λ s. receive_of f s.thread ≡ Some s) f.receives = all_receives roster past l (λ s. receive_of f s.thread ≡ Some s) (λ u s is.
+    ap (receive_of f) (receive_parts roster past l u s is).thread ∙ receive_at roster past l u ∙ is) in
+    let k = newest_of (λ s. (receive_of f s.thread ≡ Some s) × (may s ≡ true)) (filter may f.receives) x (all_pass (λ s. receive_of f s.thread ≡ Some s) may f.receives each) e in
+    record { is_open = k.0.0; may = k.0.1; last = of_passing (λ s. s.number ≤ x.number) may f.receives k.1 }
+
+nobody : (p : OpenReceive → Bool) (rs : List OpenReceive) → reduce newer (filter p rs) ≡ None → AllByRecursion (λ r. p r ≡ false) rs
+nobody p [] e = tt
+nobody p (r ∷ rs) e =
+    elim (p r) as (λ b. p r ≡ b → reduce newer (cond b (r ∷ filter p rs) (filter p rs)) ≡ None → AllByRecursion (λ r. p r ≡ false) (r ∷ rs)) [
+      | true ↦ λ is e. absurd (none-some _ (sym e))
+      | false ↦ λ is e. (is, nobody p rs e)
+    ] refl e
+
+none_passes : (p : OpenReceive → Bool) (rs : List OpenReceive) → AllByRecursion (λ r. p r ≡ false) rs → reduce newer (filter p rs) ≡ None
+none_passes p [] h = refl
+none_passes p (r ∷ rs) h = rw (h.0) (none_passes p rs h.1)
+
+pub none_is_newest : laws.NoneIsNewest
+none_is_newest roster past r l m =
+    let rs : List OpenReceive = (facts_of roster past).receives in
+    (nobody (laws.may_receive m) rs, none_passes (laws.may_receive m) rs)
+
+pub nothing_pending_for_waiting : laws.NothingPendingForWaiting
+nothing_pending_for_waiting roster past r l = all_receives roster past l _ (λ u s e.
+    subst (λ f. AllByRecursion (λ item. may_take s.kind item ≡ false) (f.pending s.channel)) (sym (facts_at roster past l))
+    (waiting.nothing_pending_for_waiting roster past r (before roster past l) u s.number s.channel s.kind s.buffer (receive_parts roster past l u s e).is))
+
+-- ---- buffers
+
+pub reply_buffers_keep_length : laws.ReplyBuffersKeepLength
+reply_buffers_keep_length roster past r l = all_sends roster past l (λ s. laws.IsAsLong past s.number s.reply_buffer) (λ u s e.
+    let k = lengths.open_calls_keep_length roster past r (before roster past l) u _ (send_parts roster past l u s e).is in
+    record { call = k.call; is = same_call_at past s.number ∙ k.is; same = k.same ∙ ap length (sym (same_buffer k.call)) })

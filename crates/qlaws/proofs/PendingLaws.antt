@@ -1,0 +1,164 @@
+-- The laws of the items that wait to be received.
+use mathlib.Core.Path.{fun_ext}
+use Rattle.std.proofs.Common.{◌≡◌, ◌∙◌, ℕ, List, [], ◌∷◌, ◌++◌, map, refl, ap, sym, subst, cond, Bool, true, false}
+use Rattle.std.specs.Prelude.{Option, None, Some, not, ◌||◌, ◌&&◌, ◌≤◌, count_by, filter, option_map}
+use Rattle.std.specs.List.{AllByRecursion}
+use Rattle.std.proofs.lemmas.Bool.{true≢false}
+use Rattle.std.proofs.lemmas.Option.{same_Some}
+use Rattle.qbase.proofs.Lists.{all_more}
+use Rattle.qqueue.specs.Best.{is_pulse, may_take, with_priority}
+use Rattle.qqueue.specs.Contents.{IsRising}
+use Rattle.qqueue.specs.Order.{comes_before}
+use Rattle.qqueue.specs.declared.item.Item.{Item}
+use Rattle.qqueue.specs.declared.item.Kind.{Kind}
+use Rattle.qtables.specs.Members.{IsRoster}
+use Rattle.qtables.specs.declared.member.Member.{Member}
+use Rattle.qmodel.specs.Facts.{is_for_receipt}
+use Rattle.qmodel.specs.Headline.CopiedExactly.{call_at as old_call_at}
+use Rattle.qmodel.specs.Laws as old_laws
+use Rattle.qmodel.specs.Past as old
+use Rattle.qmodel.specs.Rows.{Made}
+use Rattle.qmodel.specs.Trace.{Event, Trace}
+use Rattle.qmodel.specs.declared.call.Completion.{Completion}
+use Rattle.qmodel.specs.declared.open_call.OpenCall.{OpenCall}
+use Rattle.qmodel.specs.declared.open_call.Receipt.{Receipt as OldReceipt}
+use Rattle.qmodel.specs.declared.open_call.Wait.{Wait}
+use Rattle.qmodel.specs.declared.open_call.Wait.TheVariants.{Answer, Item as ForItem}
+use Rattle.qmodel.proofs.TraceLaws.Limits as limits
+use Rattle.qmodel.proofs.TraceLaws.Order as order
+use Rattle.qmodel.proofs.TraceLaws.Pending as pending
+use Rattle.qmodel.proofs.TraceLaws.Setting as setting
+use Rattle.qmodel.proofs.TraceLaws.Worth as worth
+use Rattle.qrules.specs.Facts.{OpenSend}
+use Rattle.qrules.specs.Lawful.{facts_of, IsLawful}
+use Rattle.qrules.specs.Past.{is_ended, is_gone, is_number, is_received, item_among, items_by_now, priority_of_item, sender_of}
+use Rattle.qrules.specs.Properties.{items}
+use Rattle.qrules.specs.Rule.{ReceiveRequest}
+use Rattle.qrules.specs.Same.{receipt_view, send_view, AreOfRoster}
+use Rattle.qrules.proofs.Lawful.{of_roster}
+use Rattle.qrules.proofs.Past.Effects.{same_request}
+use Rattle.qrules.proofs.Past.Facts.{same_facts}
+use Rattle.qrules.proofs.Past.Items.{same_among, same_by_now}
+use Rattle.qrules.proofs.Past.Done.{same_sender_of}
+use Rattle.qrules.proofs.Past.Receipts.{same_ended, same_received}
+use Rattle.qrules.proofs.Properties.BestFirst.{asks_of}
+use Rattle.qrules.proofs.Properties.Items.{same_items, same_number}
+use Rattle.qlaws.specs.OpenCalls.{is_held}
+use Rattle.qlaws.specs.Pending as laws
+use Rattle.qlaws.proofs.OpenCallLaws.{same_held}
+use Rattle.qlaws.proofs.Waits.{before, facts_at, send_at}
+
+-- ---- what is pending
+
+-- what is so of the items that are pending on a channel by the kernel's own records
+of_pending : (roster : List Member) (past : Trace) → IsLawful roster past → (h : ℕ) (P : List Item → Type 0) → P (old.pending_items roster past h) → P ((facts_of roster past).pending h)
+of_pending roster past l h P = subst (λ f. P (f.pending h)) (sym (facts_at roster past l))
+
+pub pending_rises : laws.PendingRises
+pending_rises roster past r l h = of_pending roster past l h IsRising (pending.rises roster past r (before roster past l) h)
+
+pub pulses_are_limited : laws.PulsesAreLimited
+pulses_are_limited roster past r l h =
+    subst (λ f. count_by (λ x. is_pulse x.what) (f.pending h) ≤ 1024) (sym (facts_at roster past l)) (limits.pulses_are_limited roster past r (before roster past l) h)
+
+pub none_pending_is_held : laws.NonePendingIsHeld
+none_pending_is_held roster past r l h =
+    of_pending roster past l h (AllByRecursion (λ item. is_held past item.number ≡ false))
+    (all_more _ _ (old.pending_items roster past h) (pending.none_pending_is_held roster past r (before roster past l) h) (λ item k. same_held past item.number ∙ k.unread))
+
+module _ (roster : List Member) (past : Trace) (l : IsLawful roster past) (i : ℕ) where
+  unreceived : (t : ℕ) (o : OpenCall) (w : Wait) → old.sender_of past i ≡ Some t → old.open_call roster past t ≡ Some o → o.number ≡ i → o.wait ≡ w → is_for_receipt w ≡ true → laws.IsUnreceived roster past i
+  unreceived t o (Answer coid message reply_buffer None) sent is number waits unread = record {
+    send = record { number = o.number; thread = t; connection = coid; message = message; reply_buffer = reply_buffer; receipt = None };
+    number = number;
+    sent = same_sender_of past i ∙ sent;
+    is_open = send_at roster past l t ∙ ap (send_view t) (is ∙ ap (λ w. Some (record { number = o.number; wait = w })) waits);
+    unread = refl;
+  }
+  unreceived t o (Answer coid message reply_buffer (Some receipt)) sent is number waits unread = absurd (true≢false (sym unread))
+  unreceived t o (ForItem chid kind buffer) sent is number waits unread = absurd (true≢false (sym unread))
+
+pub pending_is_open : laws.PendingIsOpen
+pending_is_open roster past r l h =
+    of_pending roster past l h (AllByRecursion (λ item. is_pulse item.what ≡ false → laws.IsUnreceived roster past item.number))
+    (all_more _ _ (old.pending_items roster past h) (pending.pending_is_open roster past r (before roster past l) h) (λ item k message.
+    let s = k message in
+    unreceived roster past l item.number s.sender s.waiting s.waiting.wait s.sent s.is_open s.number refl s.unread))
+
+pub pending_follows_its_sender : laws.PendingFollowsItsSender
+pending_follows_its_sender roster past r l h =
+    subst (λ f. AllByRecursion (λ item. is_pulse item.what ≡ false → (t : ℕ) → sender_of past item.number ≡ Some t → item.priority ≡ f.priority t) (f.pending h)) (sym (facts_at roster past l))
+    (all_more _ _ (old.pending_items roster past h) (worth.pending_follows_its_sender roster past r (before roster past l) h) (λ item k message t sent.
+    k message t (sym (same_sender_of past item.number) ∙ sent)))
+
+-- ---- the order of receipt
+
+earlier_of_roster : (roster : List Member) (past later : Trace) → AreOfRoster roster (later ++ past) → AreOfRoster roster past
+earlier_of_roster roster past [] l = l
+earlier_of_roster roster past (e ∷ later) l = earlier_of_roster roster past later l.0
+
+same_now : (roster : List Member) (past : Trace) (x : Item) → AreOfRoster roster past → priority_of_item (item_among (items_by_now past (items roster past)) x.number) ≡ old.priority_of_item roster past x.number
+same_now roster past x l =
+    ap (λ made. priority_of_item (item_among (items_by_now past made) x.number)) (same_items roster past l)
+    ∙ ap (λ made. priority_of_item (item_among made x.number)) (same_by_now past (old.items roster past))
+    ∙ ap priority_of_item (same_among (old.items_by_now past (old.items roster past)) x.number)
+
+same_gone : (past : Trace) (x : Item) → is_gone past x ≡ old.is_gone past x
+same_gone past x = ap (λ b. b || (not (is_pulse x.what) && is_ended past x.number)) (same_received past x.number) ∙ ap (λ b. old.is_taken past x.number || (not (is_pulse x.what) && b)) (same_ended past x.number)
+
+abbrev place_of : ReceiveRequest → ℕ × Kind
+place_of r = (r.channel, r.kind)
+
+takes_before : (past : Trace) (z : Completion) (i h : ℕ) (x : Item) → laws.TakesBeside past z i h x → old_laws.TakesBeside past z i h x
+takes_before past z i h x k =
+    let asks = asks_of past z.call k.request k.call in
+    record {
+      call = asks.call;
+      kind = k.request.kind;
+      is_call = asks.is;
+      receives = sym (same_request asks.call) ∙ ap (option_map place_of) asks.receives ∙ ap (λ h. Some (h, k.request.kind)) k.channel;
+      may = k.may;
+      item = sym (same_number z) ∙ k.item;
+    }
+
+first_by_rules : (past : Trace) (roster : List Member) (later : Trace) (e : Event) → IsRoster roster → IsLawful roster (e ∷ later ++ past) → (h : ℕ)
+    → AllByRecursion (λ x. AllByRecursion (λ y. comes_before x y ≡ true → laws.HasPriority roster (later ++ past) x → laws.HasPriority roster (later ++ past) y
+    → AllByRecursion (λ z. laws.TakesBeside (e ∷ later ++ past) z y.number h x → is_gone (later ++ past) x ≡ true) e.endings)
+    ((facts_of roster past).pending h)) ((facts_of roster past).pending h)
+first_by_rules past roster later e r l h =
+    let of : AreOfRoster roster (later ++ past) = of_roster roster (later ++ past) l.0 in
+    let after : Trace = later ++ past in
+    subst (λ f. AllByRecursion (λ x. AllByRecursion (λ y. comes_before x y ≡ true → laws.HasPriority roster after x → laws.HasPriority roster after y
+    → AllByRecursion (λ z. laws.TakesBeside (e ∷ after) z y.number h x → is_gone after x ≡ true) e.endings)
+    (f.pending h)) (f.pending h)) (sym (same_facts roster past (earlier_of_roster roster past later of)))
+    (all_more _ _ (old.pending_items roster past h) (order.first_goes_first roster past later e r (before roster (e ∷ later ++ past) l) h) (λ x all.
+    all_more _ _ (old.pending_items roster past h) all (λ y k first of_x of_y.
+    all_more _ _ e.endings (k first (sym (same_now roster after x of) ∙ of_x) (sym (same_now roster after y of) ∙ of_y)) (λ z gone takes.
+    same_gone after x ∙ gone (takes_before (e ∷ after) z y.number h x takes)))))
+
+pub first_goes_first : laws.FirstGoesFirst
+first_goes_first past roster after e r l later is h =
+    subst (λ t. AllByRecursion (λ x. AllByRecursion (λ y. comes_before x y ≡ true → laws.HasPriority roster t x → laws.HasPriority roster t y
+    → AllByRecursion (λ z. laws.TakesBeside (e ∷ t) z y.number h x → is_gone t x ≡ true) e.endings)
+    ((facts_of roster past).pending h)) ((facts_of roster past).pending h)) (sym is)
+    (first_by_rules past roster later e r (subst (λ t. IsLawful roster (e ∷ t)) is l) h)
+
+-- ---- setting a priority
+
+same_message_of : (past : Trace) (t : ℕ) → laws.is_message_of past t ≡ old_laws.is_message_of past t
+same_message_of past t = fun_ext (λ item. ap (λ sender. not (is_pulse item.what) && is_number sender t) (same_sender_of past item.number))
+
+pub setting_moves_its_own : laws.SettingMovesItsOwn
+setting_moves_its_own roster past e r l accepted t priority is h =
+    ap (λ f. f.pending h) (facts_at roster (e ∷ past) l)
+    ∙ setting.setting_moves_its_own roster past e r (before roster (e ∷ past) l) accepted t priority is h
+    ∙ ap (λ (of : Item → Bool). map (λ item. cond (of item) (with_priority priority item) item) (old.pending_items roster past h)) (sym (same_message_of past t))
+    ∙ ap (λ f. map (λ item. cond (laws.is_message_of past t item) (with_priority priority item) item) (f.pending h)) (sym (facts_at roster past l.0))
+
+pub others_keep_their_order : laws.OthersKeepTheirOrder
+others_keep_their_order roster past e r l accepted t priority is h =
+    ap (λ f. filter (λ item. not (laws.is_message_of past t item)) (f.pending h)) (facts_at roster (e ∷ past) l)
+    ∙ ap (λ (of : Item → Bool). filter (λ item. not (of item)) (old.pending_items roster (e ∷ past) h)) (same_message_of past t)
+    ∙ setting.others_keep_their_order roster past e r (before roster (e ∷ past) l) accepted t priority is h
+    ∙ ap (λ (of : Item → Bool). filter (λ item. not (of item)) (old.pending_items roster past h)) (sym (same_message_of past t))
+    ∙ ap (λ f. filter (λ item. not (laws.is_message_of past t item)) (f.pending h)) (sym (facts_at roster past l.0))

@@ -1,0 +1,5 @@
+use Rattle.qlaws.proofs.PendingLaws.{pulses_are_limited}
+use Rattle.qlaws.proofs.pending.pulses_are_limited.Goals as goal
+
+pub returns : goal.returns
+returns c = pulses_are_limited
