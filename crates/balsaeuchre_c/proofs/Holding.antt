@@ -13,21 +13,22 @@ use Rattle.qqueue.specs.declared.item.Kind.{Kind}
 use Rattle.qqueue.specs.declared.item.Kind.TheVariants.{Any, PulseOnly}
 use Rattle.qtables.specs.Members.{IsRoster, member_at}
 use Rattle.qtables.specs.declared.member.Member.{Member}
-use Rattle.qmodel.specs.Answer.{Answers, Outcome, ending}
-use Rattle.qmodel.specs.Calls.{row_of}
-use Rattle.qmodel.specs.Calls.ConnectDetach as connect_detach
-use Rattle.qmodel.specs.Calls.Error.{error_finish}
-use Rattle.qmodel.specs.Calls.Info.{info_of, info_of_open, info_of_wait}
-use Rattle.qmodel.specs.Calls.Pulse as pulse
-use Rattle.qmodel.specs.Calls.Reply.{reply_finish}
-use Rattle.qmodel.specs.Calls.Send.{item}
-use Rattle.qmodel.specs.Calls.Unblock as unblock
-use Rattle.qmodel.specs.Cutting.{is_on}
-use Rattle.qmodel.specs.Effects.{makes}
-use Rattle.qmodel.specs.Facts.{Facts, is_for_answer, message, sender, threads_of, way}
-use Rattle.qmodel.specs.Lawful.{IsLawful, facts_of, with_event}
-use Rattle.qmodel.specs.Past.{call_by_now, copied_count_among, copied_count_of, has_ending_of, is_ended, open_call, priority_of_item, wait_with_receipt, with_receipt}
-use Rattle.qmodel.specs.Rows.{Made, item_in_mark, receipt_ending}
+use Rattle.qmodel.specs.Private.Answer.{Answers, Outcome, ending}
+use Rattle.qmodel.specs.Private.Calls.{row_of}
+use Rattle.qmodel.specs.Private.Calls.ConnectDetach as connect_detach
+use Rattle.qmodel.specs.Private.Calls.Error.{error_finish}
+use Rattle.qmodel.specs.Private.Calls.Info.{info_of, info_of_open, info_of_wait}
+use Rattle.qmodel.specs.Private.Calls.Pulse as pulse
+use Rattle.qmodel.specs.Private.Calls.Reply.{reply_finish}
+use Rattle.qmodel.specs.Private.Calls.Send.{item}
+use Rattle.qmodel.specs.Private.Calls.Unblock as unblock
+use Rattle.qmodel.specs.Private.Cutting.{is_on}
+use Rattle.qmodel.specs.Private.Effects.{makes}
+use Rattle.qmodel.specs.Private.Facts.{Facts, is_for_answer, message, sender, threads_of, way}
+use Rattle.qmodel.specs.Private.Lawful.{IsLawful, facts_of, with_event}
+use Rattle.qmodel.specs.Private.Past.{call_by_now, copied_count_among, copied_count_of, has_ending_of, is_ended, open_call, priority_of_item, wait_with_receipt, with_receipt}
+use Rattle.qmodel.specs.Private.Rows.{item_in_mark, receipt_ending}
+use Rattle.qmodel.specs.Trace.{SentItem}
 use Rattle.qmodel.specs.Trace.{Trace}
 use Rattle.qmodel.specs.declared.call.Call.{Call}
 use Rattle.qmodel.specs.declared.call.Call.TheVariants.{Send, Receive, Reply, Error, Info, ReceivePulse, Pulse, ChannelDestroy, Shutdown, Unblock, ConnectDetach}
@@ -106,7 +107,7 @@ own_message f t c y i copied e m = absurd (no_message y i copied m (ap (λ x. it
 
 -- it takes what the call makes
 record TakesMade (f : Facts) (t : ℕ) (c : Call) (i : ℕ) : Type 0 where
-  pub made : Made
+  pub made : SentItem
   pub is_made : makes f t c ≡ Some made
   pub takes : TakesMessage made.item i
 
@@ -115,7 +116,7 @@ met_message : (f : Facts) (t : ℕ) (c : Call) (o : Option ℕ) (x : Item) (sent
 met_message f t c o x sent u y i copied s made m =
     record { made = record { item = x; channel = s.channel }; is_made = made s.channel s.leads; takes = message_taken x sent u s.waiting.number s.buffer y i copied s.ending m }
 
-told_message : (f : Facts) (t : ℕ) (c : Call) (o : Option Made) (u : ℕ) (y : Completion) (i copied : ℕ) → makes f t c ≡ o → Tells f o u y → y.mark ≡ mark.Message i copied → TakesMade f t c i
+told_message : (f : Facts) (t : ℕ) (c : Call) (o : Option SentItem) (u : ℕ) (y : Completion) (i copied : ℕ) → makes f t c ≡ o → Tells f o u y → y.mark ≡ mark.Message i copied → TakesMade f t c i
 told_message f t c o u y i copied made k m =
     met_message f t c (Some k.made.channel) k.made.item [] u y i copied k.meets (λ h s. made ∙ k.is_due ∙ ap (λ n. Some (record { item = k.made.item; channel = n })) (same_Some k.made.channel h s)) m
 

@@ -6,8 +6,8 @@ use Rattle.std.proofs.lemmas.Bool.{ne_eqb, true≢false}
 use Rattle.qbase.proofs.Lists.{eqb_same, is_among}
 use Rattle.qtables.specs.Members.{IsRoster}
 use Rattle.qtables.specs.declared.member.Member.{Member}
-use Rattle.qmodel.specs.Facts.{threads_of, Facts as OldFacts}
-use Rattle.qmodel.specs.Lawful as old_lawful
+use Rattle.qmodel.specs.Private.Facts.{threads_of, Facts as OldFacts}
+use Rattle.qmodel.specs.Private.Lawful as old_lawful
 use Rattle.qmodel.specs.declared.open_call.OpenCall.{OpenCall}
 use Rattle.qmodel.specs.declared.open_call.Receipt.{Receipt as OldReceipt}
 use Rattle.qmodel.specs.declared.open_call.Wait.{Wait}
@@ -18,7 +18,8 @@ use Rattle.qkernel.specs.Kernel.{facts_in as content_of, State}
 use Rattle.qkernel.specs.Private.Steps.{facts_in}
 use Rattle.qkernel.specs.Stands.{StandsAt}
 use Rattle.qrules.specs.Facts.{receive_of, send_of, OpenReceive, OpenSend, Receipt}
-use Rattle.qrules.specs.Same.{facts_view, receive_in, receive_view, send_in, send_view, AreOfRoster}
+use Rattle.qrules.specs.View.{receive_in, receive_view, send_in, send_view}
+use Rattle.qrules.proofs.Same.{facts_view, AreOfRoster}
 use Rattle.qrules.specs.Trace.{Trace}
 use Rattle.qrules.proofs.Past.Facts.{facts_known, same_facts}
 use Rattle.qrules.proofs.View.{receive_found, send_found, IsKnown}
@@ -56,8 +57,8 @@ content_same s r =
       open_channels = length s.channels;
       connection = (content_of s).connection;
       live_connections = length s.connections;
-      sends = sends i;
-      receives = receives i;
+      open_sends = sends i;
+      open_receives = receives i;
       pending = (content_of s).pending;
       priority = (content_of s).priority;
     }

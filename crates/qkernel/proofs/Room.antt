@@ -9,14 +9,15 @@ use Rattle.qmodel.specs.declared.call.Call.{Call}
 use Rattle.qmodel.specs.declared.call.Completion.{Completion}
 use Rattle.qmodel.specs.declared.open_call.OpenCall.{OpenCall}
 use Rattle.qstate.specs.declared.thread.Thread.{Thread}
-use Rattle.qmodel.specs.Answer.{ending, Outcome}
-use Rattle.qmodel.specs.Calls.{row_of}
-use Rattle.qmodel.specs.Facts.{Facts, sender, threads_of}
-use Rattle.qmodel.specs.Effects.{makes, unblocks, writes}
-use Rattle.qmodel.specs.Rows.{Received, Written, Made}
+use Rattle.qmodel.specs.Private.Answer.{ending, Outcome}
+use Rattle.qmodel.specs.Private.Calls.{row_of}
+use Rattle.qmodel.specs.Private.Facts.{Facts, sender, threads_of}
+use Rattle.qmodel.specs.Private.Effects.{makes, unblocks, writes}
+use Rattle.qmodel.specs.Private.Rows.{Received, Written}
+use Rattle.qmodel.specs.Trace.{SentItem}
 use Rattle.qkernel.specs.Kernel.{State}
 use Rattle.qkernel.specs.Private.Steps.{Step, Steps, facts_in}
-use Rattle.qmodel.specs.Step.{Follows, unless, after_receipt, after_write, is_thread, held_call, written_call, after_unblock, unblocked_call}
+use Rattle.qmodel.specs.Private.Step.{Follows, unless, after_receipt, after_write, is_thread, held_call, written_call, after_unblock, unblocked_call}
 use Rattle.qstate.specs.Thread.{members_of, open_in, blocked_count}
 use Rattle.qmodel.proofs.Past.Ends.{row_passes}
 use Rattle.qmodel.proofs.Past.Laws.{RowLaws}
@@ -86,7 +87,7 @@ one-write : (f : Facts) (w : Option Written) (u : ℕ) (o : Option OpenCall) →
 one-write f None u o = refl
 one-write f (Some w) u o = elim (is_thread (sender f w.message) u) as (λ b. one (cond b (option_map (written_call w.offset w.bytes) o) o) ≡ one o) [ true ↦ one-map (written_call w.offset w.bytes) o | false ↦ refl ]
 
-one-unblock : (m : Option Made) (w : Option ℕ) (u : ℕ) (o : Option OpenCall) → one (after_unblock m w u o) ≡ one o
+one-unblock : (m : Option SentItem) (w : Option ℕ) (u : ℕ) (o : Option OpenCall) → one (after_unblock m w u o) ≡ one o
 one-unblock m None u o = refl
 one-unblock m (Some v) u o = elim (eqb u v && is_some m) as (λ b. one (cond b (option_map unblocked_call o) o) ≡ one o) [ true ↦ one-map unblocked_call o | false ↦ refl ]
 

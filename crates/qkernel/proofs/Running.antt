@@ -8,7 +8,7 @@ use Rattle.qmodel.specs.declared.call.Completion.{Completion}
 use Rattle.qstate.specs.declared.thread.Thread.{Thread}
 use Rattle.qkernel.specs.EventLog.{Logged, with_next}
 use Rattle.qkernel.specs.Run.{RunsAtTraces, AllKnown, Headline}
-use Rattle.qmodel.specs.Lawful as old_lawful
+use Rattle.qmodel.specs.Private.Lawful as old_lawful
 use Rattle.qrules.specs.Lawful.{event_call}
 use Rattle.qrules.specs.Trace.{followed_by}
 use Rattle.qkernel.specs.Stands.{AnswersAtTraces}

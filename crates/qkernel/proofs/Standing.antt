@@ -10,22 +10,22 @@ use Rattle.qtables.specs.declared.member.Member.{Member}
 use Rattle.qmodel.specs.declared.call.Call.{Call}
 use Rattle.qmodel.specs.declared.call.Completion.{Completion}
 use Rattle.qmodel.specs.declared.call.Mark.TheVariants as mark
-use Rattle.qmodel.specs.Answer.{Outcome, ending, refusal_ending}
-use Rattle.qmodel.specs.Answer as old_answer
-use Rattle.qmodel.specs.Facts.{Facts, threads_of}
-use Rattle.qmodel.specs.Laws.{IsOnlyCounted}
-use Rattle.qmodel.specs.Lawful.{facts_of, with_event}
+use Rattle.qmodel.specs.Private.Answer.{Outcome, ending, refusal_ending}
+use Rattle.qmodel.specs.Private.Answer as old_answer
+use Rattle.qmodel.specs.Private.Facts.{Facts, threads_of}
+use Rattle.qmodel.specs.Private.Laws.{IsOnlyCounted}
+use Rattle.qmodel.specs.Private.Lawful.{facts_of, with_event}
 use Rattle.qrules.specs.Facts as rules
 use Rattle.qrules.specs.Outcome.{Answers}
-use Rattle.qrules.specs.Same.{facts_view, AreOfRoster}
+use Rattle.qrules.proofs.Same.{facts_view, AreOfRoster}
 use Rattle.qrules.proofs.Lawful.{of_roster, same_lawful}
 use Rattle.qrules.proofs.Outcomes.{same_answers, same_buffer}
 use Rattle.qrules.proofs.Past.Facts.{facts_known, same_facts}
-use Rattle.qmodel.specs.Past.{is_failure, priority_in}
+use Rattle.qmodel.specs.Private.Past.{is_failure, priority_in}
 use Rattle.qkernel.specs.Stands.{StandsAt, AnswersAtTraces, LeavesIfRefused}
 use Rattle.qkernel.specs.Kernel.{State, IsSound}
 use Rattle.qkernel.specs.Private.Steps.{Step, Steps, facts_in}
-use Rattle.qmodel.specs.Step.{Follows}
+use Rattle.qmodel.specs.Private.Step.{Follows}
 use Rattle.qstate.specs.Thread.{members_of, open_in, level_in, ready_thread}
 use Rattle.qbase.proofs.Lists.{all_filter_map}
 use Rattle.qmodel.proofs.Past.Ends.{ending_names, laws_of}

@@ -3,11 +3,11 @@ use Rattle.std.proofs.Common.{◌≡◌, ◌∙◌, ◌+◌, ℕ, List, [], ◌�
 use Rattle.std.specs.Prelude.{is_some}
 use Rattle.qtables.specs.Members.{IsRoster}
 use Rattle.qtables.specs.declared.member.Member.{Member}
-use Rattle.qmodel.specs.Answer as old_answer
-use Rattle.qmodel.specs.Calls.Info as old_info
-use Rattle.qmodel.specs.Facts.{sender}
-use Rattle.qmodel.specs.Lawful as old_lawful
-use Rattle.qmodel.specs.Past.{open_call}
+use Rattle.qmodel.specs.Private.Answer as old_answer
+use Rattle.qmodel.specs.Private.Calls.Info as old_info
+use Rattle.qmodel.specs.Private.Facts.{sender}
+use Rattle.qmodel.specs.Private.Lawful as old_lawful
+use Rattle.qmodel.specs.Private.Past.{open_call}
 use Rattle.qmodel.specs.declared.call.Call.{Call}
 use Rattle.qmodel.specs.declared.call.Completion.{Completion}
 use Rattle.qmodel.proofs.Properties.All.{has_properties}
@@ -17,7 +17,7 @@ use Rattle.qrules.specs.Outcome.{Answers}
 use Rattle.qrules.specs.Past.{was_done}
 use Rattle.qrules.specs.Properties.{HasProperties}
 use Rattle.qrules.specs.Rules.Held.{info_of}
-use Rattle.qrules.specs.Same.{AreOfRoster}
+use Rattle.qrules.proofs.Same.{AreOfRoster}
 use Rattle.qrules.specs.Trace.{followed_by, Event, Trace}
 use Rattle.qrules.proofs.Lawful.{of_roster, same_lawful}
 use Rattle.qrules.proofs.Outcomes.{same_answers}

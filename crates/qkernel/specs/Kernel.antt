@@ -3,7 +3,7 @@ use Rattle.std.specs.Prelude.{◌+◌, ◌≤◌, ◌<◌}
 use Rattle.std.specs.List.{AllByRecursion}
 use Rattle.qrules.specs.Words.{filter_map, length, Bool, Connection, List, ℕ}
 use Rattle.qrules.specs.Facts.{Facts}
-use Rattle.qrules.specs.Same.{receive_view, send_view}
+use Rattle.qrules.specs.View.{receive_view, send_view}
 use Rattle.qtables.specs.Entries.{entry_at, IsRising}
 use Rattle.qtables.specs.Members.{IsRoster}
 use Rattle.qstate.specs.Channel.{channel_in, pending_in, ids_of}
@@ -29,8 +29,8 @@ facts_in s = record {
   open_channels = length s.channels;
   connection = entry_at s.connections;
   live_connections = length s.connections;
-  sends = filter_map (λ t. send_view t.member.thread t.open_call) s.threads;
-  receives = filter_map (λ t. receive_view t.member.thread t.open_call) s.threads;
+  open_sends = filter_map (λ t. send_view t.member.thread t.open_call) s.threads;
+  open_receives = filter_map (λ t. receive_view t.member.thread t.open_call) s.threads;
   pending = pending_in s.channels;
   priority = level_in s.threads;
 }

@@ -8,14 +8,14 @@ use Rattle.qbase.proofs.Lists.{all_more}
 use Rattle.qqueue.specs.declared.item.Kind.{Kind}
 use Rattle.qtables.specs.Members.{IsRoster, member_at}
 use Rattle.qtables.specs.declared.member.Member.{Member}
-use Rattle.qmodel.specs.Endings as old_endings
-use Rattle.qmodel.specs.Facts.{Facts as OldFacts}
-use Rattle.qmodel.specs.Headline.CopiedExactly.{call_at as old_call_at}
-use Rattle.qmodel.specs.Headline.SentOrder.{connection_of as old_connection_of}
-use Rattle.qmodel.specs.Laws as old_laws
-use Rattle.qmodel.specs.Lawful as old
-use Rattle.qmodel.specs.Past.{is_ended, items as old_items, open_call}
-use Rattle.qmodel.specs.Rows.{Made}
+use Rattle.qmodel.specs.Private.Endings as old_endings
+use Rattle.qmodel.specs.Private.Facts.{Facts as OldFacts}
+use Rattle.qmodel.specs.Private.Headline.CopiedExactly.{call_at as old_call_at}
+use Rattle.qmodel.specs.Private.Headline.SentOrder.{connection_of as old_connection_of}
+use Rattle.qmodel.specs.Private.Laws as old_laws
+use Rattle.qmodel.specs.Private.Lawful as old
+use Rattle.qmodel.specs.Private.Past.{is_ended, items as old_items, open_call}
+use Rattle.qmodel.specs.Trace.{SentItem}
 use Rattle.qmodel.specs.Trace.{Event, Trace}
 use Rattle.qmodel.specs.declared.call.Call.{Call}
 use Rattle.qmodel.specs.declared.call.Completion.{Completion}
@@ -30,7 +30,7 @@ use Rattle.qrules.specs.Past.{attached_connection, item_among}
 use Rattle.qrules.specs.Properties.{items, number_received}
 use Rattle.qrules.specs.Rule.{buffer_of, ReceiveRequest}
 use Rattle.qrules.specs.Rules.{effect_of}
-use Rattle.qrules.specs.Same.{facts_view}
+use Rattle.qrules.proofs.Same.{facts_view}
 use Rattle.qrules.proofs.Lawful.{of_roster}
 use Rattle.qrules.proofs.Outcomes.{same_buffer}
 use Rattle.qrules.proofs.Past.Done.{same_attached, same_destroyed}
@@ -135,7 +135,7 @@ nothing_from_destroyed roster past e r l =
     let of = of_roster roster (e ∷ past) l in
     all_more _ _ e.endings (all_for _ _ e.endings (ending.nothing_from_destroyed roster past e r (before roster (e ∷ past) l))) (λ x none h i destroyed is on.
     none h (sym (same_destroyed (e ∷ past) h) ∙ destroyed) i (sym (same_number x) ∙ is)
-    (sym (ap (λ (made : List Made). option_map (λ m. m.channel) (item_among made i)) (same_items roster (e ∷ past) of) ∙ same_channel_among (old_items roster (e ∷ past)) i) ∙ on))
+    (sym (ap (λ (made : List SentItem). option_map (λ m. m.channel) (item_among made i)) (same_items roster (e ∷ past) of) ∙ same_channel_among (old_items roster (e ∷ past)) i) ∙ on))
 
 -- ---- refusals
 

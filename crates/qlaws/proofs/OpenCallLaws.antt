@@ -7,12 +7,12 @@ use Rattle.std.proofs.lemmas.Bool.{false_from_ne_true, ltb-true, ltb-false, true
 use Rattle.std.proofs.lemmas.Option.{none-some, same_Some}
 use Rattle.qbase.proofs.Lists.{all_more}
 use Rattle.qtables.specs.declared.member.Member.{Member}
-use Rattle.qmodel.specs.Effects.{asks}
-use Rattle.qmodel.specs.Facts.{Facts as OldFacts}
-use Rattle.qmodel.specs.Headline.AnsweredToSender.{is_held as was_held}
-use Rattle.qmodel.specs.Laws as old_laws
-use Rattle.qmodel.specs.Lawful as old
-use Rattle.qmodel.specs.Past.{is_taken, made_at, open_call}
+use Rattle.qmodel.specs.Private.Effects.{asks}
+use Rattle.qmodel.specs.Private.Facts.{Facts as OldFacts}
+use Rattle.qmodel.specs.Private.Headline.AnsweredToSender.{is_held as was_held}
+use Rattle.qmodel.specs.Private.Laws as old_laws
+use Rattle.qmodel.specs.Private.Lawful as old
+use Rattle.qmodel.specs.Private.Past.{is_taken, made_at, open_call}
 use Rattle.qmodel.specs.Trace.{Event, Trace}
 use Rattle.qmodel.specs.declared.call.Call.{Call}
 use Rattle.qmodel.specs.declared.call.Call.TheVariants as calls
@@ -30,7 +30,8 @@ use Rattle.qrules.specs.Lawful.{facts_of, IsLawful}
 use Rattle.qrules.specs.Past.{accepted_call, is_ended, AcceptedCall}
 use Rattle.qrules.specs.Rule.{SentItem}
 use Rattle.qrules.specs.Rules.{effect_of}
-use Rattle.qrules.specs.Same.{facts_view, receipt_view, receive_view, send_view}
+use Rattle.qrules.specs.View.{receipt_view, receive_view, send_view}
+use Rattle.qrules.proofs.Same.{facts_view}
 use Rattle.qrules.proofs.Messages.{send_cases, NoSend, OneSend}
 use Rattle.qrules.proofs.Outcomes.{same_buffer}
 use Rattle.qrules.proofs.Past.Done.{same_channel, same_connection_at, same_made}
@@ -188,10 +189,10 @@ pub newest_is_last : laws.NewestIsLast
 newest_is_last roster past r l m x e =
     let f : Facts = facts_of roster past in
     let may : OpenReceive → Bool = laws.may_receive m in
-    let each : AllByRecursion (λ s. receive_of f s.thread ≡ Some s) f.receives = all_receives roster past l (λ s. receive_of f s.thread ≡ Some s) (λ u s is.
+    let each : AllByRecursion (λ s. receive_of f s.thread ≡ Some s) f.open_receives = all_receives roster past l (λ s. receive_of f s.thread ≡ Some s) (λ u s is.
     ap (receive_of f) (receive_parts roster past l u s is).thread ∙ receive_at roster past l u ∙ is) in
-    let k = newest_of (λ s. (receive_of f s.thread ≡ Some s) × (may s ≡ true)) (filter may f.receives) x (all_pass (λ s. receive_of f s.thread ≡ Some s) may f.receives each) e in
-    record { is_open = k.0.0; may = k.0.1; last = of_passing (λ s. s.number ≤ x.number) may f.receives k.1 }
+    let k = newest_of (λ s. (receive_of f s.thread ≡ Some s) × (may s ≡ true)) (filter may f.open_receives) x (all_pass (λ s. receive_of f s.thread ≡ Some s) may f.open_receives each) e in
+    record { is_open = k.0.0; may = k.0.1; last = of_passing (λ s. s.number ≤ x.number) may f.open_receives k.1 }
 
 nobody : (p : OpenReceive → Bool) (rs : List OpenReceive) → reduce newer (filter p rs) ≡ None → AllByRecursion (λ r. p r ≡ false) rs
 nobody p [] e = tt
@@ -207,7 +208,7 @@ none_passes p (r ∷ rs) h = rw (h.0) (none_passes p rs h.1)
 
 pub none_is_newest : laws.NoneIsNewest
 none_is_newest roster past r l m =
-    let rs : List OpenReceive = (facts_of roster past).receives in
+    let rs : List OpenReceive = (facts_of roster past).open_receives in
     (nobody (laws.may_receive m) rs, none_passes (laws.may_receive m) rs)
 
 pub nothing_pending_for_waiting : laws.NothingPendingForWaiting

@@ -13,11 +13,11 @@ use Rattle.qqueue.specs.declared.item.Item.{Item}
 use Rattle.qqueue.specs.declared.item.Kind.{Kind}
 use Rattle.qtables.specs.Members.{IsRoster}
 use Rattle.qtables.specs.declared.member.Member.{Member}
-use Rattle.qmodel.specs.Facts.{is_for_receipt}
-use Rattle.qmodel.specs.Headline.CopiedExactly.{call_at as old_call_at}
-use Rattle.qmodel.specs.Laws as old_laws
-use Rattle.qmodel.specs.Past as old
-use Rattle.qmodel.specs.Rows.{Made}
+use Rattle.qmodel.specs.Private.Facts.{is_for_receipt}
+use Rattle.qmodel.specs.Private.Headline.CopiedExactly.{call_at as old_call_at}
+use Rattle.qmodel.specs.Private.Laws as old_laws
+use Rattle.qmodel.specs.Private.Past as old
+use Rattle.qmodel.specs.Trace.{SentItem}
 use Rattle.qmodel.specs.Trace.{Event, Trace}
 use Rattle.qmodel.specs.declared.call.Completion.{Completion}
 use Rattle.qmodel.specs.declared.open_call.OpenCall.{OpenCall}
@@ -34,7 +34,8 @@ use Rattle.qrules.specs.Lawful.{facts_of, IsLawful}
 use Rattle.qrules.specs.Past.{is_ended, is_gone, is_number, is_received, item_among, items_by_now, priority_of_item, sender_of}
 use Rattle.qrules.specs.Properties.{items}
 use Rattle.qrules.specs.Rule.{ReceiveRequest}
-use Rattle.qrules.specs.Same.{receipt_view, send_view, AreOfRoster}
+use Rattle.qrules.specs.View.{receipt_view, send_view}
+use Rattle.qrules.proofs.Same.{AreOfRoster}
 use Rattle.qrules.proofs.Lawful.{of_roster}
 use Rattle.qrules.proofs.Past.Effects.{same_request}
 use Rattle.qrules.proofs.Past.Facts.{same_facts}

@@ -6,18 +6,19 @@ use Rattle.std.specs.List.{AllByRecursion}
 use Rattle.std.proofs.lemmas.Option.{none-some, same_Some}
 use Rattle.qbase.proofs.Lists.{all_filter_map}
 use Rattle.qtables.specs.declared.member.Member.{Member}
-use Rattle.qmodel.specs.Cutting.{buffer_of_wait}
-use Rattle.qmodel.specs.Endings.{buffer_of_open}
-use Rattle.qmodel.specs.Facts.{threads_of, Facts as OldFacts}
-use Rattle.qmodel.specs.Lawful as old
-use Rattle.qmodel.specs.Past.{open_call}
+use Rattle.qmodel.specs.Private.Cutting.{buffer_of_wait}
+use Rattle.qmodel.specs.Private.Endings.{buffer_of_open}
+use Rattle.qmodel.specs.Private.Facts.{threads_of, Facts as OldFacts}
+use Rattle.qmodel.specs.Private.Lawful as old
+use Rattle.qmodel.specs.Private.Past.{open_call}
 use Rattle.qmodel.specs.Trace.{Trace}
 use Rattle.qmodel.specs.declared.open_call.OpenCall.{OpenCall}
 use Rattle.qmodel.specs.declared.open_call.Receipt.{Receipt as OldReceipt}
 use Rattle.qmodel.specs.declared.open_call.Wait.TheVariants.{Answer, Item as ForItem}
 use Rattle.qrules.specs.Facts.{is_blocked, receive_of, send_of, Facts, OpenReceive, OpenSend}
 use Rattle.qrules.specs.Lawful.{facts_of, IsLawful}
-use Rattle.qrules.specs.Same.{facts_view, receive_view, receive_in, send_view, send_in, AreOfRoster}
+use Rattle.qrules.specs.View.{receive_view, receive_in, send_view, send_in}
+use Rattle.qrules.proofs.Same.{facts_view, AreOfRoster}
 use Rattle.qrules.proofs.Lawful.{same_lawful, of_roster}
 use Rattle.qrules.proofs.Past.Facts.{facts_known, same_facts}
 use Rattle.qrules.proofs.View.{blocked_same, receive_found, send_found}
@@ -63,11 +64,11 @@ module _ (roster : List Member) (past : Trace) (l : IsLawful roster past) where
   ])
 
   -- what is so of what each thread sends, is so of all open Sends
-  pub all_sends : (P : OpenSend → Type 0) → ((u : ℕ) (s : OpenSend) → send_view u (open_call roster past u) ≡ Some s → P s) → AllByRecursion P (facts_of roster past).sends
-  all_sends P h = subst (λ f. AllByRecursion P f.sends) (sym facts_at) (all_filter_map P (λ u. send_view u (open_call roster past u)) (threads_of roster) h)
+  pub all_sends : (P : OpenSend → Type 0) → ((u : ℕ) (s : OpenSend) → send_view u (open_call roster past u) ≡ Some s → P s) → AllByRecursion P (facts_of roster past).open_sends
+  all_sends P h = subst (λ f. AllByRecursion P f.open_sends) (sym facts_at) (all_filter_map P (λ u. send_view u (open_call roster past u)) (threads_of roster) h)
 
-  pub all_receives : (P : OpenReceive → Type 0) → ((u : ℕ) (r : OpenReceive) → receive_view u (open_call roster past u) ≡ Some r → P r) → AllByRecursion P (facts_of roster past).receives
-  all_receives P h = subst (λ f. AllByRecursion P f.receives) (sym facts_at) (all_filter_map P (λ u. receive_view u (open_call roster past u)) (threads_of roster) h)
+  pub all_receives : (P : OpenReceive → Type 0) → ((u : ℕ) (r : OpenReceive) → receive_view u (open_call roster past u) ≡ Some r → P r) → AllByRecursion P (facts_of roster past).open_receives
+  all_receives P h = subst (λ f. AllByRecursion P f.open_receives) (sym facts_at) (all_filter_map P (λ u. receive_view u (open_call roster past u)) (threads_of roster) h)
 
   -- an open Send as its thread's open call
   pub record SendParts (u : ℕ) (s : OpenSend) : Type 0 where

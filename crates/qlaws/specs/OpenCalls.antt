@@ -48,7 +48,7 @@ pub record IsRouted (f : Facts) (s : OpenSend) : Type 0 where
 -- so it is with each open Send
 abbrev pub OpenSendsAreRouted : Type 0
 OpenSendsAreRouted =
-    AfterEach (λ roster past. AllByRecursion (IsRouted (facts_of roster past)) (facts_of roster past).sends)
+    AfterEach (λ roster past. AllByRecursion (IsRouted (facts_of roster past)) (facts_of roster past).open_sends)
 
 -- message i is received, and its Send isn't ended
 abbrev pub is_held : Trace → ReceiveId → Bool
@@ -69,7 +69,7 @@ may_receive m r = (r.channel == m.channel) && may_take r.kind m.item
 pub record IsNewest (f : Facts) (m : SentItem) (r : OpenReceive) : Type 0 where
   pub is_open : receive_of f r.thread ≡ Some r
   pub may : may_receive m r ≡ true
-  pub last : AllByRecursion (λ s. may_receive m s ≡ true → s.number ≤ r.number) f.receives
+  pub last : AllByRecursion (λ s. may_receive m s ≡ true → s.number ≤ r.number) f.open_receives
 
 -- the newest receiver of an item is such a receive
 abbrev pub NewestIsLast : Type 0
@@ -80,13 +80,13 @@ NewestIsLast = AfterEach (λ roster past. (m : SentItem) (r : OpenReceive)
 abbrev pub NoneIsNewest : Type 0
 NoneIsNewest = AfterEach (λ roster past. (m : SentItem)
     → (newest_receiver (facts_of roster past) m ≡ None)
-    ↔ AllByRecursion (λ r. may_receive m r ≡ false) (facts_of roster past).receives)
+    ↔ AllByRecursion (λ r. may_receive m r ≡ false) (facts_of roster past).open_receives)
 
 -- nothing is pending on the channel of an open receive that this may take
 abbrev pub NothingPendingForWaiting : Type 0
 NothingPendingForWaiting = AfterEach (λ roster past. AllByRecursion
     (λ r. AllByRecursion (λ item. may_take r.kind item ≡ false) ((facts_of roster past).pending r.channel))
-    (facts_of roster past).receives)
+    (facts_of roster past).open_receives)
 
 -- ---- buffers
 
@@ -99,4 +99,4 @@ pub record IsAsLong (past : Trace) (i : CallNo) (buffer : Bytes) : Type 0 where
 -- the reply buffer of each open Send keeps its length
 abbrev pub ReplyBuffersKeepLength : Type 0
 ReplyBuffersKeepLength = AfterEach (λ roster past.
-    AllByRecursion (λ s. IsAsLong past s.number s.reply_buffer) (facts_of roster past).sends)
+    AllByRecursion (λ s. IsAsLong past s.number s.reply_buffer) (facts_of roster past).open_sends)

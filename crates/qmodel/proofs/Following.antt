@@ -1,6 +1,6 @@
 -- Events that follow a past.
 use Rattle.std.proofs.Common.{◌≡◌, ◌+◌, List, [], ◌∷◌, ◌++◌, length, refl, arith}
-use Rattle.qmodel.specs.Lawful.{followed_by}
+use Rattle.qmodel.specs.Private.Lawful.{followed_by}
 use Rattle.qmodel.specs.Trace.{Event, Trace}
 
 -- the last of them is the newest

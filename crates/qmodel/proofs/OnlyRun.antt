@@ -9,10 +9,10 @@ use Rattle.qtables.specs.declared.member.Member.{Member}
 use Rattle.qmodel.specs.declared.call.Call.{Call}
 use Rattle.qmodel.specs.declared.call.Completion.{Completion}
 use Rattle.qmodel.specs.declared.call.Mark.TheVariants as mark
-use Rattle.qmodel.specs.Answer.{Answers, MayRefuse, refusal, refusal_ending}
-use Rattle.qmodel.specs.Facts.{Facts}
-use Rattle.qmodel.specs.Lawful.{IsLawful, facts_of, followed_by}
-use Rattle.qmodel.specs.OnlyRun.{event_call, HadMemory, IsOnlyRun}
+use Rattle.qmodel.specs.Private.Answer.{Answers, MayRefuse, refusal, refusal_ending}
+use Rattle.qmodel.specs.Private.Facts.{Facts}
+use Rattle.qmodel.specs.Private.Lawful.{IsLawful, facts_of, followed_by}
+use Rattle.qmodel.specs.Private.OnlyRun.{event_call, HadMemory, IsOnlyRun}
 use Rattle.qmodel.specs.Trace.{Event, Trace}
 
 -- no ending says that there was no memory

@@ -7,15 +7,17 @@ use Rattle.qtables.specs.declared.connection.Connection.{Connection}
 use Rattle.qtables.specs.declared.member.Member.{Member}
 use Rattle.qmodel.specs.declared.open_call.OpenCall.{OpenCall}
 use Rattle.qmodel.specs.declared.open_call.Receipt.{Receipt}
-use Rattle.qmodel.specs.Calls.ConnectDetach.{detach_pulse, is_last_connection}
-use Rattle.qmodel.specs.Calls.Pulse.{is_negative}
-use Rattle.qmodel.specs.Calls.Unblock.{due_pulse_of_wait}
-use Rattle.qmodel.specs.Facts.{Facts, OpenChannel, is_of_process, owns}
-use Rattle.qmodel.specs.Held.{is_held_by}
-use Rattle.qmodel.specs.Ids.{CallNo, ChannelId, ReceiveId, ThreadNo}
-use Rattle.qmodel.specs.Lawful.{facts_of}
-use Rattle.qmodel.specs.Pulses.{refusal_if_full}
-use Rattle.qmodel.specs.Rows.{Made, unblock_item}
+use Rattle.qmodel.specs.Private.Calls.ConnectDetach.{detach_pulse, is_last_connection}
+use Rattle.qmodel.specs.Private.Calls.Pulse.{is_negative}
+use Rattle.qmodel.specs.Private.Calls.Unblock.{due_pulse_of_wait}
+use Rattle.qmodel.specs.Private.Facts.{Facts, is_of_process, owns}
+use Rattle.qmodel.specs.Trace.{OpenChannel}
+use Rattle.qmodel.specs.Private.Held.{is_held_by}
+use Rattle.qmodel.specs.Trace.{CallNo, ChannelId, ReceiveId, ThreadNo}
+use Rattle.qmodel.specs.Private.Lawful.{facts_of}
+use Rattle.qmodel.specs.Private.Pulses.{refusal_if_full}
+use Rattle.qmodel.specs.Private.Rows.{unblock_item}
+use Rattle.qmodel.specs.Trace.{SentItem}
 use Rattle.qmodel.specs.Trace.{Trace}
 
 -- this channel is of the thread's process
@@ -36,16 +38,16 @@ abbrev pub is_held_for : Facts → ThreadNo → Option OpenCall → Bool
 is_held_for f t call = option_map_or (λ o. is_held_by f t o.wait) call false
 
 -- the unblock pulse for message i, held with this receipt on channel h; none where one was made
-abbrev pub due_pulse_on : CallNo → ReceiveId → Receipt → Option ChannelId → Option Made
+abbrev pub due_pulse_on : CallNo → ReceiveId → Receipt → Option ChannelId → Option SentItem
 due_pulse_on n i receipt channel =
     option_and_then (λ h. if receipt.unblocked then None else Some (record { item = unblock_item n receipt.priority i; channel = h })) channel
 
 -- the unblock pulse that is due for a thread's open call
-abbrev pub due_pulse_of_open : Facts → Option OpenCall → Option Made
+abbrev pub due_pulse_of_open : Facts → Option OpenCall → Option SentItem
 due_pulse_of_open f call = option_and_then (λ o. due_pulse_of_wait f o.number o.wait) call
 
 -- the disconnect pulse that is due for this connection
-abbrev pub due_pulse_over : Facts → ThreadNo → Option Connection → Option Made
+abbrev pub due_pulse_over : Facts → ThreadNo → Option Connection → Option SentItem
 due_pulse_over f t connection = option_and_then (λ c. if is_last_connection f c then Some (detach_pulse f t c) else None) connection
 
 -- the connection is live, and of the thread's process

@@ -6,9 +6,9 @@ use Rattle.std.proofs.lemmas.Option.{none-some, cond_some}
 use Rattle.qbase.specs.declared.errno.Errno.TheVariants.{Badf}
 use Rattle.qtables.specs.declared.connection.Connection.{Connection}
 use Rattle.qmodel.proofs.Parts.{refusal_on}
-use Rattle.qmodel.specs.Calls.Pulse as pulse
-use Rattle.qmodel.specs.Calls.Send as send
-use Rattle.qmodel.specs.Facts.{Facts, way, is_of_process}
+use Rattle.qmodel.specs.Private.Calls.Pulse as pulse
+use Rattle.qmodel.specs.Private.Calls.Send as send
+use Rattle.qmodel.specs.Private.Facts.{Facts, way, is_of_process}
 use Rattle.qmodel.proofs.Parts.{leads_to}
 
 -- there is a connection, it is to channel h, and that is open

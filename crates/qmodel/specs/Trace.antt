@@ -1,8 +1,41 @@
--- The list of all past calls.
-use Rattle.std.specs.Prelude.{List}
+-- The list of all past calls, and the numbers and records by which it is spoken of.
+use Rattle.std.specs.Prelude.{ℕ, List}
+use Rattle.qbase.specs.declared.flags.ChannelFlags.{ChannelFlags}
+use Rattle.qqueue.specs.declared.item.Item.{Item}
 use Rattle.qmodel.specs.declared.call.Call.{Call}
 use Rattle.qmodel.specs.declared.call.Completion.{Completion}
-use Rattle.qmodel.specs.Ids.{CallNo, ThreadNo}
+
+-- ---- numbers
+
+-- the number of a thread
+abbrev pub ThreadNo : Type 0
+ThreadNo = ℕ
+
+-- the number of a process
+abbrev pub ProcessNo : Type 0
+ProcessNo = ℕ
+
+-- the number of a call, which is its event's, and that of the item that it makes
+abbrev pub CallNo : Type 0
+CallNo = ℕ
+
+-- the id of a channel: the number of the call that created it
+abbrev pub ChannelId : Type 0
+ChannelId = ℕ
+
+-- the id of a connection: the number of the call that attached it
+abbrev pub ConnectionId : Type 0
+ConnectionId = ℕ
+
+-- the id by which a message is received and answered: the number of its Send
+abbrev pub ReceiveId : Type 0
+ReceiveId = ℕ
+
+-- a priority
+abbrev pub Priority : Type 0
+Priority = ℕ
+
+-- ---- events
 
 -- a call that a thread made, and the endings that it brought, in rising thread number
 pub record Event : Type 0 where
@@ -18,3 +51,15 @@ Trace = List Event
 pub record Run : Type 0 where
   pub first : CallNo
   pub events : List Event
+
+-- ---- what events make
+
+-- an open channel: the process that owns it, and its flags
+pub record OpenChannel : Type 0 where
+  pub owner : ProcessNo
+  pub flags : ChannelFlags
+
+-- an item that an event makes, and the channel on which it is to be received
+pub record SentItem : Type 0 where
+  pub item : Item
+  pub channel : ChannelId

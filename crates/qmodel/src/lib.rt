@@ -3,5 +3,4 @@
 #![tactic(auto)]
 
 pub mod call;
-pub mod laws;
 pub mod open_call;

@@ -6,8 +6,8 @@ use Rattle.std.proofs.lemmas.Option.{none-some, same_Some}
 use Rattle.std.proofs.lemmas.List.Folds.{find-append}
 use Rattle.qbase.proofs.Lists.{is_among}
 use Rattle.qbase.specs.declared.errno.Errno.{Errno}
-use Rattle.qmodel.specs.Cutting.{cut_where, cuts}
-use Rattle.qmodel.specs.Facts.{threads_of, Facts as OldFacts}
+use Rattle.qmodel.specs.Private.Cutting.{cut_where, cuts}
+use Rattle.qmodel.specs.Private.Facts.{threads_of, Facts as OldFacts}
 use Rattle.qmodel.specs.declared.call.Completion.{Completion}
 use Rattle.qmodel.specs.declared.open_call.Receipt.{Receipt as OldReceipt}
 use Rattle.qmodel.specs.declared.open_call.Wait.{Wait}
@@ -16,7 +16,8 @@ use Rattle.qqueue.specs.declared.item.Kind.{Kind}
 use Rattle.qrules.specs.Facts.{OpenReceive, OpenSend}
 use Rattle.qrules.specs.Delivery.{cancel, cancel_receive, cancel_send}
 use Rattle.qrules.proofs.Lists.{filter-filter_map, found, map-filter_map}
-use Rattle.qrules.specs.Same.{facts_view, receipt_view, receive_in, receive_view, send_in, send_view}
+use Rattle.qrules.specs.View.{receipt_view, receive_in, receive_view, send_in, send_view}
+use Rattle.qrules.proofs.Same.{facts_view}
 use Rattle.qrules.proofs.View.{receive_thread, send_thread, unknown, IsKnown}
 
 -- what passes a test
@@ -47,8 +48,8 @@ module _ (f : OldFacts) (sends : OpenSend → Bool) (receives : OpenReceive → 
       → find (λ x. eqb x.thread u) (cancel (facts_view f) sends receives e) ≡ cuts f is_cut e u
   cancel_same u known of_send of_receive =
       let ts : List ℕ = threads_of f.roster in
-      find-append (λ x. eqb x.thread u) (map (cancel_send e) (filter sends (facts_view f).sends)) (map (cancel_receive e) (filter receives (facts_view f).receives))
-      ∙ ap (λ o. option_or o (find (λ x. eqb x.thread u) (map (cancel_receive e) (filter receives (facts_view f).receives))))
+      find-append (λ x. eqb x.thread u) (map (cancel_send e) (filter sends (facts_view f).open_sends)) (map (cancel_receive e) (filter receives (facts_view f).open_receives))
+      ∙ ap (λ o. option_or o (find (λ x. eqb x.thread u) (map (cancel_receive e) (filter receives (facts_view f).open_receives))))
       (cancelled (λ s. s.thread) (cancel_send e) sends (λ v. send_view v (f.open_call v)) ts u (λ s. refl) (λ v s is. send_thread v (f.open_call v) s is) (λ none. ap (send_view u) (unknown f u known none)))
       ∙ ap (option_or (option_map (cancel_send e) (pass sends (send_view u (f.open_call u)))))
       (cancelled (λ r. r.thread) (cancel_receive e) receives (λ v. receive_view v (f.open_call v)) ts u (λ r. refl) (λ v r is. receive_thread v (f.open_call v) r is) (λ none. ap (receive_view u) (unknown f u known none)))

@@ -11,10 +11,10 @@ use Rattle.qmodel.specs.declared.call.Mark.TheVariants as mark
 use Rattle.qqueue.specs.Best.{is_pulse, may_take}
 use Rattle.qqueue.specs.declared.item.Item.{Item}
 use Rattle.qqueue.specs.declared.item.Kind.{Kind}
-use Rattle.qmodel.specs.Delivering.{meets, receipt_by, receiver, wants_room}
-use Rattle.qmodel.specs.Facts.{first_where, threads_of, Facts as OldFacts}
-use Rattle.qmodel.specs.Receivers.{is_newest, wait_on, newest_receiver as old_newest}
-use Rattle.qmodel.specs.Rows.{receipt_ending}
+use Rattle.qmodel.specs.Private.Delivering.{meets, receipt_by, receiver, wants_room}
+use Rattle.qmodel.specs.Private.Facts.{first_where, threads_of, Facts as OldFacts}
+use Rattle.qmodel.specs.Private.Receivers.{is_newest, wait_on, newest_receiver as old_newest}
+use Rattle.qmodel.specs.Private.Rows.{receipt_ending}
 use Rattle.qmodel.specs.declared.call.Completion.{Completion}
 use Rattle.qmodel.specs.declared.open_call.Wait.{Wait}
 use Rattle.qmodel.specs.declared.open_call.Wait.TheVariants.{Answer, Item as ForItem}
@@ -23,7 +23,8 @@ use Rattle.qrules.specs.Rule.{SentItem}
 use Rattle.qrules.specs.Delivery.{deliver, delivery, has_to_wait, newest_receiver}
 use Rattle.qrules.proofs.Cancels.{pass}
 use Rattle.qrules.proofs.Newest.{newest_same, taker, waits_same}
-use Rattle.qrules.specs.Same.{facts_view, receive_in, receive_view}
+use Rattle.qrules.specs.View.{receive_in, receive_view}
+use Rattle.qrules.proofs.Same.{facts_view}
 
 -- no thread takes the item
 pub record NoReceiver (f : OldFacts) (m : SentItem) : Type 0 where

@@ -1,15 +1,15 @@
 -- A trace is lawful by the one model exactly where it is by the other.
 use Rattle.std.proofs.Common.{◌≡◌, ◌↔◌, List, [], ◌∷◌, refl, sym, subst}
 use Rattle.qtables.specs.declared.member.Member.{Member}
-use Rattle.qmodel.specs.Lawful as old
-use Rattle.qmodel.specs.OnlyRun as old_only
+use Rattle.qmodel.specs.Private.Lawful as old
+use Rattle.qmodel.specs.Private.OnlyRun as old_only
 use Rattle.qmodel.specs.Trace.{Event, Trace}
 use Rattle.qrules.specs.Lawful.{IsLawful, IsOnlyRun}
 use Rattle.qrules.specs.Outcome.{Answers}
 use Rattle.qrules.specs.Trace.{followed_by}
 use Rattle.qrules.proofs.Outcomes.{same_answers}
 use Rattle.qrules.proofs.Past.Facts.{facts_known, same_facts}
-use Rattle.qrules.specs.Same.{AreOfRoster}
+use Rattle.qrules.proofs.Same.{AreOfRoster}
 
 pub of_roster : (roster : List Member) (past : Trace) → IsLawful roster past → AreOfRoster roster past
 of_roster roster [] l = tt

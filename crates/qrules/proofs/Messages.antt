@@ -4,14 +4,15 @@ use Rattle.std.specs.Prelude.{Option, None, Some, ◌&&◌, find, filter_map, op
 use Rattle.std.specs.List.{cons_option}
 use Rattle.std.proofs.lemmas.Bool.{true≢false}
 use Rattle.std.proofs.Math.Bool.{and-false}
-use Rattle.qmodel.specs.Facts.{is_for_answer, is_send, sender, sender_among, threads_of, Facts as OldFacts}
+use Rattle.qmodel.specs.Private.Facts.{is_for_answer, is_send, sender, sender_among, threads_of, Facts as OldFacts}
 use Rattle.qmodel.specs.declared.open_call.OpenCall.{OpenCall}
 use Rattle.qmodel.specs.declared.open_call.Receipt.{Receipt as OldReceipt}
 use Rattle.qmodel.specs.declared.open_call.Wait.{Wait}
 use Rattle.qmodel.specs.declared.open_call.Wait.TheVariants.{Answer, Item as ForItem}
 use Rattle.qmodel.proofs.Past.Senders.{sender_sends}
 use Rattle.qrules.specs.Facts.{OpenSend, open_send}
-use Rattle.qrules.specs.Same.{facts_view, receipt_view, send_in, send_view}
+use Rattle.qrules.specs.View.{receipt_view, send_in, send_view}
+use Rattle.qrules.proofs.Same.{facts_view}
 
 module _ (open_call : ℕ → Option OpenCall) (i : ℕ) where
   open_among : (ts : List ℕ) → find (λ s. eqb s.number i) (filter_map (λ u. send_view u (open_call u)) ts) ≡ option_and_then (λ u. send_view u (open_call u)) (sender_among open_call i ts)

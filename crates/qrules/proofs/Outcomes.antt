@@ -4,17 +4,17 @@ use Rattle.std.specs.Prelude.{None, Some, is_some, find}
 use Rattle.std.specs.List.{filter_map}
 use Rattle.qbase.specs.declared.errno.Errno.{Errno}
 use Rattle.qbase.specs.declared.errno.Errno.TheVariants.{Down, Busy}
-use Rattle.qmodel.specs.Answer as old
-use Rattle.qmodel.specs.Calls.{row_of}
-use Rattle.qmodel.specs.Effects.{buffer_of as old_buffer_of}
-use Rattle.qmodel.specs.Facts.{threads_of, Facts as OldFacts}
+use Rattle.qmodel.specs.Private.Answer as old
+use Rattle.qmodel.specs.Private.Calls.{row_of}
+use Rattle.qmodel.specs.Private.Effects.{buffer_of as old_buffer_of}
+use Rattle.qmodel.specs.Private.Facts.{threads_of, Facts as OldFacts}
 use Rattle.qmodel.specs.declared.call.Call.{Call}
 use Rattle.qmodel.specs.declared.call.Call.TheVariants as calls
 use Rattle.qmodel.specs.declared.call.Completion.{Completion}
 use Rattle.qmodel.specs.declared.call.Mark.TheVariants as mark
 use Rattle.qmodel.proofs.Past.Ends.{row_passes}
 use Rattle.qmodel.proofs.Rosters.{filter_map_same}
-use Rattle.qrules.specs.Outcome.{refusal, row, Answers, MayRefuse, Outcome}
+use Rattle.qrules.specs.Outcome.{first_refusal, row, Answers, MayRefuse, Outcome}
 use Rattle.qrules.specs.Rule.{buffer_of}
 use Rattle.qrules.specs.Rules.{effect_of}
 use Rattle.qrules.proofs.Rows.Held.{error, info, read, reply, write}
@@ -22,7 +22,7 @@ use Rattle.qrules.proofs.Rows.Items.{receive, receive_pulse, send}
 use Rattle.qrules.proofs.Rows.Plain.{channel_create, channel_destroy, connect_attach, priority_set, shutdown, state}
 use Rattle.qrules.proofs.Rows.Pulses.{connect_detach, pulse, unblock}
 use Rattle.qrules.proofs.Rows.Same.{SameRow}
-use Rattle.qrules.specs.Same.{facts_view}
+use Rattle.qrules.proofs.Same.{facts_view}
 use Rattle.qrules.proofs.View.{blocked_same, IsKnown}
 
 pub same_row : (f : OldFacts) (t : ℕ) (c : Call) → IsKnown f → SameRow f t c
@@ -64,7 +64,7 @@ same_buffer (calls.Unblock thread) = refl
 same_buffer (calls.ConnectDetach coid) = refl
 
 module _ (f : OldFacts) (t : ℕ) (c : Call) (known : IsKnown f) where
-  pub same_refusal : refusal (facts_view f) t c ≡ old.refusal f t c
+  pub same_refusal : first_refusal (facts_view f) t c ≡ old.refusal f t c
   same_refusal =
       ap (λ blocked. cond f.down (Some Down) (cond blocked (Some Busy) (row (facts_view f) t c).refusal)) (blocked_same f t known)
       ∙ ap (λ own. cond f.down (Some Down) (cond (is_some (f.open_call t)) (Some Busy) own)) (same_row f t c known).refusal

@@ -35,7 +35,7 @@ module _ (f : Facts) where
   -- of the receives on the item's channel that may take it, the newest
   abbrev pub newest_receiver : SentItem → Option OpenReceive
   newest_receiver m =
-      reduce newer (filter (λ r. (r.channel == m.channel) && may_take r.kind m.item) f.receives)
+      reduce newer (filter (λ r. (r.channel == m.channel) && may_take r.kind m.item) f.open_receives)
 
   -- the ending of the receive that takes the item that is sent
   abbrev pub deliver : Option SentItem → Bytes → List Completion
@@ -55,7 +55,7 @@ module _ (f : Facts) where
   -- the endings of the open calls that are cancelled: of which Sends, of which receives, and the error
   abbrev pub cancel : (OpenSend → Bool) → (OpenReceive → Bool) → Errno → List Completion
   cancel sends receives e =
-      map (cancel_send e) (filter sends f.sends) ++ map (cancel_receive e) (filter receives f.receives)
+      map (cancel_send e) (filter sends f.open_sends) ++ map (cancel_receive e) (filter receives f.open_receives)
 
   -- the row of a call that ends with Ok, cancels these calls, and may send a pulse
   abbrev pub pulse_row : ThreadNo → Option Errno → List Completion → Option SentItem → Row

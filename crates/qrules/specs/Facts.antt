@@ -5,7 +5,7 @@ use Rattle.qrules.specs.Words.{option_map_or, Bool, Connection, Item, Kind, List
 use Rattle.qrules.specs.Words.{ℕ}
 use Rattle.qrules.specs.Trace.{Bytes, CallNo, ChannelId, ConnectionId, Priority, ProcessNo, ReceiveId}
 use Rattle.qrules.specs.Trace.{ThreadNo}
-pub use Rattle.qmodel.specs.Facts.{OpenChannel}
+pub use Rattle.qmodel.specs.Trace.{OpenChannel}
 
 -- how a message was received
 pub record Receipt : Type 0 where
@@ -39,8 +39,8 @@ pub record Facts : Type 0 where
   pub open_channels : ℕ  -- how many there are
   pub connection : ConnectionId → Option Connection  -- the live connection of this id
   pub live_connections : ℕ  -- how many there are
-  pub sends : List OpenSend  -- the open Sends, in rising thread number
-  pub receives : List OpenReceive  -- the open receives, in rising thread number
+  pub open_sends : List OpenSend  -- the open Sends, in rising thread number
+  pub open_receives : List OpenReceive  -- the open receives, in rising thread number
   pub pending : ChannelId → List Item  -- what waits on a channel to be received, in rising number
   pub priority : ThreadNo → Priority  -- of each thread
 
@@ -82,11 +82,11 @@ module _ (f : Facts) where
 
   -- the Send that thread t waits in
   abbrev pub send_of : ThreadNo → Option OpenSend
-  send_of t = find (λ s. s.thread == t) f.sends
+  send_of t = find (λ s. s.thread == t) f.open_sends
 
   -- the Receive or ReceivePulse that thread t waits in
   abbrev pub receive_of : ThreadNo → Option OpenReceive
-  receive_of t = find (λ r. r.thread == t) f.receives
+  receive_of t = find (λ r. r.thread == t) f.open_receives
 
   -- thread t waits in an open call
   abbrev pub is_blocked : ThreadNo → Bool
@@ -94,7 +94,7 @@ module _ (f : Facts) where
 
   -- the open Send of number i
   abbrev pub open_send : ReceiveId → Option OpenSend
-  open_send i = find (λ s. s.number == i) f.sends
+  open_send i = find (λ s. s.number == i) f.open_sends
 
   -- the bytes of message i
   abbrev pub message : ReceiveId → Bytes

@@ -32,8 +32,8 @@ module _ (roster : List Member) where
     open_channels = count_to (channel_at roster past) (length past);
     connection = connection_at roster past;
     live_connections = count_to (connection_at roster past) (length past);
-    sends = filter_map (send_after past items) (threads_of roster);
-    receives = filter_map (receive_after past) (threads_of roster);
+    open_sends = filter_map (send_after past items) (threads_of roster);
+    open_receives = filter_map (receive_after past) (threads_of roster);
     pending = pending_among past items;
     priority = known.priority;
   }

@@ -14,16 +14,16 @@ module _ (f : Facts) (t : ThreadNo) (c : Call) where
   row = (rule_of c).row f t
 
   -- the first refusal that applies: Down after a shutdown, then Busy of a blocked thread, then the row's own
-  abbrev pub refusal : Option Errno
-  refusal = if f.down then Some Down else (if is_blocked f t then Some Busy else row.refusal)
+  abbrev pub first_refusal : Option Errno
+  first_refusal = if f.down then Some Down else (if is_blocked f t then Some Busy else row.refusal)
 
   -- the refusals that may be given: that one, or want of memory where there is none
   abbrev pub MayRefuse : Errno → Type 0
-  MayRefuse e = (refusal ≡ Some e) ⊎ ((refusal ≡ None) × (row.takes_memory ≡ true) × (e ≡ NoMemory))
+  MayRefuse e = (first_refusal ≡ Some e) ⊎ ((first_refusal ≡ None) × (row.takes_memory ≡ true) × (e ≡ NoMemory))
 
   -- accepted: each thread gets its ending, in rising number; refused: the caller alone gets its buffer back
   abbrev pub Outcome : Bool → List Completion → Type 0
-  Outcome true endings = (refusal ≡ None)
+  Outcome true endings = (first_refusal ≡ None)
       × (endings ≡ filter_map (λ u. find (λ x. x.thread == u) row.endings) (threads_of f.roster))
   Outcome false endings = (e : Errno) × MayRefuse e
       × (endings ≡ own_ending f t (mark.Failed e) (buffer_of (effect_of c)) ∷ [])

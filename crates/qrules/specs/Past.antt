@@ -158,7 +158,7 @@ waiting_call past t = option_and_then (λ c. if is_ended past c.number then None
 -- a reply buffer of message i with each accepted Write to it, in order
 abbrev pub with_writes : Trace → ReceiveId → Bytes → Bytes
 with_writes past i buffer = fold (λ b w. lay_over b w.offset w.bytes) buffer (reverse (filter_map
-    (λ c. option_and_then (λ w. if w.message == i then Some w else None) c.effect.writes)
+    (λ c. option_and_then (λ w. if w.rcvid == i then Some w else None) c.effect.writes)
     (accepted_calls past)))
 
 -- the item is an unblock pulse for message i

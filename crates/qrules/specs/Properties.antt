@@ -90,8 +90,8 @@ IsLaid buffer offset bytes after copied =
 abbrev pub IsCounted : Trace → Effect → Completion → ℕ → Type 0
 IsCounted past e x copied = MatchOption e.reads
     (IsSomeAnd e.writes
-    (λ w. (x.buffer ≡ []) × (copied ≡ laid_count (buffer_at past w.message) w.offset w.bytes)))
-    (λ r. IsLaid r.bytes 0 (drop r.offset (message_at past r.message)) x.buffer copied)
+    (λ w. (x.buffer ≡ []) × (copied ≡ laid_count (buffer_at past w.rcvid) w.offset w.bytes)))
+    (λ r. IsLaid r.bytes 0 (drop r.offset (message_at past r.rcvid)) x.buffer copied)
 
 -- a receipt lays the message over the front of the receiver's buffer, a reply its bytes over the sender's,
 -- a Read and a Write copy what they count, and any other ending gives the buffer as it is by then
@@ -170,12 +170,12 @@ SentOrder roster = InEachEnding
 -- on the channel that its connection was attached to, detached or not
 pub record IsShut
     (roster : List Member) (past : Trace) (endings : List Completion) (h : ChannelId) : Type 0 where
-  pub received : AllByRecursion (λ x. (i : CallNo) → number_received x ≡ Some i
+  pub none_received : AllByRecursion (λ x. (i : CallNo) → number_received x ≡ Some i
       → option_map (λ m. m.channel) (item_among (items roster past) i) ≡ Some h → ⊥) endings
-  pub sends : AllByRecursion
+  pub no_send : AllByRecursion
       (λ s. option_map (λ c. c.channel) (attached_connection roster past s.connection) ≡ Some h → ⊥)
-      (facts_of roster past).sends
-  pub receives : AllByRecursion (λ r. r.channel ≡ h → ⊥) (facts_of roster past).receives
+      (facts_of roster past).open_sends
+  pub no_receive : AllByRecursion (λ r. r.channel ≡ h → ⊥) (facts_of roster past).open_receives
 
 -- after each event, each channel that is destroyed by then is shut
 abbrev pub ShutForGood : List Member → Trace → Type 0

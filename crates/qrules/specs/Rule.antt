@@ -4,7 +4,7 @@ use Rattle.qrules.specs.Words.{[], false, option_map, option_or, unwrap_or, Bool
 use Rattle.qrules.specs.Words.{Errno, Kind, List, Mark, None, Option, What, ℕ, ℤ}
 use Rattle.qrules.specs.Trace.{Bytes, ChannelId, ConnectionId, Priority, ReceiveId, ThreadNo}
 use Rattle.qrules.specs.Facts.{Facts}
-pub use Rattle.qmodel.specs.Rows.{Made as SentItem}
+pub use Rattle.qmodel.specs.Trace.{SentItem}
 
 -- what a call is answered
 pub record Row : Type 0 where
@@ -43,7 +43,7 @@ pub record ReceiveRequest : Type 0 where
 
 -- bytes that are read of a message, or written over its sender's reply buffer
 pub record Transfer : Type 0 where
-  pub message : ReceiveId
+  pub rcvid : ReceiveId  -- of the message
   pub offset : ℕ  -- where in the message, or in the reply buffer
   pub bytes : Bytes  -- those to be written, or the buffer to be read into
 

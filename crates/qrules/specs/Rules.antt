@@ -34,8 +34,8 @@ rule_of (calls.Receive chid buffer) = receive (record { channel = chid; kind = A
 rule_of (calls.ReceivePulse chid) = receive (record { channel = chid; kind = PulseOnly; buffer = [] })
 rule_of (calls.Reply rcvid status bytes) = reply rcvid status bytes
 rule_of (calls.Error rcvid code) = error rcvid code
-rule_of (calls.Read rcvid offset buffer) = read (record { message = rcvid; offset = offset; bytes = buffer })
-rule_of (calls.Write rcvid offset bytes) = write (record { message = rcvid; offset = offset; bytes = bytes })
+rule_of (calls.Read rcvid offset buffer) = read (record { rcvid = rcvid; offset = offset; bytes = buffer })
+rule_of (calls.Write rcvid offset bytes) = write (record { rcvid = rcvid; offset = offset; bytes = bytes })
 rule_of (calls.Info rcvid) = info rcvid
 rule_of (calls.Pulse coid priority code value) = pulse coid priority code value
 rule_of (calls.PrioritySet thread priority) = priority_set (record { thread = thread; priority = priority })

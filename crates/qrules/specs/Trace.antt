@@ -1,12 +1,8 @@
 -- The list of all past calls, and what is read of it alone.
 use Rattle.std.specs.Prelude.{◌+◌, ◌==◌, ◌∷◌, if◌then◌else◌}
 use Rattle.qrules.specs.Words.{[], flat_map, length, Call, Completion, List, None, Option, Some, ℕ}
-pub use Rattle.qmodel.specs.Ids.{CallNo, ChannelId, ConnectionId, ProcessNo, ReceiveId, ThreadNo}
-pub use Rattle.qmodel.specs.Trace.{Event, Trace}
-
--- a priority
-abbrev pub Priority : Type 0
-Priority = ℕ
+pub use Rattle.qmodel.specs.Trace.{CallNo, ChannelId, ConnectionId, Event, OpenChannel, Priority, ProcessNo}
+pub use Rattle.qmodel.specs.Trace.{ReceiveId, SentItem, ThreadNo, Trace}
 
 -- a message, a buffer or the data of a reply
 abbrev pub Bytes : Type 0

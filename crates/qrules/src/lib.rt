@@ -1,5 +1,3 @@
-//! The rules of the kernel's calls, and what every lawful trace has, as definitions over the list of all past calls.
-//! Here it is proved that they are the same model as the one of `qmodel`.
+//! The rules of the kernel's calls, and what every lawful trace has, as definitions over the list of all past calls. The
+//! crate has no function: it is cited by contracts.
 #![tactic(auto)]
-
-pub mod same_model;

@@ -12,12 +12,12 @@ use Rattle.qtables.specs.declared.member.Member.{Member}
 use Rattle.qmodel.specs.declared.call.Call.{Call}
 use Rattle.qmodel.specs.declared.call.Call.TheVariants.{Shutdown}
 use Rattle.qmodel.specs.declared.call.Completion.{Completion}
-use Rattle.qmodel.specs.Answer.{Answers, refusal}
-use Rattle.qmodel.specs.Endings.{AreApart, GoesToBlocked, buffer_brought, gets}
-use Rattle.qmodel.specs.Facts.{threads_of}
-use Rattle.qmodel.specs.Lawful.{IsLawful, facts_of, with_event}
-use Rattle.qmodel.specs.Past.{open_call}
-use Rattle.qmodel.specs.Past as old_past
+use Rattle.qmodel.specs.Private.Answer.{Answers, refusal}
+use Rattle.qmodel.specs.Private.Endings.{AreApart, GoesToBlocked, buffer_brought, gets}
+use Rattle.qmodel.specs.Private.Facts.{threads_of}
+use Rattle.qmodel.specs.Private.Lawful.{IsLawful, facts_of, with_event}
+use Rattle.qmodel.specs.Private.Past.{open_call}
+use Rattle.qmodel.specs.Private.Past as old_past
 use Rattle.qrules.specs.Facts.{is_blocked}
 use Rattle.qrules.specs.Lawful as rules
 use Rattle.qrules.specs.Outcome as outcome

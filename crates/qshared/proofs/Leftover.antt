@@ -12,7 +12,7 @@ use Rattle.qmodel.specs.Trace.{Trace}
 use Rattle.qmodel.proofs.Rosters.{Rises, all_at}
 use Rattle.qhandoff.specs.Words.{AreBelow, left_for}
 use Rattle.qhandoff.specs.Words as cells
-use Rattle.qmodel.specs.Facts.{threads_of}
+use Rattle.qmodel.specs.Private.Facts.{threads_of}
 use Rattle.qmodel.proofs.Rosters.{among_member}
 use Rattle.qtables.specs.declared.member.Member.{Member}
 use Rattle.qshared.specs.Due.{AreKnown, endings_due, of_thread, place}

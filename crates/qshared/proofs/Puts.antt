@@ -12,7 +12,7 @@ use Rattle.qhandoff.specs.declared.view.Line.{Line}
 use Rattle.qhandoff.specs.Rule.{line}
 use Rattle.qhandoff.specs.Steps.{put_desk}
 use Rattle.qhandoff.proofs.Changes.{line_else, line_here}
-use Rattle.qmodel.specs.Endings.{gets, AreApart}
+use Rattle.qmodel.specs.Private.Endings.{gets, AreApart}
 use Rattle.qshared.specs.Due.{place, of_thread}
 use Rattle.qshared.specs.Private.Putting.{MayPut, Handed}
 use Rattle.qshared.proofs.Places.{place_same}

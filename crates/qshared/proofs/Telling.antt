@@ -10,9 +10,9 @@ use Rattle.qtables.specs.Members.{IsRoster}
 use Rattle.qtables.specs.declared.member.Member.{Member}
 use Rattle.qmodel.specs.declared.call.Call.{Call}
 use Rattle.qmodel.specs.declared.call.Completion.{Completion}
-use Rattle.qmodel.specs.Endings.{GoesToBlocked, gets, may_end}
-use Rattle.qmodel.specs.Facts.{threads_of}
-use Rattle.qmodel.specs.Lawful.{with_event}
+use Rattle.qmodel.specs.Private.Endings.{GoesToBlocked, gets, may_end}
+use Rattle.qmodel.specs.Private.Facts.{threads_of}
+use Rattle.qmodel.specs.Private.Lawful.{with_event}
 use Rattle.qmodel.specs.Trace.{Event, Trace}
 use Rattle.qmodel.proofs.Rosters.{among_member, known}
 use Rattle.qmodel.proofs.TraceLaws.Blocked.{blocked_unless_ended, endings_go_to_blocked}

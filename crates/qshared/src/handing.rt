@@ -2,7 +2,7 @@
 ghost use Rattle.std.specs.Prelude.{◌≡◌, ◌<◌, ◌≤◌, [], ◌∷◌, length, ◌||◌, ◌==◌};
 ghost use Rattle.std.specs.List.{AllByRecursion};
 ghost use Rattle.qhandoff.specs.Words.{cells_id, kernel_id, desk};
-ghost use Rattle.qmodel.specs.Endings.{gets, AreApart};
+ghost use Rattle.qmodel.specs.Private.Endings.{gets, AreApart};
 ghost use Rattle.qshared.specs.Due.{place};
 ghost use Rattle.qshared.specs.Private.Putting.{MayPut, Handed};
 

@@ -7,10 +7,10 @@ use Rattle.std.proofs.lemmas.Iterator.Adapters.{position_from-zero}
 use Rattle.std.proofs.lemmas.Option.{same_Some, none-some}
 use Rattle.qtables.specs.Members.{member_at}
 use Rattle.qtables.specs.declared.member.Member.{Member}
-use Rattle.qmodel.specs.Facts.{is_in_process}
+use Rattle.qmodel.specs.Private.Facts.{is_in_process}
 use Rattle.qstate.specs.declared.thread.Thread.{Thread}
 use Rattle.qstate.specs.Thread.{members_of, open_in, level_in, seat_in, SetsOpen, SetsLevel, Wakes, MarksUnblocked}
-use Rattle.qmodel.specs.Step.{unblocked_call}
+use Rattle.qmodel.specs.Private.Step.{unblocked_call}
 use Rattle.std.specs.Option.{option_map}
 
 -- the thread stands at k, and nowhere before

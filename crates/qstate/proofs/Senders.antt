@@ -11,7 +11,7 @@ use Rattle.qtables.specs.declared.connection.Connection.{Connection}
 use Rattle.qstate.specs.declared.channel.Channel.{Channel}
 use Rattle.qmodel.specs.declared.open_call.OpenCall.{OpenCall}
 use Rattle.qstate.specs.declared.thread.Thread.{Thread}
-use Rattle.qmodel.specs.Facts.{threads_of, is_send, sender_among, message_in}
+use Rattle.qmodel.specs.Private.Facts.{threads_of, is_send, sender_among, message_in}
 use Rattle.qstate.specs.Held.{is_held_in, is_held_over}
 use Rattle.qstate.specs.Thread.{held_over_in, members_of, open_in, sender_in, sent_call, message_from, ChangesSender}
 use Rattle.qstate.proofs.Seats.{IsFirstAt, first_open, set_members, set_open, set_level}

@@ -7,7 +7,7 @@ use Rattle.qqueue.specs.declared.item.Item.{Item}
 use Rattle.qtables.specs.Entries.{entry_at}
 use Rattle.qtables.specs.declared.connection.Connection.{Connection}
 use Rattle.qstate.specs.declared.channel.Channel.{Channel}
-use Rattle.qmodel.specs.Facts.{OpenChannel}
+use Rattle.qmodel.specs.Trace.{OpenChannel}
 
 -- what a call may read of a channel
 abbrev pub open_channel_of : Channel → OpenChannel

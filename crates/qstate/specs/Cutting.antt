@@ -9,9 +9,9 @@ use Rattle.qmodel.specs.declared.call.Completion.{Completion}
 use Rattle.qmodel.specs.declared.open_call.OpenCall.{OpenCall}
 use Rattle.qmodel.specs.declared.open_call.Wait.{Wait}
 use Rattle.qmodel.specs.declared.open_call.Wait.TheVariants.{Answer, Item as ForItem}
-use Rattle.qmodel.specs.Cutting.{is_on, is_over, cut_where}
-use Rattle.qmodel.specs.Step.{is_unread_send}
-use Rattle.qmodel.specs.Facts.{threads_of}
+use Rattle.qmodel.specs.Private.Cutting.{is_on, is_over, cut_where}
+use Rattle.qmodel.specs.Private.Step.{is_unread_send}
+use Rattle.qmodel.specs.Private.Facts.{threads_of}
 use Rattle.qstate.specs.declared.channel.Channel.{Channel}
 use Rattle.qstate.specs.declared.cutting.Cut.{Cut}
 use Rattle.qstate.specs.declared.cutting.Cut.TheVariants.{On, All, Of, Over}

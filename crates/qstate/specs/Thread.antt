@@ -9,9 +9,9 @@ use Rattle.qmodel.specs.declared.open_call.Receipt.{Receipt}
 use Rattle.qmodel.specs.declared.open_call.Wait.{Wait}
 use Rattle.qmodel.specs.declared.open_call.Wait.TheVariants.{Answer, Item as ForItem}
 use Rattle.qstate.specs.declared.thread.Thread.{Thread}
-use Rattle.qmodel.specs.Facts.{threads_of, sender_among, message_in}
-use Rattle.qmodel.specs.Receivers.{newest_receiver_among}
-use Rattle.qmodel.specs.Step.{held_call, is_thread, unblocked_call}
+use Rattle.qmodel.specs.Private.Facts.{threads_of, sender_among, message_in}
+use Rattle.qmodel.specs.Private.Receivers.{newest_receiver_among}
+use Rattle.qmodel.specs.Private.Step.{held_call, is_thread, unblocked_call}
 
 -- the roster
 abbrev pub members_of : List Thread → List Member

@@ -3,8 +3,8 @@
 ghost use Rattle.std.specs.Prelude.{◌≡◌, ◌==◌, ◌+◌, ◌≤◌, ◌<◌, ◌++◌, ◌∷◌, ◌&&◌, [], count_by, is_some, true, None, Some, if◌then◌else◌, IsOk, OnOk, OnErr, IfErr, IfSome, IfNone};
 ghost use Rattle.std.specs.List.{AllByRecursion};
 ghost use Rattle.qqueue.specs.Best.{best_of, with_item_priority, without_item};
-ghost use Rattle.qmodel.specs.Pulses.{pulses_among};
-ghost use Rattle.qmodel.specs.Facts.{is_fixed, tells_disconnect, tells_unblock};
+ghost use Rattle.qmodel.specs.Private.Pulses.{pulses_among};
+ghost use Rattle.qmodel.specs.Private.Facts.{is_fixed, tells_disconnect, tells_unblock};
 ghost use Rattle.qstate.specs.Channel.{channel_in, own_channel_in, pending_in, is_of, room_in, way_in, ClosesIn, SetsItems};
 ghost use Rattle.qtables.specs.Entries.{entry_at};
 

@@ -3,9 +3,9 @@
 ghost use Rattle.std.specs.Prelude.{◌≡◌, ◌==◌, ◌&&◌, ◌≤◌, ◌<◌, [], true, Some, None, is_some, length, filter_map, if◌then◌else◌};
 ghost use Rattle.qtables.specs.Entries.{entry_at};
 ghost use Rattle.qtables.specs.Members.{IsRoster};
-ghost use Rattle.qmodel.specs.Cutting.{buffer_of_wait, is_on, is_over, cut_call, cut_where};
-ghost use Rattle.qmodel.specs.Step.{is_unread_send};
-ghost use Rattle.qmodel.specs.Facts.{threads_of};
+ghost use Rattle.qmodel.specs.Private.Cutting.{buffer_of_wait, is_on, is_over, cut_call, cut_where};
+ghost use Rattle.qmodel.specs.Private.Step.{is_unread_send};
+ghost use Rattle.qmodel.specs.Private.Facts.{threads_of};
 ghost use Rattle.qstate.specs.Cutting.{is_cut_by, ending_for, with_ending, thread_unless_cut, unread_over_by, unread_on_by, call_if_cut, is_taken_from, Lose, AreCut, LoseCut};
 ghost use Rattle.qstate.specs.Thread.{members_of, open_in};
 

@@ -3,12 +3,12 @@
 ghost use Rattle.std.specs.Prelude.{◌≡◌, Some, None, is_some, position, length, option_map, IfSome};
 ghost use Rattle.qbase.specs.Laying.{laid_count, lay_over};
 ghost use Rattle.qtables.specs.Members.{IsRoster};
-ghost use Rattle.qmodel.specs.Calls.Info.{info_of_open};
-ghost use Rattle.qmodel.specs.Facts.{is_send, message_in};
-ghost use Rattle.qmodel.specs.Held.{reply_buffer_in, reply_buffer_of};
+ghost use Rattle.qmodel.specs.Private.Calls.Info.{info_of_open};
+ghost use Rattle.qmodel.specs.Private.Facts.{is_send, message_in};
+ghost use Rattle.qmodel.specs.Private.Held.{reply_buffer_in, reply_buffer_of};
 ghost use Rattle.qstate.specs.Held.{guarded_message_in, held_message_in, is_held_in};
-ghost use Rattle.qmodel.specs.Rows.{with_buffer};
-ghost use Rattle.qmodel.specs.Step.{unblocked_call, unblocked_wait, written_call};
+ghost use Rattle.qmodel.specs.Private.Rows.{with_buffer};
+ghost use Rattle.qmodel.specs.Private.Step.{unblocked_call, unblocked_wait, written_call};
 ghost use Rattle.qstate.specs.Thread.{members_of, open_in, seat_in, sender_in, sent_call, SetsOpen, ChangesSender, MarksUnblocked};
 
 use crate::channel::{Channel, owns, tells_unblock};

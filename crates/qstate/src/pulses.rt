@@ -4,7 +4,7 @@ ghost use Rattle.std.specs.Prelude.{◌≡◌, ◌<◌, [], true, is_some, IfOk,
 ghost use Rattle.std.specs.List.{AllByRecursion};
 ghost use Rattle.qqueue.specs.Best.{is_pulse};
 ghost use Rattle.qtables.specs.Members.{IsRoster};
-ghost use Rattle.qmodel.specs.Rows.{takes};
+ghost use Rattle.qmodel.specs.Private.Rows.{takes};
 ghost use Rattle.qstate.specs.Channel.{channel_in, pending_in};
 ghost use Rattle.qstate.specs.Pulses.{IsSent, IsSentIfDue, IsTurnedAway, IsUnsent};
 ghost use Rattle.qstate.specs.Thread.{members_of};

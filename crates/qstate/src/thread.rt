@@ -4,11 +4,11 @@ ghost use Rattle.std.specs.Prelude.{◌≡◌, ◌==◌, ◌<◌, ◌≤◌, Som
 ghost use Rattle.qbase.specs.Laying.{laid_count, lay_over};
 ghost use Rattle.qtables.specs.Members.{member_at, IsRoster};
 ghost use Rattle.qqueue.specs.Best.{is_pulse};
-ghost use Rattle.qmodel.specs.Facts.{is_in_process, is_send, message_in};
-ghost use Rattle.qmodel.specs.Rows.{delivery_of};
-ghost use Rattle.qmodel.specs.Step.{held_call};
+ghost use Rattle.qmodel.specs.Private.Facts.{is_in_process, is_send, message_in};
+ghost use Rattle.qmodel.specs.Private.Rows.{delivery_of};
+ghost use Rattle.qmodel.specs.Private.Step.{held_call};
 ghost use Rattle.qstate.specs.Thread.{members_of, open_in, seat_in, level_in, ready_thread, newest_in, later_of_two, held_over_in, message_from, SetsOpen, SetsLevel, Wakes, ChangesSender, HandsOver};
-ghost use Rattle.qmodel.specs.Receivers.{wait_on};
+ghost use Rattle.qmodel.specs.Private.Receivers.{wait_on};
 
 use qbase::bytes::Bytes;
 use qbase::ids::{ChannelId, ConnectionId, ProcessNo, ReceiveId, ThreadNo};

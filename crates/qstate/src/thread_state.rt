@@ -2,7 +2,7 @@
 
 ghost use Rattle.std.specs.Prelude.{◌≡◌, Some};
 ghost use Rattle.qtables.specs.Entries.{entry_at};
-ghost use Rattle.qmodel.specs.ThreadState.{channel_over, state_of, state_in};
+ghost use Rattle.qmodel.specs.Private.ThreadState.{channel_over, state_of, state_in};
 ghost use Rattle.qstate.specs.Thread.{open_in, seat_in};
 
 use crate::thread::Thread;

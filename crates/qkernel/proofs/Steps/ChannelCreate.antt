@@ -15,12 +15,12 @@ use Rattle.qmodel.specs.declared.call.Call.TheVariants.{ChannelCreate}
 use Rattle.qmodel.specs.declared.call.Completion.{Completion}
 use Rattle.qmodel.specs.declared.call.Mark.TheVariants as mark
 use Rattle.qstate.specs.declared.channel.Channel.{Channel}
-use Rattle.qmodel.specs.Answer.{MayRefuse, refusal_ending}
+use Rattle.qmodel.specs.Private.Answer.{MayRefuse, refusal_ending}
 use Rattle.qstate.specs.Channel.{open_channel_of, channel_in, items_waiting_on, pending_in, ids_of}
-use Rattle.qmodel.specs.Effects.{creates}
+use Rattle.qmodel.specs.Private.Effects.{creates}
 use Rattle.qkernel.specs.Kernel.{State, IsSound}
 use Rattle.qkernel.specs.Private.Steps.{Steps, facts_in}
-use Rattle.qmodel.specs.Step.{put_at, one_for}
+use Rattle.qmodel.specs.Private.Step.{put_at, one_for}
 use Rattle.qstate.specs.Thread.{members_of, open_in}
 use Rattle.qmodel.proofs.Rosters.{rises, among, only_own}
 use Rattle.qbase.proofs.Lists.{all_append}

@@ -8,9 +8,9 @@ use Rattle.qqueue.specs.declared.item.Item.{Item}
 use Rattle.qtables.specs.Entries.{entry_at}
 use Rattle.qtables.specs.Members.{member_at}
 use Rattle.qtables.specs.declared.member.Member.{Member}
-use Rattle.qmodel.specs.Answer.{refusal_ending}
-use Rattle.qmodel.specs.Facts.{owns}
-use Rattle.qmodel.specs.Step.{uncut_items}
+use Rattle.qmodel.specs.Private.Answer.{refusal_ending}
+use Rattle.qmodel.specs.Private.Facts.{owns}
+use Rattle.qmodel.specs.Private.Step.{uncut_items}
 use Rattle.qmodel.specs.declared.call.Call.TheVariants.{ChannelDestroy}
 use Rattle.qmodel.specs.declared.call.Completion.{Completion}
 use Rattle.qstate.specs.Channel.{ClosesIn, channel_in, is_of, pending_in}

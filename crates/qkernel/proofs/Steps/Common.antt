@@ -14,18 +14,19 @@ use Rattle.qstate.specs.declared.channel.Channel.{Channel}
 use Rattle.qstate.specs.declared.thread.Thread.{Thread}
 use Rattle.qbase.specs.declared.errno.Errno.{Errno}
 use Rattle.qqueue.specs.declared.item.Item.{Item}
-use Rattle.qmodel.specs.Answer.{MayRefuse, refusal_ending, refusal}
-use Rattle.qmodel.specs.Calls.{row_of}
-use Rattle.qmodel.specs.Effects.{closes, makes, sets}
-use Rattle.qmodel.specs.Rows.{names}
-use Rattle.qmodel.specs.Step.{uncut_items, items_with_priority_set, pending_after, unreceived_items}
-use Rattle.qmodel.specs.Past.{made_on}
+use Rattle.qmodel.specs.Private.Answer.{MayRefuse, refusal_ending, refusal}
+use Rattle.qmodel.specs.Private.Calls.{row_of}
+use Rattle.qmodel.specs.Private.Effects.{closes, makes, sets}
+use Rattle.qmodel.specs.Private.Rows.{names}
+use Rattle.qmodel.specs.Private.Step.{uncut_items, items_with_priority_set, pending_after, unreceived_items}
+use Rattle.qmodel.specs.Private.Past.{made_on}
 use Rattle.qmodel.proofs.Past.Cuts.{EndsSettled, none_cut}
 use Rattle.qmodel.proofs.Past.Ends.{row_passes}
 use Rattle.qmodel.proofs.Past.Laws.{is_forceful}
 use Rattle.qmodel.proofs.Calls.{row_laws}
 use Rattle.qstate.specs.Channel.{channel_in, pending_in, ids_of, is_of, way_in}
-use Rattle.qmodel.specs.Facts.{Facts, OpenChannel, is_in_process}
+use Rattle.qmodel.specs.Private.Facts.{Facts, is_in_process}
+use Rattle.qmodel.specs.Trace.{OpenChannel}
 use Rattle.qmodel.proofs.Parts.{is_owned_by, leads_to}
 use Rattle.qkernel.specs.Kernel.{State, IsSound}
 use Rattle.qkernel.specs.Private.Steps.{Steps, facts_in}

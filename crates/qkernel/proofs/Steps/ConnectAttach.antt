@@ -9,12 +9,12 @@ use Rattle.qtables.specs.declared.member.Member.{Member}
 use Rattle.qmodel.specs.declared.call.Call.TheVariants.{ConnectAttach}
 use Rattle.qmodel.specs.declared.call.Completion.{Completion}
 use Rattle.qmodel.specs.declared.call.Mark.TheVariants as mark
-use Rattle.qmodel.specs.Answer.{MayRefuse, refusal_ending}
+use Rattle.qmodel.specs.Private.Answer.{MayRefuse, refusal_ending}
 use Rattle.qstate.specs.Channel.{channel_in}
-use Rattle.qmodel.specs.Effects.{attaches}
+use Rattle.qmodel.specs.Private.Effects.{attaches}
 use Rattle.qkernel.specs.Kernel.{State, IsSound}
 use Rattle.qkernel.specs.Private.Steps.{Steps, facts_in}
-use Rattle.qmodel.specs.Step.{put_at, one_for}
+use Rattle.qmodel.specs.Private.Step.{put_at, one_for}
 use Rattle.qstate.specs.Thread.{members_of, open_in}
 use Rattle.qmodel.proofs.Rosters.{rises, among, only_own}
 use Rattle.qbase.proofs.Lists.{all_append}

@@ -16,15 +16,16 @@ use Rattle.qtables.specs.Entries.{entry_at, without_entry}
 use Rattle.qtables.specs.Members.{member_at}
 use Rattle.qtables.specs.declared.connection.Connection.{Connection}
 use Rattle.qtables.specs.declared.member.Member.{Member}
-use Rattle.qmodel.specs.Answer.{MayRefuse, ending, refusal_ending}
-use Rattle.qmodel.specs.Calls.ConnectDetach.{connection_between, connections_between, due_pulse}
+use Rattle.qmodel.specs.Private.Answer.{MayRefuse, ending, refusal_ending}
+use Rattle.qmodel.specs.Private.Calls.ConnectDetach.{connection_between, connections_between, due_pulse}
 use Rattle.qmodel.proofs.Parts.{due_pulse_over, is_own}
-use Rattle.qmodel.specs.Cutting.{cut_where, is_on, is_over}
-use Rattle.qmodel.specs.Facts.{tells_disconnect, threads_of}
-use Rattle.qmodel.specs.Pulses.{refusal_if_full_for, ends_receiver, pulse_receipt}
-use Rattle.qmodel.specs.Rows.{Made, Received, disconnect_item}
-use Rattle.qmodel.specs.Step.{is_cut, uncut_items, unreceived_items, unless, is_unread_send}
-use Rattle.qmodel.specs.Past.{made_on}
+use Rattle.qmodel.specs.Private.Cutting.{cut_where, is_on, is_over}
+use Rattle.qmodel.specs.Private.Facts.{tells_disconnect, threads_of}
+use Rattle.qmodel.specs.Private.Pulses.{refusal_if_full_for, ends_receiver, pulse_receipt}
+use Rattle.qmodel.specs.Private.Rows.{Received, disconnect_item}
+use Rattle.qmodel.specs.Trace.{SentItem}
+use Rattle.qmodel.specs.Private.Step.{is_cut, uncut_items, unreceived_items, unless, is_unread_send}
+use Rattle.qmodel.specs.Private.Past.{made_on}
 use Rattle.qmodel.specs.declared.call.Call.TheVariants.{ConnectDetach}
 use Rattle.qmodel.specs.declared.call.Completion.{Completion}
 use Rattle.qmodel.specs.declared.open_call.Wait.TheVariants.{Item as ForItem}
@@ -35,7 +36,7 @@ use Rattle.qstate.specs.Channel.{channel_in, own_channel_in, pending_in}
 use Rattle.qstate.specs.Cutting.{AreCut, LoseCut, ending_for, is_cut_among}
 use Rattle.qstate.specs.Endings.{with_ending_if}
 use Rattle.qstate.specs.Pulses.{has_room}
-use Rattle.qmodel.specs.Receivers.{newest_receiver}
+use Rattle.qmodel.specs.Private.Receivers.{newest_receiver}
 use Rattle.qstate.specs.Thread.{level_in, members_of, newest_in, open_in}
 use Rattle.qkernel.specs.Kernel.{State, IsSound}
 use Rattle.qkernel.specs.Private.Steps.{Steps, facts_in}
@@ -117,7 +118,7 @@ module _ (s : State) (t coid : ℕ) (m : Member) (known : member_at (members_of 
     due_is last sound is =
         let same : m.process ≡ of.connection.process = eqb-true m.process of.connection.process of.process in
         ap (due_pulse_over (facts_in s) t) of.is
-        ∙ rw (← same, of.channel, counted_between s m.process h sound, ← is) (elim last as (λ b. cond {A = Option Made} b (Some (record { item = pulse; channel = h })) None ≡ made_for h (cond b (Some pulse) None)) [ true ↦ refl | false ↦ refl ])
+        ∙ rw (← same, of.channel, counted_between s m.process h sound, ← is) (elim last as (λ b. cond {A = Option SentItem} b (Some (record { item = pulse; channel = h })) None ≡ made_for h (cond b (Some pulse) None)) [ true ↦ refl | false ↦ refl ])
 
     module _ (d : Option Item) (due_is : due_pulse (facts_in s) t coid ≡ made_for h d) where
       pub detach_full : is_some d ≡ true → has_room s.channels h ≡ false → MayRefuse (facts_in s) t (ConnectDetach coid) Again
@@ -138,7 +139,7 @@ module _ (s : State) (t coid : ℕ) (m : Member) (known : member_at (members_of 
 
       -- what is cut once the pulse is sent
       module _ (sound : IsSound s) (mid : List Thread) (between : List (ℕ × Channel)) (met : Option Completion) (is : IsTold s t (made_for h d) mid between met) where
-        abbrev o : Option Made
+        abbrev o : Option SentItem
         o = made_for h d
 
         abbrev ts : List ℕ

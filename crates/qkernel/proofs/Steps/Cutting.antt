@@ -6,8 +6,8 @@ use Rattle.std.proofs.lemmas.Bool.{eqb-true}
 use Rattle.qbase.specs.declared.errno.Errno.{Errno}
 use Rattle.qqueue.specs.declared.item.Item.{Item}
 use Rattle.qtables.specs.Entries.{entry_at}
-use Rattle.qmodel.specs.Cutting.{cut_where}
-use Rattle.qmodel.specs.Facts.{threads_of}
+use Rattle.qmodel.specs.Private.Cutting.{cut_where}
+use Rattle.qmodel.specs.Private.Facts.{threads_of}
 use Rattle.qmodel.specs.declared.call.Completion.{Completion}
 use Rattle.qmodel.specs.declared.call.Mark.TheVariants as mark
 use Rattle.qstate.specs.Channel.{pending_in}

@@ -12,11 +12,11 @@ use Rattle.qtables.specs.declared.member.Member.{Member}
 use Rattle.qstate.specs.declared.channel.Channel.{Channel}
 use Rattle.qstate.specs.declared.thread.Thread.{Thread}
 use Rattle.qstate.specs.Channel.{pending_in, ids_of, way_in, SetsItems, channel_in}
-use Rattle.qmodel.specs.Facts.{way, is_fixed}
-use Rattle.qmodel.specs.Rows.{item_sent_over}
+use Rattle.qmodel.specs.Private.Facts.{way, is_fixed}
+use Rattle.qmodel.specs.Private.Rows.{item_sent_over}
 use Rattle.qkernel.specs.Kernel.{State, IsSound}
 use Rattle.qkernel.specs.Private.Steps.{facts_in}
-use Rattle.qmodel.specs.Past.{made_on}
+use Rattle.qmodel.specs.Private.Past.{made_on}
 use Rattle.qstate.specs.Thread.{members_of}
 use Rattle.qbase.proofs.Lists.{all_append, eqb_either}
 use Rattle.qmodel.proofs.Calls.Delivering.{sent_way}

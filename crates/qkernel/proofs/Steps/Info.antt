@@ -15,8 +15,8 @@ use Rattle.qmodel.specs.declared.open_call.Wait.{Wait}
 use Rattle.qmodel.specs.declared.open_call.Wait.TheVariants.{Answer, Item as ForItem}
 use Rattle.qstate.specs.declared.thread.Thread.{Thread}
 use Rattle.qmodel.specs.declared.call.Info.{Info as Told}
-use Rattle.qmodel.specs.Calls.Info.{info_of, info_of_open, info_ending}
-use Rattle.qmodel.specs.Facts.{is_send, sender, threads_of}
+use Rattle.qmodel.specs.Private.Calls.Info.{info_of, info_of_open, info_ending}
+use Rattle.qmodel.specs.Private.Facts.{is_send, sender, threads_of}
 use Rattle.qstate.specs.Held.{is_held_in}
 use Rattle.qkernel.specs.Kernel.{State, IsSound}
 use Rattle.qkernel.specs.Private.Steps.{Steps, facts_in}

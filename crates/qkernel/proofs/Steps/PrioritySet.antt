@@ -11,8 +11,8 @@ use Rattle.qqueue.specs.declared.item.Item.{Item}
 use Rattle.qtables.specs.Entries.{entry_at}
 use Rattle.qtables.specs.Members.{member_at}
 use Rattle.qtables.specs.declared.member.Member.{Member}
-use Rattle.qmodel.specs.Answer.{refusal_ending}
-use Rattle.qmodel.specs.Facts.{is_in_process}
+use Rattle.qmodel.specs.Private.Answer.{refusal_ending}
+use Rattle.qmodel.specs.Private.Facts.{is_in_process}
 use Rattle.qmodel.specs.declared.call.Call.TheVariants.{PrioritySet}
 use Rattle.qmodel.specs.declared.call.Completion.{Completion}
 use Rattle.qmodel.specs.declared.call.Mark.TheVariants as mark
@@ -23,7 +23,7 @@ use Rattle.qkernel.specs.Private.Steps.{Steps, facts_in}
 use Rattle.qstate.specs.Channel.{pending_in}
 use Rattle.qstate.specs.Thread.{level_in, members_of, open_in, SetsLevel}
 use Rattle.qstate.specs.Unread.{MovesUnread}
-use Rattle.qmodel.specs.Step.{items_with_priority_set, is_unread_send}
+use Rattle.qmodel.specs.Private.Step.{items_with_priority_set, is_unread_send}
 use Rattle.qmodel.proofs.Past.Cuts.{none_cut}
 use Rattle.qmodel.proofs.Rosters.{among, only_own, rises}
 use Rattle.qbase.proofs.Lists.{all_map, all_more}

@@ -8,16 +8,16 @@ use Rattle.qtables.specs.Members.{member_at}
 use Rattle.qtables.specs.declared.member.Member.{Member}
 use Rattle.qmodel.specs.declared.call.Call.TheVariants.{Pulse}
 use Rattle.qmodel.specs.declared.call.Completion.{Completion}
-use Rattle.qmodel.specs.Answer.{MayRefuse, refusal_ending}
-use Rattle.qmodel.specs.Calls.Pulse.{is_negative}
+use Rattle.qmodel.specs.Private.Answer.{MayRefuse, refusal_ending}
+use Rattle.qmodel.specs.Private.Calls.Pulse.{is_negative}
 use Rattle.qstate.specs.Channel.{way_in}
 use Rattle.qstate.specs.Pulses.{has_room}
-use Rattle.qmodel.specs.Facts.{way}
-use Rattle.qmodel.specs.Rows.{pulse_item}
-use Rattle.qmodel.specs.Pulses.{refusal_if_full, ends_receiver, pulse_receipt, wants_room_for}
+use Rattle.qmodel.specs.Private.Facts.{way}
+use Rattle.qmodel.specs.Private.Rows.{pulse_item}
+use Rattle.qmodel.specs.Private.Pulses.{refusal_if_full, ends_receiver, pulse_receipt, wants_room_for}
 use Rattle.qkernel.specs.Kernel.{State}
 use Rattle.qkernel.specs.Private.Steps.{Steps, facts_in}
-use Rattle.qmodel.specs.Receivers.{newest_receiver}
+use Rattle.qmodel.specs.Private.Receivers.{newest_receiver}
 use Rattle.qstate.specs.Thread.{members_of, newest_in, open_in}
 use Rattle.qkernel.proofs.Steps.Common.{counted, step_refused_alone, way-leads_to}
 use Rattle.qkernel.proofs.Steps.Delivering.{some_sent, some_way}

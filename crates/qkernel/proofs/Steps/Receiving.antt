@@ -20,14 +20,14 @@ use Rattle.qmodel.specs.declared.open_call.OpenCall.{OpenCall}
 use Rattle.qmodel.specs.declared.open_call.Receipt.{Receipt}
 use Rattle.qmodel.specs.declared.open_call.Wait.TheVariants.{Item as ForItem}
 use Rattle.qstate.specs.declared.thread.Thread.{Thread}
-use Rattle.qmodel.specs.Answer.{ending}
+use Rattle.qmodel.specs.Private.Answer.{ending}
 use Rattle.qstate.specs.Channel.{channel_in, pending_in, ids_of, is_of, SetsItems}
-use Rattle.qmodel.specs.Facts.{owns, threads_of, is_fixed}
-use Rattle.qmodel.specs.Receiving.{own_receipt, receipt_when_taken, receive_of}
-use Rattle.qmodel.specs.Rows.{Received, receipt_ending}
+use Rattle.qmodel.specs.Private.Facts.{owns, threads_of, is_fixed}
+use Rattle.qmodel.specs.Private.Receiving.{own_receipt, receipt_when_taken, receive_of}
+use Rattle.qmodel.specs.Private.Rows.{Received, receipt_ending}
 use Rattle.qkernel.specs.Kernel.{State, IsSound}
 use Rattle.qkernel.specs.Private.Steps.{Steps, facts_in}
-use Rattle.qmodel.specs.Step.{after_receipt, is_thread, held_call, unreceived_items, unless, priority_taken}
+use Rattle.qmodel.specs.Private.Step.{after_receipt, is_thread, held_call, unreceived_items, unless, priority_taken}
 use Rattle.qstate.specs.Thread.{members_of, open_in, level_in, message_from, sender_in, SetsOpen, HandsOver, SetsLevel}
 use Rattle.qbase.proofs.Lists.{all_filter, eqb_either, cond_same}
 use Rattle.qmodel.proofs.Rosters.{rises, among, nothing, filter_map_same, only_own}

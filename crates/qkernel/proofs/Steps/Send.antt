@@ -17,15 +17,15 @@ use Rattle.qmodel.specs.declared.open_call.OpenCall.{OpenCall}
 use Rattle.qmodel.specs.declared.open_call.Receipt.{Receipt}
 use Rattle.qmodel.specs.declared.open_call.Wait.TheVariants.{Answer}
 use Rattle.qstate.specs.declared.thread.Thread.{Thread}
-use Rattle.qmodel.specs.Answer.{refusal_ending, ending}
+use Rattle.qmodel.specs.Private.Answer.{refusal_ending, ending}
 use Rattle.qstate.specs.Channel.{pending_in, way_in, SetsItems}
-use Rattle.qmodel.specs.Facts.{way, threads_of}
-use Rattle.qmodel.specs.Receivers.{newest_receiver}
-use Rattle.qmodel.specs.Rows.{message_item, takes, item_in_mark, item_sent_over}
+use Rattle.qmodel.specs.Private.Facts.{way, threads_of}
+use Rattle.qmodel.specs.Private.Receivers.{newest_receiver}
+use Rattle.qmodel.specs.Private.Rows.{message_item, takes, item_in_mark, item_sent_over}
 use Rattle.qkernel.specs.Kernel.{State, IsSound}
 use Rattle.qkernel.specs.Private.Steps.{Steps, facts_in}
-use Rattle.qmodel.specs.Step.{unless, held_call}
-use Rattle.qmodel.specs.Past.{made_on}
+use Rattle.qmodel.specs.Private.Step.{unless, held_call}
+use Rattle.qmodel.specs.Private.Past.{made_on}
 use Rattle.qstate.specs.Thread.{members_of, open_in, level_in, newest_in, SetsOpen, Wakes}
 use Rattle.qbase.proofs.Lists.{is_among, cond_same}
 use Rattle.qmodel.proofs.Rosters.{rises, nothing, filter_map_same, only_own}

@@ -9,12 +9,12 @@ use Rattle.qtables.specs.declared.member.Member.{Member}
 use Rattle.qbase.specs.declared.errno.Errno.{Errno}
 use Rattle.qbase.specs.declared.errno.Errno.TheVariants.{Again, NoMemory}
 use Rattle.qbase.proofs.Lists.{cond_same}
-use Rattle.qmodel.specs.Answer.{MayRefuse, ending, refusal_ending, refusal}
-use Rattle.qmodel.specs.Calls.{row_of}
-use Rattle.qmodel.specs.Facts.{Facts, threads_of}
-use Rattle.qmodel.specs.Effects.{attaches, closes, creates, detaches, makes, sets, shuts_down, unblocks, writes}
-use Rattle.qmodel.specs.Rows.{Made}
-use Rattle.qmodel.specs.Step.{after_unblock, unless}
+use Rattle.qmodel.specs.Private.Answer.{MayRefuse, ending, refusal_ending, refusal}
+use Rattle.qmodel.specs.Private.Calls.{row_of}
+use Rattle.qmodel.specs.Private.Facts.{Facts, threads_of}
+use Rattle.qmodel.specs.Private.Effects.{attaches, closes, creates, detaches, makes, sets, shuts_down, unblocks, writes}
+use Rattle.qmodel.specs.Trace.{SentItem}
+use Rattle.qmodel.specs.Private.Step.{after_unblock, unless}
 use Rattle.qmodel.specs.declared.call.Call.{Call}
 use Rattle.qmodel.specs.declared.call.Completion.{Completion}
 use Rattle.qmodel.specs.declared.open_call.OpenCall.{OpenCall}
@@ -28,7 +28,7 @@ use Rattle.qkernel.specs.Kernel.{State, IsSound}
 use Rattle.qkernel.specs.Private.Steps.{Steps, facts_in}
 use Rattle.qmodel.proofs.Past.OpenCalls.{unblock_none}
 use Rattle.qmodel.proofs.Rosters.{among, filter_map_same, only_own, rises}
-use Rattle.qmodel.specs.Pulses.{ends_receiver, pulse_receipt}
+use Rattle.qmodel.specs.Private.Pulses.{ends_receiver, pulse_receipt}
 use Rattle.qmodel.proofs.Past.Laws.{IsSettled}
 use Rattle.qkernel.proofs.Steps.Common.{Counted, counted_alone, sound_counted, sound_counted_alone, step_refused, uncut_by}
 use Rattle.qkernel.proofs.Steps.Cutting.{mine}
@@ -46,7 +46,7 @@ pub record Quiet (f : Facts) (t : ℕ) (c : Call) : Type 0 where
   pub writes_none : writes c ≡ None
 
 -- the call is accepted, and sends this pulse
-pub record Tells (s : State) (t : ℕ) (c : Call) (o : Option Made) : Type 0 where
+pub record Tells (s : State) (t : ℕ) (c : Call) (o : Option SentItem) : Type 0 where
   pub quiet : Quiet (facts_in s) t c
   pub passed : refusal (facts_in s) t c ≡ None
   pub made : makes (facts_in s) t c ≡ o
@@ -55,12 +55,12 @@ pub record Tells (s : State) (t : ℕ) (c : Call) (o : Option Made) : Type 0 whe
   pub receipt : (row_of (facts_in s) t c).receipt ≡ pulse_receipt (facts_in s) o
 
 -- the threads once it is kept that an unblock pulse was made, if it was
-pub record AreMarked (c : Call) (o : Option Made) (mid threads : List Thread) : Type 0 where
+pub record AreMarked (c : Call) (o : Option SentItem) (mid threads : List Thread) : Type 0 where
   pub members : members_of threads ≡ members_of mid
   pub open_call : (u : ℕ) → open_in threads u ≡ after_unblock o (unblocks c) u (open_in mid u)
   pub priority : (u : ℕ) → level_in threads u ≡ level_in mid u
 
-module _ (s : State) (t : ℕ) (c : Call) (m : Member) (o : Option Made) (sound : IsSound s) (known : member_at (members_of s.threads) t ≡ Some m) (free : open_in s.threads t ≡ None) (tells : Tells s t c o)
+module _ (s : State) (t : ℕ) (c : Call) (m : Member) (o : Option SentItem) (sound : IsSound s) (known : member_at (members_of s.threads) t ≡ Some m) (free : open_in s.threads t ≡ None) (tells : Tells s t c o)
     (mid : List Thread) (channels : List (ℕ × Channel)) (met : Option Completion) (is : IsTold s t o mid channels met) where
   abbrev ts : List ℕ
   ts = threads_of (members_of s.threads)
@@ -122,7 +122,7 @@ module _ (s : State) (t : ℕ) (c : Call) (m : Member) (o : Option Made) (sound 
       )
 
 -- a call that unblocks none leaves all as it is
-pub none_marked : (c : Call) (o : Option Made) (mid : List Thread) → unblocks c ≡ None → AreMarked c o mid mid
+pub none_marked : (c : Call) (o : Option SentItem) (mid : List Thread) → unblocks c ≡ None → AreMarked c o mid mid
 none_marked c o mid none = record { members = refl; open_call = λ u. rw none refl; priority = λ u. refl }
 
 -- ---- a pulse that is turned away

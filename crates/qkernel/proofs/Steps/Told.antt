@@ -9,12 +9,13 @@ use Rattle.std.specs.Option.{option_or}
 use Rattle.qbase.proofs.Lists.{eqb_same, is_among, or_none}
 use Rattle.qqueue.specs.Best.{is_pulse}
 use Rattle.qqueue.specs.declared.item.Item.{Item}
-use Rattle.qmodel.specs.Facts.{threads_of}
-use Rattle.qmodel.specs.Pulses.{refusal_if_full_for, ends_receiver, pulse_receipt}
-use Rattle.qmodel.specs.Receivers.{newest_receiver}
-use Rattle.qmodel.specs.Rows.{Made, item_in_mark, takes, takes_into}
-use Rattle.qmodel.specs.Step.{after_receipt, priority_taken, unreceived_items, unless}
-use Rattle.qmodel.specs.Past.{made_on}
+use Rattle.qmodel.specs.Private.Facts.{threads_of}
+use Rattle.qmodel.specs.Private.Pulses.{refusal_if_full_for, ends_receiver, pulse_receipt}
+use Rattle.qmodel.specs.Private.Receivers.{newest_receiver}
+use Rattle.qmodel.specs.Private.Rows.{item_in_mark, takes, takes_into}
+use Rattle.qmodel.specs.Trace.{SentItem}
+use Rattle.qmodel.specs.Private.Step.{after_receipt, priority_taken, unreceived_items, unless}
+use Rattle.qmodel.specs.Private.Past.{made_on}
 use Rattle.qmodel.specs.declared.call.Completion.{Completion}
 use Rattle.qmodel.specs.declared.open_call.OpenCall.{OpenCall}
 use Rattle.qmodel.specs.declared.open_call.Wait.{Wait}
@@ -35,12 +36,12 @@ use Rattle.qkernel.specs.Private.Steps.{facts_in}
 use Rattle.qkernel.proofs.Steps.Delivering.{items_after, with_item}
 
 -- the item that is due, with its channel
-abbrev pub made_for : ℕ → Option Item → Option Made
+abbrev pub made_for : ℕ → Option Item → Option SentItem
 made_for h None = None
 made_for h (Some item) = Some (record { item = item; channel = h })
 
 -- what has become of the threads and the channels, and how the call of its receiver ends
-pub record IsTold (s : State) (t : ℕ) (o : Option Made) (mid : List Thread) (channels : List (ℕ × Channel)) (met : Option Completion) : Type 0 where
+pub record IsTold (s : State) (t : ℕ) (o : Option SentItem) (mid : List Thread) (channels : List (ℕ × Channel)) (met : Option Completion) : Type 0 where
   pub room : refusal_if_full_for (facts_in s) o ≡ None
   pub members : members_of mid ≡ members_of s.threads
   pub open_call : (u : ℕ) → open_in mid u ≡ unless (is_some (ends_receiver (facts_in s) o u)) (open_in s.threads u)
@@ -83,7 +84,7 @@ told_mark item r (Some o) y pulse e = by_wait o.wait e where
   by_wait (ForItem chid kind buffer) e = sym (ap (λ x. item_in_mark x.mark) (same_Some _ y e)) ∙ rw pulse refl
 
 module _ (s : State) (t h : ℕ) (item : Item) (sound : IsSound s) (free : open_in s.threads t ≡ None) (number : item.number ≡ s.made + 1) (mid : List Thread) (channels : List (ℕ × Channel)) where
-  abbrev sent : Option Made
+  abbrev sent : Option SentItem
   sent = Some (record { item = item; channel = h })
 
   -- it waits
@@ -168,14 +169,14 @@ is_told s t h (Some item) mid channels None sound free new sent = told_left s t 
 is_told s t h (Some item) mid channels (Some y) sound free new sent = told_met s t h item sound free new.0 mid channels y new.1 sent
 
 -- what meets the pulse isn't the caller
-pub not_caller : (s : State) (t u : ℕ) (o : Option Made) (mid : List Thread) (channels : List (ℕ × Channel)) (met : Option Completion) → IsTold s t o mid channels met → is_some (ends_receiver (facts_in s) o u) ≡ true → u ≢ t
+pub not_caller : (s : State) (t u : ℕ) (o : Option SentItem) (mid : List Thread) (channels : List (ℕ × Channel)) (met : Option Completion) → IsTold s t o mid channels met → is_some (ends_receiver (facts_in s) o u) ≡ true → u ≢ t
 not_caller s t u o mid channels met is there same = true≢false (sym there ∙ ap (λ v. is_some (ends_receiver (facts_in s) o v)) same ∙ ap is_some is.idle)
 
 -- what meets the pulse waits for an item
-pub told_waits : (s : State) (o : Option Made) (u : ℕ) (y : Completion) → ends_receiver (facts_in s) o u ≡ Some y → ForAnItem (open_in s.threads u)
+pub told_waits : (s : State) (o : Option SentItem) (u : ℕ) (y : Completion) → ends_receiver (facts_in s) o u ≡ Some y → ForAnItem (open_in s.threads u)
 told_waits s None u y e = absurd (none-some y e)
 told_waits s (Some x) u y e = met_item (facts_in s) x.item [] (Some x.channel) u y e
 
-pub told_settled : (s : State) (o : Option Made) (u : ℕ) (y : Completion) → ends_receiver (facts_in s) o u ≡ Some y → IsSettled (open_in s.threads u)
+pub told_settled : (s : State) (o : Option SentItem) (u : ℕ) (y : Completion) → ends_receiver (facts_in s) o u ≡ Some y → IsSettled (open_in s.threads u)
 told_settled s None u y e = absurd (none-some y e)
 told_settled s (Some x) u y e = met_settled (facts_in s) x.item [] (Some x.channel) u y e

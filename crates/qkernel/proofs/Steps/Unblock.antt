@@ -13,15 +13,16 @@ use Rattle.qtables.specs.Entries.{entry_at}
 use Rattle.qtables.specs.Members.{member_at}
 use Rattle.qtables.specs.declared.connection.Connection.{Connection}
 use Rattle.qtables.specs.declared.member.Member.{Member}
-use Rattle.qmodel.specs.Answer.{MayRefuse, ending, refusal_ending}
-use Rattle.qmodel.specs.Calls.Unblock.{due_pulse, other_ending, guard, guard_over}
+use Rattle.qmodel.specs.Private.Answer.{MayRefuse, ending, refusal_ending}
+use Rattle.qmodel.specs.Private.Calls.Unblock.{due_pulse, other_ending, guard, guard_over}
 use Rattle.qmodel.proofs.Parts.{due_pulse_on, due_pulse_of_open}
-use Rattle.qmodel.specs.Cutting.{cut_call, cut_where}
-use Rattle.qmodel.specs.Facts.{is_in_process, threads_of}
-use Rattle.qmodel.specs.Pulses.{pulse_receipt, refusal_if_full}
-use Rattle.qmodel.specs.Rows.{unblock_item, Made}
-use Rattle.qmodel.specs.Step.{uncut_items, unreceived_items, unblocked_call, is_unread_send}
-use Rattle.qmodel.specs.Past.{made_on}
+use Rattle.qmodel.specs.Private.Cutting.{cut_call, cut_where}
+use Rattle.qmodel.specs.Private.Facts.{is_in_process, threads_of}
+use Rattle.qmodel.specs.Private.Pulses.{pulse_receipt, refusal_if_full}
+use Rattle.qmodel.specs.Private.Rows.{unblock_item}
+use Rattle.qmodel.specs.Trace.{SentItem}
+use Rattle.qmodel.specs.Private.Step.{uncut_items, unreceived_items, unblocked_call, is_unread_send}
+use Rattle.qmodel.specs.Private.Past.{made_on}
 use Rattle.qmodel.specs.declared.call.Call.TheVariants.{Unblock}
 use Rattle.qmodel.specs.declared.call.Completion.{Completion}
 use Rattle.qmodel.specs.declared.open_call.OpenCall.{OpenCall}
@@ -35,7 +36,7 @@ use Rattle.qstate.specs.Channel.{pending_in}
 use Rattle.qstate.specs.Cutting.{AreCut, LoseCut}
 use Rattle.qstate.specs.Held.{guard_in, guarded_message_in, held_message_in}
 use Rattle.qstate.specs.Pulses.{has_room}
-use Rattle.qmodel.specs.Receivers.{newest_receiver}
+use Rattle.qmodel.specs.Private.Receivers.{newest_receiver}
 use Rattle.qstate.specs.Thread.{members_of, newest_in, open_in, MarksUnblocked}
 use Rattle.qkernel.specs.Kernel.{State, IsSound}
 use Rattle.qkernel.specs.Private.Steps.{Steps, facts_in}
@@ -221,7 +222,7 @@ pub new_pulse : (n priority i : ℕ) (pulse : Item) → pulse ≡ unblock_item n
 new_pulse n priority i pulse is = subst (λ x. IsNew n (Some x)) (sym is) (refl, refl)
 
 -- what the thread is blocked in is marked
-pub are_marked : (thread : ℕ) (m : Made) (mid threads : List Thread) → MarksUnblocked thread mid threads → AreMarked (Unblock thread) (Some m) mid threads
+pub are_marked : (thread : ℕ) (m : SentItem) (mid threads : List Thread) → MarksUnblocked thread mid threads → AreMarked (Unblock thread) (Some m) mid threads
 are_marked thread m mid threads marks = record {
   members = marks.members;
   open_call = λ u. marks.open_call u ∙ (elim (eqb u thread) as (λ b. cond b (option_map unblocked_call (open_in mid u)) (open_in mid u) ≡ cond (b && true) (option_map unblocked_call (open_in mid u)) (open_in mid u)) [ true ↦ refl | false ↦ refl ]);

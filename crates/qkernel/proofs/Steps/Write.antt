@@ -10,9 +10,9 @@ use Rattle.qmodel.specs.declared.call.Call.TheVariants.{Write}
 use Rattle.qmodel.specs.declared.call.Completion.{Completion}
 use Rattle.qmodel.specs.declared.call.Mark.TheVariants as mark
 use Rattle.qstate.specs.declared.thread.Thread.{Thread}
-use Rattle.qmodel.specs.Held.{reply_buffer_in}
+use Rattle.qmodel.specs.Private.Held.{reply_buffer_in}
 use Rattle.qstate.specs.Held.{is_held_in}
-use Rattle.qmodel.specs.Step.{is_thread, written_call}
+use Rattle.qmodel.specs.Private.Step.{is_thread, written_call}
 use Rattle.qkernel.specs.Kernel.{State, IsSound}
 use Rattle.qkernel.specs.Private.Steps.{Steps}
 use Rattle.qstate.specs.Thread.{members_of, open_in, sender_in, sent_call, ChangesSender}

@@ -1,7 +1,7 @@
 //! ConnectDetach.
 
 ghost use Rattle.std.specs.Prelude.{◌≡◌, None, Some, if◌then◌else◌};
-ghost use Rattle.qmodel.specs.Rows.{disconnect_item};
+ghost use Rattle.qmodel.specs.Private.Rows.{disconnect_item};
 
 use super::Kernel;
 use super::turn::Turn;

@@ -1,8 +1,8 @@
 //! Error.
 
 ghost use Rattle.std.specs.Prelude.{◌≡◌};
-ghost use Rattle.qmodel.specs.Calls.Error.{error_finish, mark_of};
-ghost use Rattle.qmodel.specs.Held.{answer_ending};
+ghost use Rattle.qmodel.specs.Private.Calls.Error.{error_finish, mark_of};
+ghost use Rattle.qmodel.specs.Private.Held.{answer_ending};
 
 use super::Kernel;
 use super::turn::Turn;

@@ -1,9 +1,9 @@
 //! What a call looks up for its caller, and the error that refuses it where that isn't there.
 
 ghost use Rattle.std.specs.Prelude.{◌≡◌, Some, true, false, position, IfOk, IfErr};
-ghost use Rattle.qmodel.specs.Facts.{is_send};
+ghost use Rattle.qmodel.specs.Private.Facts.{is_send};
 ghost use Rattle.qstate.specs.Held.{is_held_in};
-ghost use Rattle.qmodel.specs.Facts.{is_in_process};
+ghost use Rattle.qmodel.specs.Private.Facts.{is_in_process};
 ghost use Rattle.qtables.specs.Members.{member_at};
 ghost use Rattle.qstate.specs.Held.{guarded_message_in, held_message_in};
 ghost use Rattle.qstate.specs.Thread.{level_in, members_of, open_in, seat_in};

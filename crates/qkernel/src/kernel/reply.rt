@@ -1,8 +1,8 @@
 //! Reply.
 
 ghost use Rattle.std.specs.Prelude.{◌≡◌};
-ghost use Rattle.qmodel.specs.Calls.Reply.{reply_finish};
-ghost use Rattle.qmodel.specs.Held.{answer_ending};
+ghost use Rattle.qmodel.specs.Private.Calls.Reply.{reply_finish};
+ghost use Rattle.qmodel.specs.Private.Held.{answer_ending};
 
 use super::Kernel;
 use super::turn::Turn;

@@ -2,7 +2,7 @@
 
 ghost use Rattle.std.specs.Prelude.{◌≡◌, ◌+◌, ◌<◌, ◌^◌, Some, false, true, is_some, option_map, IfSome};
 ghost use Rattle.qqueue.specs.Best.{is_pulse};
-ghost use Rattle.qmodel.specs.Rows.{takes, item_in_mark};
+ghost use Rattle.qmodel.specs.Private.Rows.{takes, item_in_mark};
 ghost use Rattle.qstate.specs.Thread.{open_in, Wakes};
 
 use super::Kernel;

@@ -1,7 +1,7 @@
 //! Unblock.
 
 ghost use Rattle.std.specs.Prelude.{◌≡◌};
-ghost use Rattle.qmodel.specs.Rows.{unblock_item};
+ghost use Rattle.qmodel.specs.Private.Rows.{unblock_item};
 
 use super::Kernel;
 use super::turn::Turn;

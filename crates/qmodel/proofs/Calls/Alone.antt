@@ -2,10 +2,10 @@
 use Rattle.std.proofs.Common.{◌≡◌, ◌∙◌, ℕ, sym}
 use Rattle.std.specs.Prelude.{None, Some}
 use Rattle.std.proofs.lemmas.Option.{none-some}
-use Rattle.qmodel.specs.Calls.{row_of}
-use Rattle.qmodel.specs.Facts.{Facts, sender}
-use Rattle.qmodel.specs.Effects.{asks, makes, writes}
-use Rattle.qmodel.specs.Rows.{Written, item_in_mark}
+use Rattle.qmodel.specs.Private.Calls.{row_of}
+use Rattle.qmodel.specs.Private.Facts.{Facts, sender}
+use Rattle.qmodel.specs.Private.Effects.{asks, makes, writes}
+use Rattle.qmodel.specs.Private.Rows.{Written, item_in_mark}
 use Rattle.qmodel.specs.declared.call.Call.{Call}
 use Rattle.qmodel.specs.declared.call.Completion.{Completion}
 use Rattle.qmodel.proofs.Past.Laws.{CallLaws, RowLaws, IsOwn}

@@ -2,11 +2,11 @@
 use Rattle.std.proofs.Common.{◌≡◌, ◌∙◌, ℕ, List, ap, sym}
 use Rattle.std.specs.Prelude.{None, Some}
 use Rattle.std.proofs.lemmas.Option.{none-some, same_Some}
-use Rattle.qmodel.specs.Calls.{row_of}
-use Rattle.qmodel.specs.Facts.{Facts, sender}
-use Rattle.qmodel.specs.Held.{Finish, ends_sender, refusal}
-use Rattle.qmodel.specs.Effects.{makes, writes}
-use Rattle.qmodel.specs.Rows.{Written, item_in_mark}
+use Rattle.qmodel.specs.Private.Calls.{row_of}
+use Rattle.qmodel.specs.Private.Facts.{Facts, sender}
+use Rattle.qmodel.specs.Private.Held.{Finish, ends_sender, refusal}
+use Rattle.qmodel.specs.Private.Effects.{makes, writes}
+use Rattle.qmodel.specs.Private.Rows.{Written, item_in_mark}
 use Rattle.qmodel.specs.declared.call.Call.{Call}
 use Rattle.qmodel.specs.declared.call.Completion.{Completion}
 use Rattle.qmodel.proofs.Calls.Alone.{IsPlain}

@@ -2,8 +2,8 @@
 use Rattle.std.proofs.Common.{ℕ, refl, subst}
 use Rattle.std.proofs.lemmas.Option.{none-some, same_Some}
 use Rattle.qbase.specs.declared.errno.Errno.TheVariants.{Srch}
-use Rattle.qmodel.specs.Cutting.{is_on}
-use Rattle.qmodel.specs.Facts.{Facts}
+use Rattle.qmodel.specs.Private.Cutting.{is_on}
+use Rattle.qmodel.specs.Private.Facts.{Facts}
 use Rattle.qmodel.specs.declared.call.Call.TheVariants.{ChannelDestroy}
 use Rattle.qmodel.proofs.Calls.Alone.{IsPlain, waits_not}
 use Rattle.qmodel.proofs.Calls.Cutting.{cutting}

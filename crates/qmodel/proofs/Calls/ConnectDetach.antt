@@ -7,14 +7,16 @@ use Rattle.std.specs.Option.{option_or}
 use Rattle.qbase.specs.declared.errno.Errno.TheVariants.{Badf, Inval}
 use Rattle.qqueue.specs.Best.{is_pulse}
 use Rattle.qtables.specs.declared.connection.Connection.{Connection}
-use Rattle.qmodel.specs.Calls.{row_of}
-use Rattle.qmodel.specs.Calls.ConnectDetach.{connections_between, due_pulse, other_ending, refusal}
+use Rattle.qmodel.specs.Private.Calls.{row_of}
+use Rattle.qmodel.specs.Private.Calls.ConnectDetach.{connections_between, due_pulse, other_ending, refusal}
 use Rattle.qmodel.proofs.Parts.{due_pulse_over, is_own}
-use Rattle.qmodel.specs.Cutting.{cut_where, is_over}
-use Rattle.qmodel.specs.Facts.{Facts, OpenChannel, tells_disconnect}
-use Rattle.qmodel.specs.Past.{is_unblock_for}
-use Rattle.qmodel.specs.Pulses.{refusal_if_full_for, ends_receiver, pulse_receipt}
-use Rattle.qmodel.specs.Rows.{Made, Received, disconnect_item, item_in_mark}
+use Rattle.qmodel.specs.Private.Cutting.{cut_where, is_over}
+use Rattle.qmodel.specs.Private.Facts.{Facts, tells_disconnect}
+use Rattle.qmodel.specs.Trace.{OpenChannel}
+use Rattle.qmodel.specs.Private.Past.{is_unblock_for}
+use Rattle.qmodel.specs.Private.Pulses.{refusal_if_full_for, ends_receiver, pulse_receipt}
+use Rattle.qmodel.specs.Private.Rows.{Received, disconnect_item, item_in_mark}
+use Rattle.qmodel.specs.Trace.{SentItem}
 use Rattle.qmodel.specs.declared.call.Call.TheVariants.{ConnectDetach}
 use Rattle.qmodel.specs.declared.call.Completion.{Completion}
 use Rattle.qmodel.proofs.Past.Laws.{CallLaws, IsOfOpen, IsOwn, IsReceipt, IsReceived, Passes, RowLaws}
@@ -24,13 +26,13 @@ use Rattle.qmodel.proofs.Calls.Delivering.{met_item, met_open, met_receipt, met_
 -- ---- the pulse that is due
 
 -- the item is the pulse for the last connection of its process to a channel with the disconnect flag
-pub record IsDue (f : Facts) (t : ℕ) (o : Option Connection) (m : Made) : Type 0 where
+pub record IsDue (f : Facts) (t : ℕ) (o : Option Connection) (m : SentItem) : Type 0 where
   pub connection : Connection
   pub is : o ≡ Some connection
   pub tells : tells_disconnect (f.channel m.channel) ≡ true
   pub made : record { item = disconnect_item f.number (f.priority t) connection.process; channel = m.channel } ≡ m
 
-pub due_parts : (f : Facts) (t : ℕ) (o : Option Connection) (m : Made) → due_pulse_over f t o ≡ Some m → IsDue f t o m
+pub due_parts : (f : Facts) (t : ℕ) (o : Option Connection) (m : SentItem) → due_pulse_over f t o ≡ Some m → IsDue f t o m
 due_parts f t None m e = absurd (none-some m e)
 due_parts f t (Some c) m e =
     let last = tells_disconnect (f.channel c.channel) && eqb (connections_between f c.process c.channel) 1 in
@@ -40,14 +42,14 @@ due_parts f t (Some c) m e =
           record {
             connection = c;
             is = refl;
-            tells = subst (λ (x : Made). tells_disconnect (f.channel x.channel) ≡ true) same (and_parts _ _ both).0;
+            tells = subst (λ (x : SentItem). tells_disconnect (f.channel x.channel) ≡ true) same (and_parts _ _ both).0;
             made = ap (λ h. record { item = disconnect_item f.number (f.priority t) c.process; channel = h }) (sym (ap (λ x. x.channel) same)) ∙ same;
           }
       | false ↦ λ no_last s. absurd (none-some m s)
     ] refl e
 
 -- it is a pulse
-pub due_is_pulse : (f : Facts) (t k : ℕ) (m : Made) → due_pulse f t k ≡ Some m → is_pulse m.item.what ≡ true
+pub due_is_pulse : (f : Facts) (t k : ℕ) (m : SentItem) → due_pulse f t k ≡ Some m → is_pulse m.item.what ≡ true
 due_is_pulse f t k m e = ap (λ x. is_pulse x.item.what) (sym (due_parts f t (f.connection k) m e).made)
 
 -- a channel that tells anything is open
@@ -65,7 +67,7 @@ own_passes f t k r = elim (is_own f t (f.connection k)) as (λ b. cond b (refusa
 -- ---- what it ends
 
 -- another's call that it ends is cut, or meets the pulse
-pub detach_ends : (f : Facts) (k : ℕ) (o : Option Made) (u : ℕ) (y : Completion) → other_ending f k o u ≡ Some y → IsCutCall (is_over k) Badf u (f.open_call u) y ⊎ (ends_receiver f o u ≡ Some y)
+pub detach_ends : (f : Facts) (k : ℕ) (o : Option SentItem) (u : ℕ) (y : Completion) → other_ending f k o u ≡ Some y → IsCutCall (is_over k) Badf u (f.open_call u) y ⊎ (ends_receiver f o u ≡ Some y)
 detach_ends f k o u y e =
     elim (cut_where (is_over k) Badf u (f.open_call u)) as (λ x. cut_where (is_over k) Badf u (f.open_call u) ≡ x → option_or x (ends_receiver f o u) ≡ Some y → IsCutCall (is_over k) Badf u (f.open_call u) y ⊎ (ends_receiver f o u ≡ Some y)) [
       | None ↦ λ none s. inr s
@@ -94,22 +96,22 @@ module _ (f : Facts) (t coid : ℕ) (p : Passes f t (ConnectDetach coid)) where
   cut_open : (u : ℕ) (y : Completion) → IsCutCall (is_over coid) Badf u (f.open_call u) y → IsOfOpen f u y
   cut_open u y k = record { waiting = k.waiting; is = k.is; call = sym (ap (λ x. x.call) k.ending); thread = sym (ap (λ x. x.thread) k.ending) }
 
-  told_open : (o : Option Made) (u : ℕ) (y : Completion) → ends_receiver f o u ≡ Some y → IsOfOpen f u y
+  told_open : (o : Option SentItem) (u : ℕ) (y : Completion) → ends_receiver f o u ≡ Some y → IsOfOpen f u y
   told_open None u y e = absurd (none-some y e)
   told_open (Some m) u y e = met_open f m.item [] (Some m.channel) u y e
 
-  told_one : (o : Option Made) → due_pulse f t coid ≡ o → (u : ℕ) (y : Completion) (q : ℕ × ℕ) → ends_receiver f o u ≡ Some y → item_in_mark y.mark ≡ Some q → IsReceipt (row_of f t (ConnectDetach coid)) u q
+  told_one : (o : Option SentItem) → due_pulse f t coid ≡ o → (u : ℕ) (y : Completion) (q : ℕ × ℕ) → ends_receiver f o u ≡ Some y → item_in_mark y.mark ≡ Some q → IsReceipt (row_of f t (ConnectDetach coid)) u q
   told_one None is u y q e m = absurd (none-some y e)
   told_one (Some m) is u y q e mark = met_receipt f t (Some m.channel) (ConnectDetach coid) m.item [] None (ap (pulse_receipt f) is) u y q e mark
 
   -- what meets the pulse isn't cut
-  met_ends : (m : Made) → due_pulse f t coid ≡ Some m → (u : ℕ) (y : Completion) → ends_receiver f (Some m) u ≡ Some y → other_ending f coid (due_pulse f t coid) u ≡ Some y
+  met_ends : (m : SentItem) → due_pulse f t coid ≡ Some m → (u : ℕ) (y : Completion) → ends_receiver f (Some m) u ≡ Some y → other_ending f coid (due_pulse f t coid) u ≡ Some y
   met_ends m is u y e =
       let k = met_item f m.item [] (Some m.channel) u y e in
       let uncut : cut_where (is_over coid) Badf u (f.open_call u) ≡ None = rw (k.is, k.waits) refl in
       ap (λ x. option_or x (ends_receiver f (due_pulse f t coid) u)) uncut ∙ ap (λ o. ends_receiver f o u) is ∙ e
 
-  receives : (o : Option Made) → due_pulse f t coid ≡ o → (q : Received) → pulse_receipt f o ≡ Some q → IsReceived f t (ConnectDetach coid) q
+  receives : (o : Option SentItem) → due_pulse f t coid ≡ o → (q : Received) → pulse_receipt f o ≡ Some q → IsReceived f t (ConnectDetach coid) q
   receives None is q e = absurd (none-some q e)
   receives (Some m) is q e = met_received f t (Some m.channel) (ConnectDetach coid) m.item [] None (ap (pulse_receipt f) is) (met_ends m is) p.idle
       (λ h s. subst (λ k. due_pulse f t coid ≡ Some (record { item = m.item; channel = k })) (same_Some m.channel h s) is) refl q (ap (pulse_receipt f) is ∙ e)

@@ -4,11 +4,11 @@ use Rattle.std.specs.Prelude.{Bool, Option, None, Some}
 use Rattle.std.proofs.lemmas.Bool.{true≢false}
 use Rattle.std.proofs.lemmas.Option.{none-some, same_Some}
 use Rattle.qbase.specs.declared.errno.Errno.{Errno}
-use Rattle.qmodel.specs.Calls.{row_of}
-use Rattle.qmodel.specs.Cutting.{cut_call, cut_where, cuts}
-use Rattle.qmodel.specs.Facts.{Facts, sender}
-use Rattle.qmodel.specs.Effects.{makes, writes}
-use Rattle.qmodel.specs.Rows.{Written, item_in_mark}
+use Rattle.qmodel.specs.Private.Calls.{row_of}
+use Rattle.qmodel.specs.Private.Cutting.{cut_call, cut_where, cuts}
+use Rattle.qmodel.specs.Private.Facts.{Facts, sender}
+use Rattle.qmodel.specs.Private.Effects.{makes, writes}
+use Rattle.qmodel.specs.Private.Rows.{Written, item_in_mark}
 use Rattle.qmodel.specs.declared.call.Call.{Call}
 use Rattle.qmodel.specs.declared.call.Completion.{Completion}
 use Rattle.qmodel.specs.declared.open_call.OpenCall.{OpenCall}

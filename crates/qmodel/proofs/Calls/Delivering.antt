@@ -7,14 +7,15 @@ use Rattle.std.proofs.lemmas.Option.{none-some, same_Some}
 use Rattle.qqueue.specs.declared.item.Item.{Item}
 use Rattle.qqueue.specs.declared.item.Kind.{Kind}
 use Rattle.qtables.specs.declared.connection.Connection.{Connection}
-use Rattle.qmodel.specs.Answer.{ending}
-use Rattle.qmodel.specs.Calls.{row_of}
-use Rattle.qmodel.specs.Delivering.{meets, receiver, receipt_by, receipt_when_sent}
-use Rattle.qmodel.specs.Facts.{Facts, way}
+use Rattle.qmodel.specs.Private.Answer.{ending}
+use Rattle.qmodel.specs.Private.Calls.{row_of}
+use Rattle.qmodel.specs.Private.Delivering.{meets, receiver, receipt_by, receipt_when_sent}
+use Rattle.qmodel.specs.Private.Facts.{Facts, way}
 use Rattle.qmodel.proofs.Parts.{leads_to}
-use Rattle.qmodel.specs.Receivers.{newest_receiver}
-use Rattle.qmodel.specs.Effects.{asks, makes}
-use Rattle.qmodel.specs.Rows.{Received, Made, item_in_mark, receipt_in, item_sent_over, takes, takes_into, receipt_ending}
+use Rattle.qmodel.specs.Private.Receivers.{newest_receiver}
+use Rattle.qmodel.specs.Private.Effects.{asks, makes}
+use Rattle.qmodel.specs.Private.Rows.{Received, item_in_mark, receipt_in, item_sent_over, takes, takes_into, receipt_ending}
+use Rattle.qmodel.specs.Trace.{SentItem}
 use Rattle.qmodel.specs.declared.call.Call.{Call}
 use Rattle.qmodel.specs.declared.call.Completion.{Completion}
 use Rattle.qmodel.specs.declared.open_call.OpenCall.{OpenCall}
@@ -26,7 +27,7 @@ use Rattle.qmodel.proofs.Calls.Taking.{Taken, taken_by, receipt_from, receipt_in
 use Rattle.qmodel.proofs.Ways.{leads_over}
 
 -- what goes over a connection is the item
-pub sent_item : (o : Option Connection) (item : Item) (m : Made) → item_sent_over o item ≡ Some m → m.item ≡ item
+pub sent_item : (o : Option Connection) (item : Item) (m : SentItem) → item_sent_over o item ≡ Some m → m.item ≡ item
 sent_item None item m e = absurd (none-some m e)
 sent_item (Some c) item m e = ap (λ x. x.item) (sym (same_Some _ m e))
 
@@ -58,11 +59,11 @@ sent_way f t coid item h e =
     ap (λ o. item_sent_over o item) l.is ∙ ap (λ k. Some (record { item = item; channel = k })) l.channel
 
 -- what goes over a way goes to an open channel
-pub goes_to_open : (f : Facts) (t : ℕ) (o : Option Connection) (h : ℕ) (item : Item) (m : Made) → leads_to f t o ≡ Some h → item_sent_over o item ≡ Some m → is_some (f.channel m.channel) ≡ true
+pub goes_to_open : (f : Facts) (t : ℕ) (o : Option Connection) (h : ℕ) (item : Item) (m : SentItem) → leads_to f t o ≡ Some h → item_sent_over o item ≡ Some m → is_some (f.channel m.channel) ≡ true
 goes_to_open f t o h item m e made =
     let l = leads_over f t o h e in
     let same : record { item = item; channel = l.connection.channel } ≡ m = same_Some _ m (ap (λ x. item_sent_over x item) (sym l.is) ∙ made) in
-    subst (λ k. is_some (f.channel k) ≡ true) (sym l.channel ∙ ap (λ (x : Made). x.channel) same) l.is_open
+    subst (λ k. is_some (f.channel k) ≡ true) (sym l.channel ∙ ap (λ (x : SentItem). x.channel) same) l.is_open
 
 -- the item goes over channel h to thread v, whose call ends by y
 record Sent (f : Facts) (sender : Option ℕ) (item : Item) (message : List ℕ) (o r : Option ℕ) (q : Received) : Type 0 where

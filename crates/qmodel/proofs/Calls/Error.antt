@@ -3,9 +3,9 @@ use Rattle.std.proofs.Common.{◌≡◌, ℕ, refl, subst, cond, true, false}
 use Rattle.std.specs.Prelude.{ℤ, pos, None}
 use Rattle.std.specs.Ordering.{int_eq}
 use Rattle.std.proofs.lemmas.Option.{none-some, same_Some}
-use Rattle.qmodel.specs.Calls.Error.{error_finish, mark_of}
-use Rattle.qmodel.specs.Facts.{Facts}
-use Rattle.qmodel.specs.Rows.{item_in_mark}
+use Rattle.qmodel.specs.Private.Calls.Error.{error_finish, mark_of}
+use Rattle.qmodel.specs.Private.Facts.{Facts}
+use Rattle.qmodel.specs.Private.Rows.{item_in_mark}
 use Rattle.qmodel.specs.declared.call.Call.TheVariants.{Error}
 use Rattle.qmodel.specs.declared.call.Mark.TheVariants as mark
 use Rattle.qmodel.proofs.Calls.Alone.{IsPlain, waits_not}

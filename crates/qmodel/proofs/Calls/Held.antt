@@ -5,8 +5,8 @@ use Rattle.std.specs.Option.{option_and_then}
 use Rattle.std.proofs.lemmas.Bool.{eqb-true, true≢false}
 use Rattle.std.proofs.lemmas.Option.{none-some, same_Some}
 use Rattle.qbase.specs.declared.errno.Errno.{Errno}
-use Rattle.qmodel.specs.Facts.{Facts, sender, threads_of}
-use Rattle.qmodel.specs.Held.{Finish, ends_sender, answer_ending, is_held_by, refusal}
+use Rattle.qmodel.specs.Private.Facts.{Facts, sender, threads_of}
+use Rattle.qmodel.specs.Private.Held.{Finish, ends_sender, answer_ending, is_held_by, refusal}
 use Rattle.qmodel.proofs.Parts.{owns_end, is_held_for}
 use Rattle.qmodel.specs.declared.call.Completion.{Completion}
 use Rattle.qmodel.specs.declared.open_call.OpenCall.{OpenCall}

@@ -3,8 +3,8 @@ use Rattle.std.proofs.Common.{◌≡◌, ℕ, refl, subst}
 use Rattle.std.specs.Prelude.{Option, None, Some}
 use Rattle.std.specs.Option.{option_map}
 use Rattle.std.proofs.lemmas.Option.{none-some, same_Some}
-use Rattle.qmodel.specs.Calls.Info.{info_of, info_ending}
-use Rattle.qmodel.specs.Facts.{Facts, sender}
+use Rattle.qmodel.specs.Private.Calls.Info.{info_of, info_ending}
+use Rattle.qmodel.specs.Private.Facts.{Facts, sender}
 use Rattle.qmodel.specs.declared.call.Call.TheVariants.{Info}
 use Rattle.qmodel.specs.declared.call.Completion.{Completion}
 use Rattle.qmodel.specs.declared.call.Info.{Info as Told}

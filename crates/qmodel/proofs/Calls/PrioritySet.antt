@@ -2,9 +2,9 @@
 use Rattle.std.proofs.Common.{◌≡◌, ◌⊎◌, ℕ, refl, subst, inl, inr}
 use Rattle.std.specs.Prelude.{None}
 use Rattle.std.proofs.lemmas.Option.{none-some, same_Some}
-use Rattle.qmodel.specs.Calls.{row_of}
-use Rattle.qmodel.specs.Facts.{Facts}
-use Rattle.qmodel.specs.Effects.{makes, sets}
+use Rattle.qmodel.specs.Private.Calls.{row_of}
+use Rattle.qmodel.specs.Private.Facts.{Facts}
+use Rattle.qmodel.specs.Private.Effects.{makes, sets}
 use Rattle.qmodel.specs.declared.call.Call.{Call}
 use Rattle.qmodel.specs.declared.call.Call.TheVariants.{PrioritySet}
 use Rattle.qmodel.proofs.Calls.Alone.{IsPlain, alone, waits_not}

@@ -4,18 +4,19 @@ use Rattle.std.specs.Prelude.{ℤ, None, Some}
 use Rattle.std.proofs.lemmas.Bool.{true≢false}
 use Rattle.std.proofs.lemmas.Option.{none-some, same_Some}
 use Rattle.qqueue.specs.Best.{is_pulse}
-use Rattle.qmodel.specs.Calls.Pulse.{sent_pulse}
-use Rattle.qmodel.specs.Facts.{Facts}
-use Rattle.qmodel.specs.Past.{is_unblock_for}
-use Rattle.qmodel.specs.Pulses.{ends_receiver, pulse_receipt}
-use Rattle.qmodel.specs.Rows.{Made, pulse_item, item_in_mark}
+use Rattle.qmodel.specs.Private.Calls.Pulse.{sent_pulse}
+use Rattle.qmodel.specs.Private.Facts.{Facts}
+use Rattle.qmodel.specs.Private.Past.{is_unblock_for}
+use Rattle.qmodel.specs.Private.Pulses.{ends_receiver, pulse_receipt}
+use Rattle.qmodel.specs.Private.Rows.{pulse_item, item_in_mark}
+use Rattle.qmodel.specs.Trace.{SentItem}
 use Rattle.qmodel.specs.declared.call.Call.TheVariants.{Pulse}
 use Rattle.qmodel.proofs.Past.Laws.{CallLaws, RowLaws, Passes, IsOwn}
 use Rattle.qmodel.proofs.Calls.Delivering.{delivers_open, delivers_settled, delivers_receipt, delivers_received, goes_to_open, sent_item, sent_way}
 use Rattle.qmodel.proofs.Ways.{pulse_way}
 
 -- it is a pulse
-pub sent_is_pulse : (f : Facts) (coid priority : ℕ) (code value : ℤ) (m : Made) → sent_pulse f coid priority code value ≡ Some m → is_pulse m.item.what ≡ true
+pub sent_is_pulse : (f : Facts) (coid priority : ℕ) (code value : ℤ) (m : SentItem) → sent_pulse f coid priority code value ≡ Some m → is_pulse m.item.what ≡ true
 sent_is_pulse f coid priority code value m e = ap (λ x. is_pulse x.what) (sent_item (f.connection coid) (pulse_item f.number priority code value) m e)
 
 pub call_laws : (coid priority : ℕ) (code value : ℤ) → CallLaws (Pulse coid priority code value)

@@ -1,7 +1,7 @@
 -- The laws of Receive.
 use Rattle.std.proofs.Common.{ℕ, List, refl}
 use Rattle.qqueue.specs.declared.item.Kind.TheVariants.{Any}
-use Rattle.qmodel.specs.Facts.{Facts}
+use Rattle.qmodel.specs.Private.Facts.{Facts}
 use Rattle.qmodel.specs.declared.call.Call.TheVariants.{Receive}
 use Rattle.qmodel.proofs.Calls.Receiving.{receiving_call, receiving_row}
 use Rattle.qmodel.proofs.Past.Laws.{CallLaws, RowLaws, Passes}

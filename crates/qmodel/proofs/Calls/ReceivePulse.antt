@@ -1,7 +1,7 @@
 -- The laws of ReceivePulse.
 use Rattle.std.proofs.Common.{ℕ, [], refl}
 use Rattle.qqueue.specs.declared.item.Kind.TheVariants.{PulseOnly}
-use Rattle.qmodel.specs.Facts.{Facts}
+use Rattle.qmodel.specs.Private.Facts.{Facts}
 use Rattle.qmodel.specs.declared.call.Call.TheVariants.{ReceivePulse}
 use Rattle.qmodel.proofs.Calls.Receiving.{receiving_call, receiving_row}
 use Rattle.qmodel.proofs.Past.Laws.{CallLaws, RowLaws, Passes}

@@ -5,11 +5,11 @@ use Rattle.std.proofs.lemmas.Option.{none-some, same_Some}
 use Rattle.qqueue.specs.Best.{best_of}
 use Rattle.qqueue.specs.declared.item.Item.{Item}
 use Rattle.qqueue.specs.declared.item.Kind.{Kind}
-use Rattle.qmodel.specs.Calls.{row_of}
-use Rattle.qmodel.specs.Facts.{Facts, message}
-use Rattle.qmodel.specs.Receiving.{own_receipt, receipt_when_taken, sender_for}
-use Rattle.qmodel.specs.Effects.{asks, makes, writes}
-use Rattle.qmodel.specs.Rows.{Received, item_in_mark, receipt_ending}
+use Rattle.qmodel.specs.Private.Calls.{row_of}
+use Rattle.qmodel.specs.Private.Facts.{Facts, message}
+use Rattle.qmodel.specs.Private.Receiving.{own_receipt, receipt_when_taken, sender_for}
+use Rattle.qmodel.specs.Private.Effects.{asks, makes, writes}
+use Rattle.qmodel.specs.Private.Rows.{Received, item_in_mark, receipt_ending}
 use Rattle.qmodel.specs.declared.call.Call.{Call}
 use Rattle.qmodel.specs.declared.call.Completion.{Completion}
 use Rattle.qmodel.specs.declared.open_call.OpenCall.{OpenCall}

@@ -2,8 +2,8 @@
 use Rattle.std.proofs.Common.{ℕ, List, refl, subst}
 use Rattle.std.specs.Prelude.{ℤ}
 use Rattle.std.proofs.lemmas.Option.{none-some, same_Some}
-use Rattle.qmodel.specs.Calls.Reply.{reply_finish}
-use Rattle.qmodel.specs.Facts.{Facts}
+use Rattle.qmodel.specs.Private.Calls.Reply.{reply_finish}
+use Rattle.qmodel.specs.Private.Facts.{Facts}
 use Rattle.qmodel.specs.declared.call.Call.TheVariants.{Reply}
 use Rattle.qmodel.proofs.Calls.Alone.{IsPlain, waits_not}
 use Rattle.qmodel.proofs.Calls.Answering.{answers}

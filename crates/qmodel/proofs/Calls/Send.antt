@@ -3,9 +3,9 @@ use Rattle.std.proofs.Common.{ℕ, List, ap, refl, sym, subst}
 use Rattle.std.specs.Prelude.{Some}
 use Rattle.std.proofs.lemmas.Option.{none-some, same_Some}
 use Rattle.qqueue.specs.Best.{is_pulse}
-use Rattle.qmodel.specs.Calls.Send.{item}
-use Rattle.qmodel.specs.Facts.{Facts, is_for_answer, way}
-use Rattle.qmodel.specs.Past.{is_unblock_for}
+use Rattle.qmodel.specs.Private.Calls.Send.{item}
+use Rattle.qmodel.specs.Private.Facts.{Facts, is_for_answer, way}
+use Rattle.qmodel.specs.Private.Past.{is_unblock_for}
 use Rattle.qmodel.specs.declared.call.Call.TheVariants.{Send}
 use Rattle.qmodel.proofs.Past.Laws.{BeginsToWait, CallLaws, RowLaws, Passes}
 use Rattle.qmodel.proofs.Calls.Delivering.{delivers_open, delivers_settled, delivers_receipt, delivers_received, goes_to_open, sent_item, sent_way}

@@ -5,8 +5,8 @@ use Rattle.std.proofs.lemmas.Option.{none-some, same_Some}
 use Rattle.qbase.specs.Laying.{laid_count, lay_over}
 use Rattle.qqueue.specs.Best.{is_pulse}
 use Rattle.qqueue.specs.declared.item.Item.{Item}
-use Rattle.qmodel.specs.Past.{is_failure}
-use Rattle.qmodel.specs.Rows.{delivery_of, takes, takes_into, item_in_mark, Received, receipt_in}
+use Rattle.qmodel.specs.Private.Past.{is_failure}
+use Rattle.qmodel.specs.Private.Rows.{delivery_of, takes, takes_into, item_in_mark, Received, receipt_in}
 use Rattle.qmodel.specs.declared.call.Completion.{Completion}
 use Rattle.qmodel.specs.declared.call.Mark.{Mark}
 use Rattle.qmodel.specs.declared.call.Mark.TheVariants as mark

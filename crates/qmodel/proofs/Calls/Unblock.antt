@@ -6,12 +6,14 @@ use Rattle.std.proofs.lemmas.Option.{none-some, same_Some}
 use Rattle.qbase.specs.declared.errno.Errno.TheVariants.{Intr, Srch}
 use Rattle.qqueue.specs.Best.{is_pulse}
 use Rattle.qtables.specs.declared.connection.Connection.{Connection}
-use Rattle.qmodel.specs.Calls.{row_of}
-use Rattle.qmodel.specs.Calls.Unblock.{due_pulse, due_pulse_of_wait, other_ending, guard, guard_over, refusal}
+use Rattle.qmodel.specs.Private.Calls.{row_of}
+use Rattle.qmodel.specs.Private.Calls.Unblock.{due_pulse, due_pulse_of_wait, other_ending, guard, guard_over, refusal}
 use Rattle.qmodel.proofs.Parts.{due_pulse_on, due_pulse_of_open}
-use Rattle.qmodel.specs.Facts.{Facts, OpenChannel, is_fellow, tells_unblock}
-use Rattle.qmodel.specs.Pulses.{refusal_if_full_for, pulse_receipt}
-use Rattle.qmodel.specs.Rows.{Made, Received, item_in_mark, unblock_item}
+use Rattle.qmodel.specs.Private.Facts.{Facts, is_fellow, tells_unblock}
+use Rattle.qmodel.specs.Trace.{OpenChannel}
+use Rattle.qmodel.specs.Private.Pulses.{refusal_if_full_for, pulse_receipt}
+use Rattle.qmodel.specs.Private.Rows.{Received, item_in_mark, unblock_item}
+use Rattle.qmodel.specs.Trace.{SentItem}
 use Rattle.qmodel.specs.declared.call.Call.TheVariants.{Unblock}
 use Rattle.qmodel.specs.declared.call.Completion.{Completion}
 use Rattle.qmodel.specs.declared.open_call.OpenCall.{OpenCall}
@@ -45,13 +47,13 @@ tells_open None e = absurd (true≢false (sym e))
 tells_open (Some c) e = refl
 
 -- the item is the pulse for message i, which is received with this, on channel h
-record IsDueOn (n i : ℕ) (receipt : Receipt) (o : Option ℕ) (m : Made) : Type 0 where
+record IsDueOn (n i : ℕ) (receipt : Receipt) (o : Option ℕ) (m : SentItem) : Type 0 where
   channel : ℕ
   is : o ≡ Some channel
   first : receipt.unblocked ≡ false
   made : record { item = unblock_item n receipt.priority i; channel = channel } ≡ m
 
-due_on_parts : (n i : ℕ) (receipt : Receipt) (o : Option ℕ) (m : Made) → due_pulse_on n i receipt o ≡ Some m → IsDueOn n i receipt o m
+due_on_parts : (n i : ℕ) (receipt : Receipt) (o : Option ℕ) (m : SentItem) → due_pulse_on n i receipt o ≡ Some m → IsDueOn n i receipt o m
 due_on_parts n i receipt None m e = absurd (none-some m e)
 due_on_parts n i receipt (Some h) m e =
     elim (receipt.unblocked) as (λ b. receipt.unblocked ≡ b → cond b None (Some (record { item = unblock_item n receipt.priority i; channel = h })) ≡ Some m → IsDueOn n i receipt (Some h) m) [
@@ -60,7 +62,7 @@ due_on_parts n i receipt (Some h) m e =
     ] refl e
 
 -- the item is the pulse for the message that the open call waits with, which is held on a channel with the unblock flag and has had none
-pub record IsDue (f : Facts) (o : Option OpenCall) (m : Made) : Type 0 where
+pub record IsDue (f : Facts) (o : Option OpenCall) (m : SentItem) : Type 0 where
   pub waiting : OpenCall
   pub is : o ≡ Some waiting
   pub coid : ℕ
@@ -72,7 +74,7 @@ pub record IsDue (f : Facts) (o : Option OpenCall) (m : Made) : Type 0 where
   pub first : receipt.unblocked ≡ false
   pub made : record { item = unblock_item f.number receipt.priority waiting.number; channel = m.channel } ≡ m
 
-due_waiting : (f : Facts) (i : ℕ) (w : Wait) (m : Made) → due_pulse_of_wait f i w ≡ Some m → IsDue f (Some (record { number = i; wait = w })) m
+due_waiting : (f : Facts) (i : ℕ) (w : Wait) (m : SentItem) → due_pulse_of_wait f i w ≡ Some m → IsDue f (Some (record { number = i; wait = w })) m
 due_waiting f i (Answer coid message reply_buffer None) m e = absurd (none-some m e)
 due_waiting f i (ForItem chid kind buffer) m e = absurd (none-some m e)
 due_waiting f i (Answer coid message reply_buffer (Some receipt)) m e =
@@ -91,12 +93,12 @@ due_waiting f i (Answer coid message reply_buffer (Some receipt)) m e =
       made = ap (λ h. record { item = unblock_item f.number receipt.priority i; channel = h }) (sym channel) ∙ k.made;
     }
 
-pub due_parts : (f : Facts) (o : Option OpenCall) (m : Made) → due_pulse_of_open f o ≡ Some m → IsDue f o m
+pub due_parts : (f : Facts) (o : Option OpenCall) (m : SentItem) → due_pulse_of_open f o ≡ Some m → IsDue f o m
 due_parts f None m e = absurd (none-some m e)
 due_parts f (Some o) m e = due_waiting f o.number o.wait m e
 
 -- it is a pulse
-pub due_is_pulse : (f : Facts) (thread : ℕ) (m : Made) → due_pulse f thread ≡ Some m → is_pulse m.item.what ≡ true
+pub due_is_pulse : (f : Facts) (thread : ℕ) (m : SentItem) → due_pulse f thread ≡ Some m → is_pulse m.item.what ≡ true
 due_is_pulse f thread m e = ap (λ x. is_pulse x.item.what) (sym (due_parts f (f.open_call thread) m e).made)
 
 -- an accepted Unblock is of a thread of the caller's process, and finds room for its pulse
@@ -140,7 +142,7 @@ module _ (f : Facts) (t thread : ℕ) (p : Passes f t (Unblock thread)) where
       (record { waiting = k.waiting; is = k.is; call = sym (ap (λ x. x.call) k.ending); thread = sym (ap (λ x. x.thread) k.ending) }, ap (λ x. item_in_mark x.mark) (sym k.ending))
 
   -- with this one due
-  module _ (m : Made) (is : due_pulse f thread ≡ Some m) where
+  module _ (m : SentItem) (is : due_pulse f thread ≡ Some m) where
     told_open : (u : ℕ) (y : Completion) → other_ending f thread (due_pulse f thread) u ≡ Some y → IsOfOpen f u y
     told_open = delivers_open f t (Some m.channel) (Unblock thread) m.item [] None (λ u. ap (λ d. other_ending f thread d u) is) (ap (pulse_receipt f) is)
 

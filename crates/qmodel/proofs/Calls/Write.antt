@@ -2,7 +2,7 @@
 use Rattle.std.proofs.Common.{◌≡◌, ℕ, List, ap, refl, subst}
 use Rattle.std.specs.Prelude.{Some}
 use Rattle.std.proofs.lemmas.Option.{same_Some}
-use Rattle.qmodel.specs.Facts.{Facts, sender}
+use Rattle.qmodel.specs.Private.Facts.{Facts, sender}
 use Rattle.qmodel.specs.declared.call.Call.TheVariants.{Write}
 use Rattle.qmodel.proofs.Calls.Alone.{IsPlain, alone, waits_not}
 use Rattle.qmodel.proofs.Calls.Held.{has_sender}

@@ -4,12 +4,13 @@ use Rattle.std.specs.Prelude.{Option, None, Some, is_some, ◌&&◌}
 use Rattle.std.specs.Option.{option_map}
 use Rattle.std.proofs.lemmas.Option.{none-some, same_Some}
 use Rattle.qbase.specs.Laying.{lay_over}
-use Rattle.qmodel.specs.Calls.{row_of}
-use Rattle.qmodel.specs.Facts.{Facts, sender}
-use Rattle.qmodel.specs.Effects.{makes, unblocks, writes}
-use Rattle.qmodel.specs.Past.{wait_with_receipt}
-use Rattle.qmodel.specs.Rows.{Made, Received, Written, with_buffer}
-use Rattle.qmodel.specs.Step.{after_receipt, after_unblock, after_write, held_call, is_thread, unblocked_call, unblocked_wait, unless, written_call}
+use Rattle.qmodel.specs.Private.Calls.{row_of}
+use Rattle.qmodel.specs.Private.Facts.{Facts, sender}
+use Rattle.qmodel.specs.Private.Effects.{makes, unblocks, writes}
+use Rattle.qmodel.specs.Private.Past.{wait_with_receipt}
+use Rattle.qmodel.specs.Private.Rows.{Received, Written, with_buffer}
+use Rattle.qmodel.specs.Trace.{SentItem}
+use Rattle.qmodel.specs.Private.Step.{after_receipt, after_unblock, after_write, held_call, is_thread, unblocked_call, unblocked_wait, unless, written_call}
 use Rattle.qmodel.specs.declared.call.Call.{Call}
 use Rattle.qmodel.specs.declared.open_call.OpenCall.{OpenCall}
 use Rattle.qmodel.specs.declared.open_call.Receipt.{Receipt}
@@ -52,7 +53,7 @@ before_write g buffer f (Some w) u before o e =
     ] e
 
 -- before an unblock pulse
-pub before_unblock : {A : Type 0} (g : Wait → A) → ((w : Wait) → g (unblocked_wait w) ≡ g w) → (m : Option Made) (w : Option ℕ) (u : ℕ) (before : Option OpenCall) (o : OpenCall) → after_unblock m w u before ≡ Some o → IsBefore g before o
+pub before_unblock : {A : Type 0} (g : Wait → A) → ((w : Wait) → g (unblocked_wait w) ≡ g w) → (m : Option SentItem) (w : Option ℕ) (u : ℕ) (before : Option OpenCall) (o : OpenCall) → after_unblock m w u before ≡ Some o → IsBefore g before o
 before_unblock g unblocked m None u before o e = record { call = o; is = e; same = refl }
 before_unblock g unblocked m (Some v) u before o e =
     elim (eqb u v && is_some m) as (λ b. cond b (option_map unblocked_call before) before ≡ Some o → IsBefore g before o) [

@@ -6,15 +6,16 @@ use Rattle.std.proofs.lemmas.Option.{none-some}
 use Rattle.qbase.specs.declared.errno.Errno.TheVariants.{Inval}
 use Rattle.qtables.specs.Members.{member_at}
 use Rattle.qtables.specs.declared.member.Member.{Member}
-use Rattle.qmodel.specs.Answer.{Outcome}
-use Rattle.qmodel.specs.Calls.{row_of}
-use Rattle.qmodel.specs.Facts.{Facts, OpenChannel, owns}
+use Rattle.qmodel.specs.Private.Answer.{Outcome}
+use Rattle.qmodel.specs.Private.Calls.{row_of}
+use Rattle.qmodel.specs.Private.Facts.{Facts, owns}
+use Rattle.qmodel.specs.Trace.{OpenChannel}
 use Rattle.qmodel.proofs.Parts.{is_owned_by}
-use Rattle.qmodel.specs.Lawful.{facts_of, IsLawful, with_event}
-use Rattle.qmodel.specs.Effects.{closes, creates}
-use Rattle.qmodel.specs.Past.{channel_at, is_closed, open_channels, refuses}
-use Rattle.qmodel.specs.Rows.{names}
-use Rattle.qmodel.specs.Step.{channel_after, one_for}
+use Rattle.qmodel.specs.Private.Lawful.{facts_of, IsLawful, with_event}
+use Rattle.qmodel.specs.Private.Effects.{closes, creates}
+use Rattle.qmodel.specs.Private.Past.{channel_at, is_closed, open_channels, refuses}
+use Rattle.qmodel.specs.Private.Rows.{names}
+use Rattle.qmodel.specs.Private.Step.{channel_after, one_for}
 use Rattle.qmodel.specs.Trace.{Event, Trace}
 use Rattle.qmodel.specs.declared.call.Call.{Call}
 use Rattle.qmodel.specs.declared.call.Call.TheVariants.{ChannelCreate, ChannelDestroy}

@@ -7,17 +7,17 @@ use Rattle.qbase.specs.declared.errno.Errno.TheVariants.{Inval}
 use Rattle.qtables.specs.Members.{member_at}
 use Rattle.qtables.specs.declared.connection.Connection.{Connection}
 use Rattle.qtables.specs.declared.member.Member.{Member}
-use Rattle.qmodel.specs.Answer.{Outcome}
-use Rattle.qmodel.specs.Calls.{row_of}
-use Rattle.qmodel.specs.Calls.ConnectDetach.{due_pulse}
+use Rattle.qmodel.specs.Private.Answer.{Outcome}
+use Rattle.qmodel.specs.Private.Calls.{row_of}
+use Rattle.qmodel.specs.Private.Calls.ConnectDetach.{due_pulse}
 use Rattle.qmodel.proofs.Parts.{is_own}
-use Rattle.qmodel.specs.Facts.{Facts}
-use Rattle.qmodel.specs.Lawful.{facts_of, IsLawful, with_event}
-use Rattle.qmodel.specs.Effects.{attaches, detaches}
-use Rattle.qmodel.specs.Past.{attached_connection, connection_at, live_connections, refuses}
-use Rattle.qmodel.specs.Pulses.{refusal_if_full_for}
-use Rattle.qmodel.specs.Rows.{names}
-use Rattle.qmodel.specs.Step.{connection_after, one_for}
+use Rattle.qmodel.specs.Private.Facts.{Facts}
+use Rattle.qmodel.specs.Private.Lawful.{facts_of, IsLawful, with_event}
+use Rattle.qmodel.specs.Private.Effects.{attaches, detaches}
+use Rattle.qmodel.specs.Private.Past.{attached_connection, connection_at, live_connections, refuses}
+use Rattle.qmodel.specs.Private.Pulses.{refusal_if_full_for}
+use Rattle.qmodel.specs.Private.Rows.{names}
+use Rattle.qmodel.specs.Private.Step.{connection_after, one_for}
 use Rattle.qmodel.specs.Trace.{Event, Trace}
 use Rattle.qmodel.specs.declared.call.Call.{Call}
 use Rattle.qmodel.specs.declared.call.Call.TheVariants.{ConnectAttach, ConnectDetach}

@@ -8,13 +8,13 @@ use Rattle.qqueue.specs.Best.{is_pulse}
 use Rattle.qqueue.specs.declared.item.Item.{Item}
 use Rattle.qtables.specs.declared.connection.Connection.{Connection}
 use Rattle.qtables.specs.declared.member.Member.{Member}
-use Rattle.qmodel.specs.Answer.{Outcome}
-use Rattle.qmodel.specs.Calls.{row_of}
-use Rattle.qmodel.specs.Cutting.{is_on}
-use Rattle.qmodel.specs.Facts.{Facts, is_for_answer, is_for_receipt, threads_of}
-use Rattle.qmodel.specs.Lawful.{facts_of, IsLawful, with_event}
-use Rattle.qmodel.specs.Past.{connection_at, has_ending_of, call_by_now, is_ended, is_taken, open_call, priority_of_item, copied_count_of, sender_of, with_receipt, attached_connection}
-use Rattle.qmodel.specs.Step.{is_cut, uncut_items, is_unread_send}
+use Rattle.qmodel.specs.Private.Answer.{Outcome}
+use Rattle.qmodel.specs.Private.Calls.{row_of}
+use Rattle.qmodel.specs.Private.Cutting.{is_on}
+use Rattle.qmodel.specs.Private.Facts.{Facts, is_for_answer, is_for_receipt, threads_of}
+use Rattle.qmodel.specs.Private.Lawful.{facts_of, IsLawful, with_event}
+use Rattle.qmodel.specs.Private.Past.{connection_at, has_ending_of, call_by_now, is_ended, is_taken, open_call, priority_of_item, copied_count_of, sender_of, with_receipt, attached_connection}
+use Rattle.qmodel.specs.Private.Step.{is_cut, uncut_items, is_unread_send}
 use Rattle.qmodel.specs.Trace.{Trace}
 use Rattle.qmodel.specs.declared.call.Call.{Call}
 use Rattle.qmodel.specs.declared.call.Completion.{Completion}

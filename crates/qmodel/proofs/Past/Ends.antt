@@ -8,11 +8,11 @@ use Rattle.std.proofs.Math.Bool.{and-false}
 use Rattle.qbase.specs.declared.errno.Errno.TheVariants.{Down, Busy}
 use Rattle.qtables.specs.Members.{member_at}
 use Rattle.qtables.specs.declared.member.Member.{Member}
-use Rattle.qmodel.specs.Answer.{refusal, ending, Outcome, Answers}
-use Rattle.qmodel.specs.Calls.{row_of}
-use Rattle.qmodel.specs.Facts.{Facts, threads_of}
-use Rattle.qmodel.specs.Lawful.{facts_of, IsLawful}
-use Rattle.qmodel.specs.Past.{has_ending_of, refuses, is_ended, newest_block, open_call}
+use Rattle.qmodel.specs.Private.Answer.{refusal, ending, Outcome, Answers}
+use Rattle.qmodel.specs.Private.Calls.{row_of}
+use Rattle.qmodel.specs.Private.Facts.{Facts, threads_of}
+use Rattle.qmodel.specs.Private.Lawful.{facts_of, IsLawful}
+use Rattle.qmodel.specs.Private.Past.{has_ending_of, refuses, is_ended, newest_block, open_call}
 use Rattle.qmodel.specs.Trace.{Trace}
 use Rattle.qmodel.specs.declared.call.Call.{Call}
 use Rattle.qmodel.specs.declared.call.Completion.{Completion}

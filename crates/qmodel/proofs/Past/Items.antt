@@ -8,12 +8,12 @@ use Rattle.std.proofs.lemmas.Option.{same_Some, none-some}
 use Rattle.qqueue.specs.declared.item.Item.{Item}
 use Rattle.qqueue.specs.Best.{is_pulse}
 use Rattle.qtables.specs.declared.member.Member.{Member}
-use Rattle.qmodel.specs.Facts.{is_for_answer}
-use Rattle.qmodel.specs.Headline.CopiedExactly.{call_at}
-use Rattle.qmodel.specs.Lawful.{facts_of}
-use Rattle.qmodel.specs.Past.{items_by_now, is_accepted, item_of, items, made_among, priority_before, priority_of_made, priority_of_item, is_closed, is_gone, pending_items, newest_block, worth}
-use Rattle.qmodel.specs.Effects.{asks, makes}
-use Rattle.qmodel.specs.Rows.{Made}
+use Rattle.qmodel.specs.Private.Facts.{is_for_answer}
+use Rattle.qmodel.specs.Private.Headline.CopiedExactly.{call_at}
+use Rattle.qmodel.specs.Private.Lawful.{facts_of}
+use Rattle.qmodel.specs.Private.Past.{items_by_now, is_accepted, item_of, items, made_among, priority_before, priority_of_made, priority_of_item, is_closed, is_gone, pending_items, newest_block, worth}
+use Rattle.qmodel.specs.Private.Effects.{asks, makes}
+use Rattle.qmodel.specs.Trace.{SentItem}
 use Rattle.qmodel.specs.Trace.{Event, Trace}
 use Rattle.qmodel.specs.declared.call.Call.{Call}
 use Rattle.qmodel.specs.declared.open_call.OpenCall.{OpenCall}
@@ -26,12 +26,12 @@ use Rattle.qmodel.proofs.Past.Worth.{SetsNone, among_now, channel_now, now, stay
 -- ---- the item of a number
 
 -- the item that the event of number i made, with its channel
-abbrev pub item_at : List Member → Trace → ℕ → Option Made
+abbrev pub item_at : List Member → Trace → ℕ → Option SentItem
 item_at roster [] i = None
 item_at roster (e ∷ past) i = cond (eqb i (length past + 1)) (item_of roster e past) (item_at roster past i)
 
 -- an event that made an item was accepted, and its call makes it
-pub item_accepted : (roster : List Member) (e : Event) (past : Trace) (m : Made) → item_of roster e past ≡ Some m → (is_accepted e past ≡ true) × (makes (facts_of roster past) e.thread e.call ≡ Some m)
+pub item_accepted : (roster : List Member) (e : Event) (past : Trace) (m : SentItem) → item_of roster e past ≡ Some m → (is_accepted e past ≡ true) × (makes (facts_of roster past) e.thread e.call ≡ Some m)
 item_accepted roster e past m is =
     elim (is_accepted e past) as (λ b. cond b (makes (facts_of roster past) e.thread e.call) None ≡ Some m → (b ≡ true) × (makes (facts_of roster past) e.thread e.call ≡ Some m)) [
       | true ↦ λ at. (refl, at)
@@ -39,7 +39,7 @@ item_accepted roster e past m is =
     ] is
 
 -- it was made by the call of its number
-pub made_by : (roster : List Member) (e : Event) (past : Trace) (m : Made) → item_of roster e past ≡ Some m → MakesItem (length past + 1) e.call m
+pub made_by : (roster : List Member) (e : Event) (past : Trace) (m : SentItem) → item_of roster e past ≡ Some m → MakesItem (length past + 1) e.call m
 made_by roster e past m is = (call_laws e.call).makes_one (facts_of roster past) e.thread m (item_accepted roster e past m is).1
 
 pub item_earlier : (roster : List Member) (e : Event) (past : Trace) (i : ℕ) → i ≤ length past → item_at roster (e ∷ past) i ≡ item_at roster past i
@@ -49,12 +49,12 @@ pub item_newest : (roster : List Member) (e : Event) (past : Trace) → item_at 
 item_newest roster e past = rw (eqb_same (length past + 1)) refl
 
 -- the call that made the item of number i
-pub record IsMade (past : Trace) (i : ℕ) (m : Made) : Type 0 where
+pub record IsMade (past : Trace) (i : ℕ) (m : SentItem) : Type 0 where
   pub call : Call
   pub is : call_at past i ≡ Some call
   pub makes_it : MakesItem i call m
 
-pub item_made : (roster : List Member) (past : Trace) (i : ℕ) (m : Made) → item_at roster past i ≡ Some m → IsMade past i m
+pub item_made : (roster : List Member) (past : Trace) (i : ℕ) (m : SentItem) → item_at roster past i ≡ Some m → IsMade past i m
 item_made roster [] i m is = absurd (none-some m is)
 item_made roster (e ∷ past) i m is =
     elim (eqb i (length past + 1)) as (λ b. eqb i (length past + 1) ≡ b → cond b (item_of roster e past) (item_at roster past i) ≡ Some m → IsMade (e ∷ past) i m) [
@@ -64,18 +64,18 @@ item_made roster (e ∷ past) i m is =
           record { call = k.call; is = call_earlier e past i (call_below past i k.call k.is) ∙ k.is; makes_it = k.makes_it }
     ] refl is
 
-pub item_below : (roster : List Member) (past : Trace) (i : ℕ) (m : Made) → item_at roster past i ≡ Some m → i ≤ length past
+pub item_below : (roster : List Member) (past : Trace) (i : ℕ) (m : SentItem) → item_at roster past i ≡ Some m → i ≤ length past
 item_below roster past i m is = let k = item_made roster past i m is in call_below past i k.call k.is
 
 -- whoever waits under the number of an item waits for an answer
-pub item_answer : (roster : List Member) (past : Trace) (u : ℕ) (m : Made) (b : OpenCall) → item_at roster past b.number ≡ Some m → newest_block past u ≡ Some b → is_for_answer b.wait ≡ true
+pub item_answer : (roster : List Member) (past : Trace) (u : ℕ) (m : SentItem) (b : OpenCall) → item_at roster past b.number ≡ Some m → newest_block past u ≡ Some b → is_for_answer b.wait ≡ true
 item_answer roster past u m b at is =
     let k = item_made roster past b.number m at in
     let a = block_asked past u b is in
     k.makes_it.waits b (subst (λ c. asks b.number c ≡ Some b) (same_Some a.call k.call (sym a.is ∙ k.is)) a.asks_it)
 
 -- and the item is a message
-pub item_message : (roster : List Member) (past : Trace) (u : ℕ) (m : Made) (b : OpenCall) → item_at roster past b.number ≡ Some m → newest_block past u ≡ Some b → is_pulse m.item.what ≡ false
+pub item_message : (roster : List Member) (past : Trace) (u : ℕ) (m : SentItem) (b : OpenCall) → item_at roster past b.number ≡ Some m → newest_block past u ≡ Some b → is_pulse m.item.what ≡ false
 item_message roster past u m b at is =
     let k = item_made roster past b.number m at in
     let a = block_asked past u b is in
@@ -102,21 +102,21 @@ items_below roster past =
 
 -- ---- the item of a number, searched for among all
 
-among_other : (xs ys : List Made) (i : ℕ) → AllByRecursion (λ m. m.item.number ≢ i) ys → made_among (xs ++ ys) i ≡ made_among xs i
+among_other : (xs ys : List SentItem) (i : ℕ) → AllByRecursion (λ m. m.item.number ≢ i) ys → made_among (xs ++ ys) i ≡ made_among xs i
 among_other [] [] i h = refl
 among_other [] (y ∷ ys) i h = rw (ne_eqb y.item.number i h.0) (among_other [] ys i h.1)
 among_other (x ∷ xs) ys i h = rw (among_other xs ys i h) refl
 
-among_last : (xs : List Made) (m : Made) (i : ℕ) → AllByRecursion (λ x. x.item.number ≢ i) xs → m.item.number ≡ i → made_among (xs ++ m ∷ []) i ≡ Some m
+among_last : (xs : List SentItem) (m : SentItem) (i : ℕ) → AllByRecursion (λ x. x.item.number ≢ i) xs → m.item.number ≡ i → made_among (xs ++ m ∷ []) i ≡ Some m
 among_last [] m i h same = rw (eq-eqb m.item.number i same) refl
 among_last (x ∷ xs) m i h same = rw (ne_eqb x.item.number i h.0) (among_last xs m i h.1 same)
 
 -- what is found has that number
-found_number : (made : List Made) (i : ℕ) (m : Made) → made_among made i ≡ Some m → m.item.number ≡ i
+found_number : (made : List SentItem) (i : ℕ) (m : SentItem) → made_among made i ≡ Some m → m.item.number ≡ i
 found_number [] i m is = absurd (none-some m is)
 found_number (x ∷ made) i m is =
     elim (eqb x.item.number i) as (λ b. eqb x.item.number i ≡ b → cond b (Some x) (made_among made i) ≡ Some m → m.item.number ≡ i) [
-      | true ↦ λ same at. ap (λ (y : Made). y.item.number) (sym (same_Some x m at)) ∙ eqb-true _ _ same
+      | true ↦ λ same at. ap (λ (y : SentItem). y.item.number) (sym (same_Some x m at)) ∙ eqb-true _ _ same
       | false ↦ λ other at. found_number made i m at
     ] refl is
 
@@ -128,11 +128,11 @@ found_earlier roster e past i l = among_other (items roster past) (option_to_lis
       | Some m ↦ λ is. let number : m.item.number ≡ length past + 1 = (made_by roster e past m is).number in ((λ same. omega arith), tt)
     ] refl)
 
-found_newest : (roster : List Member) (e : Event) (past : Trace) (m : Made) → item_of roster e past ≡ Some m → made_among (items roster (e ∷ past)) (length past + 1) ≡ Some m
+found_newest : (roster : List Member) (e : Event) (past : Trace) (m : SentItem) → item_of roster e past ≡ Some m → made_among (items roster (e ∷ past)) (length past + 1) ≡ Some m
 found_newest roster e past m is = rw is (among_last (items roster past) m (length past + 1)
     (all_more (λ x. x.item.number ≤ length past) (λ x. x.item.number ≢ length past + 1) (items roster past) (items_below roster past) (λ x l same. omega arith)) (made_by roster e past m is).number)
 
-pub item_found : (roster : List Member) (past : Trace) (i : ℕ) (m : Made) → item_at roster past i ≡ Some m → made_among (items roster past) i ≡ Some m
+pub item_found : (roster : List Member) (past : Trace) (i : ℕ) (m : SentItem) → item_at roster past i ≡ Some m → made_among (items roster past) i ≡ Some m
 item_found roster [] i m is = absurd (none-some m is)
 item_found roster (e ∷ past) i m is =
     elim (eqb i (length past + 1)) as (λ b. eqb i (length past + 1) ≡ b → cond b (item_of roster e past) (item_at roster past i) ≡ Some m → made_among (items roster (e ∷ past)) i ≡ Some m) [
@@ -143,25 +143,25 @@ item_found roster (e ∷ past) i m is =
 -- ---- priorities
 
 -- an item as it is by now, where it is known as it was made
-found_now : (past : Trace) (made : List Made) (i : ℕ) (m : Made) → made_among made i ≡ Some m → priority_of_made (made_among (items_by_now past made) i) ≡ worth past m.item
-found_now past made i m is = ap priority_of_made (among_now past made i ∙ ap (option_map (λ (m : Made). record { item = now past m.item; channel = m.channel })) is)
+found_now : (past : Trace) (made : List SentItem) (i : ℕ) (m : SentItem) → made_among made i ≡ Some m → priority_of_made (made_among (items_by_now past made) i) ≡ worth past m.item
+found_now past made i m is = ap priority_of_made (among_now past made i ∙ ap (option_map (λ (m : SentItem). record { item = now past m.item; channel = m.channel })) is)
 
-pub item_priority : (roster : List Member) (past : Trace) (i : ℕ) (m : Made) → item_at roster past i ≡ Some m → priority_of_item roster past i ≡ worth past m.item
+pub item_priority : (roster : List Member) (past : Trace) (i : ℕ) (m : SentItem) → item_at roster past i ≡ Some m → priority_of_item roster past i ≡ worth past m.item
 item_priority roster past i m is = found_now past (items roster past) i m (item_found roster past i m is)
 
 -- the item that an event makes
-pub priority_newest : (roster : List Member) (e : Event) (past : Trace) (m : Made) → item_of roster e past ≡ Some m → priority_of_item roster (e ∷ past) (length past + 1) ≡ m.item.priority
+pub priority_newest : (roster : List Member) (e : Event) (past : Trace) (m : SentItem) → item_of roster e past ≡ Some m → priority_of_item roster (e ∷ past) (length past + 1) ≡ m.item.priority
 priority_newest roster e past m is = found_now (e ∷ past) (items roster (e ∷ past)) (length past + 1) m (found_newest roster e past m is) ∙ worth_newest e past m.item (made_by roster e past m is).number
 
 -- an earlier item, where the event sets nothing for its sender
 pub priority_earlier : (roster : List Member) (e : Event) (past : Trace) (i : ℕ) → i ≤ length past → SetsNone e past i → priority_of_item roster (e ∷ past) i ≡ priority_of_item roster past i
 priority_earlier roster e past i l none =
-    ap priority_of_made (among_now (e ∷ past) (items roster (e ∷ past)) i ∙ ap (option_map (λ (m : Made). record { item = now (e ∷ past) m.item; channel = m.channel })) (found_earlier roster e past i l))
+    ap priority_of_made (among_now (e ∷ past) (items roster (e ∷ past)) i ∙ ap (option_map (λ (m : SentItem). record { item = now (e ∷ past) m.item; channel = m.channel })) (found_earlier roster e past i l))
     ∙ stays (made_among (items roster past) i) refl
     ∙ ap priority_of_made (sym (among_now past (items roster past) i))
   where
-    stays : (o : Option Made) → made_among (items roster past) i ≡ o
-        → priority_of_made (option_map (λ (m : Made). record { item = now (e ∷ past) m.item; channel = m.channel }) o) ≡ priority_of_made (option_map (λ (m : Made). record { item = now past m.item; channel = m.channel }) o)
+    stays : (o : Option SentItem) → made_among (items roster past) i ≡ o
+        → priority_of_made (option_map (λ (m : SentItem). record { item = now (e ∷ past) m.item; channel = m.channel }) o) ≡ priority_of_made (option_map (λ (m : SentItem). record { item = now past m.item; channel = m.channel }) o)
     stays None is = refl
     stays (Some m) is =
         let number : m.item.number ≡ i = found_number (items roster past) i m is in
@@ -170,9 +170,9 @@ priority_earlier roster e past i l none =
 -- the priority of an item before the event
 pub before_earlier : (roster : List Member) (e : Event) (past : Trace) (i : ℕ) → i ≤ length past → priority_before roster e past i ≡ priority_of_item roster past i
 before_earlier roster e past i l =
-    ap priority_of_made (among_now past (items roster (e ∷ past)) i ∙ ap (option_map (λ (m : Made). record { item = now past m.item; channel = m.channel })) (found_earlier roster e past i l) ∙ sym (among_now past (items roster past) i))
+    ap priority_of_made (among_now past (items roster (e ∷ past)) i ∙ ap (option_map (λ (m : SentItem). record { item = now past m.item; channel = m.channel })) (found_earlier roster e past i l) ∙ sym (among_now past (items roster past) i))
 
-pub before_newest : (roster : List Member) (e : Event) (past : Trace) (m : Made) → item_of roster e past ≡ Some m → priority_before roster e past m.item.number ≡ m.item.priority
+pub before_newest : (roster : List Member) (e : Event) (past : Trace) (m : SentItem) → item_of roster e past ≡ Some m → priority_before roster e past m.item.number ≡ m.item.priority
 before_newest roster e past m is =
     let number : m.item.number ≡ length past + 1 = (made_by roster e past m is).number in
     ap (priority_before roster e past) number ∙ found_now past (items roster (e ∷ past)) (length past + 1) m (found_newest roster e past m is) ∙ worth_beyond past m.item (omega (arith, number))
@@ -190,8 +190,8 @@ Stands roster past h item = item_at roster past item.number ≡ Some (record { i
 pub stands_all : (roster : List Member) (past : Trace) (h : ℕ) → AllByRecursion (Stands roster past h) (items_on roster past h)
 stands_all roster past h =
     all_map (Stands roster past h) (λ m. m.item) (filter (λ m. eqb m.channel h) (items roster past))
-    (all_more (λ (m : Made). (item_at roster past m.item.number ≡ Some m) × (eqb m.channel h ≡ true)) (λ (m : Made). Stands roster past h m.item) (filter (λ m. eqb m.channel h) (items roster past))
-    (all_passing (λ (m : Made). item_at roster past m.item.number ≡ Some m) (λ m. eqb m.channel h) (items roster past) (items_at roster past))
+    (all_more (λ (m : SentItem). (item_at roster past m.item.number ≡ Some m) × (eqb m.channel h ≡ true)) (λ (m : SentItem). Stands roster past h m.item) (filter (λ m. eqb m.channel h) (items roster past))
+    (all_passing (λ (m : SentItem). item_at roster past m.item.number ≡ Some m) (λ m. eqb m.channel h) (items roster past) (items_at roster past))
     (λ m k. k.0 ∙ ap (λ n. Some (record { item = m.item; channel = n })) (eqb-true m.channel h k.1)))
 
 -- an item of channel h that is not gone, whatever its priority by now

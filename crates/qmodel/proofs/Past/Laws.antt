@@ -5,14 +5,15 @@ use Rattle.qqueue.specs.Best.{best_of, is_pulse}
 use Rattle.qqueue.specs.declared.item.Item.{Item}
 use Rattle.qqueue.specs.declared.item.Kind.{Kind}
 use Rattle.qqueue.specs.declared.item.What.TheVariants as what
-use Rattle.qmodel.specs.Answer.{ending}
-use Rattle.qmodel.specs.Calls.{row_of}
-use Rattle.qmodel.specs.Facts.{Facts, sender, is_for_answer}
-use Rattle.qmodel.specs.Laws.{is_for_reply}
-use Rattle.qmodel.specs.Past.{is_failure, is_unblock_for}
-use Rattle.qmodel.specs.Receiving.{sender_for}
-use Rattle.qmodel.specs.Effects.{asks, makes, unblocks, writes}
-use Rattle.qmodel.specs.Rows.{Row, Made, Received, Written, item_in_mark}
+use Rattle.qmodel.specs.Private.Answer.{ending}
+use Rattle.qmodel.specs.Private.Calls.{row_of}
+use Rattle.qmodel.specs.Private.Facts.{Facts, sender, is_for_answer}
+use Rattle.qmodel.specs.Private.Laws.{is_for_reply}
+use Rattle.qmodel.specs.Private.Past.{is_failure, is_unblock_for}
+use Rattle.qmodel.specs.Private.Receiving.{sender_for}
+use Rattle.qmodel.specs.Private.Effects.{asks, makes, unblocks, writes}
+use Rattle.qmodel.specs.Private.Rows.{Row, Received, Written, item_in_mark}
+use Rattle.qmodel.specs.Trace.{SentItem}
 use Rattle.qmodel.specs.declared.call.Call.{Call}
 use Rattle.qmodel.specs.declared.call.Call.TheVariants.{ChannelDestroy, Shutdown, Unblock, ConnectDetach}
 use Rattle.qmodel.specs.declared.call.Completion.{Completion}
@@ -33,13 +34,13 @@ pub record BeginsToWait (n : ℕ) (o : OpenCall) : Type 0 where
   pub fresh : is_settled o.wait ≡ not (is_for_answer o.wait)
 
 -- an item has the number of the call that makes it, and where such a call waits, it is for the answer to a message
-pub record MakesItem (n : ℕ) (c : Call) (m : Made) : Type 0 where
+pub record MakesItem (n : ℕ) (c : Call) (m : SentItem) : Type 0 where
   pub number : m.item.number ≡ n
   pub waits : (o : OpenCall) → asks n c ≡ Some o → is_for_answer o.wait ≡ true
   pub message : (o : OpenCall) → asks n c ≡ Some o → is_pulse m.item.what ≡ false
 
 -- the item is the unblock pulse for what thread v is blocked in, a message that is received
-pub record IsUnblock (f : Facts) (v : ℕ) (m : Made) : Type 0 where
+pub record IsUnblock (f : Facts) (v : ℕ) (m : SentItem) : Type 0 where
   pub waiting : OpenCall
   pub is : f.open_call v ≡ Some waiting
   pub held : is_for_reply waiting.wait ≡ true
@@ -47,10 +48,10 @@ pub record IsUnblock (f : Facts) (v : ℕ) (m : Made) : Type 0 where
 
 pub record CallLaws (c : Call) : Type 0 where
   pub asks_one : (n : ℕ) (o : OpenCall) → asks n c ≡ Some o → BeginsToWait n o
-  pub makes_one : (f : Facts) (t : ℕ) (m : Made) → makes f t c ≡ Some m → MakesItem f.number c m
+  pub makes_one : (f : Facts) (t : ℕ) (m : SentItem) → makes f t c ≡ Some m → MakesItem f.number c m
   pub waits_write : (n : ℕ) (o : OpenCall) → asks n c ≡ Some o → writes c ≡ None
-  pub unblocks_none : unblocks c ≡ None → (f : Facts) (t : ℕ) (m : Made) → makes f t c ≡ Some m → (i : ℕ) → is_unblock_for i m.item.what ≡ false
-  pub unblocks_one : (v : ℕ) → unblocks c ≡ Some v → (f : Facts) (t : ℕ) (m : Made) → makes f t c ≡ Some m → IsUnblock f v m
+  pub unblocks_none : unblocks c ≡ None → (f : Facts) (t : ℕ) (m : SentItem) → makes f t c ≡ Some m → (i : ℕ) → is_unblock_for i m.item.what ≡ false
+  pub unblocks_one : (v : ℕ) → unblocks c ≡ Some v → (f : Facts) (t : ℕ) (m : SentItem) → makes f t c ≡ Some m → IsUnblock f v m
 
 -- ---- a call that is accepted
 
@@ -122,6 +123,6 @@ pub record RowLaws (f : Facts) (t : ℕ) (c : Call) : Type 0 where
   pub own_receives : (y : Completion) (p : ℕ × ℕ) → (row_of f t c).own ≡ Some y → item_in_mark y.mark ≡ Some p → IsReceipt (row_of f t c) t p
   pub ends_receives : (u : ℕ) (y : Completion) (p : ℕ × ℕ) → (row_of f t c).ends u ≡ Some y → item_in_mark y.mark ≡ Some p → IsReceipt (row_of f t c) u p
   pub receives : (r : Received) → (row_of f t c).receipt ≡ Some r → IsReceived f t c r
-  pub sends : (m : Made) → makes f t c ≡ Some m → is_pulse m.item.what ≡ false → (row_of f t c).own ≡ None
-  pub makes_open : (m : Made) → makes f t c ≡ Some m → is_some (f.channel m.channel) ≡ true
+  pub sends : (m : SentItem) → makes f t c ≡ Some m → is_pulse m.item.what ≡ false → (row_of f t c).own ≡ None
+  pub makes_open : (m : SentItem) → makes f t c ≡ Some m → is_some (f.channel m.channel) ≡ true
   pub writes_sent : (w : Written) → writes c ≡ Some w → (s : ℕ) × (sender f w.message ≡ Some s)

@@ -5,12 +5,12 @@ use Rattle.std.proofs.lemmas.Bool.{eqb-true, eqb-false, ne_eqb, or_cases, trueâ‰
 use Rattle.std.proofs.lemmas.Option.{none-some}
 use Rattle.qtables.specs.Members.{member_at}
 use Rattle.qtables.specs.declared.member.Member.{Member}
-use Rattle.qmodel.specs.Answer.{Outcome}
-use Rattle.qmodel.specs.Facts.{count_to}
-use Rattle.qmodel.specs.Lawful.{facts_of, IsLawful, with_event}
-use Rattle.qmodel.specs.Past.{is_accepted, made_at, refuses, was_accepted}
-use Rattle.qmodel.specs.Rows.{names}
-use Rattle.qmodel.specs.Step.{put_at, one_for}
+use Rattle.qmodel.specs.Private.Answer.{Outcome}
+use Rattle.qmodel.specs.Private.Facts.{count_to}
+use Rattle.qmodel.specs.Private.Lawful.{facts_of, IsLawful, with_event}
+use Rattle.qmodel.specs.Private.Past.{is_accepted, made_at, refuses, was_accepted}
+use Rattle.qmodel.specs.Private.Rows.{names}
+use Rattle.qmodel.specs.Private.Step.{put_at, one_for}
 use Rattle.qmodel.specs.Trace.{Event, Trace}
 use Rattle.qmodel.specs.declared.call.Call.{Call}
 use Rattle.qmodel.specs.declared.call.Completion.{Completion}

@@ -5,14 +5,14 @@ use Rattle.std.proofs.lemmas.Bool.{eqb-true, eq-eqb, true≢false}
 use Rattle.std.proofs.lemmas.Option.{none-some, same_Some}
 use Rattle.qtables.specs.Members.{member_at}
 use Rattle.qtables.specs.declared.member.Member.{Member}
-use Rattle.qmodel.specs.Calls.{row_of}
-use Rattle.qmodel.specs.Cutting.{is_over}
-use Rattle.qmodel.specs.Facts.{Facts, is_for_answer}
-use Rattle.qmodel.specs.Effects.{asks, attaches, detaches, makes, unblocks, writes}
-use Rattle.qmodel.specs.Lawful.{facts_of, IsLawful}
-use Rattle.qmodel.specs.Past.{attached_connection, connection_at, open_call}
-use Rattle.qmodel.specs.Rows.{names}
-use Rattle.qmodel.specs.Step.{after_receipt, after_unblock, after_write, connection_after, open_call_after, put_at, unblocked_wait, unless}
+use Rattle.qmodel.specs.Private.Calls.{row_of}
+use Rattle.qmodel.specs.Private.Cutting.{is_over}
+use Rattle.qmodel.specs.Private.Facts.{Facts, is_for_answer}
+use Rattle.qmodel.specs.Private.Effects.{asks, attaches, detaches, makes, unblocks, writes}
+use Rattle.qmodel.specs.Private.Lawful.{facts_of, IsLawful}
+use Rattle.qmodel.specs.Private.Past.{attached_connection, connection_at, open_call}
+use Rattle.qmodel.specs.Private.Rows.{names}
+use Rattle.qmodel.specs.Private.Step.{after_receipt, after_unblock, after_write, connection_after, open_call_after, put_at, unblocked_wait, unless}
 use Rattle.qmodel.specs.Trace.{Trace}
 use Rattle.qmodel.specs.declared.call.Call.{Call}
 use Rattle.qmodel.specs.declared.call.Call.TheVariants.{ConnectDetach}

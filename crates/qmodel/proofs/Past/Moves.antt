@@ -7,13 +7,13 @@ use Rattle.std.proofs.lemmas.List.{map-append}
 use Rattle.qqueue.specs.Best.{is_pulse, with_priority, without_item}
 use Rattle.qqueue.specs.declared.item.Item.{Item}
 use Rattle.qtables.specs.declared.member.Member.{Member}
-use Rattle.qmodel.specs.Answer.{Outcome}
-use Rattle.qmodel.specs.Facts.{Facts}
-use Rattle.qmodel.specs.Effects.{makes, sets}
-use Rattle.qmodel.specs.Lawful.{IsLawful, facts_of, with_event}
-use Rattle.qmodel.specs.Past.{is_gone, is_taken, made_on, priority_set_by, worth}
-use Rattle.qmodel.specs.Rows.{Received, Setting}
-use Rattle.qmodel.specs.Step.{is_cut, uncut_items, items_with_priority_set, unreceived_items, is_unread_send}
+use Rattle.qmodel.specs.Private.Answer.{Outcome}
+use Rattle.qmodel.specs.Private.Facts.{Facts}
+use Rattle.qmodel.specs.Private.Effects.{makes, sets}
+use Rattle.qmodel.specs.Private.Lawful.{IsLawful, facts_of, with_event}
+use Rattle.qmodel.specs.Private.Past.{is_gone, is_taken, made_on, priority_set_by, worth}
+use Rattle.qmodel.specs.Private.Rows.{Received, Setting}
+use Rattle.qmodel.specs.Private.Step.{is_cut, uncut_items, items_with_priority_set, unreceived_items, is_unread_send}
 use Rattle.qmodel.specs.Trace.{Event, Trace}
 use Rattle.qmodel.specs.declared.call.Call.{Call}
 use Rattle.qmodel.specs.declared.call.Completion.{Completion}

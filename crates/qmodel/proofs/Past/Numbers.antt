@@ -5,11 +5,11 @@ use Rattle.std.specs.Option.{option_map}
 use Rattle.std.proofs.lemmas.Bool.{eqb-true, ne_eqb, and_parts}
 use Rattle.std.proofs.lemmas.Option.{same_Some, none-some}
 use Rattle.qtables.specs.declared.member.Member.{Member}
-use Rattle.qmodel.specs.Facts.{is_for_answer}
-use Rattle.qmodel.specs.Headline.CopiedExactly.{call_at}
-use Rattle.qmodel.specs.Past.{items_by_now, call_by_now, is_accepted, is_ended, made_at, newest_block, unless_ended, with_receipt, wait_with_receipt, open_call, copied_count_of, priority_of_item, unblocked_among, items}
-use Rattle.qmodel.specs.Effects.{asks}
-use Rattle.qmodel.specs.Rows.{with_buffer}
+use Rattle.qmodel.specs.Private.Facts.{is_for_answer}
+use Rattle.qmodel.specs.Private.Headline.CopiedExactly.{call_at}
+use Rattle.qmodel.specs.Private.Past.{items_by_now, call_by_now, is_accepted, is_ended, made_at, newest_block, unless_ended, with_receipt, wait_with_receipt, open_call, copied_count_of, priority_of_item, unblocked_among, items}
+use Rattle.qmodel.specs.Private.Effects.{asks}
+use Rattle.qmodel.specs.Private.Rows.{with_buffer}
 use Rattle.qmodel.specs.Trace.{Event, Trace}
 use Rattle.qmodel.specs.declared.call.Call.{Call}
 use Rattle.qmodel.specs.declared.open_call.OpenCall.{OpenCall}

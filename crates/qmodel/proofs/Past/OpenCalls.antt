@@ -9,15 +9,16 @@ use Rattle.qqueue.specs.Best.{is_pulse}
 use Rattle.qqueue.specs.declared.item.Item.{Item}
 use Rattle.qtables.specs.Members.{member_at}
 use Rattle.qtables.specs.declared.member.Member.{Member}
-use Rattle.qmodel.specs.Answer.{Outcome}
-use Rattle.qmodel.specs.Calls.{row_of}
-use Rattle.qmodel.specs.Facts.{Facts, sender, threads_of}
-use Rattle.qmodel.specs.Lawful.{facts_of, IsLawful, with_event}
-use Rattle.qmodel.specs.Past.{call_by_now, refuses, has_ending_of, is_ended, is_taken, item_of, copied_count_of, priority_of_item, newest_block, wait_with_receipt, unless_ended, with_receipt, open_call, unblocked_among}
-use Rattle.qmodel.specs.Receiving.{sender_for}
-use Rattle.qmodel.specs.Effects.{asks, makes, unblocks, writes}
-use Rattle.qmodel.specs.Rows.{Made, Received, Written, buffer_after_write}
-use Rattle.qmodel.specs.Step.{held_call, is_thread, after_receipt, after_unblock, after_write, unblocked_call, unless, written_call, open_call_after}
+use Rattle.qmodel.specs.Private.Answer.{Outcome}
+use Rattle.qmodel.specs.Private.Calls.{row_of}
+use Rattle.qmodel.specs.Private.Facts.{Facts, sender, threads_of}
+use Rattle.qmodel.specs.Private.Lawful.{facts_of, IsLawful, with_event}
+use Rattle.qmodel.specs.Private.Past.{call_by_now, refuses, has_ending_of, is_ended, is_taken, item_of, copied_count_of, priority_of_item, newest_block, wait_with_receipt, unless_ended, with_receipt, open_call, unblocked_among}
+use Rattle.qmodel.specs.Private.Receiving.{sender_for}
+use Rattle.qmodel.specs.Private.Effects.{asks, makes, unblocks, writes}
+use Rattle.qmodel.specs.Private.Rows.{Received, Written, buffer_after_write}
+use Rattle.qmodel.specs.Trace.{SentItem}
+use Rattle.qmodel.specs.Private.Step.{held_call, is_thread, after_receipt, after_unblock, after_write, unblocked_call, unless, written_call, open_call_after}
 use Rattle.qmodel.specs.Trace.{Event, Trace}
 use Rattle.qmodel.specs.declared.call.Call.{Call}
 use Rattle.qmodel.specs.declared.call.Completion.{Completion}
@@ -199,7 +200,7 @@ write_none : (f : Facts) (w : Option Written) (u : ℕ) → after_write f w u No
 write_none f None u = refl
 write_none f (Some w) u = elim (is_thread (sender f w.message) u) as (λ b. cond b (option_map (written_call w.offset w.bytes) None) None ≡ None) [ true ↦ refl | false ↦ refl ]
 
-pub unblock_none : (m : Option Made) (w : Option ℕ) (u : ℕ) → after_unblock m w u None ≡ None
+pub unblock_none : (m : Option SentItem) (w : Option ℕ) (u : ℕ) → after_unblock m w u None ≡ None
 unblock_none m None u = refl
 unblock_none m (Some v) u = elim (eqb u v && is_some m) as (λ b. cond b (option_map unblocked_call None) None ≡ None) [ true ↦ refl | false ↦ refl ]
 

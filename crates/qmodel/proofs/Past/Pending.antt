@@ -11,13 +11,14 @@ use Rattle.qqueue.specs.Best.{is_pulse, with_priority, without_item}
 use Rattle.qqueue.specs.declared.item.Item.{Item}
 use Rattle.qtables.specs.Members.{member_at}
 use Rattle.qtables.specs.declared.member.Member.{Member}
-use Rattle.qmodel.specs.Answer.{Outcome}
-use Rattle.qmodel.specs.Calls.{row_of}
-use Rattle.qmodel.specs.Lawful.{facts_of, IsLawful, with_event}
-use Rattle.qmodel.specs.Past.{channel_at, has_ending_of, is_closed, is_ended, is_taken, is_gone, items, item_of, pending_items, copied_count_among, copied_count_of, open_call, made_on}
-use Rattle.qmodel.specs.Effects.{closes, makes, sets}
-use Rattle.qmodel.specs.Rows.{Made, Received, names}
-use Rattle.qmodel.specs.Step.{is_cut, uncut_items, items_with_priority_set, unreceived_items, pending_after, is_unread_send}
+use Rattle.qmodel.specs.Private.Answer.{Outcome}
+use Rattle.qmodel.specs.Private.Calls.{row_of}
+use Rattle.qmodel.specs.Private.Lawful.{facts_of, IsLawful, with_event}
+use Rattle.qmodel.specs.Private.Past.{channel_at, has_ending_of, is_closed, is_ended, is_taken, is_gone, items, item_of, pending_items, copied_count_among, copied_count_of, open_call, made_on}
+use Rattle.qmodel.specs.Private.Effects.{closes, makes, sets}
+use Rattle.qmodel.specs.Private.Rows.{Received, names}
+use Rattle.qmodel.specs.Trace.{SentItem}
+use Rattle.qmodel.specs.Private.Step.{is_cut, uncut_items, items_with_priority_set, unreceived_items, pending_after, is_unread_send}
 use Rattle.qmodel.specs.Trace.{Event, Trace}
 use Rattle.qmodel.specs.declared.call.Call.{Call}
 use Rattle.qmodel.specs.declared.call.Completion.{Completion}
@@ -32,11 +33,11 @@ use Rattle.qmodel.proofs.Past.Moves.{left_map, moved_append, moved_left, moved_m
 use Rattle.qmodel.proofs.Past.Worth.{now, refused_sets_none, worth_newest, worth_stays}
 use Rattle.qmodel.proofs.Past.Receipts.{copied_by, accepted_receipts, refused_receipts, best_pending, receipt_beyond}
 use Rattle.qmodel.proofs.Past.Numbers.{open_below}
-use Rattle.qmodel.specs.Facts.{threads_of}
+use Rattle.qmodel.specs.Private.Facts.{threads_of}
 
 -- ---- the items of a channel
 
-made_list : (o : Option Made) (h : ℕ) → map (λ m. m.item) (filter (λ m. eqb m.channel h) (option_to_list o)) ≡ made_on h o
+made_list : (o : Option SentItem) (h : ℕ) → map (λ m. m.item) (filter (λ m. eqb m.channel h) (option_to_list o)) ≡ made_on h o
 made_list None h = refl
 made_list (Some m) h = elim (eqb m.channel h) as (λ b. map (λ m. m.item) (cond b (m ∷ []) []) ≡ cond b (m.item ∷ []) []) [ true ↦ refl | false ↦ refl ]
 
@@ -48,7 +49,7 @@ items_more roster e past h =
     ∙ ap (λ l. items_on roster past h ++ l) (made_list (item_of roster e past) h)
 
 -- of what an event makes on a channel
-pub made_all : (P : Item → Type 0) (h : ℕ) (o : Option Made) → ((m : Made) → o ≡ Some m → m.channel ≡ h → P m.item) → AllByRecursion P (made_on h o)
+pub made_all : (P : Item → Type 0) (h : ℕ) (o : Option SentItem) → ((m : SentItem) → o ≡ Some m → m.channel ≡ h → P m.item) → AllByRecursion P (made_on h o)
 made_all P h None all = tt
 made_all P h (Some m) all =
     elim (eqb m.channel h) as (λ b. eqb m.channel h ≡ b → AllByRecursion P (cond b (m.item ∷ []) [])) [
@@ -171,7 +172,7 @@ elsewhere : (roster : List Member) (past : Trace) (t : ℕ) (c : Call) (X : List
 elsewhere roster past t c X h r L all a k other =
     let f = facts_of roster past in
     let P = λ (item : Item). eqb r.item item.number ≡ false in
-    let made_number = λ (m : Made) (is : makes f t c ≡ Some m). ((call_laws c).makes_one f t m is).number in
+    let made_number = λ (m : SentItem) (is : makes f t c ≡ Some m). ((call_laws c).makes_one f t m is).number in
     elim (k.source) [
       | inl new ↦
           let number : k.item.number ≡ length past + 1 = made_number _ new.made in

@@ -7,14 +7,15 @@ use Rattle.std.specs.Option.{option_map, option_or}
 use Rattle.qqueue.specs.declared.item.Item.{Item}
 use Rattle.qtables.specs.Members.{member_at}
 use Rattle.qtables.specs.declared.member.Member.{Member}
-use Rattle.qmodel.specs.Answer.{ending, Outcome}
-use Rattle.qmodel.specs.Calls.{row_of}
-use Rattle.qmodel.specs.Facts.{threads_of}
-use Rattle.qmodel.specs.Lawful.{facts_of, IsLawful, with_event}
-use Rattle.qmodel.specs.Past.{items_by_now, carried_priority, channel_at, first_among, priority_from_ending, item_of, items, made_among, priority_of_thread, refuses, worth}
-use Rattle.qmodel.specs.Effects.{sets}
-use Rattle.qmodel.specs.Rows.{Made, Received, item_in_mark, priority_set_for}
-use Rattle.qmodel.specs.Step.{priority_taken, priority_after}
+use Rattle.qmodel.specs.Private.Answer.{ending, Outcome}
+use Rattle.qmodel.specs.Private.Calls.{row_of}
+use Rattle.qmodel.specs.Private.Facts.{threads_of}
+use Rattle.qmodel.specs.Private.Lawful.{facts_of, IsLawful, with_event}
+use Rattle.qmodel.specs.Private.Past.{items_by_now, carried_priority, channel_at, first_among, priority_from_ending, item_of, items, made_among, priority_of_thread, refuses, worth}
+use Rattle.qmodel.specs.Private.Effects.{sets}
+use Rattle.qmodel.specs.Private.Rows.{Received, item_in_mark, priority_set_for}
+use Rattle.qmodel.specs.Trace.{SentItem}
+use Rattle.qmodel.specs.Private.Step.{priority_taken, priority_after}
 use Rattle.qmodel.specs.Trace.{Event, Trace}
 use Rattle.qmodel.specs.declared.call.Call.{Call}
 use Rattle.qmodel.specs.declared.call.Completion.{Completion}
@@ -75,7 +76,7 @@ module _ (roster : List Member) (past : Trace) (t : ℕ) (c : Call) (X : List Co
       let at = received_at roster past t c X r k a in
       ap (λ o. cond (eqb r.by u) (carried_priority (channel_at roster past) o) None) (
       among_now past (items roster (with_event t c X past)) r.item
-      ∙ ap (option_map (λ (m : Made). record { item = now past m.item; channel = m.channel })) (item_found roster (with_event t c X past) r.item _ at.at))
+      ∙ ap (option_map (λ (m : SentItem). record { item = now past m.item; channel = m.channel })) (item_found roster (with_event t c X past) r.item _ at.at))
       ∙ ap (λ p. priority_taken (facts_of roster past) (Some (record { item = r.item; channel = r.channel; by = r.by; sender = r.sender; kept = record { priority = p; copied = r.kept.copied; unblocked = r.kept.unblocked } })) u) (at.is_worth ∙ k.priority)
 
   -- what an ending gives is what the row's receipt does

@@ -7,8 +7,8 @@ use Rattle.qqueue.specs.Contents.{IsRising}
 use Rattle.qqueue.specs.declared.item.Item.{Item}
 use Rattle.qqueue.proofs.RisingLaws.{IsRising-push, IsRising-filter}
 use Rattle.qtables.specs.declared.member.Member.{Member}
-use Rattle.qmodel.specs.Past.{is_closed, is_gone, item_of, pending_items, made_on}
-use Rattle.qmodel.specs.Rows.{Made}
+use Rattle.qmodel.specs.Private.Past.{is_closed, is_gone, item_of, pending_items, made_on}
+use Rattle.qmodel.specs.Trace.{SentItem}
 use Rattle.qmodel.specs.Trace.{Event, Trace}
 use Rattle.qbase.proofs.Lists.{all_map, all_more}
 use Rattle.qmodel.proofs.Past.Items.{IsPending, Stands, items_on, stands_all, staying, pending_all, pending_is, item_below, made_by}
@@ -16,7 +16,7 @@ use Rattle.qmodel.proofs.Past.Worth.{now}
 use Rattle.qmodel.proofs.Past.Pending.{items_more}
 
 -- rising items, and one that is made after them
-rising_made : (items : List Item) (h : ℕ) (o : Option Made) → IsRising items → ((m : Made) → o ≡ Some m → AllByRecursion (λ y. y.number < m.item.number) items) → IsRising (items ++ made_on h o)
+rising_made : (items : List Item) (h : ℕ) (o : Option SentItem) → IsRising items → ((m : SentItem) → o ≡ Some m → AllByRecursion (λ y. y.number < m.item.number) items) → IsRising (items ++ made_on h o)
 rising_made items h None rising above = subst IsRising (sym (append-nil items)) rising
 rising_made items h (Some m) rising above =
     elim (eqb m.channel h) as (λ b. IsRising (items ++ cond b (m.item ∷ []) [])) [

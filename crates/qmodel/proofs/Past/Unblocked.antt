@@ -7,13 +7,13 @@ use Rattle.std.proofs.lemmas.List.Folds.{list_any-append}
 use Rattle.std.proofs.lemmas.Option.{same_Some}
 use Rattle.std.proofs.Math.Bool.{and-false, or-true, or-false}
 use Rattle.qtables.specs.declared.member.Member.{Member}
-use Rattle.qmodel.specs.Facts.{is_for_answer}
-use Rattle.qmodel.specs.Effects.{makes, unblocks}
-use Rattle.qmodel.specs.Laws.{is_for_reply}
-use Rattle.qmodel.specs.Lawful.{facts_of}
-use Rattle.qmodel.specs.Past.{call_by_now, wait_with_receipt, is_taken, is_unblock_for, item_of, items, open_call, priority_of_item, copied_count_among, copied_count_of, unblocked_among, with_receipt}
-use Rattle.qmodel.specs.Rows.{Made}
-use Rattle.qmodel.specs.Step.{after_unblock, unblocked_call, unblocked_wait}
+use Rattle.qmodel.specs.Private.Facts.{is_for_answer}
+use Rattle.qmodel.specs.Private.Effects.{makes, unblocks}
+use Rattle.qmodel.specs.Private.Laws.{is_for_reply}
+use Rattle.qmodel.specs.Private.Lawful.{facts_of}
+use Rattle.qmodel.specs.Private.Past.{call_by_now, wait_with_receipt, is_taken, is_unblock_for, item_of, items, open_call, priority_of_item, copied_count_among, copied_count_of, unblocked_among, with_receipt}
+use Rattle.qmodel.specs.Trace.{SentItem}
+use Rattle.qmodel.specs.Private.Step.{after_unblock, unblocked_call, unblocked_wait}
 use Rattle.qmodel.specs.Trace.{Event, Trace}
 use Rattle.qmodel.specs.declared.call.Call.{Call}
 use Rattle.qmodel.specs.declared.open_call.OpenCall.{OpenCall}
@@ -54,7 +54,7 @@ pub record WasReceived (past : Trace) (i : ℕ) : Type 0 where
   pub taken : is_taken past i ≡ true
 
 -- the item is no unblock pulse, or one for what the thread that the call names is blocked in
-by_item : (roster : List Member) (past : Trace) (t : ℕ) (c : Call) (i : ℕ) (m : Made) → makes (facts_of roster past) t c ≡ Some m → is_unblock_for i m.item.what ≡ true → WasReceived past i
+by_item : (roster : List Member) (past : Trace) (t : ℕ) (c : Call) (i : ℕ) (m : SentItem) → makes (facts_of roster past) t c ≡ Some m → is_unblock_for i m.item.what ≡ true → WasReceived past i
 by_item roster past t c i m made is =
     elim (unblocks c) as (λ w. unblocks c ≡ w → WasReceived past i) [
       | None ↦ λ none. absurd (true≢false (sym is ∙ (call_laws c).unblocks_none none (facts_of roster past) t m made i))
@@ -124,7 +124,7 @@ fresh_unblocked roster past t c = elim (cases_Bool (unblocked_among (option_to_l
 -- ---- an open call after an event
 
 -- thread u is the one that the call unblocks, and a pulse is made
-abbrev pub marks : Option Made → Option ℕ → ℕ → Bool
+abbrev pub marks : Option SentItem → Option ℕ → ℕ → Bool
 marks m None u = false
 marks m (Some v) u = eqb u v && is_some m
 
@@ -162,7 +162,7 @@ marked unblocked true priority None o h = absurd (true≢false (sym (h refl)))
 marked unblocked true priority (Some copied) o h =
     ap (λ b. with_receipt priority b (Some copied) o) (or-true unblocked) ∙ ap (λ w. record { number = o.number; wait = w }) (unblocked_held priority copied unblocked o.wait)
 
-pub unblocked_after : (m : Option Made) (w : Option ℕ) (u : ℕ) (unblocked x : Bool) (priority : ℕ) (r : Option ℕ) (o : OpenCall) → x ≡ marks m w u → (x ≡ true → is_some r ≡ true)
+pub unblocked_after : (m : Option SentItem) (w : Option ℕ) (u : ℕ) (unblocked x : Bool) (priority : ℕ) (r : Option ℕ) (o : OpenCall) → x ≡ marks m w u → (x ≡ true → is_some r ≡ true)
     → Some (with_receipt priority (unblocked || x) r o) ≡ after_unblock m w u (Some (with_receipt priority unblocked r o))
 unblocked_after m None u unblocked x priority r o is h = ap Some (marked unblocked x priority r o h ∙ ap (λ b. cond b (unblocked_call (with_receipt priority unblocked r o)) (with_receipt priority unblocked r o)) is)
 unblocked_after m (Some v) u unblocked x priority r o is h =

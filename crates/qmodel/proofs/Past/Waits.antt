@@ -6,10 +6,10 @@ use Rattle.std.proofs.lemmas.Bool.{true≢false}
 use Rattle.std.proofs.lemmas.Option.{none-some, same_Some}
 use Rattle.std.proofs.Math.Bool.{or-true}
 use Rattle.qtables.specs.Members.{member_at}
-use Rattle.qmodel.specs.Calls.{row_of}
-use Rattle.qmodel.specs.Calls.Info.{info_of}
-use Rattle.qmodel.specs.Facts.{Facts, is_send, sender, sender_among, threads_of}
-use Rattle.qmodel.specs.Effects.{asks}
+use Rattle.qmodel.specs.Private.Calls.{row_of}
+use Rattle.qmodel.specs.Private.Calls.Info.{info_of}
+use Rattle.qmodel.specs.Private.Facts.{Facts, is_send, sender, sender_among, threads_of}
+use Rattle.qmodel.specs.Private.Effects.{asks}
 use Rattle.qmodel.specs.declared.call.Call.{Call}
 use Rattle.qmodel.specs.declared.call.Call.TheVariants.{Send, Receive, Info, ReceivePulse}
 use Rattle.qmodel.specs.declared.open_call.OpenCall.{OpenCall}

@@ -5,9 +5,10 @@ use Rattle.std.specs.Option.{option_map, option_or}
 use Rattle.std.proofs.lemmas.Bool.{ne_eqb}
 use Rattle.qqueue.specs.Best.{is_pulse, with_priority}
 use Rattle.qqueue.specs.declared.item.Item.{Item}
-use Rattle.qmodel.specs.Effects.{sets, thread_of_send}
-use Rattle.qmodel.specs.Past.{items_by_now, is_accepted, is_gone, is_taken, made_among, is_unblock_for, sender_of, priority_set_by, priority_set_since, unblocked_among, worth}
-use Rattle.qmodel.specs.Rows.{Made, priority_set_for}
+use Rattle.qmodel.specs.Private.Effects.{sets, thread_of_send}
+use Rattle.qmodel.specs.Private.Past.{items_by_now, is_accepted, is_gone, is_taken, made_among, is_unblock_for, sender_of, priority_set_by, priority_set_since, unblocked_among, worth}
+use Rattle.qmodel.specs.Private.Rows.{priority_set_for}
+use Rattle.qmodel.specs.Trace.{SentItem}
 use Rattle.qmodel.specs.Trace.{Event, Trace}
 use Rattle.qbase.proofs.Lists.{eqb_same}
 use Rattle.qmodel.proofs.Past.Numbers.{made_beyond}
@@ -98,22 +99,22 @@ worth_newest e past item number =
 -- ---- lists of items
 
 -- the item of a number as it is by now
-pub among_now : (past : Trace) (made : List Made) (i : ℕ) → made_among (items_by_now past made) i ≡ option_map (λ m. record { item = now past m.item; channel = m.channel }) (made_among made i)
+pub among_now : (past : Trace) (made : List SentItem) (i : ℕ) → made_among (items_by_now past made) i ≡ option_map (λ m. record { item = now past m.item; channel = m.channel }) (made_among made i)
 among_now past [] i = refl
 among_now past (m ∷ made) i =
     elim (eqb m.item.number i) as (λ b. cond b (Some (record { item = now past m.item; channel = m.channel })) (made_among (items_by_now past made) i)
-    ≡ option_map (λ (m : Made). record { item = now past m.item; channel = m.channel }) (cond b (Some m) (made_among made i))) [
+    ≡ option_map (λ (m : SentItem). record { item = now past m.item; channel = m.channel }) (cond b (Some m) (made_among made i))) [
       | true ↦ refl
       | false ↦ among_now past made i
     ]
 
 -- those of a channel
-pub channel_now : (past : Trace) (h : ℕ) (made : List Made)
+pub channel_now : (past : Trace) (h : ℕ) (made : List SentItem)
     → map (λ m. m.item) (filter (λ m. eqb m.channel h) (items_by_now past made)) ≡ map (now past) (map (λ m. m.item) (filter (λ m. eqb m.channel h) made))
 channel_now past h [] = refl
 channel_now past h (m ∷ made) =
-    elim (eqb m.channel h) as (λ b. map (λ (m : Made). m.item) (cond b (record { item = now past m.item; channel = m.channel } ∷ filter (λ m. eqb m.channel h) (items_by_now past made)) (filter (λ m. eqb m.channel h) (items_by_now past made)))
-    ≡ map (now past) (map (λ (m : Made). m.item) (cond b (m ∷ filter (λ m. eqb m.channel h) made) (filter (λ m. eqb m.channel h) made)))) [
+    elim (eqb m.channel h) as (λ b. map (λ (m : SentItem). m.item) (cond b (record { item = now past m.item; channel = m.channel } ∷ filter (λ m. eqb m.channel h) (items_by_now past made)) (filter (λ m. eqb m.channel h) (items_by_now past made)))
+    ≡ map (now past) (map (λ (m : SentItem). m.item) (cond b (m ∷ filter (λ m. eqb m.channel h) made) (filter (λ m. eqb m.channel h) made)))) [
       | true ↦ ap (λ l. now past m.item ∷ l) (channel_now past h made)
       | false ↦ channel_now past h made
     ]
@@ -129,6 +130,6 @@ staying_now past (x ∷ items) =
     ]
 
 -- an unblock pulse is one whatever it is worth
-pub unblocked_among_now : (past : Trace) (made : List Made) (i : ℕ) → unblocked_among (items_by_now past made) i ≡ unblocked_among made i
+pub unblocked_among_now : (past : Trace) (made : List SentItem) (i : ℕ) → unblocked_among (items_by_now past made) i ≡ unblocked_among made i
 unblocked_among_now past [] i = refl
 unblocked_among_now past (m ∷ made) i = ap (λ b. is_unblock_for i m.item.what || b) (unblocked_among_now past made i)

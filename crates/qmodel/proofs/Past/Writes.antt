@@ -5,13 +5,13 @@ use Rattle.std.proofs.lemmas.Bool.{cases_Bool, eqb-true, eqb-false, ne_eqb}
 use Rattle.std.proofs.lemmas.Option.{same_Some}
 use Rattle.qbase.specs.Laying.{lay_over}
 use Rattle.qtables.specs.declared.member.Member.{Member}
-use Rattle.qmodel.specs.Answer.{Outcome}
-use Rattle.qmodel.specs.Facts.{Facts, sender, threads_of}
-use Rattle.qmodel.specs.Lawful.{facts_of, IsLawful, with_event}
-use Rattle.qmodel.specs.Past.{call_by_now, is_accepted, open_call, refuses, with_receipt, with_writes}
-use Rattle.qmodel.specs.Effects.{asks, writes}
-use Rattle.qmodel.specs.Rows.{Written, with_buffer, buffer_after_write}
-use Rattle.qmodel.specs.Step.{after_write, is_thread, written_call}
+use Rattle.qmodel.specs.Private.Answer.{Outcome}
+use Rattle.qmodel.specs.Private.Facts.{Facts, sender, threads_of}
+use Rattle.qmodel.specs.Private.Lawful.{facts_of, IsLawful, with_event}
+use Rattle.qmodel.specs.Private.Past.{call_by_now, is_accepted, open_call, refuses, with_receipt, with_writes}
+use Rattle.qmodel.specs.Private.Effects.{asks, writes}
+use Rattle.qmodel.specs.Private.Rows.{Written, with_buffer, buffer_after_write}
+use Rattle.qmodel.specs.Private.Step.{after_write, is_thread, written_call}
 use Rattle.qmodel.specs.Trace.{Event, Trace}
 use Rattle.qmodel.specs.declared.call.Call.{Call}
 use Rattle.qmodel.specs.declared.call.Completion.{Completion}

@@ -2,8 +2,8 @@
 use Rattle.std.specs.Prelude.{List}
 use Rattle.qtables.specs.Members.{IsRoster}
 use Rattle.qtables.specs.declared.member.Member.{Member}
-use Rattle.qmodel.specs.Lawful.{IsLawful}
-use Rattle.qmodel.specs.Properties.{HasProperties}
+use Rattle.qmodel.specs.Private.Lawful.{IsLawful}
+use Rattle.qmodel.specs.Private.Properties.{HasProperties}
 use Rattle.qmodel.specs.Trace.{Trace}
 use Rattle.qmodel.proofs.Properties.AnsweredToSender.{answered_to_sender}
 use Rattle.qmodel.proofs.Properties.BestFirst.{best_first}

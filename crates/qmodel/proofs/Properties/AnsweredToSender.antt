@@ -8,12 +8,12 @@ use Rattle.std.proofs.lemmas.Option.{none-some}
 use Rattle.qtables.specs.declared.connection.Connection.{Connection}
 use Rattle.qtables.specs.declared.member.Member.{Member}
 use Rattle.qtables.specs.Members.{IsRoster}
-use Rattle.qmodel.specs.Answer.{ending, Outcome, Answers}
+use Rattle.qmodel.specs.Private.Answer.{ending, Outcome, Answers}
 use Rattle.qmodel.proofs.Parts.{owns_end, owns_that}
-use Rattle.qmodel.specs.Facts.{Facts, is_for_answer, owns, threads_of}
-use Rattle.qmodel.specs.Headline.AnsweredToSender.{AnsweredToSender, AnswersIts, AnswersOnce, EachAnswersIts, is_answer, is_held, owns_channel_of}
-use Rattle.qmodel.specs.Lawful.{facts_of, IsLawful}
-use Rattle.qmodel.specs.Past.{connection_at, is_taken, sender_of}
+use Rattle.qmodel.specs.Private.Facts.{Facts, is_for_answer, owns, threads_of}
+use Rattle.qmodel.specs.Private.Headline.AnsweredToSender.{AnsweredToSender, AnswersIts, AnswersOnce, EachAnswersIts, is_answer, is_held, owns_channel_of}
+use Rattle.qmodel.specs.Private.Lawful.{facts_of, IsLawful}
+use Rattle.qmodel.specs.Private.Past.{connection_at, is_taken, sender_of}
 use Rattle.qmodel.specs.Trace.{Event, Trace}
 use Rattle.qmodel.specs.declared.call.Completion.{Completion}
 use Rattle.qmodel.proofs.Past.Ends.{open_known, passes_of}

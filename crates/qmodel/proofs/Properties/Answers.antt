@@ -6,24 +6,25 @@ use Rattle.std.specs.Ordering.{int_eq}
 use Rattle.std.proofs.lemmas.Bool.{true≢false}
 use Rattle.std.proofs.lemmas.Option.{none-some, same_Some}
 use Rattle.qbase.specs.declared.errno.Errno.TheVariants.{Srch}
-use Rattle.qmodel.specs.Answer.{ending}
-use Rattle.qmodel.specs.Calls.{row_of}
+use Rattle.qmodel.specs.Private.Answer.{ending}
+use Rattle.qmodel.specs.Private.Calls.{row_of}
 use Rattle.qqueue.specs.declared.item.Item.{Item}
 use Rattle.qqueue.specs.declared.item.Kind.{Kind}
 use Rattle.qqueue.specs.declared.item.Kind.TheVariants.{Any, PulseOnly}
 use Rattle.qtables.specs.declared.connection.Connection.{Connection}
-use Rattle.qmodel.specs.Calls.Error.{error_finish, mark_of}
-use Rattle.qmodel.specs.Calls.Info.{info_of, info_ending}
-use Rattle.qmodel.specs.Calls.Reply.{reply_finish}
-use Rattle.qmodel.specs.Calls.Send.{item}
-use Rattle.qmodel.specs.Held.{Finish, ends_sender, refusal}
+use Rattle.qmodel.specs.Private.Calls.Error.{error_finish, mark_of}
+use Rattle.qmodel.specs.Private.Calls.Info.{info_of, info_ending}
+use Rattle.qmodel.specs.Private.Calls.Reply.{reply_finish}
+use Rattle.qmodel.specs.Private.Calls.Send.{item}
+use Rattle.qmodel.specs.Private.Held.{Finish, ends_sender, refusal}
 use Rattle.qmodel.specs.declared.call.Info.{Info as Told}
 use Rattle.qmodel.specs.declared.call.Mark.TheVariants as mark
-use Rattle.qmodel.specs.Cutting.{is_on}
-use Rattle.qmodel.specs.Facts.{Facts, is_for_answer, message, sender, threads_of, way}
-use Rattle.qmodel.specs.Effects.{answered_by, asks, makes, thread_of_send}
-use Rattle.qmodel.specs.Headline.AnsweredToSender.{is_answer}
-use Rattle.qmodel.specs.Rows.{Made, delivery_of, item_sent_over}
+use Rattle.qmodel.specs.Private.Cutting.{is_on}
+use Rattle.qmodel.specs.Private.Facts.{Facts, is_for_answer, message, sender, threads_of, way}
+use Rattle.qmodel.specs.Private.Effects.{answered_by, asks, makes, thread_of_send}
+use Rattle.qmodel.specs.Private.Headline.AnsweredToSender.{is_answer}
+use Rattle.qmodel.specs.Private.Rows.{delivery_of, item_sent_over}
+use Rattle.qmodel.specs.Trace.{SentItem}
 use Rattle.qmodel.specs.declared.call.Call.{Call}
 use Rattle.qmodel.specs.declared.call.Call.TheVariants.{Send, Receive, Reply, Error, Info, ReceivePulse, Pulse, ChannelDestroy, Shutdown, Unblock, ConnectDetach}
 use Rattle.qmodel.specs.declared.call.Completion.{Completion}
@@ -40,9 +41,9 @@ use Rattle.qmodel.proofs.Calls.Taking.{given_is}
 use Rattle.qmodel.proofs.Properties.Rows.Receiving.{ReceiveTakes, receive_takes}
 use Rattle.qmodel.proofs.Properties.Rows.Delivering.{Meets, delivery_meets}
 use Rattle.qmodel.proofs.Ways.{has_way, leads_over}
-use Rattle.qmodel.specs.Calls.ConnectDetach as connect_detach
-use Rattle.qmodel.specs.Calls.Unblock as unblock
-use Rattle.qmodel.specs.Calls.Pulse as pulse
+use Rattle.qmodel.specs.Private.Calls.ConnectDetach as connect_detach
+use Rattle.qmodel.specs.Private.Calls.Unblock as unblock
+use Rattle.qmodel.specs.Private.Calls.Pulse as pulse
 use Rattle.qmodel.proofs.Calls.ConnectDetach.{detach_ends}
 use Rattle.qmodel.proofs.Properties.Rows.Telling.{told_meets, unblock_ends}
 
@@ -163,7 +164,7 @@ answers_one f t c i p e = absurd (none-some i e)
 pub record SendsOver (f : Facts) (t : ℕ) (c : Call) (coid : ℕ) : Type 0 where
   pub connection : Connection
   pub is_connection : f.connection coid ≡ Some connection
-  pub made : Made
+  pub made : SentItem
   pub is_made : makes f t c ≡ Some made
   pub channel : made.channel ≡ connection.channel
 

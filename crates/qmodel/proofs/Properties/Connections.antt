@@ -7,12 +7,13 @@ use Rattle.std.proofs.lemmas.Option.{none-some, same_Some}
 use Rattle.qqueue.specs.declared.item.Item.{Item}
 use Rattle.qtables.specs.declared.connection.Connection.{Connection}
 use Rattle.qtables.specs.declared.member.Member.{Member}
-use Rattle.qmodel.specs.Headline.BestFirst.{takeable}
-use Rattle.qmodel.specs.Headline.CopiedExactly.{call_at}
-use Rattle.qmodel.specs.Effects.{makes, sends_over}
-use Rattle.qmodel.specs.Headline.SentOrder.{connection_of}
-use Rattle.qmodel.specs.Past.{item_of, pending_items, priority_before, attached_connection, made_on}
-use Rattle.qmodel.specs.Rows.{message_item, pulse_item, Made, item_sent_over}
+use Rattle.qmodel.specs.Private.Headline.BestFirst.{takeable}
+use Rattle.qmodel.specs.Private.Headline.CopiedExactly.{call_at}
+use Rattle.qmodel.specs.Private.Effects.{makes, sends_over}
+use Rattle.qmodel.specs.Private.Headline.SentOrder.{connection_of}
+use Rattle.qmodel.specs.Private.Past.{item_of, pending_items, priority_before, attached_connection, made_on}
+use Rattle.qmodel.specs.Private.Rows.{message_item, pulse_item, item_sent_over}
+use Rattle.qmodel.specs.Trace.{SentItem}
 use Rattle.qmodel.specs.Trace.{Event, Trace}
 use Rattle.qmodel.specs.declared.call.Call.{Call}
 use Rattle.qmodel.specs.declared.call.Call.TheVariants.{Send, Pulse}
@@ -20,8 +21,8 @@ use Rattle.qmodel.proofs.Past.Items.{before_earlier, before_newest, item_accepte
 use Rattle.qbase.proofs.Lists.{all_append, all_more}
 use Rattle.qmodel.proofs.Past.Pending.{made_all}
 use Rattle.qmodel.proofs.Properties.Sends.{made_stays}
-use Rattle.qmodel.specs.Facts.{Facts}
-use Rattle.qmodel.specs.Lawful.{facts_of}
+use Rattle.qmodel.specs.Private.Facts.{Facts}
+use Rattle.qmodel.specs.Private.Lawful.{facts_of}
 use Rattle.qmodel.proofs.Past.Connections.{live_attached}
 
 -- ---- each is an item of the channel
@@ -52,25 +53,25 @@ takeable_priorities roster past e h =
 -- ---- what was sent over a connection is on its channel
 
 -- the connection, and that the item is on its channel
-pub record IsOver (connection : ℕ → Option Connection) (k : ℕ) (m : Made) : Type 0 where
+pub record IsOver (connection : ℕ → Option Connection) (k : ℕ) (m : SentItem) : Type 0 where
   pub over : Connection
   pub is : connection k ≡ Some over
   pub channel : m.channel ≡ over.channel
 
-sent_is_over : (connection : ℕ → Option Connection) (k : ℕ) (item : Item) (m : Made) → item_sent_over (connection k) item ≡ Some m → IsOver connection k m
+sent_is_over : (connection : ℕ → Option Connection) (k : ℕ) (item : Item) (m : SentItem) → item_sent_over (connection k) item ≡ Some m → IsOver connection k m
 sent_is_over connection k item m e =
     elim (connection k) as (λ o. connection k ≡ o → item_sent_over o item ≡ Some m → IsOver connection k m) [
       | None ↦ λ is s. absurd (none-some m s)
-      | Some c ↦ λ is s. record { over = c; is = is; channel = ap (λ (x : Made). x.channel) (sym (same_Some _ m s)) }
+      | Some c ↦ λ is s. record { over = c; is = is; channel = ap (λ (x : SentItem). x.channel) (sym (same_Some _ m s)) }
     ] refl e
 
-makes_over : (f : Facts) (t : ℕ) (c : Call) (m : Made) (k : ℕ) → makes f t c ≡ Some m → sends_over c ≡ Some k → IsOver f.connection k m
+makes_over : (f : Facts) (t : ℕ) (c : Call) (m : SentItem) (k : ℕ) → makes f t c ≡ Some m → sends_over c ≡ Some k → IsOver f.connection k m
 makes_over f t (Pulse coid level code value) m k e s = subst (λ i. IsOver f.connection i m) (same_Some coid k s) (sent_is_over f.connection coid (pulse_item f.number level code value) m e)
 makes_over f t (Send coid message reply_buffer) m k e s =
     subst (λ i. IsOver f.connection i m) (same_Some coid k s) (sent_is_over f.connection coid (message_item f.number (f.priority t)) m e)
 makes_over f t c m k e s = absurd (none-some k s)
 
-pub item_over : (roster : List Member) (past : Trace) (i k : ℕ) (m : Made) → item_at roster past i ≡ Some m → connection_of past i ≡ Some k → IsOver (attached_connection roster past) k m
+pub item_over : (roster : List Member) (past : Trace) (i k : ℕ) (m : SentItem) → item_at roster past i ≡ Some m → connection_of past i ≡ Some k → IsOver (attached_connection roster past) k m
 item_over roster [] i k m is over = absurd (none-some m is)
 item_over roster (e ∷ past) i k m is over =
     elim (eqb i (length past + 1)) as (λ b. cond b (item_of roster e past) (item_at roster past i) ≡ Some m

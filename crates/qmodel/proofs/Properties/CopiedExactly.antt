@@ -14,20 +14,21 @@ use Rattle.qqueue.specs.declared.item.Kind.{Kind}
 use Rattle.qqueue.specs.declared.item.Kind.TheVariants.{Any, PulseOnly}
 use Rattle.qbase.specs.Laying.{laid_count, lay_over}
 use Rattle.qtables.specs.declared.member.Member.{Member}
-use Rattle.qmodel.specs.Answer.{ending, Answers}
-use Rattle.qmodel.specs.Calls.{row_of}
-use Rattle.qmodel.specs.Effects.{buffer_of, message_sent, replies_with, writes}
-use Rattle.qmodel.specs.Calls.Error.{error_finish}
-use Rattle.qmodel.specs.Calls.Info.{info_of, info_ending}
-use Rattle.qmodel.specs.Calls.Reply.{reply_finish}
-use Rattle.qmodel.specs.Calls.Send as send
-use Rattle.qmodel.specs.Cutting.{buffer_of_wait, cut_call, is_on, is_over}
-use Rattle.qmodel.specs.Facts.{Facts, message, message_in, sender, threads_of, way}
-use Rattle.qmodel.specs.Held.{Finish, refusal, reply_buffer, reply_buffer_in, reply_buffer_of}
-use Rattle.qmodel.specs.Headline.CopiedExactly.{CopiedExactly, IsCopied, buffer_at, buffer_by, call_at, message_at}
-use Rattle.qmodel.specs.Lawful.{facts_of, IsLawful}
-use Rattle.qmodel.specs.Past.{open_call, refuses}
-use Rattle.qmodel.specs.Rows.{receipt_ending, Made}
+use Rattle.qmodel.specs.Private.Answer.{ending, Answers}
+use Rattle.qmodel.specs.Private.Calls.{row_of}
+use Rattle.qmodel.specs.Private.Effects.{buffer_of, message_sent, replies_with, writes}
+use Rattle.qmodel.specs.Private.Calls.Error.{error_finish}
+use Rattle.qmodel.specs.Private.Calls.Info.{info_of, info_ending}
+use Rattle.qmodel.specs.Private.Calls.Reply.{reply_finish}
+use Rattle.qmodel.specs.Private.Calls.Send as send
+use Rattle.qmodel.specs.Private.Cutting.{buffer_of_wait, cut_call, is_on, is_over}
+use Rattle.qmodel.specs.Private.Facts.{Facts, message, message_in, sender, threads_of, way}
+use Rattle.qmodel.specs.Private.Held.{Finish, refusal, reply_buffer, reply_buffer_in, reply_buffer_of}
+use Rattle.qmodel.specs.Private.Headline.CopiedExactly.{CopiedExactly, IsCopied, buffer_at, buffer_by, call_at, message_at}
+use Rattle.qmodel.specs.Private.Lawful.{facts_of, IsLawful}
+use Rattle.qmodel.specs.Private.Past.{open_call, refuses}
+use Rattle.qmodel.specs.Private.Rows.{receipt_ending}
+use Rattle.qmodel.specs.Trace.{SentItem}
 use Rattle.qmodel.specs.Trace.{Event, Trace}
 use Rattle.qmodel.specs.declared.call.Call.{Call}
 use Rattle.qmodel.specs.declared.call.Call.TheVariants.{Send, Receive, Reply, Error, Read, Write, Info, ReceivePulse, Pulse, ChannelDestroy, Shutdown, Unblock, ConnectDetach}
@@ -53,9 +54,9 @@ use Rattle.qmodel.proofs.Calls.Cutting.{IsCutCall, cut_parts}
 use Rattle.qmodel.proofs.Calls.Held.{IsHeldFor, SenderEnds, answering, has_sender, held_for, sender_ends}
 use Rattle.qmodel.proofs.Properties.Rows.Delivering.{Meets, delivery_meets}
 use Rattle.qmodel.proofs.Properties.Rows.Telling.{Tells, told_meets, unblock_ends}
-use Rattle.qmodel.specs.Calls.ConnectDetach as connect_detach
-use Rattle.qmodel.specs.Calls.Unblock as unblock
-use Rattle.qmodel.specs.Calls.Pulse as pulse
+use Rattle.qmodel.specs.Private.Calls.ConnectDetach as connect_detach
+use Rattle.qmodel.specs.Private.Calls.Unblock as unblock
+use Rattle.qmodel.specs.Private.Calls.Pulse as pulse
 use Rattle.qmodel.proofs.Calls.Pulse.{sent_is_pulse}
 use Rattle.qmodel.proofs.Calls.ConnectDetach as detaching
 use Rattle.qmodel.proofs.Calls.ConnectDetach.{detach_ends}
@@ -197,7 +198,7 @@ cut_copied roster past t c X u y is_cut errno none k =
     plain_copied past (event t c X) y (cut_call errno u k.waiting) k.ending (sym (buffer_open roster (event t c X) past u k.waiting none k.is))
 
 -- what a receiver takes that a pulse meets which is due
-told_now : (roster : List Member) (past : Trace) (t : ℕ) (c : Call) (X : List Completion) (u : ℕ) (y : Completion) (o : Option Made) → writes c ≡ None → ((m : Made) → o ≡ Some m → is_pulse m.item.what ≡ true)
+told_now : (roster : List Member) (past : Trace) (t : ℕ) (c : Call) (X : List Completion) (u : ℕ) (y : Completion) (o : Option SentItem) → writes c ≡ None → ((m : SentItem) → o ≡ Some m → is_pulse m.item.what ≡ true)
     → Tells (facts_of roster past) o u y → IsCopied past (event t c X) y y.mark
 told_now roster past t c X u y o none pulse k =
     met_copied roster past t c X u y (Some k.made.channel) k.made.item [] none (λ message. absurd (true≢false (sym (pulse k.made k.is_due) ∙ message))) k.meets

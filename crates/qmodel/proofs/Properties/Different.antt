@@ -6,8 +6,8 @@ use Rattle.std.specs.Option.{option_and_then}
 use Rattle.qtables.specs.declared.member.Member.{Member}
 use Rattle.qtables.specs.Members.{IsRoster}
 use Rattle.qmodel.specs.declared.call.Completion.{Completion}
-use Rattle.qmodel.specs.Facts.{threads_of}
-use Rattle.qmodel.specs.Headline.ReceivedOnce.{AllDifferent, calls_ended}
+use Rattle.qmodel.specs.Private.Facts.{threads_of}
+use Rattle.qmodel.specs.Private.Headline.ReceivedOnce.{AllDifferent, calls_ended}
 use Rattle.qbase.proofs.Lists.{all_append}
 
 -- a number is none of these

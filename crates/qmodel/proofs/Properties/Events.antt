@@ -5,13 +5,13 @@ use Rattle.std.specs.List.{AllByRecursion}
 use Rattle.std.proofs.lemmas.Bool.{true≢false}
 use Rattle.std.proofs.lemmas.Option.{none-some}
 use Rattle.qtables.specs.declared.member.Member.{Member}
-use Rattle.qmodel.specs.Answer.{ending, Outcome, Answers}
-use Rattle.qmodel.specs.Facts.{Facts, threads_of}
-use Rattle.qmodel.specs.Headline.ReceivedOnce.{item_received}
-use Rattle.qmodel.specs.Lawful.{facts_of}
-use Rattle.qmodel.specs.Past.{is_accepted, item_of}
-use Rattle.qmodel.specs.Effects.{makes}
-use Rattle.qmodel.specs.Rows.{Made}
+use Rattle.qmodel.specs.Private.Answer.{ending, Outcome, Answers}
+use Rattle.qmodel.specs.Private.Facts.{Facts, threads_of}
+use Rattle.qmodel.specs.Private.Headline.ReceivedOnce.{item_received}
+use Rattle.qmodel.specs.Private.Lawful.{facts_of}
+use Rattle.qmodel.specs.Private.Past.{is_accepted, item_of}
+use Rattle.qmodel.specs.Private.Effects.{makes}
+use Rattle.qmodel.specs.Trace.{SentItem}
 use Rattle.qmodel.specs.Trace.{Event, Trace}
 use Rattle.qmodel.specs.declared.call.Call.{Call}
 use Rattle.qmodel.specs.declared.call.Completion.{Completion}
@@ -34,7 +34,7 @@ outcome_of roster e past a is = elim a [
 ]
 
 -- an accepted event made what its call makes
-pub made_now : (roster : List Member) (e : Event) (past : Trace) (m : Made) → Outcome true (facts_of roster past) e.thread e.call e.endings
+pub made_now : (roster : List Member) (e : Event) (past : Trace) (m : SentItem) → Outcome true (facts_of roster past) e.thread e.call e.endings
     → makes (facts_of roster past) e.thread e.call ≡ Some m → item_of roster e past ≡ Some m
 made_now roster e past m a is = rw (is_accepted_by roster e past a) is
 

@@ -7,15 +7,16 @@ use Rattle.std.proofs.lemmas.Option.{none-some, same_Some}
 use Rattle.qqueue.specs.Best.{is_pulse}
 use Rattle.qqueue.specs.declared.item.Item.{Item}
 use Rattle.qtables.specs.declared.member.Member.{Member}
-use Rattle.qmodel.specs.Cutting.{buffer_of_wait}
-use Rattle.qmodel.specs.Facts.{is_for_answer, message, message_in, message_of, sender, threads_of, is_send}
-use Rattle.qmodel.specs.Effects.{message_sent as message_in_call}
-use Rattle.qmodel.specs.Headline.CopiedExactly.{buffer_at, buffer_by, message_at}
-use Rattle.qmodel.specs.Lawful.{facts_of, IsLawful}
-use Rattle.qmodel.specs.Past.{has_ending_of, call_by_now, wait_with_receipt, is_ended, item_of, newest_block, open_call, priority_of_item, copied_count_of, with_receipt, with_writes}
-use Rattle.qmodel.specs.Facts.{Facts}
-use Rattle.qmodel.specs.Effects.{asks, makes}
-use Rattle.qmodel.specs.Rows.{pulse_item, Made, with_buffer}
+use Rattle.qmodel.specs.Private.Cutting.{buffer_of_wait}
+use Rattle.qmodel.specs.Private.Facts.{is_for_answer, message, message_in, message_of, sender, threads_of, is_send}
+use Rattle.qmodel.specs.Private.Effects.{message_sent as message_in_call}
+use Rattle.qmodel.specs.Private.Headline.CopiedExactly.{buffer_at, buffer_by, message_at}
+use Rattle.qmodel.specs.Private.Lawful.{facts_of, IsLawful}
+use Rattle.qmodel.specs.Private.Past.{has_ending_of, call_by_now, wait_with_receipt, is_ended, item_of, newest_block, open_call, priority_of_item, copied_count_of, with_receipt, with_writes}
+use Rattle.qmodel.specs.Private.Facts.{Facts}
+use Rattle.qmodel.specs.Private.Effects.{asks, makes}
+use Rattle.qmodel.specs.Private.Rows.{pulse_item, with_buffer}
+use Rattle.qmodel.specs.Trace.{SentItem}
 use Rattle.qmodel.specs.Trace.{Event, Trace}
 use Rattle.qmodel.specs.declared.call.Call.{Call}
 use Rattle.qmodel.specs.declared.call.Call.TheVariants.{Send, Receive, ReceivePulse, Pulse, Unblock, ConnectDetach}
@@ -78,12 +79,12 @@ open_message roster past u o is =
 -- ---- a message that is pending has its Send open
 
 -- the call that makes a message waits for the answer
-pub record IsMessage (n : ℕ) (c : Call) (m : Made) : Type 0 where
+pub record IsMessage (n : ℕ) (c : Call) (m : SentItem) : Type 0 where
   pub begins : OpenCall
   pub asked : asks n c ≡ Some begins
   pub answer : is_for_answer begins.wait ≡ true
 
-pub makes_message : (f : Facts) (t : ℕ) (c : Call) (m : Made) → makes f t c ≡ Some m → is_pulse m.item.what ≡ false → IsMessage f.number c m
+pub makes_message : (f : Facts) (t : ℕ) (c : Call) (m : SentItem) → makes f t c ≡ Some m → is_pulse m.item.what ≡ false → IsMessage f.number c m
 makes_message f t (Unblock thread) m e message = absurd (true≢false (sym (due_is_pulse f thread m e) ∙ message))
 makes_message f t (ConnectDetach coid) m e message = absurd (true≢false (sym (detaching.due_is_pulse f t coid m e) ∙ message))
 makes_message f t (Pulse coid level code value) m e message =
@@ -114,7 +115,7 @@ block_stays roster e past u b l is going =
       | false ↦ λ h. is
     ] refl
 
-pub item_waits : (roster : List Member) (past : Trace) (i : ℕ) (m : Made) → IsLawful roster past → item_at roster past i ≡ Some m → is_pulse m.item.what ≡ false → is_ended past i ≡ false → IsWaiting past i
+pub item_waits : (roster : List Member) (past : Trace) (i : ℕ) (m : SentItem) → IsLawful roster past → item_at roster past i ≡ Some m → is_pulse m.item.what ≡ false → is_ended past i ≡ false → IsWaiting past i
 item_waits roster [] i m l is message going = absurd (none-some m is)
 item_waits roster (e ∷ past) i m l is message going =
     elim (eqb i (length past + 1)) as (λ b. eqb i (length past + 1) ≡ b → cond b (item_of roster e past) (item_at roster past i) ≡ Some m → IsWaiting (e ∷ past) i) [

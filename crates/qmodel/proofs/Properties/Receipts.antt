@@ -9,17 +9,18 @@ use Rattle.qqueue.specs.Best.{best_of, may_take}
 use Rattle.qqueue.specs.declared.item.Item.{Item}
 use Rattle.qqueue.specs.declared.item.Kind.{Kind}
 use Rattle.qqueue.specs.declared.item.Kind.TheVariants.{Any, PulseOnly}
-use Rattle.qmodel.specs.Answer.{ending}
-use Rattle.qmodel.specs.Calls.{row_of}
-use Rattle.qmodel.specs.Calls.Error.{error_finish}
-use Rattle.qmodel.specs.Calls.Info.{info_of}
-use Rattle.qmodel.specs.Calls.Reply.{reply_finish}
-use Rattle.qmodel.specs.Calls.Send.{item}
-use Rattle.qmodel.specs.Cutting.{is_on}
-use Rattle.qmodel.specs.Facts.{Facts, message, sender, way}
-use Rattle.qmodel.specs.Effects.{makes, receives_on}
-use Rattle.qmodel.specs.Headline.ReceivedOnce.{item_received}
-use Rattle.qmodel.specs.Rows.{Made, item_in_mark}
+use Rattle.qmodel.specs.Private.Answer.{ending}
+use Rattle.qmodel.specs.Private.Calls.{row_of}
+use Rattle.qmodel.specs.Private.Calls.Error.{error_finish}
+use Rattle.qmodel.specs.Private.Calls.Info.{info_of}
+use Rattle.qmodel.specs.Private.Calls.Reply.{reply_finish}
+use Rattle.qmodel.specs.Private.Calls.Send.{item}
+use Rattle.qmodel.specs.Private.Cutting.{is_on}
+use Rattle.qmodel.specs.Private.Facts.{Facts, message, sender, way}
+use Rattle.qmodel.specs.Private.Effects.{makes, receives_on}
+use Rattle.qmodel.specs.Private.Headline.ReceivedOnce.{item_received}
+use Rattle.qmodel.specs.Private.Rows.{item_in_mark}
+use Rattle.qmodel.specs.Trace.{SentItem}
 use Rattle.qmodel.specs.declared.call.Call.{Call}
 use Rattle.qmodel.specs.declared.call.Call.TheVariants.{Send, Receive, Reply, Error, Info, ReceivePulse, Pulse, ChannelDestroy, Shutdown, Unblock, ConnectDetach}
 use Rattle.qmodel.specs.declared.call.Completion.{Completion}
@@ -34,9 +35,9 @@ use Rattle.qmodel.proofs.Calls.Cutting.{cut_parts}
 use Rattle.qmodel.proofs.Calls.Error.{no_receipt}
 use Rattle.qmodel.proofs.Calls.Held.{sender_ends}
 use Rattle.qmodel.proofs.Calls.Info.{plain}
-use Rattle.qmodel.specs.Calls.ConnectDetach as connect_detach
-use Rattle.qmodel.specs.Calls.Unblock as unblock
-use Rattle.qmodel.specs.Calls.Pulse as pulse
+use Rattle.qmodel.specs.Private.Calls.ConnectDetach as connect_detach
+use Rattle.qmodel.specs.Private.Calls.Unblock as unblock
+use Rattle.qmodel.specs.Private.Calls.Pulse as pulse
 use Rattle.qmodel.proofs.Calls.ConnectDetach.{detach_ends}
 use Rattle.qmodel.proofs.Properties.Rows.Telling.{Tells, told_meets, unblock_ends}
 use Rattle.qmodel.proofs.Calls.Delivering.{sent_way}
@@ -80,7 +81,7 @@ pub record TakesPending (f : Facts) (t : ℕ) (c : Call) (u : ℕ) (y : Completi
 
 -- a thread that waited takes the item that the call makes
 pub record TakesMade (f : Facts) (t : ℕ) (c : Call) (u : ℕ) (y : Completion) (i : ℕ) : Type 0 where
-  pub made : Made
+  pub made : SentItem
   pub is_made : makes f t c ≡ Some made
   pub number : made.item.number ≡ i
   pub waiting : OpenCall
@@ -131,7 +132,7 @@ takes_met f t c o item message u y p s made m = inr (record {
 })
 
 -- a receiver that takes a pulse which is due
-takes_told : (f : Facts) (t : ℕ) (c : Call) (o : Option Made) (u : ℕ) (y : Completion) (p : ℕ × ℕ) → makes f t c ≡ o → Tells f o u y → item_in_mark y.mark ≡ Some p → TakesOne f t c u y p.0
+takes_told : (f : Facts) (t : ℕ) (c : Call) (o : Option SentItem) (u : ℕ) (y : Completion) (p : ℕ × ℕ) → makes f t c ≡ o → Tells f o u y → item_in_mark y.mark ≡ Some p → TakesOne f t c u y p.0
 takes_told f t c o u y p made k m =
     takes_met f t c (Some k.made.channel) k.made.item [] u y p k.meets (λ h s. made ∙ k.is_due ∙ ap (λ n. Some (record { item = k.made.item; channel = n })) (same_Some k.made.channel h s)) m
 

@@ -10,12 +10,13 @@ use Rattle.std.proofs.lemmas.Option.{none-some, same_Some, option_and_then_some}
 use Rattle.std.proofs.Math.Bool.{or-true}
 use Rattle.qtables.specs.declared.member.Member.{Member}
 use Rattle.qtables.specs.Members.{IsRoster}
-use Rattle.qmodel.specs.Answer.{ending, Answers, Outcome}
-use Rattle.qmodel.specs.Facts.{Facts, threads_of}
-use Rattle.qmodel.specs.Headline.ReceivedOnce.{AllDifferent, NoneEarly, ReceivedOnce, endings_of, calls_ended, item_received, items_received, is_made}
-use Rattle.qmodel.specs.Lawful.{facts_of, IsLawful}
-use Rattle.qmodel.specs.Past.{copied_count_in, has_ending_of, is_ended, is_taken, item_of, items, copied_count_among, copied_count_of}
-use Rattle.qmodel.specs.Rows.{Made, item_in_mark}
+use Rattle.qmodel.specs.Private.Answer.{ending, Answers, Outcome}
+use Rattle.qmodel.specs.Private.Facts.{Facts, threads_of}
+use Rattle.qmodel.specs.Private.Headline.ReceivedOnce.{AllDifferent, NoneEarly, ReceivedOnce, endings_of, calls_ended, item_received, items_received, is_made}
+use Rattle.qmodel.specs.Private.Lawful.{facts_of, IsLawful}
+use Rattle.qmodel.specs.Private.Past.{copied_count_in, has_ending_of, is_ended, is_taken, item_of, items, copied_count_among, copied_count_of}
+use Rattle.qmodel.specs.Private.Rows.{item_in_mark}
+use Rattle.qmodel.specs.Trace.{SentItem}
 use Rattle.qmodel.specs.Trace.{Trace}
 use Rattle.qmodel.specs.declared.call.Call.{Call}
 use Rattle.qmodel.specs.declared.call.Completion.{Completion}
@@ -163,17 +164,17 @@ each_item roster (e ∷ past) r l =
 
 -- ---- none before it was made
 
-pub any_first : (p : Made → Bool) (xs ys : List Made) → list_any p xs ≡ true → list_any p (xs ++ ys) ≡ true
+pub any_first : (p : SentItem → Bool) (xs ys : List SentItem) → list_any p xs ≡ true → list_any p (xs ++ ys) ≡ true
 any_first p [] ys e = absurd (true≢false (sym e))
 any_first p (x ∷ xs) ys e =
     elim (p x) as (λ b. (b || list_any p xs) ≡ true → (b || list_any p (xs ++ ys)) ≡ true) [ true ↦ λ h. refl | false ↦ λ h. any_first p xs ys h ] e
 
-pub any_last : (p : Made → Bool) (xs : List Made) (y : Made) → p y ≡ true → list_any p (xs ++ y ∷ []) ≡ true
+pub any_last : (p : SentItem → Bool) (xs : List SentItem) (y : SentItem) → p y ≡ true → list_any p (xs ++ y ∷ []) ≡ true
 any_last p [] y e = rw e refl
 any_last p (x ∷ xs) y e = rw (any_last p xs y e) (or-true (p x))
 
 -- an item that was made is among all items
-is_made_at : (roster : List Member) (past : Trace) (i : ℕ) (m : Made) → item_at roster past i ≡ Some m → is_made roster past i ≡ true
+is_made_at : (roster : List Member) (past : Trace) (i : ℕ) (m : SentItem) → item_at roster past i ≡ Some m → is_made roster past i ≡ true
 is_made_at roster [] i m is = absurd (none-some m is)
 is_made_at roster (e ∷ past) i m is =
     elim (eqb i (length past + 1)) as (λ b. eqb i (length past + 1) ≡ b → cond b (item_of roster e past) (item_at roster past i) ≡ Some m → is_made roster (e ∷ past) i ≡ true) [

@@ -12,8 +12,8 @@ use Rattle.qqueue.specs.declared.item.Kind.{Kind}
 use Rattle.qmodel.specs.declared.open_call.OpenCall.{OpenCall}
 use Rattle.qmodel.specs.declared.open_call.Wait.{Wait}
 use Rattle.qmodel.specs.declared.open_call.Wait.TheVariants.{Answer, Item as ForItem}
-use Rattle.qmodel.specs.Facts.{Facts, threads_of, first_where}
-use Rattle.qmodel.specs.Receivers.{is_after, is_last_wait, is_newest, newest_receiver, newest_receiver_among, wait_for, wait_on}
+use Rattle.qmodel.specs.Private.Facts.{Facts, threads_of, first_where}
+use Rattle.qmodel.specs.Private.Receivers.{is_after, is_last_wait, is_newest, newest_receiver, newest_receiver_among, wait_for, wait_on}
 use Rattle.qbase.proofs.Lists.{eqb_same, is_among}
 
 -- the open call waits for an item of channel h, and may take this one

@@ -7,12 +7,13 @@ use Rattle.std.proofs.lemmas.Bool.{ne_eqb, eq-eqb, eqb-true, and_parts}
 use Rattle.std.proofs.lemmas.Option.{none-some}
 use Rattle.qtables.specs.declared.connection.Connection.{Connection}
 use Rattle.qtables.specs.declared.member.Member.{Member}
-use Rattle.qmodel.specs.Facts.{is_for_answer}
-use Rattle.qmodel.specs.Headline.AnsweredToSender.{channel_among}
-use Rattle.qmodel.specs.Lawful.{facts_of, IsLawful}
-use Rattle.qmodel.specs.Effects.{asks, thread_of_send}
-use Rattle.qmodel.specs.Past.{call_by_now, is_accepted, item_of, items, made_at, newest_block, priority_of_item, copied_count_of, sender_of, with_receipt, with_writes, wait_with_receipt, attached_connection}
-use Rattle.qmodel.specs.Rows.{Made, with_buffer}
+use Rattle.qmodel.specs.Private.Facts.{is_for_answer}
+use Rattle.qmodel.specs.Private.Headline.AnsweredToSender.{channel_among}
+use Rattle.qmodel.specs.Private.Lawful.{facts_of, IsLawful}
+use Rattle.qmodel.specs.Private.Effects.{asks, thread_of_send}
+use Rattle.qmodel.specs.Private.Past.{call_by_now, is_accepted, item_of, items, made_at, newest_block, priority_of_item, copied_count_of, sender_of, with_receipt, with_writes, wait_with_receipt, attached_connection}
+use Rattle.qmodel.specs.Private.Rows.{with_buffer}
+use Rattle.qmodel.specs.Trace.{SentItem}
 use Rattle.qmodel.specs.Trace.{Event, Trace}
 use Rattle.qmodel.specs.declared.open_call.OpenCall.{OpenCall}
 use Rattle.qmodel.specs.declared.open_call.Receipt.{Receipt}
@@ -75,7 +76,7 @@ block_sender (e ∷ past) u b is w = elim (begins_now e past u b is) [
 pub record IsSentOver (roster : List Member) (past : Trace) (coid i : ℕ) : Type 0 where
   pub connection : Connection
   pub is_connection : attached_connection roster past coid ≡ Some connection
-  pub made : Made
+  pub made : SentItem
   pub is_made : item_at roster past i ≡ Some made
   pub channel : made.channel ≡ connection.channel
 
@@ -136,16 +137,16 @@ open_over roster past u o k l w =
 
 -- ---- channels of items
 
-channel_other : (xs ys : List Made) (i : ℕ) → AllByRecursion (λ m. m.item.number ≢ i) ys → channel_among (xs ++ ys) i ≡ channel_among xs i
+channel_other : (xs ys : List SentItem) (i : ℕ) → AllByRecursion (λ m. m.item.number ≢ i) ys → channel_among (xs ++ ys) i ≡ channel_among xs i
 channel_other [] [] i h = refl
 channel_other [] (y ∷ ys) i h = rw (ne_eqb y.item.number i h.0) (channel_other [] ys i h.1)
 channel_other (x ∷ xs) ys i h = rw (channel_other xs ys i h) refl
 
-channel_last : (xs : List Made) (m : Made) (i : ℕ) → AllByRecursion (λ x. x.item.number ≢ i) xs → m.item.number ≡ i → channel_among (xs ++ m ∷ []) i ≡ Some m.channel
+channel_last : (xs : List SentItem) (m : SentItem) (i : ℕ) → AllByRecursion (λ x. x.item.number ≢ i) xs → m.item.number ≡ i → channel_among (xs ++ m ∷ []) i ≡ Some m.channel
 channel_last [] m i h same = rw (eq-eqb m.item.number i same) refl
 channel_last (x ∷ xs) m i h same = rw (ne_eqb x.item.number i h.0) (channel_last xs m i h.1 same)
 
-pub item_channel : (roster : List Member) (past : Trace) (i : ℕ) (m : Made) → item_at roster past i ≡ Some m → channel_among (items roster past) i ≡ Some m.channel
+pub item_channel : (roster : List Member) (past : Trace) (i : ℕ) (m : SentItem) → item_at roster past i ≡ Some m → channel_among (items roster past) i ≡ Some m.channel
 item_channel roster [] i m is = absurd (none-some m is)
 item_channel roster (e ∷ past) i m is =
     elim (eqb i (length past + 1)) as (λ b. eqb i (length past + 1) ≡ b → cond b (item_of roster e past) (item_at roster past i) ≡ Some m → channel_among (items roster (e ∷ past)) i ≡ Some m.channel) [

@@ -12,12 +12,12 @@ use Rattle.qqueue.specs.declared.item.Kind.TheVariants.{Any}
 use Rattle.qqueue.proofs.OrderLaws.{best-at}
 use Rattle.qtables.specs.Members.{IsRoster}
 use Rattle.qtables.specs.declared.member.Member.{Member}
-use Rattle.qmodel.specs.Effects.{receives_on}
-use Rattle.qmodel.specs.Headline.BestFirst.{BestFirst, TakesBest, takeable}
-use Rattle.qmodel.specs.Headline.ReceivedOnce.{item_received}
-use Rattle.qmodel.specs.Headline.SentOrder.{IsEarliest, SentOrder, TakesSent, connection_of}
-use Rattle.qmodel.specs.Lawful.{IsLawful}
-use Rattle.qmodel.specs.Past.{priority_before}
+use Rattle.qmodel.specs.Private.Effects.{receives_on}
+use Rattle.qmodel.specs.Private.Headline.BestFirst.{BestFirst, TakesBest, takeable}
+use Rattle.qmodel.specs.Private.Headline.ReceivedOnce.{item_received}
+use Rattle.qmodel.specs.Private.Headline.SentOrder.{IsEarliest, SentOrder, TakesSent, connection_of}
+use Rattle.qmodel.specs.Private.Lawful.{IsLawful}
+use Rattle.qmodel.specs.Private.Past.{priority_before}
 use Rattle.qmodel.specs.Trace.{Event, Trace}
 use Rattle.qmodel.specs.declared.call.Call.{Call}
 use Rattle.qmodel.specs.declared.call.Call.TheVariants.{Receive}

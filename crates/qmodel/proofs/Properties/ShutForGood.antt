@@ -8,18 +8,18 @@ use Rattle.qqueue.specs.Best.{best_of}
 use Rattle.qtables.specs.Members.{IsRoster, member_at}
 use Rattle.qtables.specs.declared.connection.Connection.{Connection}
 use Rattle.qtables.specs.declared.member.Member.{Member}
-use Rattle.qmodel.specs.Answer.{Outcome}
-use Rattle.qmodel.specs.Calls.{row_of}
-use Rattle.qmodel.specs.Cutting.{is_on, is_to}
-use Rattle.qmodel.specs.Facts.{Facts, is_for_answer, owns}
+use Rattle.qmodel.specs.Private.Answer.{Outcome}
+use Rattle.qmodel.specs.Private.Calls.{row_of}
+use Rattle.qmodel.specs.Private.Cutting.{is_on, is_to}
+use Rattle.qmodel.specs.Private.Facts.{Facts, is_for_answer, owns}
 use Rattle.qmodel.proofs.Parts.{leads_to}
-use Rattle.qmodel.specs.Headline.AnsweredToSender.{channel_among}
-use Rattle.qmodel.specs.Effects.{asks, attaches, closes, detaches, makes, receives_on, unblocks, writes}
-use Rattle.qmodel.specs.Headline.ShutForGood.{NoneBlockedOn, NoneReceivedFrom, ShutForGood}
-use Rattle.qmodel.specs.Lawful.{facts_of, IsLawful}
-use Rattle.qmodel.specs.Past.{attached_connection, connection_at, wait_with_receipt, is_closed, items, open_call}
-use Rattle.qmodel.specs.Rows.{names, with_buffer}
-use Rattle.qmodel.specs.Step.{after_receipt, after_write, channel_after, connection_after, open_call_after, put_at, unless, after_unblock, unblocked_wait}
+use Rattle.qmodel.specs.Private.Headline.AnsweredToSender.{channel_among}
+use Rattle.qmodel.specs.Private.Effects.{asks, attaches, closes, detaches, makes, receives_on, unblocks, writes}
+use Rattle.qmodel.specs.Private.Headline.ShutForGood.{NoneBlockedOn, NoneReceivedFrom, ShutForGood}
+use Rattle.qmodel.specs.Private.Lawful.{facts_of, IsLawful}
+use Rattle.qmodel.specs.Private.Past.{attached_connection, connection_at, wait_with_receipt, is_closed, items, open_call}
+use Rattle.qmodel.specs.Private.Rows.{names, with_buffer}
+use Rattle.qmodel.specs.Private.Step.{after_receipt, after_write, channel_after, connection_after, open_call_after, put_at, unless, after_unblock, unblocked_wait}
 use Rattle.qmodel.specs.Trace.{Event, Trace}
 use Rattle.qmodel.specs.declared.call.Call.{Call}
 use Rattle.qmodel.specs.declared.call.Call.TheVariants.{Send, Receive, ReceivePulse, ChannelDestroy}

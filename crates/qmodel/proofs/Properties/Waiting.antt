@@ -11,17 +11,18 @@ use Rattle.qqueue.specs.declared.item.Kind.TheVariants.{Any, PulseOnly}
 use Rattle.qqueue.proofs.OrderLaws.{none-may}
 use Rattle.qtables.specs.Members.{IsRoster}
 use Rattle.qtables.specs.declared.member.Member.{Member}
-use Rattle.qmodel.specs.Calls.{row_of}
-use Rattle.qmodel.specs.Calls.Send.{item}
-use Rattle.qmodel.specs.Delivering.{receiver, receipt_when_sent}
-use Rattle.qmodel.specs.Receiving.{own_receipt}
-use Rattle.qmodel.specs.Facts.{Facts, sender, threads_of, way}
-use Rattle.qmodel.specs.Effects.{asks, closes, makes, receives_on, sets, unblocks, writes}
-use Rattle.qmodel.specs.Lawful.{facts_of, IsLawful}
-use Rattle.qmodel.specs.Past.{wait_with_receipt, made_on}
-use Rattle.qmodel.specs.Receivers.{newest_receiver}
-use Rattle.qmodel.specs.Rows.{Made, Received, names, item_sent_over, takes, receipt_ending, with_buffer}
-use Rattle.qmodel.specs.Step.{after_receipt, after_write, is_cut, uncut_items, items_with_priority_set, open_call_after, pending_after, unreceived_items, unless, after_unblock, unblocked_wait}
+use Rattle.qmodel.specs.Private.Calls.{row_of}
+use Rattle.qmodel.specs.Private.Calls.Send.{item}
+use Rattle.qmodel.specs.Private.Delivering.{receiver, receipt_when_sent}
+use Rattle.qmodel.specs.Private.Receiving.{own_receipt}
+use Rattle.qmodel.specs.Private.Facts.{Facts, sender, threads_of, way}
+use Rattle.qmodel.specs.Private.Effects.{asks, closes, makes, receives_on, sets, unblocks, writes}
+use Rattle.qmodel.specs.Private.Lawful.{facts_of, IsLawful}
+use Rattle.qmodel.specs.Private.Past.{wait_with_receipt, made_on}
+use Rattle.qmodel.specs.Private.Receivers.{newest_receiver}
+use Rattle.qmodel.specs.Private.Rows.{Received, names, item_sent_over, takes, receipt_ending, with_buffer}
+use Rattle.qmodel.specs.Trace.{SentItem}
+use Rattle.qmodel.specs.Private.Step.{after_receipt, after_write, is_cut, uncut_items, items_with_priority_set, open_call_after, pending_after, unreceived_items, unless, after_unblock, unblocked_wait}
 use Rattle.qmodel.specs.Trace.{Trace}
 use Rattle.qmodel.specs.declared.call.Call.{Call}
 use Rattle.qmodel.specs.declared.call.Call.TheVariants.{Send, Receive, ReceivePulse, Pulse, Unblock, ConnectDetach}
@@ -41,7 +42,7 @@ use Rattle.qmodel.proofs.Properties.Receivers.{WaitsOn, newest_some, newest_wait
 use Rattle.qmodel.proofs.Ways.{has_way}
 use Rattle.qmodel.proofs.Rosters.{known}
 use Rattle.qmodel.proofs.Calls.Delivering.{sent_way}
-use Rattle.qmodel.specs.Pulses.{pulse_receipt}
+use Rattle.qmodel.specs.Private.Pulses.{pulse_receipt}
 
 -- ---- what a thread waits for
 
@@ -84,7 +85,7 @@ begins_with_none f t (ReceivePulse chid) b p e w own =
 begins_with_none f t c b p e w own = absurd (none-some b e)
 
 -- an item that a thread waits for is received at once
-pub record IsReceivedAtOnce (f : Facts) (t : ℕ) (c : Call) (m : Made) : Type 0 where
+pub record IsReceivedAtOnce (f : Facts) (t : ℕ) (c : Call) (m : SentItem) : Type 0 where
   pub receipt : Received
   pub is : (row_of f t c).receipt ≡ Some receipt
   pub channel : receipt.channel ≡ m.channel
@@ -98,7 +99,7 @@ delivered_receipt f sender item message w h r v is_way is_newest =
     ap (λ o. receipt_when_sent f sender item message o (receiver f item o)) is_way ∙ ap (receipt_when_sent f sender item message (Some h)) is_newest
     ∙ receipt_in_at h sender item.priority (takes item message r (f.open_call r)) (receipt_ending item message r v.waiting.number v.buffer) (item.number, (given_received item message v.buffer).0) takes_it (given_received item message v.buffer).1
 
-delivered_at_once : (f : Facts) (t : ℕ) (c : Call) (w : Option ℕ) (item : Item) (message : List ℕ) (sender : Option ℕ) (m : Made) (u : ℕ) (o : OpenCall) (kind : Kind) → w ≡ Some m.channel → m.item ≡ item
+delivered_at_once : (f : Facts) (t : ℕ) (c : Call) (w : Option ℕ) (item : Item) (message : List ℕ) (sender : Option ℕ) (m : SentItem) (u : ℕ) (o : OpenCall) (kind : Kind) → w ≡ Some m.channel → m.item ≡ item
     → (row_of f t c).receipt ≡ receipt_when_sent f sender item message w (receiver f item w) → is_among (threads_of f.roster) u ≡ true → f.open_call u ≡ Some o
     → waits_for o.wait ≡ Some (m.channel, kind) → may_take kind m.item ≡ true → IsReceivedAtOnce f t c m
 delivered_at_once f t c w item message sender m u o kind is_way it receipt among is waits may =
@@ -114,12 +115,12 @@ delivered_at_once f t c w item message sender m u o kind is_way it receipt among
     }
 
 -- what is sent over a way is the item, to its channel
-sent_is : (f : Facts) (t coid : ℕ) (item : Item) (m : Made) (h : ℕ) → way f t coid ≡ Some h → item_sent_over (f.connection coid) item ≡ Some m → (way f t coid ≡ Some m.channel) × (m.item ≡ item)
+sent_is : (f : Facts) (t coid : ℕ) (item : Item) (m : SentItem) (h : ℕ) → way f t coid ≡ Some h → item_sent_over (f.connection coid) item ≡ Some m → (way f t coid ≡ Some m.channel) × (m.item ≡ item)
 sent_is f t coid item m h is_way made =
     let same : record { item = item; channel = h } ≡ m = same_Some _ m (sym (sent_way f t coid item h is_way) ∙ made) in
-    (is_way ∙ ap (λ (x : Made). Some x.channel) same, ap (λ (x : Made). x.item) (sym same))
+    (is_way ∙ ap (λ (x : SentItem). Some x.channel) same, ap (λ (x : SentItem). x.item) (sym same))
 
-received_at_once : (f : Facts) (t : ℕ) (c : Call) (m : Made) (u : ℕ) (o : OpenCall) (kind : Kind) → Passes f t c → makes f t c ≡ Some m
+received_at_once : (f : Facts) (t : ℕ) (c : Call) (m : SentItem) (u : ℕ) (o : OpenCall) (kind : Kind) → Passes f t c → makes f t c ≡ Some m
     → is_among (threads_of f.roster) u ≡ true → f.open_call u ≡ Some o → waits_for o.wait ≡ Some (m.channel, kind) → may_take kind m.item ≡ true → IsReceivedAtOnce f t c m
 received_at_once f t (ConnectDetach coid) m u o kind p made among is waits may =
     delivered_at_once f t (ConnectDetach coid) (Some m.channel) m.item [] None m u o kind refl refl (ap (pulse_receipt f) made) among is waits may

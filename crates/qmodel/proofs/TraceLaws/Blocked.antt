@@ -8,16 +8,17 @@ use Rattle.std.proofs.lemmas.Option.{none-some}
 use Rattle.std.proofs.Math.Bool.{or-true}
 use Rattle.qtables.specs.Members.{member_at}
 use Rattle.qtables.specs.declared.member.Member.{Member}
-use Rattle.qmodel.specs.Answer.{ending}
-use Rattle.qmodel.specs.Calls.{row_of}
-use Rattle.qmodel.specs.Endings.{gets, may_end, AreApart, BlockedUnlessEnded, CallerGetsItsOwn, EndingsAreApart, EndingsGoToBlocked, EndsOrWaits, GoesToBlocked}
-use Rattle.qmodel.specs.Facts.{Facts, sender, threads_of}
-use Rattle.qmodel.specs.Effects.{asks, makes, unblocks, writes}
-use Rattle.qmodel.specs.Laws.{blocker}
-use Rattle.qmodel.specs.Lawful.{facts_of, IsLawful}
-use Rattle.qmodel.specs.Past.{has_ending_of, is_accepted, is_ended, open_call}
-use Rattle.qmodel.specs.Rows.{Made, Received, Written}
-use Rattle.qmodel.specs.Step.{after_receipt, after_unblock, after_write, held_call, is_thread, open_call_after, unblocked_call, unless, written_call}
+use Rattle.qmodel.specs.Private.Answer.{ending}
+use Rattle.qmodel.specs.Private.Calls.{row_of}
+use Rattle.qmodel.specs.Private.Endings.{gets, may_end, AreApart, BlockedUnlessEnded, CallerGetsItsOwn, EndingsAreApart, EndingsGoToBlocked, EndsOrWaits, GoesToBlocked}
+use Rattle.qmodel.specs.Private.Facts.{Facts, sender, threads_of}
+use Rattle.qmodel.specs.Private.Effects.{asks, makes, unblocks, writes}
+use Rattle.qmodel.specs.Private.Laws.{blocker}
+use Rattle.qmodel.specs.Private.Lawful.{facts_of, IsLawful}
+use Rattle.qmodel.specs.Private.Past.{has_ending_of, is_accepted, is_ended, open_call}
+use Rattle.qmodel.specs.Private.Rows.{Received, Written}
+use Rattle.qmodel.specs.Trace.{SentItem}
+use Rattle.qmodel.specs.Private.Step.{after_receipt, after_unblock, after_write, held_call, is_thread, open_call_after, unblocked_call, unless, written_call}
 use Rattle.qmodel.specs.Trace.{Event, Trace}
 use Rattle.qmodel.specs.declared.call.Call.{Call}
 use Rattle.qmodel.specs.declared.call.Completion.{Completion}
@@ -98,7 +99,7 @@ some_write : (f : Facts) (w : Option Written) (u : ℕ) (o : Option OpenCall) �
 some_write f None u o = refl
 some_write f (Some w) u o = elim (is_thread (sender f w.message) u) as (λ b. is_some (cond b (option_map (written_call w.offset w.bytes) o) o) ≡ is_some o) [ true ↦ some_map (written_call w.offset w.bytes) o | false ↦ refl ]
 
-some_unblock : (m : Option Made) (w : Option ℕ) (u : ℕ) (o : Option OpenCall) → is_some (after_unblock m w u o) ≡ is_some o
+some_unblock : (m : Option SentItem) (w : Option ℕ) (u : ℕ) (o : Option OpenCall) → is_some (after_unblock m w u o) ≡ is_some o
 some_unblock m None u o = refl
 some_unblock m (Some v) u o = elim (eqb u v && is_some m) as (λ b. is_some (cond b (option_map unblocked_call o) o) ≡ is_some o) [ true ↦ some_map unblocked_call o | false ↦ refl ]
 

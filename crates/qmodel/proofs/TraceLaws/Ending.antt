@@ -6,11 +6,11 @@ use Rattle.std.proofs.lemmas.Bool.{ne_eqb, true≢false}
 use Rattle.std.proofs.lemmas.Option.{none-some, same_Some}
 use Rattle.qbase.specs.declared.errno.Errno.{Errno}
 use Rattle.qbase.specs.declared.errno.Errno.TheVariants.{Down}
-use Rattle.qmodel.specs.Answer.{ending, refusal_ending, refusal, MayRefuse}
-use Rattle.qmodel.specs.Facts.{Facts, threads_of}
-use Rattle.qmodel.specs.Laws.{EndingsNameOwnCalls, EndingsRiseByThread, NothingFromDestroyed, OnlyRefusedWhenDown, RiseByThread, thread_at}
-use Rattle.qmodel.specs.Lawful.{facts_of}
-use Rattle.qmodel.specs.Past.{newest_block}
+use Rattle.qmodel.specs.Private.Answer.{ending, refusal_ending, refusal, MayRefuse}
+use Rattle.qmodel.specs.Private.Facts.{Facts, threads_of}
+use Rattle.qmodel.specs.Private.Laws.{EndingsNameOwnCalls, EndingsRiseByThread, NothingFromDestroyed, OnlyRefusedWhenDown, RiseByThread, thread_at}
+use Rattle.qmodel.specs.Private.Lawful.{facts_of}
+use Rattle.qmodel.specs.Private.Past.{newest_block}
 use Rattle.qmodel.specs.Trace.{Event, Trace}
 use Rattle.qmodel.specs.declared.call.Call.{Call}
 use Rattle.qmodel.specs.declared.call.Completion.{Completion}

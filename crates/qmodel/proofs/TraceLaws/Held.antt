@@ -7,16 +7,17 @@ use Rattle.std.proofs.lemmas.Bool.{and_from, and_parts, eqb-true, not-true, not_
 use Rattle.std.proofs.lemmas.Option.{none-some, same_Some}
 use Rattle.qtables.specs.Members.{IsRoster}
 use Rattle.qtables.specs.declared.member.Member.{Member}
-use Rattle.qmodel.specs.Calls.{row_of}
-use Rattle.qmodel.specs.Facts.{is_for_answer, is_send, sender, threads_of}
-use Rattle.qmodel.specs.Headline.AnsweredToSender.{is_held}
-use Rattle.qmodel.specs.Headline.BestFirst.{TakesBest}
-use Rattle.qmodel.specs.Headline.ReceivedOnce.{item_received}
-use Rattle.qmodel.specs.Laws.{HeldIsHeldSend, IsHeldSend, blocker, is_for_reply}
-use Rattle.qmodel.specs.Lawful.{IsLawful, facts_of}
-use Rattle.qmodel.specs.Past.{copied_count_in, has_ending_of, call_by_now, wait_with_receipt, is_ended, is_taken, item_of, made_at, open_call, priority_of_item, copied_count_among, copied_count_of, with_receipt}
-use Rattle.qmodel.specs.Effects.{asks}
-use Rattle.qmodel.specs.Rows.{Made, item_in_mark}
+use Rattle.qmodel.specs.Private.Calls.{row_of}
+use Rattle.qmodel.specs.Private.Facts.{is_for_answer, is_send, sender, threads_of}
+use Rattle.qmodel.specs.Private.Headline.AnsweredToSender.{is_held}
+use Rattle.qmodel.specs.Private.Headline.BestFirst.{TakesBest}
+use Rattle.qmodel.specs.Private.Headline.ReceivedOnce.{item_received}
+use Rattle.qmodel.specs.Private.Laws.{HeldIsHeldSend, IsHeldSend, blocker, is_for_reply}
+use Rattle.qmodel.specs.Private.Lawful.{IsLawful, facts_of}
+use Rattle.qmodel.specs.Private.Past.{copied_count_in, has_ending_of, call_by_now, wait_with_receipt, is_ended, is_taken, item_of, made_at, open_call, priority_of_item, copied_count_among, copied_count_of, with_receipt}
+use Rattle.qmodel.specs.Private.Effects.{asks}
+use Rattle.qmodel.specs.Private.Rows.{item_in_mark}
+use Rattle.qmodel.specs.Trace.{SentItem}
 use Rattle.qmodel.specs.Trace.{Trace}
 use Rattle.qmodel.specs.declared.call.Completion.{Completion}
 use Rattle.qmodel.specs.declared.open_call.OpenCall.{OpenCall}
@@ -52,18 +53,18 @@ of_received P (x ∷ X) i copied all e =
           ] refl s
     ] refl e
 
-taken_made : (roster : List Member) (past : Trace) (i : ℕ) → IsRoster roster → IsLawful roster past → is_taken past i ≡ true → (m : Made) × (item_at roster past i ≡ Some m)
+taken_made : (roster : List Member) (past : Trace) (i : ℕ) → IsRoster roster → IsLawful roster past → is_taken past i ≡ true → (m : SentItem) × (item_at roster past i ≡ Some m)
 taken_made roster [] i r l e = absurd (true≢false (sym e))
 taken_made roster (e ∷ past) i r l taken =
-    elim (copied_count_among e.endings i) as (λ o. copied_count_among e.endings i ≡ o → is_some (option_or o (copied_count_of past i)) ≡ true → (m : Made) × (item_at roster (e ∷ past) i ≡ Some m)) [
+    elim (copied_count_among e.endings i) as (λ o. copied_count_among e.endings i ≡ o → is_some (option_or o (copied_count_of past i)) ≡ true → (m : SentItem) × (item_at roster (e ∷ past) i ≡ Some m)) [
       | None ↦ λ none s. let k = taken_made roster past i r l.0 s in (k.0, item_earlier roster e past i (item_below roster past i k.0 k.1) ∙ k.1)
       | Some copied ↦ λ some s.
-          of_received (λ j. (m : Made) × (item_at roster (e ∷ past) j ≡ Some m)) e.endings i copied
+          of_received (λ j. (m : SentItem) × (item_at roster (e ∷ past) j ≡ Some m)) e.endings i copied
           (all_of e.endings (best_first roster (e ∷ past) r l).0) some
     ] refl taken
   where
     all_of : (X : List Completion) → AllByRecursion (λ x. (j : ℕ) → item_received x ≡ Some j → TakesBest roster past e x j) X
-        → AllByRecursion (λ x. (j : ℕ) → item_received x ≡ Some j → (m : Made) × (item_at roster (e ∷ past) j ≡ Some m)) X
+        → AllByRecursion (λ x. (j : ℕ) → item_received x ≡ Some j → (m : SentItem) × (item_at roster (e ∷ past) j ≡ Some m)) X
     all_of [] all = tt
     all_of (x ∷ X) all = (λ j is. let s = taken_stands roster past e x j (all.0 j is) in (s.0, s.1), all_of X all.1)
 
@@ -73,7 +74,7 @@ no_own : (o : Option Completion) → is_some o ≡ false → o ≡ None
 no_own None h = refl
 no_own (Some y) h = absurd (true≢false h)
 
-made_waits : (roster : List Member) (past : Trace) (i : ℕ) (m : Made) → IsLawful roster past → item_at roster past i ≡ Some m → is_ended past i ≡ false → (t : ℕ) × (made_at blocker past i ≡ Some t)
+made_waits : (roster : List Member) (past : Trace) (i : ℕ) (m : SentItem) → IsLawful roster past → item_at roster past i ≡ Some m → is_ended past i ≡ false → (t : ℕ) × (made_at blocker past i ≡ Some t)
 made_waits roster [] i m l is going = absurd (none-some m is)
 made_waits roster (e ∷ past) i m l is going =
     let p = or_parts (has_ending_of e.endings i) (is_ended past i) going in

@@ -11,23 +11,24 @@ use Rattle.qbase.specs.declared.errno.Errno.TheVariants.{Srch}
 use Rattle.qqueue.specs.Best.{is_pulse}
 use Rattle.qqueue.specs.declared.item.Item.{Item}
 use Rattle.qqueue.specs.declared.item.Kind.TheVariants.{Any, PulseOnly}
-use Rattle.qmodel.specs.Answer.{ending}
-use Rattle.qmodel.specs.Calls.{row_of}
-use Rattle.qmodel.specs.Effects.{asks, buffer_of, makes, unblocks, writes}
-use Rattle.qmodel.specs.Calls.ConnectDetach as connect_detach
-use Rattle.qmodel.specs.Calls.Error.{error_finish}
-use Rattle.qmodel.specs.Calls.Reply.{reply_finish}
-use Rattle.qmodel.specs.Calls.Send.{item}
-use Rattle.qmodel.specs.Calls.Unblock as unblock
-use Rattle.qmodel.specs.Calls.Info.{info_of, info_ending}
-use Rattle.qmodel.specs.Calls.Pulse as pulse
-use Rattle.qmodel.specs.Cutting.{buffer_of_wait, is_on}
-use Rattle.qmodel.specs.Endings.{buffer_of_open, buffer_brought, EndingsKeepLength, OpenCallsKeepLength}
-use Rattle.qmodel.specs.Facts.{Facts, message, sender, threads_of, way}
-use Rattle.qmodel.specs.Held.{Finish, ends_sender, refusal}
-use Rattle.qmodel.specs.Rows.{Made, Received, Written, receipt_ending, with_buffer, buffer_after_write}
-use Rattle.qmodel.specs.Step.{after_receipt, after_unblock, after_write, held_call, is_thread, open_call_after, unblocked_call, unblocked_wait, unless, written_call}
-use Rattle.qmodel.specs.Past.{call_by_now, wait_with_receipt, is_accepted, with_receipt, with_writes}
+use Rattle.qmodel.specs.Private.Answer.{ending}
+use Rattle.qmodel.specs.Private.Calls.{row_of}
+use Rattle.qmodel.specs.Private.Effects.{asks, buffer_of, makes, unblocks, writes}
+use Rattle.qmodel.specs.Private.Calls.ConnectDetach as connect_detach
+use Rattle.qmodel.specs.Private.Calls.Error.{error_finish}
+use Rattle.qmodel.specs.Private.Calls.Reply.{reply_finish}
+use Rattle.qmodel.specs.Private.Calls.Send.{item}
+use Rattle.qmodel.specs.Private.Calls.Unblock as unblock
+use Rattle.qmodel.specs.Private.Calls.Info.{info_of, info_ending}
+use Rattle.qmodel.specs.Private.Calls.Pulse as pulse
+use Rattle.qmodel.specs.Private.Cutting.{buffer_of_wait, is_on}
+use Rattle.qmodel.specs.Private.Endings.{buffer_of_open, buffer_brought, EndingsKeepLength, OpenCallsKeepLength}
+use Rattle.qmodel.specs.Private.Facts.{Facts, message, sender, threads_of, way}
+use Rattle.qmodel.specs.Private.Held.{Finish, ends_sender, refusal}
+use Rattle.qmodel.specs.Private.Rows.{Received, Written, receipt_ending, with_buffer, buffer_after_write}
+use Rattle.qmodel.specs.Trace.{SentItem}
+use Rattle.qmodel.specs.Private.Step.{after_receipt, after_unblock, after_write, held_call, is_thread, open_call_after, unblocked_call, unblocked_wait, unless, written_call}
+use Rattle.qmodel.specs.Private.Past.{call_by_now, wait_with_receipt, is_accepted, with_receipt, with_writes}
 use Rattle.qmodel.specs.declared.call.Call.{Call}
 use Rattle.qmodel.specs.declared.call.Call.TheVariants.{Send, Receive, Reply, Error, Read, Info, ReceivePulse, Pulse, ChannelDestroy, Shutdown, Unblock, ConnectDetach}
 use Rattle.qmodel.specs.declared.call.Completion.{Completion}
@@ -48,9 +49,9 @@ use Rattle.qmodel.proofs.Properties.Rows.Receiving.{receive_takes}
 use Rattle.qmodel.proofs.Properties.Rows.Telling.{told_meets, unblock_ends}
 use Rattle.qtables.specs.Members.{IsRoster}
 use Rattle.qtables.specs.declared.member.Member.{Member}
-use Rattle.qmodel.specs.Headline.CopiedExactly.{call_at}
-use Rattle.qmodel.specs.Lawful.{facts_of, IsLawful}
-use Rattle.qmodel.specs.Past.{open_call}
+use Rattle.qmodel.specs.Private.Headline.CopiedExactly.{call_at}
+use Rattle.qmodel.specs.Private.Lawful.{facts_of, IsLawful}
+use Rattle.qmodel.specs.Private.Past.{open_call}
 use Rattle.qmodel.specs.Trace.{Event, Trace}
 use Rattle.qbase.proofs.Lengths.{lay_length}
 use Rattle.qbase.proofs.Lists.{all_filter_map, all_more, eqb_same}
@@ -158,7 +159,7 @@ write_length : (f : Facts) (w : Option Written) (u : ℕ) (o : Option OpenCall) 
 write_length f None u o = refl
 write_length f (Some w) u o = elim (is_thread (sender f w.message) u) as (λ b. length (buffer_of_open (cond b (option_map (written_call w.offset w.bytes) o) o)) ≡ length (buffer_of_open o)) [ true ↦ map_length (written_call w.offset w.bytes) (λ v. written_length w.offset w.bytes v.wait) o | false ↦ refl ]
 
-unblock_length : (m : Option Made) (w : Option ℕ) (u : ℕ) (o : Option OpenCall) → length (buffer_of_open (after_unblock m w u o)) ≡ length (buffer_of_open o)
+unblock_length : (m : Option SentItem) (w : Option ℕ) (u : ℕ) (o : Option OpenCall) → length (buffer_of_open (after_unblock m w u o)) ≡ length (buffer_of_open o)
 unblock_length m None u o = refl
 unblock_length m (Some v) u o = elim (eqb u v && is_some m) as (λ b. length (buffer_of_open (cond b (option_map unblocked_call o) o)) ≡ length (buffer_of_open o)) [ true ↦ map_length unblocked_call (λ w. unblocked_length w.wait) o | false ↦ refl ]
 

@@ -9,19 +9,20 @@ use Rattle.qbase.specs.declared.errno.Errno.TheVariants.{Again, Badf, Inval}
 use Rattle.qqueue.specs.Best.{is_pulse, without_item}
 use Rattle.qqueue.specs.declared.item.Item.{Item}
 use Rattle.qtables.specs.declared.connection.Connection.{Connection}
-use Rattle.qmodel.specs.Calls.Pulse.{is_negative}
+use Rattle.qmodel.specs.Private.Calls.Pulse.{is_negative}
 use Rattle.qmodel.proofs.Parts.{refusal_on}
-use Rattle.qmodel.specs.Calls.ConnectDetach as connect_detach
-use Rattle.qmodel.specs.Calls.Unblock as unblock
-use Rattle.qmodel.specs.Pulses.{refusal_if_full, refusal_if_full_for, pulses_among}
-use Rattle.qmodel.specs.Facts.{Facts, way}
-use Rattle.qmodel.specs.Laws.{PulsesAreLimited}
-use Rattle.qmodel.specs.Lawful.{facts_of}
-use Rattle.qmodel.specs.Past.{pending_items, made_on}
-use Rattle.qmodel.specs.Effects.{closes, makes, sets}
-use Rattle.qmodel.specs.Rows.{Received, Setting, message_item, names, pulse_item, item_sent_over, Made}
-use Rattle.qmodel.specs.Step.{is_cut, uncut_items, items_with_priority_set, pending_after, unreceived_items}
-use Rattle.qmodel.specs.Calls.{row_of}
+use Rattle.qmodel.specs.Private.Calls.ConnectDetach as connect_detach
+use Rattle.qmodel.specs.Private.Calls.Unblock as unblock
+use Rattle.qmodel.specs.Private.Pulses.{refusal_if_full, refusal_if_full_for, pulses_among}
+use Rattle.qmodel.specs.Private.Facts.{Facts, way}
+use Rattle.qmodel.specs.Private.Laws.{PulsesAreLimited}
+use Rattle.qmodel.specs.Private.Lawful.{facts_of}
+use Rattle.qmodel.specs.Private.Past.{pending_items, made_on}
+use Rattle.qmodel.specs.Private.Effects.{closes, makes, sets}
+use Rattle.qmodel.specs.Private.Rows.{Received, Setting, message_item, names, pulse_item, item_sent_over}
+use Rattle.qmodel.specs.Trace.{SentItem}
+use Rattle.qmodel.specs.Private.Step.{is_cut, uncut_items, items_with_priority_set, pending_after, unreceived_items}
+use Rattle.qmodel.specs.Private.Calls.{row_of}
 use Rattle.qmodel.specs.declared.call.Call.{Call}
 use Rattle.qmodel.specs.declared.call.Call.TheVariants.{Send, Pulse, Unblock, ConnectDetach}
 use Rattle.qmodel.proofs.Past.Ends.{passes_of}
@@ -113,7 +114,7 @@ finds_room f code (Some h) r =
 
 -- what is left of a channel's items, with what an accepted call makes
 -- a pulse finds room that is made on a channel that isn't full
-pulse_more : (f : Facts) (h : ℕ) (items : List Item) (m : Made) → is_pulse m.item.what ≡ true → refusal_if_full f m.channel ≡ None → pulses_among items ≤ pulses_among (f.pending h) → pulses_among (f.pending h) ≤ 1024
+pulse_more : (f : Facts) (h : ℕ) (items : List Item) (m : SentItem) → is_pulse m.item.what ≡ true → refusal_if_full f m.channel ≡ None → pulses_among items ≤ pulses_among (f.pending h) → pulses_among (f.pending h) ≤ 1024
     → pulses_among (items ++ made_on h (Some m)) ≤ 1024
 pulse_more f h items m pulse room less few =
     elim (eqb m.channel h) as (λ b. eqb m.channel h ≡ b → pulses_among (items ++ cond b (m.item ∷ []) []) ≤ 1024) [
@@ -124,7 +125,7 @@ pulse_more f h items m pulse room less few =
     ] refl
 
 -- the pulse that is due, if one is
-due_more : (f : Facts) (h : ℕ) (items : List Item) (o : Option Made) → ((m : Made) → o ≡ Some m → is_pulse m.item.what ≡ true) → refusal_if_full_for f o ≡ None → pulses_among items ≤ pulses_among (f.pending h)
+due_more : (f : Facts) (h : ℕ) (items : List Item) (o : Option SentItem) → ((m : SentItem) → o ≡ Some m → is_pulse m.item.what ≡ true) → refusal_if_full_for f o ≡ None → pulses_among items ≤ pulses_among (f.pending h)
     → pulses_among (f.pending h) ≤ 1024 → pulses_among (items ++ made_on h o) ≤ 1024
 due_more f h items None pulse r less few = nothing_more items (omega (arith, less, few))
 due_more f h items (Some m) pulse r less few = pulse_more f h items m (pulse m refl) r less few

@@ -14,12 +14,12 @@ use Rattle.qqueue.specs.declared.item.Kind.{Kind}
 use Rattle.qqueue.specs.declared.item.Kind.TheVariants.{Any, PulseOnly}
 use Rattle.qqueue.proofs.OrderLaws.{best-at, best_is_first}
 use Rattle.qtables.specs.declared.member.Member.{Member}
-use Rattle.qmodel.specs.Effects.{receives_on}
-use Rattle.qmodel.specs.Headline.BestFirst.{TakesBest, takeable}
-use Rattle.qmodel.specs.Headline.ReceivedOnce.{item_received}
-use Rattle.qmodel.specs.Laws.{FirstGoesFirst, HasPriority, TakesBeside}
-use Rattle.qmodel.specs.Past.{is_closed, is_gone, item_of, made_on, pending_items, priority_before}
-use Rattle.qmodel.specs.Rows.{Made}
+use Rattle.qmodel.specs.Private.Effects.{receives_on}
+use Rattle.qmodel.specs.Private.Headline.BestFirst.{TakesBest, takeable}
+use Rattle.qmodel.specs.Private.Headline.ReceivedOnce.{item_received}
+use Rattle.qmodel.specs.Private.Laws.{FirstGoesFirst, HasPriority, TakesBeside}
+use Rattle.qmodel.specs.Private.Past.{is_closed, is_gone, item_of, made_on, pending_items, priority_before}
+use Rattle.qmodel.specs.Trace.{SentItem}
 use Rattle.qmodel.specs.Trace.{Event, Trace}
 use Rattle.qmodel.specs.declared.call.Completion.{Completion}
 use Rattle.qbase.proofs.Lists.{all_more, eqb_same}
@@ -64,7 +64,7 @@ standing_each P roster (e ∷ past) h i item at all =
     ] at
 
 -- an earlier item is the same in a longer trace
-item_later : (roster : List Member) (past later : Trace) (i : ℕ) (m : Made) → item_at roster past i ≡ Some m → item_at roster (later ++ past) i ≡ Some m
+item_later : (roster : List Member) (past later : Trace) (i : ℕ) (m : SentItem) → item_at roster past i ≡ Some m → item_at roster (later ++ past) i ≡ Some m
 item_later roster past [] i m at = at
 item_later roster past (e ∷ later) i m at =
     let before = item_later roster past later i m at in

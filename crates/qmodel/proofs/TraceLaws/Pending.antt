@@ -5,10 +5,10 @@ use Rattle.std.proofs.lemmas.Bool.{ne_eqb, or_parts, true≢false}
 use Rattle.qqueue.specs.Best.{is_pulse}
 use Rattle.qqueue.specs.declared.item.Item.{Item}
 use Rattle.qtables.specs.declared.member.Member.{Member}
-use Rattle.qmodel.specs.Facts.{is_for_answer}
-use Rattle.qmodel.specs.Laws.{is_for_reply, IsNotHeld, IsOpenSend, NonePendingIsHeld, PendingIsOpen, PendingRises}
-use Rattle.qmodel.specs.Lawful.{IsLawful}
-use Rattle.qmodel.specs.Past.{call_by_now, is_ended, is_taken, pending_items, priority_of_item, copied_count_of, with_receipt}
+use Rattle.qmodel.specs.Private.Facts.{is_for_answer}
+use Rattle.qmodel.specs.Private.Laws.{is_for_reply, IsNotHeld, IsOpenSend, NonePendingIsHeld, PendingIsOpen, PendingRises}
+use Rattle.qmodel.specs.Private.Lawful.{IsLawful}
+use Rattle.qmodel.specs.Private.Past.{call_by_now, is_ended, is_taken, pending_items, priority_of_item, copied_count_of, with_receipt}
 use Rattle.qmodel.specs.Trace.{Trace}
 use Rattle.qmodel.specs.declared.open_call.OpenCall.{OpenCall}
 use Rattle.qmodel.specs.declared.open_call.Wait.{Wait}

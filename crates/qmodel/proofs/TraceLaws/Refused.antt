@@ -3,10 +3,10 @@ use Rattle.std.proofs.Common.{◌∙◌, ℕ, ◌∷◌, ap, sym, false, inl, in
 use Rattle.std.specs.Prelude.{not}
 use Rattle.std.proofs.lemmas.Bool.{true≢false}
 use Rattle.std.proofs.Math.Nat.{add-zero}
-use Rattle.qmodel.specs.Facts.{Facts}
-use Rattle.qmodel.specs.Laws.{IsOnlyCounted, RefusedChangesNothing}
-use Rattle.qmodel.specs.Lawful.{facts_of}
-use Rattle.qmodel.specs.Step.{Follows}
+use Rattle.qmodel.specs.Private.Facts.{Facts}
+use Rattle.qmodel.specs.Private.Laws.{IsOnlyCounted, RefusedChangesNothing}
+use Rattle.qmodel.specs.Private.Lawful.{facts_of}
+use Rattle.qmodel.specs.Private.Step.{Follows}
 use Rattle.qmodel.specs.declared.call.Call.{Call}
 use Rattle.qmodel.proofs.Past.Ends.{accepted}
 use Rattle.qmodel.proofs.Past.Follows.{past_follows}

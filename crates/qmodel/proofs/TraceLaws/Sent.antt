@@ -8,12 +8,12 @@ use Rattle.std.proofs.lemmas.Option.{none-some, same_Some}
 use Rattle.qqueue.specs.Best.{best_of}
 use Rattle.qqueue.proofs.OrderLaws.{best-at}
 use Rattle.qtables.specs.declared.member.Member.{Member}
-use Rattle.qmodel.specs.Headline.BestFirst.{TakesBest, takeable}
-use Rattle.qmodel.specs.Headline.ReceivedOnce.{item_received}
-use Rattle.qmodel.specs.Headline.SentOrder.{connection_of}
-use Rattle.qmodel.specs.Laws.{LeadsTo, ReceivedWasSent, WasSent}
-use Rattle.qmodel.specs.Past.{item_of, items}
-use Rattle.qmodel.specs.Rows.{Made}
+use Rattle.qmodel.specs.Private.Headline.BestFirst.{TakesBest, takeable}
+use Rattle.qmodel.specs.Private.Headline.ReceivedOnce.{item_received}
+use Rattle.qmodel.specs.Private.Headline.SentOrder.{connection_of}
+use Rattle.qmodel.specs.Private.Laws.{LeadsTo, ReceivedWasSent, WasSent}
+use Rattle.qmodel.specs.Private.Past.{item_of, items}
+use Rattle.qmodel.specs.Trace.{SentItem}
 use Rattle.qmodel.specs.Trace.{Event, Trace}
 use Rattle.qmodel.specs.declared.call.Completion.{Completion}
 use Rattle.qmodel.proofs.Past.Items.{item_at, item_made}
@@ -24,12 +24,12 @@ use Rattle.qmodel.proofs.Properties.ReceivedOnce.{any_first, any_last}
 
 -- ---- an item that was sent over a connection
 
-sent_to : (roster : List Member) (past : Trace) (i : ℕ) (m : Made) → item_at roster past i ≡ Some m → (k : ℕ) → connection_of past i ≡ Some k → LeadsTo roster past k m.channel
+sent_to : (roster : List Member) (past : Trace) (i : ℕ) (m : SentItem) → item_at roster past i ≡ Some m → (k : ℕ) → connection_of past i ≡ Some k → LeadsTo roster past k m.channel
 sent_to roster past i m is k over = let w = item_over roster past i k m is over in record { connection = w.over; is = w.is; channel = sym w.channel }
 
 -- ---- it is among the items
 
-among_items : (p : Made → Bool) (roster : List Member) (past : Trace) (i : ℕ) (m : Made) → item_at roster past i ≡ Some m → p m ≡ true → list_any p (items roster past) ≡ true
+among_items : (p : SentItem → Bool) (roster : List Member) (past : Trace) (i : ℕ) (m : SentItem) → item_at roster past i ≡ Some m → p m ≡ true → list_any p (items roster past) ≡ true
 among_items p roster [] i m is passes = absurd (none-some m is)
 among_items p roster (e ∷ past) i m is passes =
     elim (eqb i (length past + 1)) as (λ b. cond b (item_of roster e past) (item_at roster past i) ≡ Some m → list_any p (items roster (e ∷ past)) ≡ true) [
@@ -39,10 +39,10 @@ among_items p roster (e ∷ past) i m is passes =
 
 -- ---- what is taken stood on its channel
 
-pub taken_stands : (roster : List Member) (past : Trace) (e : Event) (x : Completion) (i : ℕ) (k : TakesBest roster past e x i) → (m : Made) × (item_at roster (e ∷ past) i ≡ Some m) × (m.item.number ≡ i) × (m.channel ≡ k.channel)
+pub taken_stands : (roster : List Member) (past : Trace) (e : Event) (x : Completion) (i : ℕ) (k : TakesBest roster past e x i) → (m : SentItem) × (item_at roster (e ∷ past) i ≡ Some m) × (m.item.number ≡ i) × (m.channel ≡ k.channel)
 taken_stands roster past e x i k =
     elim (best_of k.kind (takeable roster past e k.channel)) as (λ o. best_of k.kind (takeable roster past e k.channel) ≡ o → option_map (λ item. item.number) o ≡ Some i
-    → (m : Made) × (item_at roster (e ∷ past) i ≡ Some m) × (m.item.number ≡ i) × (m.channel ≡ k.channel)) [
+    → (m : SentItem) × (item_at roster (e ∷ past) i ≡ Some m) × (m.item.number ≡ i) × (m.channel ≡ k.channel)) [
       | None ↦ λ is at. absurd (none-some i at)
       | Some item ↦ λ is at.
           let made = best-at (IsMadeFor roster (e ∷ past) k.channel) k.kind (takeable roster past e k.channel) item (takeable_made roster past e k.channel) is in

@@ -7,12 +7,12 @@ use Rattle.std.proofs.lemmas.Option.{none-some}
 use Rattle.qqueue.specs.Best.{is_pulse, with_priority}
 use Rattle.qqueue.specs.declared.item.Item.{Item}
 use Rattle.qtables.specs.declared.member.Member.{Member}
-use Rattle.qmodel.specs.Answer.{Outcome}
-use Rattle.qmodel.specs.Lawful.{IsLawful, facts_of}
-use Rattle.qmodel.specs.Laws.{OthersKeepTheirOrder, SettingMovesItsOwn, is_message_of, others_than, with_messages_at}
-use Rattle.qmodel.specs.Past.{connection_at, open_call, pending_items, sender_of}
-use Rattle.qmodel.specs.Rows.{Setting, names}
-use Rattle.qmodel.specs.Step.{items_with_priority_set, pending_after, is_unread_send}
+use Rattle.qmodel.specs.Private.Answer.{Outcome}
+use Rattle.qmodel.specs.Private.Lawful.{IsLawful, facts_of}
+use Rattle.qmodel.specs.Private.Laws.{OthersKeepTheirOrder, SettingMovesItsOwn, is_message_of, others_than, with_messages_at}
+use Rattle.qmodel.specs.Private.Past.{connection_at, open_call, pending_items, sender_of}
+use Rattle.qmodel.specs.Private.Rows.{Setting, names}
+use Rattle.qmodel.specs.Private.Step.{items_with_priority_set, pending_after, is_unread_send}
 use Rattle.qmodel.specs.Trace.{Trace}
 use Rattle.qmodel.specs.declared.call.Call.TheVariants.{PrioritySet}
 use Rattle.qbase.proofs.Lists.{all_more, eqb_either}

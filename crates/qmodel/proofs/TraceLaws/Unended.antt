@@ -5,10 +5,10 @@ use Rattle.std.specs.Option.{option_map}
 use Rattle.std.proofs.lemmas.Bool.{eqb-true, or_parts, true≢false}
 use Rattle.std.proofs.lemmas.Option.{none-some, same_Some}
 use Rattle.qtables.specs.declared.member.Member.{Member}
-use Rattle.qmodel.specs.Laws.{blocker, IsUnended, AtMostOneOpen, OpenIsUnended}
-use Rattle.qmodel.specs.Lawful.{IsLawful}
-use Rattle.qmodel.specs.Past.{call_by_now, has_ending_of, is_accepted, is_ended, made_at, newest_block, open_call, priority_of_item, copied_count_of}
-use Rattle.qmodel.specs.Effects.{asks}
+use Rattle.qmodel.specs.Private.Laws.{blocker, IsUnended, AtMostOneOpen, OpenIsUnended}
+use Rattle.qmodel.specs.Private.Lawful.{IsLawful}
+use Rattle.qmodel.specs.Private.Past.{call_by_now, has_ending_of, is_accepted, is_ended, made_at, newest_block, open_call, priority_of_item, copied_count_of}
+use Rattle.qmodel.specs.Private.Effects.{asks}
 use Rattle.qmodel.specs.Trace.{Event, Trace}
 use Rattle.qmodel.specs.declared.call.Call.{Call}
 use Rattle.qmodel.specs.declared.call.Call.TheVariants.{Send}

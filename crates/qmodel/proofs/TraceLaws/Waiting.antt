@@ -6,12 +6,12 @@ use Rattle.std.proofs.lemmas.Bool.{eqb-true, ltb-false, or_cases, or_parts, true
 use Rattle.std.proofs.lemmas.Option.{none-some}
 use Rattle.qqueue.specs.declared.item.Item.{Item}
 use Rattle.qtables.specs.declared.member.Member.{Member}
-use Rattle.qmodel.specs.Cutting.{is_to}
-use Rattle.qmodel.specs.Facts.{threads_of}
-use Rattle.qmodel.specs.Laws.{NewestIsGreatest, NoneIsNewest, NothingPendingForWaiting, OpenSendsAreLive}
-use Rattle.qmodel.specs.Lawful.{IsLawful, facts_of}
-use Rattle.qmodel.specs.Past.{connection_at, open_call}
-use Rattle.qmodel.specs.Receivers.{is_after, newest_receiver, wait_on}
+use Rattle.qmodel.specs.Private.Cutting.{is_to}
+use Rattle.qmodel.specs.Private.Facts.{threads_of}
+use Rattle.qmodel.specs.Private.Laws.{NewestIsGreatest, NoneIsNewest, NothingPendingForWaiting, OpenSendsAreLive}
+use Rattle.qmodel.specs.Private.Lawful.{IsLawful, facts_of}
+use Rattle.qmodel.specs.Private.Past.{connection_at, open_call}
+use Rattle.qmodel.specs.Private.Receivers.{is_after, newest_receiver, wait_on}
 use Rattle.qmodel.specs.Trace.{Trace}
 use Rattle.qbase.proofs.Lists.{eqb_same, is_among, some_of}
 use Rattle.qmodel.proofs.Past.Ends.{open_known}

@@ -8,16 +8,17 @@ use Rattle.qqueue.specs.Best.{is_pulse}
 use Rattle.qqueue.specs.declared.item.Item.{Item}
 use Rattle.qtables.specs.declared.connection.Connection.{Connection}
 use Rattle.qtables.specs.declared.member.Member.{Member}
-use Rattle.qmodel.specs.Answer.{Outcome}
-use Rattle.qmodel.specs.Calls.{row_of}
-use Rattle.qmodel.specs.Calls.Send.{item as message_of}
-use Rattle.qmodel.specs.Effects.{makes, sets, thread_of_send}
-use Rattle.qmodel.specs.Facts.{Facts, is_fixed, is_for_receipt}
-use Rattle.qmodel.specs.Laws.{PendingFollowsItsSender}
-use Rattle.qmodel.specs.Lawful.{IsLawful, facts_of}
-use Rattle.qmodel.specs.Past.{is_accepted, is_gone, is_taken, item_of, priority_of_thread, sender_of, worth}
-use Rattle.qmodel.specs.Rows.{Made, Received, item_sent_over, priority_set_for}
-use Rattle.qmodel.specs.Step.{priority_taken}
+use Rattle.qmodel.specs.Private.Answer.{Outcome}
+use Rattle.qmodel.specs.Private.Calls.{row_of}
+use Rattle.qmodel.specs.Private.Calls.Send.{item as message_of}
+use Rattle.qmodel.specs.Private.Effects.{makes, sets, thread_of_send}
+use Rattle.qmodel.specs.Private.Facts.{Facts, is_fixed, is_for_receipt}
+use Rattle.qmodel.specs.Private.Laws.{PendingFollowsItsSender}
+use Rattle.qmodel.specs.Private.Lawful.{IsLawful, facts_of}
+use Rattle.qmodel.specs.Private.Past.{is_accepted, is_gone, is_taken, item_of, priority_of_thread, sender_of, worth}
+use Rattle.qmodel.specs.Private.Rows.{Received, item_sent_over, priority_set_for}
+use Rattle.qmodel.specs.Trace.{SentItem}
+use Rattle.qmodel.specs.Private.Step.{priority_taken}
 use Rattle.qmodel.specs.Trace.{Trace}
 use Rattle.qmodel.specs.declared.call.Call.{Call}
 use Rattle.qmodel.specs.declared.call.Call.TheVariants.{Send}
@@ -58,16 +59,16 @@ sender_takes_none f t c u o idle is unread y i k = elim k [
 ]
 
 -- a message has its sender's priority as it is sent
-pub record IsSentAs (f : Facts) (u : ℕ) (c : Call) (t : ℕ) (m : Made) : Type 0 where
+pub record IsSentAs (f : Facts) (u : ℕ) (c : Call) (t : ℕ) (m : SentItem) : Type 0 where
   pub same : u ≡ t
   pub priority : m.item.priority ≡ f.priority u
   pub none : sets c ≡ None
 
-sent_as : (f : Facts) (u : ℕ) (c : Call) (t : ℕ) (m : Made) → thread_of_send u c ≡ Some t → makes f u c ≡ Some m → IsSentAs f u c t m
+sent_as : (f : Facts) (u : ℕ) (c : Call) (t : ℕ) (m : SentItem) → thread_of_send u c ≡ Some t → makes f u c ≡ Some m → IsSentAs f u c t m
 sent_as f u (Send coid message reply_buffer) t m s e = record { same = same_Some u t s; priority = over (f.connection coid) e; none = refl } where
   over : (o : Option Connection) → item_sent_over o (message_of f u) ≡ Some m → m.item.priority ≡ f.priority u
   over None none = absurd (none-some m none)
-  over (Some k) some = ap (λ (x : Made). x.item.priority) (sym (same_Some _ m some))
+  over (Some k) some = ap (λ (x : SentItem). x.item.priority) (sym (same_Some _ m some))
 sent_as f u c t m s e = absurd (none-some t s)
 
 or_none : (o : Option ℕ) (p : ℕ) → unwrap_or (option_or o None) p ≡ unwrap_or o p

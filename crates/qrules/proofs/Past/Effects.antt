@@ -2,11 +2,11 @@
 use Rattle.std.proofs.Common.{◌≡◌, ℕ, refl, cond, eqb}
 use Rattle.std.specs.Prelude.{Option, None, Some, is_some, option_map, option_and_then}
 use Rattle.std.specs.Option.{option_or}
-use Rattle.qmodel.specs.Calls.{effect_of as old_effect_of}
-use Rattle.qmodel.specs.Effect.{Reading}
-use Rattle.qmodel.specs.Effects as old
-use Rattle.qmodel.specs.Facts.{Facts as OldFacts}
-use Rattle.qmodel.specs.Rows.{priority_set_for, Written}
+use Rattle.qmodel.specs.Private.Calls.{effect_of as old_effect_of}
+use Rattle.qmodel.specs.Private.Effect.{Reading}
+use Rattle.qmodel.specs.Private.Effects as old
+use Rattle.qmodel.specs.Private.Facts.{Facts as OldFacts}
+use Rattle.qmodel.specs.Private.Rows.{priority_set_for, Written}
 use Rattle.qmodel.specs.declared.call.Call.{Call}
 use Rattle.qmodel.specs.declared.call.Call.TheVariants as calls
 use Rattle.qmodel.specs.declared.open_call.Wait.{Wait}
@@ -14,7 +14,7 @@ use Rattle.qmodel.specs.declared.open_call.Wait.TheVariants.{Answer, Item as For
 use Rattle.qrules.specs.Rule.{Effect, Transfer}
 use Rattle.qrules.specs.Rules.{effect_of}
 use Rattle.qrules.proofs.Rows.Pulses.{unblock_same}
-use Rattle.qrules.specs.Same.{facts_view}
+use Rattle.qrules.proofs.Same.{facts_view}
 use Rattle.qrules.proofs.View.{IsKnown}
 
 pub same_shut : (c : Call) → (effect_of c).shuts_down ≡ old.shuts_down c
@@ -72,10 +72,10 @@ same_sets _ t = refl
 -- ---- transfers
 
 abbrev pub written_view : Transfer → Written
-written_view w = record { message = w.message; offset = w.offset; bytes = w.bytes }
+written_view w = record { message = w.rcvid; offset = w.offset; bytes = w.bytes }
 
 abbrev pub reading_view : Transfer → Reading
-reading_view r = record { message = r.message; offset = r.offset; buffer = r.bytes }
+reading_view r = record { message = r.rcvid; offset = r.offset; buffer = r.bytes }
 
 pub same_writes : (c : Call) → option_map written_view (effect_of c).writes ≡ old.writes c
 same_writes calls.Shutdown = refl

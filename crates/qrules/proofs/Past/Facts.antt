@@ -7,10 +7,10 @@ use Rattle.std.proofs.lemmas.Option.{none-some}
 use Rattle.qbase.proofs.Lists.{some_of}
 use Rattle.qtables.specs.Members.{member_at}
 use Rattle.qtables.specs.declared.member.Member.{Member}
-use Rattle.qmodel.specs.Facts.{threads_of}
-use Rattle.qmodel.specs.Lawful as old_lawful
-use Rattle.qmodel.specs.Past as old
-use Rattle.qmodel.specs.Rows.{Made}
+use Rattle.qmodel.specs.Private.Facts.{threads_of}
+use Rattle.qmodel.specs.Private.Lawful as old_lawful
+use Rattle.qmodel.specs.Private.Past as old
+use Rattle.qmodel.specs.Trace.{SentItem}
 use Rattle.qmodel.specs.Trace.{Event, Trace}
 use Rattle.qmodel.specs.declared.open_call.OpenCall.{OpenCall}
 use Rattle.qmodel.proofs.Past.Numbers.{block_cases, open_parts}
@@ -22,7 +22,8 @@ use Rattle.qrules.proofs.Past.Done.{same_channel, same_connection_at, same_down}
 use Rattle.qrules.proofs.Past.Effects.{same_makes}
 use Rattle.qrules.proofs.Past.Items.{same_by_now, same_from, same_pending}
 use Rattle.qrules.proofs.Past.Waits.{same_receive, same_send}
-use Rattle.qrules.specs.Same.{facts_view, receive_view, send_view, AreOfRoster}
+use Rattle.qrules.specs.View.{receive_view, send_view}
+use Rattle.qrules.proofs.Same.{facts_view, AreOfRoster}
 use Rattle.qrules.proofs.View.{IsKnown}
 
 block_member : (roster : List Member) (past : Trace) (u : ℕ) (b : OpenCall) → AreOfRoster roster past → old.newest_block past u ≡ Some b → is_some (member_at roster u) ≡ true
@@ -42,9 +43,9 @@ facts_known roster past l u e =
 
 module _ (roster : List Member) (past : Trace) where
   -- the facts by these items and priorities
-  by : (made : List Made) (priority : ℕ → ℕ) → facts_by roster past (record { items = made; priority = priority }) ≡ facts_view (old.facts_by roster past (record { made = made; priority = priority }))
+  by : (made : List SentItem) (priority : ℕ → ℕ) → facts_by roster past (record { items = made; priority = priority }) ≡ facts_view (old.facts_by roster past (record { made = made; priority = priority }))
   by made priority =
-      let now : List Made = old.items_by_now past made in
+      let now : List SentItem = old.items_by_now past made in
       let by_now : new.items_by_now past made ≡ now = same_by_now past made in
       let channel : new.channel_at roster past ≡ old.channel_at roster past = fun_ext (same_channel roster past) in
       let connection : new.connection_at roster past ≡ old.connection_at roster past = fun_ext (same_connection_at roster past) in
@@ -61,8 +62,8 @@ module _ (roster : List Member) (past : Trace) where
         open_channels = count_to (channel i) (length past);
         connection = connection i;
         live_connections = count_to (connection i) (length past);
-        sends = sends i;
-        receives = receives i;
+        open_sends = sends i;
+        open_receives = receives i;
         pending = pending i;
         priority = priority;
       }
@@ -74,11 +75,11 @@ abbrev pub known_view : old.Knowledge → ItemsAndPriorities
 known_view k = record { items = k.made; priority = k.priority }
 
 -- what is known after event e, by these items and what was known before it
-abbrev with_items : List Member → Event → Trace → List Made → ItemsAndPriorities → ItemsAndPriorities
+abbrev with_items : List Member → Event → Trace → List SentItem → ItemsAndPriorities → ItemsAndPriorities
 with_items roster e past items known = record { items = items; priority = λ t. unwrap_or (priority_given_by roster e past items t) (known.priority t) }
 
 -- the same, by these items and the priorities that the event gives
-abbrev with_priorities : List Made → (ℕ → ℕ) → (ℕ → Option ℕ) → ItemsAndPriorities
+abbrev with_priorities : List SentItem → (ℕ → ℕ) → (ℕ → Option ℕ) → ItemsAndPriorities
 with_priorities items before given = record { items = items; priority = λ t. unwrap_or (given t) (before t) }
 
 pub same_known : (roster : List Member) (past : Trace) → AreOfRoster roster past → items_and_priorities roster past ≡ known_view (old.knowledge_of roster past)
@@ -91,7 +92,7 @@ same_known roster (e ∷ past) l =
     ap (λ f. item_made_by f e past) facts ∙ ap (λ o. cond (old.is_accepted e past) o None) (same_makes (old_lawful.facts_of roster past) e.thread e.call (facts_known roster past l.0)) in
     let made : (items_and_priorities roster past).items ++ option_to_list (item_made_by (facts_by roster past (items_and_priorities roster past)) e past) ≡ k.made ++ option_to_list (old.item_of roster e past) =
     ap (λ items. items ++ option_to_list (item_made_by (facts_by roster past (items_and_priorities roster past)) e past)) (ap (λ k. k.items) known) ∙ ap (λ o. k.made ++ option_to_list o) item in
-    let all : List Made = k.made ++ option_to_list (old.item_of roster e past) in
+    let all : List SentItem = k.made ++ option_to_list (old.item_of roster e past) in
     ap (λ items. with_items roster e past items (items_and_priorities roster past)) made
     ∙ ap (with_items roster e past all) known
     ∙ ap (with_priorities all k.priority) (fun_ext (λ t. same_from roster past all t e))

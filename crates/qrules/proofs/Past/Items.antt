@@ -7,9 +7,10 @@ use Rattle.std.specs.Option.{option_or}
 use Rattle.qqueue.specs.Best.{is_pulse, with_priority}
 use Rattle.qqueue.specs.declared.item.Item.{Item}
 use Rattle.qtables.specs.declared.member.Member.{Member}
-use Rattle.qmodel.specs.Facts.{OpenChannel}
-use Rattle.qmodel.specs.Past as old
-use Rattle.qmodel.specs.Rows.{item_in_mark, Made}
+use Rattle.qmodel.specs.Trace.{OpenChannel}
+use Rattle.qmodel.specs.Private.Past as old
+use Rattle.qmodel.specs.Private.Rows.{item_in_mark}
+use Rattle.qmodel.specs.Trace.{SentItem}
 use Rattle.qmodel.specs.Trace.{Event, Trace}
 use Rattle.qmodel.specs.declared.call.Completion.{Completion}
 use Rattle.qrules.specs.Facts.{has_flag}
@@ -34,10 +35,10 @@ same_priority past item =
     ap (λ since. cond (is_pulse item.what) item.priority (unwrap_or (option_and_then since (new.sender_of past item.number)) item.priority)) (fun_ext (same_set_since past item.number))
     ∙ ap (λ sender. cond (is_pulse item.what) item.priority (unwrap_or (option_and_then (old.priority_set_since past item.number) sender) item.priority)) (same_sender_of past item.number)
 
-pub same_by_now : (past : Trace) (made : List Made) → new.items_by_now past made ≡ old.items_by_now past made
+pub same_by_now : (past : Trace) (made : List SentItem) → new.items_by_now past made ≡ old.items_by_now past made
 same_by_now past made = ap (λ (worth : Item → ℕ). map (λ m. record { item = with_priority (worth m.item) m.item; channel = m.channel }) made) (fun_ext (same_priority past))
 
-pub same_among : (made : List Made) (i : ℕ) → new.item_among made i ≡ old.made_among made i
+pub same_among : (made : List SentItem) (i : ℕ) → new.item_among made i ≡ old.made_among made i
 same_among [] i = refl
 same_among (m ∷ made) i = ap (cond (eqb m.item.number i) (Some m)) (same_among made i)
 
@@ -48,7 +49,7 @@ same_gone past item =
     ap (λ b. b || (not (is_pulse item.what) && new.is_ended past item.number)) (same_received past item.number)
     ∙ ap (λ b. old.is_taken past item.number || (not (is_pulse item.what) && b)) (same_ended past item.number)
 
-on_channel : (p : Item → Bool) (h : ℕ) (made : List Made) → map (λ m. m.item) (filter (λ m. eqb m.channel h && p m.item) made) ≡ filter p (map (λ m. m.item) (filter (λ m. eqb m.channel h) made))
+on_channel : (p : Item → Bool) (h : ℕ) (made : List SentItem) → map (λ m. m.item) (filter (λ m. eqb m.channel h && p m.item) made) ≡ filter p (map (λ m. m.item) (filter (λ m. eqb m.channel h) made))
 on_channel p h [] = refl
 on_channel p h (m ∷ made) =
     elim (eqb m.channel h) as (λ b. map (λ m. m.item) (cond (b && p m.item) (m ∷ filter (λ m. eqb m.channel h && p m.item) made) (filter (λ m. eqb m.channel h && p m.item) made))
@@ -61,7 +62,7 @@ on_channel p h (m ∷ made) =
       | false ↦ on_channel p h made
     ]
 
-pub same_pending : (past : Trace) (made : List Made) (h : ℕ) → new.pending_among past made h ≡ old.pending_among past made h
+pub same_pending : (past : Trace) (made : List SentItem) (h : ℕ) → new.pending_among past made h ≡ old.pending_among past made h
 same_pending past made h =
     ap (λ b. cond b [] (map (λ m. m.item) (filter (λ m. eqb m.channel h && not (new.is_gone past m.item)) made))) (same_destroyed past h)
     ∙ ap (λ (gone : Item → Bool). cond (old.is_closed past h) [] (map (λ m. m.item) (filter (λ m. eqb m.channel h && not (gone m.item)) made))) (fun_ext (same_gone past))
@@ -73,7 +74,7 @@ first_tell : {A : Type 0} (tell : Completion → Option A) (endings : List Compl
 first_tell tell [] = refl
 first_tell tell (x ∷ endings) = elim (tell x) as (λ o. slice_get (cons_option o (filter_map tell endings)) 0 ≡ option_or o (old.first_among tell endings)) [ None ↦ first_tell tell endings | Some y ↦ refl ]
 
-module _ (roster : List Member) (past : Trace) (made : List Made) (t : ℕ) where
+module _ (roster : List Member) (past : Trace) (made : List SentItem) (t : ℕ) where
   -- the priority that an item of this number carries
   abbrev carried : ℕ → Option ℕ
   carried i = old.carried_priority (old.channel_at roster past) (old.made_among (old.items_by_now past made) i)

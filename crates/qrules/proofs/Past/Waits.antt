@@ -10,9 +10,10 @@ use Rattle.std.proofs.lemmas.Option.{none-some, same_Some}
 use Rattle.std.proofs.Math.Bool.{and-false}
 use Rattle.qbase.proofs.Lists.{cond_same}
 use Rattle.qbase.specs.Laying.{lay_over}
-use Rattle.qmodel.specs.Effects.{asks, writes as old_writes}
-use Rattle.qmodel.specs.Past as old
-use Rattle.qmodel.specs.Rows.{buffer_after_write, Made}
+use Rattle.qmodel.specs.Private.Effects.{asks, writes as old_writes}
+use Rattle.qmodel.specs.Private.Past as old
+use Rattle.qmodel.specs.Private.Rows.{buffer_after_write}
+use Rattle.qmodel.specs.Trace.{SentItem}
 use Rattle.qmodel.specs.Trace.{Trace}
 use Rattle.qmodel.specs.declared.call.Call.{Call}
 use Rattle.qmodel.specs.declared.call.Call.TheVariants as calls
@@ -26,7 +27,7 @@ use Rattle.qrules.proofs.Past.Done.{newest}
 use Rattle.qrules.proofs.Past.Effects.{same_waits, same_writes, written_view}
 use Rattle.qrules.proofs.Past.Items.{same_among}
 use Rattle.qrules.proofs.Past.Receipts.{same_copied, same_ended}
-use Rattle.qrules.specs.Same.{receive_view, send_view}
+use Rattle.qrules.specs.View.{receive_view, send_view}
 
 -- ---- what is written
 
@@ -34,7 +35,7 @@ abbrev lay : List ℕ → Transfer → List ℕ
 lay b w = lay_over b w.offset w.bytes
 
 abbrev to_message : ℕ → Option Transfer → Option Transfer
-to_message i o = option_and_then (λ w. cond (eqb w.message i) (Some w) None) o
+to_message i o = option_and_then (λ w. cond (eqb w.rcvid i) (Some w) None) o
 
 lay_last : (b : List ℕ) (o : Option Transfer) (rest : List Transfer) → fold lay b (reverse (cons_option o rest)) ≡ option_map_or (lay (fold lay b (reverse rest))) o (fold lay b (reverse rest))
 lay_last b None rest = refl
@@ -42,7 +43,7 @@ lay_last b (Some w) rest = ap (fold lay b) (reverse-cons w rest) ∙ fold-append
 
 lay_same : (b : List ℕ) (i : ℕ) (o : Option Transfer) → option_map_or (lay b) (to_message i o) b ≡ buffer_after_write (option_map written_view o) i b
 lay_same b i None = refl
-lay_same b i (Some w) = elim (eqb w.message i) as (λ c. option_map_or (lay b) (cond c (Some w) None) b ≡ cond c (lay b w) b) [ true ↦ refl | false ↦ refl ]
+lay_same b i (Some w) = elim (eqb w.rcvid i) as (λ c. option_map_or (lay b) (cond c (Some w) None) b ≡ cond c (lay b w) b) [ true ↦ refl | false ↦ refl ]
 
 pub same_with_writes : (past : Trace) (i : ℕ) (b : List ℕ) → new.with_writes past i b ≡ old.with_writes past i b
 same_with_writes [] i b = refl
@@ -112,7 +113,7 @@ unless_then false k x = refl
 
 -- ---- what it is by now
 
-module _ (past : Trace) (made : List Made) (t : ℕ) where
+module _ (past : Trace) (made : List SentItem) (t : ℕ) where
   abbrev priority_at : ℕ → ℕ
   priority_at n = old.priority_of_made (old.made_among made n)
 

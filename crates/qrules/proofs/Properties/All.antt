@@ -1,10 +1,10 @@
 -- All six properties.
 use Rattle.std.proofs.Common.{◌↔◌, List}
 use Rattle.qtables.specs.declared.member.Member.{Member}
-use Rattle.qmodel.specs.Properties as old
+use Rattle.qmodel.specs.Private.Properties as old
 use Rattle.qmodel.specs.Trace.{Trace}
 use Rattle.qrules.specs.Properties.{HasProperties}
-use Rattle.qrules.specs.Same.{AreOfRoster}
+use Rattle.qrules.proofs.Same.{AreOfRoster}
 use Rattle.qrules.proofs.Properties.AnsweredToSender.{same_answered_to_sender}
 use Rattle.qrules.proofs.Properties.BestFirst.{same_best_first}
 use Rattle.qrules.proofs.Properties.CopiedExactly.{same_copied_exactly}

@@ -4,11 +4,11 @@ use Rattle.std.specs.Prelude.{Option, None, Some, not, ◌&&◌, option_map}
 use Rattle.std.specs.Option.{option_map_or}
 use Rattle.qbase.proofs.Lists.{all_more}
 use Rattle.qtables.specs.declared.member.Member.{Member}
-use Rattle.qmodel.specs.Facts.{owns as old_owns, Facts as OldFacts}
-use Rattle.qmodel.specs.Headline.AnsweredToSender as old
-use Rattle.qmodel.specs.Lawful as old_lawful
-use Rattle.qmodel.specs.Past as past_of
-use Rattle.qmodel.specs.Rows.{Made}
+use Rattle.qmodel.specs.Private.Facts.{owns as old_owns, Facts as OldFacts}
+use Rattle.qmodel.specs.Private.Headline.AnsweredToSender as old
+use Rattle.qmodel.specs.Private.Lawful as old_lawful
+use Rattle.qmodel.specs.Private.Past as past_of
+use Rattle.qmodel.specs.Trace.{SentItem}
 use Rattle.qmodel.specs.Trace.{Event, Trace}
 use Rattle.qmodel.specs.declared.call.Completion.{Completion}
 use Rattle.qrules.specs.Facts.{owns}
@@ -20,13 +20,13 @@ use Rattle.qrules.proofs.Past.Effects.{same_answers}
 use Rattle.qrules.proofs.Past.Facts.{same_facts}
 use Rattle.qrules.proofs.Past.Receipts.{same_ended, same_received}
 use Rattle.qrules.proofs.Properties.Items.{same_channel_among, same_items}
-use Rattle.qrules.specs.Same.{facts_view, AreOfRoster}
+use Rattle.qrules.proofs.Same.{facts_view, AreOfRoster}
 use Rattle.qrules.proofs.View.{owns_same}
 
 same_held : (past : Trace) (i : ℕ) → (is_received past i && not (is_ended past i)) ≡ old.is_held past i
 same_held past i = ap (λ b. b && not (is_ended past i)) (same_received past i) ∙ ap (λ b. past_of.is_taken past i && not b) (same_ended past i)
 
-owner_of : (f : OldFacts) (t : ℕ) (m : Option Made) → option_map_or (λ m. owns (facts_view f) t m.channel) m false ≡ option_map_or (λ h. old_owns f t h) (option_map (λ m. m.channel) m) false
+owner_of : (f : OldFacts) (t : ℕ) (m : Option SentItem) → option_map_or (λ m. owns (facts_view f) t m.channel) m false ≡ option_map_or (λ h. old_owns f t h) (option_map (λ m. m.channel) m) false
 owner_of f t None = refl
 owner_of f t (Some m) = owns_same f t m.channel
 
@@ -34,7 +34,7 @@ same_owner : (roster : List Member) (past : Trace) (t i : ℕ) → AreOfRoster r
 same_owner roster past t i l =
     ap (λ f. option_map_or (λ m. owns f t m.channel) (item_among (items roster past) i) false) (same_facts roster past l)
     ∙ owner_of (old_lawful.facts_of roster past) t (item_among (items roster past) i)
-    ∙ ap (λ h. option_map_or (λ h. old_owns (old_lawful.facts_of roster past) t h) h false) (ap (λ (made : List Made). option_map (λ m. m.channel) (item_among made i)) (same_items roster past l) ∙ same_channel_among (past_of.items roster past) i)
+    ∙ ap (λ h. option_map_or (λ h. old_owns (old_lawful.facts_of roster past) t h) h false) (ap (λ (made : List SentItem). option_map (λ m. m.channel) (item_among made i)) (same_items roster past l) ∙ same_channel_among (past_of.items roster past) i)
 
 answers_as_before : (roster : List Member) (past : Trace) (e : Event) (x : Completion) → AreOfRoster roster past → AnswersIts roster past e x → old.AnswersIts roster past e x
 answers_as_before roster past e x l h = record {

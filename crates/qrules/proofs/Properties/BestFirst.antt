@@ -6,8 +6,8 @@ use Rattle.qbase.proofs.Lists.{all_more}
 use Rattle.qqueue.specs.Best.{best_of}
 use Rattle.qqueue.specs.declared.item.Kind.{Kind}
 use Rattle.qtables.specs.declared.member.Member.{Member}
-use Rattle.qmodel.specs.Headline.BestFirst as old
-use Rattle.qmodel.specs.Headline.CopiedExactly.{call_at as old_call_at}
+use Rattle.qmodel.specs.Private.Headline.BestFirst as old
+use Rattle.qmodel.specs.Private.Headline.CopiedExactly.{call_at as old_call_at}
 use Rattle.qmodel.specs.Trace.{Event, Trace}
 use Rattle.qmodel.specs.declared.call.Call.{Call}
 use Rattle.qmodel.specs.declared.call.Completion.{Completion}
@@ -15,7 +15,7 @@ use Rattle.qrules.specs.Properties.{request_of, takeable, BestFirst, TakesBest}
 use Rattle.qrules.specs.Rule.{ReceiveRequest}
 use Rattle.qrules.specs.Rules.{effect_of}
 use Rattle.qrules.proofs.Past.Effects.{same_request}
-use Rattle.qrules.specs.Same.{AreOfRoster}
+use Rattle.qrules.proofs.Same.{AreOfRoster}
 use Rattle.qrules.proofs.Properties.Calls.{same_call_at}
 use Rattle.qrules.proofs.Properties.Items.{same_number, same_takeable}
 

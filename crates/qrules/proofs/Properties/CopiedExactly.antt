@@ -3,8 +3,8 @@ use Rattle.std.proofs.Common.{◌≡◌, ◌∙◌, ◌↔◌, ℕ, List, [], �
 use Rattle.std.specs.Prelude.{Option, None, Some, option_map, MatchOption, IsSomeAnd}
 use Rattle.qbase.proofs.Lists.{all_more}
 use Rattle.qbase.specs.Laying.{laid_count}
-use Rattle.qmodel.specs.Calls.{effect_of as old_effect_of}
-use Rattle.qmodel.specs.Headline.CopiedExactly as old
+use Rattle.qmodel.specs.Private.Calls.{effect_of as old_effect_of}
+use Rattle.qmodel.specs.Private.Headline.CopiedExactly as old
 use Rattle.qmodel.specs.Trace.{Event, Trace}
 use Rattle.qmodel.specs.declared.call.Completion.{Completion}
 use Rattle.qmodel.specs.declared.call.Mark.{Mark}
@@ -19,15 +19,15 @@ use Rattle.qrules.proofs.Properties.Calls.{same_buffer_at, same_message_at}
 
 abbrev counted : Trace → Option Transfer → Option Transfer → Completion → ℕ → Type 0
 counted past reads writes x copied = MatchOption reads
-    (IsSomeAnd writes (λ w. (x.buffer ≡ []) × (copied ≡ laid_count (buffer_at past w.message) w.offset w.bytes)))
-    (λ r. IsLaid r.bytes 0 (drop r.offset (message_at past r.message)) x.buffer copied)
+    (IsSomeAnd writes (λ w. (x.buffer ≡ []) × (copied ≡ laid_count (buffer_at past w.rcvid) w.offset w.bytes)))
+    (λ r. IsLaid r.bytes 0 (drop r.offset (message_at past r.rcvid)) x.buffer copied)
 
 same_counted : (past : Trace) (reads writes : Option Transfer) (x : Completion) (copied : ℕ) → counted past reads writes x copied ↔ old.IsCountOf past (option_map reading_view reads) (option_map written_view writes) x copied
 same_counted past (Some r) writes x copied =
-    let same = same_message_at past r.message in
+    let same = same_message_at past r.rcvid in
     (λ h. subst (λ m. IsLaid r.bytes 0 (drop r.offset m) x.buffer copied) same h, λ h. subst (λ m. IsLaid r.bytes 0 (drop r.offset m) x.buffer copied) (sym same) h)
 same_counted past None (Some w) x copied =
-    let same = same_buffer_at past w.message in
+    let same = same_buffer_at past w.rcvid in
     (λ h. (h.0, h.1 ∙ ap (λ b. laid_count b w.offset w.bytes) same), λ h. (h.0, h.1 ∙ ap (λ b. laid_count b w.offset w.bytes) (sym same)))
 same_counted past None None x copied = (λ h. h, λ h. h)
 

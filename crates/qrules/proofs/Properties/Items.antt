@@ -4,12 +4,12 @@ use Rattle.std.proofs.Common.{◌≡◌, ◌∙◌, ℕ, List, [], ◌∷◌, �
 use Rattle.std.specs.Prelude.{Option, None, Some, is_some, ◌||◌, filter, find, filter_map, option_map, option_to_list}
 use Rattle.std.specs.List.{list_any}
 use Rattle.qtables.specs.declared.member.Member.{Member}
-use Rattle.qmodel.specs.Headline.AnsweredToSender.{channel_among}
-use Rattle.qmodel.specs.Headline.BestFirst.{takeable as old_takeable}
-use Rattle.qmodel.specs.Headline.ReceivedOnce as once
-use Rattle.qmodel.specs.Lawful as old_lawful
-use Rattle.qmodel.specs.Past as old
-use Rattle.qmodel.specs.Rows.{Made}
+use Rattle.qmodel.specs.Private.Headline.AnsweredToSender.{channel_among}
+use Rattle.qmodel.specs.Private.Headline.BestFirst.{takeable as old_takeable}
+use Rattle.qmodel.specs.Private.Headline.ReceivedOnce as once
+use Rattle.qmodel.specs.Private.Lawful as old_lawful
+use Rattle.qmodel.specs.Private.Past as old
+use Rattle.qmodel.specs.Trace.{SentItem}
 use Rattle.qmodel.specs.Trace.{Event, Trace}
 use Rattle.qmodel.specs.declared.call.Completion.{Completion}
 use Rattle.qrules.specs.Lawful.{facts_of, item_made_by}
@@ -20,7 +20,7 @@ use Rattle.qrules.proofs.Past.Effects.{same_makes}
 use Rattle.qrules.proofs.Past.Facts.{facts_known, same_facts, same_known}
 use Rattle.qrules.proofs.Past.Items.{same_among, same_by_now}
 use Rattle.qrules.proofs.Past.Receipts.{pair_of, same_item}
-use Rattle.qrules.specs.Same.{AreOfRoster}
+use Rattle.qrules.proofs.Same.{AreOfRoster}
 
 pub same_items : (roster : List Member) (past : Trace) → AreOfRoster roster past → items roster past ≡ old.items roster past
 same_items roster past l = ap (λ k. k.items) (same_known roster past l)
@@ -43,7 +43,7 @@ pub found_any : {X : Type 0} (p : X → Bool) (xs : List X) → is_some (find p 
 found_any p [] = refl
 found_any p (x ∷ xs) = elim (p x) as (λ b. is_some (cond b (Some x) (find p xs)) ≡ ◌||◌ b (list_any p xs)) [ true ↦ refl | false ↦ found_any p xs ]
 
-pub same_channel_among : (made : List Made) (i : ℕ) → option_map (λ m. m.channel) (item_among made i) ≡ channel_among made i
+pub same_channel_among : (made : List SentItem) (i : ℕ) → option_map (λ m. m.channel) (item_among made i) ≡ channel_among made i
 same_channel_among [] i = refl
 same_channel_among (m ∷ made) i = elim (eqb m.item.number i) as (λ b. option_map (λ m. m.channel) (cond b (Some m) (item_among made i)) ≡ cond b (Some m.channel) (channel_among made i)) [ true ↦ refl | false ↦ same_channel_among made i ]
 
@@ -52,7 +52,7 @@ same_item_by roster past e l =
     ap (λ f. item_made_by f e past) (same_facts roster past l)
     ∙ ap (λ o. cond (old.is_accepted e past) o None) (same_makes (old_lawful.facts_of roster past) e.thread e.call (facts_known roster past l))
 
-made_here : (h : ℕ) (o : Option Made) → map (λ m. m.item) (filter (λ m. eqb m.channel h) (option_to_list o)) ≡ old.made_on h o
+made_here : (h : ℕ) (o : Option SentItem) → map (λ m. m.item) (filter (λ m. eqb m.channel h) (option_to_list o)) ≡ old.made_on h o
 made_here h None = refl
 made_here h (Some m) = elim (eqb m.channel h) as (λ b. map (λ m. m.item) (cond b (m ∷ []) []) ≡ cond b (m.item ∷ []) []) [ true ↦ refl | false ↦ refl ]
 
@@ -64,5 +64,5 @@ same_takeable roster past e h l =
 
 pub same_priority_before : (roster : List Member) (past : Trace) (e : Event) (i : ℕ) → AreOfRoster roster (e ∷ past) → priority_before roster past e i ≡ old.priority_before roster e past i
 same_priority_before roster past e i l =
-    ap (λ (made : List Made). priority_of_item (item_among made i)) (same_by_now past (items roster (e ∷ past)) ∙ ap (old.items_by_now past) (same_items roster (e ∷ past) l))
+    ap (λ (made : List SentItem). priority_of_item (item_among made i)) (same_by_now past (items roster (e ∷ past)) ∙ ap (old.items_by_now past) (same_items roster (e ∷ past) l))
     ∙ ap priority_of_item (same_among (old.items_by_now past (old.items roster (e ∷ past))) i)

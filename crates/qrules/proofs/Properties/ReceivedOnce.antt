@@ -3,13 +3,13 @@ use Rattle.std.proofs.Common.{◌≡◌, ◌∙◌, ◌↔◌, ℕ, List, [], �
 use Rattle.std.specs.Prelude.{is_some}
 use Rattle.std.specs.List.{filter_map, AllByRecursion}
 use Rattle.qtables.specs.declared.member.Member.{Member}
-use Rattle.qmodel.specs.Headline.ReceivedOnce as old
-use Rattle.qmodel.specs.Rows.{Made}
+use Rattle.qmodel.specs.Private.Headline.ReceivedOnce as old
+use Rattle.qmodel.specs.Trace.{SentItem}
 use Rattle.qmodel.specs.Trace.{Event, Trace}
 use Rattle.qrules.specs.Past.{item_among}
 use Rattle.qrules.specs.Properties.{items, number_received, ReceivedOnce}
 use Rattle.qrules.specs.Trace.{endings_of, InEachEvent}
-use Rattle.qrules.specs.Same.{AreOfRoster}
+use Rattle.qrules.proofs.Same.{AreOfRoster}
 use Rattle.qrules.proofs.Properties.Items.{found_any, same_endings_of, same_items, same_numbers}
 
 -- the numbers of all items received, and of all calls ended
@@ -17,7 +17,7 @@ same_all : (past : Trace) → filter_map number_received (endings_of past) ≡ o
 same_all past = same_numbers (endings_of past) ∙ ap old.items_received (same_endings_of past)
 
 same_made : (roster : List Member) (past : Trace) (i : ℕ) → AreOfRoster roster past → is_some (item_among (items roster past) i) ≡ old.is_made roster past i
-same_made roster past i l = ap (λ (made : List Made). is_some (item_among made i)) (same_items roster past l) ∙ found_any (λ m. eqb m.item.number i) _
+same_made roster past i l = ap (λ (made : List SentItem). is_some (item_among made i)) (same_items roster past l) ∙ found_any (λ m. eqb m.item.number i) _
 
 -- what event e receives is made by then
 abbrev early : List Member → Trace → Event → List ℕ → Type 0

@@ -7,8 +7,8 @@ use Rattle.qbase.proofs.Lists.{all_more}
 use Rattle.qqueue.specs.declared.item.Item.{Item}
 use Rattle.qqueue.specs.declared.item.Kind.TheVariants.{Any, PulseOnly}
 use Rattle.qtables.specs.declared.member.Member.{Member}
-use Rattle.qmodel.specs.Headline.BestFirst.{takeable as old_takeable}
-use Rattle.qmodel.specs.Headline.SentOrder as old
+use Rattle.qmodel.specs.Private.Headline.BestFirst.{takeable as old_takeable}
+use Rattle.qmodel.specs.Private.Headline.SentOrder as old
 use Rattle.qmodel.specs.Trace.{Event, Trace}
 use Rattle.qmodel.specs.declared.call.Call.{Call}
 use Rattle.qmodel.specs.declared.call.Call.TheVariants as calls
@@ -16,7 +16,7 @@ use Rattle.qmodel.specs.declared.call.Completion.{Completion}
 use Rattle.qrules.specs.Properties.{connection_of, priority_before, IsEarliest, SentOrder, TakesSent}
 use Rattle.qrules.specs.Rule.{ReceiveRequest}
 use Rattle.qrules.specs.Rules.{effect_of}
-use Rattle.qrules.specs.Same.{AreOfRoster}
+use Rattle.qrules.proofs.Same.{AreOfRoster}
 use Rattle.qrules.proofs.Properties.BestFirst.{asks_of, request_from}
 use Rattle.qrules.proofs.Properties.Calls.{same_connection_of}
 use Rattle.qrules.proofs.Properties.Items.{same_number, same_priority_before, same_takeable}

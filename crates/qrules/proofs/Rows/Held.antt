@@ -9,12 +9,12 @@ use Rattle.qbase.specs.Laying.{laid_count, lay_over}
 use Rattle.qbase.specs.declared.errno.Errno.TheVariants.{Srch}
 use Rattle.qtables.specs.Members.{member_at}
 use Rattle.qtables.specs.declared.member.Member.{Member}
-use Rattle.qmodel.specs.Calls.Info.{info_of as old_info_of}
-use Rattle.qmodel.specs.Calls.Error.{error_finish}
-use Rattle.qmodel.specs.Calls.Reply.{reply_finish}
-use Rattle.qmodel.specs.Facts.{sender, owns as old_owns, Facts as OldFacts}
-use Rattle.qmodel.specs.Held.{answer_ending, ends_sender, is_held_by, refusal, Finish}
-use Rattle.qmodel.specs.Rows.{ends_with}
+use Rattle.qmodel.specs.Private.Calls.Info.{info_of as old_info_of}
+use Rattle.qmodel.specs.Private.Calls.Error.{error_finish}
+use Rattle.qmodel.specs.Private.Calls.Reply.{reply_finish}
+use Rattle.qmodel.specs.Private.Facts.{sender, owns as old_owns, Facts as OldFacts}
+use Rattle.qmodel.specs.Private.Held.{answer_ending, ends_sender, is_held_by, refusal, Finish}
+use Rattle.qmodel.specs.Private.Rows.{ends_with}
 use Rattle.qmodel.specs.declared.call.Call.TheVariants as calls
 use Rattle.qmodel.specs.declared.call.Completion.{Completion}
 use Rattle.qmodel.specs.declared.call.Info.{Info}
@@ -25,7 +25,8 @@ use Rattle.qrules.specs.Facts.{open_send, owns, OpenSend}
 use Rattle.qrules.specs.Rules.Held.{info_of, refusal_unless_held}
 use Rattle.qrules.proofs.Messages.{send_cases, NoSend}
 use Rattle.qrules.proofs.Rows.Same.{after_own, alone, ending_of, own_alone, SameRow}
-use Rattle.qrules.specs.Same.{facts_view, receipt_view}
+use Rattle.qrules.specs.View.{receipt_view}
+use Rattle.qrules.proofs.Same.{facts_view}
 use Rattle.qrules.proofs.View.{owns_same, IsKnown}
 
 owns_over : (f : OldFacts) (t k : ℕ) → option_map_or (λ c. owns (facts_view f) t c.channel) (f.connection k) false ≡ option_map_or (λ c. old_owns f t c.channel) (f.connection k) false

@@ -11,10 +11,10 @@ use Rattle.qqueue.specs.declared.item.Item.{Item}
 use Rattle.qqueue.specs.declared.item.Kind.{Kind}
 use Rattle.qqueue.specs.declared.item.Kind.TheVariants.{Any, PulseOnly}
 use Rattle.qtables.specs.declared.connection.Connection.{Connection}
-use Rattle.qmodel.specs.Calls.Send.{item}
-use Rattle.qmodel.specs.Delivering.{meets, receiver, wants_room}
-use Rattle.qmodel.specs.Facts.{is_of_process, message, Facts as OldFacts}
-use Rattle.qmodel.specs.Receiving.{own_receipt}
+use Rattle.qmodel.specs.Private.Calls.Send.{item}
+use Rattle.qmodel.specs.Private.Delivering.{meets, receiver, wants_room}
+use Rattle.qmodel.specs.Private.Facts.{is_of_process, message, Facts as OldFacts}
+use Rattle.qmodel.specs.Private.Receiving.{own_receipt}
 use Rattle.qmodel.specs.declared.call.Call.TheVariants as calls
 use Rattle.qrules.specs.Delivery.{deliver, delivery, has_to_wait}
 use Rattle.qrules.specs.Facts.{open_send, OpenReceive}
@@ -22,7 +22,7 @@ use Rattle.qrules.specs.Rule.{SentItem}
 use Rattle.qrules.proofs.Deliveries.{deliver_same, delivery_same, idle_takes_none, memory_same}
 use Rattle.qrules.proofs.Messages.{send_cases}
 use Rattle.qrules.proofs.Rows.Same.{alone, ending_of, SameRow}
-use Rattle.qrules.specs.Same.{facts_view}
+use Rattle.qrules.proofs.Same.{facts_view}
 use Rattle.qrules.proofs.View.{owns_same, route_same}
 
 -- ---- Send

@@ -5,10 +5,10 @@ use Rattle.std.specs.Option.{option_or}
 use Rattle.qbase.specs.declared.errno.Errno.TheVariants.{Inval, Srch}
 use Rattle.qbase.specs.declared.flags.ChannelFlags.{ChannelFlags}
 use Rattle.qbase.specs.declared.state.ThreadState.TheVariants.{Ready, ReceiveBlocked}
-use Rattle.qmodel.specs.Cutting.{is_on}
-use Rattle.qmodel.specs.Facts.{Facts as OldFacts}
-use Rattle.qmodel.specs.Rows.{ends_with}
-use Rattle.qmodel.specs.ThreadState.{state_in}
+use Rattle.qmodel.specs.Private.Cutting.{is_on}
+use Rattle.qmodel.specs.Private.Facts.{Facts as OldFacts}
+use Rattle.qmodel.specs.Private.Rows.{ends_with}
+use Rattle.qmodel.specs.Private.ThreadState.{state_in}
 use Rattle.qmodel.specs.declared.call.Call.TheVariants as calls
 use Rattle.qmodel.specs.declared.call.Mark.TheVariants as mark
 use Rattle.qmodel.specs.declared.open_call.Wait.TheVariants.{Answer, Item as ForItem}
@@ -16,7 +16,8 @@ use Rattle.qrules.specs.Facts.{leads_to}
 use Rattle.qrules.specs.Rules.Threads.{state_of, state_of_send}
 use Rattle.qrules.proofs.Cancels.{cancel_same}
 use Rattle.qrules.proofs.Rows.Same.{after_own, alone, SameRow}
-use Rattle.qrules.specs.Same.{facts_view, receive_in, receive_view, send_in, send_view}
+use Rattle.qrules.specs.View.{receive_in, receive_view, send_in, send_view}
+use Rattle.qrules.proofs.Same.{facts_view}
 use Rattle.qrules.proofs.View.{fellow_same, owns_same, receive_found, send_found, IsKnown}
 
 pub channel_create : (f : OldFacts) (t : ℕ) (flags : ChannelFlags) → SameRow f t (calls.ChannelCreate flags)

@@ -9,13 +9,13 @@ use Rattle.qbase.proofs.Lists.{or_none}
 use Rattle.qbase.specs.declared.errno.Errno.TheVariants.{Badf, Intr, Inval, Srch}
 use Rattle.qqueue.specs.declared.item.What.TheVariants as what
 use Rattle.qtables.specs.declared.connection.Connection.{Connection}
-use Rattle.qmodel.specs.Calls.ConnectDetach.{due_pulse as last_pulse}
-use Rattle.qmodel.specs.Calls.Pulse.{is_negative, sent_pulse}
-use Rattle.qmodel.specs.Calls.Unblock.{due_pulse, due_pulse_of_wait, guard, guard_over, other_ending}
-use Rattle.qmodel.specs.Cutting.{cut_call, cut_where, cuts, is_over}
-use Rattle.qmodel.specs.Facts.{has_flag, is_of_process, Facts as OldFacts}
-use Rattle.qmodel.specs.Pulses.{ends_receiver, refusal_if_full, refusal_if_full_for, wants_room_for}
-use Rattle.qmodel.specs.Rows.{ends_with}
+use Rattle.qmodel.specs.Private.Calls.ConnectDetach.{due_pulse as last_pulse}
+use Rattle.qmodel.specs.Private.Calls.Pulse.{is_negative, sent_pulse}
+use Rattle.qmodel.specs.Private.Calls.Unblock.{due_pulse, due_pulse_of_wait, guard, guard_over, other_ending}
+use Rattle.qmodel.specs.Private.Cutting.{cut_call, cut_where, cuts, is_over}
+use Rattle.qmodel.specs.Private.Facts.{has_flag, is_of_process, Facts as OldFacts}
+use Rattle.qmodel.specs.Private.Pulses.{ends_receiver, refusal_if_full, refusal_if_full_for, wants_room_for}
+use Rattle.qmodel.specs.Private.Rows.{ends_with}
 use Rattle.qmodel.specs.declared.call.Call.TheVariants as calls
 use Rattle.qmodel.specs.declared.call.Mark.TheVariants as mark
 use Rattle.qmodel.specs.declared.open_call.Receipt.{Receipt as OldReceipt}
@@ -28,7 +28,8 @@ use Rattle.qrules.specs.Rules.Unblock.{unblock_channel, unblock_pulse}
 use Rattle.qrules.proofs.Cancels.{cancel_same}
 use Rattle.qrules.proofs.Deliveries.{deliver_same, memory_same}
 use Rattle.qrules.proofs.Rows.Same.{after_own, ending_of, SameRow}
-use Rattle.qrules.specs.Same.{facts_view, receipt_view, send_in, send_view}
+use Rattle.qrules.specs.View.{receipt_view, send_in, send_view}
+use Rattle.qrules.proofs.Same.{facts_view}
 use Rattle.qrules.proofs.View.{fellow_same, process_same, route_same, send_found, IsKnown}
 
 pulse_memory : (f : OldFacts) (pulse : Option SentItem) → has_to_wait (facts_view f) pulse ≡ wants_room_for f pulse

@@ -43,17 +43,17 @@ error i code = record {
 -- Read: what stands in the message from the offset on, over the front of the buffer
 abbrev pub read : Transfer → Rule
 read r = record {
-  row = λ f t. own_row f t (refusal_unless_held f t r.message)
-      (mark.Count (laid_count r.bytes 0 (drop r.offset (message f r.message))))
-      (lay_over r.bytes 0 (drop r.offset (message f r.message)));
+  row = λ f t. own_row f t (refusal_unless_held f t r.rcvid)
+      (mark.Count (laid_count r.bytes 0 (drop r.offset (message f r.rcvid))))
+      (lay_over r.bytes 0 (drop r.offset (message f r.rcvid)));
   effect = record no_effect { reads = Some r };
 }
 
 -- Write: the bytes over the sender's reply buffer from the offset on; it ends with how many found room
 abbrev pub write : Transfer → Rule
 write w = record {
-  row = λ f t. plain_row f t (refusal_unless_held f t w.message) (mark.Count
-      (option_map_or (λ s. laid_count s.reply_buffer w.offset w.bytes) (open_send f w.message) 0));
+  row = λ f t. plain_row f t (refusal_unless_held f t w.rcvid) (mark.Count
+      (option_map_or (λ s. laid_count s.reply_buffer w.offset w.bytes) (open_send f w.rcvid) 0));
   effect = record no_effect { writes = Some w };
 }
 

@@ -6,10 +6,10 @@ use Rattle.qtables.specs.Members.{IsRoster}
 use Rattle.qmodel.specs.declared.call.Call.{Call}
 use Rattle.qmodel.specs.declared.call.Call.TheVariants.{Shutdown}
 use Rattle.qmodel.specs.declared.call.Completion.{Completion}
-use Rattle.qmodel.specs.Effects.{buffer_of}
-use Rattle.qmodel.specs.Endings.{buffer_of_open, gets}
-use Rattle.qmodel.specs.Facts.{threads_of}
-use Rattle.qmodel.specs.Past.{open_call}
+use Rattle.qmodel.specs.Private.Effects.{buffer_of}
+use Rattle.qmodel.specs.Private.Endings.{buffer_of_open, gets}
+use Rattle.qmodel.specs.Private.Facts.{threads_of}
+use Rattle.qmodel.specs.Private.Past.{open_call}
 use Rattle.qrules.specs.Trace.{followed_by}
 use Rattle.qrules.specs.Trace.{Trace}
 use Rattle.qkernel.specs.EventLog.{Logged}

@@ -13,9 +13,9 @@ use Rattle.qtables.specs.declared.connection.Connection.{Connection}
 use Rattle.qmodel.specs.declared.open_call.OpenCall.{OpenCall}
 use Rattle.qmodel.specs.declared.open_call.Wait.{Wait}
 use Rattle.qmodel.specs.declared.open_call.Wait.TheVariants.{Answer, Item as ForItem}
-use Rattle.qmodel.specs.Facts.{is_for_receipt}
-use Rattle.qmodel.specs.Cutting.{is_to, is_on}
-use Rattle.qmodel.specs.Step.{is_unread_send}
+use Rattle.qmodel.specs.Private.Facts.{is_for_receipt}
+use Rattle.qmodel.specs.Private.Cutting.{is_to, is_on}
+use Rattle.qmodel.specs.Private.Step.{is_unread_send}
 use Rattle.qstate.specs.declared.channel.Channel.{Channel}
 use Rattle.qstate.specs.Channel.{pending_in, items_waiting_on, SetsItems}
 use Rattle.qstate.specs.Cutting.{unread_on_by, call_if_cut, is_taken_from, Lose}

@@ -5,9 +5,9 @@ use Rattle.std.proofs.lemmas.Option.{none-some, same_Some}
 use Rattle.qqueue.specs.Best.{best_of}
 use Rattle.qqueue.specs.declared.item.Item.{Item}
 use Rattle.qqueue.specs.declared.item.Kind.{Kind}
-use Rattle.qmodel.specs.Receiving.{own_receipt}
-use Rattle.qmodel.specs.Rows.{receipt_ending}
-use Rattle.qmodel.specs.Facts.{Facts, message}
+use Rattle.qmodel.specs.Private.Receiving.{own_receipt}
+use Rattle.qmodel.specs.Private.Rows.{receipt_ending}
+use Rattle.qmodel.specs.Private.Facts.{Facts, message}
 use Rattle.qmodel.specs.declared.call.Completion.{Completion}
 
 pub record ReceiveTakes (f : Facts) (t chid : ℕ) (kind : Kind) (buffer : List ℕ) (y : Completion) : Type 0 where

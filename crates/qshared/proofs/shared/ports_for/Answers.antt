@@ -6,7 +6,7 @@ use Rattle.std.proofs.lemmas.List.{length-map}
 use lib.ListN.{get_elem?}
 use lib.Seq.{get_or-append_seam}
 use Rattle.std.specs.Prelude.{Some}
-use Rattle.qmodel.specs.Facts.{threads_of}
+use Rattle.qmodel.specs.Private.Facts.{threads_of}
 use Rattle.qmodel.proofs.Rosters.{rises}
 use Rattle.atomic_table.proofs.Lists.{at_index}
 use Rattle.qhandoff.specs.Words.{thread_of}

@@ -1,6 +1,6 @@
 use Rattle.std.proofs.Common.{◌≡◌, None, Some, ap, sym, ◌∙◌}
 use Rattle.std.specs.Prelude.{is_some, position, option_copied}
-use Rattle.qmodel.specs.Facts.{is_send}
+use Rattle.qmodel.specs.Private.Facts.{is_send}
 use Rattle.qstate.specs.Held.{is_held_over, leads_to_own}
 use Rattle.qstate.specs.Thread.{held_over_in}
 use Rattle.qstate.proofs.Senders.{held_nowhere, held_there}

@@ -1,6 +1,6 @@
 use Rattle.std.proofs.Common.{ap, ◌∙◌}
 use Rattle.std.specs.Option.{option_map}
-use Rattle.qmodel.specs.Step.{unblocked_call}
+use Rattle.qmodel.specs.Private.Step.{unblocked_call}
 use Rattle.qstate.proofs.Seats.{first_at, marks_unblocked}
 use Rattle.qstate.proofs.held.mark_unblocked.Goals as goal
 

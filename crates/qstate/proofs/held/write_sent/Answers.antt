@@ -1,8 +1,8 @@
 use Rattle.std.proofs.Common.{ap, sym, ◌∙◌}
 use Rattle.std.specs.Option.{option_map}
 use Rattle.qbase.specs.Laying.{laid_count}
-use Rattle.qmodel.specs.Held.{reply_buffer_in}
-use Rattle.qmodel.specs.Step.{written_call}
+use Rattle.qmodel.specs.Private.Held.{reply_buffer_in}
+use Rattle.qmodel.specs.Private.Step.{written_call}
 use Rattle.qstate.proofs.Senders.{call_there, changes_there}
 use Rattle.qstate.proofs.held.write_sent.Goals as goal
 

@@ -2,8 +2,8 @@ use Rattle.std.proofs.Common.{◌≡◌, None, Some, sym, ap, ◌∙◌, false}
 use Rattle.std.specs.Prelude.{position}
 use Rattle.std.specs.Option.{option_map}
 use Rattle.qbase.specs.Laying.{laid_count, lay_over}
-use Rattle.qmodel.specs.Facts.{is_send, message_in}
-use Rattle.qmodel.specs.Step.{held_call}
+use Rattle.qmodel.specs.Private.Facts.{is_send, message_in}
+use Rattle.qmodel.specs.Private.Step.{held_call}
 use Rattle.qstate.proofs.Senders.{changes_nowhere, message_nowhere, message_there, changes_there}
 use Rattle.qmodel.proofs.Laying.{lay_nothing, count_nothing}
 use Rattle.qstate.proofs.thread.hand_over.Goals as goal

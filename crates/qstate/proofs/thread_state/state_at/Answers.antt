@@ -1,6 +1,6 @@
 use Rattle.std.proofs.Common.{ap, sym, ◌∙◌}
 use Rattle.qtables.specs.Entries.{entry_at}
-use Rattle.qmodel.specs.ThreadState.{state_in}
+use Rattle.qmodel.specs.Private.ThreadState.{state_in}
 use Rattle.qstate.proofs.Seats.{first_at, first_open}
 use Rattle.qstate.proofs.thread_state.state_at.Goals as goal
 

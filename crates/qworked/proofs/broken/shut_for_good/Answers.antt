@@ -2,16 +2,16 @@ use Rattle.std.proofs.Common.{refl}
 use Rattle.qworked.proofs.broken.shut_for_good.Goals as goal
 
 pub returns-clause-received : goal.returns-clause-received
-returns-clause-received c = λ p. (p.1 1 refl).received.0 4 refl refl
+returns-clause-received c = λ p. (p.1 1 refl).none_received.0 4 refl refl
 
 pub returns-clause-send_left : goal.returns-clause-send_left
-returns-clause-send_left c = λ p. (p.1 1 refl).sends.0 refl
+returns-clause-send_left c = λ p. (p.1 1 refl).no_send.0 refl
 
 pub returns-clause-held_left : goal.returns-clause-held_left
-returns-clause-held_left c = λ p. (p.1 1 refl).sends.0 refl
+returns-clause-held_left c = λ p. (p.1 1 refl).no_send.0 refl
 
 pub returns-clause-receiver_left : goal.returns-clause-receiver_left
-returns-clause-receiver_left c = λ p. (p.1 1 refl).receives.0 refl
+returns-clause-receiver_left c = λ p. (p.1 1 refl).no_receive.0 refl
 
 pub returns-clause-detached_left : goal.returns-clause-detached_left
-returns-clause-detached_left c = λ p. (p.1 1 refl).sends.0 refl
+returns-clause-detached_left c = λ p. (p.1 1 refl).no_send.0 refl

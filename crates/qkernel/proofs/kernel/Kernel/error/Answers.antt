@@ -2,8 +2,8 @@ use Rattle.std.proofs.Common.{refl, sym, ap, ◌∙◌, w32}
 use Rattle.std.proofs.lemmas.Result.{err_from_is_err_and}
 use Rattle.std.proofs.lemmas.Int.{to_z-of_z}
 use Rattle.qmodel.specs.declared.call.Call.TheVariants.{Error}
-use Rattle.qmodel.specs.Calls.Error.{error_finish}
-use Rattle.qmodel.specs.Held.{answer_ending}
+use Rattle.qmodel.specs.Private.Calls.Error.{error_finish}
+use Rattle.qmodel.specs.Private.Held.{answer_ending}
 use Rattle.qkernel.proofs.Steps.Held.{finished_there, step_unheld}
 use Rattle.qkernel.proofs.Steps.Error.{step_errored}
 use Rattle.qkernel.proofs.Steps.Delivering.{sound_threads}

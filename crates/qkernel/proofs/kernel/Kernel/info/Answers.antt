@@ -1,8 +1,8 @@
 use Rattle.std.proofs.Common.{◌≡◌, refl, sym, ap, ◌∙◌, Some}
 use Rattle.std.proofs.lemmas.Result.{err_from_is_err_and}
 use Rattle.std.specs.Prelude.{position}
-use Rattle.qmodel.specs.Calls.Info.{info_of_open}
-use Rattle.qmodel.specs.Facts.{is_send}
+use Rattle.qmodel.specs.Private.Calls.Info.{info_of_open}
+use Rattle.qmodel.specs.Private.Facts.{is_send}
 use Rattle.qmodel.specs.declared.call.Call.TheVariants.{Info}
 use Rattle.qkernel.proofs.Steps.Held.{step_unheld}
 use Rattle.qkernel.proofs.Steps.Info.{info_there, step_info, told_there}

@@ -1,7 +1,7 @@
 use Rattle.std.proofs.Common.{◌≡◌, sym, ap, ◌∙◌, None, Some}
 use Rattle.std.specs.Prelude.{position}
-use Rattle.qmodel.specs.Calls.Info.{info_of_open}
-use Rattle.qmodel.specs.Facts.{is_send}
+use Rattle.qmodel.specs.Private.Calls.Info.{info_of_open}
+use Rattle.qmodel.specs.Private.Facts.{is_send}
 use Rattle.qkernel.specs.Kernel.{State}
 use Rattle.qkernel.proofs.Steps.Info.{info_at_traces, info_nowhere, info_there}
 use Rattle.qkernel.proofs.kernel.Kernel.message_info.Goals as goal

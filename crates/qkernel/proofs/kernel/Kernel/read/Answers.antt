@@ -1,6 +1,6 @@
 use Rattle.std.proofs.Common.{◌≡◌, refl, sym, ap, ◌∙◌, Some}
 use Rattle.std.specs.Prelude.{position}
-use Rattle.qmodel.specs.Facts.{is_send, message_in}
+use Rattle.qmodel.specs.Private.Facts.{is_send, message_in}
 use Rattle.qstate.specs.Thread.{message_from}
 use Rattle.qstate.proofs.Senders.{message_there}
 use Rattle.qmodel.specs.declared.call.Call.TheVariants.{Read}

@@ -3,7 +3,7 @@ use Rattle.std.specs.Prelude.{Option, None, Some, is_some}
 use Rattle.std.specs.Option.{option_map}
 use Rattle.std.proofs.lemmas.Bool.{true≢false}
 use Rattle.qqueue.specs.declared.item.Item.{Item}
-use Rattle.qmodel.specs.Rows.{takes}
+use Rattle.qmodel.specs.Private.Rows.{takes}
 use Rattle.qmodel.specs.declared.open_call.OpenCall.{OpenCall}
 use Rattle.qkernel.proofs.kernel.send.meet.Goals as goal
 

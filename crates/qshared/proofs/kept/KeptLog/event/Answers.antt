@@ -1,7 +1,7 @@
 use Rattle.std.proofs.Common.{◌≡◌, ◌≤◌, length, arith, false, sym, ◌∙◌, ap, subst}
 use Rattle.std.specs.Prelude.{Some, is_some}
 use Rattle.std.proofs.lemmas.Bool.{true≢false}
-use Rattle.qmodel.specs.Endings.{AreApart}
+use Rattle.qmodel.specs.Private.Endings.{AreApart}
 use Rattle.qshared.specs.Due.{place}
 use Rattle.qshared.specs.Private.Rooms.{IsKept}
 use Rattle.qshared.proofs.KeptLog.{finds, all_may_copy, apart, kept_after, next_log, past_is, placed}

@@ -1,6 +1,6 @@
 use Rattle.std.proofs.Common.{◌≡◌, length, sym, ◌∙◌, ap, refl, inl, inr}
 use Rattle.std.specs.Prelude.{Some, None}
-use Rattle.qmodel.specs.Lawful.{with_event}
+use Rattle.qmodel.specs.Private.Lawful.{with_event}
 use Rattle.qhandoff.specs.Words.{desk}
 use Rattle.qshared.specs.Due.{place}
 use Rattle.qshared.proofs.Keeps.{not_known, is_known, is_shut, is_busy, free, same_desk, held_after, apart, may_put, performs}

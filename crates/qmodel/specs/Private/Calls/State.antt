@@ -1,0 +1,24 @@
+-- State: a thread's state and priority.
+use Rattle.std.specs.Prelude.{Option, None, Some, is_some, if◌then◌else◌}
+use Rattle.qbase.specs.declared.errno.Errno.{Errno}
+use Rattle.qbase.specs.declared.errno.Errno.TheVariants.{Srch}
+use Rattle.qtables.specs.Members.{member_at}
+use Rattle.qmodel.specs.declared.call.Mark.TheVariants as mark
+use Rattle.qmodel.specs.Trace.{ThreadNo}
+use Rattle.qmodel.specs.Private.Facts.{Facts}
+use Rattle.qmodel.specs.Private.ThreadState.{state_in}
+use Rattle.qmodel.specs.Private.Rows.{Row, plain_row}
+use Rattle.qmodel.specs.Private.Effect.{Effect, no_effect}
+
+-- a thread that the roster hasn't
+abbrev pub refusal : Facts → ThreadNo → Option Errno
+refusal f thread = if is_some (member_at f.roster thread) then None else Some Srch
+
+-- any thread may ask for any
+abbrev pub row : Facts → ThreadNo → ThreadNo → Row
+row f t thread = plain_row f.number t (refusal f thread)
+    (mark.State (state_in f.connection (f.open_call thread)) (f.priority thread))
+
+-- it changes nothing
+abbrev pub effect : Effect
+effect = no_effect

@@ -1,0 +1,59 @@
+-- Unblock: what stands for a signal or a timeout. A thread's open call is cut; but for a message that is held
+-- on a channel with the unblock flag the server gets a pulse, once, and the thread stays blocked.
+use Rattle.std.specs.Option.{option_and_then}
+use Rattle.std.specs.Prelude.{◌==◌, ◌&&◌, not, is_some, Option, None, Some, if◌then◌else◌}
+use Rattle.qbase.specs.declared.errno.Errno.{Errno}
+use Rattle.qbase.specs.declared.errno.Errno.TheVariants.{Intr, Srch}
+use Rattle.qtables.specs.declared.connection.Connection.{Connection}
+use Rattle.qmodel.specs.declared.call.Completion.{Completion}
+use Rattle.qmodel.specs.declared.open_call.Wait.{Wait}
+use Rattle.qmodel.specs.declared.open_call.Wait.TheVariants.{Answer}
+use Rattle.qmodel.specs.Trace.{ChannelId, ReceiveId, ThreadNo}
+use Rattle.qmodel.specs.Private.Cutting.{cuts}
+use Rattle.qmodel.specs.Private.Facts.{Facts, is_fellow, tells_unblock}
+use Rattle.qmodel.specs.Private.Pulses.{refusal_if_full_for, ends_receiver, pulse_row}
+use Rattle.qmodel.specs.Private.Rows.{Row, unblock_item}
+use Rattle.qmodel.specs.Trace.{SentItem}
+use Rattle.qmodel.specs.Private.Effect.{Effect, no_effect}
+
+-- the channel that the connection leads to, where that has the unblock flag
+abbrev pub guard_over : Facts → Option Connection → Option ChannelId
+guard_over f connection = option_and_then
+    (λ c. if tells_unblock (f.channel c.channel) then Some c.channel else None) connection
+
+-- the channel that guards a wait: that of a message that is held, where it has the unblock flag
+abbrev pub guard : Facts → Wait → Option ChannelId
+guard f (Answer coid message reply_buffer (Some receipt)) = guard_over f (f.connection coid)
+guard f wait = None
+
+-- the pulse for message i, of the priority that it was received with, where it is held and guarded; none
+-- where one was made
+abbrev pub due_pulse_of_wait : Facts → ReceiveId → Wait → Option SentItem
+due_pulse_of_wait f i (Answer coid message reply_buffer (Some receipt)) =
+    option_and_then (λ h. if receipt.unblocked then None
+    else Some (record { item = unblock_item f.number receipt.priority i; channel = h }))
+    (guard_over f (f.connection coid))
+due_pulse_of_wait f i wait = None
+
+-- the pulse that is due for what this thread is blocked in
+abbrev pub due_pulse : Facts → ThreadNo → Option SentItem
+due_pulse f thread = option_and_then (λ o. due_pulse_of_wait f o.number o.wait) (f.open_call thread)
+
+-- a thread that the roster hasn't, or of another process, and then 1,024 pulses pending where one is due
+abbrev pub refusal : Facts → ThreadNo → ThreadNo → Option Errno
+refusal f t thread = if is_fellow f t thread then refusal_if_full_for f (due_pulse f thread) else Some Srch
+
+-- with no pulse due the thread's open call is cut that no channel guards; else the call of the pulse's
+-- receiver ends
+abbrev pub other_ending : Facts → ThreadNo → Option SentItem → ThreadNo → Option Completion
+other_ending f thread None u = cuts f (λ v wait. (v == thread) && not (is_some (guard f wait))) Intr u
+other_ending f thread (Some m) u = ends_receiver f (Some m) u
+
+-- it never blocks; memory is wanted only for a pulse that waits
+abbrev pub row : Facts → ThreadNo → ThreadNo → Row
+row f t thread = pulse_row f t (refusal f t thread) (due_pulse f thread)
+    (other_ending f thread (due_pulse f thread))
+
+-- it is to unblock the thread, and makes a pulse where one is due
+abbrev pub effect : ThreadNo → Effect
+effect thread = record no_effect { unblocks = Some thread; makes = λ f t. due_pulse f thread }

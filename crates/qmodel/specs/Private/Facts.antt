@@ -1,0 +1,127 @@
+-- What may be read of the past as a call is answered.
+use Rattle.std.specs.Prelude.{ℕ, ◌+◌, ◌==◌, ◌&&◌, Bool, true, false, is_some, List, [], ◌∷◌, map, Option}
+use Rattle.std.specs.Prelude.{None, Some, if◌then◌else◌, bit_and}
+use Rattle.std.specs.Option.{option_and_then, option_map_or}
+use Rattle.qbase.specs.declared.flags.ChannelFlags.{ChannelFlags}
+use Rattle.qqueue.specs.declared.item.Item.{Item}
+use Rattle.qtables.specs.declared.connection.Connection.{Connection}
+use Rattle.qtables.specs.declared.member.Member.{Member}
+use Rattle.qtables.specs.Members.{member_at}
+use Rattle.qmodel.specs.declared.open_call.OpenCall.{OpenCall}
+use Rattle.qmodel.specs.declared.open_call.Wait.{Wait}
+use Rattle.qmodel.specs.declared.open_call.Wait.TheVariants.{Answer, Item as ForItem}
+use Rattle.qmodel.specs.Trace.{CallNo, ChannelId, ConnectionId, Priority, ProcessNo, ReceiveId, ThreadNo}
+
+-- the threads, the number of the call that is answered, whether the kernel is shut down, each open channel
+-- and how many there are, each live connection and how many there are, each thread's open call, what waits on
+-- each channel in rising number, and each thread's priority
+pub record Facts : Type 0 where
+  pub roster : List Member
+  pub number : CallNo
+  pub down : Bool
+  pub channel : ChannelId → Option OpenChannel
+  pub open_channels : ℕ
+  pub connection : ConnectionId → Option Connection
+  pub live_connections : ℕ
+  pub open_call : ThreadNo → Option OpenCall
+  pub pending : ChannelId → List Item
+  pub priority : ThreadNo → Priority
+
+-- ---- threads and processes
+
+-- the threads of a roster, in rising number
+abbrev pub threads_of : List Member → List ThreadNo
+threads_of roster = map (λ m. m.thread) roster
+
+-- the member is of this process
+abbrev pub is_in_process : ProcessNo → Option Member → Bool
+is_in_process p None = false
+is_in_process p (Some m) = m.process == p
+
+-- the thread is one of this process
+abbrev pub is_of_process : Facts → ThreadNo → ProcessNo → Bool
+is_of_process f t p = is_in_process p (member_at f.roster t)
+
+-- both threads are of one process
+abbrev pub is_fellow : Facts → ThreadNo → ThreadNo → Bool
+is_fellow f t u = option_map_or (λ m. is_of_process f u m.process) (member_at f.roster t) false
+
+-- ---- channels and connections
+
+-- the channel is open, and of the thread's process
+abbrev pub owns : Facts → ThreadNo → ChannelId → Bool
+owns f t h = option_map_or (λ c. is_of_process f t c.owner) (f.channel h) false
+
+-- the channel that the thread may send to over connection k: the one that it leads to, where the thread's
+-- process attached it and the channel is open
+abbrev pub way : Facts → ThreadNo → ConnectionId → Option ChannelId
+way f t k =
+    option_and_then (λ c. if is_of_process f t c.process && is_some (f.channel c.channel) then Some c.channel
+    else None) (f.connection k)
+
+-- the channel is open, and has this flag
+abbrev pub has_flag : ℕ → Option OpenChannel → Bool
+has_flag flag channel = option_map_or (λ c. bit_and c.flags.0 flag == flag) channel false
+
+-- the channel leaves its receivers' priorities as they are
+abbrev pub is_fixed : Option OpenChannel → Bool
+is_fixed channel = has_flag 1 channel
+
+-- the channel's servers are told of a client that wants to be unblocked
+abbrev pub tells_unblock : Option OpenChannel → Bool
+tells_unblock channel = has_flag 2 channel
+
+-- the channel's servers are told of a process that has detached its last connection to it
+abbrev pub tells_disconnect : Option OpenChannel → Bool
+tells_disconnect channel = has_flag 4 channel
+
+-- how many of the numbers up to n have something
+abbrev pub count_to : {A : Type 0} → (ℕ → Option A) → ℕ → ℕ
+count_to at Prim.Native.Nat.zero = 0
+count_to at (Prim.Native.Nat.suc n) = (if is_some (at (n + 1)) then 1 else 0) + count_to at n
+
+-- ---- messages
+
+-- the thread waits for an answer, and not for an item
+abbrev pub is_for_answer : Wait → Bool
+is_for_answer (Answer coid message reply_buffer receipt) = true
+is_for_answer (ForItem chid kind buffer) = false
+
+-- the thread waits for the answer to a message that isn't received
+abbrev pub is_for_receipt : Wait → Bool
+is_for_receipt (Answer coid message reply_buffer None) = true
+is_for_receipt wait = false
+
+-- the open call is the Send of number i
+abbrev pub is_send : ReceiveId → Option OpenCall → Bool
+is_send i call = option_map_or (λ o. (o.number == i) && is_for_answer o.wait) call false
+
+-- the first of these numbers of which this is so
+abbrev pub first_where : (ℕ → Bool) → List ℕ → Option ℕ
+first_where is_so [] = None
+first_where is_so (n ∷ numbers) = if is_so n then Some n else first_where is_so numbers
+
+-- the first of these threads whose open call is the Send of number i
+abbrev pub sender_among : (ThreadNo → Option OpenCall) → ReceiveId → List ThreadNo → Option ThreadNo
+sender_among open_call i threads = first_where (λ u. is_send i (open_call u)) threads
+
+-- the thread whose open call is the Send of number i
+abbrev pub sender : Facts → ReceiveId → Option ThreadNo
+sender f i = sender_among f.open_call i (threads_of f.roster)
+
+-- the open Send of number i
+abbrev pub open_send : Facts → ReceiveId → Option OpenCall
+open_send f i = option_and_then f.open_call (sender f i)
+
+-- the message whose answer is waited for
+abbrev pub message_of : Wait → List ℕ
+message_of (Answer coid message reply_buffer receipt) = message
+message_of (ForItem chid kind buffer) = []
+
+-- the message of a Send that is open
+abbrev pub message_in : Option OpenCall → List ℕ
+message_in call = option_map_or (λ o. message_of o.wait) call []
+
+-- the message that was sent as number i
+abbrev pub message : Facts → ReceiveId → List ℕ
+message f i = message_in (open_send f i)

@@ -1,0 +1,150 @@
+-- What a row of the table of calls says, and what the rows share.
+use Rattle.std.specs.Option.{option_and_then, option_map, option_map_or}
+use Rattle.std.specs.Prelude.{ℕ, ℤ, ◌==◌, Bool, false, List, Option, None, Some, if◌then◌else◌, []}
+use Rattle.qbase.specs.Laying.{laid_count, lay_over}
+use Rattle.qbase.specs.declared.errno.Errno.{Errno}
+use Rattle.qqueue.specs.declared.item.Item.{Item}
+use Rattle.qqueue.specs.Best.{is_pulse}
+use Rattle.qqueue.specs.declared.item.What.TheVariants.{Message, User}
+use Rattle.qqueue.specs.declared.item.What.TheVariants as what
+use Rattle.qtables.specs.declared.connection.Connection.{Connection}
+use Rattle.qmodel.specs.declared.call.Completion.{Completion}
+use Rattle.qmodel.specs.declared.call.Mark.{Mark}
+use Rattle.qmodel.specs.declared.call.Mark.TheVariants as mark
+use Rattle.qmodel.specs.declared.open_call.OpenCall.{OpenCall}
+use Rattle.qmodel.specs.declared.open_call.Receipt.{Receipt}
+use Rattle.qmodel.specs.declared.open_call.Wait.{Wait}
+use Rattle.qmodel.specs.declared.open_call.Wait.TheVariants.{Answer, Item as ForItem}
+use Rattle.qmodel.specs.Trace.{CallNo, ChannelId, Priority, ProcessNo, ReceiveId, ThreadNo}
+
+-- a receipt: the item's number and channel, the thread that takes it, the thread that waits for its answer,
+-- and what is kept of the receipt
+pub record Received : Type 0 where
+  pub item : CallNo
+  pub channel : ChannelId
+  pub by : ThreadNo
+  pub sender : Option ThreadNo
+  pub kept : Receipt
+
+-- what a call is answered: the first of its own refusals that applies, whether it may also be refused for
+-- want of memory, how it ends in its own event where it does, and how it ends the open call of another
+-- thread; and the receipt that it brings about, which says nothing of what is answered: it serves to tell
+-- what is so after the call (Step)
+pub record Row : Type 0 where
+  pub refusal : Option Errno
+  pub takes_memory : Bool
+  pub own : Option Completion
+  pub ends : ThreadNo → Option Completion
+  pub receipt : Option Received
+
+-- how a call ends with this mark and no buffer
+abbrev pub ends_with : CallNo → ThreadNo → Mark → Completion
+ends_with n t mark = record { call = n; thread = t; mark = mark; buffer = [] }
+
+-- a row of which nothing is refused, that takes no memory, and that ends and receives nothing
+abbrev pub empty_row : Row
+empty_row = record { refusal = None; takes_memory = false; own = None; ends = λ u. None; receipt = None }
+
+-- the row of a call that may be refused so, and else ends in its own event with this mark and no buffer
+abbrev pub plain_row : CallNo → ThreadNo → Option Errno → Mark → Row
+plain_row n t refusal mark = record empty_row { refusal = refusal; own = Some (ends_with n t mark) }
+
+-- ---- items
+
+-- the item that is sent over a connection, to its channel
+abbrev pub item_sent_over : Option Connection → Item → Option SentItem
+item_sent_over connection item = option_map (λ c. record { item = item; channel = c.channel }) connection
+
+-- a message of this number and priority
+abbrev pub message_item : CallNo → Priority → Item
+message_item n priority = record { number = n; priority = priority; what = Message }
+
+-- a user's pulse of this number and priority
+abbrev pub pulse_item : CallNo → Priority → ℤ → ℤ → Item
+pulse_item n priority code value = record { number = n; priority = priority; what = User code value }
+
+-- the pulse of this number and priority that tells that the sender of message i wants to be unblocked
+abbrev pub unblock_item : CallNo → Priority → ReceiveId → Item
+unblock_item n priority i = record { number = n; priority = priority; what = what.Unblock i }
+
+-- the pulse of this number and priority that tells that process p has detached its last connection
+abbrev pub disconnect_item : CallNo → Priority → ProcessNo → Item
+disconnect_item n priority p = record { number = n; priority = priority; what = what.Disconnect p }
+
+-- ---- writing
+
+-- what is written: over the reply buffer of which message, from which place, and the bytes
+pub record Written : Type 0 where
+  pub message : ReceiveId
+  pub offset : ℕ
+  pub bytes : List ℕ
+
+-- ---- setting priorities
+
+-- a thread's priority that is set
+pub record Setting : Type 0 where
+  pub thread : ThreadNo
+  pub priority : Priority
+
+-- the priority that is set for thread u
+abbrev pub priority_set_for : Option Setting → ThreadNo → Option Priority
+priority_set_for setting u = option_and_then (λ s. if s.thread == u then Some s.priority else None) setting
+
+-- ---- closing
+
+-- this is the one
+abbrev pub names : Option ℕ → ℕ → Bool
+names number h = option_map_or (λ k. k == h) number false
+
+-- ---- buffers
+
+-- the reply buffer of message i with what is written over it
+abbrev pub buffer_after_write : Option Written → ReceiveId → List ℕ → List ℕ
+buffer_after_write written i b =
+    option_map_or (λ w. if w.message == i then lay_over b w.offset w.bytes else b) written b
+
+-- a wait with its reply buffer changed
+abbrev pub with_buffer : (List ℕ → List ℕ) → Wait → Wait
+with_buffer f (Answer coid message reply_buffer receipt) = Answer coid message (f reply_buffer) receipt
+with_buffer f (ForItem chid kind buffer) = ForItem chid kind buffer
+
+-- ---- receipts
+
+-- how a receive ends that takes an item into its buffer: a message is laid over the front, with that count; a
+-- pulse stands in the mark alone
+abbrev pub delivery_of : Item → List ℕ → List ℕ → Mark × List ℕ
+delivery_of item message buffer =
+    if is_pulse item.what then (mark.Pulse item.number item.priority item.what, buffer)
+    else (mark.Message item.number (laid_count buffer 0 message), lay_over buffer 0 message)
+
+-- the ending of call m of thread u that takes the item so
+abbrev pub receipt_ending : Item → List ℕ → ThreadNo → CallNo → List ℕ → Completion
+receipt_ending item message u m buffer =
+    record { call = m; thread = u; mark = (delivery_of item message buffer).0; buffer = (delivery_of item
+    message buffer).1 }
+
+-- how the open call of number m ends, of thread u, that takes the item into what it waits with
+abbrev pub takes_into : Item → List ℕ → ThreadNo → CallNo → Wait → Option Completion
+takes_into item message u m (Answer coid sent reply_buffer receipt) = None
+takes_into item message u m (ForItem chid kind buffer) = Some (receipt_ending item message u m buffer)
+
+-- how the open call of thread u ends that takes the item
+abbrev pub takes : Item → List ℕ → ThreadNo → Option OpenCall → Option Completion
+takes item message u call = option_and_then (λ o. takes_into item message u o.number o.wait) call
+
+-- the number of the item that an ending receives, and how many bytes were copied, none of a pulse
+abbrev pub item_in_mark : Mark → Option (CallNo × ℕ)
+item_in_mark (mark.Message rcvid copied) = Some (rcvid, copied)
+item_in_mark (mark.Pulse item priority what) = Some (item, 0)
+item_in_mark other = None
+
+-- the receipt that an ending is, of an item of this channel, sender and priority
+abbrev pub receipt_in : ChannelId → Option ThreadNo → Priority → Option Completion → Option Received
+receipt_in h sender priority ending =
+    option_and_then (λ y. option_map (λ r. record {
+      item = r.0;
+      channel = h;
+      by = y.thread;
+      sender = sender;
+      kept = record { priority = priority; copied = r.1; unblocked = false };
+    }) (item_in_mark y.mark)) ending

@@ -1,0 +1,38 @@
+-- What a thread's open call is, as the kernel keeps it: an open Send or an open receive.
+use Rattle.qrules.specs.Words.{option_and_then, option_map, None, Option, Some}
+use Rattle.qrules.specs.Trace.{CallNo, ThreadNo}
+use Rattle.qrules.specs.Facts.{OpenReceive, OpenSend, Receipt}
+use Rattle.qmodel.specs.declared.open_call.OpenCall.{OpenCall}
+use Rattle.qmodel.specs.declared.open_call.Receipt.{Receipt as KeptReceipt}
+use Rattle.qmodel.specs.declared.open_call.Wait.{Wait}
+use Rattle.qmodel.specs.declared.open_call.Wait.TheVariants.{Answer, Item as ForItem}
+
+-- what is kept of a receipt
+abbrev pub receipt_view : KeptReceipt → Receipt
+receipt_view r = record { priority = r.priority; copied = r.copied; unblocked = r.unblocked }
+
+-- call n of thread u, where it waits for an answer
+abbrev pub send_in : ThreadNo → CallNo → Wait → Option OpenSend
+send_in u n (Answer coid message reply_buffer receipt) = Some (record {
+  number = n;
+  thread = u;
+  connection = coid;
+  message = message;
+  reply_buffer = reply_buffer;
+  receipt = option_map receipt_view receipt;
+})
+send_in u n (ForItem chid kind buffer) = None
+
+-- the open Send of thread u, if its open call is one
+abbrev pub send_view : ThreadNo → Option OpenCall → Option OpenSend
+send_view u call = option_and_then (λ o. send_in u o.number o.wait) call
+
+-- call n of thread u, where it waits for an item
+abbrev pub receive_in : ThreadNo → CallNo → Wait → Option OpenReceive
+receive_in u n (Answer coid message reply_buffer receipt) = None
+receive_in u n (ForItem chid kind buffer) =
+    Some (record { number = n; thread = u; channel = chid; kind = kind; buffer = buffer })
+
+-- the open receive of thread u, if its open call is one
+abbrev pub receive_view : ThreadNo → Option OpenCall → Option OpenReceive
+receive_view u call = option_and_then (λ o. receive_in u o.number o.wait) call
