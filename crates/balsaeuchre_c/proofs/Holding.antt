@@ -22,9 +22,9 @@ use Rattle.qmodel.specs.Private.Calls.Pulse as pulse
 use Rattle.qmodel.specs.Private.Calls.Reply.{reply_finish}
 use Rattle.qmodel.specs.Private.Calls.Send.{item}
 use Rattle.qmodel.specs.Private.Calls.Unblock as unblock
-use Rattle.qmodel.specs.Private.Cutting.{is_on}
+use Rattle.qmodel.specs.Private.Cancelling.{is_on}
 use Rattle.qmodel.specs.Private.Effects.{makes}
-use Rattle.qmodel.specs.Private.Facts.{Facts, is_for_answer, message, sender, threads_of, way}
+use Rattle.qmodel.specs.Private.Facts.{Facts, is_for_answer, message, sender, threads_of, route}
 use Rattle.qmodel.specs.Private.Lawful.{IsLawful, facts_of, with_event}
 use Rattle.qmodel.specs.Private.Past.{call_by_now, copied_count_among, copied_count_of, has_ending_of, is_ended, open_call, priority_of_item, wait_with_receipt, with_receipt}
 use Rattle.qmodel.specs.Private.Rows.{item_in_mark, receipt_ending}
@@ -43,7 +43,7 @@ use Rattle.qbase.proofs.Lists.{all_filter_map, some_of}
 use Rattle.qmodel.proofs.Calls.{call_laws}
 use Rattle.qmodel.proofs.Calls.Answering.{answer_receives}
 use Rattle.qmodel.proofs.Calls.ConnectDetach.{detach_ends}
-use Rattle.qmodel.proofs.Calls.Cutting.{cut_parts}
+use Rattle.qmodel.proofs.Calls.Cancelling.{cancel_parts}
 use Rattle.qmodel.proofs.Calls.Delivering.{sent_way}
 use Rattle.qmodel.proofs.Calls.Error.{no_receipt}
 use Rattle.qmodel.proofs.Calls.Held.{sender_ends}
@@ -54,7 +54,7 @@ use Rattle.qmodel.proofs.Past.Receipts.{accepted_receipts, best_pending, ending_
 use Rattle.qmodel.proofs.Past.Senders.{sender_sends}
 use Rattle.qmodel.proofs.Properties.Messages.{item_waits, pending_going}
 use Rattle.qmodel.proofs.Properties.Receipts.{ending_of}
-use Rattle.qmodel.proofs.Properties.Rows.Delivering.{Meets, delivery_meets}
+use Rattle.qmodel.proofs.Properties.Rows.Delivering.{Delivers, delivery_meets}
 use Rattle.qmodel.proofs.Properties.Rows.Receiving.{receive_takes}
 use Rattle.qmodel.proofs.Properties.Rows.Telling.{Tells, told_meets, unblock_ends}
 use Rattle.qmodel.proofs.TraceLaws.Held.{held_is_held_send}
@@ -111,32 +111,32 @@ record TakesMade (f : Facts) (t : ℕ) (c : Call) (i : ℕ) : Type 0 where
   pub is_made : makes f t c ≡ Some made
   pub takes : TakesMessage made.item i
 
-met_message : (f : Facts) (t : ℕ) (c : Call) (o : Option ℕ) (x : Item) (sent : List ℕ) (u : ℕ) (y : Completion) (i copied : ℕ) → Meets f o x sent u y → ((h : ℕ) → o ≡ Some h → makes f t c ≡ Some (record { item = x; channel = h }))
+met_message : (f : Facts) (t : ℕ) (c : Call) (o : Option ℕ) (x : Item) (sent : List ℕ) (u : ℕ) (y : Completion) (i copied : ℕ) → Delivers f o x sent u y → ((h : ℕ) → o ≡ Some h → makes f t c ≡ Some (record { item = x; channel = h }))
     → y.mark ≡ mark.Message i copied → TakesMade f t c i
 met_message f t c o x sent u y i copied s made m =
     record { made = record { item = x; channel = s.channel }; is_made = made s.channel s.leads; takes = message_taken x sent u s.waiting.number s.buffer y i copied s.ending m }
 
 told_message : (f : Facts) (t : ℕ) (c : Call) (o : Option SentItem) (u : ℕ) (y : Completion) (i copied : ℕ) → makes f t c ≡ o → Tells f o u y → y.mark ≡ mark.Message i copied → TakesMade f t c i
 told_message f t c o u y i copied made k m =
-    met_message f t c (Some k.made.channel) k.made.item [] u y i copied k.meets (λ h s. made ∙ k.is_due ∙ ap (λ n. Some (record { item = k.made.item; channel = n })) (same_Some k.made.channel h s)) m
+    met_message f t c (Some k.made.channel) k.made.item [] u y i copied k.delivers (λ h s. made ∙ k.is_due ∙ ap (λ n. Some (record { item = k.made.item; channel = n })) (same_Some k.made.channel h s)) m
 
 ends_message : (f : Facts) (t : ℕ) (c : Call) (u : ℕ) (y : Completion) (i copied : ℕ) → (row_of f t c).refusal ≡ None → (row_of f t c).ends u ≡ Some y → y.mark ≡ mark.Message i copied → TakesMade f t c i
 ends_message f t (Reply rcvid status bytes) u y i copied r e m =
     absurd (no_message y i copied m (answer_receives f t rcvid (reply_finish status bytes) u y (λ buffer. refl) (sender_ends f t rcvid (reply_finish status bytes) u y r e)))
 ends_message f t (Error rcvid code) u y i copied r e m =
     absurd (no_message y i copied m (answer_receives f t rcvid (error_finish code) u y (λ buffer. no_receipt code) (sender_ends f t rcvid (error_finish code) u y r e)))
-ends_message f t (ChannelDestroy chid) u y i copied r e m = absurd (no_message y i copied m (ap (λ x. item_in_mark x.mark) (sym (cut_parts (is_on f.connection chid) Srch u (f.open_call u) y e).ending)))
-ends_message f t Shutdown u y i copied r e m = absurd (no_message y i copied m (ap (λ x. item_in_mark x.mark) (sym (cut_parts (λ wait. true) Srch u (f.open_call u) y e).ending)))
+ends_message f t (ChannelDestroy chid) u y i copied r e m = absurd (no_message y i copied m (ap (λ x. item_in_mark x.mark) (sym (cancel_parts (is_on f.connection chid) Srch u (f.open_call u) y e).ending)))
+ends_message f t Shutdown u y i copied r e m = absurd (no_message y i copied m (ap (λ x. item_in_mark x.mark) (sym (cancel_parts (λ wait. true) Srch u (f.open_call u) y e).ending)))
 ends_message f t (Unblock thread) u y i copied r e m = elim (unblock_ends f thread u y (unblock.due_pulse f thread) e) [
-  | inl cut ↦ absurd (no_message y i copied m (ap (λ x. item_in_mark x.mark) (sym cut.ending)))
+  | inl cancel ↦ absurd (no_message y i copied m (ap (λ x. item_in_mark x.mark) (sym cancel.ending)))
   | inr k ↦ told_message f t (Unblock thread) (unblock.due_pulse f thread) u y i copied refl k m
 ]
 ends_message f t (ConnectDetach coid) u y i copied r e m = elim (detach_ends f coid (connect_detach.due_pulse f t coid) u y e) [
-  | inl cut ↦ absurd (no_message y i copied m (ap (λ x. item_in_mark x.mark) (sym cut.ending)))
+  | inl cancel ↦ absurd (no_message y i copied m (ap (λ x. item_in_mark x.mark) (sym cancel.ending)))
   | inr s ↦ told_message f t (ConnectDetach coid) (connect_detach.due_pulse f t coid) u y i copied refl (told_meets f (connect_detach.due_pulse f t coid) u y s) m
 ]
 ends_message f t (Send coid sent reply_buffer) u y i copied r e m =
-    met_message f t (Send coid sent reply_buffer) (way f t coid) (item f t) sent u y i copied (delivery_meets f (way f t coid) (item f t) sent u y e) (sent_way f t coid (item f t)) m
+    met_message f t (Send coid sent reply_buffer) (route f t coid) (item f t) sent u y i copied (delivery_meets f (route f t coid) (item f t) sent u y e) (sent_way f t coid (item f t)) m
 ends_message f t (Pulse coid level code value) u y i copied r e m =
     told_message f t (Pulse coid level code value) (pulse.sent_pulse f coid level code value) u y i copied refl (told_meets f (pulse.sent_pulse f coid level code value) u y e) m
 ends_message f t c u y i copied r e m = absurd (none-some y e)

@@ -7,7 +7,7 @@ use Rattle.qmodel.specs.declared.call.Call.{Call}
 use Rattle.qmodel.specs.declared.call.Completion.{Completion}
 use Rattle.qmodel.specs.declared.call.Info.{Info}
 use Rattle.qmodel.specs.Private.Lawful.{with_event}
-use Rattle.qstate.specs.Thread.{members_of}
+use Rattle.qstate.specs.Kept.{members_of}
 use Rattle.qkernel.specs.Kernel.{State, IsSound}
 use Rattle.qkernel.specs.Stands.{AnswersAtTraces}
 use Rattle.balsaeuchre_c.specs.Calling.{InformsAtTraces}

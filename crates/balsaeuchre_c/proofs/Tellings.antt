@@ -63,7 +63,7 @@ take-both b xs ys =
           ap (λ k. take (k + m) (xs ++ ys)) all ∙ take-append-add xs ys m
           ∙ ap (λ z. z ++ take m ys) (sym (ap (λ k. take k xs) all ∙ take-length xs)))
       | inr h ↦
-          (let none : m ≡ 0 = (let cut = h.1 in omega arith) in
+          (let none : m ≡ 0 = (let cancel = h.1 in omega arith) in
           let within : n ≤ length xs = omega arith in
           let only : n + m ≡ n = omega arith in
           ap (λ k. take k (xs ++ ys)) only ∙ take-append-le n xs ys within

@@ -1,7 +1,7 @@
 //! Making a call.
 
 ghost use Rattle.std.specs.Prelude.{◌≡◌, length, IfOk, IfErr};
-ghost use Rattle.qstate.specs.Thread.{members_of};
+ghost use Rattle.qstate.specs.Kept.{members_of};
 ghost use Rattle.balsaeuchre_c.specs.Calling.{CallError, IsEvent};
 
 use crate::request::Request;

@@ -4,7 +4,7 @@
 
 ghost use Rattle.std.specs.Prelude.{◌≡◌, ◌≤◌, length, Some};
 ghost use Rattle.qbase.specs.declared.errno.Errno.{Errno};
-ghost use Rattle.qstate.specs.Thread.{members_of};
+ghost use Rattle.qstate.specs.Kept.{members_of};
 ghost use Rattle.balsaeuchre_c.specs.declared.session.Session.{Session};
 ghost use Rattle.balsaeuchre_c.specs.declared.error.TheConstants.{ERRNOS};
 ghost use Rattle.balsaeuchre_c.specs.Calling.{CallError, IsEvent};

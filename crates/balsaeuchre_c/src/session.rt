@@ -4,7 +4,7 @@ ghost use Rattle.std.specs.Prelude.{◌≡◌, ◌<◌, ◌^◌, ◌⊎◌, [], 
 ghost use Rattle.qkernel.specs.Kernel.{IsSound};
 ghost use Rattle.qkernel.specs.LentCall.{call_lent};
 ghost use Rattle.qkernel.specs.Stands.{AnswersAtTraces, DispatchError};
-ghost use Rattle.qstate.specs.Thread.{members_of};
+ghost use Rattle.qstate.specs.Kept.{members_of};
 ghost use Rattle.qtables.specs.Members.{member_at};
 ghost use Rattle.balsaeuchre_c.specs.Calling.{IsMade};
 ghost use Rattle.balsaeuchre_c.specs.Requests.{IsRefusedAs, call_of};

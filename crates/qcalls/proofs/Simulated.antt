@@ -4,7 +4,7 @@ use Rattle.std.specs.Prelude.{Option, None, Some, List, Bool, is_some, nat_lt, â
 use Rattle.std.proofs.lemmas.Option.{none-some}
 use Rattle.qbase.specs.declared.errno.Errno.TheVariants as errno
 use Rattle.qtables.specs.Members.{member_at}
-use Rattle.qstate.specs.Thread.{members_of}
+use Rattle.qstate.specs.Kept.{members_of}
 use Rattle.qbase.specs.declared.errno.Errno.{Errno}
 use Rattle.qmodel.specs.declared.call.Call.{Call}
 use Rattle.qmodel.specs.declared.call.Completion.{Completion}

@@ -8,7 +8,7 @@ use Rattle.qbase.specs.declared.errno.Errno.TheVariants as errno
 use Rattle.qtables.specs.Members.{member_at}
 use Rattle.qmodel.specs.declared.call.Call.{Call}
 use Rattle.qmodel.specs.declared.call.Completion.{Completion}
-use Rattle.qstate.specs.Thread.{members_of}
+use Rattle.qstate.specs.Kept.{members_of}
 use Rattle.qkernel.specs.Kernel.{State}
 use Rattle.qkernel.specs.Stands.{AnswersAtTraces, LeavesIfRefused}
 use Rattle.qcalls.specs.Errors.{refusal}

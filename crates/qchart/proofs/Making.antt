@@ -13,7 +13,7 @@ use Rattle.qkernel.specs.Blocked.{blocked_threads}
 use Rattle.qrules.specs.Trace.{followed_by}
 use Rattle.qrules.specs.Lawful.{event_call, facts_of}
 use Rattle.qmodel.specs.Trace.{Event, Trace}
-use Rattle.qstate.specs.Thread.{members_of}
+use Rattle.qstate.specs.Kept.{members_of}
 use Rattle.qkernel.specs.Run.{RunsAtTraces}
 use Rattle.qkernel.specs.Stands.{AnswersAtTraces, StandsAt}
 use Rattle.qkernel.specs.Kernel.{State}

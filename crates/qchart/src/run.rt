@@ -3,7 +3,7 @@
 ghost use Rattle.std.specs.Prelude.{◌≡◌, ◌+◌, ◌<◌, ◌≤◌, ◌^◌, [], ◌∷◌, ◌++◌, length, is_some, true, IfOk, OnOk};
 ghost use Rattle.std.specs.List.{filter_map};
 ghost use Rattle.qtables.specs.Members.{member_at};
-ghost use Rattle.qstate.specs.Thread.{members_of};
+ghost use Rattle.qstate.specs.Kept.{members_of};
 ghost use Rattle.qkernel.specs.Run.{AllKnown};
 ghost use Rattle.qkernel.specs.Stands.{AnswersAtTraces};
 ghost use Rattle.qchart.specs.Arrows.{arrow_of};

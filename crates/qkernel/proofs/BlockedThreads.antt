@@ -23,7 +23,8 @@ use Rattle.qkernel.specs.Blocked as told
 use Rattle.qkernel.specs.Stands.{StandsAt}
 use Rattle.qkernel.specs.Kernel.{State}
 use Rattle.qkernel.specs.Private.Steps.{facts_in}
-use Rattle.qstate.specs.Thread.{members_of, open_in}
+use Rattle.qstate.specs.Thread.{open_in}
+use Rattle.qstate.specs.Kept.{members_of}
 use Rattle.qmodel.specs.Trace.{Trace}
 use Rattle.qmodel.specs.declared.open_call.Blocked.{Blocked}
 use Rattle.qmodel.specs.declared.open_call.OpenCall.{OpenCall}

@@ -12,7 +12,8 @@ use Rattle.qmodel.specs.declared.open_call.OpenCall.{OpenCall}
 use Rattle.qmodel.specs.declared.open_call.Receipt.{Receipt as OldReceipt}
 use Rattle.qmodel.specs.declared.open_call.Wait.{Wait}
 use Rattle.qmodel.specs.declared.open_call.Wait.TheVariants.{Answer, Item as ForItem}
-use Rattle.qstate.specs.Thread.{members_of, open_in}
+use Rattle.qstate.specs.Thread.{open_in}
+use Rattle.qstate.specs.Kept.{members_of}
 use Rattle.qstate.specs.declared.thread.Thread.{Thread}
 use Rattle.qkernel.specs.Kernel.{facts_in as content_of, State}
 use Rattle.qkernel.specs.Private.Steps.{facts_in}

@@ -18,7 +18,8 @@ use Rattle.qmodel.specs.Trace.{SentItem}
 use Rattle.qkernel.specs.Kernel.{State}
 use Rattle.qkernel.specs.Private.Steps.{Step, Steps, facts_in}
 use Rattle.qmodel.specs.Private.Step.{Follows, unless, after_receipt, after_write, is_thread, held_call, written_call, after_unblock, unblocked_call}
-use Rattle.qstate.specs.Thread.{members_of, open_in, blocked_count}
+use Rattle.qstate.specs.Thread.{open_in, blocked_count}
+use Rattle.qstate.specs.Kept.{members_of}
 use Rattle.qmodel.proofs.Past.Ends.{row_passes}
 use Rattle.qmodel.proofs.Past.Laws.{RowLaws}
 use Rattle.qmodel.proofs.Calls.{row_laws}

@@ -13,7 +13,8 @@ use Rattle.qrules.specs.Lawful.{event_call}
 use Rattle.qrules.specs.Trace.{followed_by}
 use Rattle.qkernel.specs.Stands.{AnswersAtTraces}
 use Rattle.qkernel.specs.Kernel.{State}
-use Rattle.qstate.specs.Thread.{members_of, blocked_count}
+use Rattle.qstate.specs.Thread.{blocked_count}
+use Rattle.qstate.specs.Kept.{members_of}
 use Rattle.qmodel.specs.Trace.{Event, Trace}
 use Rattle.qmodel.proofs.OnlyRun.{only_run}
 use Rattle.qkernel.proofs.Traces.{before, followed_push, properties_of, stands_roster}

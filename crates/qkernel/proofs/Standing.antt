@@ -26,7 +26,8 @@ use Rattle.qkernel.specs.Stands.{StandsAt, AnswersAtTraces, LeavesIfRefused}
 use Rattle.qkernel.specs.Kernel.{State, IsSound}
 use Rattle.qkernel.specs.Private.Steps.{Step, Steps, facts_in}
 use Rattle.qmodel.specs.Private.Step.{Follows}
-use Rattle.qstate.specs.Thread.{members_of, open_in, level_in, ready_thread}
+use Rattle.qstate.specs.Thread.{open_in, ready_thread}
+use Rattle.qstate.specs.Kept.{members_of, thread_priority}
 use Rattle.qbase.proofs.Lists.{all_filter_map}
 use Rattle.qmodel.proofs.Past.Ends.{ending_names, laws_of}
 use Rattle.qmodel.proofs.Past.Follows.{past_follows}
@@ -132,9 +133,9 @@ ready_open : (roster : List Member) (u : ℕ) → open_in (map ready_thread rost
 ready_open [] u = refl
 ready_open (m ∷ roster) u = elim (eqb m.thread u) as (λ b. cond b None (open_in (map ready_thread roster) u) ≡ None) [ true ↦ refl | false ↦ ready_open roster u ]
 
-ready_level : (roster : List Member) (u : ℕ) → level_in (map ready_thread roster) u ≡ priority_in (member_at roster u)
+ready_level : (roster : List Member) (u : ℕ) → thread_priority (map ready_thread roster) u ≡ priority_in (member_at roster u)
 ready_level [] u = refl
-ready_level (m ∷ roster) u = elim (eqb m.thread u) as (λ b. cond b m.priority (level_in (map ready_thread roster) u) ≡ priority_in (cond b (Some m) (member_at roster u))) [ true ↦ refl | false ↦ ready_level roster u ]
+ready_level (m ∷ roster) u = elim (eqb m.thread u) as (λ b. cond b m.priority (thread_priority (map ready_thread roster) u) ≡ priority_in (cond b (Some m) (member_at roster u))) [ true ↦ refl | false ↦ ready_level roster u ]
 
 pub sound_new : (roster : List Member) → length roster ≤ 64 → IsRoster roster → IsSound (record { made = 0; down = false; threads = map ready_thread roster; channels = []; connections = [] })
 sound_new roster few r = record { few = rw (length-map roster ready_thread) few; roster = rw (ready_members roster) r; channel_ids = tt; connection_ids = tt; connections = (tt, tt); items = λ h. tt }

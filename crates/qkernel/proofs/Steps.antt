@@ -13,7 +13,7 @@ pub mod Write
 pub mod Info
 pub mod PrioritySet
 pub mod State
-pub mod Cutting
+pub mod Cancelling
 pub mod Told
 pub mod Telling
 pub mod Pulse

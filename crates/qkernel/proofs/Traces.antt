@@ -25,7 +25,7 @@ use Rattle.qrules.proofs.Past.Facts.{facts_known, same_facts}
 use Rattle.qrules.proofs.Properties.All.{same_properties}
 use Rattle.qrules.proofs.Rows.Held.{info_same}
 use Rattle.qrules.proofs.View as view
-use Rattle.qstate.specs.Thread.{members_of}
+use Rattle.qstate.specs.Kept.{members_of}
 use Rattle.qkernel.specs.Kernel.{State}
 use Rattle.qkernel.specs.Stands.{StandsAt}
 

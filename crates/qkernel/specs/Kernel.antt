@@ -6,8 +6,9 @@ use Rattle.qrules.specs.Facts.{Facts}
 use Rattle.qrules.specs.View.{receive_view, send_view}
 use Rattle.qtables.specs.Entries.{entry_at, IsRising}
 use Rattle.qtables.specs.Members.{IsRoster}
-use Rattle.qstate.specs.Channel.{channel_in, pending_in, ids_of}
-use Rattle.qstate.specs.Thread.{level_in, members_of}
+use Rattle.qstate.specs.Channel.{ids_of}
+use Rattle.qstate.specs.Kept.{channel_in, pending_in}
+use Rattle.qstate.specs.Kept.{thread_priority, members_of}
 use Rattle.qstate.specs.declared.channel.Channel.{Channel}
 use Rattle.qstate.specs.declared.thread.Thread.{Thread}
 
@@ -32,7 +33,7 @@ facts_in s = record {
   open_sends = filter_map (λ t. send_view t.member.thread t.open_call) s.threads;
   open_receives = filter_map (λ t. receive_view t.member.thread t.open_call) s.threads;
   pending = pending_in s.channels;
-  priority = level_in s.threads;
+  priority = thread_priority s.threads;
 }
 
 -- there are at most 64 threads, in rising number, connections stand in rising id from 1 on, and no channel,

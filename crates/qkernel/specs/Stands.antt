@@ -10,7 +10,7 @@ use Rattle.qrules.specs.Rule.{buffer_of, own_ending}
 use Rattle.qrules.specs.Rules.{effect_of}
 use Rattle.qrules.specs.Rules.Held.{info_of}
 use Rattle.qrules.specs.Trace.{ReceiveId, ThreadNo, Trace}
-use Rattle.qstate.specs.Thread.{members_of}
+use Rattle.qstate.specs.Kept.{members_of}
 use Rattle.qkernel.specs.Kernel.{facts_in, State}
 
 -- what a kernel contains is what is so after these events

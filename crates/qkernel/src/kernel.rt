@@ -2,7 +2,8 @@
 
 ghost use Rattle.std.specs.Prelude.{◌≡◌, ◌+◌, ◌<◌, ◌≤◌, ◌^◌, ◌↔◌, [], length, None, Some, is_some, true, false, IsTrue, if◌then◌else◌, IfOk, IfErr, OnOk};
 ghost use Rattle.qtables.specs.Members.{member_at};
-ghost use Rattle.qstate.specs.Thread.{members_of, open_in, seat_in, blocked_count};
+ghost use Rattle.qstate.specs.Thread.{open_in, seat_in, blocked_count};
+ghost use Rattle.qstate.specs.Kept.{members_of};
 
 mod blocked;
 mod channel_create;

@@ -4,7 +4,8 @@ ghost use Rattle.std.specs.Prelude.{◌≡◌, ◌+◌, ◌<◌, ◌≤◌, ◌^
 ghost use Rattle.std.specs.List.{AllByRecursion};
 ghost use Rattle.qkernel.specs.Run.{Headline, RunsAtTraces, AllKnown, RunError};
 ghost use Rattle.qrules.specs.Lawful.{event_call};
-ghost use Rattle.qstate.specs.Thread.{blocked_count, members_of};
+ghost use Rattle.qstate.specs.Thread.{blocked_count};
+ghost use Rattle.qstate.specs.Kept.{members_of};
 
 use crate::event_log::EventLog;
 use crate::kernel::{CALL_LIMIT, Kernel};

@@ -28,7 +28,7 @@ use Rattle.qmodel.proofs.TraceLaws.Limits as limits
 use Rattle.qmodel.proofs.TraceLaws.Order as order
 use Rattle.qmodel.proofs.TraceLaws.Pending as pending
 use Rattle.qmodel.proofs.TraceLaws.Setting as setting
-use Rattle.qmodel.proofs.TraceLaws.Worth as worth
+use Rattle.qmodel.proofs.TraceLaws.CurrentPriority as current_priority
 use Rattle.qrules.specs.Facts.{OpenSend}
 use Rattle.qrules.specs.Lawful.{facts_of, IsLawful}
 use Rattle.qrules.specs.Past.{is_ended, is_gone, is_number, is_received, item_among, items_by_now, priority_of_item, sender_of}
@@ -89,7 +89,7 @@ pending_is_open roster past r l h =
 pub pending_follows_its_sender : laws.PendingFollowsItsSender
 pending_follows_its_sender roster past r l h =
     subst (λ f. AllByRecursion (λ item. is_pulse item.what ≡ false → (t : ℕ) → sender_of past item.number ≡ Some t → item.priority ≡ f.priority t) (f.pending h)) (sym (facts_at roster past l))
-    (all_more _ _ (old.pending_items roster past h) (worth.pending_follows_its_sender roster past r (before roster past l) h) (λ item k message t sent.
+    (all_more _ _ (old.pending_items roster past h) (current_priority.pending_follows_its_sender roster past r (before roster past l) h) (λ item k message t sent.
     k message t (sym (same_sender_of past item.number) ∙ sent)))
 
 -- ---- the order of receipt

@@ -6,7 +6,7 @@ use Rattle.std.specs.List.{AllByRecursion}
 use Rattle.std.proofs.lemmas.Option.{none-some, same_Some}
 use Rattle.qbase.proofs.Lists.{all_filter_map}
 use Rattle.qtables.specs.declared.member.Member.{Member}
-use Rattle.qmodel.specs.Private.Cutting.{buffer_of_wait}
+use Rattle.qmodel.specs.Private.Cancelling.{buffer_of_wait}
 use Rattle.qmodel.specs.Private.Endings.{buffer_of_open}
 use Rattle.qmodel.specs.Private.Facts.{threads_of, Facts as OldFacts}
 use Rattle.qmodel.specs.Private.Lawful as old

@@ -48,7 +48,8 @@ pub record IsRouted (f : Facts) (s : OpenSend) : Type 0 where
 -- so it is with each open Send
 abbrev pub OpenSendsAreRouted : Type 0
 OpenSendsAreRouted =
-    AfterEach (λ roster past. AllByRecursion (IsRouted (facts_of roster past)) (facts_of roster past).open_sends)
+    AfterEach (λ roster past. AllByRecursion (IsRouted (facts_of roster past))
+    (facts_of roster past).open_sends)
 
 -- message i is received, and its Send isn't ended
 abbrev pub is_held : Trace → ReceiveId → Bool

@@ -18,7 +18,7 @@ pub mod ReceivePulse
 pub mod Pulse
 pub mod PrioritySet
 pub mod State
-pub mod Cutting
+pub mod Cancelling
 pub mod ChannelDestroy
 pub mod Shutdown
 pub mod Unblock

@@ -1,6 +1,6 @@
 pub mod Laying
 pub mod Parts
-pub mod Ways
+pub mod Routes
 pub mod Past
 pub mod Calls
 pub mod Properties

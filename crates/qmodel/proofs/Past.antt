@@ -3,7 +3,7 @@ pub mod Before
 pub mod Best
 pub mod Channels
 pub mod Connections
-pub mod Cuts
+pub mod Cancels
 pub mod Ends
 pub mod Follows
 pub mod Items
@@ -20,5 +20,5 @@ pub mod Rising
 pub mod Senders
 pub mod Unblocked
 pub mod Waits
-pub mod Worth
+pub mod CurrentPriority
 pub mod Writes

@@ -4,7 +4,7 @@ pub mod Unended
 pub mod Pending
 pub mod Order
 pub mod Setting
-pub mod Worth
+pub mod CurrentPriority
 pub mod Ending
 pub mod Limits
 pub mod Waiting

@@ -1,5 +1,5 @@
--- Words of the state half, over the kernel's own records: for contracts of inner functions and for proofs. No clause of
--- a function that the library hands on cites one of them.
+-- Words of the state half, over the kernel's own records: for contracts of inner functions and for proofs. No
+-- clause of a function that the library hands on cites one of them.
 pub mod ThreadState
 pub mod Facts
 pub mod Rows
@@ -8,7 +8,7 @@ pub mod Held
 pub mod Receiving
 pub mod Delivering
 pub mod Receivers
-pub mod Cutting
+pub mod Cancelling
 pub mod Pulses
 pub mod Calls
 pub mod Effects

@@ -6,7 +6,7 @@ use Rattle.std.proofs.lemmas.Option.{none-some, same_Some}
 use Rattle.std.proofs.lemmas.List.Folds.{find-append}
 use Rattle.qbase.proofs.Lists.{is_among}
 use Rattle.qbase.specs.declared.errno.Errno.{Errno}
-use Rattle.qmodel.specs.Private.Cutting.{cut_where, cuts}
+use Rattle.qmodel.specs.Private.Cancelling.{cancel_where, cancels}
 use Rattle.qmodel.specs.Private.Facts.{threads_of, Facts as OldFacts}
 use Rattle.qmodel.specs.declared.call.Completion.{Completion}
 use Rattle.qmodel.specs.declared.open_call.Receipt.{Receipt as OldReceipt}
@@ -41,11 +41,11 @@ cancelled thread k p g ts u keeps its known =
     ap (find (λ x. eqb x.thread u)) (ap (map k) (filter-filter_map p g ts) ∙ map-filter_map k (λ t. pass p (g t)) ts)
     ∙ found (λ x. x.thread) (λ t. option_map k (pass p (g t))) ts u (λ v y e. pass_thread thread k p (g v) v keeps (its v) y e) (λ e. ap (λ o. option_map k (pass p o)) (known e))
 
-module _ (f : OldFacts) (sends : OpenSend → Bool) (receives : OpenReceive → Bool) (is_cut : ℕ → Wait → Bool) (e : Errno) where
+module _ (f : OldFacts) (sends : OpenSend → Bool) (receives : OpenReceive → Bool) (is_cancelled : ℕ → Wait → Bool) (e : Errno) where
   pub cancel_same : (u : ℕ) → IsKnown f
-      → ((v n k : ℕ) (m b : List ℕ) (r : Option OldReceipt) → sends (record { number = n; thread = v; connection = k; message = m; reply_buffer = b; receipt = option_map receipt_view r }) ≡ is_cut v (Answer k m b r))
-      → ((v n h : ℕ) (kind : Kind) (b : List ℕ) → receives (record { number = n; thread = v; channel = h; kind = kind; buffer = b }) ≡ is_cut v (ForItem h kind b))
-      → find (λ x. eqb x.thread u) (cancel (facts_view f) sends receives e) ≡ cuts f is_cut e u
+      → ((v n k : ℕ) (m b : List ℕ) (r : Option OldReceipt) → sends (record { number = n; thread = v; connection = k; message = m; reply_buffer = b; receipt = option_map receipt_view r }) ≡ is_cancelled v (Answer k m b r))
+      → ((v n h : ℕ) (kind : Kind) (b : List ℕ) → receives (record { number = n; thread = v; channel = h; kind = kind; buffer = b }) ≡ is_cancelled v (ForItem h kind b))
+      → find (λ x. eqb x.thread u) (cancel (facts_view f) sends receives e) ≡ cancels f is_cancelled e u
   cancel_same u known of_send of_receive =
       let ts : List ℕ = threads_of f.roster in
       find-append (λ x. eqb x.thread u) (map (cancel_send e) (filter sends (facts_view f).open_sends)) (map (cancel_receive e) (filter receives (facts_view f).open_receives))
@@ -53,16 +53,16 @@ module _ (f : OldFacts) (sends : OpenSend → Bool) (receives : OpenReceive → 
       (cancelled (λ s. s.thread) (cancel_send e) sends (λ v. send_view v (f.open_call v)) ts u (λ s. refl) (λ v s is. send_thread v (f.open_call v) s is) (λ none. ap (send_view u) (unknown f u known none)))
       ∙ ap (option_or (option_map (cancel_send e) (pass sends (send_view u (f.open_call u)))))
       (cancelled (λ r. r.thread) (cancel_receive e) receives (λ v. receive_view v (f.open_call v)) ts u (λ r. refl) (λ v r is. receive_thread v (f.open_call v) r is) (λ none. ap (receive_view u) (unknown f u known none)))
-      ∙ elim (f.open_call u) as (λ o. option_or (option_map (cancel_send e) (pass sends (send_view u o))) (option_map (cancel_receive e) (pass receives (receive_view u o))) ≡ cut_where (is_cut u) e u o) [
+      ∙ elim (f.open_call u) as (λ o. option_or (option_map (cancel_send e) (pass sends (send_view u o))) (option_map (cancel_receive e) (pass receives (receive_view u o))) ≡ cancel_where (is_cancelled u) e u o) [
         | None ↦ refl
-        | Some o ↦ elim (o.wait) as (λ w. option_or (option_map (cancel_send e) (pass sends (send_in u o.number w))) (option_map (cancel_receive e) (pass receives (receive_in u o.number w))) ≡ cut_where (is_cut u) e u (Some (record { number = o.number; wait = w }))) [
+        | Some o ↦ elim (o.wait) as (λ w. option_or (option_map (cancel_send e) (pass sends (send_in u o.number w))) (option_map (cancel_receive e) (pass receives (receive_in u o.number w))) ≡ cancel_where (is_cancelled u) e u (Some (record { number = o.number; wait = w }))) [
           | Answer coid message reply_buffer receipt ↦
               let s : OpenSend = record { number = o.number; thread = u; connection = coid; message = message; reply_buffer = reply_buffer; receipt = option_map receipt_view receipt } in
               rw (of_send u o.number coid message reply_buffer receipt) (
-              elim (is_cut u (Answer coid message reply_buffer receipt)) as (λ b. option_or (option_map (cancel_send e) (cond b (Some s) None)) None ≡ cond b (Some (cancel_send e s)) None) [ true ↦ refl | false ↦ refl ])
+              elim (is_cancelled u (Answer coid message reply_buffer receipt)) as (λ b. option_or (option_map (cancel_send e) (cond b (Some s) None)) None ≡ cond b (Some (cancel_send e s)) None) [ true ↦ refl | false ↦ refl ])
           | ForItem chid kind buffer ↦
               let r : OpenReceive = record { number = o.number; thread = u; channel = chid; kind = kind; buffer = buffer } in
               rw (of_receive u o.number chid kind buffer) (
-              elim (is_cut u (ForItem chid kind buffer)) as (λ b. option_map (cancel_receive e) (cond b (Some r) None) ≡ cond b (Some (cancel_receive e r)) None) [ true ↦ refl | false ↦ refl ])
+              elim (is_cancelled u (ForItem chid kind buffer)) as (λ b. option_map (cancel_receive e) (cond b (Some r) None) ≡ cond b (Some (cancel_receive e r)) None) [ true ↦ refl | false ↦ refl ])
         ]
       ]

@@ -11,7 +11,7 @@ use Rattle.qmodel.specs.declared.call.Mark.TheVariants as mark
 use Rattle.qqueue.specs.Best.{is_pulse, may_take}
 use Rattle.qqueue.specs.declared.item.Item.{Item}
 use Rattle.qqueue.specs.declared.item.Kind.{Kind}
-use Rattle.qmodel.specs.Private.Delivering.{meets, receipt_by, receiver, wants_room}
+use Rattle.qmodel.specs.Private.Delivering.{delivers, receipt_by, receiver, wants_room}
 use Rattle.qmodel.specs.Private.Facts.{first_where, threads_of, Facts as OldFacts}
 use Rattle.qmodel.specs.Private.Receivers.{is_newest, wait_on, newest_receiver as old_newest}
 use Rattle.qmodel.specs.Private.Rows.{receipt_ending}
@@ -106,7 +106,7 @@ old_ending item message r b = record { call = r.number; thread = r.thread; mark 
 pub delivery_same : (item : Item) (message : List ℕ) (r : OpenReceive) → delivery item message r ≡ receipt_ending item message r.thread r.number r.buffer
 delivery_same item message r = elim (is_pulse item.what) as (λ b. new_ending item message r b ≡ old_ending item message r b) [ true ↦ refl | false ↦ refl ]
 
-pub deliver_same : (f : OldFacts) (m : SentItem) (message : List ℕ) (u : ℕ) → find (λ x. eqb x.thread u) (deliver (facts_view f) (Some m) message) ≡ meets f m.item message (receiver f m.item (Some m.channel)) u
+pub deliver_same : (f : OldFacts) (m : SentItem) (message : List ℕ) (u : ℕ) → find (λ x. eqb x.thread u) (deliver (facts_view f) (Some m) message) ≡ delivers f m.item message (receiver f m.item (Some m.channel)) u
 deliver_same f m message u = elim (receiver_cases f m) [
   | inl k ↦ rw (k.none, k.new) refl
   | inr k ↦
@@ -124,6 +124,6 @@ memory_same f m = elim (receiver_cases f m) [
 ]
 
 -- a thread that doesn't wait takes nothing
-pub idle_takes_none : (f : OldFacts) (item : Item) (message : List ℕ) (o : Option ℕ) (t : ℕ) → f.open_call t ≡ None → meets f item message o t ≡ None
+pub idle_takes_none : (f : OldFacts) (item : Item) (message : List ℕ) (o : Option ℕ) (t : ℕ) → f.open_call t ≡ None → delivers f item message o t ≡ None
 idle_takes_none f item message None t e = refl
 idle_takes_none f item message (Some r) t e = rw e (cond_same (eqb t r) None)

@@ -67,6 +67,6 @@ fellow_same f t u = elim (member_at f.roster t) as (λ m. option_map_or (λ m. i
 pub owns_same : (f : OldFacts) (t h : ℕ) → owns (facts_view f) t h ≡ old.owns f t h
 owns_same f t h = elim (f.channel h) as (λ c. option_map_or (λ c. is_of_process (facts_view f) t c.owner) c false ≡ option_map_or (λ c. old.is_of_process f t c.owner) c false) [ None ↦ refl | Some c ↦ process_same f t c.owner ]
 
-pub route_same : (f : OldFacts) (t k : ℕ) → route (facts_view f) t k ≡ old.way f t k
+pub route_same : (f : OldFacts) (t k : ℕ) → route (facts_view f) t k ≡ old.route f t k
 route_same f t k = elim (f.connection k) as (λ c. option_and_then (λ c. cond (is_of_process (facts_view f) t c.process && is_some (f.channel c.channel)) (Some c.channel) None) c
     ≡ option_and_then (λ c. cond (old.is_of_process f t c.process && is_some (f.channel c.channel)) (Some c.channel) None) c) [ None ↦ refl | Some c ↦ ap (λ b. cond (b && is_some (f.channel c.channel)) (Some c.channel) None) (process_same f t c.process) ]

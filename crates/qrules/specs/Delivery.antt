@@ -55,7 +55,8 @@ module _ (f : Facts) where
   -- the endings of the open calls that are cancelled: of which Sends, of which receives, and the error
   abbrev pub cancel : (OpenSend → Bool) → (OpenReceive → Bool) → Errno → List Completion
   cancel sends receives e =
-      map (cancel_send e) (filter sends f.open_sends) ++ map (cancel_receive e) (filter receives f.open_receives)
+      map (cancel_send e) (filter sends f.open_sends)
+      ++ map (cancel_receive e) (filter receives f.open_receives)
 
   -- the row of a call that ends with Ok, cancels these calls, and may send a pulse
   abbrev pub pulse_row : ThreadNo → Option Errno → List Completion → Option SentItem → Row

@@ -19,7 +19,8 @@ module _ (f : Facts) (t : ThreadNo) (c : Call) where
 
   -- the refusals that may be given: that one, or want of memory where there is none
   abbrev pub MayRefuse : Errno → Type 0
-  MayRefuse e = (first_refusal ≡ Some e) ⊎ ((first_refusal ≡ None) × (row.takes_memory ≡ true) × (e ≡ NoMemory))
+  MayRefuse e = (first_refusal ≡ Some e)
+      ⊎ ((first_refusal ≡ None) × (row.takes_memory ≡ true) × (e ≡ NoMemory))
 
   -- accepted: each thread gets its ending, in rising number; refused: the caller alone gets its buffer back
   abbrev pub Outcome : Bool → List Completion → Type 0

@@ -10,7 +10,7 @@ use Rattle.qrules.specs.Trace.{followed_by}
 use Rattle.qrules.specs.Lawful.{event_call}
 use Rattle.qmodel.specs.Trace.{Event, Run}
 use Rattle.qkernel.proofs.Traces.{followed_push}
-use Rattle.qstate.specs.Thread.{members_of}
+use Rattle.qstate.specs.Kept.{members_of}
 use Rattle.qkernel.specs.Run.{RunsAtTraces, AllKnown}
 use Rattle.qkernel.specs.Stands.{AnswersAtTraces}
 use Rattle.qkernel.specs.Kernel.{State}

@@ -11,7 +11,7 @@ use Rattle.qkernel.specs.Run.{IsWellRun}
 use Rattle.qkernel.specs.Stands.{StandsAt}
 use Rattle.qkernel.specs.Kernel.{State}
 use Rattle.qkernel.proofs.Running.{headline_of}
-use Rattle.qstate.specs.Thread.{members_of}
+use Rattle.qstate.specs.Kept.{members_of}
 use Rattle.qmodel.specs.Trace.{Event, Run, Trace}
 use Rattle.qscript.specs.Enrolled.{roster_with}
 use Rattle.qscript.specs.Printing.Printed.{printed}

@@ -2,7 +2,7 @@
 ghost use Rattle.std.specs.Prelude.{◌≡◌, ◌≤◌, ◌^◌, ◌⊎◌, ◌<◌, ℕ, [], length, map, IfOk, IfErr};
 ghost use lib.ListN.{get_elem?};
 ghost use Rattle.qrules.specs.Facts.{threads_of};
-ghost use Rattle.qstate.specs.Thread.{members_of};
+ghost use Rattle.qstate.specs.Kept.{members_of};
 ghost use Rattle.qkernel.specs.Stands.{StandsAt};
 ghost use Rattle.qhandoff.specs.Steps.{seated_desk};
 ghost use Rattle.qhandoff.specs.Words.{cells_id, kernel_id, count, desk, took, IsRow};

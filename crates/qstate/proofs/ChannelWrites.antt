@@ -10,7 +10,8 @@ use Rattle.qtables.specs.Entries.{entry_at, with_record, without_entry}
 use Rattle.qtables.proofs.LookUps.{entry_at-with_record, entry_at-without_entry}
 use Rattle.qbase.proofs.Lists.{eqb_either}
 use Rattle.qstate.specs.declared.channel.Channel.{Channel}
-use Rattle.qstate.specs.Channel.{open_channel_of, channel_in, pending_in, items_waiting_on, SetsItems, ClosesIn}
+use Rattle.qstate.specs.Channel.{SetsItems, ClosesIn}
+use Rattle.qstate.specs.Kept.{open_channel_of, channel_in, pending_in, items_waiting_on}
 
 module _ {R : Type 0} where
   -- the record of each number, after a write to one that is there

@@ -4,4 +4,4 @@ pub mod Receivers
 pub mod Inserting
 pub mod ChannelWrites
 pub mod Moving
-pub mod Cuts
+pub mod Cancels

@@ -8,7 +8,7 @@ use Rattle.qqueue.specs.Best.{with_item_priority, with_priority}
 use Rattle.qqueue.specs.declared.item.Item.{Item}
 use Rattle.qtables.specs.Entries.{entry_at}
 use Rattle.qtables.specs.declared.connection.Connection.{Connection}
-use Rattle.qmodel.specs.Private.Cutting.{is_to}
+use Rattle.qmodel.specs.Private.Cancelling.{is_to}
 use Rattle.qmodel.specs.Private.Step.{is_unread_send}
 use Rattle.qmodel.specs.declared.open_call.OpenCall.{OpenCall}
 use Rattle.qmodel.specs.declared.open_call.Wait.{Wait}
@@ -16,7 +16,8 @@ use Rattle.qmodel.specs.declared.open_call.Wait.TheVariants.{Answer, Item as For
 use Rattle.qbase.proofs.Lists.{eqb_either}
 use Rattle.qstate.specs.declared.channel.Channel.{Channel}
 use Rattle.qstate.specs.declared.unread.Unread.{Unread}
-use Rattle.qstate.specs.Channel.{SetsItems, channel_in, pending_in}
+use Rattle.qstate.specs.Channel.{SetsItems}
+use Rattle.qstate.specs.Kept.{channel_in, pending_in}
 use Rattle.qstate.specs.Unread.{MovesUnread, unread_in, unread_of}
 
 -- ---- an open call and what waits on a channel

@@ -17,7 +17,8 @@ use Rattle.qmodel.specs.Private.Facts.{threads_of, first_where}
 use Rattle.qmodel.specs.Private.Receivers.{is_after, wait_on}
 use Rattle.qmodel.specs.Private.Rows.{takes, takes_into}
 use Rattle.qmodel.proofs.Properties.Receivers.{after_less, any_after, newest_parts}
-use Rattle.qstate.specs.Thread.{later_of_two, members_of, newest_in, open_in}
+use Rattle.qstate.specs.Thread.{later_of_two, newest_in, open_in}
+use Rattle.qstate.specs.Kept.{members_of}
 use Rattle.qbase.proofs.Lists.{is_among}
 use Rattle.qstate.proofs.Senders.{own_open}
 

@@ -9,7 +9,8 @@ use Rattle.qtables.specs.Members.{member_at}
 use Rattle.qtables.specs.declared.member.Member.{Member}
 use Rattle.qmodel.specs.Private.Facts.{is_in_process}
 use Rattle.qstate.specs.declared.thread.Thread.{Thread}
-use Rattle.qstate.specs.Thread.{members_of, open_in, level_in, seat_in, SetsOpen, SetsLevel, Wakes, MarksUnblocked}
+use Rattle.qstate.specs.Thread.{open_in, seat_in, SetsOpen, SetsPriority, Wakes, MarksUnblocked}
+use Rattle.qstate.specs.Kept.{members_of, thread_priority}
 use Rattle.qmodel.specs.Private.Step.{unblocked_call}
 use Rattle.std.specs.Option.{option_map}
 
@@ -54,7 +55,7 @@ first_open u [] k d h = absurd h
 first_open u (t ∷ threads) zero d h = rw (eq-eqb t.member.thread u h) refl
 first_open u (t ∷ threads) (suc k) d h = rw h.0 (first_open u threads k d h.1)
 
-pub first_level : (u : ℕ) (threads : List Thread) (k : ℕ) (d : Thread) → IsFirstAt threads u k → level_in threads u ≡ (get_or threads k d).priority
+pub first_level : (u : ℕ) (threads : List Thread) (k : ℕ) (d : Thread) → IsFirstAt threads u k → thread_priority threads u ≡ (get_or threads k d).priority
 first_level u [] k d h = absurd h
 first_level u (t ∷ threads) zero d h = rw (eq-eqb t.member.thread u h) refl
 first_level u (t ∷ threads) (suc k) d h = rw h.0 (first_level u threads k d h.1)
@@ -79,14 +80,14 @@ set_open u (t ∷ threads) (suc k) d x v h m =
       | false ↦ λ e. set_open u threads k d x v h.1 m
     ] refl
 
-pub set_level : (u : ℕ) (threads : List Thread) (k : ℕ) (d x : Thread) (v : ℕ) → IsFirstAt threads u k → x.member ≡ (get_or threads k d).member → x.priority ≡ (get_or threads k d).priority
-    → level_in (set threads k x) v ≡ level_in threads v
-set_level u [] k d x v h m p = absurd h
-set_level u (t ∷ threads) zero d x v h m p = rw (ap (λ y. y.thread) m, p) refl
-set_level u (t ∷ threads) (suc k) d x v h m p =
-    elim (eqb t.member.thread v) as (λ b. cond b t.priority (level_in (set threads k x) v) ≡ cond b t.priority (level_in threads v)) [
+pub set_priority : (u : ℕ) (threads : List Thread) (k : ℕ) (d x : Thread) (v : ℕ) → IsFirstAt threads u k → x.member ≡ (get_or threads k d).member → x.priority ≡ (get_or threads k d).priority
+    → thread_priority (set threads k x) v ≡ thread_priority threads v
+set_priority u [] k d x v h m p = absurd h
+set_priority u (t ∷ threads) zero d x v h m p = rw (ap (λ y. y.thread) m, p) refl
+set_priority u (t ∷ threads) (suc k) d x v h m p =
+    elim (eqb t.member.thread v) as (λ b. cond b t.priority (thread_priority (set threads k x) v) ≡ cond b t.priority (thread_priority threads v)) [
       | true ↦ refl
-      | false ↦ set_level u threads k d x v h.1 m p
+      | false ↦ set_priority u threads k d x v h.1 m p
     ]
 
 pub sets_open : (u : ℕ) (threads : List Thread) (k : ℕ) (d x : Thread) → IsFirstAt threads u k → x.member ≡ (get_or threads k d).member → x.priority ≡ (get_or threads k d).priority
@@ -94,45 +95,45 @@ pub sets_open : (u : ℕ) (threads : List Thread) (k : ℕ) (d x : Thread) → I
 sets_open u threads k d x h m p = record {
   members = set_members u threads k d x h m;
   open_call = λ v. set_open u threads k d x v h m;
-  priority = λ v. set_level u threads k d x v h m p;
+  priority = λ v. set_priority u threads k d x v h m p;
 }
 
 -- a write at the seat that changes the priority
-set_any_level : (u : ℕ) (threads : List Thread) (k : ℕ) (d x : Thread) (v : ℕ) → IsFirstAt threads u k → x.member ≡ (get_or threads k d).member → level_in (set threads k x) v ≡ cond (eqb v u) x.priority (level_in threads v)
+set_any_level : (u : ℕ) (threads : List Thread) (k : ℕ) (d x : Thread) (v : ℕ) → IsFirstAt threads u k → x.member ≡ (get_or threads k d).member → thread_priority (set threads k x) v ≡ cond (eqb v u) x.priority (thread_priority threads v)
 set_any_level u [] k d x v h m = absurd h
 set_any_level u (t ∷ threads) zero d x v h m =
     let same : x.member.thread ≡ u = ap (λ y. y.thread) m ∙ h in
-    rw (same, h) (elim (eqb u v) as (λ b. eqb u v ≡ b → cond b x.priority (level_in threads v) ≡ cond (eqb v u) x.priority (cond b t.priority (level_in threads v))) [
+    rw (same, h) (elim (eqb u v) as (λ b. eqb u v ≡ b → cond b x.priority (thread_priority threads v) ≡ cond (eqb v u) x.priority (cond b t.priority (thread_priority threads v))) [
       | true ↦ λ e. rw (eq-eqb v u (sym (eqb-true u v e))) refl
       | false ↦ λ e. rw (ne_eqb v u (λ same. eqb-false u v e (sym same))) refl
     ] refl)
 set_any_level u (t ∷ threads) (suc k) d x v h m =
-    elim (eqb t.member.thread v) as (λ b. eqb t.member.thread v ≡ b → cond b t.priority (level_in (set threads k x) v) ≡ cond (eqb v u) x.priority (cond b t.priority (level_in threads v))) [
+    elim (eqb t.member.thread v) as (λ b. eqb t.member.thread v ≡ b → cond b t.priority (thread_priority (set threads k x) v) ≡ cond (eqb v u) x.priority (cond b t.priority (thread_priority threads v))) [
       | true ↦ λ e. let other : eqb v u ≡ false = subst (λ w. eqb w u ≡ false) (eqb-true t.member.thread v e) h.0 in rw other refl
       | false ↦ λ e. set_any_level u threads k d x v h.1 m
     ] refl
 
 -- where the priority is one that may be given, or the thread's own
 level_given : (u : ℕ) (threads : List Thread) (k : ℕ) (d : Thread) (p : Option ℕ) (v : ℕ) → IsFirstAt threads u k
-    → cond (eqb v u) (unwrap_or p (get_or threads k d).priority) (level_in threads v) ≡ unwrap_or (cond (eqb u v) p None) (level_in threads v)
-level_given u threads k d p v h = elim (eqb u v) as (λ b. eqb u v ≡ b → cond (eqb v u) (unwrap_or p (get_or threads k d).priority) (level_in threads v) ≡ unwrap_or (cond b p None) (level_in threads v)) [
-  | true ↦ λ e. rw (eq-eqb v u (sym (eqb-true u v e))) (ap (unwrap_or p) (sym (first_level u threads k d h) ∙ ap (level_in threads) (eqb-true u v e)))
+    → cond (eqb v u) (unwrap_or p (get_or threads k d).priority) (thread_priority threads v) ≡ unwrap_or (cond (eqb u v) p None) (thread_priority threads v)
+level_given u threads k d p v h = elim (eqb u v) as (λ b. eqb u v ≡ b → cond (eqb v u) (unwrap_or p (get_or threads k d).priority) (thread_priority threads v) ≡ unwrap_or (cond b p None) (thread_priority threads v)) [
+  | true ↦ λ e. rw (eq-eqb v u (sym (eqb-true u v e))) (ap (unwrap_or p) (sym (first_level u threads k d h) ∙ ap (thread_priority threads) (eqb-true u v e)))
   | false ↦ λ e. rw (ne_eqb v u (λ same. eqb-false u v e (sym same))) refl
 ] refl
 
 pub sets_level : (u : ℕ) (threads : List Thread) (k : ℕ) (d x : Thread) (p : Option ℕ) → IsFirstAt threads u k → x.member ≡ (get_or threads k d).member → x.open_call ≡ (get_or threads k d).open_call
-    → x.priority ≡ unwrap_or p (get_or threads k d).priority → SetsLevel u p threads (set threads k x)
+    → x.priority ≡ unwrap_or p (get_or threads k d).priority → SetsPriority u p threads (set threads k x)
 sets_level u threads k d x p h m o q = record {
   members = set_members u threads k d x h m;
   open_call = λ v. set_open u threads k d x v h m ∙ ap (λ w. cond (eqb v u) w (open_in threads v)) (o ∙ sym (first_open u threads k d h)) ∙ (elim (eqb v u) as (λ b. eqb v u ≡ b → cond b (open_in threads u) (open_in threads v) ≡ open_in threads v) [
     | true ↦ λ e. ap (open_in threads) (sym (eqb-true v u e))
     | false ↦ λ e. refl
   ] refl);
-  priority = λ v. set_any_level u threads k d x v h m ∙ ap (λ w. cond (eqb v u) w (level_in threads v)) q ∙ level_given u threads k d p v h;
+  priority = λ v. set_any_level u threads k d x v h m ∙ ap (λ w. cond (eqb v u) w (thread_priority threads v)) q ∙ level_given u threads k d p v h;
 }
 
 -- with another priority and then with no open call
-pub wakes : (u : ℕ) (p : Option ℕ) (old mid new : List Thread) → SetsLevel u p old mid → SetsOpen u None mid new → Wakes u p old new
+pub wakes : (u : ℕ) (p : Option ℕ) (old mid new : List Thread) → SetsPriority u p old mid → SetsOpen u None mid new → Wakes u p old new
 wakes u p old mid new takes ends = record {
   members = ends.members ∙ takes.members;
   open_call = λ v. ends.open_call v ∙ ap (cond (eqb v u) None) (takes.open_call v);

@@ -13,8 +13,9 @@ use Rattle.qmodel.specs.declared.open_call.OpenCall.{OpenCall}
 use Rattle.qstate.specs.declared.thread.Thread.{Thread}
 use Rattle.qmodel.specs.Private.Facts.{threads_of, is_send, sender_among, message_in}
 use Rattle.qstate.specs.Held.{is_held_in, is_held_over}
-use Rattle.qstate.specs.Thread.{held_over_in, members_of, open_in, sender_in, sent_call, message_from, ChangesSender}
-use Rattle.qstate.proofs.Seats.{IsFirstAt, first_open, set_members, set_open, set_level}
+use Rattle.qstate.specs.Thread.{held_over_in, open_in, sender_in, sent_call, message_from, ChangesSender}
+use Rattle.qstate.specs.Kept.{members_of}
+use Rattle.qstate.proofs.Seats.{IsFirstAt, first_open, set_members, set_open, set_priority}
 
 -- ---- each thread waits for what its own record says
 
@@ -133,7 +134,7 @@ module _ (i : ℕ) (threads : List Thread) (k : ℕ) (d : Thread) (r : IsRoster 
           | true ↦ λ e. o ∙ ap (option_map change) (sym (ap (open_in threads) (eqb-true v _ e) ∙ first_open _ threads k d first_there))
           | false ↦ λ e. refl
         ] refl);
-    priority = λ v. set_level _ threads k d x v first_there m p;
+    priority = λ v. set_priority _ threads k d x v first_there m p;
   }
 
 -- ---- whether its message is held

@@ -7,20 +7,8 @@ use Rattle.qqueue.specs.declared.item.Item.{Item}
 use Rattle.qtables.specs.Entries.{entry_at}
 use Rattle.qtables.specs.declared.connection.Connection.{Connection}
 use Rattle.qstate.specs.declared.channel.Channel.{Channel}
+use Rattle.qstate.specs.Kept.{channel_in, pending_in}
 use Rattle.qmodel.specs.Trace.{OpenChannel}
-
--- what a call may read of a channel
-abbrev pub open_channel_of : Channel → OpenChannel
-open_channel_of c = record { owner = c.owner; flags = c.flags }
-
--- the open channel of an id
-abbrev pub channel_in : List (ℕ × Channel) → ℕ → Option OpenChannel
-channel_in channels h = option_map open_channel_of (entry_at channels h)
-
--- what waits on a channel
-abbrev pub items_waiting_on : Option Channel → List Item
-items_waiting_on None = []
-items_waiting_on (Some c) = c.queue.items
 
 -- how many more items a channel has room for
 abbrev pub room_of : Option Channel → ℕ
@@ -31,19 +19,15 @@ room_of (Some c) = c.queue.room
 abbrev pub room_in : List (ℕ × Channel) → ℕ → ℕ
 room_in channels h = room_of (entry_at channels h)
 
--- what waits on the channel of an id
-abbrev pub pending_in : List (ℕ × Channel) → ℕ → List Item
-pending_in channels h = items_waiting_on (entry_at channels h)
-
 -- the channel is one of this process
 abbrev pub is_of : ℕ → Option OpenChannel → Bool
 is_of p None = false
 is_of p (Some c) = p == c.owner
 
 -- the channel that this connection leads to, where it is one of this process and the channel is open
-abbrev pub way_in : ℕ → List (ℕ × Channel) → Option Connection → Option ℕ
-way_in p channels None = None
-way_in p channels (Some c) =
+abbrev pub route_in : ℕ → List (ℕ × Channel) → Option Connection → Option ℕ
+route_in p channels None = None
+route_in p channels (Some c) =
     if (p == c.process) && is_some (channel_in channels c.channel) then Some c.channel else None
 
 -- the channel of this connection, where it is one of this process

@@ -10,7 +10,8 @@ use Rattle.qmodel.specs.Private.Facts.{tells_unblock}
 use Rattle.qstate.specs.declared.channel.Channel.{Channel}
 use Rattle.qstate.specs.declared.held.Held.{Held}
 use Rattle.qstate.specs.declared.thread.Thread.{Thread}
-use Rattle.qstate.specs.Channel.{channel_in, is_of}
+use Rattle.qstate.specs.Channel.{is_of}
+use Rattle.qstate.specs.Kept.{channel_in}
 use Rattle.qstate.specs.Thread.{held_over_in, sent_call}
 
 -- what is told of a message that is held: its number, the connection over which it was sent, and what is kept

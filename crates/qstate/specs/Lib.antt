@@ -1,7 +1,8 @@
+pub mod Kept
 pub mod Thread
 pub mod Channel
 pub mod Held
 pub mod Unread
 pub mod Pulses
 pub mod Endings
-pub mod Cutting
+pub mod Cancelling

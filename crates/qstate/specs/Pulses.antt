@@ -10,7 +10,8 @@ use Rattle.qmodel.specs.Private.Pulses.{pulses_among}
 use Rattle.qmodel.specs.Private.Rows.{takes}
 use Rattle.qstate.specs.declared.channel.Channel.{Channel}
 use Rattle.qstate.specs.declared.thread.Thread.{Thread}
-use Rattle.qstate.specs.Channel.{channel_in, pending_in, SetsItems}
+use Rattle.qstate.specs.Channel.{SetsItems}
+use Rattle.qstate.specs.Kept.{channel_in, pending_in}
 use Rattle.qstate.specs.Thread.{newest_in, open_in, Wakes}
 
 -- fewer than 1,024 pulses wait on channel h

@@ -9,23 +9,15 @@ use Rattle.qmodel.specs.declared.open_call.Receipt.{Receipt}
 use Rattle.qmodel.specs.declared.open_call.Wait.{Wait}
 use Rattle.qmodel.specs.declared.open_call.Wait.TheVariants.{Answer, Item as ForItem}
 use Rattle.qstate.specs.declared.thread.Thread.{Thread}
+use Rattle.qstate.specs.Kept.{members_of, thread_priority}
 use Rattle.qmodel.specs.Private.Facts.{threads_of, sender_among, message_in}
 use Rattle.qmodel.specs.Private.Receivers.{newest_receiver_among}
 use Rattle.qmodel.specs.Private.Step.{held_call, is_thread, unblocked_call}
-
--- the roster
-abbrev pub members_of : List Thread → List Member
-members_of threads = map (λ t. t.member) threads
 
 -- the open call of a thread
 abbrev pub open_in : List Thread → ℕ → Option OpenCall
 open_in [] u = None
 open_in (t ∷ threads) u = if t.member.thread == u then t.open_call else open_in threads u
-
--- the priority of a thread, 0 where there is none
-abbrev pub level_in : List Thread → ℕ → ℕ
-level_in [] u = 0
-level_in (t ∷ threads) u = if t.member.thread == u then t.priority else level_in threads u
 
 -- how many threads are blocked
 abbrev pub blocked_count : List Thread → ℕ
@@ -58,26 +50,28 @@ later_of_two best u (Some m) = if is_later m best then Some (m, u) else best
 pub record SetsOpen (u : ℕ) (o : Option OpenCall) (old new : List Thread) : Type 0 where
   pub members : members_of new ≡ members_of old
   pub open_call : (v : ℕ) → open_in new v ≡ (if v == u then o else open_in old v)
-  pub priority : (v : ℕ) → level_in new v ≡ level_in old v
+  pub priority : (v : ℕ) → thread_priority new v ≡ thread_priority old v
 
 -- thread u has this priority, if one is given, and all else is as it was
-pub record SetsLevel (u : ℕ) (p : Option ℕ) (old new : List Thread) : Type 0 where
+pub record SetsPriority (u : ℕ) (p : Option ℕ) (old new : List Thread) : Type 0 where
   pub members : members_of new ≡ members_of old
   pub open_call : (v : ℕ) → open_in new v ≡ open_in old v
-  pub priority : (v : ℕ) → level_in new v ≡ unwrap_or (if u == v then p else None) (level_in old v)
+  pub priority : (v : ℕ) → thread_priority new v
+      ≡ unwrap_or (if u == v then p else None) (thread_priority old v)
 
 -- thread u has no open call and has this priority, if one is given, and all else is as it was
 pub record Wakes (u : ℕ) (p : Option ℕ) (old new : List Thread) : Type 0 where
   pub members : members_of new ≡ members_of old
   pub open_call : (v : ℕ) → open_in new v ≡ (if v == u then None else open_in old v)
-  pub priority : (v : ℕ) → level_in new v ≡ unwrap_or (if u == v then p else None) (level_in old v)
+  pub priority : (v : ℕ) → thread_priority new v
+      ≡ unwrap_or (if u == v then p else None) (thread_priority old v)
 
 -- an unblock pulse was made for what thread u is blocked in, and all else is as it was
 pub record MarksUnblocked (u : ℕ) (old new : List Thread) : Type 0 where
   pub members : members_of new ≡ members_of old
   pub open_call : (v : ℕ) → open_in new v
       ≡ (if v == u then option_map unblocked_call (open_in old v) else open_in old v)
-  pub priority : (v : ℕ) → level_in new v ≡ level_in old v
+  pub priority : (v : ℕ) → thread_priority new v ≡ thread_priority old v
 
 -- the connection over which a message was sent that is held
 abbrev pub held_over_by : Wait → Option ℕ
@@ -107,7 +101,7 @@ pub record ChangesSender (i : ℕ) (change : OpenCall → OpenCall) (old new : L
   pub members : members_of new ≡ members_of old
   pub open_call : (v : ℕ) → open_in new v
       ≡ (if is_thread (sender_in old i) v then option_map change (open_in old v) else open_in old v)
-  pub priority : (v : ℕ) → level_in new v ≡ level_in old v
+  pub priority : (v : ℕ) → thread_priority new v ≡ thread_priority old v
 
 -- the sender of a message that is received keeps its receipt, and a pulse changes nothing
 abbrev pub HandsOver : Bool → ℕ → Receipt → List Thread → List Thread → Type 0

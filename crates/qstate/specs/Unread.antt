@@ -9,7 +9,8 @@ use Rattle.qmodel.specs.declared.open_call.Wait.{Wait}
 use Rattle.qmodel.specs.declared.open_call.Wait.TheVariants.{Answer, Item as ForItem}
 use Rattle.qstate.specs.declared.channel.Channel.{Channel}
 use Rattle.qstate.specs.declared.unread.Unread.{Unread}
-use Rattle.qstate.specs.Channel.{channel_in, ids_of, pending_in}
+use Rattle.qstate.specs.Channel.{ids_of}
+use Rattle.qstate.specs.Kept.{channel_in, pending_in}
 
 -- the message of call n whose receipt is waited for
 abbrev pub unread_of : ℕ → Wait → Option Unread

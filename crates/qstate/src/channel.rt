@@ -5,7 +5,8 @@ ghost use Rattle.std.specs.List.{AllByRecursion};
 ghost use Rattle.qqueue.specs.Best.{best_of, with_item_priority, without_item};
 ghost use Rattle.qmodel.specs.Private.Pulses.{pulses_among};
 ghost use Rattle.qmodel.specs.Private.Facts.{is_fixed, tells_disconnect, tells_unblock};
-ghost use Rattle.qstate.specs.Channel.{channel_in, own_channel_in, pending_in, is_of, room_in, way_in, ClosesIn, SetsItems};
+ghost use Rattle.qstate.specs.Channel.{own_channel_in, is_of, room_in, route_in, ClosesIn, SetsItems};
+ghost use Rattle.qstate.specs.Kept.{channel_in, pending_in};
 ghost use Rattle.qtables.specs.Entries.{entry_at};
 
 use qbase::errno::Errno;
@@ -45,13 +46,13 @@ pub fn owns(channels: &Channels<Channel>, process: ProcessNo, chid: ChannelId) -
 }
 
 /// The channel that a process may send to over a connection: its own, to a channel that is open.
-pub fn way(
+pub fn route(
     connections: &Connections,
     channels: &Channels<Channel>,
     process: ProcessNo,
     coid: ConnectionId,
 ) -> Option<ChannelId>
-    ensures { result ≡ way_in process channels.now (entry_at connections.now coid) }
+    ensures { result ≡ route_in process channels.now (entry_at connections.now coid) }
 {
     let connection = connections.get(coid)?;
     if process == connection.process && is_open(channels, connection.channel) {

@@ -9,7 +9,8 @@ ghost use Rattle.qmodel.specs.Private.Held.{reply_buffer_in, reply_buffer_of};
 ghost use Rattle.qstate.specs.Held.{guarded_message_in, held_message_in, is_held_in};
 ghost use Rattle.qmodel.specs.Private.Rows.{with_buffer};
 ghost use Rattle.qmodel.specs.Private.Step.{unblocked_call, unblocked_wait, written_call};
-ghost use Rattle.qstate.specs.Thread.{members_of, open_in, seat_in, sender_in, sent_call, SetsOpen, ChangesSender, MarksUnblocked};
+ghost use Rattle.qstate.specs.Thread.{open_in, seat_in, sender_in, sent_call, SetsOpen, ChangesSender, MarksUnblocked};
+ghost use Rattle.qstate.specs.Kept.{members_of};
 
 use crate::channel::{Channel, owns, tells_unblock};
 use crate::thread::{Thread, sender_seat};

@@ -2,8 +2,8 @@
 //! one event.
 #![tactic(auto)]
 
+pub mod cancelling;
 pub mod channel;
-pub mod cutting;
 pub mod endings;
 pub mod held;
 pub mod pulses;

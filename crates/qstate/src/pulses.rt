@@ -5,9 +5,9 @@ ghost use Rattle.std.specs.List.{AllByRecursion};
 ghost use Rattle.qqueue.specs.Best.{is_pulse};
 ghost use Rattle.qtables.specs.Members.{IsRoster};
 ghost use Rattle.qmodel.specs.Private.Rows.{takes};
-ghost use Rattle.qstate.specs.Channel.{channel_in, pending_in};
+ghost use Rattle.qstate.specs.Kept.{channel_in, pending_in};
 ghost use Rattle.qstate.specs.Pulses.{IsSent, IsSentIfDue, IsTurnedAway, IsUnsent};
-ghost use Rattle.qstate.specs.Thread.{members_of};
+ghost use Rattle.qstate.specs.Kept.{members_of};
 
 use crate::channel::{Channel, carried_priority, enqueue, pulses_on};
 use crate::thread::{Thread, newest_receiver, wake};
@@ -65,8 +65,8 @@ pub fn send_pulse(
         enqueue(channels, chid, item)?;
         return Ok(None);
     };
-    let level = carried_priority(channels, chid, item.priority);
-    let call = wake(threads, receiver, level);
+    let priority = carried_priority(channels, chid, item.priority);
+    let call = wake(threads, receiver, priority);
     let Some(ended) = ending_with_pulse(call, receiver, &item) else {
         unreachable!();
     };

@@ -7,7 +7,8 @@ ghost use Rattle.qqueue.specs.Best.{is_pulse};
 ghost use Rattle.qmodel.specs.Private.Facts.{is_in_process, is_send, message_in};
 ghost use Rattle.qmodel.specs.Private.Rows.{delivery_of};
 ghost use Rattle.qmodel.specs.Private.Step.{held_call};
-ghost use Rattle.qstate.specs.Thread.{members_of, open_in, seat_in, level_in, ready_thread, newest_in, later_of_two, held_over_in, message_from, SetsOpen, SetsLevel, Wakes, ChangesSender, HandsOver};
+ghost use Rattle.qstate.specs.Thread.{open_in, seat_in, ready_thread, newest_in, later_of_two, held_over_in, message_from, SetsOpen, SetsPriority, Wakes, ChangesSender, HandsOver};
+ghost use Rattle.qstate.specs.Kept.{members_of, thread_priority};
 ghost use Rattle.qmodel.specs.Private.Receivers.{wait_on};
 
 use qbase::bytes::Bytes;
@@ -98,22 +99,22 @@ pub fn replace_open(
 }
 
 /// The priority of the thread at a seat.
-pub fn level_of(threads: &[Thread], seat: usize, thread: ThreadNo) -> Priority
+pub fn priority_at(threads: &[Thread], seat: usize, thread: ThreadNo) -> Priority
     requires { seat_in threads.now thread ≡ Some seat }
-    ensures { result ≡ level_in threads.now thread }
+    ensures { result ≡ thread_priority threads.now thread }
 {
     threads[seat].priority
 }
 
 /// Gives the thread at a seat this priority, or leaves it its own.
-pub fn set_level(
+pub fn set_priority(
     threads: &mut Vec<Thread>,
     seat: usize,
     thread: ThreadNo,
     priority: Option<Priority>,
 )
     requires { seat_in threads.old.items thread ≡ Some seat }
-    ensures { SetsLevel thread priority threads.old.items threads.new.items }
+    ensures { SetsPriority thread priority threads.old.items threads.new.items }
 {
     let there = &mut threads[seat];
     there.priority = priority.unwrap_or(there.priority);
@@ -141,7 +142,7 @@ pub fn wake(
     let Some(seat) = seat_of(threads, thread) else {
         unreachable!();
     };
-    set_level(threads, seat, thread, priority);
+    set_priority(threads, seat, thread, priority);
     replace_open(threads, seat, thread, None)
 }
 

@@ -13,16 +13,18 @@ use Rattle.qmodel.specs.Private.Facts.{owns}
 use Rattle.qmodel.specs.Private.Step.{uncut_items}
 use Rattle.qmodel.specs.declared.call.Call.TheVariants.{ChannelDestroy}
 use Rattle.qmodel.specs.declared.call.Completion.{Completion}
-use Rattle.qstate.specs.Channel.{ClosesIn, channel_in, is_of, pending_in}
-use Rattle.qstate.specs.Cutting.{AreCut, LoseCut}
-use Rattle.qstate.specs.Thread.{members_of, open_in}
+use Rattle.qstate.specs.Channel.{ClosesIn, is_of}
+use Rattle.qstate.specs.Kept.{channel_in, pending_in}
+use Rattle.qstate.specs.Cancelling.{AreCancelled, LoseCancelled}
+use Rattle.qstate.specs.Thread.{open_in}
+use Rattle.qstate.specs.Kept.{members_of}
 use Rattle.qstate.specs.declared.channel.Channel.{Channel}
-use Rattle.qstate.specs.declared.cutting.Cut.TheVariants.{On}
+use Rattle.qstate.specs.declared.cancelling.CancelSet.TheVariants.{On}
 use Rattle.qstate.specs.declared.thread.Thread.{Thread}
 use Rattle.qkernel.specs.Kernel.{State, IsSound}
 use Rattle.qkernel.specs.Private.Steps.{Steps, facts_in}
 use Rattle.qkernel.proofs.Steps.Common.{counted, count_same, owned_by_member, step_refused_alone}
-use Rattle.qkernel.proofs.Steps.Cutting.{endings_cut, open_after, sound_cut}
+use Rattle.qkernel.proofs.Steps.Cancelling.{endings_cancelled, open_after, sound_cancelled}
 
 module _ (s : State) (t chid : ℕ) (m : Member) (known : member_at (members_of s.threads) t ≡ Some m) (up : s.down ≡ false) (free : open_in s.threads t ≡ None) where
   pub step_destroy_refused : (X : List Completion) → is_of m.process (channel_in s.channels chid) ≡ false → X ≡ refusal_ending (facts_in s) t (ChannelDestroy chid) Inval ∷ [] → Steps s t (ChannelDestroy chid) X (counted s)
@@ -30,13 +32,13 @@ module _ (s : State) (t chid : ℕ) (m : Member) (known : member_at (members_of 
       let not_own : owns (facts_in s) t chid ≡ false = owned_by_member (facts_in s) t m (channel_in s.channels chid) known ∙ other in
       step_refused_alone s t (ChannelDestroy chid) Inval X (inl (rw (up, free, not_own) refl)) is
 
-  module _ (threads : List Thread) (cut closed : List (ℕ × Channel)) (are : AreCut (entry_at s.connections) (On chid) Srch s.threads threads) (lose : LoseCut (entry_at s.connections) (On chid) Srch s.threads s.channels cut)
-      (closes : ClosesIn chid cut closed) where
-    pub step_destroyed : (X : List Completion) → is_of m.process (channel_in s.channels chid) ≡ true → X ≡ endings_cut s t (On chid) Srch
+  module _ (threads : List Thread) (cancel closed : List (ℕ × Channel)) (are : AreCancelled (entry_at s.connections) (On chid) Srch s.threads threads) (lose : LoseCancelled (entry_at s.connections) (On chid) Srch s.threads s.channels cancel)
+      (closes : ClosesIn chid cancel closed) where
+    pub step_destroyed : (X : List Completion) → is_of m.process (channel_in s.channels chid) ≡ true → X ≡ endings_cancelled s t (On chid) Srch
         → Steps s t (ChannelDestroy chid) X (record { made = s.made + 1; down = s.down; threads = threads; channels = closed; connections = s.connections })
     step_destroyed X own is =
         let owned : owns (facts_in s) t chid ≡ true = owned_by_member (facts_in s) t m (channel_in s.channels chid) known ∙ own in
-        let as_many : length cut ≡ length s.channels = count_same s.channels cut lose.ids in (
+        let as_many : length cancel ≡ length s.channels = count_same s.channels cancel lose.ids in (
           true,
           record {
             answer = (rw (up, free, owned) refl, is);
@@ -57,12 +59,12 @@ module _ (s : State) (t chid : ℕ) (m : Member) (known : member_at (members_of 
 
     pub sound_closed : IsSound s → IsSound (record { made = s.made + 1; down = s.down; threads = threads; channels = closed; connections = s.connections })
     sound_closed sound =
-        let k = sound_cut s s.down (On chid) Srch threads cut sound are lose in
+        let k = sound_cancelled s s.down (On chid) Srch threads cancel sound are lose in
         record {
           few = k.few;
           roster = k.roster;
           channel_ids = closes.ids (s.made + 1) k.channel_ids;
           connection_ids = k.connection_ids;
           connections = k.connections;
-          items = λ h. rw (closes.pending h) (elim (eqb chid h) as (λ b. AllByRecursion (λ (item : Item). item.number ≤ s.made + 1) (cond b [] (pending_in cut h))) [ true ↦ tt | false ↦ k.items h ]);
+          items = λ h. rw (closes.pending h) (elim (eqb chid h) as (λ b. AllByRecursion (λ (item : Item). item.number ≤ s.made + 1) (cond b [] (pending_in cancel h))) [ true ↦ tt | false ↦ k.items h ]);
         }

@@ -20,17 +20,19 @@ use Rattle.qmodel.specs.Private.Effects.{closes, makes, sets}
 use Rattle.qmodel.specs.Private.Rows.{names}
 use Rattle.qmodel.specs.Private.Step.{uncut_items, items_with_priority_set, pending_after, unreceived_items}
 use Rattle.qmodel.specs.Private.Past.{made_on}
-use Rattle.qmodel.proofs.Past.Cuts.{EndsSettled, none_cut}
+use Rattle.qmodel.proofs.Past.Cancels.{EndsSettled, none_cancelled}
 use Rattle.qmodel.proofs.Past.Ends.{row_passes}
 use Rattle.qmodel.proofs.Past.Laws.{is_forceful}
 use Rattle.qmodel.proofs.Calls.{row_laws}
-use Rattle.qstate.specs.Channel.{channel_in, pending_in, ids_of, is_of, way_in}
+use Rattle.qstate.specs.Channel.{ids_of, is_of, route_in}
+use Rattle.qstate.specs.Kept.{channel_in, pending_in}
 use Rattle.qmodel.specs.Private.Facts.{Facts, is_in_process}
 use Rattle.qmodel.specs.Trace.{OpenChannel}
 use Rattle.qmodel.proofs.Parts.{is_owned_by, leads_to}
 use Rattle.qkernel.specs.Kernel.{State, IsSound}
 use Rattle.qkernel.specs.Private.Steps.{Steps, facts_in}
-use Rattle.qstate.specs.Thread.{members_of, open_in, level_in}
+use Rattle.qstate.specs.Thread.{open_in}
+use Rattle.qstate.specs.Kept.{members_of, thread_priority}
 
 -- ---- refused calls
 
@@ -69,7 +71,7 @@ step_refused s t c e X new may is counted = (
       live_connections = ap (λ cs. length cs + 0) counted.connections;
       open_call = λ u. ap (λ ts. open_in ts u) counted.threads;
       pending = counted.pending;
-      priority = λ u. ap (λ ts. level_in ts u) counted.threads;
+      priority = λ u. ap (λ ts. thread_priority ts u) counted.threads;
     };
   },
 )
@@ -88,7 +90,7 @@ uncut_by s t c settled closes_none sets_none h {x} is =
     let f = facts_in s in
     let items = pending_in s.channels h ++ made_on h (makes f t c) in
     is
-    ∙ ap (unreceived_items (row_of f t c).receipt h) (sym (none_cut f t c settled h items))
+    ∙ ap (unreceived_items (row_of f t c).receipt h) (sym (none_cancelled f t c settled h items))
     ∙ ap (λ o. cond (names o h) [] (unreceived_items (row_of f t c).receipt h (uncut_items f t c h items))) (sym closes_none)
     ∙ ap (λ o. cond (names (closes c) h) [] (items_with_priority_set f h o (unreceived_items (row_of f t c).receipt h (uncut_items f t c h items)))) (sym sets_none)
 
@@ -130,9 +132,9 @@ pub owned_by_member : (f : Facts) (t : ℕ) (m : Member) (o : Option OpenChannel
 owned_by_member f t m None e = refl
 owned_by_member f t m (Some c) e = ap (is_in_process c.owner) e
 
-pub way-leads_to : (s : State) (t : ℕ) (m : Member) (o : Option Connection) → member_at (members_of s.threads) t ≡ Some m → leads_to (facts_in s) t o ≡ way_in m.process s.channels o
-way-leads_to s t m None e = refl
-way-leads_to s t m (Some c) e = ap (λ x. cond (is_in_process c.process x && is_some (channel_in s.channels c.channel)) (Some c.channel) None) e
+pub route-leads_to : (s : State) (t : ℕ) (m : Member) (o : Option Connection) → member_at (members_of s.threads) t ≡ Some m → leads_to (facts_in s) t o ≡ route_in m.process s.channels o
+route-leads_to s t m None e = refl
+route-leads_to s t m (Some c) e = ap (λ x. cond (is_in_process c.process x && is_some (channel_in s.channels c.channel)) (Some c.channel) None) e
 
 -- a caller that isn't blocked waits for nothing after a call that doesn't block it
 pub stays_free : (threads : List Thread) (t : ℕ) (u : ℕ) → open_in threads t ≡ None → open_in threads u ≡ cond (eqb u t) None (open_in threads u)

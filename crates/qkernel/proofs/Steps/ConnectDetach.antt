@@ -19,34 +19,36 @@ use Rattle.qtables.specs.declared.member.Member.{Member}
 use Rattle.qmodel.specs.Private.Answer.{MayRefuse, ending, refusal_ending}
 use Rattle.qmodel.specs.Private.Calls.ConnectDetach.{connection_between, connections_between, due_pulse}
 use Rattle.qmodel.proofs.Parts.{due_pulse_over, is_own}
-use Rattle.qmodel.specs.Private.Cutting.{cut_where, is_on, is_over}
+use Rattle.qmodel.specs.Private.Cancelling.{cancel_where, is_on, is_over}
 use Rattle.qmodel.specs.Private.Facts.{tells_disconnect, threads_of}
 use Rattle.qmodel.specs.Private.Pulses.{refusal_if_full_for, ends_receiver, pulse_receipt}
 use Rattle.qmodel.specs.Private.Rows.{Received, disconnect_item}
 use Rattle.qmodel.specs.Trace.{SentItem}
-use Rattle.qmodel.specs.Private.Step.{is_cut, uncut_items, unreceived_items, unless, is_unread_send}
+use Rattle.qmodel.specs.Private.Step.{is_cancelled, uncut_items, unreceived_items, unless, is_unread_send}
 use Rattle.qmodel.specs.Private.Past.{made_on}
 use Rattle.qmodel.specs.declared.call.Call.TheVariants.{ConnectDetach}
 use Rattle.qmodel.specs.declared.call.Completion.{Completion}
 use Rattle.qmodel.specs.declared.open_call.Wait.TheVariants.{Item as ForItem}
 use Rattle.qstate.specs.declared.channel.Channel.{Channel}
-use Rattle.qstate.specs.declared.cutting.Cut.TheVariants.{Over}
+use Rattle.qstate.specs.declared.cancelling.CancelSet.TheVariants.{Over}
 use Rattle.qstate.specs.declared.thread.Thread.{Thread}
-use Rattle.qstate.specs.Channel.{channel_in, own_channel_in, pending_in}
-use Rattle.qstate.specs.Cutting.{AreCut, LoseCut, ending_for, is_cut_among}
+use Rattle.qstate.specs.Channel.{own_channel_in}
+use Rattle.qstate.specs.Kept.{channel_in, pending_in}
+use Rattle.qstate.specs.Cancelling.{AreCancelled, LoseCancelled, ending_for, is_cancelled_among}
 use Rattle.qstate.specs.Endings.{with_ending_if}
 use Rattle.qstate.specs.Pulses.{has_room}
 use Rattle.qmodel.specs.Private.Receivers.{newest_receiver}
-use Rattle.qstate.specs.Thread.{level_in, members_of, newest_in, open_in}
+use Rattle.qstate.specs.Thread.{newest_in, open_in}
+use Rattle.qstate.specs.Kept.{thread_priority, members_of}
 use Rattle.qkernel.specs.Kernel.{State, IsSound}
 use Rattle.qkernel.specs.Private.Steps.{Steps, facts_in}
 use Rattle.qtables.proofs.LookUps.{entry_at-without_entry}
-use Rattle.qmodel.proofs.Calls.Cutting.{cut_parts}
+use Rattle.qmodel.proofs.Calls.Cancelling.{cancel_parts}
 use Rattle.qbase.proofs.Lists.{all_filter, cond_same, filter_twice, or_none}
 use Rattle.qmodel.proofs.Rosters.{filter_map_same}
 use Rattle.qkernel.proofs.Tables.{count_picked, rising_without}
 use Rattle.qkernel.proofs.Steps.Common.{all_up_to, counted, step_refused_alone}
-use Rattle.qkernel.proofs.Steps.Cutting.{mine, sound_less}
+use Rattle.qkernel.proofs.Steps.Cancelling.{mine, sound_less}
 use Rattle.qkernel.proofs.Steps.Delivering.{count_kept}
 use Rattle.qkernel.proofs.Steps.Told.{IsNew, IsTold, made_for, not_caller, told_waits}
 
@@ -111,7 +113,7 @@ module _ (s : State) (t coid : ℕ) (m : Member) (known : member_at (members_of 
 
     -- the pulse of the last connection
     abbrev pub pulse : Item
-    pulse = disconnect_item (s.made + 1) (level_in s.threads t) m.process
+    pulse = disconnect_item (s.made + 1) (thread_priority s.threads t) m.process
 
     pub due_is : (last : Bool) → IsSound s → last ≡ (tells_disconnect (channel_in s.channels h) && eqb (count_by (λ e. (eqb e.1.process m.process) && (eqb e.1.channel h)) s.connections) 1)
         → due_pulse (facts_in s) t coid ≡ made_for h (cond last (Some pulse) None)
@@ -137,7 +139,7 @@ module _ (s : State) (t coid : ℕ) (m : Member) (known : member_at (members_of 
             refl,
           )
 
-      -- what is cut once the pulse is sent
+      -- what is cancelled once the pulse is sent
       module _ (sound : IsSound s) (mid : List Thread) (between : List (ℕ × Channel)) (met : Option Completion) (is : IsTold s t (made_for h d) mid between met) where
         abbrev o : Option SentItem
         o = made_for h d
@@ -145,19 +147,19 @@ module _ (s : State) (t coid : ℕ) (m : Member) (known : member_at (members_of 
         abbrev ts : List ℕ
         ts = threads_of (members_of s.threads)
 
-        -- how the call of u ends, as it is cut
-        abbrev cut : ℕ → Option Completion
-        cut u = cut_where (is_over coid) Badf u (open_in s.threads u)
+        -- how the call of u ends, as it is cancelled
+        abbrev cancel : ℕ → Option Completion
+        cancel u = cancel_where (is_over coid) Badf u (open_in s.threads u)
 
-        -- what meets the pulse isn't cut
-        met_uncut : (u : ℕ) (y : Completion) → ends_receiver (facts_in s) o u ≡ Some y → cut u ≡ None
+        -- what meets the pulse isn't cancelled
+        met_uncut : (u : ℕ) (y : Completion) → ends_receiver (facts_in s) o u ≡ Some y → cancel u ≡ None
         met_uncut u y e = let k = told_waits s o u y e in rw (k.is, k.waits) refl
 
         met_unread : (u k i : ℕ) (y : Completion) → ends_receiver (facts_in s) o u ≡ Some y → is_unread_send (entry_at s.connections) k i (open_in s.threads u) ≡ false
         met_unread u k i y e = let w = told_waits s o u y e in rw (w.is, w.waits) (elim (eqb w.waiting.number i) as (λ b. (b && false && is_on (entry_at s.connections) k (ForItem w.chid w.kind w.buffer)) ≡ false) [ true ↦ refl | false ↦ refl ])
 
-        cut_mid : (u : ℕ) → cut_where (is_over coid) Badf u (open_in mid u) ≡ cut u
-        cut_mid u = rw (is.open_call u) (elim (ends_receiver (facts_in s) o u) as (λ x. ends_receiver (facts_in s) o u ≡ x → cut_where (is_over coid) Badf u (unless (is_some x) (open_in s.threads u)) ≡ cut u) [
+        cancel_mid : (u : ℕ) → cancel_where (is_over coid) Badf u (open_in mid u) ≡ cancel u
+        cancel_mid u = rw (is.open_call u) (elim (ends_receiver (facts_in s) o u) as (λ x. ends_receiver (facts_in s) o u ≡ x → cancel_where (is_over coid) Badf u (unless (is_some x) (open_in s.threads u)) ≡ cancel u) [
           | None ↦ λ e. refl
           | Some y ↦ λ e. sym (met_uncut u y e)
         ] refl)
@@ -166,59 +168,59 @@ module _ (s : State) (t coid : ℕ) (m : Member) (known : member_at (members_of 
         abbrev g : ℕ → Option Completion
         g u = ending_for (entry_at s.connections) (Over coid) Badf (mine s t) u (open_in mid u)
 
-        g_is : (u : ℕ) → g u ≡ cond (eqb u t) (Some (mine s t)) (cut u)
-        g_is u = ap (cond (eqb u t) (Some (mine s t))) (cut_mid u)
+        g_is : (u : ℕ) → g u ≡ cond (eqb u t) (Some (mine s t)) (cancel u)
+        g_is u = ap (cond (eqb u t) (Some (mine s t))) (cancel_mid u)
 
         g_own : (u : ℕ) (x : Completion) → g u ≡ Some x → x.thread ≡ u
-        g_own u x e = elim (eqb u t) as (λ b. eqb u t ≡ b → cond b (Some (mine s t)) (cut u) ≡ Some x → x.thread ≡ u) [
+        g_own u x e = elim (eqb u t) as (λ b. eqb u t ≡ b → cond b (Some (mine s t)) (cancel u) ≡ Some x → x.thread ≡ u) [
           | true ↦ λ same hit. sym (ap (λ y. y.thread) (same_Some (mine s t) x hit)) ∙ sym (eqb-true u t same)
-          | false ↦ λ other hit. sym (ap (λ y. y.thread) (cut_parts (is_over coid) Badf u (open_in s.threads u) x hit).ending)
+          | false ↦ λ other hit. sym (ap (λ y. y.thread) (cancel_parts (is_over coid) Badf u (open_in s.threads u) x hit).ending)
         ] refl (sym (g_is u) ∙ e)
 
         g_none : (u : ℕ) → is_some (ends_receiver (facts_in s) o u) ≡ true → g u ≡ None
-        g_none u there = g_is u ∙ (elim (ends_receiver (facts_in s) o u) as (λ x. ends_receiver (facts_in s) o u ≡ x → is_some x ≡ true → cond (eqb u t) (Some (mine s t)) (cut u) ≡ None) [
+        g_none u there = g_is u ∙ (elim (ends_receiver (facts_in s) o u) as (λ x. ends_receiver (facts_in s) o u ≡ x → is_some x ≡ true → cond (eqb u t) (Some (mine s t)) (cancel u) ≡ None) [
           | None ↦ λ e some. absurd (true≢false (sym some))
           | Some y ↦ λ e some. rw (ne_eqb u t (not_caller s t u o mid between met is there), met_uncut u y e) refl
         ] refl there)
 
         ending_is : (u : ℕ) → option_or (g u) (ends_receiver (facts_in s) o u) ≡ ending (facts_in s) t (ConnectDetach coid) u
-        ending_is u = rw (due_is, g_is u) (elim (eqb u t) as (λ b. option_or (cond b (Some (mine s t)) (cut u)) (ends_receiver (facts_in s) o u) ≡ cond b (Some (mine s t)) (option_or (cut u) (ends_receiver (facts_in s) o u))) [ true ↦ refl | false ↦ refl ])
+        ending_is u = rw (due_is, g_is u) (elim (eqb u t) as (λ b. option_or (cond b (Some (mine s t)) (cancel u)) (ends_receiver (facts_in s) o u) ≡ cond b (Some (mine s t)) (option_or (cancel u) (ends_receiver (facts_in s) o u))) [ true ↦ refl | false ↦ refl ])
 
         pub room_for_one : length s.threads ≤ 64 → is_some met ≡ true → length (filter_map g (threads_of (members_of mid))) < 64
         room_for_one few some = rw (is.members) (let fewer : length (filter_map g ts) + 1 ≤ length ts = is.few g g_none some in let as_many : length ts ≡ length s.threads = length-map (members_of s.threads) (λ m. m.thread) ∙ length-map s.threads (λ t. t.member) in omega arith)
 
-        module _ (threads : List Thread) (now : List (ℕ × Channel)) (are : AreCut (entry_at s.connections) (Over coid) Badf mid threads) (lose : LoseCut (entry_at s.connections) (Over coid) Badf mid between now) where
+        module _ (threads : List Thread) (now : List (ℕ × Channel)) (are : AreCancelled (entry_at s.connections) (Over coid) Badf mid threads) (lose : LoseCancelled (entry_at s.connections) (Over coid) Badf mid between now) where
           abbrev pub detached : State
           detached = record { made = s.made + 1; down = s.down; threads = threads; channels = now; connections = without_entry s.connections coid }
 
-          open_is : (u : ℕ) → open_in threads u ≡ unless (is_some (option_or (cut u) (ends_receiver (facts_in s) o u))) (open_in s.threads u)
-          open_is u = are.open_call u ∙ rw (cut_mid u, is.open_call u) (elim (ends_receiver (facts_in s) o u) as (λ x. ends_receiver (facts_in s) o u ≡ x → cond (is_some (cut u)) None (unless (is_some x) (open_in s.threads u)) ≡ unless (is_some (option_or (cut u) x)) (open_in s.threads u)) [
-            | None ↦ λ e. rw (or_none (cut u)) refl
+          open_is : (u : ℕ) → open_in threads u ≡ unless (is_some (option_or (cancel u) (ends_receiver (facts_in s) o u))) (open_in s.threads u)
+          open_is u = are.open_call u ∙ rw (cancel_mid u, is.open_call u) (elim (ends_receiver (facts_in s) o u) as (λ x. ends_receiver (facts_in s) o u ≡ x → cond (is_some (cancel u)) None (unless (is_some x) (open_in s.threads u)) ≡ unless (is_some (option_or (cancel u) x)) (open_in s.threads u)) [
+            | None ↦ λ e. rw (or_none (cancel u)) refl
             | Some y ↦ λ e. rw (met_uncut u y e) refl
           ] refl)
 
-          open_after : (u : ℕ) → open_in threads u ≡ cond (eqb u t) None (unless (is_some (option_or (cut u) (ends_receiver (facts_in s) o u))) (open_in s.threads u))
-          open_after u = elim (eqb u t) as (λ b. eqb u t ≡ b → open_in threads u ≡ cond b None (unless (is_some (option_or (cut u) (ends_receiver (facts_in s) o u))) (open_in s.threads u))) [
+          open_after : (u : ℕ) → open_in threads u ≡ cond (eqb u t) None (unless (is_some (option_or (cancel u) (ends_receiver (facts_in s) o u))) (open_in s.threads u))
+          open_after u = elim (eqb u t) as (λ b. eqb u t ≡ b → open_in threads u ≡ cond b None (unless (is_some (option_or (cancel u) (ends_receiver (facts_in s) o u))) (open_in s.threads u))) [
             | true ↦ λ same. open_is u ∙ (let idle : open_in s.threads u ≡ None = ap (open_in s.threads) (eqb-true u t same) ∙ free in rw idle (cond_same _ None))
             | false ↦ λ other. open_is u
           ] refl
 
-          gone_is : (k i v : ℕ) → (is_unread_send (entry_at s.connections) k i (open_in mid v) && is_some (cut_where (is_over coid) Badf v (open_in mid v)))
-              ≡ (is_unread_send (entry_at s.connections) k i (open_in s.threads v) && is_some (option_or (cut v) (ends_receiver (facts_in s) o v)))
-          gone_is k i v = rw (cut_mid v, is.open_call v) (elim (ends_receiver (facts_in s) o v) as (λ x. ends_receiver (facts_in s) o v ≡ x → (is_unread_send (entry_at s.connections) k i (unless (is_some x) (open_in s.threads v)) && is_some (cut v))
-              ≡ (is_unread_send (entry_at s.connections) k i (open_in s.threads v) && is_some (option_or (cut v) x))) [
-                | None ↦ λ e. rw (or_none (cut v)) refl
+          gone_is : (k i v : ℕ) → (is_unread_send (entry_at s.connections) k i (open_in mid v) && is_some (cancel_where (is_over coid) Badf v (open_in mid v)))
+              ≡ (is_unread_send (entry_at s.connections) k i (open_in s.threads v) && is_some (option_or (cancel v) (ends_receiver (facts_in s) o v)))
+          gone_is k i v = rw (cancel_mid v, is.open_call v) (elim (ends_receiver (facts_in s) o v) as (λ x. ends_receiver (facts_in s) o v ≡ x → (is_unread_send (entry_at s.connections) k i (unless (is_some x) (open_in s.threads v)) && is_some (cancel v))
+              ≡ (is_unread_send (entry_at s.connections) k i (open_in s.threads v) && is_some (option_or (cancel v) x))) [
+                | None ↦ λ e. rw (or_none (cancel v)) refl
                 | Some y ↦ λ e. rw (met_unread v k i y e) refl
               ] refl)
 
-          cut_is : (k i : ℕ) → is_cut_among (entry_at s.connections) (Over coid) Badf mid k i ≡ is_cut (facts_in s) t (ConnectDetach coid) k i
-          cut_is k i = rw (is.members, due_is) (ap (λ (p : ℕ → Bool). list_any p ts) (λ j v. gone_is k i v j))
+          cancel_is : (k i : ℕ) → is_cancelled_among (entry_at s.connections) (Over coid) Badf mid k i ≡ is_cancelled (facts_in s) t (ConnectDetach coid) k i
+          cancel_is k i = rw (is.members, due_is) (ap (λ (p : ℕ → Bool). list_any p ts) (λ j v. gone_is k i v j))
 
           pending_is : (k : ℕ) → pending_in now k ≡ unreceived_items (pulse_receipt (facts_in s) o) k (uncut_items (facts_in s) t (ConnectDetach coid) k (pending_in s.channels k ++ made_on k o))
           pending_is k = lose.pending k
-              ∙ filter_agree (λ (item : Item). not (is_cut_among (entry_at s.connections) (Over coid) Badf mid k item.number)) (λ item. not (is_cut (facts_in s) t (ConnectDetach coid) k item.number)) (λ item. ap not (cut_is k item.number)) (pending_in between k)
+              ∙ filter_agree (λ (item : Item). not (is_cancelled_among (entry_at s.connections) (Over coid) Badf mid k item.number)) (λ item. not (is_cancelled (facts_in s) t (ConnectDetach coid) k item.number)) (λ item. ap not (cancel_is k item.number)) (pending_in between k)
               ∙ ap (uncut_items (facts_in s) t (ConnectDetach coid) k) (is.pending k)
-              ∙ taken_filtered (λ item. not (is_cut (facts_in s) t (ConnectDetach coid) k item.number)) (pulse_receipt (facts_in s) o) k (pending_in s.channels k ++ made_on k o)
+              ∙ taken_filtered (λ item. not (is_cancelled (facts_in s) t (ConnectDetach coid) k item.number)) (pulse_receipt (facts_in s) o) k (pending_in s.channels k ++ made_on k o)
 
           pub step_detached : (X : List Completion) → length (without_entry s.connections coid) + 1 ≡ length s.connections
               → X ≡ with_ending_if met (filter_map g (threads_of (members_of mid))) → Steps s t (ConnectDetach coid) X detached

@@ -11,20 +11,21 @@ use Rattle.qtables.specs.Members.{member_at}
 use Rattle.qtables.specs.declared.member.Member.{Member}
 use Rattle.qstate.specs.declared.channel.Channel.{Channel}
 use Rattle.qstate.specs.declared.thread.Thread.{Thread}
-use Rattle.qstate.specs.Channel.{pending_in, ids_of, way_in, SetsItems, channel_in}
-use Rattle.qmodel.specs.Private.Facts.{way, is_fixed}
+use Rattle.qstate.specs.Channel.{ids_of, route_in, SetsItems}
+use Rattle.qstate.specs.Kept.{pending_in, channel_in}
+use Rattle.qmodel.specs.Private.Facts.{route, is_fixed}
 use Rattle.qmodel.specs.Private.Rows.{item_sent_over}
 use Rattle.qkernel.specs.Kernel.{State, IsSound}
 use Rattle.qkernel.specs.Private.Steps.{facts_in}
 use Rattle.qmodel.specs.Private.Past.{made_on}
-use Rattle.qstate.specs.Thread.{members_of}
+use Rattle.qstate.specs.Kept.{members_of}
 use Rattle.qbase.proofs.Lists.{all_append, eqb_either}
 use Rattle.qmodel.proofs.Calls.Delivering.{sent_way}
-use Rattle.qkernel.proofs.Steps.Common.{Counted, count_same, all_up_to, way-leads_to}
+use Rattle.qkernel.proofs.Steps.Common.{Counted, count_same, all_up_to, route-leads_to}
 
 -- the priority that a receiver on channel h takes of the item
-abbrev pub level_of : State → ℕ → Item → Option ℕ
-level_of s h item = cond (is_fixed (channel_in s.channels h)) None (Some item.priority)
+abbrev pub priority_at : State → ℕ → Item → Option ℕ
+priority_at s h item = cond (is_fixed (channel_in s.channels h)) None (Some item.priority)
 
 -- as many channels as there were
 pub count_kept : (old new : List (ℕ × Channel)) → ids_of new ≡ ids_of old → length new + 0 ≡ length old + 0
@@ -77,9 +78,9 @@ module _ (s : State) (h : ℕ) (item : Item) (sound : IsSound s) (number : item.
       ])
 
 -- the way of a connection, and what goes over it
-module _ (s : State) (t coid : ℕ) (m : Member) (h : ℕ) (known : member_at (members_of s.threads) t ≡ Some m) (found : way_in m.process s.channels (entry_at s.connections coid) ≡ Some h) where
-  pub some_way : way (facts_in s) t coid ≡ Some h
-  some_way = way-leads_to s t m (entry_at s.connections coid) known ∙ found
+module _ (s : State) (t coid : ℕ) (m : Member) (h : ℕ) (known : member_at (members_of s.threads) t ≡ Some m) (found : route_in m.process s.channels (entry_at s.connections coid) ≡ Some h) where
+  pub some_way : route (facts_in s) t coid ≡ Some h
+  some_way = route-leads_to s t m (entry_at s.connections coid) known ∙ found
 
   pub some_sent : (item : Item) → item_sent_over (entry_at s.connections coid) item ≡ Some (record { item = item; channel = h })
   some_sent item = sent_way (facts_in s) t coid item h some_way

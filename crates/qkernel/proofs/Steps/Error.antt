@@ -13,7 +13,8 @@ use Rattle.qmodel.specs.Private.Held.{answer_ending}
 use Rattle.qstate.specs.Held.{is_held_in}
 use Rattle.qkernel.specs.Kernel.{State, IsSound}
 use Rattle.qkernel.specs.Private.Steps.{Steps}
-use Rattle.qstate.specs.Thread.{members_of, open_in, sender_in, SetsOpen}
+use Rattle.qstate.specs.Thread.{open_in, sender_in, SetsOpen}
+use Rattle.qstate.specs.Kept.{members_of}
 use Rattle.qkernel.proofs.Steps.Common.{uncut}
 use Rattle.qkernel.proofs.Steps.Held.{is_held, two_ended, answered_calls}
 

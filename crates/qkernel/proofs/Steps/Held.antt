@@ -18,7 +18,7 @@ use Rattle.qmodel.specs.declared.open_call.Wait.TheVariants.{Answer, Item as For
 use Rattle.qstate.specs.declared.thread.Thread.{Thread}
 use Rattle.qmodel.specs.Private.Answer.{refusal_ending}
 use Rattle.qmodel.specs.Private.Calls.{row_of}
-use Rattle.qstate.specs.Channel.{channel_in}
+use Rattle.qstate.specs.Kept.{channel_in}
 use Rattle.qstate.specs.Endings.{with_ending_in_place}
 use Rattle.qmodel.specs.Private.Facts.{is_send, sender, sender_among, threads_of}
 use Rattle.qmodel.specs.Private.Held.{Finish, ends_sender, answer_ending, answer_ending_of_wait, refusal}
@@ -27,7 +27,8 @@ use Rattle.qstate.specs.Held.{leads_to_own, is_held_over, is_held_in}
 use Rattle.qkernel.specs.Kernel.{State, IsSound}
 use Rattle.qkernel.specs.Private.Steps.{Steps, facts_in}
 use Rattle.qmodel.specs.Private.Step.{unless}
-use Rattle.qstate.specs.Thread.{members_of, open_in, held_over_in, sender_in, sent_call, SetsOpen}
+use Rattle.qstate.specs.Thread.{open_in, held_over_in, sender_in, sent_call, SetsOpen}
+use Rattle.qstate.specs.Kept.{members_of}
 use Rattle.qstate.proofs.Inserting.{two_endings}
 use Rattle.qbase.proofs.Lists.{is_among, cond_same}
 use Rattle.qmodel.proofs.Rosters.{rises, among, filter_map_same}

@@ -21,7 +21,8 @@ use Rattle.qstate.specs.Held.{is_held_in}
 use Rattle.qkernel.specs.Kernel.{State, IsSound}
 use Rattle.qkernel.specs.Private.Steps.{Steps, facts_in}
 use Rattle.qkernel.specs.Stands.{InfoAtTraces}
-use Rattle.qstate.specs.Thread.{held_over_in, members_of, open_in}
+use Rattle.qstate.specs.Thread.{held_over_in, open_in}
+use Rattle.qstate.specs.Kept.{members_of}
 use Rattle.qstate.proofs.Seats.{first_member, first_open}
 use Rattle.qstate.proofs.Senders.{first_there, held_there, no_sender, sender_in-by, sender_of_held, sender_there}
 use Rattle.qmodel.proofs.Rosters.{among, only_own, rises}

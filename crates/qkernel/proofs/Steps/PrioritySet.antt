@@ -20,11 +20,12 @@ use Rattle.qstate.specs.declared.channel.Channel.{Channel}
 use Rattle.qstate.specs.declared.thread.Thread.{Thread}
 use Rattle.qkernel.specs.Kernel.{State, IsSound}
 use Rattle.qkernel.specs.Private.Steps.{Steps, facts_in}
-use Rattle.qstate.specs.Channel.{pending_in}
-use Rattle.qstate.specs.Thread.{level_in, members_of, open_in, SetsLevel}
+use Rattle.qstate.specs.Kept.{pending_in}
+use Rattle.qstate.specs.Thread.{open_in, SetsPriority}
+use Rattle.qstate.specs.Kept.{thread_priority, members_of}
 use Rattle.qstate.specs.Unread.{MovesUnread}
 use Rattle.qmodel.specs.Private.Step.{items_with_priority_set, is_unread_send}
-use Rattle.qmodel.proofs.Past.Cuts.{none_cut}
+use Rattle.qmodel.proofs.Past.Cancels.{none_cancelled}
 use Rattle.qmodel.proofs.Rosters.{among, only_own, rises}
 use Rattle.qbase.proofs.Lists.{all_map, all_more}
 use Rattle.qkernel.proofs.Steps.Delivering.{sound_threads}
@@ -40,7 +41,7 @@ module _ (s : State) (t thread priority : ℕ) (m : Member) (known : member_at (
   mine = record { call = s.made + 1; thread = t; mark = mark.Ok; buffer = [] }
 
   pub step_set : (threads : List Thread) (channels : List (ℕ × Channel)) (X : List Completion) → IsSound s → is_in_process m.process (member_at (members_of s.threads) thread) ≡ true
-      → MovesUnread (open_in s.threads thread) s.connections priority s.channels channels → SetsLevel thread (Some priority) s.threads threads → X ≡ mine ∷ []
+      → MovesUnread (open_in s.threads thread) s.connections priority s.channels channels → SetsPriority thread (Some priority) s.threads threads → X ≡ mine ∷ []
       → Steps s t (PrioritySet thread priority) X (record { made = s.made + 1; down = s.down; threads = threads; channels = channels; connections = s.connections })
   step_set threads channels X sound own moves sets is = (
     true,
@@ -59,8 +60,8 @@ module _ (s : State) (t thread priority : ℕ) (m : Member) (known : member_at (
         live_connections = rw known (omega arith);
         open_call = λ u. sets.open_call u ∙ stays_free s.threads t u free;
         pending = λ k. moves.pending k ∙ ap (items_with_priority_set (facts_in s) k (Some (record { thread = thread; priority = priority })))
-            (sym (none_cut (facts_in s) t (PrioritySet thread priority) (λ u y e. absurd (none-some y e)) k (pending_in s.channels k ++ []) ∙ append-nil (pending_in s.channels k)));
-        priority = λ u. sets.priority u ∙ (elim (eqb thread u) as (λ b. unwrap_or (cond b (Some priority) None) (level_in s.threads u) ≡ unwrap_or (option_or (cond b (Some priority) None) None) (level_in s.threads u)) [ true ↦ refl | false ↦ refl ]);
+            (sym (none_cancelled (facts_in s) t (PrioritySet thread priority) (λ u y e. absurd (none-some y e)) k (pending_in s.channels k ++ []) ∙ append-nil (pending_in s.channels k)));
+        priority = λ u. sets.priority u ∙ (elim (eqb thread u) as (λ b. unwrap_or (cond b (Some priority) None) (thread_priority s.threads u) ≡ unwrap_or (option_or (cond b (Some priority) None) None) (thread_priority s.threads u)) [ true ↦ refl | false ↦ refl ]);
       };
     },
   )

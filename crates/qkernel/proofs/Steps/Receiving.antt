@@ -21,14 +21,16 @@ use Rattle.qmodel.specs.declared.open_call.Receipt.{Receipt}
 use Rattle.qmodel.specs.declared.open_call.Wait.TheVariants.{Item as ForItem}
 use Rattle.qstate.specs.declared.thread.Thread.{Thread}
 use Rattle.qmodel.specs.Private.Answer.{ending}
-use Rattle.qstate.specs.Channel.{channel_in, pending_in, ids_of, is_of, SetsItems}
+use Rattle.qstate.specs.Channel.{ids_of, is_of, SetsItems}
+use Rattle.qstate.specs.Kept.{channel_in, pending_in}
 use Rattle.qmodel.specs.Private.Facts.{owns, threads_of, is_fixed}
 use Rattle.qmodel.specs.Private.Receiving.{own_receipt, receipt_when_taken, receive_of}
 use Rattle.qmodel.specs.Private.Rows.{Received, receipt_ending}
 use Rattle.qkernel.specs.Kernel.{State, IsSound}
 use Rattle.qkernel.specs.Private.Steps.{Steps, facts_in}
 use Rattle.qmodel.specs.Private.Step.{after_receipt, is_thread, held_call, unreceived_items, unless, priority_taken}
-use Rattle.qstate.specs.Thread.{members_of, open_in, level_in, message_from, sender_in, SetsOpen, HandsOver, SetsLevel}
+use Rattle.qstate.specs.Thread.{open_in, message_from, sender_in, SetsOpen, HandsOver, SetsPriority}
+use Rattle.qstate.specs.Kept.{members_of, thread_priority}
 use Rattle.qbase.proofs.Lists.{all_filter, eqb_either, cond_same}
 use Rattle.qmodel.proofs.Rosters.{rises, among, nothing, filter_map_same, only_own}
 use Rattle.qkernel.proofs.Steps.Common.{uncut, counted, step_refused_alone, owned_by_member, all_up_to, stays_free}
@@ -71,7 +73,7 @@ record Receives (s : State) (t chid : ℕ) (kind : Kind) (buffer : List ℕ) (o 
   items : (k : ℕ) → pending_in channels k ≡ unreceived_items (receipt_by s t chid buffer o) k (pending_in s.channels k ++ [])
   ids : ids_of channels ≡ ids_of s.channels
   channel : (k : ℕ) → channel_in channels k ≡ channel_in s.channels k
-  priority : (u : ℕ) → level_in threads u ≡ unwrap_or (priority_taken (facts_in s) (receipt_by s t chid buffer o) u) (level_in s.threads u)
+  priority : (u : ℕ) → thread_priority threads u ≡ unwrap_or (priority_taken (facts_in s) (receipt_by s t chid buffer o) u) (thread_priority s.threads u)
 
 step_of : (s : State) (t chid : ℕ) (kind : Kind) (buffer : List ℕ) (m : Member) (o : Option Item) (X : List Completion) (threads : List Thread) (channels : List (ℕ × Channel)) → (kind ≡ PulseOnly → buffer ≡ [])
     → member_at (members_of s.threads) t ≡ Some m → s.down ≡ false → open_in s.threads t ≡ None → owns (facts_in s) t chid ≡ true → best_of kind (pending_in s.channels chid) ≡ o → Receives s t chid kind buffer o X threads channels
@@ -164,19 +166,19 @@ module _ (s : State) (t chid : ℕ) (kind : Kind) (buffer : List ℕ) (m : Membe
     idle_after u = stays_free s.threads t u free
 
     -- the priority that the receiver takes
-    abbrev pub level : List (ℕ × Channel) → Option ℕ
-    level channels = cond (is_fixed (channel_in channels chid)) None (Some item.priority)
+    abbrev pub priority : List (ℕ × Channel) → Option ℕ
+    priority channels = cond (is_fixed (channel_in channels chid)) None (Some item.priority)
 
     pub step_receive_takes : (threads_1 threads_2 : List Thread) (channels : List (ℕ × Channel)) (X : List Completion) → HandsOver (is_pulse item.what) item.number kept s.threads threads_1
-        → SetsLevel t (level channels) threads_1 threads_2 → SetsItems chid (without_item item.number (pending_in s.channels chid)) s.channels channels → X ≡ receipt_ending item (message_from s.threads item.number) t (s.made + 1) buffer ∷ []
+        → SetsPriority t (priority channels) threads_1 threads_2 → SetsItems chid (without_item item.number (pending_in s.channels chid)) s.channels channels → X ≡ receipt_ending item (message_from s.threads item.number) t (s.made + 1) buffer ∷ []
         → Steps s t (receive_of kind chid buffer) X (record { made = s.made + 1; down = s.down; threads = threads_2; channels = channels; connections = s.connections })
     step_receive_takes threads_1 threads_2 channels X hands takes sets is = by (is_pulse item.what) refl hands where
       ends : X ≡ filter_map (λ u. cond (eqb u t) (Some (receipt_ending item (message_from s.threads item.number) t (s.made + 1) buffer)) None) (threads_of (members_of s.threads))
       ends = is ∙ sym (only_own (threads_of (members_of s.threads)) t (Some (receipt_ending item (message_from s.threads item.number) t (s.made + 1) buffer)) (rises (members_of s.threads) sound.roster) (among (members_of s.threads) t m known))
 
-      levels : (u : ℕ) → level_in threads_1 u ≡ level_in s.threads u → level_in threads_2 u ≡ unwrap_or (cond (eqb t u) (level s.channels) None) (level_in s.threads u)
-      levels u same = takes.priority u ∙ ap (unwrap_or (cond (eqb t u) (level channels) None)) same
-          ∙ ap (λ o. unwrap_or (cond (eqb t u) (cond (is_fixed o) None (Some item.priority)) None) (level_in s.threads u)) (sets.channel chid)
+      priorities : (u : ℕ) → thread_priority threads_1 u ≡ thread_priority s.threads u → thread_priority threads_2 u ≡ unwrap_or (cond (eqb t u) (priority s.channels) None) (thread_priority s.threads u)
+      priorities u same = takes.priority u ∙ ap (unwrap_or (cond (eqb t u) (priority channels) None)) same
+          ∙ ap (λ o. unwrap_or (cond (eqb t u) (cond (is_fixed o) None (Some item.priority)) None) (thread_priority s.threads u)) (sets.channel chid)
 
       by : (b : Bool) → is_pulse item.what ≡ b → HandsOver b item.number kept s.threads threads_1
           → Steps s t (receive_of kind chid buffer) X (record { made = s.made + 1; down = s.down; threads = threads_2; channels = channels; connections = s.connections })
@@ -187,7 +189,7 @@ module _ (s : State) (t chid : ℕ) (kind : Kind) (buffer : List ℕ) (m : Membe
         items = λ k. sets.pending k ∙ rw pulse (items_after k);
         ids = sets.ids;
         channel = sets.channel;
-        priority = λ u. levels u (ap (λ ts. level_in ts u) same) ∙ rw pulse refl;
+        priority = λ u. priorities u (ap (λ ts. thread_priority ts u) same) ∙ rw pulse refl;
       })
       by false message changes = step_of s t chid kind buffer m (Some item) X threads_2 channels empty known up free owned best (record {
         endings = ends;
@@ -196,7 +198,7 @@ module _ (s : State) (t chid : ℕ) (kind : Kind) (buffer : List ℕ) (m : Membe
         items = λ k. sets.pending k ∙ rw message (items_after k);
         ids = sets.ids;
         channel = sets.channel;
-        priority = λ u. levels u (changes.priority u) ∙ rw message refl;
+        priority = λ u. priorities u (changes.priority u) ∙ rw message refl;
       })
 
 -- ---- soundness

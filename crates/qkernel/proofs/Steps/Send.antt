@@ -18,46 +18,48 @@ use Rattle.qmodel.specs.declared.open_call.Receipt.{Receipt}
 use Rattle.qmodel.specs.declared.open_call.Wait.TheVariants.{Answer}
 use Rattle.qstate.specs.declared.thread.Thread.{Thread}
 use Rattle.qmodel.specs.Private.Answer.{refusal_ending, ending}
-use Rattle.qstate.specs.Channel.{pending_in, way_in, SetsItems}
-use Rattle.qmodel.specs.Private.Facts.{way, threads_of}
+use Rattle.qstate.specs.Channel.{route_in, SetsItems}
+use Rattle.qstate.specs.Kept.{pending_in}
+use Rattle.qmodel.specs.Private.Facts.{route, threads_of}
 use Rattle.qmodel.specs.Private.Receivers.{newest_receiver}
 use Rattle.qmodel.specs.Private.Rows.{message_item, takes, item_in_mark, item_sent_over}
 use Rattle.qkernel.specs.Kernel.{State, IsSound}
 use Rattle.qkernel.specs.Private.Steps.{Steps, facts_in}
 use Rattle.qmodel.specs.Private.Step.{unless, held_call}
 use Rattle.qmodel.specs.Private.Past.{made_on}
-use Rattle.qstate.specs.Thread.{members_of, open_in, level_in, newest_in, SetsOpen, Wakes}
+use Rattle.qstate.specs.Thread.{open_in, newest_in, SetsOpen, Wakes}
+use Rattle.qstate.specs.Kept.{members_of, thread_priority}
 use Rattle.qbase.proofs.Lists.{is_among, cond_same}
 use Rattle.qmodel.proofs.Rosters.{rises, nothing, filter_map_same, only_own}
-use Rattle.qkernel.proofs.Steps.Delivering.{counted_room, count_kept, items_after, some_sent, some_way, with_item, level_of}
+use Rattle.qkernel.proofs.Steps.Delivering.{counted_room, count_kept, items_after, some_sent, some_way, with_item, priority_at}
 use Rattle.qstate.proofs.Receivers.{ended_thread}
-use Rattle.qkernel.proofs.Steps.Common.{uncut, counted, step_refused, step_refused_alone, way-leads_to}
+use Rattle.qkernel.proofs.Steps.Common.{uncut, counted, step_refused, step_refused_alone, route-leads_to}
 use Rattle.qqueue.specs.Best.{without_item}
 
 -- ---- refusals
 
 pub step_send_nowhere : (s : State) (t coid : ℕ) (message reply_buffer : List ℕ) (m : Member) (X : List Completion) → member_at (members_of s.threads) t ≡ Some m → s.down ≡ false → open_in s.threads t ≡ None
-    → way_in m.process s.channels (entry_at s.connections coid) ≡ None → X ≡ refusal_ending (facts_in s) t (Send coid message reply_buffer) Badf ∷ [] → Steps s t (Send coid message reply_buffer) X (counted s)
+    → route_in m.process s.channels (entry_at s.connections coid) ≡ None → X ≡ refusal_ending (facts_in s) t (Send coid message reply_buffer) Badf ∷ [] → Steps s t (Send coid message reply_buffer) X (counted s)
 step_send_nowhere s t coid message reply_buffer m X known up free none is =
-    let no_way : way (facts_in s) t coid ≡ None = way-leads_to s t m (entry_at s.connections coid) known ∙ none in
+    let no_way : route (facts_in s) t coid ≡ None = route-leads_to s t m (entry_at s.connections coid) known ∙ none in
     step_refused_alone s t (Send coid message reply_buffer) Badf X (inl (rw (up, free, no_way) refl)) is
 
 pub step_send_no_memory : (s : State) (t coid : ℕ) (message reply_buffer : List ℕ) (m : Member) (h : ℕ) (new : List (ℕ × Channel)) (e : Errno) (X : List Completion) → member_at (members_of s.threads) t ≡ Some m
-    → s.down ≡ false → open_in s.threads t ≡ None → way_in m.process s.channels (entry_at s.connections coid) ≡ Some h → e ≡ NoMemory → newest_in h (message_item (s.made + 1) (level_in s.threads t)) s.threads ≡ None → SetsItems h (pending_in s.channels h) s.channels new
+    → s.down ≡ false → open_in s.threads t ≡ None → route_in m.process s.channels (entry_at s.connections coid) ≡ Some h → e ≡ NoMemory → newest_in h (message_item (s.made + 1) (thread_priority s.threads t)) s.threads ≡ None → SetsItems h (pending_in s.channels h) s.channels new
     → X ≡ refusal_ending (facts_in s) t (Send coid message reply_buffer) e ∷ []
     → Steps s t (Send coid message reply_buffer) X (record { made = s.made + 1; down = s.down; threads = s.threads; channels = new; connections = s.connections })
 step_send_no_memory s t coid message reply_buffer m h new e X known up free found want nobody sets is =
-    let some_way : way (facts_in s) t coid ≡ Some h = way-leads_to s t m (entry_at s.connections coid) known ∙ found in
-    let none : newest_receiver (facts_in s) h (message_item (s.made + 1) (level_in s.threads t)) ≡ None = nobody in
+    let some_way : route (facts_in s) t coid ≡ Some h = route-leads_to s t m (entry_at s.connections coid) known ∙ found in
+    let none : newest_receiver (facts_in s) h (message_item (s.made + 1) (thread_priority s.threads t)) ≡ None = nobody in
     step_refused s t (Send coid message reply_buffer) e X _ (inr (rw (up, free, some_way) refl, rw (some_way, none) refl, want)) is (counted_room s h new sets)
 
 module _ (s : State) (t coid : ℕ) (message reply_buffer : List ℕ) (m : Member) (h : ℕ) (sound : IsSound s) (known : member_at (members_of s.threads) t ≡ Some m) (up : s.down ≡ false) (free : open_in s.threads t ≡ None)
-    (found : way_in m.process s.channels (entry_at s.connections coid) ≡ Some h) where
+    (found : route_in m.process s.channels (entry_at s.connections coid) ≡ Some h) where
   -- the item that the call makes
   abbrev pub item : Item
-  item = message_item (s.made + 1) (level_in s.threads t)
+  item = message_item (s.made + 1) (thread_priority s.threads t)
 
-  over_way : way (facts_in s) t coid ≡ Some h
+  over_way : route (facts_in s) t coid ≡ Some h
   over_way = some_way s t coid m h known found
 
   over_sent : item_sent_over (entry_at s.connections coid) item ≡ Some (record { item = item; channel = h })
@@ -99,14 +101,14 @@ module _ (s : State) (t coid : ℕ) (message reply_buffer : List ℕ) (m : Membe
     apart e = none-some y (sym (ap (takes item message r) (ap (open_in s.threads) (sym e) ∙ free)) ∙ ended)
 
     -- the sender waits with the receipt, the receiver no longer
-    calls_after : (threads_1 : List Thread) → Wakes r (level_of s h item) s.threads threads_1 → (u : ℕ)
-        → cond (eqb u t) (Some (waiting (Some (record { priority = level_in s.threads t; copied = copied; unblocked = false })))) (open_in threads_1 u)
-        ≡ cond (eqb u t) (unless false (cond (eqb u t) (Some (waiting (Some (record { priority = level_in s.threads t; copied = copied; unblocked = false })))) (Some (waiting None))))
-        (unless (is_some (cond (eqb u r) (takes item message u (open_in s.threads u)) None)) (cond (eqb u t) (option_map (held_call (record { priority = level_in s.threads t; copied = copied; unblocked = false })) (open_in s.threads u)) (open_in s.threads u)))
+    calls_after : (threads_1 : List Thread) → Wakes r (priority_at s h item) s.threads threads_1 → (u : ℕ)
+        → cond (eqb u t) (Some (waiting (Some (record { priority = thread_priority s.threads t; copied = copied; unblocked = false })))) (open_in threads_1 u)
+        ≡ cond (eqb u t) (unless false (cond (eqb u t) (Some (waiting (Some (record { priority = thread_priority s.threads t; copied = copied; unblocked = false })))) (Some (waiting None))))
+        (unless (is_some (cond (eqb u r) (takes item message u (open_in s.threads u)) None)) (cond (eqb u t) (option_map (held_call (record { priority = thread_priority s.threads t; copied = copied; unblocked = false })) (open_in s.threads u)) (open_in s.threads u)))
     calls_after threads_1 takes_r u =
-        elim (eqb u t) as (λ b. cond b (Some (waiting (Some (record { priority = level_in s.threads t; copied = copied; unblocked = false })))) (open_in threads_1 u)
-        ≡ cond b (unless false (cond b (Some (waiting (Some (record { priority = level_in s.threads t; copied = copied; unblocked = false })))) (Some (waiting None))))
-        (unless (is_some (cond (eqb u r) (takes item message u (open_in s.threads u)) None)) (cond b (option_map (held_call (record { priority = level_in s.threads t; copied = copied; unblocked = false })) (open_in s.threads u)) (open_in s.threads u)))) [
+        elim (eqb u t) as (λ b. cond b (Some (waiting (Some (record { priority = thread_priority s.threads t; copied = copied; unblocked = false })))) (open_in threads_1 u)
+        ≡ cond b (unless false (cond b (Some (waiting (Some (record { priority = thread_priority s.threads t; copied = copied; unblocked = false })))) (Some (waiting None))))
+        (unless (is_some (cond (eqb u r) (takes item message u (open_in s.threads u)) None)) (cond b (option_map (held_call (record { priority = thread_priority s.threads t; copied = copied; unblocked = false })) (open_in s.threads u)) (open_in s.threads u)))) [
           | true ↦ refl
           | false ↦ takes_r.open_call u ∙ (elim (eqb u r) as (λ b. eqb u r ≡ b → cond b None (open_in s.threads u) ≡ unless (is_some (cond b (takes item message u (open_in s.threads u)) None)) (open_in s.threads u)) [
             | true ↦ λ e. rw (eqb-true u r e, ended) refl
@@ -114,7 +116,7 @@ module _ (s : State) (t coid : ℕ) (message reply_buffer : List ℕ) (m : Membe
           ] refl)
         ]
 
-    pub step_send_met : (threads_1 threads_2 : List Thread) (X : List Completion) → Wakes r (level_of s h item) s.threads threads_1 → SetsOpen t (Some (waiting (Some (record { priority = level_in s.threads t; copied = copied; unblocked = false })))) threads_1 threads_2
+    pub step_send_met : (threads_1 threads_2 : List Thread) (X : List Completion) → Wakes r (priority_at s h item) s.threads threads_1 → SetsOpen t (Some (waiting (Some (record { priority = thread_priority s.threads t; copied = copied; unblocked = false })))) threads_1 threads_2
         → X ≡ y ∷ [] → Steps s t (Send coid message reply_buffer) X (record { made = s.made + 1; down = s.down; threads = threads_2; channels = s.channels; connections = s.connections })
     step_send_met threads_1 threads_2 X takes_r sets_t is = (
       true,

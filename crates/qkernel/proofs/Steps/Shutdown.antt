@@ -9,19 +9,20 @@ use Rattle.qtables.specs.declared.member.Member.{Member}
 use Rattle.qmodel.specs.Private.Step.{uncut_items}
 use Rattle.qmodel.specs.declared.call.Call.TheVariants.{Shutdown}
 use Rattle.qmodel.specs.declared.call.Completion.{Completion}
-use Rattle.qstate.specs.Channel.{pending_in}
-use Rattle.qstate.specs.Cutting.{AreCut, LoseCut}
-use Rattle.qstate.specs.Thread.{members_of, open_in}
+use Rattle.qstate.specs.Kept.{pending_in}
+use Rattle.qstate.specs.Cancelling.{AreCancelled, LoseCancelled}
+use Rattle.qstate.specs.Thread.{open_in}
+use Rattle.qstate.specs.Kept.{members_of}
 use Rattle.qstate.specs.declared.channel.Channel.{Channel}
-use Rattle.qstate.specs.declared.cutting.Cut.TheVariants.{All}
+use Rattle.qstate.specs.declared.cancelling.CancelSet.TheVariants.{All}
 use Rattle.qstate.specs.declared.thread.Thread.{Thread}
 use Rattle.qkernel.specs.Kernel.{State}
 use Rattle.qkernel.specs.Private.Steps.{Steps, facts_in}
-use Rattle.qkernel.proofs.Steps.Cutting.{endings_cut, open_after}
+use Rattle.qkernel.proofs.Steps.Cancelling.{endings_cancelled, open_after}
 use Rattle.qkernel.proofs.Steps.Delivering.{count_kept}
 
 pub step_shut : (s : State) (t : ℕ) (m : Member) (threads : List Thread) (channels : List (ℕ × Channel)) (X : List Completion) → member_at (members_of s.threads) t ≡ Some m → s.down ≡ false → open_in s.threads t ≡ None
-    → AreCut (entry_at s.connections) All Srch s.threads threads → LoseCut (entry_at s.connections) All Srch s.threads s.channels channels → X ≡ endings_cut s t All Srch
+    → AreCancelled (entry_at s.connections) All Srch s.threads threads → LoseCancelled (entry_at s.connections) All Srch s.threads s.channels channels → X ≡ endings_cancelled s t All Srch
     → Steps s t Shutdown X (record { made = s.made + 1; down = true; threads = threads; channels = channels; connections = s.connections })
 step_shut s t m threads channels X known up free are lose is = (
   true,

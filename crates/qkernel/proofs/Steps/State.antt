@@ -13,7 +13,8 @@ use Rattle.qmodel.specs.declared.call.Completion.{Completion}
 use Rattle.qmodel.specs.declared.call.Mark.TheVariants as mark
 use Rattle.qkernel.specs.Kernel.{State, IsSound}
 use Rattle.qkernel.specs.Private.Steps.{Steps, facts_in}
-use Rattle.qstate.specs.Thread.{level_in, members_of, open_in}
+use Rattle.qstate.specs.Thread.{open_in}
+use Rattle.qstate.specs.Kept.{thread_priority, members_of}
 use Rattle.qmodel.proofs.Rosters.{among, only_own, rises}
 use Rattle.qkernel.proofs.Steps.Common.{uncut, counted, stays_free, step_refused_alone}
 
@@ -23,7 +24,7 @@ module _ (s : State) (t target : ℕ) (m : Member) (known : member_at (members_o
 
   -- how the call ends
   abbrev pub telling : Completion
-  telling = record { call = s.made + 1; thread = t; mark = mark.State (state_in (entry_at s.connections) (open_in s.threads target)) (level_in s.threads target); buffer = [] }
+  telling = record { call = s.made + 1; thread = t; mark = mark.State (state_in (entry_at s.connections) (open_in s.threads target)) (thread_priority s.threads target); buffer = [] }
 
   pub step_state : (X : List Completion) → IsSound s → is_some (member_at (members_of s.threads) target) ≡ true → X ≡ telling ∷ [] → Steps s t (Ask target) X (counted s)
   step_state X sound there is = (

@@ -22,7 +22,8 @@ use Rattle.qstate.specs.declared.channel.Channel.{Channel}
 use Rattle.qstate.specs.declared.thread.Thread.{Thread}
 use Rattle.qstate.specs.Endings.{with_ending_if}
 use Rattle.qstate.specs.Pulses.{IsSent, IsSentIfDue, IsTurnedAway, has_room}
-use Rattle.qstate.specs.Thread.{level_in, members_of, newest_in, open_in}
+use Rattle.qstate.specs.Thread.{newest_in, open_in}
+use Rattle.qstate.specs.Kept.{thread_priority, members_of}
 use Rattle.qstate.proofs.Inserting.{own_first, own_one}
 use Rattle.qkernel.specs.Kernel.{State, IsSound}
 use Rattle.qkernel.specs.Private.Steps.{Steps, facts_in}
@@ -31,7 +32,7 @@ use Rattle.qmodel.proofs.Rosters.{among, filter_map_same, only_own, rises}
 use Rattle.qmodel.specs.Private.Pulses.{ends_receiver, pulse_receipt}
 use Rattle.qmodel.proofs.Past.Laws.{IsSettled}
 use Rattle.qkernel.proofs.Steps.Common.{Counted, counted_alone, sound_counted, sound_counted_alone, step_refused, uncut_by}
-use Rattle.qkernel.proofs.Steps.Cutting.{mine}
+use Rattle.qkernel.proofs.Steps.Cancelling.{mine}
 use Rattle.qkernel.proofs.Steps.Delivering.{count_kept, counted_room, sound_threads, sound_with_item}
 use Rattle.qkernel.proofs.Steps.Told.{IsNew, IsTold, not_caller, told_settled}
 
@@ -58,7 +59,7 @@ pub record Tells (s : State) (t : ℕ) (c : Call) (o : Option SentItem) : Type 0
 pub record AreMarked (c : Call) (o : Option SentItem) (mid threads : List Thread) : Type 0 where
   pub members : members_of threads ≡ members_of mid
   pub open_call : (u : ℕ) → open_in threads u ≡ after_unblock o (unblocks c) u (open_in mid u)
-  pub priority : (u : ℕ) → level_in threads u ≡ level_in mid u
+  pub priority : (u : ℕ) → thread_priority threads u ≡ thread_priority mid u
 
 module _ (s : State) (t : ℕ) (c : Call) (m : Member) (o : Option SentItem) (sound : IsSound s) (known : member_at (members_of s.threads) t ≡ Some m) (free : open_in s.threads t ≡ None) (tells : Tells s t c o)
     (mid : List Thread) (channels : List (ℕ × Channel)) (met : Option Completion) (is : IsTold s t o mid channels met) where

@@ -23,10 +23,12 @@ use Rattle.qmodel.specs.declared.open_call.Wait.TheVariants.{Answer, Item as For
 use Rattle.qmodel.proofs.Rosters.{filter_map_same, rises}
 use Rattle.qmodel.proofs.Calls.Delivering.{ForAnItem, met_item, met_settled}
 use Rattle.qmodel.proofs.Past.Laws.{IsSettled}
-use Rattle.qstate.specs.Channel.{channel_in, ids_of, pending_in}
+use Rattle.qstate.specs.Channel.{ids_of}
+use Rattle.qstate.specs.Kept.{channel_in, pending_in}
 use Rattle.qstate.specs.Endings.{with_ending_if}
 use Rattle.qstate.specs.Pulses.{IsLeft, IsMet, IsSentIfDue}
-use Rattle.qstate.specs.Thread.{level_in, members_of, open_in}
+use Rattle.qstate.specs.Thread.{open_in}
+use Rattle.qstate.specs.Kept.{thread_priority, members_of}
 use Rattle.qstate.specs.declared.channel.Channel.{Channel}
 use Rattle.qstate.specs.declared.thread.Thread.{Thread}
 use Rattle.qstate.proofs.Inserting.{endings_fewer, inserted_among}
@@ -46,7 +48,7 @@ pub record IsTold (s : State) (t : ℕ) (o : Option SentItem) (mid : List Thread
   pub members : members_of mid ≡ members_of s.threads
   pub open_call : (u : ℕ) → open_in mid u ≡ unless (is_some (ends_receiver (facts_in s) o u)) (open_in s.threads u)
   pub idle : ends_receiver (facts_in s) o t ≡ None
-  pub priority : (u : ℕ) → level_in mid u ≡ unwrap_or (priority_taken (facts_in s) (pulse_receipt (facts_in s) o) u) (level_in s.threads u)
+  pub priority : (u : ℕ) → thread_priority mid u ≡ unwrap_or (priority_taken (facts_in s) (pulse_receipt (facts_in s) o) u) (thread_priority s.threads u)
   pub senderless : (u : ℕ) (call : Option OpenCall) → after_receipt (pulse_receipt (facts_in s) o) u call ≡ call
   pub ids : ids_of channels ≡ ids_of s.channels
   pub channel : (k : ℕ) → channel_in channels k ≡ channel_in s.channels k
@@ -96,7 +98,7 @@ module _ (s : State) (t h : ℕ) (item : Item) (sound : IsSound s) (free : open_
         members = ap members_of left.threads_are;
         open_call = λ u. ap (λ ts. open_in ts u) left.threads_are ∙ rw none refl;
         idle = rw none refl;
-        priority = λ u. ap (λ ts. level_in ts u) left.threads_are ∙ rw none refl;
+        priority = λ u. ap (λ ts. thread_priority ts u) left.threads_are ∙ rw none refl;
         senderless = λ u call. rw none refl;
         ids = left.sets.ids;
         channel = left.sets.channel;

@@ -16,7 +16,7 @@ use Rattle.qtables.specs.declared.member.Member.{Member}
 use Rattle.qmodel.specs.Private.Answer.{MayRefuse, ending, refusal_ending}
 use Rattle.qmodel.specs.Private.Calls.Unblock.{due_pulse, other_ending, guard, guard_over}
 use Rattle.qmodel.proofs.Parts.{due_pulse_on, due_pulse_of_open}
-use Rattle.qmodel.specs.Private.Cutting.{cut_call, cut_where}
+use Rattle.qmodel.specs.Private.Cancelling.{cancel_call, cancel_where}
 use Rattle.qmodel.specs.Private.Facts.{is_in_process, threads_of}
 use Rattle.qmodel.specs.Private.Pulses.{pulse_receipt, refusal_if_full}
 use Rattle.qmodel.specs.Private.Rows.{unblock_item}
@@ -29,20 +29,21 @@ use Rattle.qmodel.specs.declared.open_call.OpenCall.{OpenCall}
 use Rattle.qmodel.specs.declared.open_call.Wait.{Wait}
 use Rattle.qmodel.specs.declared.open_call.Wait.TheVariants.{Answer, Item as ForItem}
 use Rattle.qstate.specs.declared.channel.Channel.{Channel}
-use Rattle.qstate.specs.declared.cutting.Cut.TheVariants.{Of}
+use Rattle.qstate.specs.declared.cancelling.CancelSet.TheVariants.{Of}
 use Rattle.qstate.specs.declared.held.Held.{Held}
 use Rattle.qstate.specs.declared.thread.Thread.{Thread}
-use Rattle.qstate.specs.Channel.{pending_in}
-use Rattle.qstate.specs.Cutting.{AreCut, LoseCut}
+use Rattle.qstate.specs.Kept.{pending_in}
+use Rattle.qstate.specs.Cancelling.{AreCancelled, LoseCancelled}
 use Rattle.qstate.specs.Held.{guard_in, guarded_message_in, held_message_in}
 use Rattle.qstate.specs.Pulses.{has_room}
 use Rattle.qmodel.specs.Private.Receivers.{newest_receiver}
-use Rattle.qstate.specs.Thread.{members_of, newest_in, open_in, MarksUnblocked}
+use Rattle.qstate.specs.Thread.{newest_in, open_in, MarksUnblocked}
+use Rattle.qstate.specs.Kept.{members_of}
 use Rattle.qkernel.specs.Kernel.{State, IsSound}
 use Rattle.qkernel.specs.Private.Steps.{Steps, facts_in}
 use Rattle.qmodel.proofs.Rosters.{among, filter_map_same, only_own, rises}
 use Rattle.qkernel.proofs.Steps.Common.{counted, stays_free, step_refused_alone, uncut_by}
-use Rattle.qkernel.proofs.Steps.Cutting.{endings_cut, mine, open_after}
+use Rattle.qkernel.proofs.Steps.Cancelling.{endings_cancelled, mine, open_after}
 use Rattle.qkernel.proofs.Steps.Delivering.{count_kept}
 use Rattle.qkernel.proofs.Steps.Telling.{AreMarked, Tells}
 use Rattle.qkernel.proofs.Steps.Told.{IsNew}
@@ -103,33 +104,33 @@ module _ (s : State) (t thread : ℕ) (m : Member) (sound : IsSound s) (known : 
   step_unblock_refused X other is = step_refused_alone s t (Unblock thread) Srch X (inl (rw (up, free, known, other) refl)) is
 
   module _ (fellow : is_in_process m.process (member_at (members_of s.threads) thread) ≡ true) where
-    -- the thread's open call is cut
+    -- the thread's open call is cancelled
     module _ (none : guarded_message_in s.connections s.channels (held_message_in (open_in s.threads thread)) ≡ None) where
       k : Unguarded s (open_in s.threads thread)
       k = none_guards s (open_in s.threads thread) none
 
-      cut_same : (u : ℕ) (o : Option OpenCall) → open_in s.threads u ≡ o → cut_where (λ wait. eqb u thread && not (is_some (guard (facts_in s) wait))) Intr u o ≡ cut_where (λ wait. eqb u thread) Intr u o
-      cut_same u None is = refl
-      cut_same u (Some w) is = elim (eqb u thread) as (λ b. eqb u thread ≡ b → cond (b && not (is_some (guard (facts_in s) w.wait))) (Some (cut_call Intr u w)) None ≡ cond b (Some (cut_call Intr u w)) None) [
+      cancel_same : (u : ℕ) (o : Option OpenCall) → open_in s.threads u ≡ o → cancel_where (λ wait. eqb u thread && not (is_some (guard (facts_in s) wait))) Intr u o ≡ cancel_where (λ wait. eqb u thread) Intr u o
+      cancel_same u None is = refl
+      cancel_same u (Some w) is = elim (eqb u thread) as (λ b. eqb u thread ≡ b → cond (b && not (is_some (guard (facts_in s) w.wait))) (Some (cancel_call Intr u w)) None ≡ cond b (Some (cancel_call Intr u w)) None) [
         | true ↦ λ same. rw (k.unguarded w (ap (open_in s.threads) (sym (eqb-true u thread same)) ∙ is)) refl
         | false ↦ λ other. refl
       ] refl
 
-      ends_one : (u : ℕ) → other_ending (facts_in s) thread (due_pulse (facts_in s) thread) u ≡ cut_where (λ wait. eqb u thread) Intr u (open_in s.threads u)
-      ends_one u = ap (λ d. other_ending (facts_in s) thread d u) k.none_due ∙ cut_same u (open_in s.threads u) refl
+      ends_one : (u : ℕ) → other_ending (facts_in s) thread (due_pulse (facts_in s) thread) u ≡ cancel_where (λ wait. eqb u thread) Intr u (open_in s.threads u)
+      ends_one u = ap (λ d. other_ending (facts_in s) thread d u) k.none_due ∙ cancel_same u (open_in s.threads u) refl
 
-      ends_same : other_ending (facts_in s) thread (due_pulse (facts_in s) thread) ≡ (λ u. cut_where (λ wait. eqb u thread) Intr u (open_in s.threads u))
+      ends_same : other_ending (facts_in s) thread (due_pulse (facts_in s) thread) ≡ (λ u. cancel_where (λ wait. eqb u thread) Intr u (open_in s.threads u))
       ends_same = λ i u. ends_one u i
 
-      pub step_unblock_cut : (threads : List Thread) (channels : List (ℕ × Channel)) (X : List Completion) → AreCut (entry_at s.connections) (Of thread) Intr s.threads threads
-          → LoseCut (entry_at s.connections) (Of thread) Intr s.threads s.channels channels → X ≡ endings_cut s t (Of thread) Intr
+      pub step_unblock_cancelled : (threads : List Thread) (channels : List (ℕ × Channel)) (X : List Completion) → AreCancelled (entry_at s.connections) (Of thread) Intr s.threads threads
+          → LoseCancelled (entry_at s.connections) (Of thread) Intr s.threads s.channels channels → X ≡ endings_cancelled s t (Of thread) Intr
           → Steps s t (Unblock thread) X (record { made = s.made + 1; down = s.down; threads = threads; channels = channels; connections = s.connections })
-      step_unblock_cut threads channels X are lose is = (
+      step_unblock_cancelled threads channels X are lose is = (
         true,
         record {
           answer = (
             rw (up, free, known, fellow, k.none_due) refl,
-            is ∙ sym (filter_map_same (ending (facts_in s) t (Unblock thread)) (λ u. cond (eqb u t) (Some (mine s t)) (cut_where (λ wait. eqb u thread) Intr u (open_in s.threads u))) (threads_of (members_of s.threads))
+            is ∙ sym (filter_map_same (ending (facts_in s) t (Unblock thread)) (λ u. cond (eqb u t) (Some (mine s t)) (cancel_where (λ wait. eqb u thread) Intr u (open_in s.threads u))) (threads_of (members_of s.threads))
                 (λ u. ap (cond (eqb u t) (Some (mine s t))) (ends_one u))),
           );
           follows = record {
@@ -160,9 +161,9 @@ module _ (s : State) (t thread : ℕ) (m : Member) (sound : IsSound s) (known : 
         none_due : due_pulse (facts_in s) thread ≡ None
         none_due = q.due_is ∙ rw told refl
 
-        uncut_where : (u : ℕ) (o : Option OpenCall) → open_in s.threads u ≡ o → cut_where (λ wait. eqb u thread && not (is_some (guard (facts_in s) wait))) Intr u o ≡ None
+        uncut_where : (u : ℕ) (o : Option OpenCall) → open_in s.threads u ≡ o → cancel_where (λ wait. eqb u thread && not (is_some (guard (facts_in s) wait))) Intr u o ≡ None
         uncut_where u None is = refl
-        uncut_where u (Some w) is = elim (eqb u thread) as (λ b. eqb u thread ≡ b → cond (b && not (is_some (guard (facts_in s) w.wait))) (Some (cut_call Intr u w)) None ≡ None) [
+        uncut_where u (Some w) is = elim (eqb u thread) as (λ b. eqb u thread ≡ b → cond (b && not (is_some (guard (facts_in s) w.wait))) (Some (cancel_call Intr u w)) None ≡ None) [
           | true ↦ λ same. rw (q.guarded w (ap (open_in s.threads) (sym (eqb-true u thread same)) ∙ is)) refl
           | false ↦ λ other. refl
         ] refl

@@ -15,7 +15,8 @@ use Rattle.qstate.specs.Held.{is_held_in}
 use Rattle.qmodel.specs.Private.Step.{is_thread, written_call}
 use Rattle.qkernel.specs.Kernel.{State, IsSound}
 use Rattle.qkernel.specs.Private.Steps.{Steps}
-use Rattle.qstate.specs.Thread.{members_of, open_in, sender_in, sent_call, ChangesSender}
+use Rattle.qstate.specs.Thread.{open_in, sender_in, sent_call, ChangesSender}
+use Rattle.qstate.specs.Kept.{members_of}
 use Rattle.qbase.proofs.Lists.{cond_same}
 use Rattle.qmodel.proofs.Rosters.{among, only_own, rises}
 use Rattle.qkernel.proofs.Steps.Common.{uncut}

@@ -6,8 +6,9 @@ use Rattle.qmodel.specs.Private.Facts.{Facts}
 use Rattle.qmodel.specs.Private.Step.{Follows}
 use Rattle.qmodel.specs.declared.call.Call.{Call}
 use Rattle.qmodel.specs.declared.call.Completion.{Completion}
-use Rattle.qstate.specs.Channel.{channel_in, pending_in}
-use Rattle.qstate.specs.Thread.{members_of, open_in, level_in}
+use Rattle.qstate.specs.Kept.{channel_in, pending_in}
+use Rattle.qstate.specs.Thread.{open_in}
+use Rattle.qstate.specs.Kept.{members_of, thread_priority}
 use Rattle.qkernel.specs.Kernel.{State}
 
 -- a kernel's content as facts, with each thread's open call as it is kept
@@ -22,7 +23,7 @@ facts_in s = record {
   live_connections = length s.connections;
   open_call = λ t. open_in s.threads t;
   pending = λ h. pending_in s.channels h;
-  priority = λ t. level_in s.threads t;
+  priority = λ t. thread_priority s.threads t;
 }
 
 -- the call is answered so, accepted or refused, and its content follows

@@ -5,7 +5,8 @@ use Rattle.qtables.specs.Members.{member_at}
 use Rattle.qmodel.specs.declared.call.Call.{Call}
 use Rattle.qmodel.specs.declared.call.Completion.{Completion}
 use Rattle.qmodel.specs.declared.call.Mark.TheVariants as mark
-use Rattle.qstate.specs.Thread.{members_of, open_in, seat_in}
+use Rattle.qstate.specs.Thread.{open_in, seat_in}
+use Rattle.qstate.specs.Kept.{members_of}
 use Rattle.qstate.specs.declared.thread.Thread.{Thread}
 use Rattle.qkernel.specs.Kernel.{State, IsSound}
 use Rattle.qkernel.specs.Private.Steps.{Steps}

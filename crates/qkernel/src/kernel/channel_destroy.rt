@@ -5,8 +5,8 @@ use super::turn::Turn;
 use qbase::errno::Errno;
 use qbase::ids::ChannelId;
 use qmodel::call::{Call, Mark};
+use qstate::cancelling::{CancelSet, cancel_calls};
 use qstate::channel::{close, owns};
-use qstate::cutting::{Cut, cut_calls};
 use qstate::endings::Endings;
 
 impl Kernel {
@@ -27,11 +27,11 @@ impl Kernel {
         if !owns(&self.channels, turn.process, chid) {
             return Err(Errno::Inval);
         }
-        cut_calls(
+        cancel_calls(
             &mut self.threads,
             &mut self.channels,
             &self.connections,
-            Cut::On(chid),
+            CancelSet::On(chid),
             Errno::Srch,
             turn.ending(Mark::Ok),
             endings,

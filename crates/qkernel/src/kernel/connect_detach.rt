@@ -10,8 +10,8 @@ use qbase::ids::{ConnectionId, ProcessNo};
 use qbase::priority::Priority;
 use qmodel::call::{Call, Mark};
 use qqueue::item::{Item, What};
+use qstate::cancelling::{CancelSet, cancel_calls};
 use qstate::channel::{own_connection, tells_detached};
-use qstate::cutting::{Cut, cut_calls};
 use qstate::endings::{Endings, end_also};
 use qstate::pulses::send_due;
 
@@ -52,11 +52,11 @@ impl Kernel {
         let priority = self.priority_of(turn);
         let due = pulse_for(last, turn.made + 1, priority, turn.process);
         let met = send_due(&mut self.threads, &mut self.channels, chid, due)?;
-        cut_calls(
+        cancel_calls(
             &mut self.threads,
             &mut self.channels,
             &self.connections,
-            Cut::Over(coid),
+            CancelSet::Over(coid),
             Errno::Badf,
             turn.ending(Mark::Ok),
             endings,

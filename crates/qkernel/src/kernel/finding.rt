@@ -6,7 +6,8 @@ ghost use Rattle.qstate.specs.Held.{is_held_in};
 ghost use Rattle.qmodel.specs.Private.Facts.{is_in_process};
 ghost use Rattle.qtables.specs.Members.{member_at};
 ghost use Rattle.qstate.specs.Held.{guarded_message_in, held_message_in};
-ghost use Rattle.qstate.specs.Thread.{level_in, members_of, open_in, seat_in};
+ghost use Rattle.qstate.specs.Thread.{open_in, seat_in};
+ghost use Rattle.qstate.specs.Kept.{thread_priority, members_of};
 
 use super::Kernel;
 use super::turn::Turn;
@@ -14,15 +15,15 @@ use qbase::errno::Errno;
 use qbase::ids::{ChannelId, ReceiveId, ThreadNo};
 use qbase::priority::Priority;
 use qstate::held::{Held, guarded_message, held_seat};
-use qstate::thread::{level_of, seat_in_process};
+use qstate::thread::{priority_at, seat_in_process};
 
 impl Kernel {
     /// The caller's priority.
     pub(super) fn priority_of(&self, turn: &Turn) -> Priority
         requires { seat_in self.now.threads turn.now.thread ≡ Some turn.now.seat }
-        ensures { result ≡ level_in self.now.threads turn.now.thread }
+        ensures { result ≡ thread_priority self.now.threads turn.now.thread }
     {
-        level_of(&self.threads, turn.seat, turn.thread)
+        priority_at(&self.threads, turn.seat, turn.thread)
     }
 
     /// Where the thread stands whose message is held under this id on a channel of the caller's process;

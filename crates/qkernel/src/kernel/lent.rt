@@ -2,7 +2,8 @@
 
 ghost use Rattle.std.specs.Prelude.{◌≡◌, ◌+◌, ◌<◌, ◌≤◌, ◌^◌, [], length, Some, is_some, true};
 ghost use Rattle.qtables.specs.Members.{member_at};
-ghost use Rattle.qstate.specs.Thread.{blocked_count, members_of, seat_in};
+ghost use Rattle.qstate.specs.Thread.{blocked_count, seat_in};
+ghost use Rattle.qstate.specs.Kept.{members_of};
 ghost use Rattle.qkernel.specs.LentCall.{call_lent};
 
 use super::Kernel;

@@ -7,7 +7,7 @@ use qbase::ids::ThreadNo;
 use qbase::priority::Priority;
 use qmodel::call::{Call, Mark};
 use qstate::endings::Endings;
-use qstate::thread::set_level;
+use qstate::thread::set_priority;
 use qstate::unread::requeue_unread;
 
 impl Kernel {
@@ -34,7 +34,7 @@ impl Kernel {
             target,
             priority,
         );
-        set_level(&mut self.threads, there, target, Some(priority));
+        set_priority(&mut self.threads, there, target, Some(priority));
         turn.end(endings, Mark::Ok);
         Ok(())
     }

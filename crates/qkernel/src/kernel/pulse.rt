@@ -7,7 +7,7 @@ use qbase::ids::ConnectionId;
 use qbase::priority::Priority;
 use qmodel::call::Call;
 use qqueue::item::{Item, What};
-use qstate::channel::way;
+use qstate::channel::route;
 use qstate::endings::Endings;
 use qstate::pulses::send_pulse;
 
@@ -28,7 +28,7 @@ impl Kernel {
         requires { MayCall self.old turn.now endings.old.items }
         ensures { MakesOrRefuses self.old turn.now (Call.Pulse coid priority code value) result endings.new.items self.new }
     {
-        let Some(chid) = way(&self.connections, &self.channels, turn.process, coid) else {
+        let Some(chid) = route(&self.connections, &self.channels, turn.process, coid) else {
             return Err(Errno::Badf);
         };
         if code < 0 {

@@ -13,7 +13,7 @@ use qmodel::open_call::Wait;
 use qqueue::item::Kind;
 use qstate::channel::{carried_priority, owns, take_best};
 use qstate::endings::Endings;
-use qstate::thread::{hand_item, set_level};
+use qstate::thread::{hand_item, set_priority};
 
 impl Kernel {
     ghost use Rattle.qkernel.specs.Private.Turn.{MayCall, Makes};
@@ -54,9 +54,9 @@ impl Kernel {
             }
             Some(item) => {
                 let mut buffer = buffer;
-                let level = carried_priority(&self.channels, chid, item.priority);
+                let priority = carried_priority(&self.channels, chid, item.priority);
                 let mark = hand_item(&mut self.threads, item, &mut buffer);
-                set_level(&mut self.threads, turn.seat, turn.thread, level);
+                set_priority(&mut self.threads, turn.seat, turn.thread, priority);
                 turn.give_back(endings, mark, buffer);
             }
         }

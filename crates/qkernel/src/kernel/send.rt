@@ -14,7 +14,7 @@ use qbase::priority::Priority;
 use qmodel::call::{Call, Completion, Mark};
 use qmodel::open_call::{OpenCall, Receipt, Wait};
 use qqueue::item::{Item, What};
-use qstate::channel::{carried_priority, enqueue, way};
+use qstate::channel::{carried_priority, enqueue, route};
 use qstate::endings::{Endings, end_one};
 use qstate::thread::{Thread, newest_receiver, wake};
 
@@ -66,10 +66,10 @@ fn ending_with_message(
 }
 
 /// Wakes a thread, which takes the message: how its call ends, and what is kept of the receipt.
-fn meet(
+fn deliver(
     threads: &mut Vec<Thread>,
     receiver: ThreadNo,
-    level: Option<Priority>,
+    priority: Option<Priority>,
     item: &Item,
     message: &Bytes,
 ) -> (Completion, Receipt)
@@ -78,9 +78,9 @@ fn meet(
     ensures ended { takes item.now message.now receiver (open_in threads.old.items receiver) ≡ Some result.0 }
     ensures copied { item_in_mark result.0.mark ≡ Some (item.now.number, result.1.copied) }
     ensures receipt { result.1 ≡ record { priority = item.now.priority; copied = result.1.copied; unblocked = false } }
-    ensures after { Wakes receiver level threads.old.items threads.new.items }
+    ensures after { Wakes receiver priority threads.old.items threads.new.items }
 {
-    let call = wake(threads, receiver, level);
+    let call = wake(threads, receiver, priority);
     let Some(met) = ending_with_message(call, receiver, item, message) else {
         unreachable!();
     };
@@ -109,7 +109,7 @@ impl Kernel {
         requires { MayCall self.old turn.now endings.old.items }
         ensures { Makes self.old turn.now (Call.Send coid message reply_buffer) endings.new.items self.new }
     {
-        let Some(chid) = way(&self.connections, &self.channels, turn.process, coid) else {
+        let Some(chid) = route(&self.connections, &self.channels, turn.process, coid) else {
             return turn.refuse(endings, Errno::Badf, reply_buffer);
         };
         let item = message_item(turn, self.priority_of(turn));
@@ -121,8 +121,14 @@ impl Kernel {
                 None
             }
             Some(receiver) => {
-                let level = carried_priority(&self.channels, chid, item.priority);
-                let (ended, receipt) = meet(&mut self.threads, receiver, level, &item, &message);
+                let priority = carried_priority(&self.channels, chid, item.priority);
+                let (ended, receipt) = deliver(
+                    &mut self.threads,
+                    receiver,
+                    priority,
+                    &item,
+                    &message,
+                );
                 end_one(endings, ended);
                 Some(receipt)
             }

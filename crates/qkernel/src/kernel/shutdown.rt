@@ -4,7 +4,7 @@ use super::Kernel;
 use super::turn::Turn;
 use qbase::errno::Errno;
 use qmodel::call::{Call, Mark};
-use qstate::cutting::{Cut, cut_calls};
+use qstate::cancelling::{CancelSet, cancel_calls};
 use qstate::endings::Endings;
 
 impl Kernel {
@@ -16,11 +16,11 @@ impl Kernel {
         requires { MayCall self.old turn.now endings.old.items }
         ensures { Makes self.old turn.now Call.Shutdown endings.new.items self.new }
     {
-        cut_calls(
+        cancel_calls(
             &mut self.threads,
             &mut self.channels,
             &self.connections,
-            Cut::All,
+            CancelSet::All,
             Errno::Srch,
             turn.ending(Mark::Ok),
             endings,

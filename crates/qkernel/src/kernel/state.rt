@@ -6,7 +6,7 @@ use qbase::errno::Errno;
 use qbase::ids::ThreadNo;
 use qmodel::call::{Call, Mark};
 use qstate::endings::Endings;
-use qstate::thread::{level_of, seat_of};
+use qstate::thread::{priority_at, seat_of};
 use qstate::thread_state::state_at;
 
 impl Kernel {
@@ -27,7 +27,7 @@ impl Kernel {
         };
         let mark = Mark::State {
             state: state_at(&self.connections, &self.threads, there, target),
-            priority: level_of(&self.threads, there, target),
+            priority: priority_at(&self.threads, there, target),
         };
         turn.end(endings, mark);
         Ok(())

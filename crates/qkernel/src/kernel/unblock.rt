@@ -9,7 +9,7 @@ use qbase::errno::Errno;
 use qbase::ids::ThreadNo;
 use qmodel::call::{Call, Mark};
 use qqueue::item::{Item, What};
-use qstate::cutting::{Cut, cut_calls};
+use qstate::cancelling::{CancelSet, cancel_calls};
 use qstate::endings::Endings;
 use qstate::held::{Held, mark_unblocked};
 use qstate::pulses::send_pulse;
@@ -43,11 +43,11 @@ impl Kernel {
     {
         let there = self.fellow_seat(turn, target)?;
         let Some(guarded) = self.guarded_message(there, target) else {
-            cut_calls(
+            cancel_calls(
                 &mut self.threads,
                 &mut self.channels,
                 &self.connections,
-                Cut::Of(target),
+                CancelSet::Of(target),
                 Errno::Intr,
                 turn.ending(Mark::Ok),
                 endings,

@@ -2,11 +2,11 @@
 use Rattle.std.proofs.Common.{ℕ, refl, subst}
 use Rattle.std.proofs.lemmas.Option.{none-some, same_Some}
 use Rattle.qbase.specs.declared.errno.Errno.TheVariants.{Srch}
-use Rattle.qmodel.specs.Private.Cutting.{is_on}
+use Rattle.qmodel.specs.Private.Cancelling.{is_on}
 use Rattle.qmodel.specs.Private.Facts.{Facts}
 use Rattle.qmodel.specs.declared.call.Call.TheVariants.{ChannelDestroy}
 use Rattle.qmodel.proofs.Calls.Alone.{IsPlain, waits_not}
-use Rattle.qmodel.proofs.Calls.Cutting.{cutting}
+use Rattle.qmodel.proofs.Calls.Cancelling.{cancelling}
 use Rattle.qmodel.proofs.Past.Laws.{CallLaws, RowLaws, Passes}
 
 pub call_laws : (chid : ℕ) → CallLaws (ChannelDestroy chid)
@@ -14,5 +14,5 @@ call_laws chid = waits_not (ChannelDestroy chid) (λ n. refl) (λ f t. refl)
 
 pub row_laws : (f : Facts) (t chid : ℕ) → Passes f t (ChannelDestroy chid) → RowLaws f t (ChannelDestroy chid)
 row_laws f t chid p =
-    cutting f t (ChannelDestroy chid) (λ u. is_on f.connection chid) Srch refl (λ y e. subst (IsPlain f.number t) (same_Some _ y e) (record { own = record { call = refl; thread = refl; mark = refl }; mark = refl })) (λ u. refl) refl refl
+    cancelling f t (ChannelDestroy chid) (λ u. is_on f.connection chid) Srch refl (λ y e. subst (IsPlain f.number t) (same_Some _ y e) (record { own = record { call = refl; thread = refl; mark = refl }; mark = refl })) (λ u. refl) refl refl
     (λ w e. absurd (none-some w e))

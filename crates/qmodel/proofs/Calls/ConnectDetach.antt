@@ -10,7 +10,7 @@ use Rattle.qtables.specs.declared.connection.Connection.{Connection}
 use Rattle.qmodel.specs.Private.Calls.{row_of}
 use Rattle.qmodel.specs.Private.Calls.ConnectDetach.{connections_between, due_pulse, other_ending, refusal}
 use Rattle.qmodel.proofs.Parts.{due_pulse_over, is_own}
-use Rattle.qmodel.specs.Private.Cutting.{cut_where, is_over}
+use Rattle.qmodel.specs.Private.Cancelling.{cancel_where, is_over}
 use Rattle.qmodel.specs.Private.Facts.{Facts, tells_disconnect}
 use Rattle.qmodel.specs.Trace.{OpenChannel}
 use Rattle.qmodel.specs.Private.Past.{is_unblock_for}
@@ -20,7 +20,7 @@ use Rattle.qmodel.specs.Trace.{SentItem}
 use Rattle.qmodel.specs.declared.call.Call.TheVariants.{ConnectDetach}
 use Rattle.qmodel.specs.declared.call.Completion.{Completion}
 use Rattle.qmodel.proofs.Past.Laws.{CallLaws, IsOfOpen, IsOwn, IsReceipt, IsReceived, Passes, RowLaws}
-use Rattle.qmodel.proofs.Calls.Cutting.{IsCutCall, cut_parts}
+use Rattle.qmodel.proofs.Calls.Cancelling.{IsCutCall, cancel_parts}
 use Rattle.qmodel.proofs.Calls.Delivering.{met_item, met_open, met_receipt, met_received}
 
 -- ---- the pulse that is due
@@ -66,12 +66,12 @@ own_passes f t k r = elim (is_own f t (f.connection k)) as (λ b. cond b (refusa
 
 -- ---- what it ends
 
--- another's call that it ends is cut, or meets the pulse
+-- another's call that it ends is cancelled, or meets the pulse
 pub detach_ends : (f : Facts) (k : ℕ) (o : Option SentItem) (u : ℕ) (y : Completion) → other_ending f k o u ≡ Some y → IsCutCall (is_over k) Badf u (f.open_call u) y ⊎ (ends_receiver f o u ≡ Some y)
 detach_ends f k o u y e =
-    elim (cut_where (is_over k) Badf u (f.open_call u)) as (λ x. cut_where (is_over k) Badf u (f.open_call u) ≡ x → option_or x (ends_receiver f o u) ≡ Some y → IsCutCall (is_over k) Badf u (f.open_call u) y ⊎ (ends_receiver f o u ≡ Some y)) [
+    elim (cancel_where (is_over k) Badf u (f.open_call u)) as (λ x. cancel_where (is_over k) Badf u (f.open_call u) ≡ x → option_or x (ends_receiver f o u) ≡ Some y → IsCutCall (is_over k) Badf u (f.open_call u) y ⊎ (ends_receiver f o u ≡ Some y)) [
       | None ↦ λ none s. inr s
-      | Some x ↦ λ some s. inl (cut_parts (is_over k) Badf u (f.open_call u) y (some ∙ s))
+      | Some x ↦ λ some s. inl (cancel_parts (is_over k) Badf u (f.open_call u) y (some ∙ s))
     ] refl e
 
 -- ---- the laws
@@ -93,8 +93,8 @@ module _ (f : Facts) (t coid : ℕ) (p : Passes f t (ConnectDetach coid)) where
   ended : (u : ℕ) (y : Completion) → other_ending f coid (due_pulse f t coid) u ≡ Some y → IsCutCall (is_over coid) Badf u (f.open_call u) y ⊎ (ends_receiver f (due_pulse f t coid) u ≡ Some y)
   ended u y e = detach_ends f coid (due_pulse f t coid) u y e
 
-  cut_open : (u : ℕ) (y : Completion) → IsCutCall (is_over coid) Badf u (f.open_call u) y → IsOfOpen f u y
-  cut_open u y k = record { waiting = k.waiting; is = k.is; call = sym (ap (λ x. x.call) k.ending); thread = sym (ap (λ x. x.thread) k.ending) }
+  cancel_open : (u : ℕ) (y : Completion) → IsCutCall (is_over coid) Badf u (f.open_call u) y → IsOfOpen f u y
+  cancel_open u y k = record { waiting = k.waiting; is = k.is; call = sym (ap (λ x. x.call) k.ending); thread = sym (ap (λ x. x.thread) k.ending) }
 
   told_open : (o : Option SentItem) (u : ℕ) (y : Completion) → ends_receiver f o u ≡ Some y → IsOfOpen f u y
   told_open None u y e = absurd (none-some y e)
@@ -104,11 +104,11 @@ module _ (f : Facts) (t coid : ℕ) (p : Passes f t (ConnectDetach coid)) where
   told_one None is u y q e m = absurd (none-some y e)
   told_one (Some m) is u y q e mark = met_receipt f t (Some m.channel) (ConnectDetach coid) m.item [] None (ap (pulse_receipt f) is) u y q e mark
 
-  -- what meets the pulse isn't cut
+  -- what meets the pulse isn't cancelled
   met_ends : (m : SentItem) → due_pulse f t coid ≡ Some m → (u : ℕ) (y : Completion) → ends_receiver f (Some m) u ≡ Some y → other_ending f coid (due_pulse f t coid) u ≡ Some y
   met_ends m is u y e =
       let k = met_item f m.item [] (Some m.channel) u y e in
-      let uncut : cut_where (is_over coid) Badf u (f.open_call u) ≡ None = rw (k.is, k.waits) refl in
+      let uncut : cancel_where (is_over coid) Badf u (f.open_call u) ≡ None = rw (k.is, k.waits) refl in
       ap (λ x. option_or x (ends_receiver f (due_pulse f t coid) u)) uncut ∙ ap (λ o. ends_receiver f o u) is ∙ e
 
   receives : (o : Option SentItem) → due_pulse f t coid ≡ o → (q : Received) → pulse_receipt f o ≡ Some q → IsReceived f t (ConnectDetach coid) q
@@ -119,7 +119,7 @@ module _ (f : Facts) (t coid : ℕ) (p : Passes f t (ConnectDetach coid)) where
   pub row_laws : RowLaws f t (ConnectDetach coid)
   row_laws = record {
     owns = λ y e. subst (IsOwn f.number t) (same_Some _ y e) (record { call = refl; thread = refl; mark = refl });
-    ends_open = λ u y e. elim (ended u y e) [ inl k ↦ cut_open u y k | inr s ↦ told_open (due_pulse f t coid) u y s ];
+    ends_open = λ u y e. elim (ended u y e) [ inl k ↦ cancel_open u y k | inr s ↦ told_open (due_pulse f t coid) u y s ];
     ends_settled = λ mild. absurd (true≢false mild);
     own_receives = λ y q e m. absurd (none-some q (ap (λ x. item_in_mark x.mark) (same_Some _ y e) ∙ m));
     ends_receives = λ u y q e m. elim (ended u y e) [ inl k ↦ absurd (none-some q (ap (λ x. item_in_mark x.mark) k.ending ∙ m)) | inr s ↦ told_one (due_pulse f t coid) refl u y q s m ];

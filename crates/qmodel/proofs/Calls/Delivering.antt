@@ -9,8 +9,8 @@ use Rattle.qqueue.specs.declared.item.Kind.{Kind}
 use Rattle.qtables.specs.declared.connection.Connection.{Connection}
 use Rattle.qmodel.specs.Private.Answer.{ending}
 use Rattle.qmodel.specs.Private.Calls.{row_of}
-use Rattle.qmodel.specs.Private.Delivering.{meets, receiver, receipt_by, receipt_when_sent}
-use Rattle.qmodel.specs.Private.Facts.{Facts, way}
+use Rattle.qmodel.specs.Private.Delivering.{delivers, receiver, receipt_by, receipt_when_sent}
+use Rattle.qmodel.specs.Private.Facts.{Facts, route}
 use Rattle.qmodel.proofs.Parts.{leads_to}
 use Rattle.qmodel.specs.Private.Receivers.{newest_receiver}
 use Rattle.qmodel.specs.Private.Effects.{asks, makes}
@@ -24,7 +24,7 @@ use Rattle.qmodel.specs.declared.open_call.Wait.TheVariants.{Answer, Item as For
 use Rattle.qbase.proofs.Lists.{eqb_same}
 use Rattle.qmodel.proofs.Past.Laws.{IsOfOpen, IsSettled, IsReceipt, IsReceived, is_settled}
 use Rattle.qmodel.proofs.Calls.Taking.{Taken, taken_by, receipt_from, receipt_in_at}
-use Rattle.qmodel.proofs.Ways.{leads_over}
+use Rattle.qmodel.proofs.Routes.{leads_over}
 
 -- what goes over a connection is the item
 pub sent_item : (o : Option Connection) (item : Item) (m : SentItem) → item_sent_over o item ≡ Some m → m.item ≡ item
@@ -38,7 +38,7 @@ pub record IsReceiver (f : Facts) (item : Item) (message : List ℕ) (r : Option
   pub receiver_is : r ≡ Some u
   pub given : receipt_by f item message u ≡ Some y
 
-pub met_by : (f : Facts) (item : Item) (message : List ℕ) (r : Option ℕ) (u : ℕ) (y : Completion) → meets f item message r u ≡ Some y → IsReceiver f item message r u y
+pub met_by : (f : Facts) (item : Item) (message : List ℕ) (r : Option ℕ) (u : ℕ) (y : Completion) → delivers f item message r u ≡ Some y → IsReceiver f item message r u y
 met_by f item message None u y e = absurd (none-some y e)
 met_by f item message (Some v) u y e =
     elim (eqb u v) as (λ b. eqb u v ≡ b → cond b (receipt_by f item message u) None ≡ Some y → IsReceiver f item message (Some v) u y) [
@@ -47,13 +47,13 @@ met_by f item message (Some v) u y e =
     ] refl e
 
 -- and so it does where it is the receiver
-met_at : (f : Facts) (item : Item) (message : List ℕ) (r : Option ℕ) (v : ℕ) (y : Completion) → r ≡ Some v → receipt_by f item message v ≡ Some y → meets f item message r v ≡ Some y
+met_at : (f : Facts) (item : Item) (message : List ℕ) (r : Option ℕ) (v : ℕ) (y : Completion) → r ≡ Some v → receipt_by f item message v ≡ Some y → delivers f item message r v ≡ Some y
 met_at f item message r v y is given = rw (is, eqb_same v) given
 
 -- ---- the receipt
 
 -- what is sent over a way goes to its channel
-pub sent_way : (f : Facts) (t coid : ℕ) (item : Item) (h : ℕ) → way f t coid ≡ Some h → item_sent_over (f.connection coid) item ≡ Some (record { item = item; channel = h })
+pub sent_way : (f : Facts) (t coid : ℕ) (item : Item) (h : ℕ) → route f t coid ≡ Some h → item_sent_over (f.connection coid) item ≡ Some (record { item = item; channel = h })
 sent_way f t coid item h e =
     let l = leads_over f t (f.connection coid) h e in
     ap (λ o. item_sent_over o item) l.is ∙ ap (λ k. Some (record { item = item; channel = k })) l.channel
@@ -100,7 +100,7 @@ sent_over_way f sender item message None r q e = absurd (none-some q e)
 sent_over_way f sender item message (Some h) r q e = sent_on f sender item message h r q e
 
 -- the receiver that is met has the receipt of the row
-met_receives : (f : Facts) (sender : Option ℕ) (item : Item) (message : List ℕ) (o : Option ℕ) (u : ℕ) (y : Completion) (p : ℕ × ℕ) → meets f item message (receiver f item o) u ≡ Some y → item_in_mark y.mark ≡ Some p
+met_receives : (f : Facts) (sender : Option ℕ) (item : Item) (message : List ℕ) (o : Option ℕ) (u : ℕ) (y : Completion) (p : ℕ × ℕ) → delivers f item message (receiver f item o) u ≡ Some y → item_in_mark y.mark ≡ Some p
     → (q : Received) × (receipt_when_sent f sender item message o (receiver f item o) ≡ Some q) × (q.by ≡ u) × (p.0 ≡ q.item) × (p.1 ≡ q.kept.copied)
 met_receives f sender item message None u y p e m = absurd (none-some y e)
 met_receives f sender item message (Some h) u y p e m =
@@ -133,28 +133,28 @@ takes_item item message u (Some o) y e = by_wait o.wait e where
 
 module _ (f : Facts) (item : Item) (message : List ℕ) (o : Option ℕ) where
   -- what is met waits for an item
-  pub met_item : (u : ℕ) (y : Completion) → meets f item message (receiver f item o) u ≡ Some y → ForAnItem (f.open_call u)
+  pub met_item : (u : ℕ) (y : Completion) → delivers f item message (receiver f item o) u ≡ Some y → ForAnItem (f.open_call u)
   met_item u y e = (takes_item item message u (f.open_call u) y (met_by f item message (receiver f item o) u y e).given).0
 
-  pub met_open : (u : ℕ) (y : Completion) → meets f item message (receiver f item o) u ≡ Some y → IsOfOpen f u y
+  pub met_open : (u : ℕ) (y : Completion) → delivers f item message (receiver f item o) u ≡ Some y → IsOfOpen f u y
   met_open u y e =
       let k = taken_by item message u (f.open_call u) y (met_by f item message (receiver f item o) u y e).given in
       record { waiting = k.waiting; is = k.is; call = k.call; thread = k.thread }
 
-  pub met_settled : (u : ℕ) (y : Completion) → meets f item message (receiver f item o) u ≡ Some y → IsSettled (f.open_call u)
+  pub met_settled : (u : ℕ) (y : Completion) → delivers f item message (receiver f item o) u ≡ Some y → IsSettled (f.open_call u)
   met_settled u y e w is =
       let k = taken_by item message u (f.open_call u) y (met_by f item message (receiver f item o) u y e).given in
       ap (λ v. is_settled v.wait) (same_Some w k.waiting (sym is ∙ k.is)) ∙ k.settled
 
 module _ (f : Facts) (t : ℕ) (o : Option ℕ) (c : Call) (item : Item) (message : List ℕ) (sender : Option ℕ)
     (receipt_is : (row_of f t c).receipt ≡ receipt_when_sent f sender item message o (receiver f item o)) where
-  pub met_receipt : (u : ℕ) (y : Completion) (p : ℕ × ℕ) → meets f item message (receiver f item o) u ≡ Some y → item_in_mark y.mark ≡ Some p → IsReceipt (row_of f t c) u p
+  pub met_receipt : (u : ℕ) (y : Completion) (p : ℕ × ℕ) → delivers f item message (receiver f item o) u ≡ Some y → item_in_mark y.mark ≡ Some p → IsReceipt (row_of f t c) u p
   met_receipt u y p e m =
       let r = met_receives f sender item message o u y p e m in
       record { receipt = r.0; is = receipt_is ∙ r.1; by = r.2; item = r.3; copied = r.4 }
 
   -- the receipt of the row is of the item that is sent
-  pub met_received : ((u : ℕ) (y : Completion) → meets f item message (receiver f item o) u ≡ Some y → (row_of f t c).ends u ≡ Some y) → f.open_call t ≡ None
+  pub met_received : ((u : ℕ) (y : Completion) → delivers f item message (receiver f item o) u ≡ Some y → (row_of f t c).ends u ≡ Some y) → f.open_call t ≡ None
       → ((h : ℕ) → o ≡ Some h → makes f t c ≡ Some (record { item = item; channel = h })) → sender ≡ option_map (λ o. t) (asks f.number c) → (q : Received) → (row_of f t c).receipt ≡ Some q → IsReceived f t c q
   met_received ends_met idle makes_is sender_is q e =
       let s = sent_over_way f sender item message o (receiver f item o) q (sym receipt_is ∙ e) in
@@ -174,7 +174,7 @@ module _ (f : Facts) (t : ℕ) (o : Option ℕ) (c : Call) (item : Item) (messag
         mark = s.taken.mark;
       })
 
-module _ (f : Facts) (t : ℕ) (o : Option ℕ) (c : Call) (item : Item) (message : List ℕ) (sender : Option ℕ) (ends_is : (u : ℕ) → (row_of f t c).ends u ≡ meets f item message (receiver f item o) u)
+module _ (f : Facts) (t : ℕ) (o : Option ℕ) (c : Call) (item : Item) (message : List ℕ) (sender : Option ℕ) (ends_is : (u : ℕ) → (row_of f t c).ends u ≡ delivers f item message (receiver f item o) u)
     (receipt_is : (row_of f t c).receipt ≡ receipt_when_sent f sender item message o (receiver f item o)) where
   pub delivers_open : (u : ℕ) (y : Completion) → (row_of f t c).ends u ≡ Some y → IsOfOpen f u y
   delivers_open u y e = met_open f item message o u y (sym (ends_is u) ∙ e)

@@ -13,7 +13,7 @@ use Rattle.qmodel.specs.Trace.{SentItem}
 use Rattle.qmodel.specs.declared.call.Call.TheVariants.{Pulse}
 use Rattle.qmodel.proofs.Past.Laws.{CallLaws, RowLaws, Passes, IsOwn}
 use Rattle.qmodel.proofs.Calls.Delivering.{delivers_open, delivers_settled, delivers_receipt, delivers_received, goes_to_open, sent_item, sent_way}
-use Rattle.qmodel.proofs.Ways.{pulse_way}
+use Rattle.qmodel.proofs.Routes.{pulse_way}
 
 -- it is a pulse
 pub sent_is_pulse : (f : Facts) (coid priority : ℕ) (code value : ℤ) (m : SentItem) → sent_pulse f coid priority code value ≡ Some m → is_pulse m.item.what ≡ true

@@ -4,12 +4,12 @@ use Rattle.std.specs.Prelude.{Some}
 use Rattle.std.proofs.lemmas.Option.{none-some, same_Some}
 use Rattle.qqueue.specs.Best.{is_pulse}
 use Rattle.qmodel.specs.Private.Calls.Send.{item}
-use Rattle.qmodel.specs.Private.Facts.{Facts, is_for_answer, way}
+use Rattle.qmodel.specs.Private.Facts.{Facts, is_for_answer, route}
 use Rattle.qmodel.specs.Private.Past.{is_unblock_for}
 use Rattle.qmodel.specs.declared.call.Call.TheVariants.{Send}
 use Rattle.qmodel.proofs.Past.Laws.{BeginsToWait, CallLaws, RowLaws, Passes}
 use Rattle.qmodel.proofs.Calls.Delivering.{delivers_open, delivers_settled, delivers_receipt, delivers_received, goes_to_open, sent_item, sent_way}
-use Rattle.qmodel.proofs.Ways.{has_way}
+use Rattle.qmodel.proofs.Routes.{has_way}
 
 pub call_laws : (coid : ℕ) (message reply_buffer : List ℕ) → CallLaws (Send coid message reply_buffer)
 call_laws coid message reply_buffer = record {
@@ -27,11 +27,11 @@ call_laws coid message reply_buffer = record {
 pub row_laws : (f : Facts) (t coid : ℕ) (message reply_buffer : List ℕ) → Passes f t (Send coid message reply_buffer) → RowLaws f t (Send coid message reply_buffer)
 row_laws f t coid message reply_buffer p = record {
   owns = λ y e. absurd (none-some y e);
-  ends_open = delivers_open f t (way f t coid) (Send coid message reply_buffer) (item f t) message (Some t) (λ u. refl) refl;
-  ends_settled = λ mild. delivers_settled f t (way f t coid) (Send coid message reply_buffer) (item f t) message (Some t) (λ u. refl) refl;
+  ends_open = delivers_open f t (route f t coid) (Send coid message reply_buffer) (item f t) message (Some t) (λ u. refl) refl;
+  ends_settled = λ mild. delivers_settled f t (route f t coid) (Send coid message reply_buffer) (item f t) message (Some t) (λ u. refl) refl;
   own_receives = λ y q e m. absurd (none-some y e);
-  ends_receives = delivers_receipt f t (way f t coid) (Send coid message reply_buffer) (item f t) message (Some t) (λ u. refl) refl;
-  receives = delivers_received f t (way f t coid) (Send coid message reply_buffer) (item f t) message (Some t) (λ u. refl) refl p.idle (λ h is. sent_way f t coid (item f t) h is) refl;
+  ends_receives = delivers_receipt f t (route f t coid) (Send coid message reply_buffer) (item f t) message (Some t) (λ u. refl) refl;
+  receives = delivers_received f t (route f t coid) (Send coid message reply_buffer) (item f t) message (Some t) (λ u. refl) refl p.idle (λ h is. sent_way f t coid (item f t) h is) refl;
   sends = λ m e sent. refl;
   makes_open = λ m e. let h = has_way f t coid p.row in goes_to_open f t (f.connection coid) h.0 (item f t) m h.1 e;
   writes_sent = λ w e. absurd (none-some w e);

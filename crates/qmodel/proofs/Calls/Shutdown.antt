@@ -5,7 +5,7 @@ use Rattle.qbase.specs.declared.errno.Errno.TheVariants.{Srch}
 use Rattle.qmodel.specs.Private.Facts.{Facts}
 use Rattle.qmodel.specs.declared.call.Call.TheVariants.{Shutdown}
 use Rattle.qmodel.proofs.Calls.Alone.{IsPlain, waits_not}
-use Rattle.qmodel.proofs.Calls.Cutting.{cutting}
+use Rattle.qmodel.proofs.Calls.Cancelling.{cancelling}
 use Rattle.qmodel.proofs.Past.Laws.{CallLaws, RowLaws, Passes}
 
 pub call_laws : CallLaws Shutdown
@@ -13,5 +13,5 @@ call_laws = waits_not Shutdown (λ n. refl) (λ f t. refl)
 
 pub row_laws : (f : Facts) (t : ℕ) → Passes f t Shutdown → RowLaws f t Shutdown
 row_laws f t p =
-    cutting f t Shutdown (λ u wait. true) Srch refl (λ y e. subst (IsPlain f.number t) (same_Some _ y e) (record { own = record { call = refl; thread = refl; mark = refl }; mark = refl })) (λ u. refl) refl refl
+    cancelling f t Shutdown (λ u wait. true) Srch refl (λ y e. subst (IsPlain f.number t) (same_Some _ y e) (record { own = record { call = refl; thread = refl; mark = refl }; mark = refl })) (λ u. refl) refl refl
     (λ w e. absurd (none-some w e))

@@ -21,7 +21,7 @@ use Rattle.qmodel.specs.declared.open_call.Receipt.{Receipt}
 use Rattle.qmodel.specs.declared.open_call.Wait.{Wait}
 use Rattle.qmodel.specs.declared.open_call.Wait.TheVariants.{Answer, Item as ForItem}
 use Rattle.qmodel.proofs.Past.Laws.{CallLaws, IsOfOpen, IsOwn, IsReceipt, IsReceived, Passes, RowLaws}
-use Rattle.qmodel.proofs.Calls.Cutting.{cut_parts}
+use Rattle.qmodel.proofs.Calls.Cancelling.{cancel_parts}
 use Rattle.qmodel.proofs.Calls.Delivering.{delivers_open, delivers_receipt, delivers_received}
 
 -- ---- the pulse that is due
@@ -130,15 +130,15 @@ call_laws thread = record {
       };
 }
 
--- this is so of a wait that is cut
-abbrev pub is_cut : Facts → ℕ → ℕ → Wait → Bool
-is_cut f thread v wait = eqb v thread && not (is_some (guard f wait))
+-- this is so of a wait that is cancelled
+abbrev pub is_cancelled : Facts → ℕ → ℕ → Wait → Bool
+is_cancelled f thread v wait = eqb v thread && not (is_some (guard f wait))
 
 module _ (f : Facts) (t thread : ℕ) (p : Passes f t (Unblock thread)) where
   -- with no pulse due
-  ends_cut : (due_pulse f thread ≡ None) → (u : ℕ) (y : Completion) → other_ending f thread (due_pulse f thread) u ≡ Some y → IsOfOpen f u y × (item_in_mark y.mark ≡ None)
-  ends_cut none u y e =
-      let k = cut_parts (is_cut f thread u) Intr u (f.open_call u) y (ap (λ d. other_ending f thread d u) (sym none) ∙ e) in
+  ends_cancelled : (due_pulse f thread ≡ None) → (u : ℕ) (y : Completion) → other_ending f thread (due_pulse f thread) u ≡ Some y → IsOfOpen f u y × (item_in_mark y.mark ≡ None)
+  ends_cancelled none u y e =
+      let k = cancel_parts (is_cancelled f thread u) Intr u (f.open_call u) y (ap (λ d. other_ending f thread d u) (sym none) ∙ e) in
       (record { waiting = k.waiting; is = k.is; call = sym (ap (λ x. x.call) k.ending); thread = sym (ap (λ x. x.thread) k.ending) }, ap (λ x. item_in_mark x.mark) (sym k.ending))
 
   -- with this one due
@@ -158,13 +158,13 @@ module _ (f : Facts) (t thread : ℕ) (p : Passes f t (Unblock thread)) where
       record {
         owns = λ y e. subst (IsOwn f.number t) (same_Some _ y e) (record { call = refl; thread = refl; mark = refl });
         ends_open = elim (due_pulse f thread) as (λ o. due_pulse f thread ≡ o → (u : ℕ) (y : Completion) → other_ending f thread (due_pulse f thread) u ≡ Some y → IsOfOpen f u y) [
-          | None ↦ λ none u y e. (ends_cut none u y e).0
+          | None ↦ λ none u y e. (ends_cancelled none u y e).0
           | Some m ↦ λ is. told_open m is
         ] refl;
         ends_settled = λ mild. absurd (true≢false mild);
         own_receives = λ y q e m. absurd (none-some q (ap (λ x. item_in_mark x.mark) (same_Some _ y e) ∙ m));
         ends_receives = elim (due_pulse f thread) as (λ o. due_pulse f thread ≡ o → (u : ℕ) (y : Completion) (q : ℕ × ℕ) → other_ending f thread (due_pulse f thread) u ≡ Some y → item_in_mark y.mark ≡ Some q → IsReceipt (row_of f t (Unblock thread)) u q) [
-          | None ↦ λ none u y q e m. absurd (none-some q (sym (ends_cut none u y e).1 ∙ m))
+          | None ↦ λ none u y q e m. absurd (none-some q (sym (ends_cancelled none u y e).1 ∙ m))
           | Some m ↦ λ is. told_taken m is
         ] refl;
         receives = elim (due_pulse f thread) as (λ o. due_pulse f thread ≡ o → (q : Received) → pulse_receipt f (due_pulse f thread) ≡ Some q → IsReceived f t (Unblock thread) q) [

@@ -11,7 +11,7 @@ use Rattle.qtables.specs.declared.member.Member.{Member}
 use Rattle.qmodel.specs.Private.Facts.{is_for_answer}
 use Rattle.qmodel.specs.Private.Headline.CopiedExactly.{call_at}
 use Rattle.qmodel.specs.Private.Lawful.{facts_of}
-use Rattle.qmodel.specs.Private.Past.{items_by_now, is_accepted, item_of, items, made_among, priority_before, priority_of_made, priority_of_item, is_closed, is_gone, pending_items, newest_block, worth}
+use Rattle.qmodel.specs.Private.Past.{items_by_now, is_accepted, item_of, items, made_among, priority_before, priority_of_made, priority_of_item, is_closed, is_gone, pending_items, newest_block, current_priority}
 use Rattle.qmodel.specs.Private.Effects.{asks, makes}
 use Rattle.qmodel.specs.Trace.{SentItem}
 use Rattle.qmodel.specs.Trace.{Event, Trace}
@@ -21,7 +21,7 @@ use Rattle.qbase.proofs.Lists.{eqb_same, all_append, all_map, all_more, all_pass
 use Rattle.qmodel.proofs.Past.Laws.{MakesItem}
 use Rattle.qmodel.proofs.Calls.{call_laws}
 use Rattle.qmodel.proofs.Past.Numbers.{call_below, call_earlier, call_newest, block_asked}
-use Rattle.qmodel.proofs.Past.Worth.{SetsNone, among_now, channel_now, now, staying_now, worth_beyond, worth_newest, worth_stays}
+use Rattle.qmodel.proofs.Past.CurrentPriority.{SetsNone, among_now, channel_now, now, staying_now, worth_beyond, worth_newest, worth_stays}
 
 -- ---- the item of a number
 
@@ -143,10 +143,10 @@ item_found roster (e ∷ past) i m is =
 -- ---- priorities
 
 -- an item as it is by now, where it is known as it was made
-found_now : (past : Trace) (made : List SentItem) (i : ℕ) (m : SentItem) → made_among made i ≡ Some m → priority_of_made (made_among (items_by_now past made) i) ≡ worth past m.item
+found_now : (past : Trace) (made : List SentItem) (i : ℕ) (m : SentItem) → made_among made i ≡ Some m → priority_of_made (made_among (items_by_now past made) i) ≡ current_priority past m.item
 found_now past made i m is = ap priority_of_made (among_now past made i ∙ ap (option_map (λ (m : SentItem). record { item = now past m.item; channel = m.channel })) is)
 
-pub item_priority : (roster : List Member) (past : Trace) (i : ℕ) (m : SentItem) → item_at roster past i ≡ Some m → priority_of_item roster past i ≡ worth past m.item
+pub item_priority : (roster : List Member) (past : Trace) (i : ℕ) (m : SentItem) → item_at roster past i ≡ Some m → priority_of_item roster past i ≡ current_priority past m.item
 item_priority roster past i m is = found_now past (items roster past) i m (item_found roster past i m is)
 
 -- the item that an event makes

@@ -6,7 +6,7 @@ use Rattle.std.proofs.lemmas.Option.{none-some, same_Some}
 use Rattle.qtables.specs.Members.{member_at}
 use Rattle.qtables.specs.declared.member.Member.{Member}
 use Rattle.qmodel.specs.Private.Calls.{row_of}
-use Rattle.qmodel.specs.Private.Cutting.{is_over}
+use Rattle.qmodel.specs.Private.Cancelling.{is_over}
 use Rattle.qmodel.specs.Private.Facts.{Facts, is_for_answer}
 use Rattle.qmodel.specs.Private.Effects.{asks, attaches, detaches, makes, unblocks, writes}
 use Rattle.qmodel.specs.Private.Lawful.{facts_of, IsLawful}

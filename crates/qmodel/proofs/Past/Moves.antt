@@ -11,18 +11,18 @@ use Rattle.qmodel.specs.Private.Answer.{Outcome}
 use Rattle.qmodel.specs.Private.Facts.{Facts}
 use Rattle.qmodel.specs.Private.Effects.{makes, sets}
 use Rattle.qmodel.specs.Private.Lawful.{IsLawful, facts_of, with_event}
-use Rattle.qmodel.specs.Private.Past.{is_gone, is_taken, made_on, priority_set_by, worth}
+use Rattle.qmodel.specs.Private.Past.{is_gone, is_taken, made_on, priority_set_by, current_priority}
 use Rattle.qmodel.specs.Private.Rows.{Received, Setting}
-use Rattle.qmodel.specs.Private.Step.{is_cut, uncut_items, items_with_priority_set, unreceived_items, is_unread_send}
+use Rattle.qmodel.specs.Private.Step.{is_cancelled, uncut_items, items_with_priority_set, unreceived_items, is_unread_send}
 use Rattle.qmodel.specs.Trace.{Event, Trace}
 use Rattle.qmodel.specs.declared.call.Call.{Call}
 use Rattle.qmodel.specs.declared.call.Completion.{Completion}
 use Rattle.qbase.proofs.Lists.{all_map, all_more}
 use Rattle.qmodel.proofs.Calls.PrioritySet.{sets_alone}
-use Rattle.qmodel.proofs.Past.Cuts.{pulse_unread, sent_by, unread_elsewhere}
+use Rattle.qmodel.proofs.Past.Cancels.{pulse_unread, sent_by, unread_elsewhere}
 use Rattle.qmodel.proofs.Past.Ends.{accepted}
 use Rattle.qmodel.proofs.Past.Items.{Stands, item_below, standing_is}
-use Rattle.qmodel.proofs.Past.Worth.{now, sets_none, worth_set, worth_stays}
+use Rattle.qmodel.proofs.Past.CurrentPriority.{now, sets_none, worth_set, worth_stays}
 
 -- ---- items that are changed in their priority alone
 
@@ -36,7 +36,7 @@ filter_map_same p g (x ∷ items) same =
     ])
 
 pub left_map : (f : Facts) (t : ℕ) (c : Call) (h : ℕ) (g : Item → Item) (items : List Item) → ((x : Item) → (g x).number ≡ x.number) → uncut_items f t c h (map g items) ≡ map g (uncut_items f t c h items)
-left_map f t c h g items same = filter_map_same (λ item. not (is_cut f t c h item.number)) g items (λ x. ap (λ i. not (is_cut f t c h i)) (same x))
+left_map f t c h g items same = filter_map_same (λ item. not (is_cancelled f t c h item.number)) g items (λ x. ap (λ i. not (is_cancelled f t c h i)) (same x))
 
 pub out_map : (r : Option Received) (h : ℕ) (g : Item → Item) (items : List Item) → ((x : Item) → (g x).number ≡ x.number) → unreceived_items r h (map g items) ≡ map g (unreceived_items r h items)
 out_map None h g items same = refl
@@ -99,7 +99,7 @@ moved_one roster past t c X h s item l a set at stays =
     let p = standing_is roster past h item at stays in
     elim (is_pulse item.what) as (λ b. is_pulse item.what ≡ b → now (e ∷ past) item ≡ mover f h s (now past item)) [
       | true ↦ λ pulse.
-          let still : worth (e ∷ past) item ≡ worth past item = rw pulse refl in
+          let still : current_priority (e ∷ past) item ≡ current_priority past item = rw pulse refl in
           let unmoved : is_unread_send f.connection h item.number (f.open_call s.thread) ≡ false = pulse_unread roster past h item s.thread p pulse in
           ap (λ q. with_priority q item) still ∙ rw unmoved refl
       | false ↦ λ message.
@@ -107,10 +107,10 @@ moved_one roster past t c X h s item l a set at stays =
           let below : item.number ≤ length past = item_below roster past item.number _ at in
           let unread : is_taken past item.number ≡ false = (or_parts _ _ stays).0 in
           let set_it : priority_set_by e past k.sender ≡ cond (eqb s.thread k.sender) (Some s.priority) None = rw (accepted roster past t c X a, set) refl in
-          let is_worth : worth (e ∷ past) item ≡ unwrap_or (cond (eqb s.thread k.sender) (Some s.priority) None) (worth past item) =
-          worth_set e past item k.sender below message unread k.sent ∙ ap (λ o. unwrap_or o (worth past item)) set_it in
+          let is_worth : current_priority (e ∷ past) item ≡ unwrap_or (cond (eqb s.thread k.sender) (Some s.priority) None) (current_priority past item) =
+          worth_set e past item k.sender below message unread k.sent ∙ ap (λ o. unwrap_or o (current_priority past item)) set_it in
           ap (λ q. with_priority q item) is_worth ∙ (
-          elim (eqb s.thread k.sender) as (λ b. eqb s.thread k.sender ≡ b → with_priority (unwrap_or (cond b (Some s.priority) None) (worth past item)) item ≡ mover f h s (now past item)) [
+          elim (eqb s.thread k.sender) as (λ b. eqb s.thread k.sender ≡ b → with_priority (unwrap_or (cond b (Some s.priority) None) (current_priority past item)) item ≡ mover f h s (now past item)) [
             | true ↦ λ same.
                 let number : eqb k.waiting.number item.number ≡ true = eq-eqb _ _ k.number in
                 let waits : is_unread_send f.connection h item.number (f.open_call s.thread) ≡ true =
@@ -132,7 +132,7 @@ map_twice g k (x ∷ items) = ap (λ l. g (k x) ∷ l) (map_twice g k items)
 
 -- items of the channel that are not gone, as they are where nothing is set
 pub same_now : (roster : List Member) (e : Event) (past : Trace) (h : ℕ) (items : List Item) → AllByRecursion (λ item. Stands roster past h item × (is_gone past item ≡ false)) items
-    → ((item : Item) → Stands roster past h item → worth (e ∷ past) item ≡ worth past item) → map (now (e ∷ past)) items ≡ map (now past) items
+    → ((item : Item) → Stands roster past h item → current_priority (e ∷ past) item ≡ current_priority past item) → map (now (e ∷ past)) items ≡ map (now past) items
 same_now roster e past h items all same =
     map_same (now (e ∷ past)) (now past) items
     (all_more (λ item. Stands roster past h item × (is_gone past item ≡ false)) (λ item. now (e ∷ past) item ≡ now past item) items all (λ item k. ap (λ q. with_priority q item) (same item k.0)))

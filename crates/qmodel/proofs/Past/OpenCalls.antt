@@ -33,7 +33,7 @@ use Rattle.qmodel.proofs.Past.Items.{item_at, item_answer, item_message, item_be
 use Rattle.qmodel.proofs.Past.Receipts.{copied_by, accepted_receipts, refused_receipts, best_pending, best_priority, receipt_beyond}
 use Rattle.qmodel.proofs.Past.Senders.{send_parts, send_from, sender_sends, sender_found}
 use Rattle.qmodel.proofs.Past.Unblocked.{fresh_unblocked, marks, marks_it, none_unblocked, unblocked_after, unblocked_beyond, unblocked_by, unblocked_now}
-use Rattle.qmodel.proofs.Past.Worth.{refused_sets_none, sets_none, taken_sets_none}
+use Rattle.qmodel.proofs.Past.CurrentPriority.{refused_sets_none, sets_none, taken_sets_none}
 use Rattle.qmodel.proofs.Past.Writes.{changed, filled_accepted, filled_fresh, filled_refused, receipt_written, written_sender}
 use Rattle.qmodel.proofs.Rosters.{known}
 

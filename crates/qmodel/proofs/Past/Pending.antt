@@ -18,19 +18,19 @@ use Rattle.qmodel.specs.Private.Past.{channel_at, has_ending_of, is_closed, is_e
 use Rattle.qmodel.specs.Private.Effects.{closes, makes, sets}
 use Rattle.qmodel.specs.Private.Rows.{Received, names}
 use Rattle.qmodel.specs.Trace.{SentItem}
-use Rattle.qmodel.specs.Private.Step.{is_cut, uncut_items, items_with_priority_set, unreceived_items, pending_after, is_unread_send}
+use Rattle.qmodel.specs.Private.Step.{is_cancelled, uncut_items, items_with_priority_set, unreceived_items, pending_after, is_unread_send}
 use Rattle.qmodel.specs.Trace.{Event, Trace}
 use Rattle.qmodel.specs.declared.call.Call.{Call}
 use Rattle.qmodel.specs.declared.call.Completion.{Completion}
 use Rattle.qbase.proofs.Lists.{cond_same, eqb_either, none_of, all_append, all_filter, all_more, filter_same, filter_twice, filter_all, filter_whole, any_never}
 use Rattle.qmodel.proofs.Past.Laws.{IsReceived}
 use Rattle.qmodel.proofs.Past.Channels.{closed_accepted, closed_refused}
-use Rattle.qmodel.proofs.Past.Cuts.{ended_is_cut}
+use Rattle.qmodel.proofs.Past.Cancels.{ended_is_cancelled}
 use Rattle.qmodel.proofs.Calls.{call_laws}
 use Rattle.qmodel.proofs.Past.Ends.{laws_of, accepted, refused, refused_ends, ended_below, ends_own}
 use Rattle.qmodel.proofs.Past.Items.{IsPending, Stands, items_on, pending_is, stands_all, standing_is, staying, staying_all, item_at, item_below}
 use Rattle.qmodel.proofs.Past.Moves.{left_map, moved_append, moved_left, moved_made, moved_nothing, moved_now, moved_out, out_map, same_now}
-use Rattle.qmodel.proofs.Past.Worth.{now, refused_sets_none, worth_newest, worth_stays}
+use Rattle.qmodel.proofs.Past.CurrentPriority.{now, refused_sets_none, worth_newest, worth_stays}
 use Rattle.qmodel.proofs.Past.Receipts.{copied_by, accepted_receipts, refused_receipts, best_pending, receipt_beyond}
 use Rattle.qmodel.proofs.Past.Numbers.{open_below}
 use Rattle.qmodel.specs.Private.Facts.{threads_of}
@@ -97,16 +97,16 @@ neither false true = refl
 neither false false = refl
 
 -- an item that wasn't received is gone exactly where this event receives it, or ends its Send
-gone_now : (roster : List Member) (past : Trace) (t : ℕ) (c : Call) (X : List Completion) (item : Item) (cut : Bool) → IsLawful roster past → is_some (member_at roster t) ≡ true → Outcome true (facts_of roster past) t c X
-    → copied_count_of past item.number ≡ None → (not (is_pulse item.what) && is_ended (with_event t c X past) item.number) ≡ cut
-    → not (is_gone (with_event t c X past) item) ≡ (not cut && leaves (row_of (facts_of roster past) t c).receipt item)
-gone_now roster past t c X item cut l member a fresh ended =
+gone_now : (roster : List Member) (past : Trace) (t : ℕ) (c : Call) (X : List Completion) (item : Item) (cancel : Bool) → IsLawful roster past → is_some (member_at roster t) ≡ true → Outcome true (facts_of roster past) t c X
+    → copied_count_of past item.number ≡ None → (not (is_pulse item.what) && is_ended (with_event t c X past) item.number) ≡ cancel
+    → not (is_gone (with_event t c X past) item) ≡ (not cancel && leaves (row_of (facts_of roster past) t c).receipt item)
+gone_now roster past t c X item cancel l member a fresh ended =
     let taken : is_taken (with_event t c X past) item.number ≡ is_some (copied_by (row_of (facts_of roster past) t c).receipt item.number) =
     ap (λ r. is_some (option_or r (copied_count_of past item.number))) (accepted_receipts roster past t c X item.number l member a)
     ∙ taken_now (copied_by (row_of (facts_of roster past) t c).receipt item.number) (copied_count_of past item.number) fresh in
     ap (λ b. not (is_taken (with_event t c X past) item.number || b)) ended
-    ∙ ap (λ b. not (b || cut)) taken
-    ∙ neither (is_some (copied_by (row_of (facts_of roster past) t c).receipt item.number)) cut
+    ∙ ap (λ b. not (b || cancel)) taken
+    ∙ neither (is_some (copied_by (row_of (facts_of roster past) t c).receipt item.number)) cancel
 
 -- what is gone stays gone
 pub stays_gone : (past : Trace) (t : ℕ) (c : Call) (X : List Completion) (item : Item) → is_gone past item ≡ true → is_gone (with_event t c X past) item ≡ true
@@ -121,24 +121,24 @@ stays_gone past t c X item e =
           (and_from (not (is_pulse item.what)) ended_now p.0 (or_right (has_ending_of X item.number) (is_ended past item.number) p.1))
     ]
 
--- of what stood on the channel, what was pending, isn't cut and isn't received
+-- of what stood on the channel, what was pending, isn't cancelled and isn't received
 pending_old : (roster : List Member) (past : Trace) (t : ℕ) (c : Call) (X : List Completion) (h : ℕ) → IsLawful roster past → is_some (member_at roster t) ≡ true → Outcome true (facts_of roster past) t c X
     → filter (λ item. not (is_gone (with_event t c X past) item)) (items_on roster past h) ≡ filter (leaves (row_of (facts_of roster past) t c).receipt) (uncut_items (facts_of roster past) t c h (staying roster past h))
 pending_old roster past t c X h l member a =
     let f = facts_of roster past in
     let R = row_of (facts_of roster past) t c in
     let stays = λ (item : Item). not (is_gone (with_event t c X past) item) in
-    let goes_on = λ (item : Item). not (is_cut (facts_of roster past) t c h item.number) in
-    let stays_on = λ (item : Item). not (is_cut (facts_of roster past) t c h item.number) && leaves (row_of (facts_of roster past) t c).receipt item in
-    let both = λ (item : Item). not (is_gone past item) && (not (is_cut (facts_of roster past) t c h item.number) && leaves (row_of (facts_of roster past) t c).receipt item) in
+    let goes_on = λ (item : Item). not (is_cancelled (facts_of roster past) t c h item.number) in
+    let stays_on = λ (item : Item). not (is_cancelled (facts_of roster past) t c h item.number) && leaves (row_of (facts_of roster past) t c).receipt item in
+    let both = λ (item : Item). not (is_gone past item) && (not (is_cancelled (facts_of roster past) t c h item.number) && leaves (row_of (facts_of roster past) t c).receipt item) in
     filter_same stays both (items_on roster past h) (
     all_more (Stands roster past h) (λ item. stays item ≡ both item) (items_on roster past h) (stands_all roster past h) (λ item at.
     elim (is_gone past item) as (λ b. is_gone past item ≡ b → stays item ≡ (not b && (goes_on item && leaves R.receipt item))) [
       | true ↦ λ e. ap not (stays_gone past t c X item e)
       | false ↦ λ e.
           let p = or_parts (is_taken past item.number) (not (is_pulse item.what) && is_ended past item.number) e in
-          gone_now roster past t c X item (is_cut f t c h item.number) l member a (none_of (copied_count_of past item.number) p.0)
-          (ended_is_cut roster past t c X h item l a (standing_is roster past h item at e))
+          gone_now roster past t c X item (is_cancelled f t c h item.number) l member a (none_of (copied_count_of past item.number) p.0)
+          (ended_is_cancelled roster past t c X h item l a (standing_is roster past h item at e))
     ] refl))
     ∙ sym (filter_twice (λ item. not (is_gone past item)) stays_on (items_on roster past h))
     ∙ sym (filter_twice goes_on (leaves R.receipt) (staying roster past h))
@@ -224,7 +224,7 @@ none_out (Some r) h = cond_same (eqb r.channel h) []
 made_uncut : (roster : List Member) (past : Trace) (t : ℕ) (c : Call) (h : ℕ) → uncut_items (facts_of roster past) t c h (made_on h (makes (facts_of roster past) t c)) ≡ made_on h (makes (facts_of roster past) t c)
 made_uncut roster past t c h =
     let f = facts_of roster past in
-    filter_all (λ item. not (is_cut f t c h item.number)) (made_on h (makes f t c)) (made_all (λ item. not (is_cut f t c h item.number) ≡ true) h (makes f t c) (λ m is on.
+    filter_all (λ item. not (is_cancelled f t c h item.number)) (made_on h (makes f t c)) (made_all (λ item. not (is_cancelled f t c h item.number) ≡ true) h (makes f t c) (λ m is on.
     let number : m.item.number ≡ length past + 1 = ((call_laws c).makes_one f t m is).number in
     ap not (any_never _ (threads_of roster) (λ s.
     elim (open_call roster past s) as (λ o. open_call roster past s ≡ o → (is_unread_send f.connection h m.item.number o && is_some ((row_of f t c).ends s)) ≡ false) [
@@ -239,7 +239,7 @@ left_made : (roster : List Member) (past : Trace) (t : ℕ) (c : Call) (h : ℕ)
     → uncut_items (facts_of roster past) t c h (items ++ made_on h (makes (facts_of roster past) t c)) ≡ uncut_items (facts_of roster past) t c h items ++ made_on h (makes (facts_of roster past) t c)
 left_made roster past t c h items =
     let f = facts_of roster past in
-    filter-append (λ item. not (is_cut f t c h item.number)) items (made_on h (makes f t c)) ∙ ap (λ l. uncut_items f t c h items ++ l) (made_uncut roster past t c h)
+    filter-append (λ item. not (is_cancelled f t c h item.number)) items (made_on h (makes f t c)) ∙ ap (λ l. uncut_items f t c h items ++ l) (made_uncut roster past t c h)
 
 -- what stays of a channel that isn't destroyed
 staying_accepted : (roster : List Member) (past : Trace) (t : ℕ) (c : Call) (X : List Completion) (h : ℕ) → IsLawful roster past → is_some (member_at roster t) ≡ true → Outcome true (facts_of roster past) t c X
@@ -259,7 +259,7 @@ staying_accepted roster past t c X h l member a =
     ∙ ap (λ xs. filter (leaves R.receipt) L ++ xs) (pending_new roster past t c X h l member a)
     ∙ sym (filter-append (leaves R.receipt) L M)
     ∙ sym (taken_from R.receipt h (L ++ M) (λ r is.
-    elsewhere roster past t c X h r L (all_filter (IsPending roster past h) (λ item. not (is_cut f t c h item.number)) (staying roster past h)
+    elsewhere roster past t c X h r L (all_filter (IsPending roster past h) (λ item. not (is_cancelled f t c h item.number)) (staying roster past h)
     (all_more (λ item. Stands roster past h item × (is_gone past item ≡ false)) (IsPending roster past h) (staying roster past h) (staying_all roster past h) (λ item k. standing_is roster past h item k.0 k.1))) a ((laws_of f t c X a).receives r is)))
     ∙ ap (unreceived_items R.receipt h) (sym (left_made roster past t c h (staying roster past h)))
 

@@ -11,7 +11,7 @@ use Rattle.qmodel.specs.Private.Answer.{ending, Outcome}
 use Rattle.qmodel.specs.Private.Calls.{row_of}
 use Rattle.qmodel.specs.Private.Facts.{threads_of}
 use Rattle.qmodel.specs.Private.Lawful.{facts_of, IsLawful, with_event}
-use Rattle.qmodel.specs.Private.Past.{items_by_now, carried_priority, channel_at, first_among, priority_from_ending, item_of, items, made_among, priority_of_thread, refuses, worth}
+use Rattle.qmodel.specs.Private.Past.{items_by_now, carried_priority, channel_at, first_among, priority_from_ending, item_of, items, made_among, priority_of_thread, refuses, current_priority}
 use Rattle.qmodel.specs.Private.Effects.{sets}
 use Rattle.qmodel.specs.Private.Rows.{Received, item_in_mark, priority_set_for}
 use Rattle.qmodel.specs.Trace.{SentItem}
@@ -24,14 +24,14 @@ use Rattle.qmodel.proofs.Past.Items.{item_at, item_below, item_earlier, item_fou
 use Rattle.qmodel.proofs.Past.Laws.{RowLaws, IsReceipt, IsReceived}
 use Rattle.qmodel.proofs.Past.Receipts.{among_none, among_one, best_pending, best_priority, ending_receives, given_known}
 use Rattle.qmodel.proofs.Calls.{call_laws}
-use Rattle.qmodel.proofs.Past.Worth.{among_now, now, worth_beyond}
+use Rattle.qmodel.proofs.Past.CurrentPriority.{among_now, now, worth_beyond}
 use Rattle.qmodel.proofs.Rosters.{known}
 
 -- the item that is received is among those that were made, and what it is worth
 record IsReceivedAt (roster : List Member) (past : Trace) (e : Event) (r : Received) (item : Item) : Type 0 where
   pub first : Item
   pub at : item_at roster (e ∷ past) r.item ≡ Some (record { item = first; channel = r.channel })
-  pub is_worth : worth past first ≡ item.priority
+  pub is_worth : current_priority past first ≡ item.priority
 
 received_at : (roster : List Member) (past : Trace) (t : ℕ) (c : Call) (X : List Completion) (r : Received) (k : IsReceived (facts_of roster past) t c r) → Outcome true (facts_of roster past) t c X
     → IsReceivedAt roster past (record { thread = t; call = c; endings = X }) r k.item

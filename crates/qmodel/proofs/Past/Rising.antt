@@ -12,7 +12,7 @@ use Rattle.qmodel.specs.Trace.{SentItem}
 use Rattle.qmodel.specs.Trace.{Event, Trace}
 use Rattle.qbase.proofs.Lists.{all_map, all_more}
 use Rattle.qmodel.proofs.Past.Items.{IsPending, Stands, items_on, stands_all, staying, pending_all, pending_is, item_below, made_by}
-use Rattle.qmodel.proofs.Past.Worth.{now}
+use Rattle.qmodel.proofs.Past.CurrentPriority.{now}
 use Rattle.qmodel.proofs.Past.Pending.{items_more}
 
 -- rising items, and one that is made after them

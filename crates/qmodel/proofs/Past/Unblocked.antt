@@ -24,7 +24,7 @@ use Rattle.qmodel.proofs.Past.Laws.{is_settled}
 use Rattle.qmodel.proofs.Calls.{call_laws}
 use Rattle.qmodel.proofs.Past.Numbers.{IsOpen, block_fresh, filled_answer, filled_settled, open_below, open_parts, open_thread, is_unblocked}
 use Rattle.qmodel.proofs.Past.Items.{item_accepted}
-use Rattle.qmodel.proofs.Past.Worth.{unblocked_among_now}
+use Rattle.qmodel.proofs.Past.CurrentPriority.{unblocked_among_now}
 
 -- ---- what is held is taken
 

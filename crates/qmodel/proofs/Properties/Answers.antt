@@ -19,8 +19,8 @@ use Rattle.qmodel.specs.Private.Calls.Send.{item}
 use Rattle.qmodel.specs.Private.Held.{Finish, ends_sender, refusal}
 use Rattle.qmodel.specs.declared.call.Info.{Info as Told}
 use Rattle.qmodel.specs.declared.call.Mark.TheVariants as mark
-use Rattle.qmodel.specs.Private.Cutting.{is_on}
-use Rattle.qmodel.specs.Private.Facts.{Facts, is_for_answer, message, sender, threads_of, way}
+use Rattle.qmodel.specs.Private.Cancelling.{is_on}
+use Rattle.qmodel.specs.Private.Facts.{Facts, is_for_answer, message, sender, threads_of, route}
 use Rattle.qmodel.specs.Private.Effects.{answered_by, asks, makes, thread_of_send}
 use Rattle.qmodel.specs.Private.Headline.AnsweredToSender.{is_answer}
 use Rattle.qmodel.specs.Private.Rows.{delivery_of, item_sent_over}
@@ -31,7 +31,7 @@ use Rattle.qmodel.specs.declared.call.Completion.{Completion}
 use Rattle.qmodel.specs.declared.open_call.OpenCall.{OpenCall}
 use Rattle.qmodel.specs.declared.open_call.Wait.{Wait}
 use Rattle.qmodel.specs.declared.open_call.Wait.TheVariants.{Answer, Item as ForItem}
-use Rattle.qmodel.proofs.Calls.Cutting.{cut_parts}
+use Rattle.qmodel.proofs.Calls.Cancelling.{cancel_parts}
 use Rattle.qmodel.proofs.Calls.Held.{IsHeldFor, SenderEnds, answering, finished_held, has_sender, held_for, sender_ends}
 use Rattle.qbase.proofs.Lists.{eqb_same}
 use Rattle.qmodel.proofs.Past.Senders.{sender_sends}
@@ -39,8 +39,8 @@ use Rattle.qmodel.proofs.Past.Laws.{Passes}
 use Rattle.qmodel.proofs.Properties.Receipts.{ending_of}
 use Rattle.qmodel.proofs.Calls.Taking.{given_is}
 use Rattle.qmodel.proofs.Properties.Rows.Receiving.{ReceiveTakes, receive_takes}
-use Rattle.qmodel.proofs.Properties.Rows.Delivering.{Meets, delivery_meets}
-use Rattle.qmodel.proofs.Ways.{has_way, leads_over}
+use Rattle.qmodel.proofs.Properties.Rows.Delivering.{Delivers, delivery_meets}
+use Rattle.qmodel.proofs.Routes.{has_way, leads_over}
 use Rattle.qmodel.specs.Private.Calls.ConnectDetach as connect_detach
 use Rattle.qmodel.specs.Private.Calls.Unblock as unblock
 use Rattle.qmodel.specs.Private.Calls.Pulse as pulse
@@ -67,7 +67,7 @@ given_no_answer item message buffer = given_is is_answer false (λ i n. refl) it
 takes_no_answer : {P : Type 0} (f : Facts) (t chid : ℕ) (kind : Kind) (buffer : List ℕ) (y : Completion) → ReceiveTakes f t chid kind buffer y → is_answer y.mark ≡ true → P
 takes_no_answer f t chid kind buffer y r is = no_answer _ y r.ending (given_no_answer r.item (message f r.item.number) buffer) is
 
-met_no_answer : {P : Type 0} (f : Facts) (o : Option ℕ) (item : Item) (sent : List ℕ) (u : ℕ) (y : Completion) → Meets f o item sent u y → is_answer y.mark ≡ true → P
+met_no_answer : {P : Type 0} (f : Facts) (o : Option ℕ) (item : Item) (sent : List ℕ) (u : ℕ) (y : Completion) → Delivers f o item sent u y → is_answer y.mark ≡ true → P
 met_no_answer f o item sent u y s is = no_answer _ y s.ending (given_no_answer item sent s.buffer) is
 
 -- what is told is no answer
@@ -95,20 +95,20 @@ answers_by f t c rcvid finish u y named r =
     }
 
 ends_answers : (f : Facts) (t : ℕ) (c : Call) (u : ℕ) (y : Completion) → Passes f t c → (row_of f t c).ends u ≡ Some y → is_answer y.mark ≡ true → AnswersHeld f t c u y
-ends_answers f t (Send coid message reply_buffer) u y p e is = met_no_answer f (way f t coid) (item f t) message u y (delivery_meets f (way f t coid) (item f t) message u y e) is
+ends_answers f t (Send coid message reply_buffer) u y p e is = met_no_answer f (route f t coid) (item f t) message u y (delivery_meets f (route f t coid) (item f t) message u y e) is
 ends_answers f t (Pulse coid level code value) u y p e is =
-    let k = told_meets f (pulse.sent_pulse f coid level code value) u y e in met_no_answer f (Some k.made.channel) k.made.item [] u y k.meets is
+    let k = told_meets f (pulse.sent_pulse f coid level code value) u y e in met_no_answer f (Some k.made.channel) k.made.item [] u y k.delivers is
 ends_answers f t (Reply rcvid status bytes) u y p e is = answers_by f t (Reply rcvid status bytes) rcvid (reply_finish status bytes) u y refl (sender_ends f t rcvid (reply_finish status bytes) u y p.row e)
 ends_answers f t (Error rcvid code) u y p e is = answers_by f t (Error rcvid code) rcvid (error_finish code) u y refl (sender_ends f t rcvid (error_finish code) u y p.row e)
-ends_answers f t (ChannelDestroy chid) u y p e is = no_answer _ y (cut_parts (is_on f.connection chid) Srch u (f.open_call u) y e).ending refl is
-ends_answers f t Shutdown u y p e is = no_answer _ y (cut_parts (λ wait. true) Srch u (f.open_call u) y e).ending refl is
+ends_answers f t (ChannelDestroy chid) u y p e is = no_answer _ y (cancel_parts (is_on f.connection chid) Srch u (f.open_call u) y e).ending refl is
+ends_answers f t Shutdown u y p e is = no_answer _ y (cancel_parts (λ wait. true) Srch u (f.open_call u) y e).ending refl is
 ends_answers f t (Unblock thread) u y p e is = elim (unblock_ends f thread u y (unblock.due_pulse f thread) e) [
-  | inl cut ↦ no_answer _ y cut.ending refl is
-  | inr k ↦ met_no_answer f (Some k.made.channel) k.made.item [] u y k.meets is
+  | inl cancel ↦ no_answer _ y cancel.ending refl is
+  | inr k ↦ met_no_answer f (Some k.made.channel) k.made.item [] u y k.delivers is
 ]
 ends_answers f t (ConnectDetach coid) u y p e is = elim (detach_ends f coid (connect_detach.due_pulse f t coid) u y e) [
-  | inl cut ↦ no_answer _ y cut.ending refl is
-  | inr s ↦ let k = told_meets f (connect_detach.due_pulse f t coid) u y s in met_no_answer f (Some k.made.channel) k.made.item [] u y k.meets is
+  | inl cancel ↦ no_answer _ y cancel.ending refl is
+  | inr s ↦ let k = told_meets f (connect_detach.due_pulse f t coid) u y s in met_no_answer f (Some k.made.channel) k.made.item [] u y k.delivers is
 ]
 ends_answers f t c u y p e is = absurd (none-some y e)
 

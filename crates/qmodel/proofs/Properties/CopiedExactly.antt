@@ -21,8 +21,8 @@ use Rattle.qmodel.specs.Private.Calls.Error.{error_finish}
 use Rattle.qmodel.specs.Private.Calls.Info.{info_of, info_ending}
 use Rattle.qmodel.specs.Private.Calls.Reply.{reply_finish}
 use Rattle.qmodel.specs.Private.Calls.Send as send
-use Rattle.qmodel.specs.Private.Cutting.{buffer_of_wait, cut_call, is_on, is_over}
-use Rattle.qmodel.specs.Private.Facts.{Facts, message, message_in, sender, threads_of, way}
+use Rattle.qmodel.specs.Private.Cancelling.{buffer_of_wait, cancel_call, is_on, is_over}
+use Rattle.qmodel.specs.Private.Facts.{Facts, message, message_in, sender, threads_of, route}
 use Rattle.qmodel.specs.Private.Held.{Finish, refusal, reply_buffer, reply_buffer_in, reply_buffer_of}
 use Rattle.qmodel.specs.Private.Headline.CopiedExactly.{CopiedExactly, IsCopied, buffer_at, buffer_by, call_at, message_at}
 use Rattle.qmodel.specs.Private.Lawful.{facts_of, IsLawful}
@@ -50,9 +50,9 @@ use Rattle.qmodel.proofs.Properties.Messages.{open_buffer, open_message, pending
 use Rattle.qmodel.proofs.Properties.Receipts.{ending_of}
 use Rattle.qmodel.proofs.Laying.{lay_nothing, count_nothing}
 use Rattle.qmodel.proofs.Properties.Rows.Receiving.{ReceiveTakes, receive_takes}
-use Rattle.qmodel.proofs.Calls.Cutting.{IsCutCall, cut_parts}
+use Rattle.qmodel.proofs.Calls.Cancelling.{IsCutCall, cancel_parts}
 use Rattle.qmodel.proofs.Calls.Held.{IsHeldFor, SenderEnds, answering, has_sender, held_for, sender_ends}
-use Rattle.qmodel.proofs.Properties.Rows.Delivering.{Meets, delivery_meets}
+use Rattle.qmodel.proofs.Properties.Rows.Delivering.{Delivers, delivery_meets}
 use Rattle.qmodel.proofs.Properties.Rows.Telling.{Tells, told_meets, unblock_ends}
 use Rattle.qmodel.specs.Private.Calls.ConnectDetach as connect_detach
 use Rattle.qmodel.specs.Private.Calls.Unblock as unblock
@@ -61,7 +61,7 @@ use Rattle.qmodel.proofs.Calls.Pulse.{sent_is_pulse}
 use Rattle.qmodel.proofs.Calls.ConnectDetach as detaching
 use Rattle.qmodel.proofs.Calls.ConnectDetach.{detach_ends}
 use Rattle.qmodel.proofs.Calls.Unblock as unblocking
-use Rattle.qmodel.proofs.Calls.Unblock.{is_cut}
+use Rattle.qmodel.proofs.Calls.Unblock.{is_cancelled}
 
 abbrev event : ℕ → Call → List Completion → Event
 event t c X = record { thread = t; call = c; endings = X }
@@ -187,38 +187,38 @@ answered_buffer roster past v t rcvid finish u y none r =
 
 -- what a receiver takes that is met
 met_copied : (roster : List Member) (past : Trace) (t : ℕ) (c : Call) (X : List Completion) (u : ℕ) (y : Completion) (o : Option ℕ) (item : Item) (sent : List ℕ) → writes c ≡ None
-    → (is_pulse item.what ≡ false → message_at (event t c X ∷ past) item.number ≡ sent) → Meets (facts_of roster past) o item sent u y → IsCopied past (event t c X) y y.mark
+    → (is_pulse item.what ≡ false → message_at (event t c X ∷ past) item.number ≡ sent) → Delivers (facts_of roster past) o item sent u y → IsCopied past (event t c X) y y.mark
 met_copied roster past t c X u y o item sent none message s =
     taking_copied past (event t c X) s.waiting.number u item s.buffer sent y (buffer_open roster (event t c X) past u s.waiting none s.is_open ∙ ap buffer_of_wait s.waits) message s.ending
 
--- what is cut gives its buffer back as it is by now
-cut_copied : (roster : List Member) (past : Trace) (t : ℕ) (c : Call) (X : List Completion) (u : ℕ) (y : Completion) (is_cut : Wait → Bool) (errno : Errno) → writes c ≡ None → IsCutCall is_cut errno u (open_call roster past u) y
+-- what is cancelled gives its buffer back as it is by now
+cancel_copied : (roster : List Member) (past : Trace) (t : ℕ) (c : Call) (X : List Completion) (u : ℕ) (y : Completion) (is_cancelled : Wait → Bool) (errno : Errno) → writes c ≡ None → IsCutCall is_cancelled errno u (open_call roster past u) y
     → IsCopied past (event t c X) y y.mark
-cut_copied roster past t c X u y is_cut errno none k =
-    plain_copied past (event t c X) y (cut_call errno u k.waiting) k.ending (sym (buffer_open roster (event t c X) past u k.waiting none k.is))
+cancel_copied roster past t c X u y is_cancelled errno none k =
+    plain_copied past (event t c X) y (cancel_call errno u k.waiting) k.ending (sym (buffer_open roster (event t c X) past u k.waiting none k.is))
 
 -- what a receiver takes that a pulse meets which is due
 told_now : (roster : List Member) (past : Trace) (t : ℕ) (c : Call) (X : List Completion) (u : ℕ) (y : Completion) (o : Option SentItem) → writes c ≡ None → ((m : SentItem) → o ≡ Some m → is_pulse m.item.what ≡ true)
     → Tells (facts_of roster past) o u y → IsCopied past (event t c X) y y.mark
 told_now roster past t c X u y o none pulse k =
-    met_copied roster past t c X u y (Some k.made.channel) k.made.item [] none (λ message. absurd (true≢false (sym (pulse k.made k.is_due) ∙ message))) k.meets
+    met_copied roster past t c X u y (Some k.made.channel) k.made.item [] none (λ message. absurd (true≢false (sym (pulse k.made k.is_due) ∙ message))) k.delivers
 
 ends_copied : (roster : List Member) (past : Trace) (t : ℕ) (c : Call) (X : List Completion) (u : ℕ) (y : Completion) → Passes (facts_of roster past) t c → (row_of (facts_of roster past) t c).ends u ≡ Some y
     → IsCopied past (event t c X) y y.mark
-ends_copied roster past t (ChannelDestroy chid) X u y p e = cut_copied roster past t (ChannelDestroy chid) X u y (is_on (facts_of roster past).connection chid) Srch refl (cut_parts (is_on (facts_of roster past).connection chid) Srch u (open_call roster past u) y e)
-ends_copied roster past t Shutdown X u y p e = cut_copied roster past t Shutdown X u y (λ wait. true) Srch refl (cut_parts (λ wait. true) Srch u (open_call roster past u) y e)
+ends_copied roster past t (ChannelDestroy chid) X u y p e = cancel_copied roster past t (ChannelDestroy chid) X u y (is_on (facts_of roster past).connection chid) Srch refl (cancel_parts (is_on (facts_of roster past).connection chid) Srch u (open_call roster past u) y e)
+ends_copied roster past t Shutdown X u y p e = cancel_copied roster past t Shutdown X u y (λ wait. true) Srch refl (cancel_parts (λ wait. true) Srch u (open_call roster past u) y e)
 ends_copied roster past t (Unblock thread) X u y p e = elim (unblock_ends (facts_of roster past) thread u y (unblock.due_pulse (facts_of roster past) thread) e) [
-  | inl cut ↦ cut_copied roster past t (Unblock thread) X u y (is_cut (facts_of roster past) thread u) Intr refl cut
+  | inl cancel ↦ cancel_copied roster past t (Unblock thread) X u y (is_cancelled (facts_of roster past) thread u) Intr refl cancel
   | inr k ↦ told_now roster past t (Unblock thread) X u y (unblock.due_pulse (facts_of roster past) thread) refl (λ m is. unblocking.due_is_pulse (facts_of roster past) thread m is) k
 ]
 ends_copied roster past t (ConnectDetach coid) X u y p e = elim (detach_ends (facts_of roster past) coid (connect_detach.due_pulse (facts_of roster past) t coid) u y e) [
-  | inl cut ↦ cut_copied roster past t (ConnectDetach coid) X u y (is_over coid) Badf refl cut
+  | inl cancel ↦ cancel_copied roster past t (ConnectDetach coid) X u y (is_over coid) Badf refl cancel
   | inr s ↦ told_now roster past t (ConnectDetach coid) X u y (connect_detach.due_pulse (facts_of roster past) t coid) refl (λ m is. detaching.due_is_pulse (facts_of roster past) t coid m is)
       (told_meets (facts_of roster past) (connect_detach.due_pulse (facts_of roster past) t coid) u y s)
 ]
 ends_copied roster past t (Send coid sent reply_buffer) X u y p e =
-    met_copied roster past t (Send coid sent reply_buffer) X u y (way (facts_of roster past) t coid) (send.item (facts_of roster past) t) sent refl (λ message. message_newest (event t (Send coid sent reply_buffer) X) past)
-    (delivery_meets (facts_of roster past) (way (facts_of roster past) t coid) (send.item (facts_of roster past) t) sent u y e)
+    met_copied roster past t (Send coid sent reply_buffer) X u y (route (facts_of roster past) t coid) (send.item (facts_of roster past) t) sent refl (λ message. message_newest (event t (Send coid sent reply_buffer) X) past)
+    (delivery_meets (facts_of roster past) (route (facts_of roster past) t coid) (send.item (facts_of roster past) t) sent u y e)
 ends_copied roster past t (Pulse coid level code value) X u y p e =
     let o = pulse.sent_pulse (facts_of roster past) coid level code value in
     told_now roster past t (Pulse coid level code value) X u y o refl (λ m is. sent_is_pulse (facts_of roster past) coid level code value m is) (told_meets (facts_of roster past) o u y e)

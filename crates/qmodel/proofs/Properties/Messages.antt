@@ -7,7 +7,7 @@ use Rattle.std.proofs.lemmas.Option.{none-some, same_Some}
 use Rattle.qqueue.specs.Best.{is_pulse}
 use Rattle.qqueue.specs.declared.item.Item.{Item}
 use Rattle.qtables.specs.declared.member.Member.{Member}
-use Rattle.qmodel.specs.Private.Cutting.{buffer_of_wait}
+use Rattle.qmodel.specs.Private.Cancelling.{buffer_of_wait}
 use Rattle.qmodel.specs.Private.Facts.{is_for_answer, message, message_in, message_of, sender, threads_of, is_send}
 use Rattle.qmodel.specs.Private.Effects.{message_sent as message_in_call}
 use Rattle.qmodel.specs.Private.Headline.CopiedExactly.{buffer_at, buffer_by, message_at}

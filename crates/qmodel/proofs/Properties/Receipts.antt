@@ -15,8 +15,8 @@ use Rattle.qmodel.specs.Private.Calls.Error.{error_finish}
 use Rattle.qmodel.specs.Private.Calls.Info.{info_of}
 use Rattle.qmodel.specs.Private.Calls.Reply.{reply_finish}
 use Rattle.qmodel.specs.Private.Calls.Send.{item}
-use Rattle.qmodel.specs.Private.Cutting.{is_on}
-use Rattle.qmodel.specs.Private.Facts.{Facts, message, sender, way}
+use Rattle.qmodel.specs.Private.Cancelling.{is_on}
+use Rattle.qmodel.specs.Private.Facts.{Facts, message, sender, route}
 use Rattle.qmodel.specs.Private.Effects.{makes, receives_on}
 use Rattle.qmodel.specs.Private.Headline.ReceivedOnce.{item_received}
 use Rattle.qmodel.specs.Private.Rows.{item_in_mark}
@@ -28,10 +28,10 @@ use Rattle.qmodel.specs.declared.open_call.OpenCall.{OpenCall}
 use Rattle.qmodel.specs.declared.open_call.Wait.{Wait}
 use Rattle.qmodel.specs.declared.open_call.Wait.TheVariants.{Answer, Item as ForItem}
 use Rattle.qmodel.proofs.Calls.Taking.{given_received}
-use Rattle.qmodel.proofs.Properties.Rows.Delivering.{Meets, delivery_meets}
+use Rattle.qmodel.proofs.Properties.Rows.Delivering.{Delivers, delivery_meets}
 use Rattle.qmodel.proofs.Properties.Rows.Receiving.{ReceiveTakes, receive_takes}
 use Rattle.qmodel.proofs.Calls.Answering.{answer_receives}
-use Rattle.qmodel.proofs.Calls.Cutting.{cut_parts}
+use Rattle.qmodel.proofs.Calls.Cancelling.{cancel_parts}
 use Rattle.qmodel.proofs.Calls.Error.{no_receipt}
 use Rattle.qmodel.proofs.Calls.Held.{sender_ends}
 use Rattle.qmodel.proofs.Calls.Info.{plain}
@@ -117,7 +117,7 @@ own_takes f t (ReceivePulse chid) u y p same e m = takes_best f t (ReceivePulse 
 own_takes f t c u y p same e m = absurd (none-some p (ap (λ x. item_in_mark x.mark) (same_Some _ y e) ∙ m))
 
 -- a receiver that takes what is delivered
-takes_met : (f : Facts) (t : ℕ) (c : Call) (o : Option ℕ) (item : Item) (message : List ℕ) (u : ℕ) (y : Completion) (p : ℕ × ℕ) → Meets f o item message u y → ((h : ℕ) → o ≡ Some h → makes f t c ≡ Some (record { item = item; channel = h }))
+takes_met : (f : Facts) (t : ℕ) (c : Call) (o : Option ℕ) (item : Item) (message : List ℕ) (u : ℕ) (y : Completion) (p : ℕ × ℕ) → Delivers f o item message u y → ((h : ℕ) → o ≡ Some h → makes f t c ≡ Some (record { item = item; channel = h }))
     → item_in_mark y.mark ≡ Some p → TakesOne f t c u y p.0
 takes_met f t c o item message u y p s made m = inr (record {
   made = record { item = item; channel = s.channel };
@@ -134,24 +134,24 @@ takes_met f t c o item message u y p s made m = inr (record {
 -- a receiver that takes a pulse which is due
 takes_told : (f : Facts) (t : ℕ) (c : Call) (o : Option SentItem) (u : ℕ) (y : Completion) (p : ℕ × ℕ) → makes f t c ≡ o → Tells f o u y → item_in_mark y.mark ≡ Some p → TakesOne f t c u y p.0
 takes_told f t c o u y p made k m =
-    takes_met f t c (Some k.made.channel) k.made.item [] u y p k.meets (λ h s. made ∙ k.is_due ∙ ap (λ n. Some (record { item = k.made.item; channel = n })) (same_Some k.made.channel h s)) m
+    takes_met f t c (Some k.made.channel) k.made.item [] u y p k.delivers (λ h s. made ∙ k.is_due ∙ ap (λ n. Some (record { item = k.made.item; channel = n })) (same_Some k.made.channel h s)) m
 
 ends_takes : (f : Facts) (t : ℕ) (c : Call) (u : ℕ) (y : Completion) (p : ℕ × ℕ) → (row_of f t c).refusal ≡ None → (row_of f t c).ends u ≡ Some y → item_in_mark y.mark ≡ Some p → TakesOne f t c u y p.0
 ends_takes f t (Reply rcvid status bytes) u y p r e m =
     absurd (none-some p (sym (answer_receives f t rcvid (reply_finish status bytes) u y (λ buffer. refl) (sender_ends f t rcvid (reply_finish status bytes) u y r e)) ∙ m))
 ends_takes f t (Error rcvid code) u y p r e m = absurd (none-some p (sym (answer_receives f t rcvid (error_finish code) u y (λ buffer. no_receipt code) (sender_ends f t rcvid (error_finish code) u y r e)) ∙ m))
-ends_takes f t (ChannelDestroy chid) u y p r e m = absurd (none-some p (ap (λ x. item_in_mark x.mark) (cut_parts (is_on f.connection chid) Srch u (f.open_call u) y e).ending ∙ m))
-ends_takes f t Shutdown u y p r e m = absurd (none-some p (ap (λ x. item_in_mark x.mark) (cut_parts (λ wait. true) Srch u (f.open_call u) y e).ending ∙ m))
+ends_takes f t (ChannelDestroy chid) u y p r e m = absurd (none-some p (ap (λ x. item_in_mark x.mark) (cancel_parts (is_on f.connection chid) Srch u (f.open_call u) y e).ending ∙ m))
+ends_takes f t Shutdown u y p r e m = absurd (none-some p (ap (λ x. item_in_mark x.mark) (cancel_parts (λ wait. true) Srch u (f.open_call u) y e).ending ∙ m))
 ends_takes f t (Unblock thread) u y p r e m = elim (unblock_ends f thread u y (unblock.due_pulse f thread) e) [
-  | inl cut ↦ absurd (none-some p (ap (λ x. item_in_mark x.mark) cut.ending ∙ m))
+  | inl cancel ↦ absurd (none-some p (ap (λ x. item_in_mark x.mark) cancel.ending ∙ m))
   | inr k ↦ takes_told f t (Unblock thread) (unblock.due_pulse f thread) u y p refl k m
 ]
 ends_takes f t (ConnectDetach coid) u y p r e m = elim (detach_ends f coid (connect_detach.due_pulse f t coid) u y e) [
-  | inl cut ↦ absurd (none-some p (ap (λ x. item_in_mark x.mark) cut.ending ∙ m))
+  | inl cancel ↦ absurd (none-some p (ap (λ x. item_in_mark x.mark) cancel.ending ∙ m))
   | inr s ↦ takes_told f t (ConnectDetach coid) (connect_detach.due_pulse f t coid) u y p refl (told_meets f (connect_detach.due_pulse f t coid) u y s) m
 ]
 ends_takes f t (Send coid message reply_buffer) u y p r e m =
-    takes_met f t (Send coid message reply_buffer) (way f t coid) (item f t) message u y p (delivery_meets f (way f t coid) (item f t) message u y e) (sent_way f t coid (item f t)) m
+    takes_met f t (Send coid message reply_buffer) (route f t coid) (item f t) message u y p (delivery_meets f (route f t coid) (item f t) message u y e) (sent_way f t coid (item f t)) m
 ends_takes f t (Pulse coid level code value) u y p r e m =
     takes_told f t (Pulse coid level code value) (pulse.sent_pulse f coid level code value) u y p refl (told_meets f (pulse.sent_pulse f coid level code value) u y e) m
 ends_takes f t c u y p r e m = absurd (none-some y e)

@@ -10,7 +10,7 @@ use Rattle.qtables.specs.declared.connection.Connection.{Connection}
 use Rattle.qtables.specs.declared.member.Member.{Member}
 use Rattle.qmodel.specs.Private.Answer.{Outcome}
 use Rattle.qmodel.specs.Private.Calls.{row_of}
-use Rattle.qmodel.specs.Private.Cutting.{is_on, is_to}
+use Rattle.qmodel.specs.Private.Cancelling.{is_on, is_to}
 use Rattle.qmodel.specs.Private.Facts.{Facts, is_for_answer, owns}
 use Rattle.qmodel.proofs.Parts.{leads_to}
 use Rattle.qmodel.specs.Private.Headline.AnsweredToSender.{channel_among}
@@ -40,7 +40,7 @@ use Rattle.qmodel.proofs.Properties.Events.{each_received, made_now}
 use Rattle.qmodel.proofs.Properties.Receipts.{TakesOne}
 use Rattle.qmodel.proofs.Properties.Sends.{item_channel, open_over}
 use Rattle.qmodel.proofs.Past.Before.{Lasts, before_other, before_receipt, unless_is}
-use Rattle.qmodel.proofs.Ways.{has_way, leads_over}
+use Rattle.qmodel.proofs.Routes.{has_way, leads_over}
 use Rattle.qmodel.proofs.Past.LiveSends.{over_attached, stays_open}
 
 -- ---- by each call's row
@@ -73,8 +73,8 @@ closing_ends f t (ChannelDestroy chid) h u o e is on =
 closing_ends f t c h u o e is on = absurd (true≢false (sym e))
 
 -- what leads to channel h for the thread leads to an open channel
-way_to_open : (f : Facts) (t h k : ℕ) (o : Option Connection) → leads_to f t o ≡ Some k → is_to h o ≡ true → is_some (f.channel h) ≡ true
-way_to_open f t h k o e on =
+route_to_open : (f : Facts) (t h k : ℕ) (o : Option Connection) → leads_to f t o ≡ Some k → is_to h o ≡ true → is_some (f.channel h) ≡ true
+route_to_open f t h k o e on =
     let l = leads_over f t o k e in
     subst (λ j. is_some (f.channel j) ≡ true) (sym l.channel ∙ eqb-true l.connection.channel h (ap (is_to h) (sym l.is) ∙ on)) l.is_open
 
@@ -88,7 +88,7 @@ own_open f t chid h r on =
 
 -- a call begins to wait on an open channel
 begins_on_open : (f : Facts) (t : ℕ) (c : Call) (b : OpenCall) (h : ℕ) → (row_of f t c).refusal ≡ None → asks f.number c ≡ Some b → is_on f.connection h b.wait ≡ true → is_some (f.channel h) ≡ true
-begins_on_open f t (Send coid message reply_buffer) b h r e on = let w = has_way f t coid r in way_to_open f t h w.0 (f.connection coid) w.1 (ap (λ o. is_on f.connection h o.wait) (same_Some _ b e) ∙ on)
+begins_on_open f t (Send coid message reply_buffer) b h r e on = let w = has_way f t coid r in route_to_open f t h w.0 (f.connection coid) w.1 (ap (λ o. is_on f.connection h o.wait) (same_Some _ b e) ∙ on)
 begins_on_open f t (Receive chid buffer) b h r e on = own_open f t chid h r (ap (λ o. is_on f.connection h o.wait) (same_Some _ b e) ∙ on)
 begins_on_open f t (ReceivePulse chid) b h r e on = own_open f t chid h r (ap (λ o. is_on f.connection h o.wait) (same_Some _ b e) ∙ on)
 begins_on_open f t c b h r e on = absurd (none-some b e)

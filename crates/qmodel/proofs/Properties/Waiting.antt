@@ -15,14 +15,14 @@ use Rattle.qmodel.specs.Private.Calls.{row_of}
 use Rattle.qmodel.specs.Private.Calls.Send.{item}
 use Rattle.qmodel.specs.Private.Delivering.{receiver, receipt_when_sent}
 use Rattle.qmodel.specs.Private.Receiving.{own_receipt}
-use Rattle.qmodel.specs.Private.Facts.{Facts, sender, threads_of, way}
+use Rattle.qmodel.specs.Private.Facts.{Facts, sender, threads_of, route}
 use Rattle.qmodel.specs.Private.Effects.{asks, closes, makes, receives_on, sets, unblocks, writes}
 use Rattle.qmodel.specs.Private.Lawful.{facts_of, IsLawful}
 use Rattle.qmodel.specs.Private.Past.{wait_with_receipt, made_on}
 use Rattle.qmodel.specs.Private.Receivers.{newest_receiver}
 use Rattle.qmodel.specs.Private.Rows.{Received, names, item_sent_over, takes, receipt_ending, with_buffer}
 use Rattle.qmodel.specs.Trace.{SentItem}
-use Rattle.qmodel.specs.Private.Step.{after_receipt, after_write, is_cut, uncut_items, items_with_priority_set, open_call_after, pending_after, unreceived_items, unless, after_unblock, unblocked_wait}
+use Rattle.qmodel.specs.Private.Step.{after_receipt, after_write, is_cancelled, uncut_items, items_with_priority_set, open_call_after, pending_after, unreceived_items, unless, after_unblock, unblocked_wait}
 use Rattle.qmodel.specs.Trace.{Trace}
 use Rattle.qmodel.specs.declared.call.Call.{Call}
 use Rattle.qmodel.specs.declared.call.Call.TheVariants.{Send, Receive, ReceivePulse, Pulse, Unblock, ConnectDetach}
@@ -39,7 +39,7 @@ use Rattle.qbase.proofs.Lists.{all_append, all_filter, all_more, is_among, none_
 use Rattle.qmodel.proofs.Properties.Receipts.{waits_for}
 use Rattle.qmodel.proofs.Past.Before.{Lasts, before_other, before_receipt, unless_is}
 use Rattle.qmodel.proofs.Properties.Receivers.{WaitsOn, newest_some, newest_waits}
-use Rattle.qmodel.proofs.Ways.{has_way}
+use Rattle.qmodel.proofs.Routes.{has_way}
 use Rattle.qmodel.proofs.Rosters.{known}
 use Rattle.qmodel.proofs.Calls.Delivering.{sent_way}
 use Rattle.qmodel.specs.Private.Pulses.{pulse_receipt}
@@ -115,7 +115,7 @@ delivered_at_once f t c w item message sender m u o kind is_way it receipt among
     }
 
 -- what is sent over a way is the item, to its channel
-sent_is : (f : Facts) (t coid : ℕ) (item : Item) (m : SentItem) (h : ℕ) → way f t coid ≡ Some h → item_sent_over (f.connection coid) item ≡ Some m → (way f t coid ≡ Some m.channel) × (m.item ≡ item)
+sent_is : (f : Facts) (t coid : ℕ) (item : Item) (m : SentItem) (h : ℕ) → route f t coid ≡ Some h → item_sent_over (f.connection coid) item ≡ Some m → (route f t coid ≡ Some m.channel) × (m.item ≡ item)
 sent_is f t coid item m h is_way made =
     let same : record { item = item; channel = h } ≡ m = same_Some _ m (sym (sent_way f t coid item h is_way) ∙ made) in
     (is_way ∙ ap (λ (x : SentItem). Some x.channel) same, ap (λ (x : SentItem). x.item) (sym same))
@@ -129,7 +129,7 @@ received_at_once f t (Unblock thread) m u o kind p made among is waits may =
 received_at_once f t (Send coid message reply_buffer) m u o kind p made among is waits may =
     let h = has_way f t coid p.row in
     let s = sent_is f t coid (item f t) m h.0 h.1 made in
-    delivered_at_once f t (Send coid message reply_buffer) (way f t coid) (item f t) message (Some t) m u o kind s.0 s.1 refl among is waits may
+    delivered_at_once f t (Send coid message reply_buffer) (route f t coid) (item f t) message (Some t) m u o kind s.0 s.1 refl among is waits may
 received_at_once f t (Pulse coid level code value) m u o kind p made among is waits may =
     delivered_at_once f t (Pulse coid level code value) (Some m.channel) m.item [] None m u o kind refl refl (ap (pulse_receipt f) made) among is waits may
 received_at_once f t c m u o kind p made among is waits may = absurd (none-some m made)
@@ -188,7 +188,7 @@ caller_finds_none f t c o h kind is waits =
     let P = λ (w : Item). may_take kind w ≡ false in
     let none : AllByRecursion (λ (w : Item). may_take kind w ≡ false) (f.pending h) = none-may kind (f.pending h) k.0 in
     let Q = λ (w : Item). ((r : Received) → (row_of f t c).receipt ≡ Some r → r.channel ≡ h → eqb w.number r.item ≡ false) → may_take kind w ≡ false in
-    let left = λ (w : Item). not (is_cut f t c h w.number) in
+    let left = λ (w : Item). not (is_cancelled f t c h w.number) in
     all_after kind f t c h (rw (k.1) (all_left P (row_of f t c).receipt h (uncut_items f t c h (f.pending h ++ []))
     (all_filter Q left (f.pending h ++ []) (all_append Q (f.pending h) [] (all_more P Q (f.pending h) none (λ w m _. m)) tt))))
 
@@ -198,7 +198,7 @@ other_finds_none : (f : Facts) (t : ℕ) (c : Call) (u : ℕ) (o : OpenCall) (h 
 other_finds_none f t c u o h kind p nothing among is waits =
     let P = λ (w : Item). may_take kind w ≡ false in
     let Q = λ (w : Item). ((r : Received) → (row_of f t c).receipt ≡ Some r → r.channel ≡ h → eqb w.number r.item ≡ false) → may_take kind w ≡ false in
-    let left = λ (w : Item). not (is_cut f t c h w.number) in
+    let left = λ (w : Item). not (is_cancelled f t c h w.number) in
     all_after kind f t c h (all_left P (row_of f t c).receipt h (uncut_items f t c h (f.pending h ++ made_on h (makes f t c)))
     (all_filter Q left (f.pending h ++ made_on h (makes f t c)) (all_append Q (f.pending h) (made_on h (makes f t c))
     (all_more P Q (f.pending h) (nothing u o h kind is waits) (λ w m _. m))

@@ -21,9 +21,9 @@ use Rattle.qmodel.specs.Private.Calls.Send.{item}
 use Rattle.qmodel.specs.Private.Calls.Unblock as unblock
 use Rattle.qmodel.specs.Private.Calls.Info.{info_of, info_ending}
 use Rattle.qmodel.specs.Private.Calls.Pulse as pulse
-use Rattle.qmodel.specs.Private.Cutting.{buffer_of_wait, is_on}
+use Rattle.qmodel.specs.Private.Cancelling.{buffer_of_wait, is_on}
 use Rattle.qmodel.specs.Private.Endings.{buffer_of_open, buffer_brought, EndingsKeepLength, OpenCallsKeepLength}
-use Rattle.qmodel.specs.Private.Facts.{Facts, message, sender, threads_of, way}
+use Rattle.qmodel.specs.Private.Facts.{Facts, message, sender, threads_of, route}
 use Rattle.qmodel.specs.Private.Held.{Finish, ends_sender, refusal}
 use Rattle.qmodel.specs.Private.Rows.{Received, Written, receipt_ending, with_buffer, buffer_after_write}
 use Rattle.qmodel.specs.Trace.{SentItem}
@@ -40,11 +40,11 @@ use Rattle.qmodel.specs.declared.open_call.Receipt.{Receipt}
 use Rattle.qmodel.specs.declared.open_call.Wait.{Wait}
 use Rattle.qmodel.specs.declared.open_call.Wait.TheVariants.{Answer, Item as ForItem}
 use Rattle.qmodel.proofs.Calls.ConnectDetach.{detach_ends}
-use Rattle.qmodel.proofs.Calls.Cutting.{IsCutCall, cut_parts}
+use Rattle.qmodel.proofs.Calls.Cancelling.{IsCutCall, cancel_parts}
 use Rattle.qmodel.proofs.Calls.Held.{sender_ends}
 use Rattle.qmodel.proofs.Past.Laws.{Passes}
 use Rattle.qmodel.proofs.Past.Numbers.{block_asked, open_parts}
-use Rattle.qmodel.proofs.Properties.Rows.Delivering.{Meets, delivery_meets}
+use Rattle.qmodel.proofs.Properties.Rows.Delivering.{Delivers, delivery_meets}
 use Rattle.qmodel.proofs.Properties.Rows.Receiving.{receive_takes}
 use Rattle.qmodel.proofs.Properties.Rows.Telling.{told_meets, unblock_ends}
 use Rattle.qtables.specs.Members.{IsRoster}
@@ -82,11 +82,11 @@ own_length f t c y e = ap (λ x. length x.buffer) (sym (same_Some _ y e))
 
 -- ---- another thread's ending
 
-met_length : (f : Facts) (o : Option ℕ) (item : Item) (message : List ℕ) (u : ℕ) (y : Completion) → Meets f o item message u y → length y.buffer ≡ length (buffer_of_open (f.open_call u))
+met_length : (f : Facts) (o : Option ℕ) (item : Item) (message : List ℕ) (u : ℕ) (y : Completion) → Delivers f o item message u y → length y.buffer ≡ length (buffer_of_open (f.open_call u))
 met_length f o item message u y k = ap (λ x. length x.buffer) (sym k.ending) ∙ taking_length item message u k.waiting.number k.buffer ∙ ap (λ w. length (buffer_of_wait w)) (sym k.waits) ∙ ap (λ x. length (buffer_of_open x)) (sym k.is_open)
 
-cut_length : (is_cut : Wait → Bool) (e : Errno) (u : ℕ) (o : Option OpenCall) (y : Completion) → IsCutCall is_cut e u o y → length y.buffer ≡ length (buffer_of_open o)
-cut_length is_cut e u o y k = ap (λ x. length x.buffer) (sym k.ending) ∙ ap (λ x. length (buffer_of_open x)) (sym k.is)
+cancel_length : (is_cancelled : Wait → Bool) (e : Errno) (u : ℕ) (o : Option OpenCall) (y : Completion) → IsCutCall is_cancelled e u o y → length y.buffer ≡ length (buffer_of_open o)
+cancel_length is_cancelled e u o y k = ap (λ x. length x.buffer) (sym k.ending) ∙ ap (λ x. length (buffer_of_open x)) (sym k.is)
 
 answered_length : (f : Facts) (t rcvid : ℕ) (finish : Finish) (u : ℕ) (y : Completion) → ((b : List ℕ) → length (finish b).1 ≡ length b) → refusal f t rcvid ≡ None → ends_sender f finish (sender f rcvid) u ≡ Some y → length y.buffer ≡ length (buffer_of_open (f.open_call u))
 answered_length f t rcvid finish u y keeps r e =
@@ -94,20 +94,20 @@ answered_length f t rcvid finish u y keeps r e =
     ap (λ x. length x.buffer) (sym k.ending) ∙ keeps k.held.reply_buffer ∙ ap (λ w. length (buffer_of_wait w)) (sym k.held.waits) ∙ ap (λ x. length (buffer_of_open x)) (sym k.held.is_open)
 
 ends_length : (f : Facts) (t : ℕ) (c : Call) (u : ℕ) (y : Completion) → Passes f t c → (row_of f t c).ends u ≡ Some y → length y.buffer ≡ length (buffer_of_open (f.open_call u))
-ends_length f t (Send coid message reply_buffer) u y p e = met_length f (way f t coid) (item f t) message u y (delivery_meets f (way f t coid) (item f t) message u y e)
+ends_length f t (Send coid message reply_buffer) u y p e = met_length f (route f t coid) (item f t) message u y (delivery_meets f (route f t coid) (item f t) message u y e)
 ends_length f t (Reply rcvid status bytes) u y p e = answered_length f t rcvid (reply_finish status bytes) u y (λ b. lay_length b 0 bytes) p.row e
 ends_length f t (Error rcvid code) u y p e = answered_length f t rcvid (error_finish code) u y (λ b. refl) p.row e
 ends_length f t (Pulse coid priority code value) u y p e =
-    let k = told_meets f (pulse.sent_pulse f coid priority code value) u y e in met_length f (Some k.made.channel) k.made.item [] u y k.meets
-ends_length f t (ChannelDestroy chid) u y p e = cut_length (is_on f.connection chid) Srch u (f.open_call u) y (cut_parts (is_on f.connection chid) Srch u (f.open_call u) y e)
-ends_length f t Shutdown u y p e = cut_length (λ wait. true) Srch u (f.open_call u) y (cut_parts (λ wait. true) Srch u (f.open_call u) y e)
+    let k = told_meets f (pulse.sent_pulse f coid priority code value) u y e in met_length f (Some k.made.channel) k.made.item [] u y k.delivers
+ends_length f t (ChannelDestroy chid) u y p e = cancel_length (is_on f.connection chid) Srch u (f.open_call u) y (cancel_parts (is_on f.connection chid) Srch u (f.open_call u) y e)
+ends_length f t Shutdown u y p e = cancel_length (λ wait. true) Srch u (f.open_call u) y (cancel_parts (λ wait. true) Srch u (f.open_call u) y e)
 ends_length f t (Unblock thread) u y p e = elim (unblock_ends f thread u y (unblock.due_pulse f thread) e) [
-  | inl cut ↦ cut_length _ _ u (f.open_call u) y cut
-  | inr k ↦ met_length f (Some k.made.channel) k.made.item [] u y k.meets
+  | inl cancel ↦ cancel_length _ _ u (f.open_call u) y cancel
+  | inr k ↦ met_length f (Some k.made.channel) k.made.item [] u y k.delivers
 ]
 ends_length f t (ConnectDetach coid) u y p e = elim (detach_ends f coid (connect_detach.due_pulse f t coid) u y e) [
-  | inl cut ↦ cut_length _ _ u (f.open_call u) y cut
-  | inr s ↦ let k = told_meets f (connect_detach.due_pulse f t coid) u y s in met_length f (Some k.made.channel) k.made.item [] u y k.meets
+  | inl cancel ↦ cancel_length _ _ u (f.open_call u) y cancel
+  | inr s ↦ let k = told_meets f (connect_detach.due_pulse f t coid) u y s in met_length f (Some k.made.channel) k.made.item [] u y k.delivers
 ]
 ends_length f t c u y p e = absurd (none-some y e)
 

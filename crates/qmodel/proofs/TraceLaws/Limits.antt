@@ -14,14 +14,14 @@ use Rattle.qmodel.proofs.Parts.{refusal_on}
 use Rattle.qmodel.specs.Private.Calls.ConnectDetach as connect_detach
 use Rattle.qmodel.specs.Private.Calls.Unblock as unblock
 use Rattle.qmodel.specs.Private.Pulses.{refusal_if_full, refusal_if_full_for, pulses_among}
-use Rattle.qmodel.specs.Private.Facts.{Facts, way}
+use Rattle.qmodel.specs.Private.Facts.{Facts, route}
 use Rattle.qmodel.specs.Private.Laws.{PulsesAreLimited}
 use Rattle.qmodel.specs.Private.Lawful.{facts_of}
 use Rattle.qmodel.specs.Private.Past.{pending_items, made_on}
 use Rattle.qmodel.specs.Private.Effects.{closes, makes, sets}
 use Rattle.qmodel.specs.Private.Rows.{Received, Setting, message_item, names, pulse_item, item_sent_over}
 use Rattle.qmodel.specs.Trace.{SentItem}
-use Rattle.qmodel.specs.Private.Step.{is_cut, uncut_items, items_with_priority_set, pending_after, unreceived_items}
+use Rattle.qmodel.specs.Private.Step.{is_cancelled, uncut_items, items_with_priority_set, pending_after, unreceived_items}
 use Rattle.qmodel.specs.Private.Calls.{row_of}
 use Rattle.qmodel.specs.declared.call.Call.{Call}
 use Rattle.qmodel.specs.declared.call.Call.TheVariants.{Send, Pulse, Unblock, ConnectDetach}
@@ -137,7 +137,7 @@ limited f t (ConnectDetach coid) h p items less few =
     due_more f h items (connect_detach.due_pulse f t coid) (detaching.due_is_pulse f t coid) (detaching.own_passes f t coid p.row) less few
 limited f t (Send coid message reply_buffer) h p items less few = message_more h f.number (f.priority t) (f.connection coid) items (omega (arith, less, few))
 limited f t (Pulse coid level code value) h p items less few =
-    let room = finds_room f code (way f t coid) p.row in
+    let room = finds_room f code (route f t coid) p.row in
     let x = pulse_item f.number level code value in
     subst (λ o. pulses_among (items ++ made_on h o) ≤ 1024) (sym (sent_way f t coid x room.0 room.1)) (pulse_more f h items (record { item = x; channel = room.0 }) refl room.2 less few)
 limited f t c h p items less few = nothing_more items (omega (arith, less, few))
@@ -147,7 +147,7 @@ limited_after f t c h p few =
     let M = made_on h (makes f t c) in
     let L = uncut_items f t c h (f.pending h ++ M) in
     let made : pulses_among (f.pending h ++ M) ≤ 1024 = limited f t c h p (f.pending h) (omega arith) few in
-    let less : pulses_among L ≤ pulses_among (f.pending h ++ M) = fewer_left (λ item. not (is_cut f t c h item.number)) (f.pending h ++ M) in
+    let less : pulses_among L ≤ pulses_among (f.pending h ++ M) = fewer_left (λ item. not (is_cancelled f t c h item.number)) (f.pending h ++ M) in
     let out : pulses_among (unreceived_items (row_of f t c).receipt h L) ≤ pulses_among L = fewer_out (row_of f t c).receipt h L in
     let same : pulses_among (items_with_priority_set f h (sets c) (unreceived_items (row_of f t c).receipt h L)) ≡ pulses_among (unreceived_items (row_of f t c).receipt h L) = same_moved f h (sets c) (unreceived_items (row_of f t c).receipt h L) in
     elim (names (closes c) h) as (λ b. pulses_among (cond b [] (items_with_priority_set f h (sets c) (unreceived_items (row_of f t c).receipt h L))) ≤ 1024) [ true ↦ omega arith | false ↦ omega (arith, made, less, out, same) ]

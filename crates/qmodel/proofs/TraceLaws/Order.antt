@@ -27,7 +27,7 @@ use Rattle.qmodel.proofs.Past.Best.{some_number}
 use Rattle.qmodel.proofs.Past.Items.{IsPending, before_earlier, item_at, item_below, item_earlier, item_made, item_priority, items_on, made_by, pending_all, pending_is, staying}
 use Rattle.qmodel.proofs.Past.Pending.{items_more, made_all}
 use Rattle.qmodel.proofs.Past.Rising.{takeable_rises}
-use Rattle.qmodel.proofs.Past.Worth.{now}
+use Rattle.qmodel.proofs.Past.CurrentPriority.{now}
 use Rattle.qmodel.proofs.Properties.BestFirst.{best_first}
 use Rattle.qmodel.proofs.Properties.Connections.{takeable_priorities}
 

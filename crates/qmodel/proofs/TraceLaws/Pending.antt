@@ -13,7 +13,7 @@ use Rattle.qmodel.specs.Trace.{Trace}
 use Rattle.qmodel.specs.declared.open_call.OpenCall.{OpenCall}
 use Rattle.qmodel.specs.declared.open_call.Wait.{Wait}
 use Rattle.qmodel.specs.declared.open_call.Wait.TheVariants.{Answer, Item as ForItem}
-use Rattle.qmodel.proofs.Past.Cuts.{sent_by}
+use Rattle.qmodel.proofs.Past.Cancels.{sent_by}
 use Rattle.qmodel.proofs.Past.Items.{IsPending, pending_all}
 use Rattle.qmodel.proofs.Past.Laws.{is_settled}
 use Rattle.qbase.proofs.Lists.{all_more, none_of}

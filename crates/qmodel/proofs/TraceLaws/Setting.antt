@@ -16,7 +16,7 @@ use Rattle.qmodel.specs.Private.Step.{items_with_priority_set, pending_after, is
 use Rattle.qmodel.specs.Trace.{Trace}
 use Rattle.qmodel.specs.declared.call.Call.TheVariants.{PrioritySet}
 use Rattle.qbase.proofs.Lists.{all_more, eqb_either}
-use Rattle.qmodel.proofs.Past.Cuts.{none_cut, pulse_unread, sent_by, unread_elsewhere}
+use Rattle.qmodel.proofs.Past.Cancels.{none_cancelled, pulse_unread, sent_by, unread_elsewhere}
 use Rattle.qmodel.proofs.Past.Follows.{past_follows}
 use Rattle.qmodel.proofs.Past.Items.{IsPending, pending_all}
 use Rattle.qmodel.proofs.Past.Moves.{mover, map_same}
@@ -44,7 +44,7 @@ moves_own : (roster : List Member) (past : Trace) (t : ℕ) (u priority h : ℕ)
 moves_own roster past t u priority h l =
     let f = facts_of roster past in
     let s : Setting = record { thread = u; priority = priority } in
-    ap (items_with_priority_set f h (Some s)) (none_cut f t (PrioritySet u priority) (λ v y e. absurd (none-some y e)) h (pending_items roster past h ++ []) ∙ append-nil (pending_items roster past h))
+    ap (items_with_priority_set f h (Some s)) (none_cancelled f t (PrioritySet u priority) (λ v y e. absurd (none-some y e)) h (pending_items roster past h ++ []) ∙ append-nil (pending_items roster past h))
     ∙ map_same (mover f h s) (λ item. cond (is_message_of past u item) (with_priority priority item) item) (pending_items roster past h)
     (all_more (IsPending roster past h) (λ item. mover f h s item ≡ cond (is_message_of past u item) (with_priority priority item) item) (pending_items roster past h) (pending_all roster past h)
     (λ item p. ap (λ b. cond b (with_priority priority item) item) (unread_of roster past h item u l p)))

@@ -22,8 +22,8 @@ abbrev pub receipt_by : Facts → Item → List ℕ → ThreadNo → Option Comp
 receipt_by f item message r = takes item message r (f.open_call r)
 
 -- the receiver's call ends, and no other
-abbrev pub meets : Facts → Item → List ℕ → Option ThreadNo → ThreadNo → Option Completion
-meets f item message receiver u =
+abbrev pub delivers : Facts → Item → List ℕ → Option ThreadNo → ThreadNo → Option Completion
+delivers f item message receiver u =
     option_and_then (λ r. if u == r then receipt_by f item message u else None) receiver
 
 -- the same as a receipt of what was sent to channel h; a message has a sender that waits for its answer

@@ -54,8 +54,8 @@ owns f t h = option_map_or (λ c. is_of_process f t c.owner) (f.channel h) false
 
 -- the channel that the thread may send to over connection k: the one that it leads to, where the thread's
 -- process attached it and the channel is open
-abbrev pub way : Facts → ThreadNo → ConnectionId → Option ChannelId
-way f t k =
+abbrev pub route : Facts → ThreadNo → ConnectionId → Option ChannelId
+route f t k =
     option_and_then (λ c. if is_of_process f t c.process && is_some (f.channel c.channel) then Some c.channel
     else None) (f.connection k)
 

@@ -30,8 +30,10 @@ use Rattle.qmodel.specs.Private.Headline.SentOrder.{connection_of}
 use Rattle.qmodel.specs.Private.Headline.ShutForGood.{NoneReceivedFrom}
 use Rattle.qmodel.specs.Private.Lawful.{IsLawful, facts_of}
 use Rattle.qmodel.specs.Private.Pulses.{pulses_among}
-use Rattle.qmodel.specs.Private.Past.{attached_connection, channel_at, connection_at, made_at, is_accepted, is_closed}
-use Rattle.qmodel.specs.Private.Past.{is_down, is_ended, is_gone, items, open_call, pending_items, priority_of_item}
+use Rattle.qmodel.specs.Private.Past.{attached_connection, channel_at, connection_at, made_at, is_accepted}
+use Rattle.qmodel.specs.Private.Past.{is_closed}
+use Rattle.qmodel.specs.Private.Past.{is_down, is_ended, is_gone, items, open_call, pending_items}
+use Rattle.qmodel.specs.Private.Past.{priority_of_item}
 use Rattle.qmodel.specs.Private.Past.{priority_of_thread, sender_of}
 use Rattle.qmodel.specs.Private.Receivers.{newest_receiver, wait_on}
 use Rattle.qmodel.specs.Private.Rows.{names}

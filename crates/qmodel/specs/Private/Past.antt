@@ -169,16 +169,16 @@ priority_set_since (e ∷ past) i t =
 
 -- the priority of an item by now: a message has what was set last for its thread while it was pending, and
 -- else, as each pulse, what it was made with
-abbrev pub worth : Trace → Item → Priority
-worth past item =
+abbrev pub current_priority : Trace → Item → Priority
+current_priority past item =
     if is_pulse item.what then item.priority
     else unwrap_or (option_and_then (priority_set_since past item.number) (sender_of past item.number))
-        item.priority
+    item.priority
 
 -- these items as they are by now
 abbrev pub items_by_now : Trace → List SentItem → List SentItem
 items_by_now past made = map
-    (λ m. record { item = with_priority (worth past m.item) m.item; channel = m.channel }) made
+    (λ m. record { item = with_priority (current_priority past m.item) m.item; channel = m.channel }) made
 
 -- ---- open calls
 
@@ -285,8 +285,11 @@ priority_from_event roster e past made t =
 -- or else what it was
 abbrev pub knowledge_after : List Member → Event → Trace → Knowledge → List SentItem → Knowledge
 knowledge_after roster e past k made =
-    record { made = made; priority = λ t. unwrap_or (priority_from_event roster e past made t)
-    (k.priority t) }
+    record {
+      made = made;
+      priority = λ t. unwrap_or (priority_from_event roster e past made t)
+          (k.priority t);
+    }
 
 -- what is known of a past: each accepted event may make an item, and a thread begins with the priority that
 -- the roster gives it

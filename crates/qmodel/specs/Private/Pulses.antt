@@ -8,7 +8,7 @@ use Rattle.qqueue.specs.declared.item.Item.{Item}
 use Rattle.qmodel.specs.declared.call.Completion.{Completion}
 use Rattle.qmodel.specs.declared.call.Mark.TheVariants as mark
 use Rattle.qmodel.specs.Trace.{ChannelId, ThreadNo}
-use Rattle.qmodel.specs.Private.Delivering.{meets, receiver, receipt_when_sent, wants_room}
+use Rattle.qmodel.specs.Private.Delivering.{delivers, receiver, receipt_when_sent, wants_room}
 use Rattle.qmodel.specs.Private.Facts.{Facts}
 use Rattle.qmodel.specs.Private.Rows.{Received, Row, plain_row}
 use Rattle.qmodel.specs.Trace.{SentItem}
@@ -31,7 +31,7 @@ wants_room_for f pulse = option_map_or (λ m. wants_room f m.item (Some m.channe
 
 -- the call of the receiver ends that a pulse which is made meets
 abbrev pub ends_receiver : Facts → Option SentItem → ThreadNo → Option Completion
-ends_receiver f pulse u = option_and_then (λ m. meets f m.item [] (receiver f m.item (Some m.channel)) u)
+ends_receiver f pulse u = option_and_then (λ m. delivers f m.item [] (receiver f m.item (Some m.channel)) u)
     pulse
 
 -- the same as a receipt
@@ -41,7 +41,8 @@ pulse_receipt f pulse = option_and_then
 
 -- the row of a call that may make this pulse, ends so what others wait in, and ends with Ok: it never blocks,
 -- and wants memory only for a pulse that waits
-abbrev pub pulse_row : Facts → ThreadNo → Option Errno → Option SentItem → (ThreadNo → Option Completion) → Row
+abbrev pub pulse_row : Facts → ThreadNo → Option Errno → Option SentItem → (ThreadNo → Option Completion)
+    → Row
 pulse_row f t refusal pulse ends =
     record (plain_row f.number t refusal mark.Ok)
     { takes_memory = wants_room_for f pulse; ends = ends; receipt = pulse_receipt f pulse }

@@ -120,8 +120,13 @@ delivery_of item message buffer =
 -- the ending of call m of thread u that takes the item so
 abbrev pub receipt_ending : Item → List ℕ → ThreadNo → CallNo → List ℕ → Completion
 receipt_ending item message u m buffer =
-    record { call = m; thread = u; mark = (delivery_of item message buffer).0; buffer = (delivery_of item
-    message buffer).1 }
+    record {
+      call = m;
+      thread = u;
+      mark = (delivery_of item message buffer).0;
+      buffer = (delivery_of item
+          message buffer).1;
+    }
 
 -- how the open call of number m ends, of thread u, that takes the item into what it waits with
 abbrev pub takes_into : Item → List ℕ → ThreadNo → CallNo → Wait → Option Completion

@@ -14,10 +14,11 @@ use Rattle.qmodel.specs.declared.open_call.Receipt.{Receipt}
 use Rattle.qmodel.specs.declared.open_call.Wait.{Wait}
 use Rattle.qmodel.specs.declared.open_call.Wait.TheVariants.{Answer}
 use Rattle.qmodel.specs.Trace.{ChannelId, ConnectionId, Priority, ReceiveId, ThreadNo}
-use Rattle.qmodel.specs.Private.Cutting.{is_on}
+use Rattle.qmodel.specs.Private.Cancelling.{is_on}
 use Rattle.qmodel.specs.Private.Facts.{Facts, sender, is_fixed, threads_of, is_for_receipt}
 use Rattle.qmodel.specs.Trace.{OpenChannel}
-use Rattle.qmodel.specs.Private.Effects.{asks, attaches, closes, creates, detaches, makes, sets, shuts_down, unblocks}
+use Rattle.qmodel.specs.Private.Effects.{asks, attaches, closes, creates, detaches, makes, sets, shuts_down}
+use Rattle.qmodel.specs.Private.Effects.{unblocks}
 use Rattle.qmodel.specs.Private.Effects.{writes}
 use Rattle.qmodel.specs.Private.Rows.{Received, Row, Setting, Written, names, with_buffer, priority_set_for}
 use Rattle.qmodel.specs.Trace.{SentItem}
@@ -118,13 +119,13 @@ unreceived_items None h items = items
 unreceived_items (Some r) h items = if r.channel == h then without_item r.item items else items
 
 -- the call ends a Send of number i that is blocked on channel h and not received
-abbrev pub is_cut : Facts → ThreadNo → Call → ChannelId → ReceiveId → Bool
-is_cut f t c h i = list_any (λ s. is_unread_send f.connection h i (f.open_call s)
+abbrev pub is_cancelled : Facts → ThreadNo → Call → ChannelId → ReceiveId → Bool
+is_cancelled f t c h i = list_any (λ s. is_unread_send f.connection h i (f.open_call s)
     && is_some ((row_of f t c).ends s)) (threads_of f.roster)
 
 -- the items of channel h but the messages whose Sends the call ends
 abbrev pub uncut_items : Facts → ThreadNo → Call → ChannelId → List Item → List Item
-uncut_items f t c h items = filter (λ item. not (is_cut f t c h item.number)) items
+uncut_items f t c h items = filter (λ item. not (is_cancelled f t c h item.number)) items
 
 -- the items of channel h, where the message of the thread that the priority is set for has it, if it waits
 -- there
@@ -141,8 +142,8 @@ abbrev pub pending_after : Facts → ThreadNo → Call → ChannelId → List It
 pending_after f t c h =
     if names (closes c) h then []
     else items_with_priority_set f h (sets c)
-        (unreceived_items (row_of f t c).receipt h
-        (uncut_items f t c h (f.pending h ++ made_on h (makes f t c))))
+    (unreceived_items (row_of f t c).receipt h
+    (uncut_items f t c h (f.pending h ++ made_on h (makes f t c))))
 
 -- the priority that thread u takes by a receipt: the item's, unless its channel leaves priorities as they are
 abbrev pub priority_taken : Facts → Option Received → ThreadNo → Option Priority

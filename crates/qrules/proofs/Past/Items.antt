@@ -30,13 +30,13 @@ same_set_since (e ∷ past) i t =
     ∙ ap (λ o. cond (eqb i (length past + 1)) None (option_or (cond (old.is_taken past i) None o) (new.priority_set_since past i t))) (same_set_by e past t)
     ∙ ap (λ o. cond (eqb i (length past + 1)) None (option_or (cond (old.is_taken past i) None (old.priority_set_by e past t)) o)) (same_set_since past i t)
 
-pub same_priority : (past : Trace) (item : Item) → new.current_priority past item ≡ old.worth past item
+pub same_priority : (past : Trace) (item : Item) → new.current_priority past item ≡ old.current_priority past item
 same_priority past item =
     ap (λ since. cond (is_pulse item.what) item.priority (unwrap_or (option_and_then since (new.sender_of past item.number)) item.priority)) (fun_ext (same_set_since past item.number))
     ∙ ap (λ sender. cond (is_pulse item.what) item.priority (unwrap_or (option_and_then (old.priority_set_since past item.number) sender) item.priority)) (same_sender_of past item.number)
 
 pub same_by_now : (past : Trace) (made : List SentItem) → new.items_by_now past made ≡ old.items_by_now past made
-same_by_now past made = ap (λ (worth : Item → ℕ). map (λ m. record { item = with_priority (worth m.item) m.item; channel = m.channel }) made) (fun_ext (same_priority past))
+same_by_now past made = ap (λ (current_priority : Item → ℕ). map (λ m. record { item = with_priority (current_priority m.item) m.item; channel = m.channel }) made) (fun_ext (same_priority past))
 
 pub same_among : (made : List SentItem) (i : ℕ) → new.item_among made i ≡ old.made_among made i
 same_among [] i = refl

@@ -8,7 +8,7 @@ use Rattle.std.proofs.lemmas.Option.{none-some, same_Some}
 use Rattle.qbase.proofs.Lists.{all_filter_map, all_more, is_among}
 use Rattle.qtables.specs.declared.connection.Connection.{Connection}
 use Rattle.qtables.specs.declared.member.Member.{Member}
-use Rattle.qmodel.specs.Private.Cutting.{is_on}
+use Rattle.qmodel.specs.Private.Cancelling.{is_on}
 use Rattle.qmodel.specs.Private.Facts.{threads_of, Facts as OldFacts}
 use Rattle.qmodel.specs.Private.Headline.AnsweredToSender.{channel_among as old_channel_among}
 use Rattle.qmodel.specs.Private.Headline.ShutForGood as old

@@ -12,7 +12,7 @@ use Rattle.qqueue.specs.declared.item.Kind.{Kind}
 use Rattle.qqueue.specs.declared.item.Kind.TheVariants.{Any, PulseOnly}
 use Rattle.qtables.specs.declared.connection.Connection.{Connection}
 use Rattle.qmodel.specs.Private.Calls.Send.{item}
-use Rattle.qmodel.specs.Private.Delivering.{meets, receiver, wants_room}
+use Rattle.qmodel.specs.Private.Delivering.{delivers, receiver, wants_room}
 use Rattle.qmodel.specs.Private.Facts.{is_of_process, message, Facts as OldFacts}
 use Rattle.qmodel.specs.Private.Receiving.{own_receipt}
 use Rattle.qmodel.specs.declared.call.Call.TheVariants as calls
@@ -30,13 +30,13 @@ use Rattle.qrules.proofs.View.{owns_same, route_same}
 -- what is sent over a connection that leads there
 module _ (f : OldFacts) (t : ℕ) (bytes : List ℕ) where
   -- the way over a connection
-  abbrev way_over : Option Connection → Option ℕ
-  way_over connection = option_and_then (λ c. cond (is_of_process f t c.process && is_some (f.channel c.channel)) (Some c.channel) None) connection
+  abbrev route_over : Option Connection → Option ℕ
+  route_over connection = option_and_then (λ c. cond (is_of_process f t c.process && is_some (f.channel c.channel)) (Some c.channel) None) connection
 
   abbrev message_to : Option Connection → Option SentItem
   message_to connection = option_map (λ c. record { item = item f t; channel = c.channel }) connection
 
-  sent_memory : (connection : Option Connection) → cond (is_some (way_over connection)) None (Some Badf) ≡ None → has_to_wait (facts_view f) (message_to connection) ≡ wants_room f (item f t) (way_over connection)
+  sent_memory : (connection : Option Connection) → cond (is_some (route_over connection)) None (Some Badf) ≡ None → has_to_wait (facts_view f) (message_to connection) ≡ wants_room f (item f t) (route_over connection)
   sent_memory None p = absurd (none-some Badf (sym p))
   sent_memory (Some c) p =
       elim (is_of_process f t c.process && is_some (f.channel c.channel)) as (λ b. cond (is_some (cond b (Some c.channel) None)) None (Some Badf) ≡ None → has_to_wait (facts_view f) (message_to (Some c)) ≡ wants_room f (item f t) (cond b (Some c.channel) None)) [
@@ -44,24 +44,24 @@ module _ (f : OldFacts) (t : ℕ) (bytes : List ℕ) where
         | false ↦ λ p. absurd (none-some Badf (sym p))
       ] p
 
-  sent_delivery : (connection : Option Connection) (u : ℕ) → cond (is_some (way_over connection)) None (Some Badf) ≡ None
-      → ending_of (deliver (facts_view f) (message_to connection) bytes) u ≡ meets f (item f t) bytes (receiver f (item f t) (way_over connection)) u
+  sent_delivery : (connection : Option Connection) (u : ℕ) → cond (is_some (route_over connection)) None (Some Badf) ≡ None
+      → ending_of (deliver (facts_view f) (message_to connection) bytes) u ≡ delivers f (item f t) bytes (receiver f (item f t) (route_over connection)) u
   sent_delivery None u p = absurd (none-some Badf (sym p))
   sent_delivery (Some c) u p =
       elim (is_of_process f t c.process && is_some (f.channel c.channel)) as (λ b. cond (is_some (cond b (Some c.channel) None)) None (Some Badf) ≡ None
-      → ending_of (deliver (facts_view f) (message_to (Some c)) bytes) u ≡ meets f (item f t) bytes (receiver f (item f t) (cond b (Some c.channel) None)) u) [
+      → ending_of (deliver (facts_view f) (message_to (Some c)) bytes) u ≡ delivers f (item f t) bytes (receiver f (item f t) (cond b (Some c.channel) None)) u) [
         | true ↦ λ p. deliver_same f (record { item = item f t; channel = c.channel }) bytes u
         | false ↦ λ p. absurd (none-some Badf (sym p))
       ] p
 
 pub send : (f : OldFacts) (t coid : ℕ) (message reply_buffer : List ℕ) → SameRow f t (calls.Send coid message reply_buffer)
 send f t coid message reply_buffer = record {
-  refusal = ap (λ way. cond (is_some way) None (Some Badf)) (route_same f t coid);
+  refusal = ap (λ route. cond (is_some route) None (Some Badf)) (route_same f t coid);
   memory = λ p. sent_memory f t message (f.connection coid) p;
   endings = λ p idle u.
       sent_delivery f t message (f.connection coid) u p
-      ∙ elim (eqb u t) as (λ b. eqb u t ≡ b → meets f (item f t) message (receiver f (item f t) (way_over f t message (f.connection coid))) u ≡ cond b None (meets f (item f t) message (receiver f (item f t) (way_over f t message (f.connection coid))) u)) [
-        | true ↦ λ same. idle_takes_none f (item f t) message (receiver f (item f t) (way_over f t message (f.connection coid))) u (ap f.open_call (eqb-true u t same) ∙ idle)
+      ∙ elim (eqb u t) as (λ b. eqb u t ≡ b → delivers f (item f t) message (receiver f (item f t) (route_over f t message (f.connection coid))) u ≡ cond b None (delivers f (item f t) message (receiver f (item f t) (route_over f t message (f.connection coid))) u)) [
+        | true ↦ λ same. idle_takes_none f (item f t) message (receiver f (item f t) (route_over f t message (f.connection coid))) u (ap f.open_call (eqb-true u t same) ∙ idle)
         | false ↦ λ other. refl
       ] refl;
 }

@@ -5,7 +5,7 @@ use Rattle.std.specs.Option.{option_or}
 use Rattle.qbase.specs.declared.errno.Errno.TheVariants.{Inval, Srch}
 use Rattle.qbase.specs.declared.flags.ChannelFlags.{ChannelFlags}
 use Rattle.qbase.specs.declared.state.ThreadState.TheVariants.{Ready, ReceiveBlocked}
-use Rattle.qmodel.specs.Private.Cutting.{is_on}
+use Rattle.qmodel.specs.Private.Cancelling.{is_on}
 use Rattle.qmodel.specs.Private.Facts.{Facts as OldFacts}
 use Rattle.qmodel.specs.Private.Rows.{ends_with}
 use Rattle.qmodel.specs.Private.ThreadState.{state_in}

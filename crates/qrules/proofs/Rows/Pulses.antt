@@ -12,7 +12,7 @@ use Rattle.qtables.specs.declared.connection.Connection.{Connection}
 use Rattle.qmodel.specs.Private.Calls.ConnectDetach.{due_pulse as last_pulse}
 use Rattle.qmodel.specs.Private.Calls.Pulse.{is_negative, sent_pulse}
 use Rattle.qmodel.specs.Private.Calls.Unblock.{due_pulse, due_pulse_of_wait, guard, guard_over, other_ending}
-use Rattle.qmodel.specs.Private.Cutting.{cut_call, cut_where, cuts, is_over}
+use Rattle.qmodel.specs.Private.Cancelling.{cancel_call, cancel_where, cancels, is_over}
 use Rattle.qmodel.specs.Private.Facts.{has_flag, is_of_process, Facts as OldFacts}
 use Rattle.qmodel.specs.Private.Pulses.{ends_receiver, refusal_if_full, refusal_if_full_for, wants_room_for}
 use Rattle.qmodel.specs.Private.Rows.{ends_with}
@@ -59,7 +59,7 @@ pulse_refused f t coid priority code value (Some c) e =
 
 pub pulse : (f : OldFacts) (t coid priority : ℕ) (code value : ℤ) → SameRow f t (calls.Pulse coid priority code value)
 pulse f t coid priority code value = record {
-  refusal = ap (λ way. option_map_or (λ h. cond (int_lt code (pos 0)) (Some Inval) (refusal_if_full_for f (sent_pulse f coid priority code value))) way (Some Badf)) (route_same f t coid)
+  refusal = ap (λ route. option_map_or (λ h. cond (int_lt code (pos 0)) (Some Inval) (refusal_if_full_for f (sent_pulse f coid priority code value))) route (Some Badf)) (route_same f t coid)
       ∙ pulse_refused f t coid priority code value (f.connection coid) refl;
   memory = λ p. pulse_memory f (sent_pulse f coid priority code value);
   endings = λ p idle u. after_own (ends_with f.number t mark.Ok) _ _ t u refl (pulse_delivery f (sent_pulse f coid priority code value) u);
@@ -79,7 +79,7 @@ connect_detach f t coid known = record {
       (find-append (λ x. eqb x.thread u) (cancel (facts_view f) (λ s. s.connection == coid) (λ r. false) Badf) (deliver (facts_view f) (last_pulse f t coid) [])
       ∙ ap (λ o. option_or o (ending_of (deliver (facts_view f) (last_pulse f t coid) []) u))
       (cancel_same f (λ s. s.connection == coid) (λ r. false) (λ v. is_over coid) Badf u known (λ v n k m b r. refl) (λ v n h kind b. refl))
-      ∙ ap (option_or (cuts f (λ v. is_over coid) Badf u)) (pulse_delivery f (last_pulse f t coid) u));
+      ∙ ap (option_or (cancels f (λ v. is_over coid) Badf u)) (pulse_delivery f (last_pulse f t coid) u));
 }
 
 -- ---- Unblock
@@ -118,12 +118,12 @@ due_wait f n (Answer coid message reply_buffer (Some receipt)) m e =
     ] e
 due_wait f n (ForItem chid kind buffer) m e = absurd (none-some m e)
 
-none_cut : (f : OldFacts) (thread : ℕ) (m : SentItem) (u : ℕ) → due_pulse f thread ≡ Some m → cuts f (λ v wait. (v == thread) && not (is_some (guard f wait))) Intr u ≡ None
-none_cut f thread m u due =
-    elim (f.open_call u) as (λ o. f.open_call u ≡ o → cut_where (λ wait. (u == thread) && not (is_some (guard f wait))) Intr u o ≡ None) [
+none_cancelled : (f : OldFacts) (thread : ℕ) (m : SentItem) (u : ℕ) → due_pulse f thread ≡ Some m → cancels f (λ v wait. (v == thread) && not (is_some (guard f wait))) Intr u ≡ None
+none_cancelled f thread m u due =
+    elim (f.open_call u) as (λ o. f.open_call u ≡ o → cancel_where (λ wait. (u == thread) && not (is_some (guard f wait))) Intr u o ≡ None) [
       | None ↦ λ e. refl
       | Some o ↦ λ e.
-          elim (eqb u thread) as (λ b. eqb u thread ≡ b → cond (b && not (is_some (guard f o.wait))) (Some (cut_call Intr u o)) None ≡ None) [
+          elim (eqb u thread) as (λ b. eqb u thread ≡ b → cond (b && not (is_some (guard f o.wait))) (Some (cancel_call Intr u o)) None ≡ None) [
             | true ↦ λ same.
                 let is : due_pulse_of_wait f o.number o.wait ≡ Some m = ap (option_and_then (λ o. due_pulse_of_wait f o.number o.wait)) (sym e ∙ ap f.open_call (eqb-true u thread same)) ∙ due in
                 rw (due_wait f o.number o.wait m is) refl
@@ -142,8 +142,8 @@ unblock f t thread known = record {
       ∙ ap (λ o. option_or o (ending_of (deliver (facts_view f) (due_pulse f thread) []) u))
       (cancel_same f (λ s. (s.thread == thread) && not (is_some (unblock_channel (facts_view f) s))) (λ r. r.thread == thread) (λ v wait. (v == thread) && not (is_some (guard f wait))) Intr u known
       (λ v n k m b r. ap (λ o. (v == thread) && not (is_some o)) (guard_same f n v k m b r)) (λ v n h kind b. and_true (eqb v thread)))
-      ∙ elim (due_pulse f thread) as (λ o. due_pulse f thread ≡ o → option_or (cuts f (λ v wait. (v == thread) && not (is_some (guard f wait))) Intr u) (ending_of (deliver (facts_view f) o []) u) ≡ other_ending f thread o u) [
-        | None ↦ λ e. or_none (cuts f (λ v wait. (v == thread) && not (is_some (guard f wait))) Intr u)
-        | Some m ↦ λ e. rw (none_cut f thread m u e) (pulse_delivery f (Some m) u)
+      ∙ elim (due_pulse f thread) as (λ o. due_pulse f thread ≡ o → option_or (cancels f (λ v wait. (v == thread) && not (is_some (guard f wait))) Intr u) (ending_of (deliver (facts_view f) o []) u) ≡ other_ending f thread o u) [
+        | None ↦ λ e. or_none (cancels f (λ v wait. (v == thread) && not (is_some (guard f wait))) Intr u)
+        | Some m ↦ λ e. rw (none_cancelled f thread m u e) (pulse_delivery f (Some m) u)
       ] refl);
 }

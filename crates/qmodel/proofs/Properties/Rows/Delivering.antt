@@ -5,7 +5,7 @@ use Rattle.std.proofs.lemmas.Option.{none-some, same_Some}
 use Rattle.qqueue.specs.Best.{may_take}
 use Rattle.qqueue.specs.declared.item.Item.{Item}
 use Rattle.qqueue.specs.declared.item.Kind.{Kind}
-use Rattle.qmodel.specs.Private.Delivering.{meets, receiver}
+use Rattle.qmodel.specs.Private.Delivering.{delivers, receiver}
 use Rattle.qmodel.specs.Private.Facts.{Facts}
 use Rattle.qmodel.specs.Private.Rows.{receipt_ending}
 use Rattle.qmodel.specs.declared.call.Completion.{Completion}
@@ -16,7 +16,7 @@ use Rattle.qmodel.proofs.Properties.Receivers.{WaitsOn, newest_waits}
 use Rattle.qmodel.proofs.Calls.Delivering.{met_by, takes_item}
 
 -- thread u waits on the channel, is the newest that does and may take the item, and its call ends by taking it
-pub record Meets (f : Facts) (o : Option ℕ) (item : Item) (message : List ℕ) (u : ℕ) (y : Completion) : Type 0 where
+pub record Delivers (f : Facts) (o : Option ℕ) (item : Item) (message : List ℕ) (u : ℕ) (y : Completion) : Type 0 where
   pub channel : ℕ
   pub leads : o ≡ Some channel
   pub is_newest : receiver f item o ≡ Some u
@@ -38,7 +38,7 @@ over : (f : Facts) (o : Option ℕ) (item : Item) (u : ℕ) → receiver f item 
 over f None item u e = absurd (none-some u e)
 over f (Some h) item u e = (h, refl, newest_waits f h item u e)
 
-pub delivery_meets : (f : Facts) (o : Option ℕ) (item : Item) (message : List ℕ) (u : ℕ) (y : Completion) → meets f item message (receiver f item o) u ≡ Some y → Meets f o item message u y
+pub delivery_meets : (f : Facts) (o : Option ℕ) (item : Item) (message : List ℕ) (u : ℕ) (y : Completion) → delivers f item message (receiver f item o) u ≡ Some y → Delivers f o item message u y
 delivery_meets f o item message u y e =
     let met = met_by f item message (receiver f item o) u y e in
     let p = takes_item item message u (f.open_call u) y met.given in

@@ -8,21 +8,21 @@ use Rattle.qmodel.specs.Private.Facts.{Facts}
 use Rattle.qmodel.specs.Private.Pulses.{ends_receiver}
 use Rattle.qmodel.specs.Trace.{SentItem}
 use Rattle.qmodel.specs.declared.call.Completion.{Completion}
-use Rattle.qmodel.proofs.Calls.Cutting.{IsCutCall, cut_parts}
-use Rattle.qmodel.proofs.Calls.Unblock.{is_cut}
-use Rattle.qmodel.proofs.Properties.Rows.Delivering.{Meets, delivery_meets}
+use Rattle.qmodel.proofs.Calls.Cancelling.{IsCutCall, cancel_parts}
+use Rattle.qmodel.proofs.Calls.Unblock.{is_cancelled}
+use Rattle.qmodel.proofs.Properties.Rows.Delivering.{Delivers, delivery_meets}
 
 -- the pulse that is due is taken by thread u
 pub record Tells (f : Facts) (o : Option SentItem) (u : ℕ) (y : Completion) : Type 0 where
   pub made : SentItem
   pub is_due : o ≡ Some made
-  pub meets : Meets f (Some made.channel) made.item [] u y
+  pub delivers : Delivers f (Some made.channel) made.item [] u y
 
 pub told_meets : (f : Facts) (o : Option SentItem) (u : ℕ) (y : Completion) → ends_receiver f o u ≡ Some y → Tells f o u y
 told_meets f None u y e = absurd (none-some y e)
-told_meets f (Some made) u y e = record { made = made; is_due = refl; meets = delivery_meets f (Some made.channel) made.item [] u y e }
+told_meets f (Some made) u y e = record { made = made; is_due = refl; delivers = delivery_meets f (Some made.channel) made.item [] u y e }
 
--- an Unblock that ends another's call cuts it, or its pulse meets a thread that waits
-pub unblock_ends : (f : Facts) (thread u : ℕ) (y : Completion) (o : Option SentItem) → other_ending f thread o u ≡ Some y → IsCutCall (is_cut f thread u) Intr u (f.open_call u) y ⊎ Tells f o u y
-unblock_ends f thread u y None e = inl (cut_parts (is_cut f thread u) Intr u (f.open_call u) y e)
+-- an Unblock that ends another's call cancels it, or its pulse meets a thread that waits
+pub unblock_ends : (f : Facts) (thread u : ℕ) (y : Completion) (o : Option SentItem) → other_ending f thread o u ≡ Some y → IsCutCall (is_cancelled f thread u) Intr u (f.open_call u) y ⊎ Tells f o u y
+unblock_ends f thread u y None e = inl (cancel_parts (is_cancelled f thread u) Intr u (f.open_call u) y e)
 unblock_ends f thread u y (Some made) e = inr (told_meets f (Some made) u y e)

@@ -4,7 +4,7 @@ use Rattle.qbase.specs.declared.errno.Errno.{Errno}
 use Rattle.qbase.specs.declared.errno.Errno.TheVariants.{Inval, Srch}
 use Rattle.qmodel.specs.declared.call.Mark.TheVariants as mark
 use Rattle.qmodel.specs.Trace.{ChannelId, ThreadNo}
-use Rattle.qmodel.specs.Private.Cutting.{cuts, is_on}
+use Rattle.qmodel.specs.Private.Cancelling.{cancels, is_on}
 use Rattle.qmodel.specs.Private.Facts.{Facts, owns}
 use Rattle.qmodel.specs.Private.Rows.{Row, plain_row}
 use Rattle.qmodel.specs.Private.Effect.{Effect, no_effect}
@@ -16,7 +16,7 @@ refusal f t chid = if owns f t chid then None else Some Inval
 -- that the channel is closed is read off the past calls
 abbrev pub row : Facts → ThreadNo → ChannelId → Row
 row f t chid = record (plain_row f.number t (refusal f t chid) mark.Ok)
-    { ends = cuts f (λ u. is_on f.connection chid) Srch }
+    { ends = cancels f (λ u. is_on f.connection chid) Srch }
 
 -- it destroys the channel
 abbrev pub effect : ChannelId → Effect

@@ -7,7 +7,7 @@ use Rattle.qbase.specs.declared.errno.Errno.TheVariants.{Badf, Inval}
 use Rattle.qtables.specs.declared.connection.Connection.{Connection}
 use Rattle.qmodel.specs.declared.call.Completion.{Completion}
 use Rattle.qmodel.specs.Trace.{ChannelId, ConnectionId, ProcessNo, ThreadNo}
-use Rattle.qmodel.specs.Private.Cutting.{cuts, is_over}
+use Rattle.qmodel.specs.Private.Cancelling.{cancels, is_over}
 use Rattle.qmodel.specs.Private.Facts.{Facts, count_to, is_of_process, tells_disconnect}
 use Rattle.qmodel.specs.Private.Pulses.{refusal_if_full_for, ends_receiver, pulse_row}
 use Rattle.qmodel.specs.Private.Rows.{Row, disconnect_item}
@@ -44,9 +44,9 @@ refusal f t k =
     if option_map_or (λ c. is_of_process f t c.process) (f.connection k) false
     then refusal_if_full_for f (due_pulse f t k) else Some Inval
 
--- each Send over the connection is cut, and the call of the pulse's receiver ends
+-- each Send over the connection is cancelled, and the call of the pulse's receiver ends
 abbrev pub other_ending : Facts → ConnectionId → Option SentItem → ThreadNo → Option Completion
-other_ending f k m u = option_or (cuts f (λ v. is_over k) Badf u) (ends_receiver f m u)
+other_ending f k m u = option_or (cancels f (λ v. is_over k) Badf u) (ends_receiver f m u)
 
 -- it never blocks; memory is wanted only for a pulse that waits; that the connection is detached is read off
 -- the past calls

@@ -4,7 +4,7 @@ use Rattle.std.specs.Prelude.{ℤ, pos, negsuc, Bool, true, false, Option, Some,
 use Rattle.qbase.specs.declared.errno.Errno.{Errno}
 use Rattle.qbase.specs.declared.errno.Errno.TheVariants.{Badf, Inval}
 use Rattle.qmodel.specs.Trace.{ConnectionId, Priority, ThreadNo}
-use Rattle.qmodel.specs.Private.Facts.{Facts, way}
+use Rattle.qmodel.specs.Private.Facts.{Facts, route}
 use Rattle.qmodel.specs.Private.Pulses.{refusal_if_full, ends_receiver, pulse_row}
 use Rattle.qmodel.specs.Private.Rows.{Row, pulse_item, item_sent_over}
 use Rattle.qmodel.specs.Trace.{SentItem}
@@ -19,7 +19,7 @@ is_negative (negsuc n) = true
 -- then 1,024 pulses pending on the channel
 abbrev pub refusal : Facts → ThreadNo → ConnectionId → ℤ → Option Errno
 refusal f t coid code = option_map_or (λ h. if is_negative code then Some Inval else refusal_if_full f h)
-    (way f t coid) (Some Badf)
+    (route f t coid) (Some Badf)
 
 -- the pulse of the priority that is given, sent over the connection
 abbrev pub sent_pulse : Facts → ConnectionId → Priority → ℤ → ℤ → Option SentItem

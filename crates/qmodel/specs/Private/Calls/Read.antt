@@ -23,5 +23,8 @@ row f t rcvid offset buffer = record empty_row {
 -- it reads the message into its buffer
 abbrev pub effect : ReceiveId → ℕ → List ℕ → Effect
 effect rcvid offset buffer =
-    record no_effect { buffer = Some buffer; reads = Some
-    (record { message = rcvid; offset = offset; buffer = buffer }) }
+    record no_effect {
+      buffer = Some buffer;
+      reads = Some
+          (record { message = rcvid; offset = offset; buffer = buffer });
+    }

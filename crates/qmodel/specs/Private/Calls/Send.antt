@@ -4,15 +4,15 @@ use Rattle.qbase.specs.declared.errno.Errno.{Errno}
 use Rattle.qbase.specs.declared.errno.Errno.TheVariants.{Badf}
 use Rattle.qqueue.specs.declared.item.Item.{Item}
 use Rattle.qmodel.specs.Trace.{ConnectionId, ThreadNo}
-use Rattle.qmodel.specs.Private.Delivering.{receiver, meets, receipt_when_sent, wants_room}
-use Rattle.qmodel.specs.Private.Facts.{Facts, way}
+use Rattle.qmodel.specs.Private.Delivering.{receiver, delivers, receipt_when_sent, wants_room}
+use Rattle.qmodel.specs.Private.Facts.{Facts, route}
 use Rattle.qmodel.specs.Private.Rows.{Row, message_item, item_sent_over, empty_row}
 use Rattle.qmodel.specs.Private.Effect.{Effect, no_effect}
 use Rattle.qmodel.specs.declared.open_call.Wait.TheVariants.{Answer}
 
 -- a connection that the thread's process hasn't, or whose channel isn't open
 abbrev pub refusal : Facts → ThreadNo → ConnectionId → Option Errno
-refusal f t coid = if is_some (way f t coid) then None else Some Badf
+refusal f t coid = if is_some (route f t coid) then None else Some Badf
 
 -- the message, of the sender's priority
 abbrev pub item : Facts → ThreadNo → Item
@@ -22,10 +22,10 @@ item f t = message_item f.number (f.priority t)
 abbrev pub row : Facts → ThreadNo → ConnectionId → List ℕ → Row
 row f t coid message = record empty_row {
   refusal = refusal f t coid;
-  takes_memory = wants_room f (item f t) (way f t coid);
-  ends = meets f (item f t) message (receiver f (item f t) (way f t coid));
-  receipt = receipt_when_sent f (Some t) (item f t) message (way f t coid)
-      (receiver f (item f t) (way f t coid));
+  takes_memory = wants_room f (item f t) (route f t coid);
+  ends = delivers f (item f t) message (receiver f (item f t) (route f t coid));
+  receipt = receipt_when_sent f (Some t) (item f t) message (route f t coid)
+      (receiver f (item f t) (route f t coid));
 }
 
 -- it makes a message of its thread's priority, sends it over the connection, and waits for the answer

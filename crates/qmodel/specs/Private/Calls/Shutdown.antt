@@ -3,14 +3,14 @@ use Rattle.std.specs.Prelude.{true, None}
 use Rattle.qbase.specs.declared.errno.Errno.TheVariants.{Srch}
 use Rattle.qmodel.specs.declared.call.Mark.TheVariants as mark
 use Rattle.qmodel.specs.Trace.{ThreadNo}
-use Rattle.qmodel.specs.Private.Cutting.{cuts}
+use Rattle.qmodel.specs.Private.Cancelling.{cancels}
 use Rattle.qmodel.specs.Private.Facts.{Facts}
 use Rattle.qmodel.specs.Private.Rows.{Row, plain_row}
 use Rattle.qmodel.specs.Private.Effect.{Effect, no_effect}
 
 -- any thread may shut the kernel down
 abbrev pub row : Facts → ThreadNo → Row
-row f t = record (plain_row f.number t None mark.Ok) { ends = cuts f (λ u wait. true) Srch }
+row f t = record (plain_row f.number t None mark.Ok) { ends = cancels f (λ u wait. true) Srch }
 
 -- it shuts the kernel down
 abbrev pub effect : Effect

@@ -1,5 +1,5 @@
--- Unblock: what stands for a signal or a timeout. A thread's open call is cut; but for a message that is held
--- on a channel with the unblock flag the server gets a pulse, once, and the thread stays blocked.
+-- Unblock: what stands for a signal or a timeout. A thread's open call is cancelled; but for a message that
+-- is held on a channel with the unblock flag the server gets a pulse, once, and the thread stays blocked.
 use Rattle.std.specs.Option.{option_and_then}
 use Rattle.std.specs.Prelude.{◌==◌, ◌&&◌, not, is_some, Option, None, Some, if◌then◌else◌}
 use Rattle.qbase.specs.declared.errno.Errno.{Errno}
@@ -9,7 +9,7 @@ use Rattle.qmodel.specs.declared.call.Completion.{Completion}
 use Rattle.qmodel.specs.declared.open_call.Wait.{Wait}
 use Rattle.qmodel.specs.declared.open_call.Wait.TheVariants.{Answer}
 use Rattle.qmodel.specs.Trace.{ChannelId, ReceiveId, ThreadNo}
-use Rattle.qmodel.specs.Private.Cutting.{cuts}
+use Rattle.qmodel.specs.Private.Cancelling.{cancels}
 use Rattle.qmodel.specs.Private.Facts.{Facts, is_fellow, tells_unblock}
 use Rattle.qmodel.specs.Private.Pulses.{refusal_if_full_for, ends_receiver, pulse_row}
 use Rattle.qmodel.specs.Private.Rows.{Row, unblock_item}
@@ -43,10 +43,10 @@ due_pulse f thread = option_and_then (λ o. due_pulse_of_wait f o.number o.wait)
 abbrev pub refusal : Facts → ThreadNo → ThreadNo → Option Errno
 refusal f t thread = if is_fellow f t thread then refusal_if_full_for f (due_pulse f thread) else Some Srch
 
--- with no pulse due the thread's open call is cut that no channel guards; else the call of the pulse's
+-- with no pulse due the thread's open call is cancelled that no channel guards; else the call of the pulse's
 -- receiver ends
 abbrev pub other_ending : Facts → ThreadNo → Option SentItem → ThreadNo → Option Completion
-other_ending f thread None u = cuts f (λ v wait. (v == thread) && not (is_some (guard f wait))) Intr u
+other_ending f thread None u = cancels f (λ v wait. (v == thread) && not (is_some (guard f wait))) Intr u
 other_ending f thread (Some m) u = ends_receiver f (Some m) u
 
 -- it never blocks; memory is wanted only for a pulse that waits

@@ -5,7 +5,7 @@ use Rattle.qtables.specs.declared.member.Member.{Member}
 use Rattle.qmodel.specs.declared.call.Completion.{Completion}
 use Rattle.qmodel.specs.declared.open_call.OpenCall.{OpenCall}
 use Rattle.qmodel.specs.Trace.{CallNo, ChannelId, ThreadNo}
-use Rattle.qmodel.specs.Private.Cutting.{is_on}
+use Rattle.qmodel.specs.Private.Cancelling.{is_on}
 use Rattle.qmodel.specs.Private.Headline.AnsweredToSender.{channel_among}
 use Rattle.qmodel.specs.Private.Headline.ReceivedOnce.{item_received}
 use Rattle.qmodel.specs.Private.Past.{attached_connection, is_closed, items, open_call}

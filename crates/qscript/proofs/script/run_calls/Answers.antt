@@ -3,7 +3,7 @@ use Rattle.std.specs.Prelude.{is_some, true}
 use Rattle.std.specs.Vec.Iter.{into_iter_items}
 use Rattle.qtables.specs.Members.{member_at}
 use Rattle.qmodel.specs.declared.call.Call.{Call}
-use Rattle.qstate.specs.Thread.{members_of}
+use Rattle.qstate.specs.Kept.{members_of}
 use Rattle.qscript.proofs.Making.{next_known, noted_calls, going_more}
 use Rattle.qscript.proofs.script.run_calls.Goals as goal
 

@@ -1,5 +1,5 @@
 use Rattle.std.proofs.Common.{◌∷◌, ◌++◌, [], ap, sym, ◌∙◌}
-use Rattle.qstate.specs.Channel.{items_waiting_on}
+use Rattle.qstate.specs.Kept.{items_waiting_on}
 use Rattle.qstate.proofs.ChannelWrites.{sets_items, on_err}
 use Rattle.qstate.proofs.channel.enqueue.Goals as goal
 

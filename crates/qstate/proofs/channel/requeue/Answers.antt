@@ -1,6 +1,6 @@
 use Rattle.std.proofs.Common.{ap, sym, ◌∙◌}
 use Rattle.qqueue.specs.Best.{with_item_priority}
-use Rattle.qstate.specs.Channel.{items_waiting_on}
+use Rattle.qstate.specs.Kept.{items_waiting_on}
 use Rattle.qstate.proofs.ChannelWrites.{sets_items}
 use Rattle.qstate.proofs.channel.requeue.Goals as goal
 

@@ -1,7 +1,7 @@
 use Rattle.std.proofs.Common.{ap, sym, ◌∙◌}
 use Rattle.std.proofs.lemmas.Option.{IfSome_then}
 use Rattle.qqueue.specs.Best.{without_item}
-use Rattle.qstate.specs.Channel.{items_waiting_on}
+use Rattle.qstate.specs.Kept.{items_waiting_on}
 use Rattle.qstate.proofs.ChannelWrites.{sets_items, if_none}
 use Rattle.qstate.proofs.channel.take_best.Goals as goal
 

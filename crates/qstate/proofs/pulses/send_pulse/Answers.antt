@@ -1,6 +1,6 @@
 use Rattle.std.proofs.Common.{[], sym, ◌∙◌}
 use Rattle.qtables.specs.Members.{IsRoster}
-use Rattle.qstate.specs.Thread.{members_of}
+use Rattle.qstate.specs.Kept.{members_of}
 use Rattle.qstate.proofs.Receivers.{met_there, newest_receives, waits_open}
 use Rattle.qstate.proofs.pulses.send_pulse.Goals as goal
 

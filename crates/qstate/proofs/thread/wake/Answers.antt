@@ -12,10 +12,10 @@ unreachable-requires c =
 pub replace_open-requires : goal.replace_open-requires
 replace_open-requires c =
     let seat = rw c.deref.ensures.value at (sym c.seat_of.ensures ∙ c.in-Some.is) in
-    seat_kept c.args.thread _ _ c.set_level.ensures.members ∙ seat
+    seat_kept c.args.thread _ _ c.set_priority.ensures.members ∙ seat
 
 pub returns-clause-had : goal.returns-clause-had
-returns-clause-had c = c.replace_open.ensures.had ∙ c.set_level.ensures.open_call c.args.thread
+returns-clause-had c = c.replace_open.ensures.had ∙ c.set_priority.ensures.open_call c.args.thread
 
 pub returns-clause-after : goal.returns-clause-after
-returns-clause-after c = wakes c.args.thread c.args.priority _ _ _ c.set_level.ensures c.replace_open.ensures.after
+returns-clause-after c = wakes c.args.thread c.args.priority _ _ _ c.set_priority.ensures c.replace_open.ensures.after

@@ -113,8 +113,8 @@ module _ {M : Type 1} {𝓤 : Ura M} (𝓛 : Logic 𝓤) (at_mem : Memory → SP
         returns ! (look_at ! 0 refl) $ free_all ! refl $
         keep ! (0 ∷ []) $ by ! (exits b o hv γ')))))
 
-  meets : (𝓣 : Tables 𝓤 H) → ent 𝓤 (on_entry 𝓛 F.signature (κ, tt) (q, tt) (record { ref_ptr = (rb, ro); ghost_name = γ; now = h }, tt) (vptr rb ro ∷ [], tt)) (WpFn 𝓤 H 𝓣.C 𝓣.Λ code.function (vptr rb ro ∷ []) Post)
-  meets 𝓣 = walk 𝓣.C 𝓣.Λ
+  delivers : (𝓣 : Tables 𝓤 H) → ent 𝓤 (on_entry 𝓛 F.signature (κ, tt) (q, tt) (record { ref_ptr = (rb, ro); ghost_name = γ; now = h }, tt) (vptr rb ro ∷ [], tt)) (WpFn 𝓤 H 𝓣.C 𝓣.Λ code.function (vptr rb ro ∷ []) Post)
+  delivers 𝓣 = walk 𝓣.C 𝓣.Λ
 
 pub get_mut_spec : {M : Type 1} → stated.statement M
 unfolding tables_of

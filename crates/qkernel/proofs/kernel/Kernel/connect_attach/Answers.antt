@@ -2,7 +2,7 @@ use Rattle.std.proofs.Common.{◌≡◌, refl, sym, true, length, arith}
 use Rattle.std.specs.Prelude.{is_some}
 use Rattle.std.specs.Prelude.{nat_lt}
 use Rattle.std.proofs.lemmas.Bool.{lt-ltb}
-use Rattle.qstate.specs.Channel.{channel_in}
+use Rattle.qstate.specs.Kept.{channel_in}
 use Rattle.qkernel.proofs.Steps.Common.{sound_counted_alone, up_to_below}
 use Rattle.qkernel.proofs.Steps.ConnectAttach.{step_attach_refused, step_attached, sound_attached}
 use Rattle.qkernel.proofs.Turns.{caller_of}

@@ -10,8 +10,8 @@ use Rattle.qkernel.proofs.Steps.Telling.{sound_due, sound_turned_away, step_turn
 use Rattle.qkernel.proofs.kernel.Kernel.connect_detach.Goals as goal
 use Rattle.qkernel.proofs.Steps.Told.{is_told, made_for, newest_due}
 
-pub cut_calls-requires-clause-few : goal.cut_calls-requires-clause-few
-cut_calls-requires-clause-few c =
+pub cancel_calls-requires-clause-few : goal.cancel_calls-requires-clause-few
+cancel_calls-requires-clause-few c =
     let may = rw (← c.self.view_is) at c.requires in
     let new = new_pulse (c.args.turn.now.made + 1) c.priority_of-priority.result c.args.turn.now.process c.tells_detached-last.result c.pulse_for-due.result c.pulse_for-due.ensures in
     (sound_due _ c.in-Some.chid c.pulse_for-due.result _ _ c.in_ok-met.met may.sound new c.in_ok-met.ensures.ok).few
@@ -26,7 +26,7 @@ end_also-requires c =
     let due = due_is _ c.args.turn.now.thread c.args.coid _ may.caller.known may.up may.free c.in-Some.chid of c.tells_detached-last.result may.sound c.tells_detached-last.ensures ∙ ap (made_for c.in-Some.chid) (sym pulsed) in
     let new = new_pulse (c.args.turn.now.made + 1) c.priority_of-priority.result c.args.turn.now.process c.tells_detached-last.result d c.pulse_for-due.ensures in
     let told = is_told _ c.args.turn.now.thread c.in-Some.chid d _ _ c.in_ok-met.met may.sound may.free new c.in_ok-met.ensures.ok in
-    rw (rw c.ending.ensures at c.cut_calls.ensures.endings) (room_for_one _ c.args.turn.now.thread c.args.coid _ may.caller.known may.up may.free c.in-Some.chid of d due may.sound _ _ c.in_ok-met.met told may.sound.few)
+    rw (rw c.ending.ensures at c.cancel_calls.ensures.endings) (room_for_one _ c.args.turn.now.thread c.args.coid _ may.caller.known may.up may.free c.in-Some.chid of d due may.sound _ _ c.in_ok-met.met told may.sound.few)
 
 pub invariant_of-self-2 : goal.invariant_of-self-2
 invariant_of-self-2 c =
@@ -38,7 +38,7 @@ invariant_of-self-2 c =
     let due = due_is _ c.args.turn.now.thread c.args.coid _ may.caller.known may.up may.free c.in-Some.chid of c.tells_detached-last.result may.sound c.tells_detached-last.ensures ∙ ap (made_for c.in-Some.chid) (sym pulsed) in
     let new = new_pulse (c.args.turn.now.made + 1) c.priority_of-priority.result c.args.turn.now.process c.tells_detached-last.result d c.pulse_for-due.ensures in
     let told = is_told _ c.args.turn.now.thread c.in-Some.chid d _ _ c.in_ok-met.met may.sound may.free new c.in_ok-met.ensures.ok in
-    rw (may.counted, c.remove.ensures.after) (sound_detached _ c.args.turn.now.thread c.args.coid _ may.caller.known may.up may.free c.in-Some.chid of d due may.sound _ _ c.in_ok-met.met told _ _ c.cut_calls.ensures.threads c.cut_calls.ensures.channels
+    rw (may.counted, c.remove.ensures.after) (sound_detached _ c.args.turn.now.thread c.args.coid _ may.caller.known may.up may.free c.in-Some.chid of d due may.sound _ _ c.in_ok-met.met told _ _ c.cancel_calls.ensures.threads c.cancel_calls.ensures.channels
     (sound_due _ c.in-Some.chid d _ _ c.in_ok-met.met may.sound new c.in_ok-met.ensures.ok))
 
 pub returns : goal.returns
@@ -53,8 +53,8 @@ returns c =
     let told = is_told _ c.args.turn.now.thread c.in-Some.chid d _ _ c.in_ok-met.met may.sound may.free new c.in_ok-met.ensures.ok in
     let there = c.remove.ensures.value ∙ of.is in
     let fewer = rw there at c.remove.ensures.fewer in
-    rw (← c.self.view_is, may.counted, c.remove.ensures.after) (step_detached _ c.args.turn.now.thread c.args.coid _ may.caller.known may.up may.free c.in-Some.chid of d due may.sound _ _ c.in_ok-met.met told _ _ c.cut_calls.ensures.threads c.cut_calls.ensures.channels
-    _ (rw c.remove.ensures.after at fewer) (c.end_also.ensures ∙ ap (with_ending_if c.in_ok-met.met) (rw c.ending.ensures at c.cut_calls.ensures.endings)))
+    rw (← c.self.view_is, may.counted, c.remove.ensures.after) (step_detached _ c.args.turn.now.thread c.args.coid _ may.caller.known may.up may.free c.in-Some.chid of d due may.sound _ _ c.in_ok-met.met told _ _ c.cancel_calls.ensures.threads c.cancel_calls.ensures.channels
+    _ (rw c.remove.ensures.after at fewer) (c.end_also.ensures ∙ ap (with_ending_if c.in_ok-met.met) (rw c.ending.ensures at c.cancel_calls.ensures.endings)))
 
 pub returns-in_err-met : goal.returns-in_err-met
 returns-in_err-met c =

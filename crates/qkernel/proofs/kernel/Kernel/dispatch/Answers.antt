@@ -1,7 +1,7 @@
 use Rattle.std.proofs.Common.{◌≡◌, ap, sym, ◌∙◌, true, refl, inl, inr}
 use Rattle.std.specs.Prelude.{is_some}
 use Rattle.qtables.specs.Members.{member_at, IsRoster}
-use Rattle.qstate.specs.Thread.{members_of}
+use Rattle.qstate.specs.Kept.{members_of}
 use Rattle.qstate.proofs.Seats.{is_there}
 use Rattle.qkernel.proofs.Standing.{refused_leaves, step_at_traces, steps_made}
 use Rattle.qkernel.proofs.kernel.Kernel.dispatch.Goals as goal

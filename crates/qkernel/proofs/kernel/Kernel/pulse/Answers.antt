@@ -23,7 +23,7 @@ invariant_of-self-2 c =
 pub returns-in_err-met : goal.returns-in_err-met
 returns-in_err-met c =
     let may = rw (← c.self.view_is) at c.requires in
-    let found = sym c.way.ensures ∙ c.in-Some.is in
+    let found = sym c.route.ensures ∙ c.in-Some.is in
     let positive = natural c.args.code (rw (to_z-of_z w8 c.args.code c.ranges.code) at c.if-code-lt0.false) in
     let old : State = record { made = c.args.turn.now.made; down = c.self.inside.down; threads = c.self.inside.threads.items; channels = c.self.inside.channels; connections = c.self.inside.connections } in
     let item = pulse_item (c.args.turn.now.made + 1) c.args.priority c.args.code c.args.value in
@@ -39,7 +39,7 @@ returns-in_err-met c =
 pub returns : goal.returns
 returns c =
     let may = rw (← c.self.view_is) at c.requires in
-    let found = sym c.way.ensures ∙ c.in-Some.is in
+    let found = sym c.route.ensures ∙ c.in-Some.is in
     let positive = natural c.args.code (rw (to_z-of_z w8 c.args.code c.ranges.code) at c.if-code-lt0.false) in
     let item = pulse_item (c.args.turn.now.made + 1) c.args.priority c.args.code c.args.value in
     let sent = rw (to_z-of_z w8 c.args.code c.ranges.code, to_z-of_z w32 c.args.value c.ranges.value) at c.in_ok-met.ensures.ok in

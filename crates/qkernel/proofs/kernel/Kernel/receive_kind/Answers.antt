@@ -12,10 +12,10 @@ invariant_of-self c =
 pub invariant_of-self-in-Some : goal.invariant_of-self-in-Some
 invariant_of-self-in-Some c =
     let may = rw (← c.self.view_is) at c.requires.may in
-    rw (may.counted) (sound_taken _ _ _ c.args.chid c.in-Some.item.number may.sound (c.set_level.ensures.members ∙ hands_members (is_pulse c.in-Some.item.what) _ _ _ _ c.hand_item-mark.ensures.kept) c.in-Some.ensures.taken)
+    rw (may.counted) (sound_taken _ _ _ c.args.chid c.in-Some.item.number may.sound (c.set_priority.ensures.members ∙ hands_members (is_pulse c.in-Some.item.what) _ _ _ _ c.hand_item-mark.ensures.kept) c.in-Some.ensures.taken)
 
-pub set_level-requires : goal.set_level-requires
-set_level-requires c =
+pub set_priority-requires : goal.set_priority-requires
+set_priority-requires c =
     let may = rw (← c.self.view_is) at c.requires.may in
     let at = may.caller.seat in
     seat_kept c.args.turn.now.thread _ _ (hands_members (is_pulse c.in-Some.item.what) _ _ _ _ c.hand_item-mark.ensures.kept) ∙ at
@@ -36,4 +36,4 @@ returns-in-Some c =
     let may = rw (← c.self.view_is) at c.requires.may in
     let ended = rw (c.hand_item-mark.ensures.mark, c.hand_item-mark.ensures.buffer) at c.give_back.ensures in
     rw (← c.self.view_is, may.counted) (step_receive_takes _ c.args.turn.now.thread c.args.chid c.args.kind c.args.buffer _ may.sound may.caller.known may.up may.free (sym c.if-not-owns.ensures) c.requires.buffer c.in-Some.item (sym c.in-Some.ensures.best) _ _ _ _
-    c.hand_item-mark.ensures.kept (rw c.carried_priority-level.ensures at c.set_level.ensures) c.in-Some.ensures.taken ended)
+    c.hand_item-mark.ensures.kept (rw c.carried_priority-priority.ensures at c.set_priority.ensures) c.in-Some.ensures.taken ended)

@@ -1,6 +1,6 @@
 use Rattle.std.proofs.Common.{ap, sym, ◌∙◌}
 use Rattle.qtables.specs.Members.{IsRoster}
-use Rattle.qstate.specs.Thread.{members_of}
+use Rattle.qstate.specs.Kept.{members_of}
 use Rattle.qstate.proofs.Seats.{seat_kept}
 use Rattle.qstate.proofs.Receivers.{newest_receives, waits_among, waits_takes}
 use Rattle.qkernel.proofs.Steps.Delivering.{sound_with_item, sound_threads}
@@ -8,8 +8,8 @@ use Rattle.qkernel.proofs.Steps.Send.{step_send_no_memory, step_send_nowhere, st
 use Rattle.qkernel.proofs.kernel.Kernel.send.Goals as goal
 use Rattle.qkernel.proofs.kernel.Kernel.send.Goals.{in-None+in_default-enqueue, in-Some-newest_receiver}
 
-pub meet-ended-requires-clause-waits : goal.meet-ended-requires-clause-waits
-meet-ended-requires-clause-waits c =
+pub deliver-ended-requires-clause-waits : goal.deliver-ended-requires-clause-waits
+deliver-ended-requires-clause-waits c =
     let may = rw (← c.self.view_is) at c.requires in
     let roster : IsRoster (members_of c.deref.result.now) = rw (c.deref.ensures.value) may.sound.roster in
     let newest = rw c.deref.ensures.value at (sym (c.newest_receiver.ensures roster) ∙ c.in-Some-newest_receiver.is) in
@@ -22,7 +22,7 @@ block-requires c =
     let at = may.caller.seat in
     elim c.match-newest_receiver.branch [
       | in-None+in_default-enqueue w ↦ rw (w.self-inside-is) at
-      | in-Some-newest_receiver w ↦ rw (w.self-inside-is) (seat_kept c.args.turn.now.thread _ _ w.meet-ended.ensures.after.members ∙ at)
+      | in-Some-newest_receiver w ↦ rw (w.self-inside-is) (seat_kept c.args.turn.now.thread _ _ w.deliver-ended.ensures.after.members ∙ at)
     ]
 
 pub invariant_of-self-2 : goal.invariant_of-self-2
@@ -34,13 +34,13 @@ invariant_of-self-2 c =
           rw (w.self-inside-is, may.counted) (sound_with_item _ _ _ c.in-Some.chid _ may.sound members w.in_default-enqueue.ensures.ok (ap (λ i. i.number) c.message_item-item.ensures))
       | in-Some-newest_receiver w ↦
           let members = rw (w.self-inside-is) at c.block.ensures.members in
-          rw (w.self-inside-is, may.counted) (sound_threads _ _ may.sound (members ∙ w.meet-ended.ensures.after.members))
+          rw (w.self-inside-is, may.counted) (sound_threads _ _ may.sound (members ∙ w.deliver-ended.ensures.after.members))
     ]
 
 pub returns-in_default : goal.returns-in_default
 returns-in_default c =
     let may = rw (← c.self.view_is) at c.requires in
-    let found = sym c.way.ensures ∙ c.in_default.is in
+    let found = sym c.route.ensures ∙ c.in_default.is in
     rw (← c.self.view_is, may.counted) (step_send_nowhere _ c.args.turn.now.thread c.args.coid c.args.message c.args.reply_buffer _ _ may.caller.known may.up may.free found c.refuse.ensures)
 
 pub returns-in-Err : goal.returns-in-Err
@@ -48,7 +48,7 @@ returns-in-Err c =
     let may = rw (← c.self.view_is) at c.requires in
     let prio = rw (← c.self.view_is) at c.priority_of.ensures in
     let item = c.message_item-item.ensures in
-    let found = sym c.way.ensures ∙ c.in-Some.is in
+    let found = sym c.route.ensures ∙ c.in-Some.is in
     let roster : IsRoster (members_of c.deref.result.now) = rw (c.deref.ensures.value) may.sound.roster in
     let nobody = rw (c.deref.ensures.value, item, prio) at (sym (c.newest_receiver.ensures roster) ∙ c.in-None.is) in
     rw (← c.self.view_is, may.counted)
@@ -59,7 +59,7 @@ returns c =
     let may = rw (← c.self.view_is) at c.requires in
     let prio = rw (← c.self.view_is) at c.priority_of.ensures in
     let item = c.message_item-item.ensures in
-    let found = sym c.way.ensures ∙ c.in-Some.is in
+    let found = sym c.route.ensures ∙ c.in-Some.is in
     let roster : IsRoster (members_of c.deref.result.now) = rw (c.deref.ensures.value) may.sound.roster in
     elim c.match-newest_receiver.branch [
       | in-None+in_default-enqueue w ↦
@@ -69,16 +69,16 @@ returns c =
           rw (w.self-inside-is, w.endings-is, ← c.self.view_is, may.counted)
           (step_send_waits _ c.args.turn.now.thread c.args.coid c.args.message c.args.reply_buffer _ c.in-Some.chid may.sound may.caller.known may.up may.free found _ _ _ nobody opens sets c.requires.none)
       | in-Some-newest_receiver w ↦
-          let opens = rw (w.receipt-is, w.self-inside-is, w.meet-ended.ensures.receipt, item) at c.block.ensures in
+          let opens = rw (w.receipt-is, w.self-inside-is, w.deliver-ended.ensures.receipt, item) at c.block.ensures in
           let newest = rw (c.deref.ensures.value, item, prio) at (sym (c.newest_receiver.ensures roster) ∙ w.in-Some-newest_receiver.is) in
           let receiver = w.in-Some-newest_receiver.receiver in
           let waits = newest_receives _ c.in-Some.chid _ receiver newest in
-          let ended = rw (item, prio) at w.meet-ended.ensures.ended in
-          let copied = rw item at w.meet-ended.ensures.copied in
+          let ended = rw (item, prio) at w.deliver-ended.ensures.ended in
+          let copied = rw item at w.deliver-ended.ensures.copied in
           let sets = rw prio at opens in
-          let wakes = rw (w.carried_priority-level.ensures, item, prio) at w.meet-ended.ensures.after in
+          let wakes = rw (w.carried_priority-priority.ensures, item, prio) at w.deliver-ended.ensures.after in
           rw (w.self-inside-is, w.endings-is, ← c.self.view_is, may.counted)
           (step_send_met _ c.args.turn.now.thread c.args.coid c.args.message c.args.reply_buffer _ c.in-Some.chid may.sound may.caller.known may.up may.free found
-          receiver w.meet-ended.result.0 w.meet-ended.result.1.copied newest (waits_among c.in-Some.chid _ waits.0 _ receiver waits.1) ended copied
-          w.meet-ended.new.threads.items _ _ wakes sets w.end_one.ensures)
+          receiver w.deliver-ended.result.0 w.deliver-ended.result.1.copied newest (waits_among c.in-Some.chid _ waits.0 _ receiver waits.1) ended copied
+          w.deliver-ended.new.threads.items _ _ wakes sets w.end_one.ensures)
     ]

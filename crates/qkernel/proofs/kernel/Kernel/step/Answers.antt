@@ -2,7 +2,7 @@ use Rattle.std.proofs.Common.{ap, sym, ◌∙◌}
 use Rattle.std.specs.Prelude.{is_some}
 use Rattle.std.proofs.lemmas.Bool.{true≢false}
 use Rattle.qtables.specs.Members.{IsRoster}
-use Rattle.qstate.specs.Thread.{members_of}
+use Rattle.qstate.specs.Kept.{members_of}
 use Rattle.qkernel.proofs.Room.{steps_room}
 use Rattle.qstate.proofs.Seats.{is_there}
 use Rattle.qkernel.proofs.Standing.{refused_leaves, step_at_traces}

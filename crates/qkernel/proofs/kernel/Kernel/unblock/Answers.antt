@@ -3,30 +3,30 @@ use Rattle.std.proofs.lemmas.Result.{err_from_is_err_and}
 use Rattle.std.specs.Prelude.{Some}
 use Rattle.qbase.specs.declared.errno.Errno.TheVariants.{Intr}
 use Rattle.qmodel.specs.declared.call.Call.TheVariants.{Unblock}
-use Rattle.qstate.specs.declared.cutting.Cut.TheVariants.{Of}
+use Rattle.qstate.specs.declared.cancelling.CancelSet.TheVariants.{Of}
 use Rattle.qstate.proofs.Seats.{seat_kept}
 use Rattle.qkernel.proofs.Steps.Common.{up_to_below}
-use Rattle.qkernel.proofs.Steps.Cutting.{sound_cut}
+use Rattle.qkernel.proofs.Steps.Cancelling.{sound_cancelled}
 use Rattle.qkernel.proofs.Steps.Delivering.{sound_kept}
 use Rattle.qkernel.proofs.Steps.Telling.{sound_due, sound_turned_away, step_told, step_turned_away}
-use Rattle.qkernel.proofs.Steps.Unblock.{are_marked, new_pulse, step_unblock_again, step_unblock_cut, tells_unblock, unblock_full, unblock_memory}
+use Rattle.qkernel.proofs.Steps.Unblock.{are_marked, new_pulse, step_unblock_again, step_unblock_cancelled, tells_unblock, unblock_full, unblock_memory}
 use Rattle.qkernel.proofs.kernel.Kernel.unblock.Goals as goal
 use Rattle.qkernel.proofs.Steps.Told.{is_told, made_for, newest_due}
 
--- ---- the thread's open call is cut
+-- ---- the thread's open call is cancelled
 
 pub invariant_of-self : goal.invariant_of-self
 invariant_of-self c =
     let may = rw (← c.self.view_is) at c.requires in
-    rw (may.counted) (sound_cut _ c.self.inside.down (Of c.args.target) Intr _ _ may.sound c.cut_calls.ensures.threads c.cut_calls.ensures.channels)
+    rw (may.counted) (sound_cancelled _ c.self.inside.down (Of c.args.target) Intr _ _ may.sound c.cancel_calls.ensures.threads c.cancel_calls.ensures.channels)
 
 pub returns-in_default : goal.returns-in_default
 returns-in_default c =
     let may = rw (← c.self.view_is) at c.requires in
     let fellow = rw (← c.self.view_is) at c.in_ok-there.ensures.fellow in
     let none = rw (← c.self.view_is) at (sym c.guarded_message.ensures ∙ c.in_default.is) in
-    rw (← c.self.view_is, may.counted) (step_unblock_cut _ c.args.turn.now.thread c.args.target _ may.sound may.caller.known may.up may.free fellow none _ _ _ c.cut_calls.ensures.threads c.cut_calls.ensures.channels
-    (rw c.ending.ensures at c.cut_calls.ensures.endings))
+    rw (← c.self.view_is, may.counted) (step_unblock_cancelled _ c.args.turn.now.thread c.args.target _ may.sound may.caller.known may.up may.free fellow none _ _ _ c.cancel_calls.ensures.threads c.cancel_calls.ensures.channels
+    (rw c.ending.ensures at c.cancel_calls.ensures.endings))
 
 -- ---- its message had its pulse
 

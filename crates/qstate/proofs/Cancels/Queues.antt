@@ -1,0 +1,90 @@
+-- What becomes of the queues as items leave them.
+use Rattle.std.proofs.Common.{◌≡◌, ℕ, List, [], Bool, not, ◌&&◌, ◌||◌, refl, ap, sym, subst, ◌∙◌, cond, true, false, eqb}
+use Rattle.std.specs.Prelude.{Option, None, Some, filter}
+use Rattle.std.specs.Option.{option_map}
+use Rattle.std.proofs.lemmas.Bool.{eqb-true, and_left, and_right, not_from_false}
+use Rattle.std.proofs.lemmas.Option.{none-some}
+use Rattle.std.proofs.lemmas.List.Elements.{filter_agree}
+use Rattle.std.proofs.Math.Bool.{and-true}
+use Rattle.qqueue.specs.declared.item.Item.{Item}
+use Rattle.qqueue.specs.Best.{without_item}
+use Rattle.qtables.specs.Entries.{entry_at}
+use Rattle.qtables.specs.declared.connection.Connection.{Connection}
+use Rattle.qmodel.specs.declared.open_call.OpenCall.{OpenCall}
+use Rattle.qmodel.specs.declared.open_call.Wait.{Wait}
+use Rattle.qmodel.specs.declared.open_call.Wait.TheVariants.{Answer, Item as ForItem}
+use Rattle.qmodel.specs.Private.Facts.{is_for_receipt}
+use Rattle.qmodel.specs.Private.Cancelling.{is_to, is_on}
+use Rattle.qmodel.specs.Private.Step.{is_unread_send}
+use Rattle.qstate.specs.declared.channel.Channel.{Channel}
+use Rattle.qstate.specs.Channel.{SetsItems}
+use Rattle.qstate.specs.Kept.{pending_in, items_waiting_on}
+use Rattle.qstate.specs.Cancelling.{unread_on_by, call_if_cancelled, is_taken_from, Lose}
+use Rattle.qbase.proofs.Lists.{eqb_either, filter_twice, filter_whole}
+
+-- without those of which one thing is so, and then without those of which another is
+pub filter_after : {A : Type 0} (p q : A → Bool) (xs : List A) → filter (λ x. not (q x)) (filter (λ x. not (p x)) xs) ≡ filter (λ x. not (p x || q x)) xs
+filter_after p q xs =
+    filter_twice (λ x. not (p x)) (λ x. not (q x)) xs
+    ∙ filter_agree (λ x. not (p x) && not (q x)) (λ x. not (p x || q x)) (λ x. elim (p x) as (λ b. (not b && not (q x)) ≡ not (b || q x)) [ true ↦ refl | false ↦ refl ]) xs
+
+-- ---- channels
+
+-- nothing leaves
+pub loses_nothing : (goes : ℕ → ℕ → Bool) (channels : List (ℕ × Channel)) → ((k i : ℕ) → goes k i ≡ false) → Lose goes channels channels
+loses_nothing goes channels none = record {
+  ids = refl;
+  channel = λ k. refl;
+  pending = λ k. sym (filter_whole (λ item. not (goes k item.number)) (pending_in channels k) (λ item. not_from_false _ (none k item.number)));
+}
+
+-- what leaves is on a channel that isn't open
+pub loses_gone : (goes : ℕ → ℕ → Bool) (channels : List (ℕ × Channel)) (h : ℕ) → entry_at channels h ≡ None → ((k i : ℕ) → eqb h k ≡ false → goes k i ≡ false) → Lose goes channels channels
+loses_gone goes channels h gone others = record {
+  ids = refl;
+  channel = λ k. refl;
+  pending = λ k. elim (eqb h k) as (λ b. eqb h k ≡ b → pending_in channels k ≡ filter (λ item. not (goes k item.number)) (pending_in channels k)) [
+    | true ↦ λ e. let empty : pending_in channels k ≡ [] = ap items_waiting_on (ap (entry_at channels) (sym (eqb-true h k e)) ∙ gone) in
+        subst (λ (xs : List Item). xs ≡ filter (λ item. not (goes k item.number)) xs) (sym empty) refl
+    | false ↦ λ e. sym (filter_whole (λ item. not (goes k item.number)) (pending_in channels k) (λ item. not_from_false _ (others k item.number e)))
+  ] refl;
+}
+
+-- an item leaves channel h
+pub loses_one : (goes : ℕ → ℕ → Bool) (channels new : List (ℕ × Channel)) (h n : ℕ) → SetsItems h (without_item n (pending_in channels h)) channels new → ((k i : ℕ) → goes k i ≡ (eqb n i && eqb h k)) → Lose goes channels new
+loses_one goes channels new h n sets so = record {
+  ids = sets.ids;
+  channel = sets.channel;
+  pending = λ k. sets.pending k ∙ (elim (eqb k h) as (λ b. eqb k h ≡ b → cond b (without_item n (pending_in channels h)) (pending_in channels k) ≡ filter (λ item. not (goes k item.number)) (pending_in channels k)) [
+    | true ↦ λ e. let here : k ≡ h = eqb-true k h e in
+        ap (λ j. without_item n (pending_in channels j)) (sym here)
+        ∙ filter_agree (λ item. not (eqb item.number n)) (λ item. not (goes k item.number))
+        (λ item. ap not (eqb_either item.number n ∙ sym (so k item.number ∙ rw (eqb_either h k ∙ e) (and-true (eqb n item.number))))) (pending_in channels k)
+    | false ↦ λ e. sym (filter_whole (λ item. not (goes k item.number)) (pending_in channels k) (λ item. not_from_false _ (so k item.number ∙ and_right _ _ (eqb_either h k ∙ e))))
+  ] refl);
+}
+
+-- ---- a Send that isn't received
+
+-- a call of number n whose message waits on this channel, if on any, is the Send of number i on channel h
+abbrev pub waits_so : Option ℕ → ℕ → ℕ → ℕ → Bool
+waits_so None n h i = false
+waits_so (Some c) n h i = eqb n i && eqb c h
+
+pub unread_so : (connection : ℕ → Option Connection) (n : ℕ) (w : Wait) (h i : ℕ) → ((eqb n i && is_for_receipt w) && is_on connection h w) ≡ waits_so (unread_on_by connection w) n h i
+unread_so connection n (Answer coid message reply_buffer None) h i =
+    elim (connection coid) as (λ c. ((eqb n i && true) && is_to h c) ≡ waits_so (option_map (λ c. c.channel) c) n h i) [
+      | None ↦ and_right _ false refl
+      | Some c ↦ ap (λ b. b && eqb c.channel h) (and-true (eqb n i))
+    ]
+unread_so connection n (Answer coid message reply_buffer (Some receipt)) h i = and_left _ _ (and_right (eqb n i) false refl)
+unread_so connection n (ForItem chid kind buffer) h i = and_left _ _ (and_right (eqb n i) false refl)
+
+-- a call that isn't cancelled takes nothing
+pub untaken : (connection : ℕ → Option Connection) (is_cancelled : Wait → Bool) (o : Option OpenCall) (h i : ℕ) → call_if_cancelled is_cancelled o ≡ None → is_taken_from connection is_cancelled o h i ≡ false
+untaken connection is_cancelled None h i none = refl
+untaken connection is_cancelled (Some o) h i none =
+    elim (is_cancelled o.wait) as (λ b. cond b (Some o) None ≡ None → (is_unread_send connection h i (Some o) && b) ≡ false) [
+      | true ↦ λ e. absurd (none-some o (sym e))
+      | false ↦ λ e. and_right _ false refl
+    ] none

@@ -1,9 +1,0 @@
-use Rattle.std.proofs.Common.{sym}
-use Rattle.qtables.specs.Entries.{entry_at}
-use Rattle.qstate.specs.Cutting.{is_cut_by}
-use Rattle.qstate.proofs.Cuts.Queues.{loses_nothing, untaken}
-use Rattle.qstate.proofs.cutting.cut_thread.Goals as goal
-
-pub returns-in_err-call-clause-channels : goal.returns-in_err-call-clause-channels
-returns-in_err-call-clause-channels c =
-    loses_nothing _ c.args.channels.now (λ k i. untaken (entry_at c.args.connections.now) (is_cut_by (entry_at c.args.connections.now) c.args.cut.now c.args.thread.now.member.thread) c.args.thread.now.open_call k i (sym c.in_err-call.ensures.had))

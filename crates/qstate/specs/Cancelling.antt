@@ -1,0 +1,113 @@
+-- What becomes of the threads and the channels as calls are cancelled.
+use Rattle.std.specs.Prelude.{◌≡◌, ℕ, ◌==◌, ◌&&◌, Bool, true, false, not, is_some, List, [], ◌∷◌, ◌++◌}
+use Rattle.std.specs.Prelude.{filter, Option, None, Some, if◌then◌else◌}
+use Rattle.std.specs.List.{list_any}
+use Rattle.std.specs.Option.{option_map, option_and_then}
+use Rattle.qbase.specs.declared.errno.Errno.{Errno}
+use Rattle.qtables.specs.declared.connection.Connection.{Connection}
+use Rattle.qmodel.specs.declared.call.Completion.{Completion}
+use Rattle.qmodel.specs.declared.open_call.OpenCall.{OpenCall}
+use Rattle.qmodel.specs.declared.open_call.Wait.{Wait}
+use Rattle.qmodel.specs.declared.open_call.Wait.TheVariants.{Answer, Item as ForItem}
+use Rattle.qmodel.specs.Private.Cancelling.{is_on, is_over, cancel_where}
+use Rattle.qmodel.specs.Private.Step.{is_unread_send}
+use Rattle.qmodel.specs.Private.Facts.{threads_of}
+use Rattle.qstate.specs.declared.channel.Channel.{Channel}
+use Rattle.qstate.specs.declared.cancelling.CancelSet.{CancelSet}
+use Rattle.qstate.specs.declared.cancelling.CancelSet.TheVariants.{On, All, Of, Over}
+use Rattle.qstate.specs.declared.thread.Thread.{Thread}
+use Rattle.qstate.specs.Channel.{ids_of}
+use Rattle.qstate.specs.Kept.{channel_in, pending_in}
+use Rattle.qstate.specs.Thread.{open_in}
+use Rattle.qstate.specs.Kept.{members_of, thread_priority}
+
+-- this is so of a thread and what it waits for, where that is cancelled
+abbrev pub is_cancelled_by : (ℕ → Option Connection) → CancelSet → ℕ → Wait → Bool
+is_cancelled_by connection (On chid) u wait = is_on connection chid wait
+is_cancelled_by connection All u wait = true
+is_cancelled_by connection (Of thread) u wait = u == thread
+is_cancelled_by connection (Over coid) u wait = is_over coid wait
+
+-- how the call of thread u ends: the caller's own so, and another's if it is cancelled
+abbrev pub ending_for : (ℕ → Option Connection) → CancelSet → Errno → Completion → ℕ → Option OpenCall
+    → Option Completion
+ending_for connection cancel e own u o =
+    if u == own.thread then Some own else cancel_where (is_cancelled_by connection cancel u) e u o
+
+-- each thread whose call is cancelled has none any more, and all else is as it was
+pub record AreCancelled (connection : ℕ → Option Connection) (cancel : CancelSet) (e : Errno)
+    (old new : List Thread) : Type
+    0 where
+  pub members : members_of new ≡ members_of old
+  pub open_call : (v : ℕ) → open_in new v
+      ≡ (if is_some (cancel_where (is_cancelled_by connection cancel v) e v (open_in old v)) then None
+      else open_in old v)
+  pub priority : (v : ℕ) → thread_priority new v ≡ thread_priority old v
+
+-- a Send of number i that is blocked on channel h and not received is cancelled, of one of these threads
+abbrev pub is_cancelled_among : (ℕ → Option Connection) → CancelSet → Errno → List Thread → ℕ → ℕ → Bool
+is_cancelled_among connection cancel e threads h i =
+    list_any (λ s. is_unread_send connection h i (open_in threads s)
+    && is_some (cancel_where (is_cancelled_by connection cancel s) e s (open_in threads s)))
+    (threads_of (members_of threads))
+
+-- each message whose Send is cancelled leaves its channel, and all else is as it was
+pub record LoseCancelled (connection : ℕ → Option Connection) (cancel : CancelSet) (e : Errno)
+    (threads : List Thread)
+    (old new : List (ℕ × Channel)) : Type 0 where
+  pub ids : ids_of new ≡ ids_of old
+  pub channel : (k : ℕ) → channel_in new k ≡ channel_in old k
+  pub pending : (k : ℕ) → pending_in new k
+      ≡ filter (λ item. not (is_cancelled_among connection cancel e threads k item.number)) (pending_in old k)
+
+-- ---- one thread
+
+-- the connection over which a message was sent that isn't received
+abbrev pub unread_over_by : Wait → Option ℕ
+unread_over_by (Answer coid message reply_buffer None) = Some coid
+unread_over_by (Answer coid message reply_buffer (Some receipt)) = None
+unread_over_by (ForItem chid kind buffer) = None
+
+-- the channel that such a message waits on
+abbrev pub unread_on_by : (ℕ → Option Connection) → Wait → Option ℕ
+unread_on_by connection wait = option_map (λ c. c.channel) (option_and_then connection (unread_over_by wait))
+
+-- the endings with one more behind them, if there is one
+abbrev pub with_ending : List Completion → Option Completion → List Completion
+with_ending endings None = endings
+with_ending endings (Some ending) = endings ++ ending ∷ []
+
+-- this is so of what an open call waits for
+abbrev pub is_cancelled_open : (Wait → Bool) → Option OpenCall → Bool
+is_cancelled_open is_cancelled None = false
+is_cancelled_open is_cancelled (Some o) = is_cancelled o.wait
+
+-- an open call, if it is cancelled
+abbrev pub call_if_cancelled : (Wait → Bool) → Option OpenCall → Option OpenCall
+call_if_cancelled is_cancelled o = if is_cancelled_open is_cancelled o then o else None
+
+-- the thread with no open call, if that is cancelled
+abbrev pub thread_unless_cancelled : (Wait → Bool) → Thread → Thread
+thread_unless_cancelled is_cancelled t =
+    record {
+      member = t.member;
+      priority = t.priority;
+      open_call = if is_cancelled_open is_cancelled t.open_call then None
+          else t.open_call;
+    }
+
+-- the thread with no open call, if this cancels that
+abbrev pub thread_after_cancelled : (ℕ → Option Connection) → CancelSet → Thread → Thread
+thread_after_cancelled connection cancel t =
+    thread_unless_cancelled (is_cancelled_by connection cancel t.member.thread) t
+
+-- the open call is cancelled and is the Send of number i, blocked on channel h and not received
+abbrev pub is_taken_from : (ℕ → Option Connection) → (Wait → Bool) → Option OpenCall → ℕ → ℕ → Bool
+is_taken_from connection is_cancelled o h i =
+    is_unread_send connection h i o && is_cancelled_open is_cancelled o
+
+-- each item of which this is so leaves its channel, and all else is as it was
+pub record Lose (goes : ℕ → ℕ → Bool) (old new : List (ℕ × Channel)) : Type 0 where
+  pub ids : ids_of new ≡ ids_of old
+  pub channel : (k : ℕ) → channel_in new k ≡ channel_in old k
+  pub pending : (k : ℕ) → pending_in new k ≡ filter (λ item. not (goes k item.number)) (pending_in old k)

@@ -1,0 +1,242 @@
+//! Calls that are ended by force.
+
+ghost use Rattle.std.specs.Prelude.{◌≡◌, ◌==◌, ◌&&◌, ◌≤◌, ◌<◌, [], true, Some, None, is_some, length, filter_map, if◌then◌else◌};
+ghost use Rattle.qtables.specs.Entries.{entry_at};
+ghost use Rattle.qtables.specs.Members.{IsRoster};
+ghost use Rattle.qmodel.specs.Private.Cancelling.{buffer_of_wait, is_on, is_over, cancel_call, cancel_where};
+ghost use Rattle.qmodel.specs.Private.Step.{is_unread_send};
+ghost use Rattle.qmodel.specs.Private.Facts.{threads_of};
+ghost use Rattle.qstate.specs.Cancelling.{is_cancelled_by, ending_for, with_ending, thread_unless_cancelled, unread_over_by, unread_on_by, call_if_cancelled, is_taken_from, Lose, AreCancelled, LoseCancelled};
+ghost use Rattle.qstate.specs.Thread.{open_in};
+ghost use Rattle.qstate.specs.Kept.{members_of};
+
+use crate::channel::Channel;
+use crate::endings::Endings;
+use crate::thread::Thread;
+use qbase::bytes::Bytes;
+use qbase::errno::Errno;
+use qbase::ids::{ChannelId, ConnectionId, ThreadNo};
+use qmodel::call::{Completion, Mark};
+use qmodel::open_call::{OpenCall, Wait};
+use qtables::channels::Channels;
+use qtables::connections::Connections;
+
+/// Whose calls are cancelled.
+#[derive(Clone, Copy, Debug, PartialEq, Eq)]
+pub enum CancelSet {
+    /// Those that are blocked on a channel.
+    On(ChannelId),
+    /// Those of all threads.
+    All,
+    /// That of a thread.
+    Of(ThreadNo),
+    /// The Sends over a connection.
+    Over(ConnectionId),
+}
+
+/// Whether a wait is on the channel.
+fn waits_on(connections: &Connections, chid: ChannelId, wait: &Wait) -> bool
+    ensures { result ≡ is_on (entry_at connections.now) chid wait.now }
+{
+    match wait {
+        Wait::Answer { coid, .. } => match connections.get(*coid) {
+            None => false,
+            Some(connection) => connection.channel == chid,
+        },
+        Wait::Item { chid: named, .. } => *named == chid,
+    }
+}
+
+/// Whether a wait is for the answer to a message that was sent over the connection.
+fn is_sent_over(coid: ConnectionId, wait: &Wait) -> bool
+    ensures { result ≡ is_over coid wait.now }
+{
+    match wait {
+        Wait::Answer { coid: over, .. } => *over == coid,
+        Wait::Item { .. } => false,
+    }
+}
+
+/// Whether a thread's wait is cancelled.
+fn is_cancelled(
+    connections: &Connections,
+    cancel: &CancelSet,
+    thread: ThreadNo,
+    wait: &Wait,
+) -> bool
+    ensures { result ≡ is_cancelled_by (entry_at connections.now) cancel.now thread wait.now }
+{
+    match cancel {
+        CancelSet::On(chid) => waits_on(connections, *chid, wait),
+        CancelSet::All => true,
+        CancelSet::Of(named) => thread == *named,
+        CancelSet::Over(coid) => is_sent_over(*coid, wait),
+    }
+}
+
+/// The connection over which a message was sent that isn't received.
+fn unread_over(wait: &Wait) -> Option<ConnectionId>
+    ensures { result ≡ unread_over_by wait.now }
+{
+    match wait {
+        Wait::Answer {
+            coid,
+            receipt: None,
+            ..
+        } => Some(*coid),
+        _ => None,
+    }
+}
+
+/// The channel that a message waits on that isn't received.
+fn unread_on(connections: &Connections, wait: &Wait) -> Option<ChannelId>
+    ensures { result ≡ unread_on_by (entry_at connections.now) wait.now }
+{
+    let coid = unread_over(wait)?;
+    let connection = connections.get(coid)?;
+    Some(connection.channel)
+}
+
+/// Takes the message of a Send that isn't received out of its channel's queue.
+fn take_message(channels: &mut Channels<Channel>, connections: &Connections, call: &OpenCall)
+    ensures { Lose (λ h i. is_unread_send (entry_at connections.now) h i (Some call.now)) channels.old channels.new }
+{
+    let Some(chid) = unread_on(connections, &call.wait) else {
+        return;
+    };
+    let Some(channel) = channels.get_mut(chid) else {
+        return;
+    };
+    let _ = channel.queue.remove(call.number);
+}
+
+/// The buffer that a wait gives back.
+fn into_buffer(wait: Wait) -> Bytes
+    ensures { result ≡ buffer_of_wait wait }
+{
+    match wait {
+        Wait::Answer { reply_buffer, .. } => reply_buffer,
+        Wait::Item { buffer, .. } => buffer,
+    }
+}
+
+/// How a thread's open call ends that is cancelled.
+fn cancel_ending(call: OpenCall, thread: ThreadNo, errno: Errno) -> Completion
+    ensures { result ≡ cancel_call errno thread call }
+{
+    Completion {
+        call: call.number,
+        thread,
+        mark: Mark::Failed(errno),
+        buffer: into_buffer(call.wait),
+    }
+}
+
+/// Takes the open call of a thread, if it is cancelled.
+fn take_cancelled(
+    thread: &mut Thread,
+    connections: &Connections,
+    cancel: &CancelSet,
+) -> Option<OpenCall>
+    ensures had { result ≡ call_if_cancelled (is_cancelled_by (entry_at connections.now) cancel.now thread.old.member.thread) thread.old.open_call }
+    ensures after { thread.new ≡ thread_unless_cancelled (is_cancelled_by (entry_at connections.now) cancel.now thread.old.member.thread) thread.old }
+{
+    match &thread.open_call {
+        Some(call) if is_cancelled(connections, cancel, thread.member.thread, &call.wait) => {
+            thread.open_call.take()
+        }
+        _ => None,
+    }
+}
+
+/// Ends the open call of a thread, if it is cancelled.
+fn cancel_thread(
+    thread: &mut Thread,
+    channels: &mut Channels<Channel>,
+    connections: &Connections,
+    cancel: &CancelSet,
+    errno: Errno,
+) -> Option<Completion>
+    ensures ending { result ≡ cancel_where (is_cancelled_by (entry_at connections.now) cancel.now thread.old.member.thread) errno thread.old.member.thread thread.old.open_call }
+    ensures thread { thread.new ≡ thread_unless_cancelled (is_cancelled_by (entry_at connections.now) cancel.now thread.old.member.thread) thread.old }
+    ensures channels { Lose (is_taken_from (entry_at connections.now) (is_cancelled_by (entry_at connections.now) cancel.now thread.old.member.thread) thread.old.open_call) channels.old channels.new }
+{
+    let call = take_cancelled(thread, connections, cancel)?;
+    take_message(channels, connections, &call);
+    Some(cancel_ending(call, thread.member.thread, errno))
+}
+
+/// Ends the call of a thread: the caller's own so, as it was handed in, and another's if it is cancelled.
+fn end_thread(
+    thread: &mut Thread,
+    channels: &mut Channels<Channel>,
+    connections: &Connections,
+    cancel: &CancelSet,
+    errno: Errno,
+    caller: ThreadNo,
+    own: &mut Option<Completion>,
+) -> Option<Completion>
+    requires idle { (thread.old.member.thread == caller) ≡ true → thread.old.open_call ≡ None }
+    ensures ending { result ≡ (if thread.old.member.thread == caller then own.old else cancel_where (is_cancelled_by (entry_at connections.now) cancel.now thread.old.member.thread) errno thread.old.member.thread thread.old.open_call) }
+    ensures own { own.new ≡ (if thread.old.member.thread == caller then None else own.old) }
+    ensures thread { thread.new ≡ thread_unless_cancelled (is_cancelled_by (entry_at connections.now) cancel.now thread.old.member.thread) thread.old }
+    ensures channels { Lose (is_taken_from (entry_at connections.now) (is_cancelled_by (entry_at connections.now) cancel.now thread.old.member.thread) thread.old.open_call) channels.old channels.new }
+{
+    if thread.member.thread == caller {
+        own.take()
+    } else {
+        cancel_thread(thread, channels, connections, cancel, errno)
+    }
+}
+
+/// Puts an ending, if there is one, behind all others.
+fn push_ending(endings: &mut Endings, ending: Option<Completion>)
+    requires { length endings.old.items < 64 }
+    ensures { endings.new.items ≡ with_ending endings.old.items ending }
+{
+    if let Some(ending) = ending {
+        endings.push(ending);
+    }
+}
+
+/// The thread whose call ends so.
+fn caller_of(own: &Completion) -> ThreadNo
+    ensures { result ≡ own.now.thread }
+{
+    own.thread
+}
+
+/// Ends each call that is cancelled with this error, in rising thread number and the caller's own ending in its
+/// place among them. A message that is cancelled before it is received leaves its channel's queue.
+pub fn cancel_calls(
+    threads: &mut Vec<Thread>,
+    channels: &mut Channels<Channel>,
+    connections: &Connections,
+    cancel: CancelSet,
+    errno: Errno,
+    own: Completion,
+    endings: &mut Endings,
+)
+    requires roster { IsRoster (members_of threads.old.items) }
+    requires few { length threads.old.items ≤ 64 }
+    requires idle { open_in threads.old.items own.thread ≡ None }
+    requires none { endings.old.items ≡ [] }
+    ensures endings { endings.new.items ≡ filter_map (λ u. ending_for (entry_at connections.now) cancel errno own u (open_in threads.old.items u)) (threads_of (members_of threads.old.items)) }
+    ensures threads { AreCancelled (entry_at connections.now) cancel errno threads.old.items threads.new.items }
+    ensures channels { LoseCancelled (entry_at connections.now) cancel errno threads.old.items channels.old channels.new }
+{
+    let caller = caller_of(&own);
+    let mut left = Some(own);
+    for thread in threads.iter_mut() {
+        let ending = end_thread(
+            thread,
+            channels,
+            connections,
+            &cancel,
+            errno,
+            caller,
+            &mut left,
+        );
+        push_ending(endings, ending);
+    }
+}
