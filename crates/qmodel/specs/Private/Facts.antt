@@ -10,6 +10,7 @@ use Rattle.qtables.specs.Members.{member_at}
 use Rattle.qmodel.specs.declared.open_call.OpenCall.{OpenCall}
 use Rattle.qmodel.specs.declared.open_call.Wait.{Wait}
 use Rattle.qmodel.specs.declared.open_call.Wait.TheVariants.{Answer, Item as ForItem}
+use Rattle.qmodel.specs.Trace.{OpenChannel}
 use Rattle.qmodel.specs.Trace.{CallNo, ChannelId, ConnectionId, Priority, ProcessNo, ReceiveId, ThreadNo}
 
 -- the threads, the number of the call that is answered, whether the kernel is shut down, each open channel

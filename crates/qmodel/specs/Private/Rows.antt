@@ -15,6 +15,7 @@ use Rattle.qmodel.specs.declared.open_call.OpenCall.{OpenCall}
 use Rattle.qmodel.specs.declared.open_call.Receipt.{Receipt}
 use Rattle.qmodel.specs.declared.open_call.Wait.{Wait}
 use Rattle.qmodel.specs.declared.open_call.Wait.TheVariants.{Answer, Item as ForItem}
+use Rattle.qmodel.specs.Trace.{SentItem}
 use Rattle.qmodel.specs.Trace.{CallNo, ChannelId, Priority, ProcessNo, ReceiveId, ThreadNo}
 
 -- a receipt: the item's number and channel, the thread that takes it, the thread that waits for its answer,
