@@ -1,7 +1,7 @@
 pub mod Tables
 pub mod Contents
 pub mod Traces
-pub mod Turns
+pub mod Callers
 pub mod Steps
 pub mod Standing
 pub mod Room

@@ -1,3 +1,3 @@
 -- Words of the kernel's inner functions and of the proofs. No public function's contract cites one of them.
 pub mod Steps
-pub mod Turn
+pub mod Caller

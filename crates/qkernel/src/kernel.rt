@@ -6,6 +6,7 @@ ghost use Rattle.qstate.specs.Thread.{open_in, seat_in, blocked_count};
 ghost use Rattle.qstate.specs.Kept.{members_of};
 
 mod blocked;
+mod caller;
 mod channel_create;
 mod channel_destroy;
 mod connect_attach;
@@ -23,11 +24,11 @@ mod reply;
 mod send;
 mod shutdown;
 mod state;
-mod turn;
 mod unblock;
 mod write;
 
 use arrayvec::ArrayVec;
+use caller::Caller;
 use qbase::bytes::Bytes;
 use qbase::errno::Errno;
 use qbase::ids::ThreadNo;
@@ -40,7 +41,6 @@ use qtables::connections::Connections;
 use qtables::roster::Roster;
 use std::alloc::Global;
 use std::marker::Model;
-use turn::Turn;
 
 /// How many calls a kernel makes.
 pub const CALL_LIMIT: u64 = 1 << 40;
@@ -72,7 +72,7 @@ impl Kernel {
     ghost use Rattle.qkernel.specs.Private.Steps.{Steps};
     ghost use Rattle.qkernel.specs.Stands.{StandsAt, AnswersAtTraces, DispatchError, LeavesIfRefused};
     ghost use Rattle.qkernel.specs.Kernel.{IsSound};
-    ghost use Rattle.qkernel.specs.Private.Turn.{IsTurnIn, MayCall, MakesOrRefuses};
+    ghost use Rattle.qkernel.specs.Private.Caller.{IsCallerIn, MayCall, MakesOrRefuses};
 
     /// A kernel without channels, all threads of the roster ready at the priority that they begin with. The
     /// room for thread records and open calls is made here; `NoMemory` is the only error.
@@ -109,15 +109,15 @@ impl Kernel {
         }
     }
 
-    /// The turn of the thread at a seat, after the calls that were made.
-    fn turn_of(&self, seat: usize, thread: ThreadNo) -> Turn
+    /// The thread at a seat as a caller, after the calls that were made.
+    fn caller_at(&self, seat: usize, thread: ThreadNo) -> Caller
         requires limit { self.now.made < 2 ^ 40 }
         requires seat { seat_in self.now.threads thread ≡ Some seat }
         ensures made { result.made ≡ self.now.made }
         ensures thread { result.thread ≡ thread }
-        ensures caller { IsTurnIn self.now.threads result }
+        ensures caller { IsCallerIn self.now.threads result }
     {
-        Turn {
+        Caller {
             made: self.made,
             seat,
             thread,
@@ -127,47 +127,47 @@ impl Kernel {
     }
 
     /// Makes a counted call that nothing refuses whichever call it is, by the call's own method.
-    fn make(&mut self, turn: &Turn, call: Call, endings: &mut Endings) -> Result<(), Errno>
-        requires { MayCall self.old turn.now endings.old.items }
-        ensures { MakesOrRefuses self.old turn.now call result endings.new.items self.new }
+    fn make(&mut self, caller: &Caller, call: Call, endings: &mut Endings) -> Result<(), Errno>
+        requires { MayCall self.old caller.now endings.old.items }
+        ensures { MakesOrRefuses self.old caller.now call result endings.new.items self.new }
     {
         match call {
-            Call::ChannelCreate(flags) => self.channel_create(turn, flags, endings),
-            Call::ConnectAttach(chid) => self.connect_attach(turn, chid, endings),
+            Call::ChannelCreate(flags) => self.channel_create(caller, flags, endings),
+            Call::ConnectAttach(chid) => self.connect_attach(caller, chid, endings),
             Call::Send {
                 coid,
                 message,
                 reply_buffer,
             } => {
-                self.send(turn, coid, message, reply_buffer, endings);
+                self.send(caller, coid, message, reply_buffer, endings);
                 Ok(())
             }
             Call::Receive { chid, buffer } => {
-                self.receive(turn, chid, buffer, endings);
+                self.receive(caller, chid, buffer, endings);
                 Ok(())
             }
             Call::Reply {
                 rcvid,
                 status,
                 bytes,
-            } => self.reply(turn, rcvid, status, bytes.as_slice(), endings),
-            Call::Error { rcvid, code } => self.error(turn, rcvid, code, endings),
+            } => self.reply(caller, rcvid, status, bytes.as_slice(), endings),
+            Call::Error { rcvid, code } => self.error(caller, rcvid, code, endings),
             Call::Read {
                 rcvid,
                 offset,
                 buffer,
             } => {
-                self.read(turn, rcvid, offset, buffer, endings);
+                self.read(caller, rcvid, offset, buffer, endings);
                 Ok(())
             }
             Call::Write {
                 rcvid,
                 offset,
                 bytes,
-            } => self.write(turn, rcvid, offset, bytes.as_slice(), endings),
-            Call::Info(rcvid) => self.info(turn, rcvid, endings),
+            } => self.write(caller, rcvid, offset, bytes.as_slice(), endings),
+            Call::Info(rcvid) => self.info(caller, rcvid, endings),
             Call::ReceivePulse(chid) => {
-                self.receive_pulse(turn, chid, endings);
+                self.receive_pulse(caller, chid, endings);
                 Ok(())
             }
             Call::Pulse {
@@ -175,19 +175,19 @@ impl Kernel {
                 priority,
                 code,
                 value,
-            } => self.pulse(turn, coid, priority, code, value, endings),
+            } => self.pulse(caller, coid, priority, code, value, endings),
             Call::PrioritySet {
                 thread: target,
                 priority,
-            } => self.priority_set(turn, target, priority, endings),
-            Call::State(target) => self.state(turn, target, endings),
-            Call::ChannelDestroy(chid) => self.channel_destroy(turn, chid, endings),
+            } => self.priority_set(caller, target, priority, endings),
+            Call::State(target) => self.state(caller, target, endings),
+            Call::ChannelDestroy(chid) => self.channel_destroy(caller, chid, endings),
             Call::Shutdown => {
-                self.shutdown(turn, endings);
+                self.shutdown(caller, endings);
                 Ok(())
             }
-            Call::Unblock(target) => self.unblock(turn, target, endings),
-            Call::ConnectDetach(coid) => self.connect_detach(turn, coid, endings),
+            Call::Unblock(target) => self.unblock(caller, target, endings),
+            Call::ConnectDetach(coid) => self.connect_detach(caller, coid, endings),
         }
     }
 
@@ -199,14 +199,14 @@ impl Kernel {
         ensures { Steps self.old thread call endings.new.items self.new }
     {
         let refusal = self.refusal(seat, thread);
-        let turn = self.turn_of(seat, thread);
+        let caller = self.caller_at(seat, thread);
         self.made += 1;
         if let Some(errno) = refusal {
             let buffer = call.into_buffer(self.alloc);
             return refuse(endings, self.made, thread, errno, buffer);
         }
-        if let Err(errno) = self.make(&turn, call, endings) {
-            turn.refuse(endings, errno, Bytes::new(self.alloc));
+        if let Err(errno) = self.make(&caller, call, endings) {
+            caller.refuse(endings, errno, Bytes::new(self.alloc));
         }
     }
 

@@ -1,7 +1,7 @@
 //! ChannelCreate.
 
 use super::Kernel;
-use super::turn::Turn;
+use super::caller::Caller;
 use qbase::errno::Errno;
 use qbase::flags::ChannelFlags;
 use qbase::ids::ChannelId;
@@ -11,29 +11,29 @@ use qstate::channel::Channel;
 use qstate::endings::Endings;
 
 impl Kernel {
-    ghost use Rattle.qkernel.specs.Private.Turn.{MayCall, MakesOrRefuses};
+    ghost use Rattle.qkernel.specs.Private.Caller.{MayCall, MakesOrRefuses};
 
     /// Creates a channel of the caller's process. The channel's record is all that takes memory.
     pub(super) fn channel_create(
         &mut self,
-        turn: &Turn,
+        caller: &Caller,
         flags: ChannelFlags,
         endings: &mut Endings,
     ) -> Result<(), Errno>
-        requires { MayCall self.old turn.now endings.old.items }
-        ensures { MakesOrRefuses self.old turn.now (Call.ChannelCreate flags) result endings.new.items self.new }
+        requires { MayCall self.old caller.now endings.old.items }
+        ensures { MakesOrRefuses self.old caller.now (Call.ChannelCreate flags) result endings.new.items self.new }
     {
-        let number = turn.made + 1;
+        let number = caller.made + 1;
         if !flags.is_known() {
             return Err(Errno::Inval);
         }
         let channel = Channel {
-            owner: turn.process,
+            owner: caller.process,
             flags,
             queue: Queue::new(self.alloc),
         };
         match self.channels.create(ChannelId(number), channel) {
-            Ok(()) => turn.end(endings, Mark::Channel(ChannelId(number))),
+            Ok(()) => caller.end(endings, Mark::Channel(ChannelId(number))),
             Err((errno, _)) => return Err(errno),
         }
         Ok(())

@@ -1,7 +1,7 @@
 //! ChannelDestroy.
 
 use super::Kernel;
-use super::turn::Turn;
+use super::caller::Caller;
 use qbase::errno::Errno;
 use qbase::ids::ChannelId;
 use qmodel::call::{Call, Mark};
@@ -10,21 +10,21 @@ use qstate::channel::{close, owns};
 use qstate::endings::Endings;
 
 impl Kernel {
-    ghost use Rattle.qkernel.specs.Private.Turn.{MayCall, MakesOrRefuses};
+    ghost use Rattle.qkernel.specs.Private.Caller.{MayCall, MakesOrRefuses};
 
     /// Destroys a channel of the caller's process, after each call that is blocked on it has ended with
     /// `Srch`. What waits there is gone, and the connections to it stay: our own profile. Never blocks, and
     /// takes no memory.
     pub(super) fn channel_destroy(
         &mut self,
-        turn: &Turn,
+        caller: &Caller,
         chid: ChannelId,
         endings: &mut Endings,
     ) -> Result<(), Errno>
-        requires { MayCall self.old turn.now endings.old.items }
-        ensures { MakesOrRefuses self.old turn.now (Call.ChannelDestroy chid) result endings.new.items self.new }
+        requires { MayCall self.old caller.now endings.old.items }
+        ensures { MakesOrRefuses self.old caller.now (Call.ChannelDestroy chid) result endings.new.items self.new }
     {
-        if !owns(&self.channels, turn.process, chid) {
+        if !owns(&self.channels, caller.process, chid) {
             return Err(Errno::Inval);
         }
         cancel_calls(
@@ -33,7 +33,7 @@ impl Kernel {
             &self.connections,
             CancelSet::On(chid),
             Errno::Srch,
-            turn.ending(Mark::Ok),
+            caller.ending(Mark::Ok),
             endings,
         );
         close(&mut self.channels, chid);

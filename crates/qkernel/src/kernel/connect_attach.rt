@@ -1,7 +1,7 @@
 //! ConnectAttach.
 
 use super::Kernel;
-use super::turn::Turn;
+use super::caller::Caller;
 use qbase::errno::Errno;
 use qbase::ids::{ChannelId, ConnectionId};
 use qmodel::call::{Call, Mark};
@@ -10,28 +10,28 @@ use qstate::endings::Endings;
 use qtables::connection::Connection;
 
 impl Kernel {
-    ghost use Rattle.qkernel.specs.Private.Turn.{MayCall, MakesOrRefuses};
+    ghost use Rattle.qkernel.specs.Private.Caller.{MayCall, MakesOrRefuses};
 
     /// Attaches the caller's process to an open channel. The connection's record is all that takes memory.
     pub(super) fn connect_attach(
         &mut self,
-        turn: &Turn,
+        caller: &Caller,
         chid: ChannelId,
         endings: &mut Endings,
     ) -> Result<(), Errno>
-        requires { MayCall self.old turn.now endings.old.items }
-        ensures { MakesOrRefuses self.old turn.now (Call.ConnectAttach chid) result endings.new.items self.new }
+        requires { MayCall self.old caller.now endings.old.items }
+        ensures { MakesOrRefuses self.old caller.now (Call.ConnectAttach chid) result endings.new.items self.new }
     {
-        let number = turn.made + 1;
+        let number = caller.made + 1;
         if !is_open(&self.channels, chid) {
             return Err(Errno::Srch);
         }
         let connection = Connection {
-            process: turn.process,
+            process: caller.process,
             channel: chid,
         };
         match self.connections.create(ConnectionId(number), connection) {
-            Ok(()) => turn.end(endings, Mark::Connection(ConnectionId(number))),
+            Ok(()) => caller.end(endings, Mark::Connection(ConnectionId(number))),
             Err((errno, _)) => return Err(errno),
         }
         Ok(())

@@ -4,7 +4,7 @@ ghost use Rattle.std.specs.Prelude.{◌≡◌, None, Some, if◌then◌else◌};
 ghost use Rattle.qmodel.specs.Private.Rows.{disconnect_item};
 
 use super::Kernel;
-use super::turn::Turn;
+use super::caller::Caller;
 use qbase::errno::Errno;
 use qbase::ids::{ConnectionId, ProcessNo};
 use qbase::priority::Priority;
@@ -31,26 +31,26 @@ fn pulse_for(last: bool, number: u64, priority: Priority, process: ProcessNo) ->
 }
 
 impl Kernel {
-    ghost use Rattle.qkernel.specs.Private.Turn.{MayCall, MakesOrRefuses};
+    ghost use Rattle.qkernel.specs.Private.Caller.{MayCall, MakesOrRefuses};
 
     /// Detaches a connection of the caller's process, after each Send over it has ended with `Badf`. Where it
     /// was the last one of the process to a channel with the disconnect flag, the channel's server gets a
     /// pulse of the caller's priority. Never blocks, and takes memory for a pulse that waits alone.
     pub(super) fn connect_detach(
         &mut self,
-        turn: &Turn,
+        caller: &Caller,
         coid: ConnectionId,
         endings: &mut Endings,
     ) -> Result<(), Errno>
-        requires { MayCall self.old turn.now endings.old.items }
-        ensures { MakesOrRefuses self.old turn.now (Call.ConnectDetach coid) result endings.new.items self.new }
+        requires { MayCall self.old caller.now endings.old.items }
+        ensures { MakesOrRefuses self.old caller.now (Call.ConnectDetach coid) result endings.new.items self.new }
     {
-        let Some(chid) = own_connection(&self.connections, turn.process, coid) else {
+        let Some(chid) = own_connection(&self.connections, caller.process, coid) else {
             return Err(Errno::Inval);
         };
-        let last = tells_detached(&self.connections, &self.channels, turn.process, chid);
-        let priority = self.priority_of(turn);
-        let due = pulse_for(last, turn.made + 1, priority, turn.process);
+        let last = tells_detached(&self.connections, &self.channels, caller.process, chid);
+        let priority = self.priority_of(caller);
+        let due = pulse_for(last, caller.made + 1, priority, caller.process);
         let met = send_due(&mut self.threads, &mut self.channels, chid, due)?;
         cancel_calls(
             &mut self.threads,
@@ -58,7 +58,7 @@ impl Kernel {
             &self.connections,
             CancelSet::Over(coid),
             Errno::Badf,
-            turn.ending(Mark::Ok),
+            caller.ending(Mark::Ok),
             endings,
         );
         end_also(endings, met);

@@ -10,7 +10,7 @@ ghost use Rattle.qstate.specs.Thread.{open_in, seat_in};
 ghost use Rattle.qstate.specs.Kept.{thread_priority, members_of};
 
 use super::Kernel;
-use super::turn::Turn;
+use super::caller::Caller;
 use qbase::errno::Errno;
 use qbase::ids::{ChannelId, ReceiveId, ThreadNo};
 use qbase::priority::Priority;
@@ -19,39 +19,39 @@ use qstate::thread::{priority_at, seat_in_process};
 
 impl Kernel {
     /// The caller's priority.
-    pub(super) fn priority_of(&self, turn: &Turn) -> Priority
-        requires { seat_in self.now.threads turn.now.thread ≡ Some turn.now.seat }
-        ensures { result ≡ thread_priority self.now.threads turn.now.thread }
+    pub(super) fn priority_of(&self, caller: &Caller) -> Priority
+        requires { seat_in self.now.threads caller.now.thread ≡ Some caller.now.seat }
+        ensures { result ≡ thread_priority self.now.threads caller.now.thread }
     {
-        priority_at(&self.threads, turn.seat, turn.thread)
+        priority_at(&self.threads, caller.seat, caller.thread)
     }
 
     /// Where the thread stands whose message is held under this id on a channel of the caller's process;
     /// `Srch` where there is none.
-    pub(super) fn held_seat(&self, turn: &Turn, rcvid: ReceiveId) -> Result<usize, Errno>
-        ensures held { IfOk result (λ seat. is_held_in self.now.threads self.now.connections self.now.channels turn.now.process rcvid ≡ true) }
+    pub(super) fn held_seat(&self, caller: &Caller, rcvid: ReceiveId) -> Result<usize, Errno>
+        ensures held { IfOk result (λ seat. is_held_in self.now.threads self.now.connections self.now.channels caller.now.process rcvid ≡ true) }
         ensures seat { IfOk result (λ seat. position (λ t. is_send rcvid t.open_call) self.now.threads ≡ Some seat) }
-        ensures none { IfErr result (λ e. is_held_in self.now.threads self.now.connections self.now.channels turn.now.process rcvid ≡ false) }
+        ensures none { IfErr result (λ e. is_held_in self.now.threads self.now.connections self.now.channels caller.now.process rcvid ≡ false) }
         ensures error { IfErr result (λ e. e ≡ Errno.Srch) }
     {
         let seat = held_seat(
             &self.threads,
             &self.connections,
             &self.channels,
-            turn.process,
+            caller.process,
             rcvid,
         );
         seat.ok_or(Errno::Srch)
     }
 
     /// Where a thread of the caller's process stands; `Srch` where it is none.
-    pub(super) fn fellow_seat(&self, turn: &Turn, target: ThreadNo) -> Result<usize, Errno>
+    pub(super) fn fellow_seat(&self, caller: &Caller, target: ThreadNo) -> Result<usize, Errno>
         ensures seat { IfOk result (λ seat. seat_in self.now.threads target ≡ Some seat) }
-        ensures fellow { IfOk result (λ seat. is_in_process turn.now.process (member_at (members_of self.now.threads) target) ≡ true) }
-        ensures none { IfErr result (λ e. is_in_process turn.now.process (member_at (members_of self.now.threads) target) ≡ false) }
+        ensures fellow { IfOk result (λ seat. is_in_process caller.now.process (member_at (members_of self.now.threads) target) ≡ true) }
+        ensures none { IfErr result (λ e. is_in_process caller.now.process (member_at (members_of self.now.threads) target) ≡ false) }
         ensures error { IfErr result (λ e. e ≡ Errno.Srch) }
     {
-        seat_in_process(&self.threads, turn.process, target).ok_or(Errno::Srch)
+        seat_in_process(&self.threads, caller.process, target).ok_or(Errno::Srch)
     }
 
     /// The message that the thread at a seat waits for the answer to and that is held on a channel with the

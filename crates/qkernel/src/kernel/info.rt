@@ -1,7 +1,7 @@
 //! Info.
 
 use super::Kernel;
-use super::turn::Turn;
+use super::caller::Caller;
 use qbase::errno::Errno;
 use qbase::ids::ReceiveId;
 use qmodel::call::{Call, Info, Mark};
@@ -10,7 +10,7 @@ use qstate::thread::sender_seat;
 
 impl Kernel {
     ghost use Rattle.qkernel.specs.Stands.{InfoAtTraces};
-    ghost use Rattle.qkernel.specs.Private.Turn.{MayCall, MakesOrRefuses};
+    ghost use Rattle.qkernel.specs.Private.Caller.{MayCall, MakesOrRefuses};
 
     /// What `Info` tells of a message, without a call: it takes no number, and no thread asks for it. `None`
     /// where no message is held under this id; whose process owns its channel isn't looked at. For who tells
@@ -25,18 +25,18 @@ impl Kernel {
     /// Tells of a held message. Changes nothing, never blocks, and takes no memory.
     pub(super) fn info(
         &mut self,
-        turn: &Turn,
+        caller: &Caller,
         rcvid: ReceiveId,
         endings: &mut Endings,
     ) -> Result<(), Errno>
-        requires { MayCall self.old turn.now endings.old.items }
-        ensures { MakesOrRefuses self.old turn.now (Call.Info rcvid) result endings.new.items self.new }
+        requires { MayCall self.old caller.now endings.old.items }
+        ensures { MakesOrRefuses self.old caller.now (Call.Info rcvid) result endings.new.items self.new }
     {
-        let held = self.held_seat(turn, rcvid)?;
+        let held = self.held_seat(caller, rcvid)?;
         let Some(info) = self.threads[held].info() else {
             unreachable!();
         };
-        turn.end(endings, Mark::Info(info));
+        caller.end(endings, Mark::Info(info));
         Ok(())
     }
 }

@@ -7,7 +7,7 @@ ghost use Rattle.qstate.specs.Kept.{members_of};
 ghost use Rattle.qkernel.specs.LentCall.{call_lent};
 
 use super::Kernel;
-use super::turn::Turn;
+use super::caller::Caller;
 use crate::lent_call::LentCall;
 use qbase::bytes::Bytes;
 use qbase::errno::Errno;
@@ -18,29 +18,29 @@ use qstate::thread::seat_of;
 impl Kernel {
     ghost use Rattle.qkernel.specs.Private.Steps.{Steps};
     ghost use Rattle.qkernel.specs.Stands.{AnswersAtTraces, LeavesIfRefused};
-    ghost use Rattle.qkernel.specs.Private.Turn.{MayCall, MakesOrRefuses};
+    ghost use Rattle.qkernel.specs.Private.Caller.{MayCall, MakesOrRefuses};
 
     /// Makes a counted call that nothing refuses whichever call it is, by the call's own method.
     fn make_lent(
         &mut self,
-        turn: &Turn,
+        caller: &Caller,
         call: &LentCall,
         endings: &mut Endings,
     ) -> Result<(), Errno>
-        requires { MayCall self.old turn.now endings.old.items }
-        ensures { MakesOrRefuses self.old turn.now (call_lent call.now) result endings.new.items self.new }
+        requires { MayCall self.old caller.now endings.old.items }
+        ensures { MakesOrRefuses self.old caller.now (call_lent call.now) result endings.new.items self.new }
     {
         match call {
             LentCall::Reply {
                 rcvid,
                 status,
                 bytes,
-            } => self.reply(turn, *rcvid, *status, bytes, endings),
+            } => self.reply(caller, *rcvid, *status, bytes, endings),
             LentCall::Write {
                 rcvid,
                 offset,
                 bytes,
-            } => self.write(turn, *rcvid, *offset, bytes, endings),
+            } => self.write(caller, *rcvid, *offset, bytes, endings),
         }
     }
 
@@ -58,13 +58,13 @@ impl Kernel {
         ensures { Steps self.old thread (call_lent call.now) endings.new.items self.new }
     {
         let refusal = self.refusal(seat, thread);
-        let turn = self.turn_of(seat, thread);
+        let caller = self.caller_at(seat, thread);
         self.made += 1;
         if let Some(errno) = refusal {
-            return turn.refuse(endings, errno, Bytes::new(self.alloc));
+            return caller.refuse(endings, errno, Bytes::new(self.alloc));
         }
-        if let Err(errno) = self.make_lent(&turn, call, endings) {
-            turn.refuse(endings, errno, Bytes::new(self.alloc));
+        if let Err(errno) = self.make_lent(&caller, call, endings) {
+            caller.refuse(endings, errno, Bytes::new(self.alloc));
         }
     }
 

@@ -1,7 +1,7 @@
 //! PrioritySet.
 
 use super::Kernel;
-use super::turn::Turn;
+use super::caller::Caller;
 use qbase::errno::Errno;
 use qbase::ids::ThreadNo;
 use qbase::priority::Priority;
@@ -11,21 +11,21 @@ use qstate::thread::set_priority;
 use qstate::unread::requeue_unread;
 
 impl Kernel {
-    ghost use Rattle.qkernel.specs.Private.Turn.{MayCall, MakesOrRefuses};
+    ghost use Rattle.qkernel.specs.Private.Caller.{MayCall, MakesOrRefuses};
 
     /// Gives a thread of the caller's process another priority, and with it the message that it is SEND-blocked
     /// with. Never blocks, and takes no memory.
     pub(super) fn priority_set(
         &mut self,
-        turn: &Turn,
+        caller: &Caller,
         target: ThreadNo,
         priority: Priority,
         endings: &mut Endings,
     ) -> Result<(), Errno>
-        requires { MayCall self.old turn.now endings.old.items }
-        ensures { MakesOrRefuses self.old turn.now (Call.PrioritySet target priority) result endings.new.items self.new }
+        requires { MayCall self.old caller.now endings.old.items }
+        ensures { MakesOrRefuses self.old caller.now (Call.PrioritySet target priority) result endings.new.items self.new }
     {
-        let there = self.fellow_seat(turn, target)?;
+        let there = self.fellow_seat(caller, target)?;
         requeue_unread(
             &self.threads,
             &self.connections,
@@ -35,7 +35,7 @@ impl Kernel {
             priority,
         );
         set_priority(&mut self.threads, there, target, Some(priority));
-        turn.end(endings, Mark::Ok);
+        caller.end(endings, Mark::Ok);
         Ok(())
     }
 }

@@ -1,34 +1,34 @@
 //! Read.
 
 use super::Kernel;
-use super::turn::Turn;
+use super::caller::Caller;
 use qbase::bytes::Bytes;
 use qbase::ids::ReceiveId;
 use qmodel::call::{Call, Mark};
 use qstate::endings::Endings;
 
 impl Kernel {
-    ghost use Rattle.qkernel.specs.Private.Turn.{MayCall, Makes};
+    ghost use Rattle.qkernel.specs.Private.Caller.{MayCall, Makes};
 
     /// Copies from a held message to the front of the buffer; an offset at or past its end copies nothing.
     /// Changes nothing, never blocks, and takes no memory.
     pub(super) fn read(
         &mut self,
-        turn: &Turn,
+        caller: &Caller,
         rcvid: ReceiveId,
         offset: usize,
         buffer: Bytes,
         endings: &mut Endings,
     )
-        requires { MayCall self.old turn.now endings.old.items }
-        ensures { Makes self.old turn.now (Call.Read rcvid offset buffer) endings.new.items self.new }
+        requires { MayCall self.old caller.now endings.old.items }
+        ensures { Makes self.old caller.now (Call.Read rcvid offset buffer) endings.new.items self.new }
     {
-        let held = match self.held_seat(turn, rcvid) {
+        let held = match self.held_seat(caller, rcvid) {
             Ok(held) => held,
-            Err(errno) => return turn.refuse(endings, errno, buffer),
+            Err(errno) => return caller.refuse(endings, errno, buffer),
         };
         let mut buffer = buffer;
         let copied = buffer.take(self.threads[held].message(), offset);
-        turn.give_back(endings, Mark::Count(copied), buffer);
+        caller.give_back(endings, Mark::Count(copied), buffer);
     }
 }

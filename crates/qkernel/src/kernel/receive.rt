@@ -4,7 +4,7 @@ ghost use Rattle.std.specs.Prelude.{◌≡◌, []};
 ghost use Rattle.qmodel.specs.Private.Receiving.{receive_of};
 
 use super::Kernel;
-use super::turn::Turn;
+use super::caller::Caller;
 use qbase::bytes::Bytes;
 use qbase::errno::Errno;
 use qbase::ids::ChannelId;
@@ -16,48 +16,48 @@ use qstate::endings::Endings;
 use qstate::thread::{hand_item, set_priority};
 
 impl Kernel {
-    ghost use Rattle.qkernel.specs.Private.Turn.{MayCall, Makes};
+    ghost use Rattle.qkernel.specs.Private.Caller.{MayCall, Makes};
 
     /// Takes the best message or pulse of a channel, or blocks until one comes; takes no memory.
     pub(super) fn receive(
         &mut self,
-        turn: &Turn,
+        caller: &Caller,
         chid: ChannelId,
         buffer: Bytes,
         endings: &mut Endings,
     )
-        requires may { MayCall self.old turn.now endings.old.items }
-        ensures { Makes self.old turn.now (Call.Receive chid buffer) endings.new.items self.new }
+        requires may { MayCall self.old caller.now endings.old.items }
+        ensures { Makes self.old caller.now (Call.Receive chid buffer) endings.new.items self.new }
     {
-        self.receive_kind(turn, chid, Kind::Any, buffer, endings);
+        self.receive_kind(caller, chid, Kind::Any, buffer, endings);
     }
 
     /// Takes the best item that a kind may take, or blocks until one comes; takes no memory.
     pub(super) fn receive_kind(
         &mut self,
-        turn: &Turn,
+        caller: &Caller,
         chid: ChannelId,
         kind: Kind,
         buffer: Bytes,
         endings: &mut Endings,
     )
-        requires may { MayCall self.old turn.now endings.old.items }
+        requires may { MayCall self.old caller.now endings.old.items }
         requires buffer { kind ≡ Kind.PulseOnly → buffer ≡ [] }
-        ensures { Makes self.old turn.now (receive_of kind chid buffer) endings.new.items self.new }
+        ensures { Makes self.old caller.now (receive_of kind chid buffer) endings.new.items self.new }
     {
-        if !owns(&self.channels, turn.process, chid) {
-            return turn.refuse(endings, Errno::Srch, buffer);
+        if !owns(&self.channels, caller.process, chid) {
+            return caller.refuse(endings, Errno::Srch, buffer);
         }
         match take_best(&mut self.channels, chid, kind) {
             None => {
-                turn.block(&mut self.threads, Wait::Item { chid, kind, buffer });
+                caller.block(&mut self.threads, Wait::Item { chid, kind, buffer });
             }
             Some(item) => {
                 let mut buffer = buffer;
                 let priority = carried_priority(&self.channels, chid, item.priority);
                 let mark = hand_item(&mut self.threads, item, &mut buffer);
-                set_priority(&mut self.threads, turn.seat, turn.thread, priority);
-                turn.give_back(endings, mark, buffer);
+                set_priority(&mut self.threads, caller.seat, caller.thread, priority);
+                caller.give_back(endings, mark, buffer);
             }
         }
     }

@@ -5,7 +5,7 @@ ghost use Rattle.qmodel.specs.Private.Calls.Reply.{reply_finish};
 ghost use Rattle.qmodel.specs.Private.Held.{answer_ending};
 
 use super::Kernel;
-use super::turn::Turn;
+use super::caller::Caller;
 use qbase::errno::Errno;
 use qbase::ids::{ReceiveId, ThreadNo};
 use qmodel::call::{Call, Completion, Mark};
@@ -39,26 +39,26 @@ fn replied_to(
 }
 
 impl Kernel {
-    ghost use Rattle.qkernel.specs.Private.Turn.{MayCall, MakesOrRefuses};
+    ghost use Rattle.qkernel.specs.Private.Caller.{MayCall, MakesOrRefuses};
 
     /// Answers a held message: its sender's call ends. Never blocks, and takes no memory.
     pub(super) fn reply(
         &mut self,
-        turn: &Turn,
+        caller: &Caller,
         rcvid: ReceiveId,
         status: i64,
         bytes: &[u8],
         endings: &mut Endings,
     ) -> Result<(), Errno>
-        requires { MayCall self.old turn.now endings.old.items }
-        ensures { MakesOrRefuses self.old turn.now (Call.Reply rcvid status bytes.now) result endings.new.items self.new }
+        requires { MayCall self.old caller.now endings.old.items }
+        ensures { MakesOrRefuses self.old caller.now (Call.Reply rcvid status bytes.now) result endings.new.items self.new }
     {
-        let held = self.held_seat(turn, rcvid)?;
+        let held = self.held_seat(caller, rcvid)?;
         let (client, call) = take_sent(&mut self.threads, held, rcvid.0);
         let Some(ended) = replied_to(call, client, status, bytes) else {
             unreachable!();
         };
-        turn.end_both(endings, ended);
+        caller.end_both(endings, ended);
         Ok(())
     }
 }

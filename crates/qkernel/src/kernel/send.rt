@@ -6,7 +6,7 @@ ghost use Rattle.qmodel.specs.Private.Rows.{takes, item_in_mark};
 ghost use Rattle.qstate.specs.Thread.{open_in, Wakes};
 
 use super::Kernel;
-use super::turn::Turn;
+use super::caller::Caller;
 use qbase::bytes::Bytes;
 use qbase::errno::Errno;
 use qbase::ids::{ConnectionId, ReceiveId, ThreadNo};
@@ -18,13 +18,13 @@ use qstate::channel::{carried_priority, enqueue, route};
 use qstate::endings::{Endings, end_one};
 use qstate::thread::{Thread, newest_receiver, wake};
 
-/// The message that a turn sends, whose number is the turn's.
-fn message_item(turn: &Turn, priority: Priority) -> Item
-    requires { turn.now.made < 2 ^ 40 }
-    ensures { result ≡ record { number = turn.now.made + 1; priority = priority; what = What.Message } }
+/// The message that the caller sends, whose number is its call's.
+fn message_item(caller: &Caller, priority: Priority) -> Item
+    requires { caller.now.made < 2 ^ 40 }
+    ensures { result ≡ record { number = caller.now.made + 1; priority = priority; what = What.Message } }
 {
     Item {
-        number: turn.made + 1,
+        number: caller.made + 1,
         priority,
         what: What::Message,
     }
@@ -94,29 +94,29 @@ fn deliver(
 }
 
 impl Kernel {
-    ghost use Rattle.qkernel.specs.Private.Turn.{MayCall, Makes};
+    ghost use Rattle.qkernel.specs.Private.Caller.{MayCall, Makes};
 
     /// Sends a message: to the receiver that began to wait last, or into the channel's queue, whose room is
     /// all that takes memory. The caller stays blocked until it is answered.
     pub(super) fn send(
         &mut self,
-        turn: &Turn,
+        caller: &Caller,
         coid: ConnectionId,
         message: Bytes,
         reply_buffer: Bytes,
         endings: &mut Endings,
     )
-        requires { MayCall self.old turn.now endings.old.items }
-        ensures { Makes self.old turn.now (Call.Send coid message reply_buffer) endings.new.items self.new }
+        requires { MayCall self.old caller.now endings.old.items }
+        ensures { Makes self.old caller.now (Call.Send coid message reply_buffer) endings.new.items self.new }
     {
-        let Some(chid) = route(&self.connections, &self.channels, turn.process, coid) else {
-            return turn.refuse(endings, Errno::Badf, reply_buffer);
+        let Some(chid) = route(&self.connections, &self.channels, caller.process, coid) else {
+            return caller.refuse(endings, Errno::Badf, reply_buffer);
         };
-        let item = message_item(turn, self.priority_of(turn));
+        let item = message_item(caller, self.priority_of(caller));
         let receipt = match newest_receiver(&self.threads, chid, &item) {
             None => {
                 if let Err(errno) = enqueue(&mut self.channels, chid, item) {
-                    return turn.refuse(endings, errno, reply_buffer);
+                    return caller.refuse(endings, errno, reply_buffer);
                 }
                 None
             }
@@ -139,6 +139,6 @@ impl Kernel {
             reply_buffer,
             receipt,
         };
-        turn.block(&mut self.threads, wait);
+        caller.block(&mut self.threads, wait);
     }
 }

@@ -1,7 +1,7 @@
 //! State.
 
 use super::Kernel;
-use super::turn::Turn;
+use super::caller::Caller;
 use qbase::errno::Errno;
 use qbase::ids::ThreadNo;
 use qmodel::call::{Call, Mark};
@@ -10,17 +10,17 @@ use qstate::thread::{priority_at, seat_of};
 use qstate::thread_state::state_at;
 
 impl Kernel {
-    ghost use Rattle.qkernel.specs.Private.Turn.{MayCall, MakesOrRefuses};
+    ghost use Rattle.qkernel.specs.Private.Caller.{MayCall, MakesOrRefuses};
 
     /// Tells the state and the priority of any thread. Changes nothing, never blocks, and takes no memory.
     pub(super) fn state(
         &mut self,
-        turn: &Turn,
+        caller: &Caller,
         target: ThreadNo,
         endings: &mut Endings,
     ) -> Result<(), Errno>
-        requires { MayCall self.old turn.now endings.old.items }
-        ensures { MakesOrRefuses self.old turn.now (Call.State target) result endings.new.items self.new }
+        requires { MayCall self.old caller.now endings.old.items }
+        ensures { MakesOrRefuses self.old caller.now (Call.State target) result endings.new.items self.new }
     {
         let Some(there) = seat_of(&self.threads, target) else {
             return Err(Errno::Srch);
@@ -29,7 +29,7 @@ impl Kernel {
             state: state_at(&self.connections, &self.threads, there, target),
             priority: priority_at(&self.threads, there, target),
         };
-        turn.end(endings, mark);
+        caller.end(endings, mark);
         Ok(())
     }
 }

@@ -4,7 +4,7 @@ ghost use Rattle.std.specs.Prelude.{◌≡◌};
 ghost use Rattle.qmodel.specs.Private.Rows.{unblock_item};
 
 use super::Kernel;
-use super::turn::Turn;
+use super::caller::Caller;
 use qbase::errno::Errno;
 use qbase::ids::ThreadNo;
 use qmodel::call::{Call, Mark};
@@ -26,7 +26,7 @@ fn pulse_for(number: u64, held: &Held) -> Item
 }
 
 impl Kernel {
-    ghost use Rattle.qkernel.specs.Private.Turn.{MayCall, MakesOrRefuses};
+    ghost use Rattle.qkernel.specs.Private.Caller.{MayCall, MakesOrRefuses};
 
     /// Ends what a thread of the caller's process is blocked in, with `Intr`; but a message that is held on a
     /// channel with the unblock flag stays, and its server gets a pulse, once. Of a thread that isn't blocked
@@ -34,14 +34,14 @@ impl Kernel {
     /// for a pulse that waits alone.
     pub(super) fn unblock(
         &mut self,
-        turn: &Turn,
+        caller: &Caller,
         target: ThreadNo,
         endings: &mut Endings,
     ) -> Result<(), Errno>
-        requires { MayCall self.old turn.now endings.old.items }
-        ensures { MakesOrRefuses self.old turn.now (Call.Unblock target) result endings.new.items self.new }
+        requires { MayCall self.old caller.now endings.old.items }
+        ensures { MakesOrRefuses self.old caller.now (Call.Unblock target) result endings.new.items self.new }
     {
-        let there = self.fellow_seat(turn, target)?;
+        let there = self.fellow_seat(caller, target)?;
         let Some(guarded) = self.guarded_message(there, target) else {
             cancel_calls(
                 &mut self.threads,
@@ -49,20 +49,20 @@ impl Kernel {
                 &self.connections,
                 CancelSet::Of(target),
                 Errno::Intr,
-                turn.ending(Mark::Ok),
+                caller.ending(Mark::Ok),
                 endings,
             );
             return Ok(());
         };
         let (held, chid) = guarded;
         if held.receipt.unblocked {
-            turn.end(endings, Mark::Ok);
+            caller.end(endings, Mark::Ok);
             return Ok(());
         }
-        let pulse = pulse_for(turn.made + 1, &held);
+        let pulse = pulse_for(caller.made + 1, &held);
         let met = send_pulse(&mut self.threads, &mut self.channels, chid, pulse)?;
         mark_unblocked(&mut self.threads, there, target);
-        turn.end_with(endings, met);
+        caller.end_with(endings, met);
         Ok(())
     }
 }

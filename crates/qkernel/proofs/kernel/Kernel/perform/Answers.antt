@@ -1,27 +1,27 @@
 use Rattle.std.proofs.Common.{◌+◌, ap, sym, ◌∙◌}
-use Rattle.qkernel.proofs.Turns.{unrefused}
+use Rattle.qkernel.proofs.Callers.{unrefused}
 use Rattle.qkernel.proofs.kernel.Kernel.perform.Goals as goal
 use Rattle.qkernel.proofs.kernel.Kernel.perform.Goals.{in-Err, in_default-make}
 
 pub make-requires : goal.make-requires
 make-requires c =
-    let turn = rw (← c.self.view_is) at c.turn_of-turn.ensures in
+    let caller = rw (← c.self.view_is) at c.caller_at-caller.ensures in
     let free = unrefused _ _ (rw (← c.self.view_is) at (sym c.refusal-refusal.ensures ∙ c.in_default.is)) in
     record {
-      counted = ap (λ n. n + 1) (sym turn.made);
-      sound = rw (turn.made) c.self.invariant;
-      caller = turn.caller;
+      counted = ap (λ n. n + 1) (sym caller.made);
+      sound = rw (caller.made) c.self.invariant;
+      caller = caller.caller;
       up = free.up;
-      free = rw (turn.thread) free.free;
+      free = rw (caller.thread) free.free;
       none = c.requires.none;
     }
 
 pub returns : goal.returns
 returns c =
-    let turn = rw (← c.self.view_is) at c.turn_of-turn.ensures in
+    let caller = rw (← c.self.view_is) at c.caller_at-caller.ensures in
     elim c.match-make.branch [
       | in-Err w ↦
-          let ended = rw (w.new.ensures, turn.made, turn.thread) at w.refuse-in-Err.ensures in
-          rw (w.endings-is, ended, ← c.self.view_is) (rw (turn.made, turn.thread) at w.in-Err.ensures.1)
-      | in_default-make w ↦ rw (w.endings-is, ← c.self.view_is) (rw (turn.made, turn.thread) at w.in_default-make.ensures)
+          let ended = rw (w.new.ensures, caller.made, caller.thread) at w.refuse-in-Err.ensures in
+          rw (w.endings-is, ended, ← c.self.view_is) (rw (caller.made, caller.thread) at w.in-Err.ensures.1)
+      | in_default-make w ↦ rw (w.endings-is, ← c.self.view_is) (rw (caller.made, caller.thread) at w.in_default-make.ensures)
     ]

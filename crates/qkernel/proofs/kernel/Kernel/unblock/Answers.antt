@@ -25,7 +25,7 @@ returns-in_default c =
     let may = rw (← c.self.view_is) at c.requires in
     let fellow = rw (← c.self.view_is) at c.in_ok-there.ensures.fellow in
     let none = rw (← c.self.view_is) at (sym c.guarded_message.ensures ∙ c.in_default.is) in
-    rw (← c.self.view_is, may.counted) (step_unblock_cancelled _ c.args.turn.now.thread c.args.target _ may.sound may.caller.known may.up may.free fellow none _ _ _ c.cancel_calls.ensures.threads c.cancel_calls.ensures.channels
+    rw (← c.self.view_is, may.counted) (step_unblock_cancelled _ c.args.caller.now.thread c.args.target _ may.sound may.caller.known may.up may.free fellow none _ _ _ c.cancel_calls.ensures.threads c.cancel_calls.ensures.channels
     (rw c.ending.ensures at c.cancel_calls.ensures.endings))
 
 -- ---- its message had its pulse
@@ -35,38 +35,38 @@ returns-then-held c =
     let may = rw (← c.self.view_is) at c.requires in
     let fellow = rw (← c.self.view_is) at c.in_ok-there.ensures.fellow in
     let guards = rw (← c.self.view_is) at (sym c.guarded_message.ensures ∙ c.in-Some.is) in
-    rw (← c.self.view_is, may.counted) (step_unblock_again _ c.args.turn.now.thread c.args.target _ may.sound may.caller.known may.up may.free fellow c.in-Some.guarded guards c.if-held.true _ c.end.ensures)
+    rw (← c.self.view_is, may.counted) (step_unblock_again _ c.args.caller.now.thread c.args.target _ may.sound may.caller.known may.up may.free fellow c.in-Some.guarded guards c.if-held.true _ c.end.ensures)
 
 -- ---- its server is told
 
 pub send_pulse-requires-clause-pulse : goal.send_pulse-requires-clause-pulse
-send_pulse-requires-clause-pulse c = (new_pulse (c.args.turn.now.made + 1) _ _ _ c.pulse_for-pulse.ensures).1
+send_pulse-requires-clause-pulse c = (new_pulse (c.args.caller.now.made + 1) _ _ _ c.pulse_for-pulse.ensures).1
 
 pub send_pulse-requires-clause-newest : goal.send_pulse-requires-clause-newest
 send_pulse-requires-clause-newest c =
     let may = rw (← c.self.view_is) at c.requires in
-    let new = new_pulse (c.args.turn.now.made + 1) _ _ c.pulse_for-pulse.result c.pulse_for-pulse.ensures in
-    newest_due (c.args.turn.now.made + 1) (Some c.pulse_for-pulse.result) _ new (up_to_below (λ x. x.number) c.args.turn.now.made _ (may.sound.items c.in-Some.guarded.1))
+    let new = new_pulse (c.args.caller.now.made + 1) _ _ c.pulse_for-pulse.result c.pulse_for-pulse.ensures in
+    newest_due (c.args.caller.now.made + 1) (Some c.pulse_for-pulse.result) _ new (up_to_below (λ x. x.number) c.args.caller.now.made _ (may.sound.items c.in-Some.guarded.1))
 
 pub mark_unblocked-requires : goal.mark_unblocked-requires
 mark_unblocked-requires c =
     let may = rw (← c.self.view_is) at c.requires in
     let there = rw (← c.self.view_is) at c.in_ok-there.ensures.seat in
     let free = rw (← c.self.view_is) at c.requires.free in
-    let new = new_pulse (c.args.turn.now.made + 1) _ _ c.pulse_for-pulse.result c.pulse_for-pulse.ensures in
-    let told = is_told _ c.args.turn.now.thread c.in-Some.guarded.1 (Some c.pulse_for-pulse.result) _ _ c.in_ok-met.met may.sound free new c.in_ok-met.ensures.ok in
+    let new = new_pulse (c.args.caller.now.made + 1) _ _ c.pulse_for-pulse.result c.pulse_for-pulse.ensures in
+    let told = is_told _ c.args.caller.now.thread c.in-Some.guarded.1 (Some c.pulse_for-pulse.result) _ _ c.in_ok-met.met may.sound free new c.in_ok-met.ensures.ok in
     seat_kept c.args.target _ _ told.members ∙ there
 
 pub invariant_of-self-2 : goal.invariant_of-self-2
 invariant_of-self-2 c =
     let may = rw (← c.self.view_is) at c.requires in
-    let new = new_pulse (c.args.turn.now.made + 1) _ _ c.pulse_for-pulse.result c.pulse_for-pulse.ensures in
+    let new = new_pulse (c.args.caller.now.made + 1) _ _ c.pulse_for-pulse.result c.pulse_for-pulse.ensures in
     rw (may.counted) (sound_kept _ _ c.mark_unblocked.ensures.members (sound_due _ c.in-Some.guarded.1 (Some c.pulse_for-pulse.result) _ _ c.in_ok-met.met may.sound new c.in_ok-met.ensures.ok))
 
 pub invariant_of-self-in_err-met : goal.invariant_of-self-in_err-met
 invariant_of-self-in_err-met c =
     let may = rw (← c.self.view_is) at c.requires in
-    rw (may.counted) (sound_turned_away _ c.args.turn.now.thread (Unblock c.args.target) c.in-Some.guarded.1 c.pulse_for-pulse.result c.in_err-met.field-0.0 _ _ c.in_err-met.ensures.err may.sound)
+    rw (may.counted) (sound_turned_away _ c.args.caller.now.thread (Unblock c.args.target) c.in-Some.guarded.1 c.pulse_for-pulse.result c.in_err-met.field-0.0 _ _ c.in_err-met.ensures.err may.sound)
 
 pub returns : goal.returns
 returns c =
@@ -75,10 +75,10 @@ returns c =
     let guards = rw (← c.self.view_is) at (sym c.guarded_message.ensures ∙ c.in-Some.is) in
     let g = c.in-Some.guarded in
     let pulse = c.pulse_for-pulse.result in
-    let new = new_pulse (c.args.turn.now.made + 1) _ _ pulse c.pulse_for-pulse.ensures in
-    let told = is_told _ c.args.turn.now.thread g.1 (Some pulse) _ _ c.in_ok-met.met may.sound may.free new c.in_ok-met.ensures.ok in
-    rw (← c.self.view_is, may.counted) (step_told _ c.args.turn.now.thread (Unblock c.args.target) _ (made_for g.1 (Some pulse)) may.sound may.caller.known may.free
-    (tells_unblock _ c.args.turn.now.thread c.args.target _ may.sound may.caller.known may.up may.free fellow g guards c.if-held.false pulse c.pulse_for-pulse.ensures told.room) _ _ c.in_ok-met.met told _ _
+    let new = new_pulse (c.args.caller.now.made + 1) _ _ pulse c.pulse_for-pulse.ensures in
+    let told = is_told _ c.args.caller.now.thread g.1 (Some pulse) _ _ c.in_ok-met.met may.sound may.free new c.in_ok-met.ensures.ok in
+    rw (← c.self.view_is, may.counted) (step_told _ c.args.caller.now.thread (Unblock c.args.target) _ (made_for g.1 (Some pulse)) may.sound may.caller.known may.free
+    (tells_unblock _ c.args.caller.now.thread c.args.target _ may.sound may.caller.known may.up may.free fellow g guards c.if-held.false pulse c.pulse_for-pulse.ensures told.room) _ _ c.in_ok-met.met told _ _
     (are_marked c.args.target (record { item = pulse; channel = g.1 }) _ _ c.mark_unblocked.ensures) c.end_with.ensures)
 
 pub returns-in_err-met : goal.returns-in_err-met
@@ -91,7 +91,7 @@ returns-in_err-met c =
     let p = err_from_is_err_and c.from_residual-in_err-met.result c.from_residual-in_err-met.ensures.1 in
     rw (p.1, p.2) (
       c.requires.none,
-      rw (← c.self.view_is, may.counted) (step_turned_away _ c.args.turn.now.thread (Unblock c.args.target) g.1 pulse c.in_err-met.field-0.0 _ _ c.in_err-met.ensures.err _
-          (unblock_full _ c.args.turn.now.thread c.args.target _ may.sound may.caller.known may.up may.free fellow g guards c.if-held.false pulse c.pulse_for-pulse.ensures)
-          (unblock_memory _ c.args.turn.now.thread c.args.target _ may.sound may.caller.known may.up may.free fellow g guards c.if-held.false pulse c.pulse_for-pulse.ensures) refl),
+      rw (← c.self.view_is, may.counted) (step_turned_away _ c.args.caller.now.thread (Unblock c.args.target) g.1 pulse c.in_err-met.field-0.0 _ _ c.in_err-met.ensures.err _
+          (unblock_full _ c.args.caller.now.thread c.args.target _ may.sound may.caller.known may.up may.free fellow g guards c.if-held.false pulse c.pulse_for-pulse.ensures)
+          (unblock_memory _ c.args.caller.now.thread c.args.target _ may.sound may.caller.known may.up may.free fellow g guards c.if-held.false pulse c.pulse_for-pulse.ensures) refl),
     )

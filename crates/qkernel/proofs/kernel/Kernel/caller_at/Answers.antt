@@ -1,5 +1,5 @@
-use Rattle.qkernel.proofs.Turns.{caller_known}
-use Rattle.qkernel.proofs.kernel.Kernel.turn_of.Goals as goal
+use Rattle.qkernel.proofs.Callers.{caller_known}
+use Rattle.qkernel.proofs.kernel.Kernel.caller_at.Goals as goal
 
 pub returns-clause-caller : goal.returns-clause-caller
 returns-clause-caller c = record {

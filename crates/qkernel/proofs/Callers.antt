@@ -1,4 +1,4 @@
--- A call's turn: whose it is, and that nothing refuses it.
+-- The caller: who it is, and that nothing refuses its call.
 use Rattle.std.proofs.Common.{◌≡◌, ℕ, List, [], ◌∷◌, refl, ap, sym, ◌∙◌, cond, Bool, true, false, eqb}
 use Rattle.std.specs.Prelude.{Option, None, Some, is_some}
 use Rattle.std.proofs.lemmas.Bool.{eqb-true}
@@ -7,11 +7,11 @@ use Rattle.qbase.specs.declared.errno.Errno.TheVariants.{Busy, Down}
 use Rattle.qtables.specs.Members.{member_at}
 use Rattle.qtables.specs.declared.member.Member.{Member}
 use Rattle.qmodel.specs.declared.open_call.OpenCall.{OpenCall}
-use Rattle.qkernel.specs.declared.kernel.turn.Turn.{Turn}
+use Rattle.qkernel.specs.declared.kernel.caller.Caller.{Caller}
 
 -- the caller's entry of the roster
-abbrev pub caller_of : Turn → ℕ → Member
-caller_of turn began = record { thread = turn.thread; process = turn.process; priority = began }
+abbrev pub caller_of : Caller → ℕ → Member
+caller_of caller began = record { thread = caller.thread; process = caller.process; priority = began }
 
 -- a member is found under its number
 named : (t : ℕ) (ms : List Member) (m : Member) → member_at ms t ≡ Some m → m.thread ≡ t

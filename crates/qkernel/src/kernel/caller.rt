@@ -1,4 +1,4 @@
-//! Whose turn it is, and how its call ends.
+//! Who makes a call, and how the call ends.
 
 ghost use Rattle.std.specs.Prelude.{◌≡◌, ◌+◌, ◌<◌, ◌^◌, [], ◌∷◌, Some};
 ghost use Rattle.qstate.specs.Endings.{with_ending_in_place, with_ending_if};
@@ -13,23 +13,23 @@ use qstate::endings::{Endings, end_one, end_own, end_two, end_with, own_ending};
 use qstate::thread::{Thread, block};
 use std::alloc::Global;
 
-/// A call's turn: who makes it, after how many calls. The call's number is one more.
+/// The caller, and how many calls were made before its call, whose number is one more.
 #[derive(Clone, Copy, Debug)]
-pub(crate) struct Turn {
+pub(crate) struct Caller {
     /// How many calls were made before it.
     pub(crate) made: u64,
-    /// Where the caller stands.
+    /// Where it stands.
     pub(crate) seat: usize,
-    /// The caller.
+    /// Its thread.
     pub(crate) thread: ThreadNo,
-    /// The caller's process.
+    /// Its process.
     pub(crate) process: ProcessNo,
     /// The allocator, for a buffer of no bytes.
     pub(crate) alloc: Global,
     ghost few: { made < 2 ^ 40 },
 }
 
-impl Turn {
+impl Caller {
     /// How the caller's call ends that gives no buffer back.
     pub(crate) fn ending(&self, mark: Mark) -> Completion
         ensures { result ≡ record { call = self.now.made + 1; thread = self.now.thread; mark = mark; buffer = [] } }

@@ -1,0 +1,55 @@
+-- The caller, and what its call's own method makes of the kernel.
+use Rattle.std.specs.Prelude.{◌≡◌, ℕ, ◌+◌, false, List, [], ◌∷◌, None, Some, Result, Ok, Err}
+use Rattle.qbase.specs.declared.errno.Errno.{Errno}
+use Rattle.qtables.specs.Members.{member_at}
+use Rattle.qmodel.specs.declared.call.Call.{Call}
+use Rattle.qmodel.specs.declared.call.Completion.{Completion}
+use Rattle.qmodel.specs.declared.call.Mark.TheVariants as mark
+use Rattle.qstate.specs.Thread.{open_in, seat_in}
+use Rattle.qstate.specs.Kept.{members_of}
+use Rattle.qstate.specs.declared.thread.Thread.{Thread}
+use Rattle.qkernel.specs.Kernel.{State, IsSound}
+use Rattle.qkernel.specs.Private.Steps.{Steps}
+use Rattle.qkernel.specs.declared.kernel.caller.Caller.{Caller}
+
+-- the kernel's content before the call of this caller was counted
+abbrev pub state_before : Caller → State → State
+state_before caller s = record {
+  made = caller.made;
+  down = s.down;
+  threads = s.threads;
+  channels = s.channels;
+  connections = s.connections;
+}
+
+-- the caller is the thread at its seat among these, and of its process
+pub record IsCallerIn (threads : List Thread) (caller : Caller) : Type 0 where
+  pub seat : seat_in threads caller.thread ≡ Some caller.seat
+  pub began : ℕ
+  pub known : member_at (members_of threads) caller.thread
+      ≡ Some (record { thread = caller.thread; process = caller.process; priority = began })
+
+-- the call of this caller may be made: it is counted and nothing else is done yet, no call has ended, the
+-- kernel isn't shut down, and the caller isn't blocked
+pub record MayCall (s : State) (caller : Caller) (endings : List Completion) : Type 0 where
+  pub counted : s.made ≡ caller.made + 1
+  pub sound : IsSound (state_before caller s)
+  pub caller : IsCallerIn s.threads caller
+  pub up : s.down ≡ false
+  pub free : open_in s.threads caller.thread ≡ None
+  pub none : endings ≡ []
+
+-- the call of this caller, from the content before it was counted
+abbrev pub Makes : State → Caller → Call → List Completion → State → Type 0
+Makes old caller c endings new = Steps (state_before caller old) caller.thread c endings new
+
+-- how the call of this turn ends that is refused and gives no buffer back
+abbrev pub refusal_of_caller : Caller → Errno → Completion
+refusal_of_caller caller e = record { call = caller.made + 1; thread = caller.thread; mark = mark.Failed e; buffer = [] }
+
+-- the call is made with these endings; or it is refused with an error, and none is put yet
+abbrev pub MakesOrRefuses : {T : Type 0} → State → Caller → Call → Result T Errno → List Completion → State
+    → Type 0
+MakesOrRefuses old caller c (Ok done) endings new = Makes old caller c endings new
+MakesOrRefuses old caller c (Err e) endings new =
+    (endings ≡ []) × Makes old caller c (refusal_of_caller caller e ∷ []) new
