@@ -34,7 +34,7 @@ pub record IsCallerIn (threads : List Thread) (caller : Caller) : Type 0 where
 pub record MayCall (s : State) (caller : Caller) (endings : List Completion) : Type 0 where
   pub counted : s.made ≡ caller.made + 1
   pub sound : IsSound (state_before caller s)
-  pub caller : IsCallerIn s.threads caller
+  pub among : IsCallerIn s.threads caller
   pub up : s.down ≡ false
   pub free : open_in s.threads caller.thread ≡ None
   pub none : endings ≡ []
@@ -43,9 +43,10 @@ pub record MayCall (s : State) (caller : Caller) (endings : List Completion) : T
 abbrev pub Makes : State → Caller → Call → List Completion → State → Type 0
 Makes old caller c endings new = Steps (state_before caller old) caller.thread c endings new
 
--- how the call of this turn ends that is refused and gives no buffer back
+-- how the call of this caller ends that is refused and gives no buffer back
 abbrev pub refusal_of_caller : Caller → Errno → Completion
-refusal_of_caller caller e = record { call = caller.made + 1; thread = caller.thread; mark = mark.Failed e; buffer = [] }
+refusal_of_caller caller e =
+    record { call = caller.made + 1; thread = caller.thread; mark = mark.Failed e; buffer = [] }
 
 -- the call is made with these endings; or it is refused with an error, and none is put yet
 abbrev pub MakesOrRefuses : {T : Type 0} → State → Caller → Call → Result T Errno → List Completion → State

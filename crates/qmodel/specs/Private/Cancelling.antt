@@ -33,8 +33,13 @@ is_over k (ForItem chid kind buffer) = false
 
 -- how thread u's open call ends that is cancelled: it fails, and gives its buffer back as it is by now
 abbrev pub cancel_call : Errno → ThreadNo → OpenCall → Completion
-cancel_call e u o = record { call = o.number; thread = u; mark = mark.Failed e; buffer = buffer_of_wait
-    o.wait }
+cancel_call e u o = record {
+  call = o.number;
+  thread = u;
+  mark = mark.Failed e;
+  buffer = buffer_of_wait
+      o.wait;
+}
 
 -- the same of thread u's open call, if it has one and this is so of what it waits for
 abbrev pub cancel_where : (Wait → Bool) → Errno → ThreadNo → Option OpenCall → Option Completion

@@ -23,10 +23,10 @@ end_also-requires c =
     let of = own_parts c.args.caller.now.process c.in-Some.chid _ (sym c.own_connection.ensures ∙ c.in-Some.is) in
     let d = c.pulse_for-due.result in
     let pulsed = c.pulse_for-due.ensures ∙ ap (λ p. cond c.tells_detached-last.result (Some (disconnect_item (c.args.caller.now.made + 1) p c.args.caller.now.process)) None) prio in
-    let due = due_is _ c.args.caller.now.thread c.args.coid _ may.caller.known may.up may.free c.in-Some.chid of c.tells_detached-last.result may.sound c.tells_detached-last.ensures ∙ ap (made_for c.in-Some.chid) (sym pulsed) in
+    let due = due_is _ c.args.caller.now.thread c.args.coid _ may.among.known may.up may.free c.in-Some.chid of c.tells_detached-last.result may.sound c.tells_detached-last.ensures ∙ ap (made_for c.in-Some.chid) (sym pulsed) in
     let new = new_pulse (c.args.caller.now.made + 1) c.priority_of-priority.result c.args.caller.now.process c.tells_detached-last.result d c.pulse_for-due.ensures in
     let told = is_told _ c.args.caller.now.thread c.in-Some.chid d _ _ c.in_ok-met.met may.sound may.free new c.in_ok-met.ensures.ok in
-    rw (rw c.ending.ensures at c.cancel_calls.ensures.endings) (room_for_one _ c.args.caller.now.thread c.args.coid _ may.caller.known may.up may.free c.in-Some.chid of d due may.sound _ _ c.in_ok-met.met told may.sound.few)
+    rw (rw c.ending.ensures at c.cancel_calls.ensures.endings) (room_for_one _ c.args.caller.now.thread c.args.coid _ may.among.known may.up may.free c.in-Some.chid of d due may.sound _ _ c.in_ok-met.met told may.sound.few)
 
 pub invariant_of-self-2 : goal.invariant_of-self-2
 invariant_of-self-2 c =
@@ -35,10 +35,10 @@ invariant_of-self-2 c =
     let of = own_parts c.args.caller.now.process c.in-Some.chid _ (sym c.own_connection.ensures ∙ c.in-Some.is) in
     let d = c.pulse_for-due.result in
     let pulsed = c.pulse_for-due.ensures ∙ ap (λ p. cond c.tells_detached-last.result (Some (disconnect_item (c.args.caller.now.made + 1) p c.args.caller.now.process)) None) prio in
-    let due = due_is _ c.args.caller.now.thread c.args.coid _ may.caller.known may.up may.free c.in-Some.chid of c.tells_detached-last.result may.sound c.tells_detached-last.ensures ∙ ap (made_for c.in-Some.chid) (sym pulsed) in
+    let due = due_is _ c.args.caller.now.thread c.args.coid _ may.among.known may.up may.free c.in-Some.chid of c.tells_detached-last.result may.sound c.tells_detached-last.ensures ∙ ap (made_for c.in-Some.chid) (sym pulsed) in
     let new = new_pulse (c.args.caller.now.made + 1) c.priority_of-priority.result c.args.caller.now.process c.tells_detached-last.result d c.pulse_for-due.ensures in
     let told = is_told _ c.args.caller.now.thread c.in-Some.chid d _ _ c.in_ok-met.met may.sound may.free new c.in_ok-met.ensures.ok in
-    rw (may.counted, c.remove.ensures.after) (sound_detached _ c.args.caller.now.thread c.args.coid _ may.caller.known may.up may.free c.in-Some.chid of d due may.sound _ _ c.in_ok-met.met told _ _ c.cancel_calls.ensures.threads c.cancel_calls.ensures.channels
+    rw (may.counted, c.remove.ensures.after) (sound_detached _ c.args.caller.now.thread c.args.coid _ may.among.known may.up may.free c.in-Some.chid of d due may.sound _ _ c.in_ok-met.met told _ _ c.cancel_calls.ensures.threads c.cancel_calls.ensures.channels
     (sound_due _ c.in-Some.chid d _ _ c.in_ok-met.met may.sound new c.in_ok-met.ensures.ok))
 
 pub returns : goal.returns
@@ -48,12 +48,12 @@ returns c =
     let of = own_parts c.args.caller.now.process c.in-Some.chid _ (sym c.own_connection.ensures ∙ c.in-Some.is) in
     let d = c.pulse_for-due.result in
     let pulsed = c.pulse_for-due.ensures ∙ ap (λ p. cond c.tells_detached-last.result (Some (disconnect_item (c.args.caller.now.made + 1) p c.args.caller.now.process)) None) prio in
-    let due = due_is _ c.args.caller.now.thread c.args.coid _ may.caller.known may.up may.free c.in-Some.chid of c.tells_detached-last.result may.sound c.tells_detached-last.ensures ∙ ap (made_for c.in-Some.chid) (sym pulsed) in
+    let due = due_is _ c.args.caller.now.thread c.args.coid _ may.among.known may.up may.free c.in-Some.chid of c.tells_detached-last.result may.sound c.tells_detached-last.ensures ∙ ap (made_for c.in-Some.chid) (sym pulsed) in
     let new = new_pulse (c.args.caller.now.made + 1) c.priority_of-priority.result c.args.caller.now.process c.tells_detached-last.result d c.pulse_for-due.ensures in
     let told = is_told _ c.args.caller.now.thread c.in-Some.chid d _ _ c.in_ok-met.met may.sound may.free new c.in_ok-met.ensures.ok in
     let there = c.remove.ensures.value ∙ of.is in
     let fewer = rw there at c.remove.ensures.fewer in
-    rw (← c.self.view_is, may.counted, c.remove.ensures.after) (step_detached _ c.args.caller.now.thread c.args.coid _ may.caller.known may.up may.free c.in-Some.chid of d due may.sound _ _ c.in_ok-met.met told _ _ c.cancel_calls.ensures.threads c.cancel_calls.ensures.channels
+    rw (← c.self.view_is, may.counted, c.remove.ensures.after) (step_detached _ c.args.caller.now.thread c.args.coid _ may.among.known may.up may.free c.in-Some.chid of d due may.sound _ _ c.in_ok-met.met told _ _ c.cancel_calls.ensures.threads c.cancel_calls.ensures.channels
     _ (rw c.remove.ensures.after at fewer) (c.end_also.ensures ∙ ap (with_ending_if c.in_ok-met.met) (rw c.ending.ensures at c.cancel_calls.ensures.endings)))
 
 pub returns-in_err-met : goal.returns-in_err-met
@@ -63,20 +63,20 @@ returns-in_err-met c =
     let of = own_parts c.args.caller.now.process c.in-Some.chid _ (sym c.own_connection.ensures ∙ c.in-Some.is) in
     let d = c.pulse_for-due.result in
     let pulsed = c.pulse_for-due.ensures ∙ ap (λ p. cond c.tells_detached-last.result (Some (disconnect_item (c.args.caller.now.made + 1) p c.args.caller.now.process)) None) prio in
-    let due = due_is _ c.args.caller.now.thread c.args.coid _ may.caller.known may.up may.free c.in-Some.chid of c.tells_detached-last.result may.sound c.tells_detached-last.ensures ∙ ap (made_for c.in-Some.chid) (sym pulsed) in
+    let due = due_is _ c.args.caller.now.thread c.args.coid _ may.among.known may.up may.free c.in-Some.chid of c.tells_detached-last.result may.sound c.tells_detached-last.ensures ∙ ap (made_for c.in-Some.chid) (sym pulsed) in
     let away = c.in_err-met.ensures.err in
     let p = err_from_is_err_and c.from_residual.result c.from_residual.ensures.1 in
     rw (p.1, p.2) (
       c.requires.none,
       rw (← c.self.view_is, may.counted) (step_turned_away _ c.args.caller.now.thread (ConnectDetach c.args.coid) c.in-Some.chid away.item c.in_err-met.field-0.0 _ _ away.away _
-          (detach_full _ c.args.caller.now.thread c.args.coid _ may.caller.known may.up may.free c.in-Some.chid of d due (ap is_some away.is_due))
-          (detach_memory _ c.args.caller.now.thread c.args.coid _ may.caller.known may.up may.free c.in-Some.chid of d due away.item away.is_due) refl),
+          (detach_full _ c.args.caller.now.thread c.args.coid _ may.among.known may.up may.free c.in-Some.chid of d due (ap is_some away.is_due))
+          (detach_memory _ c.args.caller.now.thread c.args.coid _ may.among.known may.up may.free c.in-Some.chid of d due away.item away.is_due) refl),
     )
 
 pub returns-in_default : goal.returns-in_default
 returns-in_default c =
     let may = rw (← c.self.view_is) at c.requires in
-    (c.requires.none, rw (← c.self.view_is, may.counted) (step_detach_refused _ c.args.caller.now.thread c.args.coid _ may.caller.known may.up may.free _ (sym c.own_connection.ensures ∙ c.in_default.is) refl))
+    (c.requires.none, rw (← c.self.view_is, may.counted) (step_detach_refused _ c.args.caller.now.thread c.args.coid _ may.among.known may.up may.free _ (sym c.own_connection.ensures ∙ c.in_default.is) refl))
 
 pub invariant_of-self : goal.invariant_of-self
 invariant_of-self c =

@@ -14,7 +14,7 @@ returns-in_err-held c =
     let may = rw (← c.self.view_is) at c.requires in
     let none = rw (← c.self.view_is) at c.in_err-held.ensures.none in
     let p = err_from_is_err_and c.from_residual.result c.from_residual.ensures.1 in
-    rw (p.1, p.2) (c.requires.none, rw (← c.self.view_is, may.counted, c.in_err-held.ensures.error) (step_unheld _ c.args.caller.now.thread _ c.args.rcvid may.sound may.caller.known (Error c.args.rcvid c.args.code) _ refl may.up may.free none refl))
+    rw (p.1, p.2) (c.requires.none, rw (← c.self.view_is, may.counted, c.in_err-held.ensures.error) (step_unheld _ c.args.caller.now.thread _ c.args.rcvid may.sound may.among.known (Error c.args.rcvid c.args.code) _ refl may.up may.free none refl))
 
 pub unreachable-requires : goal.unreachable-requires
 unreachable-requires c =
@@ -33,5 +33,5 @@ returns c =
     let held = rw (← c.self.view_is) at c.in_ok-held.ensures.held in
     let is_sender = rw c.rcvid.view_is at c.take_sent-client.ensures.thread in
     let ended = ap (answer_ending (error_finish c.args.code) c.take_sent-client.result.0) (sym c.take_sent-client.ensures.had) ∙ rw (to_z-of_z w32 c.args.code c.ranges.code) at (sym c.errored_to.ensures ∙ c.in-Some.is) in
-    rw (← c.self.view_is, may.counted) (step_errored _ c.args.caller.now.thread _ c.args.rcvid may.sound may.caller.known c.args.code c.take_sent-client.result.0 c.in-Some.ended may.up may.free held is_sender ended _ _
+    rw (← c.self.view_is, may.counted) (step_errored _ c.args.caller.now.thread _ c.args.rcvid may.sound may.among.known c.args.code c.take_sent-client.result.0 c.in-Some.ended may.up may.free held is_sender ended _ _
     c.take_sent-client.ensures.after (c.end_both.ensures))

@@ -13,7 +13,7 @@ returns-in_err-held c =
     let may = rw (← c.self.view_is) at c.requires in
     let none = rw (← c.self.view_is) at c.in_err-held.ensures.none in
     let p = err_from_is_err_and c.from_residual.result c.from_residual.ensures.1 in
-    rw (p.1, p.2) (c.requires.none, rw (← c.self.view_is, may.counted, c.in_err-held.ensures.error) (step_unheld _ c.args.caller.now.thread _ c.args.rcvid may.sound may.caller.known (Info c.args.rcvid) _ refl may.up may.free none refl))
+    rw (p.1, p.2) (c.requires.none, rw (← c.self.view_is, may.counted, c.in_err-held.ensures.error) (step_unheld _ c.args.caller.now.thread _ c.args.rcvid may.sound may.among.known (Info c.args.rcvid) _ refl may.up may.free none refl))
 
 pub unreachable-requires : goal.unreachable-requires
 unreachable-requires c =
@@ -29,4 +29,4 @@ returns c =
     let held = rw (← c.self.view_is) at c.in_ok-held.ensures.held in
     let at : position (λ t. is_send c.args.rcvid t.open_call) c.self.inside.threads.items ≡ Some c.in_ok-held.held = rw (← c.self.view_is) at c.in_ok-held.ensures.seat in
     let told = info_there (record { made = c.args.caller.now.made; down = c.self.inside.down; threads = c.self.inside.threads.items; channels = c.self.inside.channels; connections = c.self.inside.connections }) c.args.rcvid c.in_ok-held.held c.index.result.now may.sound.roster at ∙ ap (λ t. info_of_open t.member t.open_call) (sym c.index.ensures) ∙ sym c.info.ensures ∙ c.in-Some.is in
-    rw (← c.self.view_is, may.counted) (step_info _ c.args.caller.now.thread _ c.args.rcvid may.sound may.caller.known may.up may.free held c.in-Some.info _ told c.end.ensures)
+    rw (← c.self.view_is, may.counted) (step_info _ c.args.caller.now.thread _ c.args.rcvid may.sound may.among.known may.up may.free held c.in-Some.info _ told c.end.ensures)

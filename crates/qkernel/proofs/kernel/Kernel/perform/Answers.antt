@@ -10,7 +10,7 @@ make-requires c =
     record {
       counted = ap (λ n. n + 1) (sym caller.made);
       sound = rw (caller.made) c.self.invariant;
-      caller = caller.caller;
+      among = caller.caller;
       up = free.up;
       free = rw (caller.thread) free.free;
       none = c.requires.none;

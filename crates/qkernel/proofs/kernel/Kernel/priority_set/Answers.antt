@@ -6,7 +6,7 @@ returns c =
     let may = rw (← c.self.view_is) at c.requires in
     let own = rw (← c.self.view_is) at c.in_ok-there.ensures.fellow in
     let moves = rw c.deref.ensures.value at c.requeue_unread.ensures in
-    rw (← c.self.view_is, may.counted) (step_set _ c.args.caller.now.thread c.args.target c.args.priority _ may.caller.known may.up may.free _ _ _ may.sound own moves c.set_priority.ensures c.end.ensures)
+    rw (← c.self.view_is, may.counted) (step_set _ c.args.caller.now.thread c.args.target c.args.priority _ may.among.known may.up may.free _ _ _ may.sound own moves c.set_priority.ensures c.end.ensures)
 
 pub invariant_of-self : goal.invariant_of-self
 invariant_of-self c =

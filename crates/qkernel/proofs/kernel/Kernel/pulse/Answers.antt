@@ -32,8 +32,8 @@ returns-in_err-met c =
     rw (p.1, p.2) (
       c.requires.none,
       rw (← c.self.view_is, may.counted) (step_turned_away _ c.args.caller.now.thread (Pulse c.args.coid c.args.priority c.args.code c.args.value) c.in-Some.chid item c.in_err-met.field-0.0 _ _ away _
-          (pulse_full old c.args.caller.now.thread c.args.coid c.args.priority c.args.code c.args.value _ may.caller.known may.up may.free c.in-Some.chid found positive)
-          (pulse_memory old c.args.caller.now.thread c.args.coid c.args.priority c.args.code c.args.value _ may.caller.known may.up may.free c.in-Some.chid found positive) refl),
+          (pulse_full old c.args.caller.now.thread c.args.coid c.args.priority c.args.code c.args.value _ may.among.known may.up may.free c.in-Some.chid found positive)
+          (pulse_memory old c.args.caller.now.thread c.args.coid c.args.priority c.args.code c.args.value _ may.among.known may.up may.free c.in-Some.chid found positive) refl),
     )
 
 pub returns : goal.returns
@@ -44,6 +44,6 @@ returns c =
     let item = pulse_item (c.args.caller.now.made + 1) c.args.priority c.args.code c.args.value in
     let sent = rw (to_z-of_z w8 c.args.code c.ranges.code, to_z-of_z w32 c.args.value c.ranges.value) at c.in_ok-met.ensures.ok in
     let told = is_told _ c.args.caller.now.thread c.in-Some.chid (Some item) _ _ c.in_ok-met.met may.sound may.free (refl, refl) sent in
-    rw (← c.self.view_is, may.counted) (step_told _ c.args.caller.now.thread (Pulse c.args.coid c.args.priority c.args.code c.args.value) _ (made_for c.in-Some.chid (Some item)) may.sound may.caller.known may.free
-    (tells_pulse _ c.args.caller.now.thread c.args.coid c.args.priority c.args.code c.args.value _ c.in-Some.chid may.caller.known may.up may.free found positive told.room) _ _ c.in_ok-met.met told _ _
+    rw (← c.self.view_is, may.counted) (step_told _ c.args.caller.now.thread (Pulse c.args.coid c.args.priority c.args.code c.args.value) _ (made_for c.in-Some.chid (Some item)) may.sound may.among.known may.free
+    (tells_pulse _ c.args.caller.now.thread c.args.coid c.args.priority c.args.code c.args.value _ c.in-Some.chid may.among.known may.up may.free found positive told.room) _ _ c.in_ok-met.met told _ _
     (none_marked (Pulse c.args.coid c.args.priority c.args.code c.args.value) (made_for c.in-Some.chid (Some item)) _ refl) c.end_with.ensures)

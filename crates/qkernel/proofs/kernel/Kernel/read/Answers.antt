@@ -12,7 +12,7 @@ pub returns-in-Err : goal.returns-in-Err
 returns-in-Err c =
     let may = rw (← c.self.view_is) at c.requires in
     let none = rw (← c.self.view_is) at c.in-Err.ensures.none in
-    rw (← c.self.view_is, may.counted) (step_unheld _ c.args.caller.now.thread _ c.args.rcvid may.sound may.caller.known (Read c.args.rcvid c.args.offset c.args.buffer) _ refl may.up may.free none (rw c.in-Err.ensures.error at c.refuse.ensures))
+    rw (← c.self.view_is, may.counted) (step_unheld _ c.args.caller.now.thread _ c.args.rcvid may.sound may.among.known (Read c.args.rcvid c.args.offset c.args.buffer) _ refl may.up may.free none (rw c.in-Err.ensures.error at c.refuse.ensures))
 
 pub returns : goal.returns
 returns c =
@@ -22,4 +22,4 @@ returns c =
     let message : c.message.result.now ≡ message_from c.self.inside.threads.items c.args.rcvid =
     c.message.ensures ∙ ap (λ t. message_in t.open_call) c.index.ensures ∙ sym (message_there c.args.rcvid c.self.inside.threads.items c.in-Ok.held c.index.result.now may.sound.roster at) in
     let ended = rw (c.take-copied.ensures.count, c.take-copied.ensures.after, message) at c.give_back.ensures in
-    rw (← c.self.view_is, may.counted) (step_read _ c.args.caller.now.thread _ c.args.rcvid may.sound may.caller.known may.up may.free held c.args.offset c.args.buffer _ ended)
+    rw (← c.self.view_is, may.counted) (step_read _ c.args.caller.now.thread _ c.args.rcvid may.sound may.among.known may.up may.free held c.args.offset c.args.buffer _ ended)

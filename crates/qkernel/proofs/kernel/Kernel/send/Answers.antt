@@ -19,7 +19,7 @@ deliver-ended-requires-clause-waits c =
 pub block-requires : goal.block-requires
 block-requires c =
     let may = rw (← c.self.view_is) at c.requires in
-    let at = may.caller.seat in
+    let at = may.among.seat in
     elim c.match-newest_receiver.branch [
       | in-None+in_default-enqueue w ↦ rw (w.self-inside-is) at
       | in-Some-newest_receiver w ↦ rw (w.self-inside-is) (seat_kept c.args.caller.now.thread _ _ w.deliver-ended.ensures.after.members ∙ at)
@@ -41,7 +41,7 @@ pub returns-in_default : goal.returns-in_default
 returns-in_default c =
     let may = rw (← c.self.view_is) at c.requires in
     let found = sym c.route.ensures ∙ c.in_default.is in
-    rw (← c.self.view_is, may.counted) (step_send_nowhere _ c.args.caller.now.thread c.args.coid c.args.message c.args.reply_buffer _ _ may.caller.known may.up may.free found c.refuse.ensures)
+    rw (← c.self.view_is, may.counted) (step_send_nowhere _ c.args.caller.now.thread c.args.coid c.args.message c.args.reply_buffer _ _ may.among.known may.up may.free found c.refuse.ensures)
 
 pub returns-in-Err : goal.returns-in-Err
 returns-in-Err c =
@@ -52,7 +52,7 @@ returns-in-Err c =
     let roster : IsRoster (members_of c.deref.result.now) = rw (c.deref.ensures.value) may.sound.roster in
     let nobody = rw (c.deref.ensures.value, item, prio) at (sym (c.newest_receiver.ensures roster) ∙ c.in-None.is) in
     rw (← c.self.view_is, may.counted)
-    (step_send_no_memory _ c.args.caller.now.thread c.args.coid c.args.message c.args.reply_buffer _ c.in-Some.chid _ c.in-Err.errno _ may.caller.known may.up may.free found c.in-Err.ensures.error nobody c.in-Err.ensures.err c.refuse-in-Err.ensures)
+    (step_send_no_memory _ c.args.caller.now.thread c.args.coid c.args.message c.args.reply_buffer _ c.in-Some.chid _ c.in-Err.errno _ may.among.known may.up may.free found c.in-Err.ensures.error nobody c.in-Err.ensures.err c.refuse-in-Err.ensures)
 
 pub returns : goal.returns
 returns c =
@@ -67,7 +67,7 @@ returns c =
           let opens = rw (w.receipt-is, w.self-inside-is) at c.block.ensures in
           let sets = rw (item, prio) at w.in_default-enqueue.ensures.ok in
           rw (w.self-inside-is, w.endings-is, ← c.self.view_is, may.counted)
-          (step_send_waits _ c.args.caller.now.thread c.args.coid c.args.message c.args.reply_buffer _ c.in-Some.chid may.sound may.caller.known may.up may.free found _ _ _ nobody opens sets c.requires.none)
+          (step_send_waits _ c.args.caller.now.thread c.args.coid c.args.message c.args.reply_buffer _ c.in-Some.chid may.sound may.among.known may.up may.free found _ _ _ nobody opens sets c.requires.none)
       | in-Some-newest_receiver w ↦
           let opens = rw (w.receipt-is, w.self-inside-is, w.deliver-ended.ensures.receipt, item) at c.block.ensures in
           let newest = rw (c.deref.ensures.value, item, prio) at (sym (c.newest_receiver.ensures roster) ∙ w.in-Some-newest_receiver.is) in
@@ -78,7 +78,7 @@ returns c =
           let sets = rw prio at opens in
           let wakes = rw (w.carried_priority-priority.ensures, item, prio) at w.deliver-ended.ensures.after in
           rw (w.self-inside-is, w.endings-is, ← c.self.view_is, may.counted)
-          (step_send_met _ c.args.caller.now.thread c.args.coid c.args.message c.args.reply_buffer _ c.in-Some.chid may.sound may.caller.known may.up may.free found
+          (step_send_met _ c.args.caller.now.thread c.args.coid c.args.message c.args.reply_buffer _ c.in-Some.chid may.sound may.among.known may.up may.free found
           receiver w.deliver-ended.result.0 w.deliver-ended.result.1.copied newest (waits_among c.in-Some.chid _ waits.0 _ receiver waits.1) ended copied
           w.deliver-ended.new.threads.items _ _ wakes sets w.end_one.ensures)
     ]

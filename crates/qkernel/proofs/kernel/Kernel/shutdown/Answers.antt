@@ -14,4 +14,4 @@ pub returns : goal.returns
 returns c =
     let may = rw (← c.self.view_is) at c.requires in
     let ended = rw c.ending.ensures at c.cancel_calls.ensures.endings in
-    rw (← c.self.view_is, may.counted) (step_shut _ c.args.caller.now.thread _ _ _ _ may.caller.known may.up may.free c.cancel_calls.ensures.threads c.cancel_calls.ensures.channels ended)
+    rw (← c.self.view_is, may.counted) (step_shut _ c.args.caller.now.thread _ _ _ _ may.among.known may.up may.free c.cancel_calls.ensures.threads c.cancel_calls.ensures.channels ended)

@@ -25,7 +25,7 @@ returns-in_default c =
     let may = rw (← c.self.view_is) at c.requires in
     let fellow = rw (← c.self.view_is) at c.in_ok-there.ensures.fellow in
     let none = rw (← c.self.view_is) at (sym c.guarded_message.ensures ∙ c.in_default.is) in
-    rw (← c.self.view_is, may.counted) (step_unblock_cancelled _ c.args.caller.now.thread c.args.target _ may.sound may.caller.known may.up may.free fellow none _ _ _ c.cancel_calls.ensures.threads c.cancel_calls.ensures.channels
+    rw (← c.self.view_is, may.counted) (step_unblock_cancelled _ c.args.caller.now.thread c.args.target _ may.sound may.among.known may.up may.free fellow none _ _ _ c.cancel_calls.ensures.threads c.cancel_calls.ensures.channels
     (rw c.ending.ensures at c.cancel_calls.ensures.endings))
 
 -- ---- its message had its pulse
@@ -35,7 +35,7 @@ returns-then-held c =
     let may = rw (← c.self.view_is) at c.requires in
     let fellow = rw (← c.self.view_is) at c.in_ok-there.ensures.fellow in
     let guards = rw (← c.self.view_is) at (sym c.guarded_message.ensures ∙ c.in-Some.is) in
-    rw (← c.self.view_is, may.counted) (step_unblock_again _ c.args.caller.now.thread c.args.target _ may.sound may.caller.known may.up may.free fellow c.in-Some.guarded guards c.if-held.true _ c.end.ensures)
+    rw (← c.self.view_is, may.counted) (step_unblock_again _ c.args.caller.now.thread c.args.target _ may.sound may.among.known may.up may.free fellow c.in-Some.guarded guards c.if-held.true _ c.end.ensures)
 
 -- ---- its server is told
 
@@ -77,8 +77,8 @@ returns c =
     let pulse = c.pulse_for-pulse.result in
     let new = new_pulse (c.args.caller.now.made + 1) _ _ pulse c.pulse_for-pulse.ensures in
     let told = is_told _ c.args.caller.now.thread g.1 (Some pulse) _ _ c.in_ok-met.met may.sound may.free new c.in_ok-met.ensures.ok in
-    rw (← c.self.view_is, may.counted) (step_told _ c.args.caller.now.thread (Unblock c.args.target) _ (made_for g.1 (Some pulse)) may.sound may.caller.known may.free
-    (tells_unblock _ c.args.caller.now.thread c.args.target _ may.sound may.caller.known may.up may.free fellow g guards c.if-held.false pulse c.pulse_for-pulse.ensures told.room) _ _ c.in_ok-met.met told _ _
+    rw (← c.self.view_is, may.counted) (step_told _ c.args.caller.now.thread (Unblock c.args.target) _ (made_for g.1 (Some pulse)) may.sound may.among.known may.free
+    (tells_unblock _ c.args.caller.now.thread c.args.target _ may.sound may.among.known may.up may.free fellow g guards c.if-held.false pulse c.pulse_for-pulse.ensures told.room) _ _ c.in_ok-met.met told _ _
     (are_marked c.args.target (record { item = pulse; channel = g.1 }) _ _ c.mark_unblocked.ensures) c.end_with.ensures)
 
 pub returns-in_err-met : goal.returns-in_err-met
@@ -92,6 +92,6 @@ returns-in_err-met c =
     rw (p.1, p.2) (
       c.requires.none,
       rw (← c.self.view_is, may.counted) (step_turned_away _ c.args.caller.now.thread (Unblock c.args.target) g.1 pulse c.in_err-met.field-0.0 _ _ c.in_err-met.ensures.err _
-          (unblock_full _ c.args.caller.now.thread c.args.target _ may.sound may.caller.known may.up may.free fellow g guards c.if-held.false pulse c.pulse_for-pulse.ensures)
-          (unblock_memory _ c.args.caller.now.thread c.args.target _ may.sound may.caller.known may.up may.free fellow g guards c.if-held.false pulse c.pulse_for-pulse.ensures) refl),
+          (unblock_full _ c.args.caller.now.thread c.args.target _ may.sound may.among.known may.up may.free fellow g guards c.if-held.false pulse c.pulse_for-pulse.ensures)
+          (unblock_memory _ c.args.caller.now.thread c.args.target _ may.sound may.among.known may.up may.free fellow g guards c.if-held.false pulse c.pulse_for-pulse.ensures) refl),
     )
