@@ -14,20 +14,11 @@ use std::alloc::Global;
 pub fn new_session(alloc: Global, threads: &[Thread]) -> Result<Box<Session, Global>, Errno>
     ensures { MatchResult result (λ session. IsNewOf threads.now session.value) (NewError threads.now) }
 {
-    match roster_of(alloc, threads) {
-        Ok(roster) => match Kernel::new(alloc, &roster) {
-            Ok(kernel) => {
-                let session = Session {
-                    kernel,
-                    endings: ArrayVec::new_in(alloc),
-                };
-                match Box::new(alloc, session) {
-                    Ok(boxed) => Ok(boxed),
-                    Err(_) => Err(Errno::NoMemory),
-                }
-            }
-            Err(errno) => Err(errno),
-        },
-        Err(errno) => Err(errno),
-    }
+    let roster = roster_of(alloc, threads)?;
+    let kernel = Kernel::new(alloc, &roster)?;
+    let session = Session {
+        kernel,
+        endings: ArrayVec::new_in(alloc),
+    };
+    Box::new(alloc, session).map_err(|_| Errno::NoMemory)
 }
