@@ -15,7 +15,7 @@ abbrev pub option_of : {A : Type 0} → Result A CallError → Result (Option A)
 option_of (Ok a) = Ok (Some a)
 option_of (Err e) = Err e
 
--- the same, read off its ending
+-- the result of a call that has ended, read off its ending
 abbrev pub option_in : {A : Type 0} → Reading A → Reading (Option A)
 option_in read waited mark buffer = option_of (read waited mark buffer)
 

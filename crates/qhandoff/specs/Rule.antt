@@ -38,7 +38,7 @@ module _ {T : Type 0} where
   abbrev pub line : Desk T → ℕ → Line T
   line d t = slice_index_or d.lines t idle_line
 
-  -- the same with another line for t
+  -- what the kernel's seat knows, with another line for t
   abbrev pub with_line : Desk T → ℕ → Line T → Desk T
   with_line d t l = record d { lines = slice_set d.lines t l }
 

@@ -65,7 +65,7 @@ module _ {T : Type 0} where
   abbrev pub joined_at : Desk T → ℕ → List T → Desk T
   joined_at d t ts = with_line d t (record (line d t) { taken = Some ts })
 
-  -- the same, of what a thread's seat took
+  -- the seat of this hand, which took what the hand has, is joined
   abbrev pub joined_desk : Desk T → Hand T → Desk T
   joined_desk d h = joined_at d h.thread h.taken
 

@@ -67,7 +67,7 @@ module _ {T : Type 0} where
   one None = []
   one (Some x) = x ∷ []
 
-  -- the same, with the thread that it is left for
+  -- the one value with the thread that it is left for, or none
   abbrev pub tagged : ℕ → Option T → List (ℕ × T)
   tagged t None = []
   tagged t (Some x) = (t, x) ∷ []

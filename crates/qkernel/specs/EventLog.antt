@@ -13,7 +13,7 @@ pub record Logged : Type 0 where
   pub call_room : ℕ
   pub ending_room : ℕ
 
--- the same once the first of these calls, which are noted, is an event
+-- what a log has once the first of these calls, which are noted, is an event
 abbrev pub with_first : Logged → List (ℕ × Call) → Logged
 with_first l [] = l
 with_first l (q ∷ noted) =

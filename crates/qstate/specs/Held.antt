@@ -22,7 +22,7 @@ held_message_of n (Answer coid message reply_buffer (Some receipt)) =
 held_message_of n (Answer coid message reply_buffer None) = None
 held_message_of n (ForItem chid kind buffer) = None
 
--- the same of a thread's open call, if it has one
+-- the message that a thread's open call sent, if it is held
 abbrev pub held_message_in : Option OpenCall → Option Held
 held_message_in None = None
 held_message_in (Some o) = held_message_of o.number o.wait

@@ -46,7 +46,7 @@ abbrev pub IsSent : ℕ → Item → List Thread → List (ℕ × Channel) → L
 IsSent h item threads channels after now None = IsLeft h item threads channels after now
 IsSent h item threads channels after now (Some y) = IsMet h item threads channels after now y
 
--- the same of a pulse that may be due; where none is, all is as it was
+-- a pulse is sent, if one is due; where none is, all is as it was
 abbrev pub IsSentIfDue : ℕ → Option Item → List Thread → List (ℕ × Channel) → List Thread → List (ℕ × Channel)
     → Option Completion → Type 0
 IsSentIfDue h None threads channels after now met = (after ≡ threads) × (now ≡ channels) × (met ≡ None)

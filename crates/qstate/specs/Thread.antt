@@ -79,7 +79,7 @@ held_over_by (Answer coid message reply_buffer (Some receipt)) = Some coid
 held_over_by (Answer coid message reply_buffer None) = None
 held_over_by (ForItem chid kind buffer) = None
 
--- the same of a thread's open call, if it has one
+-- the connection over which a thread's message was sent, if that is held
 abbrev pub held_over_in : Option OpenCall → Option ℕ
 held_over_in None = None
 held_over_in (Some o) = held_over_by o.wait

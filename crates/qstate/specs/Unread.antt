@@ -18,7 +18,7 @@ unread_of n (Answer coid message reply_buffer None) = Some (record { number = n;
 unread_of n (Answer coid message reply_buffer (Some receipt)) = None
 unread_of n (ForItem chid kind buffer) = None
 
--- the same of a thread's open call, if it has one
+-- the message of a thread's open call, if its receipt is waited for
 abbrev pub unread_in : Option OpenCall → Option Unread
 unread_in None = None
 unread_in (Some o) = unread_of o.number o.wait

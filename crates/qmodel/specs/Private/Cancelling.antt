@@ -37,11 +37,10 @@ cancel_call e u o = record {
   call = o.number;
   thread = u;
   mark = mark.Failed e;
-  buffer = buffer_of_wait
-      o.wait;
+  buffer = buffer_of_wait o.wait;
 }
 
--- the same of thread u's open call, if it has one and this is so of what it waits for
+-- how thread u's open call is cancelled, if this is so of what it waits for
 abbrev pub cancel_where : (Wait → Bool) → Errno → ThreadNo → Option OpenCall → Option Completion
 cancel_where is_cancelled e u call =
     option_and_then (λ o. if is_cancelled o.wait then Some (cancel_call e u o) else None) call

@@ -26,7 +26,7 @@ abbrev pub delivers : Facts → Item → List ℕ → Option ThreadNo → Thread
 delivers f item message receiver u =
     option_and_then (λ r. if u == r then receipt_by f item message u else None) receiver
 
--- the same as a receipt of what was sent to channel h; a message has a sender that waits for its answer
+-- the receipt of what is sent to channel h; a message has a sender that waits for its answer
 abbrev pub receipt_when_sent : Facts → Option ThreadNo → Item → List ℕ → Option ChannelId → Option ThreadNo
     → Option Received
 receipt_when_sent f sender item message channel receiver =

@@ -36,7 +36,7 @@ answer_ending_of_wait finish u m (Answer coid message reply_buffer receipt) =
     Some (record { call = m; thread = u; mark = (finish reply_buffer).0; buffer = (finish reply_buffer).1 })
 answer_ending_of_wait finish u m (ForItem chid kind buffer) = None
 
--- the same of a thread's open call, if it has one
+-- how the open call of thread u ends, if it is a Send, that is answered so
 abbrev pub answer_ending : Finish → ThreadNo → Option OpenCall → Option Completion
 answer_ending finish u call = option_and_then (λ o. answer_ending_of_wait finish u o.number o.wait) call
 

@@ -21,7 +21,7 @@ pulses_among items = count_by (λ x. is_pulse x.what) items
 abbrev pub refusal_if_full : Facts → ChannelId → Option Errno
 refusal_if_full f h = if nat_lt (pulses_among (f.pending h)) 1024 then None else Some Again
 
--- the same of the channel of a pulse that is due, if one is
+-- the refusal of a pulse that is due, if one is, where its channel is full
 abbrev pub refusal_if_full_for : Facts → Option SentItem → Option Errno
 refusal_if_full_for f pulse = option_and_then (λ m. refusal_if_full f m.channel) pulse
 
@@ -34,7 +34,7 @@ abbrev pub ends_receiver : Facts → Option SentItem → ThreadNo → Option Com
 ends_receiver f pulse u = option_and_then (λ m. delivers f m.item [] (receiver f m.item (Some m.channel)) u)
     pulse
 
--- the same as a receipt
+-- the receipt of a pulse that is made, if a receiver takes it
 abbrev pub pulse_receipt : Facts → Option SentItem → Option Received
 pulse_receipt f pulse = option_and_then
     (λ m. receipt_when_sent f None m.item [] (Some m.channel) (receiver f m.item (Some m.channel))) pulse

@@ -15,7 +15,7 @@ abbrev pub wait_for : ChannelId → Item → CallNo → Wait → Option CallNo
 wait_for h item m (Answer coid message reply_buffer receipt) = None
 wait_for h item m (ForItem chid kind buffer) = if (chid == h) && may_take kind item then Some m else None
 
--- the same of a thread's open call, if it has one
+-- the number of a thread's open call, if that waits so
 abbrev pub wait_on : ChannelId → Item → Option OpenCall → Option CallNo
 wait_on h item call = option_and_then (λ o. wait_for h item o.number o.wait) call
 
@@ -40,6 +40,6 @@ abbrev pub newest_receiver_among : (ThreadNo → Option OpenCall) → ChannelId 
 newest_receiver_among open_call h item threads =
     first_where (λ u. is_newest open_call h item threads u) threads
 
--- the same of all threads
+-- of all threads the one whose open receive may take the item and began last
 abbrev pub newest_receiver : Facts → ChannelId → Item → Option ThreadNo
 newest_receiver f h item = newest_receiver_among f.open_call h item (threads_of f.roster)

@@ -26,7 +26,7 @@ own_receipt f t buffer item = option_map (λ i. receipt_ending i (message f i.nu
 abbrev pub sender_for : Facts → Item → Option ThreadNo
 sender_for f item = if is_pulse item.what then None else sender f item.number
 
--- the same as a receipt of what was sent
+-- the receipt of the item that the call takes, by its ending
 abbrev pub receipt_when_taken : Facts → ChannelId → Option Completion → Option Item → Option Received
 receipt_when_taken f h ending item =
     option_and_then (λ i. receipt_in h (sender_for f i) i.priority ending) item

@@ -98,7 +98,7 @@ abbrev pub call_left_by : Facts → ThreadNo → Call → Row → ThreadNo → O
 call_left_by f t c row u = after_unblock (makes f t c) (unblocks c) u
     (after_receipt row.receipt u (after_write f (writes c) u (f.open_call u)))
 
--- the same, unless the call ends it
+-- what it waits for then, unless the call ends it
 abbrev pub other_call_after : Facts → ThreadNo → Call → Row → ThreadNo → Option OpenCall
 other_call_after f t c row u = unless (is_some (row.ends u)) (call_left_by f t c row u)
 

@@ -29,11 +29,11 @@ info_of_wait m (Answer coid message reply_buffer (Some receipt)) = Some (record 
 })
 info_of_wait m wait = None
 
--- the same of a member's open call, if it has one
+-- what is told of a member's open call, if that is a Send whose message is received
 abbrev pub info_of_open : Member → Option OpenCall → Option Info
 info_of_open m call = option_and_then (λ o. info_of_wait m o.wait) call
 
--- the same of the thread that sent it
+-- what is told of the thread that sent a message
 abbrev pub info_of : Facts → Option ThreadNo → Option Info
 info_of f sender = option_and_then
     (λ s. option_and_then (λ m. info_of_open m (f.open_call s)) (member_at f.roster s)) sender

@@ -25,7 +25,7 @@ call_at (e ∷ past) i = if i == length past + 1 then Some e.call else call_at p
 abbrev pub buffer_by : Trace → CallNo → Call → List ℕ
 buffer_by past i c = if is_some (effect_of c).sends then with_writes past i (buffer_of c) else buffer_of c
 
--- the same of the call of that number, nothing where there is none
+-- the buffer of the call of number i, nothing where there is none
 abbrev pub buffer_at : Trace → CallNo → List ℕ
 buffer_at past i = option_map_or (buffer_by past i) (call_at past i) []
 
