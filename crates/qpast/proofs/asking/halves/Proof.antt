@@ -22,7 +22,7 @@ use denote.Signature.{types_at}
 use denote.Steps.{nothing}
 use denote.Triple.Clauses.{Clauses, Ended, closing}
 use denote.Triple.Entry.{alive}
-use denote.Triple.Spec.{Delivers, triple_of}
+use denote.Triple.Spec.{Meets, triple_of}
 use denote.Triple.Table.{entered}
 use denote.Triple.Walked.{Stays, walk_of, ends_at, walk_Meets}
 use Rattle.qpast.proofs.Walks.{none, none_made}
@@ -85,8 +85,8 @@ module _ {M : Type 1} {𝓤 : Ura M} (𝓛 : Logic 𝓤) (at_mem : Memory → SP
         fpack ! (Valss (A ∷ B ∷ [])) (λ vss. fsep (feq (List Val) (both ∷ []) (vstruct (of_list (vss.0 ++ (vss.1.0 ++ []))) ∷ [])) (owns (A ∷ B ∷ []) (asked, (heard, tt)) vss)) (none ∷ [], (none ∷ [], tt)) $
         nothing ! $ join ! $ move ! (1 ∷ []) $ join ! $ frame ! $ by ! (tells_all 𝓤 ((γ ≡ γ) ∷ (asked.calls ≡ []) ∷ (heard.calls ≡ []) ∷ []) (refl, (refl, refl)))))
 
-  delivers : (𝓣 : Tables 𝓤 H) → Delivers 𝓛 ended.signature (WpFn 𝓤 H 𝓣.C 𝓣.Λ function) (closing 𝓛 ended held)
-  delivers 𝓣 =
+  meets : (𝓣 : Tables 𝓤 H) → Meets 𝓛 ended.signature (WpFn 𝓤 H 𝓣.C 𝓣.Λ function) (closing 𝓛 ended held)
+  meets 𝓣 =
       walk_Meets 𝓛 ended stayed tt held
       (WpFn 𝓤 H 𝓣.C 𝓣.Λ function) (WpFn-mono 𝓤 H 𝓛.laws 𝓣 function) (walks 𝓣.C 𝓣.Λ)
 
@@ -95,4 +95,4 @@ unfolding tables_of
 halves_spec 𝓤 𝓛 𝓜 𝓡 wired =
     let 𝓣 : Tables 𝓤 𝓛.H = tables_of 𝓤 𝓛.H 𝓜 (tables 𝓤 𝓛.H 𝓜 𝓡 𝓡.env) in
     entered 𝓤 𝓛.H (triple_of 𝓛 ended.signature (closing 𝓛 ended (held 𝓛 𝓜.mem 𝓡.returns))) 𝓣.C 𝓣.Λ #self function
-    (code.unfolded 𝓤 𝓛.H 𝓜 𝓡 wired) (delivers 𝓛 𝓜.mem 𝓡.returns 𝓣)
+    (code.unfolded 𝓤 𝓛.H 𝓜 𝓡 wired) (meets 𝓛 𝓜.mem 𝓡.returns 𝓣)

@@ -23,7 +23,7 @@ use denote.Signature.{types_at, plain}
 use denote.Steps.{nothing, opens, closes}
 use denote.Triple.Clauses.{Clauses, Ended, closing}
 use denote.Triple.Entry.{on_entry, alive}
-use denote.Triple.Spec.{Delivers, triple_of}
+use denote.Triple.Spec.{Meets, triple_of}
 use denote.Triple.Table.{entered}
 use denote.Triple.Walked.{Stays, stay_dropped, stay_ref, walk_of, ends_at, Goes-dropped, Goes-ref, walk_Meets}
 use contract.CodeStep
@@ -119,9 +119,9 @@ module _ {M : Type 1} {𝓤 : Ura M} (𝓛 : Logic 𝓤) (𝓜 : Model 𝓤 𝓛
         by ! (tells_all 𝓤 ((a.name ≡ a.name) ∷ (b.name ≡ b.name) ∷ (a.calls ≡ b.calls) ∷ (a'.calls ≡ a.calls ++ c ∷ []) ∷ (b'.calls ≡ b.calls ++ c ∷ []) ∷ [])
         (refl, (refl, (same, (refl, ap (λ xs. xs ++ c ∷ []) same))))))))))
 
-  delivers : Delivers 𝓛 ended.signature (WpFn 𝓤 H 𝓣.C 𝓣.Λ function) (closing 𝓛 ended held)
+  meets : Meets 𝓛 ended.signature (WpFn 𝓤 H 𝓣.C 𝓣.Λ function) (closing 𝓛 ended held)
   unfolding tables_of contract.CodeStep.c_Tables
-  delivers =
+  meets =
       walk_Meets 𝓛 ended stayed (Goes-ref 𝓛 3 0 tt (plain (λ _. A)), (Goes-ref 𝓛 3 1 tt (plain (λ _. B)), (Goes-dropped 𝓛 3 (RefOf (2 ∷ []) tt (plain (λ _. Snapshot.the_row Call.the_row)) (λ _. tt)) yes (λ κs x f. refl), tt))) held
       (WpFn 𝓤 H 𝓣.C 𝓣.Λ function) (WpFn-mono 𝓤 H 𝓛.laws (tables_of 𝓤 H 𝓜 𝓣) function)
       (λ z. let a = z.0.3 in let vss = z.0.4 in let Rs : List RattleType = types_at ended.signature.params z.0.0 in let On : SProp 𝓤 = on_entry 𝓛 ended.signature z.0.0 z.0.1 a vss in
@@ -131,4 +131,4 @@ module _ {M : Type 1} {𝓤 : Ura M} (𝓛 : Logic 𝓤) (𝓜 : Model 𝓤 𝓛
 pub ask_spec : {M : Type 1} → stated.statement M
 ask_spec 𝓤 𝓛 𝓜 𝓡 wired = let 𝓣' = tables 𝓤 𝓛.H 𝓜 𝓡 𝓡.env in
     entered 𝓤 𝓛.H (triple_of 𝓛 ended.signature (closing 𝓛 ended (held 𝓛 𝓜 𝓡))) 𝓣'.C 𝓣'.Λ #self function
-    (code.unfolded 𝓤 𝓛.H 𝓜 𝓡 wired) (delivers 𝓛 𝓜 𝓡)
+    (code.unfolded 𝓤 𝓛.H 𝓜 𝓡 wired) (meets 𝓛 𝓜 𝓡)
