@@ -51,7 +51,8 @@ static int open_kernel(neutrino *k, const struct neutrino_thread *threads, size_
     memset(k->place_of, PLACES, sizeof k->place_of);
     for (size_t at = 0; at < count; at++) {
         k->place_of[threads[at].tid] = (uint8_t)at;
-        k->places[at] = (struct place){.word = ENDED, .tid = threads[at].tid, .pid = threads[at].pid, .looks = 1};
+        k->places[at] = (struct place){.word = ENDED, .tid = threads[at].tid, .pid = threads[at].pid,
+                                       .looks = WORD_LOOKS};
     }
     open_names(k);
     pthread_mutex_init(&k->lock, NULL);

@@ -2,13 +2,14 @@
 #include <linux/futex.h>
 #include <sys/syscall.h>
 
-/* How often a thread looks for the lock before it sleeps at it, and at its word; fewer times where that was in
- * vain. It never yields its core: on a busy machine that takes milliseconds, and a sleep ends at once. */
+/* How often a thread looks for the lock before it sleeps at it, and at its word; half as often where that was in vain,
+ * down to a fifth, which is some microseconds: with fewer looks two threads that slept once would never see an answer
+ * come again. It never yields its core: on a busy machine that takes milliseconds, and a sleep ends at once. */
 #ifndef LOCK_LOOKS
-#define LOCK_LOOKS 20
+#define LOCK_LOOKS 100
 #endif
 #ifndef WORD_LOOKS
-#define WORD_LOOKS 400
+#define WORD_LOOKS 2000
 #endif
 
 static void pause_briefly(void) {
@@ -51,7 +52,7 @@ static bool look(struct place *p) {
         }
         pause_briefly();
     }
-    p->looks /= 2;
+    p->looks = p->looks / 2 < WORD_LOOKS / 5 ? WORD_LOOKS / 5 : p->looks / 2;
     return false;
 }
 

@@ -14,7 +14,7 @@ use std::{hint, thread};
 
 /// How often a thread looks for the lock before it sleeps. ThreadSanitizer sees of a lock only what is inlined here, so
 /// under it no thread sleeps for one.
-const LOCK_LOOKS: u32 = if cfg!(tsan) { u32::MAX } else { 20 };
+const LOCK_LOOKS: u32 = if cfg!(tsan) { u32::MAX } else { 100 };
 /// How many pauses are between two looks for the lock.
 const LOCK_PAUSES: u32 = 8;
 

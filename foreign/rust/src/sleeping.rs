@@ -7,8 +7,13 @@ use std::sync::atomic::{AtomicU32, Ordering};
 use std::thread::{self, Thread};
 use std::time::Instant;
 
-/// How often a thread looks at its word at most before it sleeps, with a pause between: fewer where that was in vain.
-pub(crate) const LOOKS: u32 = 400;
+/// How often a thread looks at its word at most before it sleeps, with a pause between: half as often where that was in
+/// vain.
+pub(crate) const LOOKS: u32 = 2000;
+
+/// How often at least: for some microseconds. With fewer looks two threads that slept once would never see an answer come
+/// again.
+const LEAST_LOOKS: u32 = LOOKS / 5;
 
 /// The call is open, and its thread isn't asleep.
 const OPEN: u32 = 0;
@@ -77,7 +82,7 @@ impl Place {
             }
             hint::spin_loop();
         }
-        *looks = (*looks / 2).max(1);
+        *looks = (*looks / 2).max(LEAST_LOOKS);
         self.is_ended()
     }
 
