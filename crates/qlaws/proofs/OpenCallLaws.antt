@@ -222,3 +222,8 @@ pub reply_buffers_keep_length : laws.ReplyBuffersKeepLength
 reply_buffers_keep_length roster past r l = all_sends roster past l (λ s. laws.IsAsLong past s.number s.reply_buffer) (λ u s e.
     let k = lengths.open_calls_keep_length roster past r (before roster past l) u _ (send_parts roster past l u s e).is in
     record { call = k.call; is = same_call_at past s.number ∙ k.is; same = k.same ∙ ap length (sym (same_buffer k.call)) })
+
+pub receive_buffers_keep_length : laws.ReceiveBuffersKeepLength
+receive_buffers_keep_length roster past r l = all_receives roster past l (λ s. laws.IsAsLong past s.number s.buffer) (λ u s e.
+    let k = lengths.open_calls_keep_length roster past r (before roster past l) u _ (receive_parts roster past l u s e).is in
+    record { call = k.call; is = same_call_at past s.number ∙ k.is; same = k.same ∙ ap length (sym (same_buffer k.call)) })

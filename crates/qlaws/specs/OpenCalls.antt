@@ -101,3 +101,8 @@ pub record IsAsLong (past : Trace) (i : CallNo) (buffer : Bytes) : Type 0 where
 abbrev pub ReplyBuffersKeepLength : Type 0
 ReplyBuffersKeepLength = AfterEach (λ roster past.
     AllByRecursion (λ s. IsAsLong past s.number s.reply_buffer) (facts_of roster past).open_sends)
+
+-- and so does the buffer of each open receive
+abbrev pub ReceiveBuffersKeepLength : Type 0
+ReceiveBuffersKeepLength = AfterEach (λ roster past.
+    AllByRecursion (λ r. IsAsLong past r.number r.buffer) (facts_of roster past).open_receives)

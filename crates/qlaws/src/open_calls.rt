@@ -2,7 +2,7 @@
 
 ghost use Rattle.qlaws.specs.OpenCalls.{AtMostOneOpen, HeldIsOpenSend, NewestIsLast, NoneIsNewest};
 ghost use Rattle.qlaws.specs.OpenCalls.{NothingPendingForWaiting, OpenIsUnended, OpenSendsAreRouted};
-ghost use Rattle.qlaws.specs.OpenCalls.{ReplyBuffersKeepLength};
+ghost use Rattle.qlaws.specs.OpenCalls.{ReceiveBuffersKeepLength, ReplyBuffersKeepLength};
 
 /// Of a thread's accepted calls that may wait at most one isn't ended, and the thread waits in just that one.
 pub fn one_open_call()
@@ -32,7 +32,8 @@ pub fn nothing_pending_for_waiting()
     ensures { NothingPendingForWaiting }
 {}
 
-/// The reply buffer of an open Send is as long as the one that it brought.
-pub fn reply_buffers_keep_length()
-    ensures { ReplyBuffersKeepLength }
+/// The buffer of an open call is as long as the one that it brought.
+pub fn buffers_keep_length()
+    ensures sends { ReplyBuffersKeepLength }
+    ensures receives { ReceiveBuffersKeepLength }
 {}
