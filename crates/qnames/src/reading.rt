@@ -2,8 +2,10 @@
 
 pub mod calls;
 pub mod endings;
+pub mod forms;
 pub mod near;
 pub mod operands;
 pub mod script;
 pub mod states;
 pub mod threads;
+pub mod values;

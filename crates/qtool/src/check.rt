@@ -6,13 +6,13 @@ mod places;
 mod tally;
 
 use crate::command::CheckRun;
-use crate::ending::{end_failed, end_unwritten, tell_unread};
+use crate::ending::{end_failed, end_unwritten};
 use crate::example::{Outcome, outcome_of, printed};
 use crate::lines::without_returns;
 use crate::names::is_named;
 use named::check_named;
 use origin::origin_of;
-use places::{Example, examples};
+use places::{Example, count_unread, examples};
 use qexplain::explain;
 use qscript::fault::ScriptFault;
 use std::alloc::{AllocError, AllocFailed};
@@ -80,7 +80,7 @@ fn check_one<R: Files + Print + Eprint + AllocGlobal>(
 ) -> Result<(), CheckFault> {
     let script = match fs::read(rt, example.script.as_str()) {
         Ok(script) => script,
-        Err(error) => return unread(rt, example.script.as_str(), error, tally),
+        Err(error) => return count_unread(rt, example.script.as_str(), error, tally),
     };
     if is_named(example.script.as_str()) {
         return check_named(rt, example, script.as_slice(), tally);
@@ -96,23 +96,8 @@ fn check_one<R: Files + Print + Eprint + AllocGlobal>(
         Err(error) if error.kind() == io::ErrorKind::NotFound => {
             check_without(rt, run, example, script.as_slice(), tally)
         }
-        Err(error) => unread(rt, example.trace.as_str(), error, tally),
+        Err(error) => count_unread(rt, example.trace.as_str(), error, tally),
     }
-}
-
-/// Tells of a file that can't be read, or written, and counts it.
-fn unread<R: Eprint>(
-    rt: &R,
-    path: &str,
-    error: io::Error,
-    tally: &mut Tally,
-) -> Result<(), CheckFault> {
-    if error.kind() == io::ErrorKind::OutOfMemory {
-        return Err(CheckFault::NoMemory);
-    }
-    tell_unread(rt, path, error);
-    tally.unread = tally.unread.saturating_add(1);
-    Ok(())
 }
 
 /// Compares what a script prints with its trace.
@@ -184,7 +169,7 @@ fn write_trace<R: Files + Print + Eprint + AllocGlobal>(
         return Err(CheckFault::NoMemory);
     };
     if let Err(error) = fs::write(rt, example.trace.as_str(), text.as_slice()) {
-        return unread(rt, example.trace.as_str(), error, tally);
+        return count_unread(rt, example.trace.as_str(), error, tally);
     }
     let name = example.name.as_str();
     tally.written = tally.written.saturating_add(1);

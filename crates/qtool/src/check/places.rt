@@ -38,8 +38,8 @@ pub fn examples<R: Files + Eprint + AllocGlobal + Clone + Drop>(
     Ok(examples)
 }
 
-/// Tells of a file or folder that can't be read, and counts it.
-fn count_unread<R: Eprint>(
+/// Tells of a file or folder that can't be read, or written, and counts it.
+pub fn count_unread<R: Eprint>(
     rt: &R,
     path: &str,
     error: io::Error,
