@@ -1,12 +1,11 @@
 -- The laws of the endings of one event.
 use mathlib.Core.Path.{fun_ext}
-use Rattle.std.proofs.Common.{◌≡◌, ◌∙◌, ℕ, ◌+◌, List, [], ◌∷◌, length, refl, ap, sym, subst, cond, Bool, true, false, eqb}
-use Rattle.std.specs.Prelude.{Option, None, Some, is_some, ◌||◌, ◌&&◌, option_map}
+use Rattle.std.proofs.Common.{◌≡◌, ◌∙◌, ℕ, ◌+◌, List, [], ◌∷◌, length, refl, ap, sym, subst, cond, true, false, eqb}
+use Rattle.std.specs.Prelude.{Option, None, Some, ◌||◌, ◌&&◌, option_map}
 use Rattle.std.specs.List.{list_any, AllByRecursion}
 use Rattle.std.proofs.lemmas.Option.{none-some, same_Some}
 use Rattle.qbase.proofs.Lists.{all_more}
 use Rattle.qqueue.specs.declared.item.Kind.{Kind}
-use Rattle.qtables.specs.Members.{IsRoster, member_at}
 use Rattle.qtables.specs.declared.member.Member.{Member}
 use Rattle.qmodel.specs.Private.Endings as old_endings
 use Rattle.qmodel.specs.Private.Facts.{Facts as OldFacts}
@@ -14,9 +13,9 @@ use Rattle.qmodel.specs.Private.Headline.CopiedExactly.{call_at as old_call_at}
 use Rattle.qmodel.specs.Private.Headline.SentOrder.{connection_of as old_connection_of}
 use Rattle.qmodel.specs.Private.Laws as old_laws
 use Rattle.qmodel.specs.Private.Lawful as old
-use Rattle.qmodel.specs.Private.Past.{is_ended, items as old_items, open_call}
+use Rattle.qmodel.specs.Private.Past.{items as old_items, open_call}
 use Rattle.qmodel.specs.Trace.{SentItem}
-use Rattle.qmodel.specs.Trace.{Event, Trace}
+use Rattle.qmodel.specs.Trace.{Trace}
 use Rattle.qmodel.specs.declared.call.Call.{Call}
 use Rattle.qmodel.specs.declared.call.Completion.{Completion}
 use Rattle.qmodel.proofs.TraceLaws.Blocked as blocked
@@ -25,9 +24,8 @@ use Rattle.qmodel.proofs.TraceLaws.Lengths as lengths
 use Rattle.qmodel.proofs.TraceLaws.Refused as refused
 use Rattle.qmodel.proofs.TraceLaws.Sent as sent
 use Rattle.qrules.specs.Facts.{Facts}
-use Rattle.qrules.specs.Lawful.{facts_of, IsLawful}
-use Rattle.qrules.specs.Past.{attached_connection, item_among}
-use Rattle.qrules.specs.Properties.{items, number_received}
+use Rattle.qrules.specs.Lawful.{IsLawful}
+use Rattle.qrules.specs.Past.{item_among}
 use Rattle.qrules.specs.Rule.{buffer_of, ReceiveRequest}
 use Rattle.qrules.specs.Rules.{effect_of}
 use Rattle.qrules.proofs.Same.{facts_view}
@@ -39,7 +37,7 @@ use Rattle.qrules.proofs.Properties.BestFirst.{request_from}
 use Rattle.qrules.proofs.Properties.Calls.{same_connection_of}
 use Rattle.qrules.proofs.Properties.Items.{same_channel_among, same_items, same_number}
 use Rattle.qlaws.specs.Endings
-use Rattle.qlaws.proofs.Waits.{before, blocked_at, buffer_at, facts_at, number_at}
+use Rattle.qlaws.proofs.Waits.{place_of, before, blocked_at, buffer_at, facts_at, number_at}
 
 -- ---- whose they are
 
@@ -98,9 +96,6 @@ endings_keep_length roster past e r l =
     ∙ ap (λ b. cond (eqb x.thread e.thread) (buffer_of (effect_of e.call)) b) (sym (buffer_at roster past l.0 x.thread))))
 
 -- ---- what they receive
-
-abbrev place_of : ReceiveRequest → ℕ × Kind
-place_of r = (r.channel, r.kind)
 
 module _ (roster : List Member) (past : Trace) (l : IsLawful roster past) where
   leads : (k h : ℕ) → old_laws.LeadsTo roster past k h → Endings.LeadsTo roster past k h

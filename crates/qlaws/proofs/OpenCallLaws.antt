@@ -5,7 +5,6 @@ use Rattle.std.specs.List.{AllByRecursion, reduce}
 use Rattle.std.specs.Option.{option_map_or}
 use Rattle.std.proofs.lemmas.Bool.{false_from_ne_true, ltb-true, ltb-false, true≢false}
 use Rattle.std.proofs.lemmas.Option.{none-some, same_Some}
-use Rattle.qbase.proofs.Lists.{all_more}
 use Rattle.qtables.specs.declared.member.Member.{Member}
 use Rattle.qmodel.specs.Private.Effects.{asks}
 use Rattle.qmodel.specs.Private.Facts.{Facts as OldFacts}
@@ -13,7 +12,7 @@ use Rattle.qmodel.specs.Private.Headline.AnsweredToSender.{is_held as was_held}
 use Rattle.qmodel.specs.Private.Laws as old_laws
 use Rattle.qmodel.specs.Private.Lawful as old
 use Rattle.qmodel.specs.Private.Past.{is_taken, made_at, open_call}
-use Rattle.qmodel.specs.Trace.{Event, Trace}
+use Rattle.qmodel.specs.Trace.{Trace}
 use Rattle.qmodel.specs.declared.call.Call.{Call}
 use Rattle.qmodel.specs.declared.call.Call.TheVariants as calls
 use Rattle.qmodel.specs.declared.open_call.OpenCall.{OpenCall}
@@ -26,11 +25,10 @@ use Rattle.qmodel.proofs.TraceLaws.Unended as unended
 use Rattle.qmodel.proofs.TraceLaws.Waiting as waiting
 use Rattle.qrules.specs.Delivery.{newer}
 use Rattle.qrules.specs.Facts.{open_send, receive_of, Facts, OpenReceive, OpenSend}
-use Rattle.qrules.specs.Lawful.{facts_of, IsLawful}
+use Rattle.qrules.specs.Lawful.{facts_of}
 use Rattle.qrules.specs.Past.{accepted_call, is_ended, AcceptedCall}
-use Rattle.qrules.specs.Rule.{SentItem}
 use Rattle.qrules.specs.Rules.{effect_of}
-use Rattle.qrules.specs.View.{receipt_view, receive_view, send_view}
+use Rattle.qrules.specs.View.{receipt_view}
 use Rattle.qrules.proofs.Same.{facts_view}
 use Rattle.qrules.proofs.Messages.{send_cases, NoSend, OneSend}
 use Rattle.qrules.proofs.Outcomes.{same_buffer}

@@ -1,27 +1,22 @@
 -- The laws of the items that wait to be received.
 use mathlib.Core.Path.{fun_ext}
 use Rattle.std.proofs.Common.{◌≡◌, ◌∙◌, ℕ, List, [], ◌∷◌, ◌++◌, map, refl, ap, sym, subst, cond, Bool, true, false}
-use Rattle.std.specs.Prelude.{Option, None, Some, not, ◌||◌, ◌&&◌, ◌≤◌, count_by, filter, option_map}
+use Rattle.std.specs.Prelude.{None, Some, not, ◌||◌, ◌&&◌, ◌≤◌, count_by, filter, option_map}
 use Rattle.std.specs.List.{AllByRecursion}
 use Rattle.std.proofs.lemmas.Bool.{true≢false}
-use Rattle.std.proofs.lemmas.Option.{same_Some}
 use Rattle.qbase.proofs.Lists.{all_more}
-use Rattle.qqueue.specs.Best.{is_pulse, may_take, with_priority}
+use Rattle.qqueue.specs.Best.{is_pulse, with_priority}
 use Rattle.qqueue.specs.Contents.{IsRising}
 use Rattle.qqueue.specs.Order.{comes_before}
 use Rattle.qqueue.specs.declared.item.Item.{Item}
-use Rattle.qqueue.specs.declared.item.Kind.{Kind}
 use Rattle.qtables.specs.Members.{IsRoster}
 use Rattle.qtables.specs.declared.member.Member.{Member}
 use Rattle.qmodel.specs.Private.Facts.{is_for_receipt}
-use Rattle.qmodel.specs.Private.Headline.CopiedExactly.{call_at as old_call_at}
 use Rattle.qmodel.specs.Private.Laws as old_laws
 use Rattle.qmodel.specs.Private.Past as old
-use Rattle.qmodel.specs.Trace.{SentItem}
 use Rattle.qmodel.specs.Trace.{Event, Trace}
 use Rattle.qmodel.specs.declared.call.Completion.{Completion}
 use Rattle.qmodel.specs.declared.open_call.OpenCall.{OpenCall}
-use Rattle.qmodel.specs.declared.open_call.Receipt.{Receipt as OldReceipt}
 use Rattle.qmodel.specs.declared.open_call.Wait.{Wait}
 use Rattle.qmodel.specs.declared.open_call.Wait.TheVariants.{Answer, Item as ForItem}
 use Rattle.qmodel.proofs.TraceLaws.Limits as limits
@@ -29,12 +24,10 @@ use Rattle.qmodel.proofs.TraceLaws.Order as order
 use Rattle.qmodel.proofs.TraceLaws.Pending as pending
 use Rattle.qmodel.proofs.TraceLaws.Setting as setting
 use Rattle.qmodel.proofs.TraceLaws.CurrentPriority as current_priority
-use Rattle.qrules.specs.Facts.{OpenSend}
 use Rattle.qrules.specs.Lawful.{facts_of, IsLawful}
-use Rattle.qrules.specs.Past.{is_ended, is_gone, is_number, is_received, item_among, items_by_now, priority_of_item, sender_of}
+use Rattle.qrules.specs.Past.{is_ended, is_gone, is_number, item_among, items_by_now, priority_of_item, sender_of}
 use Rattle.qrules.specs.Properties.{items}
-use Rattle.qrules.specs.Rule.{ReceiveRequest}
-use Rattle.qrules.specs.View.{receipt_view, send_view}
+use Rattle.qrules.specs.View.{send_view}
 use Rattle.qrules.proofs.Same.{AreOfRoster}
 use Rattle.qrules.proofs.Lawful.{of_roster}
 use Rattle.qrules.proofs.Past.Effects.{same_request}
@@ -47,7 +40,7 @@ use Rattle.qrules.proofs.Properties.Items.{same_items, same_number}
 use Rattle.qlaws.specs.OpenCalls.{is_held}
 use Rattle.qlaws.specs.Pending as laws
 use Rattle.qlaws.proofs.OpenCallLaws.{same_held}
-use Rattle.qlaws.proofs.Waits.{before, facts_at, send_at}
+use Rattle.qlaws.proofs.Waits.{place_of, before, facts_at, send_at}
 
 -- ---- what is pending
 
@@ -106,9 +99,6 @@ same_now roster past x l =
 
 same_gone : (past : Trace) (x : Item) → is_gone past x ≡ old.is_gone past x
 same_gone past x = ap (λ b. b || (not (is_pulse x.what) && is_ended past x.number)) (same_received past x.number) ∙ ap (λ b. old.is_taken past x.number || (not (is_pulse x.what) && b)) (same_ended past x.number)
-
-abbrev place_of : ReceiveRequest → ℕ × Kind
-place_of r = (r.channel, r.kind)
 
 takes_before : (past : Trace) (z : Completion) (i h : ℕ) (x : Item) → laws.TakesBeside past z i h x → old_laws.TakesBeside past z i h x
 takes_before past z i h x k =

@@ -1,10 +1,11 @@
 -- What threads wait in after a trace of the roster's threads.
-use Rattle.std.proofs.Common.{◌≡◌, ◌∙◌, ℕ, List, [], ◌∷◌, refl, ap, sym, subst, Bool, true, false}
+use Rattle.std.proofs.Common.{◌≡◌, ◌∙◌, ℕ, List, [], refl, ap, sym, subst}
 use Rattle.std.specs.Prelude.{Option, None, Some, is_some, unwrap_or, option_map}
 use Rattle.std.specs.Option.{option_or}
 use Rattle.std.specs.List.{AllByRecursion}
 use Rattle.std.proofs.lemmas.Option.{none-some, same_Some}
 use Rattle.qbase.proofs.Lists.{all_filter_map}
+use Rattle.qqueue.specs.declared.item.Kind.{Kind}
 use Rattle.qtables.specs.declared.member.Member.{Member}
 use Rattle.qmodel.specs.Private.Cancelling.{buffer_of_wait}
 use Rattle.qmodel.specs.Private.Endings.{buffer_of_open}
@@ -15,15 +16,20 @@ use Rattle.qmodel.specs.Trace.{Trace}
 use Rattle.qmodel.specs.declared.open_call.OpenCall.{OpenCall}
 use Rattle.qmodel.specs.declared.open_call.Receipt.{Receipt as OldReceipt}
 use Rattle.qmodel.specs.declared.open_call.Wait.TheVariants.{Answer, Item as ForItem}
-use Rattle.qrules.specs.Facts.{is_blocked, receive_of, send_of, Facts, OpenReceive, OpenSend}
+use Rattle.qrules.specs.Facts.{is_blocked, receive_of, send_of, OpenReceive, OpenSend}
 use Rattle.qrules.specs.Lawful.{facts_of, IsLawful}
+use Rattle.qrules.specs.Rule.{ReceiveRequest}
 use Rattle.qrules.specs.View.{receive_view, receive_in, send_view, send_in}
-use Rattle.qrules.proofs.Same.{facts_view, AreOfRoster}
+use Rattle.qrules.proofs.Same.{facts_view}
 use Rattle.qrules.proofs.Lawful.{same_lawful, of_roster}
 use Rattle.qrules.proofs.Past.Facts.{facts_known, same_facts}
 use Rattle.qrules.proofs.View.{blocked_same, receive_found, send_found}
 use Rattle.qlaws.specs.OpenCalls.{waiting_number}
 use Rattle.qlaws.specs.Endings.{waiting_buffer}
+
+-- where a call asks to receive, and what
+abbrev pub place_of : ReceiveRequest → ℕ × Kind
+place_of r = (r.channel, r.kind)
 
 -- a lawful trace is so by the definitions of the kernel's own records
 pub before : (roster : List Member) (past : Trace) → IsLawful roster past → old.IsLawful roster past

@@ -1,7 +1,7 @@
 -- Laws of the endings of one event: whose they are, what they may receive, and who waits afterwards.
 use Rattle.std.specs.Prelude.{◌&&◌, ◌+◌, ◌<◌, ◌==◌, ◌||◌, ◌∷◌, ◌≡◌, ◌↔◌, if◌then◌else◌}
-use Rattle.qrules.specs.Words.{[], false, is_some, length, list_any, member_at, option_map, option_map_or}
-use Rattle.qrules.specs.Words.{option_or, true, unwrap_or, AllByRecursion, Bool, Call, Completion, Down, List}
+use Rattle.qrules.specs.Words.{[], false, is_some, length, list_any, member_at, option_map}
+use Rattle.qrules.specs.Words.{option_or, true, unwrap_or, AllByRecursion, Bool, Completion, Down, List}
 use Rattle.qrules.specs.Words.{Member, None, Option, Some}
 use Rattle.qrules.specs.Words.mark
 use Rattle.qrules.specs.Trace.{Bytes, CallNo, ChannelId, ConnectionId, Event, ThreadNo, Trace}

@@ -1,11 +1,11 @@
 -- Laws of the items that wait to be received.
-use Rattle.std.specs.Prelude.{◌&&◌, ◌++◌, ◌+◌, ◌==◌, ◌∷◌, ◌≡◌, ◌≤◌, if◌then◌else◌}
-use Rattle.qrules.specs.Words.{count_by, false, filter, is_pulse, is_some, map, may_take, not, true}
+use Rattle.std.specs.Prelude.{◌&&◌, ◌++◌, ◌+◌, ◌∷◌, ◌≡◌, ◌≤◌, if◌then◌else◌}
+use Rattle.qrules.specs.Words.{count_by, false, filter, is_pulse, map, may_take, not, true}
 use Rattle.qrules.specs.Words.{with_priority, AllByRecursion, Bool, Completion, Item, List, Member, None}
 use Rattle.qrules.specs.Words.{Some}
 use Rattle.qrules.specs.Words.calls
 use Rattle.qrules.specs.Trace.{CallNo, ChannelId, Event, Priority, ReceiveId, ThreadNo, Trace}
-use Rattle.qrules.specs.Facts.{send_of, Facts, OpenSend}
+use Rattle.qrules.specs.Facts.{send_of, OpenSend}
 use Rattle.qrules.specs.Rule.{ReceiveRequest}
 use Rattle.qrules.specs.Past.{is_accepted, is_gone, is_number, item_among, items_by_now, priority_of_item}
 use Rattle.qrules.specs.Past.{sender_of}
