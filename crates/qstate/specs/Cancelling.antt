@@ -94,6 +94,7 @@ thread_unless_cancelled is_cancelled t =
       priority = t.priority;
       open_call = if is_cancelled_open is_cancelled t.open_call then None
           else t.open_call;
+      key = t.key;
     }
 
 -- the thread with no open call, if this cancels that

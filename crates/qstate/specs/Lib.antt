@@ -1,5 +1,8 @@
 pub mod Kept
 pub mod Thread
+pub mod Open
+pub mod Index
+pub mod Threads
 pub mod Channel
 pub mod Held
 pub mod Unread

@@ -12,7 +12,7 @@ use Rattle.qstate.specs.declared.thread.Thread.{Thread}
 use Rattle.qstate.specs.Kept.{members_of, thread_priority}
 use Rattle.qmodel.specs.Private.Facts.{threads_of, sender_among, message_in}
 use Rattle.qmodel.specs.Private.Receivers.{newest_receiver_among}
-use Rattle.qmodel.specs.Private.Step.{held_call, is_thread, unblocked_call}
+use Rattle.qmodel.specs.Private.Step.{held_call, is_thread}
 
 -- the open call of a thread
 abbrev pub open_in : List Thread → ℕ → Option OpenCall
@@ -30,7 +30,7 @@ seat_in threads u = position (λ t. t.member.thread == u) threads
 
 -- a thread that isn't blocked and has the priority that it begins with
 abbrev pub ready_thread : Member → Thread
-ready_thread m = record { member = m; priority = m.priority; open_call = None }
+ready_thread m = record { member = m; priority = m.priority; open_call = None; key = 0 }
 
 -- the receiver on channel h that may take the item and began last
 abbrev pub newest_in : ℕ → Item → List Thread → Option ℕ
@@ -66,11 +66,11 @@ pub record Wakes (u : ℕ) (p : Option ℕ) (old new : List Thread) : Type 0 whe
   pub priority : (v : ℕ) → thread_priority new v
       ≡ unwrap_or (if u == v then p else None) (thread_priority old v)
 
--- an unblock pulse was made for what thread u is blocked in, and all else is as it was
-pub record MarksUnblocked (u : ℕ) (old new : List Thread) : Type 0 where
+-- the open call of thread u is changed so, and all else is as it was
+pub record ChangesOpen (u : ℕ) (change : OpenCall → OpenCall) (old new : List Thread) : Type 0 where
   pub members : members_of new ≡ members_of old
   pub open_call : (v : ℕ) → open_in new v
-      ≡ (if v == u then option_map unblocked_call (open_in old v) else open_in old v)
+      ≡ (if v == u then option_map change (open_in old v) else open_in old v)
   pub priority : (v : ℕ) → thread_priority new v ≡ thread_priority old v
 
 -- the connection over which a message was sent that is held

@@ -2,7 +2,6 @@
 
 ghost use Rattle.std.specs.Prelude.{◌≡◌, ◌==◌, ◌&&◌, ◌≤◌, ◌<◌, [], true, Some, None, is_some, length, filter_map, if◌then◌else◌};
 ghost use Rattle.qtables.specs.Entries.{entry_at};
-ghost use Rattle.qtables.specs.Members.{IsRoster};
 ghost use Rattle.qmodel.specs.Private.Cancelling.{buffer_of_wait, is_on, is_over, cancel_call, cancel_where};
 ghost use Rattle.qmodel.specs.Private.Step.{is_unread_send};
 ghost use Rattle.qmodel.specs.Private.Facts.{threads_of};
@@ -13,6 +12,7 @@ ghost use Rattle.qstate.specs.Kept.{members_of};
 use crate::channel::Channel;
 use crate::endings::Endings;
 use crate::thread::Thread;
+use crate::threads::Threads;
 use qbase::bytes::Bytes;
 use qbase::errno::Errno;
 use qbase::ids::{ChannelId, ConnectionId, ThreadNo};
@@ -32,6 +32,13 @@ pub enum CancelSet {
     Of(ThreadNo),
     /// The Sends over a connection.
     Over(ConnectionId),
+}
+
+/// Whose calls are cancelled, and the error with which they end.
+#[derive(Clone, Copy, Debug, PartialEq, Eq)]
+pub struct Cancel {
+    pub set: CancelSet,
+    pub errno: Errno,
 }
 
 /// Whether a wait is on the channel.
@@ -97,8 +104,13 @@ fn unread_on(connections: &Connections, wait: &Wait) -> Option<ChannelId>
     Some(connection.channel)
 }
 
-/// Takes the message of a Send that isn't received out of its channel's queue.
-fn take_message(channels: &mut Channels<Channel>, connections: &Connections, call: &OpenCall)
+/// Takes the message of a Send that isn't received out of its channel's queue, where it has this key.
+fn take_message(
+    channels: &mut Channels<Channel>,
+    connections: &Connections,
+    call: &OpenCall,
+    key: usize,
+)
     ensures { Lose (λ h i. is_unread_send (entry_at connections.now) h i (Some call.now)) channels.old channels.new }
 {
     let Some(chid) = unread_on(connections, &call.wait) else {
@@ -107,7 +119,7 @@ fn take_message(channels: &mut Channels<Channel>, connections: &Connections, cal
     let Some(channel) = channels.get_mut(chid) else {
         return;
     };
-    let _ = channel.queue.remove(call.number);
+    let _ = channel.queue.remove(call.number, key);
 }
 
 /// The buffer that a wait gives back.
@@ -154,16 +166,15 @@ fn cancel_thread(
     thread: &mut Thread,
     channels: &mut Channels<Channel>,
     connections: &Connections,
-    cancel: &CancelSet,
-    errno: Errno,
+    cancel: &Cancel,
 ) -> Option<Completion>
-    ensures ending { result ≡ cancel_where (is_cancelled_by (entry_at connections.now) cancel.now thread.old.member.thread) errno thread.old.member.thread thread.old.open_call }
-    ensures thread { thread.new ≡ thread_unless_cancelled (is_cancelled_by (entry_at connections.now) cancel.now thread.old.member.thread) thread.old }
-    ensures channels { Lose (is_taken_from (entry_at connections.now) (is_cancelled_by (entry_at connections.now) cancel.now thread.old.member.thread) thread.old.open_call) channels.old channels.new }
+    ensures ending { result ≡ cancel_where (is_cancelled_by (entry_at connections.now) cancel.now.set thread.old.member.thread) cancel.now.errno thread.old.member.thread thread.old.open_call }
+    ensures thread { thread.new ≡ thread_unless_cancelled (is_cancelled_by (entry_at connections.now) cancel.now.set thread.old.member.thread) thread.old }
+    ensures channels { Lose (is_taken_from (entry_at connections.now) (is_cancelled_by (entry_at connections.now) cancel.now.set thread.old.member.thread) thread.old.open_call) channels.old channels.new }
 {
-    let call = take_cancelled(thread, connections, cancel)?;
-    take_message(channels, connections, &call);
-    Some(cancel_ending(call, thread.member.thread, errno))
+    let call = take_cancelled(thread, connections, &cancel.set)?;
+    take_message(channels, connections, &call, thread.key);
+    Some(cancel_ending(call, thread.member.thread, cancel.errno))
 }
 
 /// Ends the call of a thread: the caller's own so, as it was handed in, and another's if it is cancelled.
@@ -171,21 +182,20 @@ fn end_thread(
     thread: &mut Thread,
     channels: &mut Channels<Channel>,
     connections: &Connections,
-    cancel: &CancelSet,
-    errno: Errno,
+    cancel: &Cancel,
     caller: ThreadNo,
     own: &mut Option<Completion>,
 ) -> Option<Completion>
     requires idle { (thread.old.member.thread == caller) ≡ true → thread.old.open_call ≡ None }
-    ensures ending { result ≡ (if thread.old.member.thread == caller then own.old else cancel_where (is_cancelled_by (entry_at connections.now) cancel.now thread.old.member.thread) errno thread.old.member.thread thread.old.open_call) }
+    ensures ending { result ≡ (if thread.old.member.thread == caller then own.old else cancel_where (is_cancelled_by (entry_at connections.now) cancel.now.set thread.old.member.thread) cancel.now.errno thread.old.member.thread thread.old.open_call) }
     ensures own { own.new ≡ (if thread.old.member.thread == caller then None else own.old) }
-    ensures thread { thread.new ≡ thread_unless_cancelled (is_cancelled_by (entry_at connections.now) cancel.now thread.old.member.thread) thread.old }
-    ensures channels { Lose (is_taken_from (entry_at connections.now) (is_cancelled_by (entry_at connections.now) cancel.now thread.old.member.thread) thread.old.open_call) channels.old channels.new }
+    ensures thread { thread.new ≡ thread_unless_cancelled (is_cancelled_by (entry_at connections.now) cancel.now.set thread.old.member.thread) thread.old }
+    ensures channels { Lose (is_taken_from (entry_at connections.now) (is_cancelled_by (entry_at connections.now) cancel.now.set thread.old.member.thread) thread.old.open_call) channels.old channels.new }
 {
     if thread.member.thread == caller {
         own.take()
     } else {
-        cancel_thread(thread, channels, connections, cancel, errno)
+        cancel_thread(thread, channels, connections, cancel)
     }
 }
 
@@ -206,37 +216,35 @@ fn caller_of(own: &Completion) -> ThreadNo
     own.thread
 }
 
-/// Ends each call that is cancelled with this error, in rising thread number and the caller's own ending in its
-/// place among them. A message that is cancelled before it is received leaves its channel's queue.
-pub fn cancel_calls(
-    threads: &mut Vec<Thread>,
-    channels: &mut Channels<Channel>,
-    connections: &Connections,
-    cancel: CancelSet,
-    errno: Errno,
-    own: Completion,
-    endings: &mut Endings,
-)
-    requires roster { IsRoster (members_of threads.old.items) }
-    requires few { length threads.old.items ≤ 64 }
-    requires idle { open_in threads.old.items own.thread ≡ None }
-    requires none { endings.old.items ≡ [] }
-    ensures endings { endings.new.items ≡ filter_map (λ u. ending_for (entry_at connections.now) cancel errno own u (open_in threads.old.items u)) (threads_of (members_of threads.old.items)) }
-    ensures threads { AreCancelled (entry_at connections.now) cancel errno threads.old.items threads.new.items }
-    ensures channels { LoseCancelled (entry_at connections.now) cancel errno threads.old.items channels.old channels.new }
-{
-    let caller = caller_of(&own);
-    let mut left = Some(own);
-    for thread in threads.iter_mut() {
-        let ending = end_thread(
-            thread,
-            channels,
-            connections,
-            &cancel,
-            errno,
-            caller,
-            &mut left,
-        );
-        push_ending(endings, ending);
+impl Threads {
+    /// Ends each call that is cancelled with this error, in rising thread number and the caller's own ending in
+    /// its place among them. A message that is cancelled before it is received leaves its channel's queue.
+    pub fn cancel(
+        &mut self,
+        channels: &mut Channels<Channel>,
+        connections: &Connections,
+        cancel: Cancel,
+        own: Completion,
+        endings: &mut Endings,
+    )
+        requires idle { open_in self.old own.thread ≡ None }
+        requires none { endings.old.items ≡ [] }
+        ensures endings { endings.new.items ≡ filter_map (λ u. ending_for (entry_at connections.now) cancel.set cancel.errno own u (open_in self.old u)) (threads_of (members_of self.old)) }
+        ensures threads { AreCancelled (entry_at connections.now) cancel.set cancel.errno self.old self.new }
+        ensures channels { LoseCancelled (entry_at connections.now) cancel.set cancel.errno self.old channels.old channels.new }
+    {
+        let caller = caller_of(&own);
+        let mut left = Some(own);
+        for thread in self.records.iter_mut() {
+            let ending = end_thread(
+                thread,
+                channels,
+                connections,
+                &cancel,
+                caller,
+                &mut left,
+            );
+            push_ending(endings, ending);
+        }
     }
 }

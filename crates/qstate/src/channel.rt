@@ -140,9 +140,13 @@ pub fn take_best(channels: &mut Channels<Channel>, chid: ChannelId, kind: Kind) 
     channel.queue.take(kind)
 }
 
-/// Puts an item behind all that wait on a channel, after room was made for it; where room is there already no
-/// memory is wanted.
-pub fn enqueue(channels: &mut Channels<Channel>, chid: ChannelId, item: Item) -> Result<(), Errno>
+/// Puts an item behind all that wait on a channel, after room was made for it, and returns its key in the queue;
+/// takes no memory if there is room already.
+pub fn enqueue(
+    channels: &mut Channels<Channel>,
+    chid: ChannelId,
+    item: Item,
+) -> Result<usize, Errno>
     requires there { is_some (channel_in channels.old chid) ≡ true }
     requires newest { AllByRecursion (λ x. x.number < item.number) (pending_in channels.old chid) }
     ensures ok { OnOk result (SetsItems chid (pending_in channels.old chid ++ item ∷ []) channels.old channels.new) }
@@ -154,16 +158,22 @@ pub fn enqueue(channels: &mut Channels<Channel>, chid: ChannelId, item: Item) ->
         unreachable!();
     };
     channel.queue.reserve(1)?;
-    channel.queue.push(item);
-    Ok(())
+    Ok(channel.queue.push(item))
 }
 
-/// Gives the item of this number on a channel another priority, if it waits there; takes no memory.
-pub fn requeue(channels: &mut Channels<Channel>, chid: ChannelId, number: u64, priority: Priority)
+/// Gives the item of this number on a channel another priority, if it waits there, where it has this key; takes
+/// no memory.
+pub fn requeue(
+    channels: &mut Channels<Channel>,
+    chid: ChannelId,
+    number: u64,
+    key: usize,
+    priority: Priority,
+)
     ensures { SetsItems chid (with_item_priority number priority (pending_in channels.old chid)) channels.old channels.new }
 {
     if let Some(channel) = channels.get_mut(chid) {
-        let _ = channel.queue.requeue(number, priority);
+        let _ = channel.queue.requeue(number, priority, key);
     }
 }
 

@@ -1,25 +1,25 @@
 //! Messages that are held: received, and not yet answered.
 
-ghost use Rattle.std.specs.Prelude.{◌≡◌, Some, None, is_some, position, length, option_map, IfSome};
+ghost use Rattle.std.specs.Prelude.{◌≡◌, Some, is_some, option_map, IfSome};
 ghost use Rattle.qbase.specs.Laying.{laid_count, lay_over};
-ghost use Rattle.qtables.specs.Members.{IsRoster};
 ghost use Rattle.qmodel.specs.Private.Calls.Info.{info_of_open};
-ghost use Rattle.qmodel.specs.Private.Facts.{is_send, message_in};
+ghost use Rattle.qmodel.specs.Private.Facts.{message_in};
 ghost use Rattle.qmodel.specs.Private.Held.{reply_buffer_in, reply_buffer_of};
-ghost use Rattle.qstate.specs.Held.{guarded_message_in, held_message_in, is_held_in};
 ghost use Rattle.qmodel.specs.Private.Rows.{with_buffer};
 ghost use Rattle.qmodel.specs.Private.Step.{unblocked_call, unblocked_wait, written_call};
-ghost use Rattle.qstate.specs.Thread.{open_in, seat_in, sender_in, sent_call, SetsOpen, ChangesSender, MarksUnblocked};
-ghost use Rattle.qstate.specs.Kept.{members_of};
+ghost use Rattle.qstate.specs.Held.{guarded_message_in, held_message_in, is_held_in};
+ghost use Rattle.qstate.specs.Thread.{open_in, sender_in, ChangesOpen};
+ghost use Rattle.qstate.specs.Threads.{IsSeatIn};
 
 use crate::channel::{Channel, owns, tells_unblock};
-use crate::thread::{Thread, sender_seat};
-use qbase::ids::{ChannelId, ConnectionId, ProcessNo, ReceiveId, ThreadNo};
+use crate::seat::Seat;
+use crate::thread::Thread;
+use crate::threads::Threads;
+use qbase::ids::{ChannelId, ConnectionId, ProcessNo, ReceiveId};
 use qmodel::call::Info;
-use qmodel::open_call::{OpenCall, Receipt, Wait};
+use qmodel::open_call::{Receipt, Wait};
 use qtables::channels::Channels;
 use qtables::connections::Connections;
-use std::mem;
 
 /// A message that is held.
 #[derive(Clone, Copy, Debug, PartialEq, Eq)]
@@ -31,92 +31,68 @@ pub struct Held {
     pub receipt: Receipt,
 }
 
-/// The message that the thread at a seat waits for the answer to and that is held on a channel with the
-/// unblock flag, and that channel.
-pub fn guarded_message(
-    threads: &[Thread],
-    connections: &Connections,
-    channels: &Channels<Channel>,
-    seat: usize,
-    thread: ThreadNo,
-) -> Option<(Held, ChannelId)>
-    requires { seat_in threads.now thread ≡ Some seat }
-    ensures { result ≡ guarded_message_in connections.now channels.now (held_message_in (open_in threads.now thread)) }
-{
-    let held = threads[seat].held_message()?;
-    let connection = connections.get(held.coid)?;
-    if tells_unblock(channels, connection.channel) {
-        Some((held, connection.channel))
-    } else {
-        None
+impl Threads {
+    /// The message that the thread at a seat is REPLY-blocked with, if it is held on a channel with the unblock
+    /// flag, and that channel.
+    pub fn guarded_message(
+        &self,
+        connections: &Connections,
+        channels: &Channels<Channel>,
+        seat: &Seat,
+    ) -> Option<(Held, ChannelId)>
+        requires { IsSeatIn self.now seat.now }
+        ensures { result ≡ guarded_message_in connections.now channels.now (held_message_in (open_in self.now seat.now.thread)) }
+    {
+        let held = self.record(seat).held_message()?;
+        let connection = connections.get(held.coid)?;
+        if tells_unblock(channels, connection.channel) {
+            Some((held, connection.channel))
+        } else {
+            None
+        }
     }
-}
 
-/// Keeps that an unblock pulse was made for the message of the thread at a seat.
-pub fn mark_unblocked(threads: &mut Vec<Thread>, seat: usize, thread: ThreadNo)
-    requires { seat_in threads.old.items thread ≡ Some seat }
-    ensures { MarksUnblocked thread threads.old.items threads.new.items }
-{
-    let there = &mut threads[seat];
-    there.mark_unblocked();
-}
-
-/// Where the thread stands whose message is held under this id, on a channel of this process.
-pub fn held_seat(
-    threads: &[Thread],
-    connections: &Connections,
-    channels: &Channels<Channel>,
-    process: ProcessNo,
-    rcvid: ReceiveId,
-) -> Option<usize>
-    requires { IsRoster (members_of threads.now) }
-    ensures held { is_some result ≡ is_held_in threads.now connections.now channels.now process rcvid }
-    ensures seat { IfSome result (λ seat. position (λ t. is_send rcvid t.open_call) threads.now ≡ Some seat) }
-{
-    let seat = sender_seat(threads, rcvid.0)?;
-    let coid = threads[seat].held_over()?;
-    let connection = connections.get(coid)?;
-    if owns(channels, process, connection.channel) {
-        Some(seat)
-    } else {
-        None
+    /// Keeps that an unblock pulse was made for the message of the thread at a seat.
+    pub fn mark_unblocked(&mut self, seat: &Seat)
+        requires { IsSeatIn self.old seat.now }
+        ensures { ChangesOpen seat.now.thread unblocked_call self.old self.new }
+    {
+        let there = &mut self.records[seat.index];
+        there.mark_unblocked();
     }
-}
 
-/// Takes the Send of this number out of the thread at a seat, which then isn't blocked; answers the thread
-/// and the call.
-pub fn take_sent(
-    threads: &mut Vec<Thread>,
-    seat: usize,
-    number: u64,
-) -> (ThreadNo, Option<OpenCall>)
-    requires roster { IsRoster (members_of threads.old.items) }
-    requires seat { position (λ t. is_send number t.open_call) threads.old.items ≡ Some seat }
-    ensures thread { sender_in threads.old.items number ≡ Some result.0 }
-    ensures had { result.1 ≡ open_in threads.old.items result.0 }
-    ensures after { SetsOpen result.0 None threads.old.items threads.new.items }
-{
-    let there = &mut threads[seat];
-    let thread = there.member.thread;
-    (thread, mem::replace(&mut there.open_call, None))
-}
+    /// The seat of the thread whose message is held under this id, on a channel of this process.
+    pub fn holder(
+        &self,
+        connections: &Connections,
+        channels: &Channels<Channel>,
+        process: ProcessNo,
+        rcvid: ReceiveId,
+    ) -> Option<Seat>
+        ensures held { is_some result ≡ is_held_in self.now connections.now channels.now process rcvid }
+        ensures seat { IfSome result (λ seat. IsSeatIn self.now seat) }
+        ensures sender { IfSome result (λ seat. sender_in self.now rcvid ≡ Some seat.thread) }
+    {
+        let seat = self.sender(rcvid.0)?;
+        let coid = self.record(&seat).held_over()?;
+        let connection = connections.get(coid)?;
+        if owns(channels, process, connection.channel) {
+            Some(seat)
+        } else {
+            None
+        }
+    }
 
-/// Copies bytes over the reply buffer of the Send of this number, whose thread stands at a seat, and
-/// answers how many.
-pub fn write_sent(
-    threads: &mut Vec<Thread>,
-    seat: usize,
-    number: u64,
-    offset: usize,
-    bytes: &[u8],
-) -> usize
-    requires roster { IsRoster (members_of threads.old.items) }
-    requires seat { position (λ t. is_send number t.open_call) threads.old.items ≡ Some seat }
-    ensures after { ChangesSender number (written_call offset bytes.now) threads.old.items threads.new.items }
-    ensures count { result ≡ laid_count (reply_buffer_in (sent_call threads.old.items number)) offset bytes.now }
-{
-    let sender = &mut threads[seat];
-    sender.write(offset, bytes)
+    /// Copies bytes over the reply buffer of the Send that the thread at a seat is blocked in, and returns how
+    /// many.
+    pub fn write_sent(&mut self, seat: &Seat, offset: usize, bytes: &[u8]) -> usize
+        requires { IsSeatIn self.old seat.now }
+        ensures after { ChangesOpen seat.now.thread (written_call offset bytes.now) self.old self.new }
+        ensures count { result ≡ laid_count (reply_buffer_in (open_in self.old seat.now.thread)) offset bytes.now }
+    {
+        let sender = &mut self.records[seat.index];
+        sender.write(offset, bytes)
+    }
 }
 
 /// Copies bytes over the reply buffer of a wait for an answer, and answers how many.
@@ -200,7 +176,7 @@ impl Thread {
         }
     }
 
-    /// What is told of the message that it sent, where that is received.
+    /// What `Info` returns of the message that it sent, if that is held.
     pub fn info(&self) -> Option<Info>
         ensures { result ≡ info_of_open self.now.member self.now.open_call }
     {

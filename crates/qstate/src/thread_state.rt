@@ -1,12 +1,14 @@
 //! The state of a thread, and the channel on which it is blocked.
 
-ghost use Rattle.std.specs.Prelude.{◌≡◌, Some};
+ghost use Rattle.std.specs.Prelude.{◌≡◌};
 ghost use Rattle.qtables.specs.Entries.{entry_at};
 ghost use Rattle.qmodel.specs.Private.ThreadState.{channel_over, state_of, state_in};
-ghost use Rattle.qstate.specs.Thread.{open_in, seat_in};
+ghost use Rattle.qstate.specs.Thread.{open_in};
+ghost use Rattle.qstate.specs.Threads.{IsSeatIn};
 
-use crate::thread::Thread;
-use qbase::ids::{ChannelId, ConnectionId, ThreadNo};
+use crate::seat::Seat;
+use crate::threads::Threads;
+use qbase::ids::{ChannelId, ConnectionId};
 use qbase::state::ThreadState;
 use qmodel::open_call::Wait;
 use qtables::connections::Connections;
@@ -40,18 +42,15 @@ pub fn state_of_wait(connections: &Connections, wait: &Wait) -> ThreadState
     }
 }
 
-/// The state of the thread at a seat.
-pub fn state_at(
-    connections: &Connections,
-    threads: &[Thread],
-    seat: usize,
-    thread: ThreadNo,
-) -> ThreadState
-    requires { seat_in threads.now thread ≡ Some seat }
-    ensures { result ≡ state_in (entry_at connections.now) (open_in threads.now thread) }
-{
-    match &threads[seat].open_call {
-        None => ThreadState::Ready,
-        Some(call) => state_of_wait(connections, &call.wait),
+impl Threads {
+    /// The state of the thread at a seat.
+    pub fn state(&self, connections: &Connections, seat: &Seat) -> ThreadState
+        requires { IsSeatIn self.now seat.now }
+        ensures { result ≡ state_in (entry_at connections.now) (open_in self.now seat.now.thread) }
+    {
+        match &self.record(seat).open_call {
+            None => ThreadState::Ready,
+            Some(call) => state_of_wait(connections, &call.wait),
+        }
     }
 }

@@ -1,12 +1,15 @@
 //! Messages that are sent and not yet received: with such a message its thread is SEND-blocked.
 
-ghost use Rattle.std.specs.Prelude.{◌≡◌, Some};
-ghost use Rattle.qstate.specs.Thread.{open_in, seat_in};
+ghost use Rattle.std.specs.Prelude.{◌≡◌};
+ghost use Rattle.qstate.specs.Thread.{open_in};
+ghost use Rattle.qstate.specs.Threads.{IsSeatIn};
 ghost use Rattle.qstate.specs.Unread.{unread_in, MovesUnread};
 
 use crate::channel::{Channel, requeue};
+use crate::seat::Seat;
 use crate::thread::Thread;
-use qbase::ids::{ConnectionId, ThreadNo};
+use crate::threads::Threads;
+use qbase::ids::ConnectionId;
 use qbase::priority::Priority;
 use qmodel::open_call::Wait;
 use qtables::channels::Channels;
@@ -41,24 +44,26 @@ impl Thread {
     }
 }
 
-/// Gives the message with which the thread at a seat is SEND-blocked another priority, on the channel on which it
-/// waits; where the thread isn't SEND-blocked nothing moves. Takes no memory.
-pub fn requeue_unread(
-    threads: &[Thread],
-    connections: &Connections,
-    channels: &mut Channels<Channel>,
-    seat: usize,
-    thread: ThreadNo,
-    priority: Priority,
-)
-    requires { seat_in threads.now thread ≡ Some seat }
-    ensures { MovesUnread (open_in threads.now thread) connections.now priority channels.old channels.new }
-{
-    let Some(unread) = threads[seat].unread() else {
-        return;
-    };
-    let Some(connection) = connections.get(unread.coid) else {
-        return;
-    };
-    requeue(channels, connection.channel, unread.number, priority);
+impl Threads {
+    /// Gives the message with which the thread at a seat is SEND-blocked another priority, on the channel on
+    /// which it waits; if the thread isn't SEND-blocked nothing moves. Takes no memory.
+    pub fn requeue_unread(
+        &self,
+        connections: &Connections,
+        channels: &mut Channels<Channel>,
+        seat: &Seat,
+        priority: Priority,
+    )
+        requires { IsSeatIn self.now seat.now }
+        ensures { MovesUnread (open_in self.now seat.now.thread) connections.now priority channels.old channels.new }
+    {
+        let there = self.record(seat);
+        let Some(unread) = there.unread() else {
+            return;
+        };
+        let Some(connection) = connections.get(unread.coid) else {
+            return;
+        };
+        requeue(channels, connection.channel, unread.number, there.key, priority);
+    }
 }

@@ -1,0 +1,35 @@
+-- What is kept of where the threads stand.
+use Rattle.std.specs.Prelude.{◌≡◌, ◌≢◌, ◌==◌, ℕ, true, false, Bool, ◌&&◌, nat_lt, if◌then◌else◌}
+use Rattle.qbase.specs.ByteSet.{has}
+use Rattle.qmodel.specs.declared.open_call.OpenCall.{OpenCall}
+use Rattle.qmodel.specs.declared.open_call.Wait.{Wait}
+use Rattle.qmodel.specs.declared.open_call.Wait.TheVariants.{Answer, Item as ForItem}
+use Rattle.qstate.specs.declared.index.Index.{Index}
+
+-- the wait is for an item
+abbrev pub is_receive : Wait → Bool
+is_receive (Answer coid message reply_buffer receipt) = false
+is_receive (ForItem chid kind buffer) = true
+
+-- no thread is a receiver
+pub record IsEmpty (index : Index) : Type 0 where
+  pub receivers : (k : ℕ) → has index.receivers k ≡ false
+  pub rising : index.rising ≡ true
+
+-- this call blocks the thread at a place: the numbers rise if it is later than all before, and a receive makes
+-- that thread a receiver and the last one
+pub record Notes (place : ℕ) (call : OpenCall) (old new : Index) : Type 0 where
+  pub rising : new.rising ≡ (old.rising && nat_lt old.latest call.number)
+  pub latest : new.latest ≡ call.number
+  pub newest : new.newest ≡ (if is_receive call.wait then call.number else old.newest)
+  pub last : new.last ≡ (if is_receive call.wait then place else old.last)
+  pub receivers : (k : ℕ) → has new.receivers k
+      ≡ (if is_receive call.wait && (k == place) then true else has old.receivers k)
+
+-- the thread at a place is no receiver any more
+pub record Forgets (place : ℕ) (old new : Index) : Type 0 where
+  pub rising : new.rising ≡ old.rising
+  pub latest : new.latest ≡ old.latest
+  pub newest : new.newest ≡ old.newest
+  pub last : new.last ≡ old.last
+  pub receivers : (k : ℕ) → k ≢ place → has new.receivers k ≡ has old.receivers k

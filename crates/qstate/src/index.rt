@@ -1,0 +1,87 @@
+//! Where to look first for a thread: guesses, each of which is tried before it is believed.
+
+ghost use Rattle.std.specs.Prelude.{◌≡◌, ◌<◌, true};
+ghost use Rattle.qbase.specs.ByteSet.{has};
+ghost use Rattle.qstate.specs.Index.{Notes, Forgets};
+
+use qbase::byte_set::ByteSet;
+use qbase::ids::ThreadNo;
+use qmodel::open_call::{OpenCall, Wait};
+use qtables::member::Member;
+
+/// Where the threads of a roster stand, by what they are looked for.
+#[derive(Debug)]
+pub struct Index {
+    // For each thread number: the index of that thread, if it is in the roster.
+    threads: [u8; 256],
+    // For the last byte of a Send's number: the index of the thread that sent last with such a number.
+    senders: [u8; 256],
+    // The indices of all threads that are RECEIVE-blocked, and perhaps of others.
+    pub(crate) receivers: ByteSet,
+    // The number of the last call that blocked its thread.
+    pub(crate) latest: u64,
+    // The number of the last receive that blocked its thread, and the index of that thread.
+    pub(crate) newest: u64,
+    pub(crate) last: usize,
+    // Whether the numbers of the calls that blocked their threads have risen so far, as a kernel's do.
+    pub(crate) rising: bool,
+}
+
+impl Index {
+    /// The index of a roster's threads, none of them blocked.
+    pub fn new(members: &[Member]) -> Index
+    {
+        let mut threads = [0; 256];
+        let mut place: u8 = 0;
+        for member in members {
+            threads[member.thread.0 as usize] = place;
+            place = place.wrapping_add(1);
+        }
+        Index {
+            threads,
+            senders: [0; 256],
+            receivers: ByteSet::new(),
+            latest: 0,
+            newest: 0,
+            last: 0,
+            rising: true,
+        }
+    }
+
+    /// Where the thread of this number may stand.
+    pub fn thread(&self, thread: ThreadNo) -> usize {
+        self.threads[thread.0 as usize] as usize
+    }
+
+    /// Where the sender of the message of this number may stand.
+    pub fn sender(&self, number: u64) -> usize {
+        self.senders[number as usize % 256] as usize
+    }
+
+    /// Keeps that a call blocks the thread at a place.
+    pub fn note(&mut self, place: usize, call: &OpenCall)
+        requires { place < 64 }
+        ensures { Notes place call.now self.old self.new }
+    {
+        self.rising = self.rising && self.latest < call.number;
+        self.latest = call.number;
+        match &call.wait {
+            Wait::Answer { .. } => {
+                self.senders[call.number as usize % 256] = place as u8;
+            }
+            Wait::Item { .. } => {
+                self.receivers.insert(place as u8);
+                self.newest = call.number;
+                self.last = place;
+            }
+        }
+    }
+
+    /// Keeps that the thread at a place isn't blocked.
+    pub fn forget(&mut self, place: usize)
+        requires { place < 64 }
+        ensures { Forgets place self.old self.new }
+    {
+        self.receivers.remove(place as u8);
+    }
+}

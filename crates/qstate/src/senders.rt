@@ -1,0 +1,69 @@
+//! The senders of messages.
+
+ghost use Rattle.std.specs.Prelude.{◌≡◌, false, option_map, IfSome};
+ghost use Rattle.qbase.specs.Laying.{laid_count, lay_over};
+ghost use Rattle.qqueue.specs.Best.{is_pulse};
+ghost use Rattle.qmodel.specs.Private.Rows.{delivery_of};
+ghost use Rattle.qmodel.specs.Private.Step.{held_call};
+ghost use Rattle.qstate.specs.Thread.{sender_in, message_from, ChangesSender, HandsOver};
+ghost use Rattle.qstate.specs.Threads.{IsSeatIn};
+
+use crate::seat::Seat;
+use crate::threads::Threads;
+use qbase::bytes::Bytes;
+use qbase::ids::ReceiveId;
+use qbase::priority::Priority;
+use qmodel::call::Mark;
+use qqueue::item::Item;
+
+impl Threads {
+    /// The seat of the thread whose open call is the Send of this number.
+    pub fn sender(&self, number: u64) -> Option<Seat>
+        ensures seat { IfSome result (λ seat. IsSeatIn self.now seat) }
+        ensures sender { option_map (λ seat. seat.thread) result ≡ sender_in self.now number }
+    {
+        let guess = self.index.sender(number);
+        let index = match self.records.get(guess) {
+            Some(there) if self.index.rising && there.sends(number) => guess,
+            _ => self.records.iter().position(|t| t.sends(number))?,
+        };
+        Some(self.seat_at(index))
+    }
+
+    /// Hands the message of this number over: lays it over the front of a buffer, keeps its receipt with its
+    /// sender, and returns how many bytes were copied; 0 if there is no such message.
+    fn hand_over(&mut self, number: u64, priority: Priority, buffer: &mut Bytes) -> usize
+        ensures kept { ChangesSender number (held_call (record { priority = priority; copied = result; unblocked = false })) self.old self.new }
+        ensures buffer { buffer.new ≡ lay_over buffer.old 0 (message_from self.old number) }
+        ensures count { result ≡ laid_count buffer.old 0 (message_from self.old number) }
+    {
+        match self.sender(number) {
+            None => 0,
+            Some(seat) => {
+                let sender = &mut self.records[seat.index];
+                sender.hand_over(priority, buffer)
+            }
+        }
+    }
+
+    /// Hands an item over to a receive: lays a message over the front of its buffer and keeps the receipt with
+    /// the sender; a pulse changes neither. Returns the mark of the receive's completion.
+    pub fn hand_item(&mut self, item: Item, buffer: &mut Bytes) -> Mark
+        ensures kept { HandsOver (is_pulse item.what) item.number (record { priority = item.priority; copied = laid_count buffer.old 0 (message_from self.old item.number); unblocked = false }) self.old self.new }
+        ensures mark { result ≡ (delivery_of item (message_from self.old item.number) buffer.old).0 }
+        ensures buffer { buffer.new ≡ (delivery_of item (message_from self.old item.number) buffer.old).1 }
+    {
+        if item.what.is_pulse() {
+            return Mark::Pulse {
+                item: item.number,
+                priority: item.priority,
+                what: item.what,
+            };
+        }
+        let copied = self.hand_over(item.number, item.priority, buffer);
+        Mark::Message {
+            rcvid: ReceiveId(item.number),
+            copied,
+        }
+    }
+}

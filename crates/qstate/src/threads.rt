@@ -1,0 +1,194 @@
+//! The threads of a kernel.
+
+ghost use Rattle.std.specs.Prelude.{◌≡◌, ◌+◌, ◌<◌, ◌≤◌, Some, true, is_some, length, map, drop, option_map, IfOk, IfSome, OnSome};
+ghost use Rattle.qtables.specs.Members.{member_at, IsRoster};
+ghost use Rattle.qqueue.specs.Best.{is_pulse};
+ghost use Rattle.qbase.specs.Laying.{laid_count};
+ghost use Rattle.qmodel.specs.Private.Facts.{is_in_process, is_send};
+ghost use Rattle.qmodel.specs.Private.Rows.{delivery_of};
+ghost use Rattle.qstate.specs.Kept.{members_of};
+ghost use Rattle.qstate.specs.Open.{receive_in, send_in};
+ghost use Rattle.qstate.specs.Thread.{ready_thread, open_in, newest_in, sender_in, message_from, SetsOpen, SetsPriority, Wakes, HandsOver};
+ghost use Rattle.qstate.specs.Threads.{IsSeatIn, IsRecordOf, newest_of, number_and_thread};
+
+use crate::open::{OpenReceive, OpenSend};
+use crate::seat::Seat;
+use crate::thread::Thread;
+use qbase::byte_set::ByteSet;
+use qbase::bytes::Bytes;
+use qbase::ids::{ChannelId, ProcessNo, ReceiveId, ThreadNo};
+use qbase::priority::Priority;
+use qmodel::call::Mark;
+use qmodel::open_call::{OpenCall, Wait};
+use qqueue::item::Item;
+use qtables::roster::Roster;
+use std::alloc::{AllocError, Global};
+use std::marker::Model;
+use std::mem;
+
+/// The threads of a roster, with what each is blocked in. Contracts see the records, in rising thread number.
+///
+/// A thread, the sender of a message and the newest receiver of a channel are found by what is kept beside the
+/// records: each is a guess that is tried first, so that a wrong guess costs a search and nothing else.
+#[derive(Drop)]
+pub struct Threads {
+    pub(crate) records: Vec<Thread>,
+    // Where to look first for a thread.
+    pub(crate) index: Index,
+}
+
+impl Model for Threads {
+    ghost use Rattle.std.specs.Prelude.{List};
+    ghost use Rattle.qstate.specs.declared.thread.Thread.{Thread};
+    ghost use Rattle.qstate.specs.Threads.{IsIndexed};
+
+    ghost Value = { List Thread };
+
+    ghost view = { λ t. t.records.items };
+
+    ghost invariant = { λ t. IsIndexed t.records.items t.index };
+}
+
+/// The record of a thread that isn't blocked and has the priority that it begins with.
+fn ready(member: Member) -> Thread
+    ensures { result ≡ ready_thread member }
+{
+    Thread {
+        member,
+        priority: member.priority,
+        open_call: None,
+        key: 0,
+    }
+}
+
+impl Threads {
+    /// The threads of a roster, none of them blocked. The records are all that takes memory.
+    pub fn new(alloc: Global, roster: &Roster) -> Result<Threads, AllocError>
+        ensures { IfOk result (λ threads. threads ≡ map ready_thread roster.now) }
+    {
+        let members = roster.members();
+        let mut records = Vec::with_capacity(alloc, members.len())?;
+        for member in members {
+            records.push(ready(*member))?;
+        }
+        Ok(Threads {
+            records,
+            index: Index::new(members),
+        })
+    }
+
+    /// The records of the threads, in rising thread number.
+    pub fn records(&self) -> &[Thread]
+        ensures { result.now ≡ self.now }
+    {
+        &self.records
+    }
+
+    /// The seat at an index.
+    fn seat_at(&self, index: usize) -> Seat
+        requires { index < length self.now }
+        ensures seat { IsSeatIn self.now result }
+        ensures index { result.index ≡ index }
+    {
+        Seat {
+            thread: self.records[index].member.thread,
+            index,
+        }
+    }
+
+    /// The seat of a thread; `None` if it isn't in the roster.
+    pub fn seat(&self, thread: ThreadNo) -> Option<Seat>
+        ensures seat { IfSome result (λ seat. IsSeatIn self.now seat) }
+        ensures thread { IfSome result (λ seat. seat.thread ≡ thread) }
+        ensures known { is_some result ≡ is_some (member_at (members_of self.now) thread) }
+    {
+        let guess = self.index.thread(thread);
+        let index = match self.records.get(guess) {
+            Some(there) if there.member.thread == thread => guess,
+            _ => self.records.iter().position(|t| t.member.thread == thread)?,
+        };
+        Some(Seat { thread, index })
+    }
+
+    /// The seat of a thread of this process; `None` if it isn't one.
+    pub fn fellow(&self, process: ProcessNo, thread: ThreadNo) -> Option<Seat>
+        ensures seat { IfSome result (λ seat. IsSeatIn self.now seat) }
+        ensures thread { IfSome result (λ seat. seat.thread ≡ thread) }
+        ensures own { is_some result ≡ is_in_process process (member_at (members_of self.now) thread) }
+    {
+        let seat = self.seat(thread)?;
+        if self.record(&seat).member.process == process {
+            Some(seat)
+        } else {
+            None
+        }
+    }
+
+    /// What is kept of the thread at a seat.
+    pub fn record(&self, seat: &Seat) -> &Thread
+        requires { IsSeatIn self.now seat.now }
+        ensures { IsRecordOf seat.now.thread self.now result.now }
+    {
+        &self.records[seat.index]
+    }
+
+    /// Gives the thread at a seat this priority, or leaves it its own.
+    pub fn set_priority(&mut self, seat: &Seat, priority: Option<Priority>)
+        requires { IsSeatIn self.old seat.now }
+        ensures { SetsPriority seat.now.thread priority self.old self.new }
+    {
+        let there = &mut self.records[seat.index];
+        there.priority = priority.unwrap_or(there.priority);
+    }
+
+    /// Takes the open call of the thread at a seat, which then isn't blocked.
+    fn take_open(&mut self, seat: &Seat) -> Option<OpenCall>
+        requires { IsSeatIn self.old seat.now }
+        ensures had { result ≡ open_in self.old seat.now.thread }
+        ensures after { SetsOpen seat.now.thread None self.old self.new }
+    {
+        self.index.forget(seat.index);
+        let there = &mut self.records[seat.index];
+        mem::replace(&mut there.open_call, None)
+    }
+
+    /// Blocks the thread at a seat in a call. The key is that of its message in the queue of the channel, if
+    /// the call waits there.
+    pub fn block(&mut self, seat: &Seat, call: OpenCall, key: usize)
+        requires { IsSeatIn self.old seat.now }
+        ensures { SetsOpen seat.now.thread (Some call) self.old self.new }
+    {
+        self.index.note(seat.index, &call);
+        let there = &mut self.records[seat.index];
+        there.open_call = Some(call);
+        there.key = key;
+    }
+
+    /// Ends the receive that the thread at a seat is blocked in, and gives it this priority, or leaves it its
+    /// own.
+    pub fn wake(&mut self, seat: &Seat, priority: Option<Priority>) -> OpenReceive
+        requires seat { IsSeatIn self.old seat.now }
+        requires receives { is_some (receive_in seat.now.thread (open_in self.old seat.now.thread)) ≡ true }
+        ensures had { receive_in seat.now.thread (open_in self.old seat.now.thread) ≡ Some result }
+        ensures after { Wakes seat.now.thread priority self.old self.new }
+    {
+        self.set_priority(seat, priority);
+        match OpenReceive::of(seat.thread, self.take_open(seat)) {
+            Some(receive) => receive,
+            None => unreachable!(),
+        }
+    }
+
+    /// Ends the Send that the thread at a seat is blocked in.
+    pub fn take_sent(&mut self, seat: &Seat) -> OpenSend
+        requires seat { IsSeatIn self.old seat.now }
+        requires sends { is_some (send_in seat.now.thread (open_in self.old seat.now.thread)) ≡ true }
+        ensures had { send_in seat.now.thread (open_in self.old seat.now.thread) ≡ Some result }
+        ensures after { SetsOpen seat.now.thread None self.old self.new }
+    {
+        match OpenSend::of(seat.thread, self.take_open(seat)) {
+            Some(send) => send,
+            None => unreachable!(),
+        }
+    }
+}
