@@ -1,2 +1,3 @@
+pub mod ByteSets
 pub mod Lists
 pub mod Lengths

@@ -1,3 +1,4 @@
+pub mod ByteSet
 pub mod Errno
 pub mod Laying
 pub mod Priority

@@ -1,7 +1,6 @@
 pub mod BestLaws
 pub mod KeptLaws
 pub mod LaneLaws
-pub mod LevelLaws
 pub mod NextLaws
 pub mod OrderLaws
 pub mod PadLaws

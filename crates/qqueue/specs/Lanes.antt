@@ -3,7 +3,7 @@ use Rattle.std.specs.Prelude.{◌≡◌, ℕ, ◌<◌, ◌==◌, ◌&&◌, ◌||
 use Rattle.std.specs.Prelude.{slice_index}
 use Rattle.qqueue.specs.declared.item.Item.{Item}
 use Rattle.qqueue.specs.declared.lane.Lane.{Lane}
-use Rattle.qqueue.specs.Levels.{has}
+use Rattle.qbase.specs.ByteSet.{has}
 
 -- the key of a level's first node; none where the level isn't in the set
 abbrev pub first_in : Lane → ℕ → Option ℕ

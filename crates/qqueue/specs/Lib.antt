@@ -3,6 +3,5 @@ pub mod Contents
 pub mod Joins
 pub mod Kept
 pub mod Lanes
-pub mod Levels
 pub mod Order
 pub mod Rings

@@ -4,7 +4,7 @@ ghost use Rattle.std.specs.Prelude.{◌≡◌, ◌≢◌, ◌≤◌, ℕ, None, 
 ghost use Rattle.std.specs.Vec.{vec_len, vec_capacity};
 ghost use Rattle.qqueue.specs.Lanes.{first_in, IsForemost};
 
-use crate::levels::Levels;
+use qbase::byte_set::ByteSet;
 use std::alloc::{AllocError, Global};
 
 /// How many levels there are.
@@ -15,7 +15,7 @@ const LEVELS: usize = 256;
 #[derive(Debug, Drop)]
 pub struct Lane {
     /// The levels that have a node.
-    pub levels: Levels,
+    pub levels: ByteSet,
     /// The keys of the first nodes, by level; none until room is made.
     pub firsts: Vec<usize>,
 }
@@ -28,7 +28,7 @@ impl Lane {
         ensures capacity { vec_capacity result.firsts ≡ 0 }
     {
         Lane {
-            levels: Levels::new(),
+            levels: ByteSet::new(),
             firsts: Vec::new(alloc),
         }
     }
@@ -48,7 +48,7 @@ impl Lane {
         requires { vec_len self.now.firsts ≡ 256 }
         ensures { result ≡ first_in self.now level }
     {
-        if self.levels.has(level) {
+        if self.levels.contains(level) {
             Some(self.firsts[level as usize])
         } else {
             None
@@ -63,7 +63,7 @@ impl Lane {
         ensures len { vec_len self.new.firsts ≡ vec_len self.old.firsts }
     {
         self.firsts[level as usize] = key;
-        self.levels.add(level);
+        self.levels.insert(level);
     }
 
     /// Lets a level have no node.

@@ -4,7 +4,6 @@
 pub mod item;
 mod lane;
 pub mod laws;
-mod levels;
 mod links;
 mod lists;
 mod node;

@@ -17,6 +17,7 @@ fn set_after(nodes: &mut Slab<Node>, key: usize, after: usize)
     ensures items { (x : ℕ) → item_of nodes.new x ≡ item_of nodes.old x }
     ensures len { slab_len nodes.new ≡ slab_len nodes.old }
     ensures capacity { nodes.new.capacity ≡ nodes.old.capacity }
+    ensures vacant { nodes.new.vacant_key ≡ nodes.old.vacant_key }
 {
     nodes[key].after = after;
 }
@@ -30,6 +31,7 @@ fn set_before(nodes: &mut Slab<Node>, key: usize, before: usize)
     ensures items { (x : ℕ) → item_of nodes.new x ≡ item_of nodes.old x }
     ensures len { slab_len nodes.new ≡ slab_len nodes.old }
     ensures capacity { nodes.new.capacity ≡ nodes.old.capacity }
+    ensures vacant { nodes.new.vacant_key ≡ nodes.old.vacant_key }
 {
     nodes[key].before = before;
 }
@@ -44,14 +46,17 @@ pub fn link(nodes: &mut Slab<Node>, first: usize, second: usize)
     ensures items { (x : ℕ) → item_of nodes.new x ≡ item_of nodes.old x }
     ensures len { slab_len nodes.new ≡ slab_len nodes.old }
     ensures capacity { nodes.new.capacity ≡ nodes.old.capacity }
+    ensures vacant { nodes.new.vacant_key ≡ nodes.old.vacant_key }
 {
     set_after(nodes, first, second);
     set_before(nodes, second, first);
 }
 
-/// Adds a node that is a ring of its own, into the room that there is.
+/// Adds a node that is a ring of its own, into the room that there is, and returns its key: the one that was
+/// vacated last.
 pub fn add(nodes: &mut Slab<Node>, item: Item) -> usize
     requires { HasRoomFor nodes.old 1 }
+    ensures key { result ≡ nodes.old.vacant_key }
     ensures free { item_of nodes.old result ≡ None }
     ensures item { item_of nodes.new result ≡ Some item }
     ensures alone { Linked nodes.new result result }
@@ -70,7 +75,7 @@ pub fn add(nodes: &mut Slab<Node>, item: Item) -> usize
 }
 
 /// The key of the item of a number, by a look at each node.
-pub fn key_of(nodes: &Slab<Node>, number: u64) -> Option<usize>
+fn search(nodes: &Slab<Node>, number: u64) -> Option<usize>
     ensures found { IfSome result (λ key. IfSome (item_of nodes.now key) (λ item. item.number ≡ number)) }
     ensures there { IfSome result (λ key. IsSome (item_of nodes.now key)) }
     ensures absent { IfNone result ((key : ℕ) → IfSome (item_of nodes.now key) (λ item. item.number ≢ number)) }
@@ -81,4 +86,16 @@ pub fn key_of(nodes: &Slab<Node>, number: u64) -> Option<usize>
         }
     }
     None
+}
+
+/// The key of the item of a number: this key, where the item is under it, or else by a search.
+pub fn key_of(nodes: &Slab<Node>, number: u64, key: usize) -> Option<usize>
+    ensures found { IfSome result (λ key. IfSome (item_of nodes.now key) (λ item. item.number ≡ number)) }
+    ensures there { IfSome result (λ key. IsSome (item_of nodes.now key)) }
+    ensures absent { IfNone result ((key : ℕ) → IfSome (item_of nodes.now key) (λ item. item.number ≢ number)) }
+{
+    match nodes.get(key) {
+        Some(node) if node.item.number == number => Some(key),
+        _ => search(nodes, number),
+    }
 }

@@ -4,7 +4,7 @@ ghost use Rattle.std.specs.Prelude.{◌≡◌, ◌≢◌, ◌+◌, ◌<◌, ◌�
 ghost use Rattle.std.specs.List.{AllByRecursion};
 ghost use Rattle.std.specs.Vec.{vec_len, vec_capacity};
 ghost use Rattle.slab.specs.Slab.{slab_len};
-ghost use Rattle.qqueue.specs.Best.{best_of, is_pulse, without_item, with_item_priority};
+ghost use Rattle.qqueue.specs.Best.{best_of, is_pulse, without_item, with_item_priority, with_priority};
 ghost use Rattle.qqueue.specs.Lanes.{first_in, IsEarlier, IsForemost};
 ghost use Rattle.qqueue.specs.Rings.{put_place, places_after, places_of, items_at, pulses_of, Rises, keys_on, Ring, first_of, after_of, before_of, item_of, item_at, Linked};
 ghost use Rattle.qqueue.specs.Joins.{Joined, ClosedUp};
@@ -48,6 +48,7 @@ fn join(lane: &mut Lane, nodes: &mut Slab<Node>, level: u8, key: usize, next: Op
     ensures firsts { vec_len lane.new.firsts ≡ vec_len lane.old.firsts }
     ensures len { slab_len nodes.new ≡ slab_len nodes.old }
     ensures capacity { nodes.new.capacity ≡ nodes.old.capacity }
+    ensures vacant { nodes.new.vacant_key ≡ nodes.old.vacant_key }
 {
     match lane.first(level) {
         None => lane.set(level, key),
@@ -72,6 +73,7 @@ fn close_up(lane: &mut Lane, nodes: &mut Slab<Node>, key: usize, node: Node)
     ensures firsts { vec_len lane.new.firsts ≡ vec_len lane.old.firsts }
     ensures len { slab_len nodes.new ≡ slab_len nodes.old }
     ensures capacity { nodes.new.capacity ≡ nodes.old.capacity }
+    ensures vacant { nodes.new.vacant_key ≡ nodes.old.vacant_key }
 {
     let level = node.item.priority.get();
     if node.after == key {
@@ -166,8 +168,8 @@ impl Lists {
         Ok(())
     }
 
-    /// Puts an item behind all others, into the room that there is.
-    pub fn append(&mut self, item: Item)
+    /// Puts an item behind all others, into the room that there is, and returns its key.
+    pub fn append(&mut self, item: Item) -> usize
         requires kept { IsKept self.old }
         requires room { 0 < self.old.room }
         requires newest { AllByRecursion (λ place. place.0.number < item.number) (places_of self.old.nodes) }
@@ -176,30 +178,32 @@ impl Lists {
         ensures len { slab_len self.new.nodes ≡ slab_len self.old.nodes + 1 }
         ensures room { self.new.room + 1 ≡ self.old.room }
     {
-        self.put(item, None);
+        self.put(item, None)
     }
 
-    /// Puts an item at its place by number, into the room that there is.
-    fn insert(&mut self, item: Item)
+    /// Puts an item at its place by number, into the room that there is, and returns its key.
+    fn insert(&mut self, item: Item) -> usize
         requires kept { IsKept self.old }
         requires room { 0 < self.old.room }
         requires apart { AllByRecursion (λ place. place.0.number ≢ item.number) (places_of self.old.nodes) }
         ensures kept { IsKept self.new }
-        ensures places { (key : ℕ) × (places_of self.new.nodes ≡ put_place (item, key) (places_of self.old.nodes)) }
+        ensures key { result ≡ self.old.nodes.vacant_key }
+        ensures places { places_of self.new.nodes ≡ put_place (item, result) (places_of self.old.nodes) }
         ensures room { self.new.room + 1 ≡ self.old.room }
     {
         let next = self.next_of(&item);
-        self.put(item, next);
+        self.put(item, next)
     }
 
-    /// Puts an item before the next one of its kind and level, into the room that there is.
-    fn put(&mut self, item: Item, next: Option<usize>)
+    /// Puts an item before the next one of its kind and level, into the room that there is, and returns its key.
+    fn put(&mut self, item: Item, next: Option<usize>) -> usize
         requires kept { IsKept self.old }
         requires room { 0 < self.old.room }
         requires apart { AllByRecursion (λ place. place.0.number ≢ item.number) (places_of self.old.nodes) }
         requires next { next ≡ first_of (keys_on (is_pulse item.what) item.priority (places_after item.number (places_of self.old.nodes))) }
         ensures kept { IsKept self.new }
-        ensures places { (key : ℕ) × (places_of self.new.nodes ≡ put_place (item, key) (places_of self.old.nodes)) }
+        ensures key { result ≡ self.old.nodes.vacant_key }
+        ensures places { places_of self.new.nodes ≡ put_place (item, result) (places_of self.old.nodes) }
         ensures len { slab_len self.new.nodes ≡ slab_len self.old.nodes + 1 }
         ensures room { self.new.room + 1 ≡ self.old.room }
     {
@@ -211,6 +215,7 @@ impl Lists {
         } else {
             join(&mut self.messages, &mut self.nodes, level, key, next);
         }
+        key
     }
 
     /// The key of the first of the items of an item's kind and level whose number is greater.
@@ -236,6 +241,7 @@ impl Lists {
         ensures places { places_of self.old.nodes ≡ put_place (result, key) (places_of self.new.nodes) }
         ensures rest { items_at (places_of self.new.nodes) ≡ without_item result.number (items_at (places_of self.old.nodes)) }
         ensures counts { pulses_of (items_at (places_of self.old.nodes)) ≡ pulses_of (items_at (places_of self.new.nodes)) + (if is_pulse result.what then 1 else 0) }
+        ensures vacant { self.new.nodes.vacant_key ≡ key }
         ensures kept { IsKept self.new }
         ensures room { self.old.room < self.new.room }
     {
@@ -250,17 +256,19 @@ impl Lists {
     }
 
     /// Gives the item under a key another priority: it then stands at its place by number among the items of
-    /// that priority.
+    /// that priority, under the same key.
     pub fn requeue(&mut self, key: usize, priority: Priority)
         requires kept { IsKept self.old }
         requires there { IsSome (item_of self.old.nodes key) }
         ensures items { IfSome (item_of self.old.nodes key) (λ item. items_at (places_of self.new.nodes) ≡ with_item_priority item.number priority (items_at (places_of self.old.nodes))) }
+        ensures same_key { IfSome (item_of self.old.nodes key) (λ item. item_of self.new.nodes key ≡ Some (with_priority priority item)) }
         ensures counts { pulses_of (items_at (places_of self.new.nodes)) ≡ pulses_of (items_at (places_of self.old.nodes)) }
         ensures kept { IsKept self.new }
         ensures room { self.new.room ≡ self.old.room }
     {
         let room = self.room;
         let item = self.take_out(key);
+        // The key that was vacated last is the first that is given out: the item comes under its own again.
         self.insert(Item { priority, ..item });
         // What was taken out left room for what came: the room that was promised is the same.
         self.room = room;

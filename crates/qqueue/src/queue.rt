@@ -82,19 +82,21 @@ impl Queue {
     }
 
     /// Puts an item behind all others, into the room that was reserved; takes no memory: just one place of the
-    /// room is used.
-    pub fn push(&mut self, item: Item)
+    /// room is used. Returns the item's key, by which `remove` and `requeue` find it at once: it keeps this key
+    /// for as long as it waits.
+    pub fn push(&mut self, item: Item) -> usize
         requires room { 0 < self.old.room }
         requires newest { AllByRecursion (λ x. x.number < item.number) self.old.items }
         ensures items { self.new.items ≡ self.old.items ++ item ∷ [] }
         ensures room { self.new.room + 1 ≡ self.old.room }
     {
-        self.lists.append(item);
+        let key = self.lists.append(item);
         if item.what.is_pulse() {
             let counted = self.pulses < self.lists.nodes.len();
             prove!(counted);
             self.pulses += 1;
         }
+        key
     }
 
     /// The item that `take` would give.
@@ -117,26 +119,28 @@ impl Queue {
         Some(take_out(&mut self.lists, &mut self.pulses, best))
     }
 
-    /// Takes out the item of this number, whatever its priority.
-    pub fn remove(&mut self, number: u64) -> Option<Item>
+    /// Takes out the item of this number, whatever its priority. The key is a guess, and may be any number: the
+    /// item is found at once where it is the one that `push` returned, and otherwise by a look at each item.
+    pub fn remove(&mut self, number: u64, key: usize) -> Option<Item>
         ensures found { result ≡ item_of_number number self.old.items }
         ensures rest { self.new.items ≡ without_item number self.old.items }
         ensures unchanged { IfNone result (self.new ≡ self.old) }
         ensures room { self.old.room ≤ self.new.room }
     {
-        let key = key_of(&self.lists.nodes, number)?;
+        let key = key_of(&self.lists.nodes, number, key)?;
         Some(take_out(&mut self.lists, &mut self.pulses, key))
     }
 
     /// Gives the item of this number another priority, and says whether there is one; takes no memory. It then
-    /// stands among the items of its new priority at its place by number, not behind them.
-    pub fn requeue(&mut self, number: u64, priority: Priority) -> bool
+    /// stands among the items of its new priority at its place by number, not behind them. The key is a guess,
+    /// as in `remove`.
+    pub fn requeue(&mut self, number: u64, priority: Priority, key: usize) -> bool
         ensures found { result ≡ is_some (item_of_number number self.old.items) }
         ensures items { self.new.items ≡ with_item_priority number priority self.old.items }
         ensures unchanged { IsFalse result → self.new ≡ self.old }
         ensures room { self.new.room ≡ self.old.room }
     {
-        match key_of(&self.lists.nodes, number) {
+        match key_of(&self.lists.nodes, number, key) {
             Some(key) => {
                 self.lists.requeue(key, priority);
                 true

@@ -1,7 +1,7 @@
 use Rattle.std.proofs.Common.{◌-◌, ◌≤◌, length, Some, None, cond, ap, arith}
 use Rattle.std.specs.Result.{is_ok}
 use Rattle.std.specs.Vec.{vec_len}
-use Rattle.qqueue.specs.Levels.{has}
+use Rattle.qbase.specs.ByteSet.{has}
 use Rattle.qqueue.proofs.PadLaws.{resized}
 use Rattle.qqueue.proofs.lane.Lane.make.Goals as goal
 

@@ -13,5 +13,5 @@ put-requires-clause-next c =
 pub returns-clause-items : goal.returns-clause-items
 returns-clause-items c =
     let was = places_of c.args.self.now.nodes in
-    let place : Item × ℕ = (c.args.item, c.put.ensures.places.0) in
-    ap items_at (c.put.ensures.places.1 ∙ put_last place was c.requires.newest) ∙ items_at-append was (place ∷ [])
+    let place : Item × ℕ = (c.args.item, c.put.result) in
+    ap items_at (c.put.ensures.places ∙ put_last place was c.requires.newest) ∙ items_at-append was (place ∷ [])

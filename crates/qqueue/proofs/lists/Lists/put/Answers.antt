@@ -62,7 +62,7 @@ returns-then-is_pulse-clause-kept c =
 pub returns-then-is_pulse-clause-places : goal.returns-then-is_pulse-clause-places
 returns-then-is_pulse-clause-places c =
     let l = c.args.self.now in
-    (c.add-key.result, put_places (first_at l.messages l.pulses) (first_at l.messages c.join.new.lane) l.nodes c.add-key.new.nodes c.join.new.nodes c.args.item c.add-key.result true c.args.next (pulse_put c))
+    put_places (first_at l.messages l.pulses) (first_at l.messages c.join.new.lane) l.nodes c.add-key.new.nodes c.join.new.nodes c.args.item c.add-key.result true c.args.next (pulse_put c)
 
 -- ---- a message
 
@@ -118,4 +118,4 @@ returns-else-is_pulse-clause-kept c =
 pub returns-else-is_pulse-clause-places : goal.returns-else-is_pulse-clause-places
 returns-else-is_pulse-clause-places c =
     let l = c.args.self.now in
-    (c.add-key.result, put_places (first_at l.messages l.pulses) (first_at c.join-else-is_pulse.new.lane l.pulses) l.nodes c.add-key.new.nodes c.join-else-is_pulse.new.nodes c.args.item c.add-key.result false c.args.next (message_put c))
+    put_places (first_at l.messages l.pulses) (first_at c.join-else-is_pulse.new.lane l.pulses) l.nodes c.add-key.new.nodes c.join-else-is_pulse.new.nodes c.args.item c.add-key.result false c.args.next (message_put c)

@@ -3,8 +3,8 @@ use Rattle.qqueue.specs.Rings.{places_of, items_at}
 use Rattle.qqueue.proofs.PlaceLaws.{all_of_items, length-items_at, length-places_from, pulses_within}
 use Rattle.qqueue.proofs.queue.Queue.push.Goals as goal
 
-pub append-requires-clause-newest : goal.append-requires-clause-newest
-append-requires-clause-newest c =
+pub append-key-requires-clause-newest : goal.append-key-requires-clause-newest
+append-key-requires-clause-newest c =
     all_of_items (λ x. x.number < c.args.item.number) (places_of c.self.inside.lists.nodes) (rw (← c.self.view_is) at c.requires.newest)
 
 pub prove-unreachable-requires : goal.prove-unreachable-requires
@@ -14,4 +14,4 @@ prove-unreachable-requires c =
     let long = length-items_at (places_of was) in
     let slots = length-places_from 0 was.slots in
     let count = c.self.invariant.1 in
-    omega (arith, within, long, slots, count, c.append.ensures.len, c.len.ensures)
+    omega (arith, within, long, slots, count, c.append-key.ensures.len, c.len.ensures)

@@ -1,6 +1,6 @@
 use Rattle.std.proofs.Common.{rules}
-use Rattle.qqueue.proofs.LevelLaws.{greatest-bit}
-use Rattle.qqueue.proofs.levels.greatest_bit.Goals as goal
+use Rattle.qbase.proofs.ByteSets.{greatest-bit}
+use Rattle.qbase.proofs.byte_set.greatest_bit.Goals as goal
 
 pub returns-clause-set : goal.returns-clause-set
 returns-clause-set c = (greatest-bit c.args.word c.requires (search rules)).here

@@ -2,7 +2,7 @@ use Rattle.std.proofs.Common.{◌≡◌, ap, inl, inr, refl, ◌∙◌, arith}
 use Rattle.std.specs.Prelude.{Some}
 use Rattle.slab.specs.Slab.{get}
 use Rattle.slab.proofs.SlabLemmas.{Contains-cons, Contains-cons_cases, Contains-entries}
-use Rattle.qqueue.proofs.links.key_of.Goals as goal
+use Rattle.qqueue.proofs.links.search.Goals as goal
 
 pub loop-key-init : goal.loop-key-init
 loop-key-init c =

@@ -9,19 +9,19 @@ use Rattle.std.proofs.lemmas.Nat.Bits.{bit_at_above}
 use Rattle.std.specs.Int.{bit_at}
 use Rattle.std.specs.Int.Count.{count_leading_zeros}
 
--- a word is written that differs from the old one at most in the bit of one level: the bits of all other levels stay
-pub other-kept : (words : List ℕ) (level other word : ℕ) → level / 64 < length words → other ≢ level → (other % 64 ≢ level % 64 → bit_at word (other % 64) ≡ bit_at (get_or words (level / 64) 0) (other % 64)) → bit_at (get_or (set words (level / 64) word) (other / 64) 0) (other % 64) ≡ bit_at (get_or words (other / 64) 0) (other % 64)
-other-kept words level other word within different same =
-    elim (cases_eq (other / 64) (level / 64)) [
+-- a word is written that differs from the old one at most in the bit of one number: the bits of all other numbers stay
+pub other-kept : (words : List ℕ) (number other word : ℕ) → number / 64 < length words → other ≢ number → (other % 64 ≢ number % 64 → bit_at word (other % 64) ≡ bit_at (get_or words (number / 64) 0) (other % 64)) → bit_at (get_or (set words (number / 64) word) (other / 64) 0) (other % 64) ≡ bit_at (get_or words (other / 64) 0) (other % 64)
+other-kept words number other word within different same =
+    elim (cases_eq (other / 64) (number / 64)) [
       | inl here ↦
-          let bits : other % 64 ≢ level % 64 = omega arith in
+          let bits : other % 64 ≢ number % 64 = omega arith in
           rw here (rw get_or-set_same (same bits))
       | inr there ↦ rw get_or-set_other
     ]
 
 -- the bit of a word that is written
-pub bit-written : (words : List ℕ) (level word : ℕ) → level / 64 < length words → bit_at (get_or (set words (level / 64) word) (level / 64) 0) (level % 64) ≡ bit_at word (level % 64)
-bit-written words level word within = rw get_or-set_same
+pub bit-written : (words : List ℕ) (number word : ℕ) → number / 64 < length words → bit_at (get_or (set words (number / 64) word) (number / 64) 0) (number % 64) ≡ bit_at word (number % 64)
+bit-written words number word within = rw get_or-set_same
 
 -- a number from a power of two up to the next has that bit
 top_bit : (word j : ℕ) → 2 ^ j ≤ word → word < 2 ^ suc j → bit_at word j ≡ 1

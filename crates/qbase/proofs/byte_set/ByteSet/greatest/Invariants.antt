@@ -1,5 +1,5 @@
 use Rattle.std.proofs.Common.{◌≡◌, ℕ, ◌≤◌, get_or}
-use Rattle.qqueue.proofs.levels.Levels.greatest.Given as goal
+use Rattle.qbase.proofs.byte_set.ByteSet.greatest.Given as goal
 
 -- no word from here on has a bit
 abbrev pub invariant-loop-place : goal.invariant-loop-place
