@@ -1,8 +1,9 @@
 //! The kernel.
 
-ghost use Rattle.std.specs.Prelude.{◌≡◌, ◌+◌, ◌<◌, ◌≤◌, ◌^◌, ◌↔◌, [], length, None, Some, is_some, true, false, IsTrue, if◌then◌else◌, IfOk, IfErr, OnOk};
+ghost use Rattle.std.specs.Prelude.{◌≡◌, ◌+◌, ◌<◌, ◌≤◌, ◌^◌, ◌↔◌, [], length, None, Some, is_some, true, false, IsTrue, if◌then◌else◌, IfOk, IfErr, IfSome, OnOk};
 ghost use Rattle.qtables.specs.Members.{member_at};
-ghost use Rattle.qstate.specs.Thread.{open_in, seat_in, blocked_count};
+ghost use Rattle.qstate.specs.Thread.{open_in, blocked_count};
+ghost use Rattle.qstate.specs.Threads.{IsSeatIn};
 ghost use Rattle.qstate.specs.Kept.{members_of};
 
 mod blocked;
@@ -34,8 +35,9 @@ use qbase::errno::Errno;
 use qbase::ids::ThreadNo;
 use qmodel::call::Call;
 use qstate::channel::Channel;
-use qstate::endings::{Endings, refuse};
-use qstate::thread::{Thread, is_blocked, member_of, seat_of, threads_for};
+use qstate::endings::Endings;
+use qstate::seat::Seat;
+use qstate::threads::Threads;
 use qtables::channels::Channels;
 use qtables::connections::Connections;
 use qtables::roster::Roster;
@@ -53,7 +55,7 @@ pub struct Kernel {
     alloc: Global,
     made: u64,
     down: bool,
-    threads: Vec<Thread>,
+    threads: Threads,
     channels: Channels<Channel>,
     connections: Connections,
 }
@@ -63,9 +65,9 @@ impl Model for Kernel {
 
     ghost Value = { State };
 
-    ghost view = { λ k. record { made = k.made; down = k.down; threads = k.threads.items; channels = k.channels; connections = k.connections } };
+    ghost view = { λ k. record { made = k.made; down = k.down; threads = k.threads; channels = k.channels; connections = k.connections } };
 
-    ghost invariant = { λ k. IsSound (record { made = k.made; down = k.down; threads = k.threads.items; channels = k.channels; connections = k.connections }) };
+    ghost invariant = { λ k. IsSound (record { made = k.made; down = k.down; threads = k.threads; channels = k.channels; connections = k.connections }) };
 }
 
 impl Kernel {
@@ -81,7 +83,7 @@ impl Kernel {
         ensures stands { IfOk result (λ kernel. StandsAt roster.now kernel []) }
         ensures error { IfErr result (λ e. e ≡ Errno.NoMemory) }
     {
-        let Ok(threads) = threads_for(alloc, roster.members()) else {
+        let Ok(threads) = Threads::new(alloc, roster) else {
             return Err(Errno::NoMemory);
         };
         Ok(Kernel {
@@ -96,32 +98,31 @@ impl Kernel {
 
     /// Why no call of the thread at a seat is made, whichever it is: the kernel is shut down, or the thread is
     /// blocked.
-    fn refusal(&self, seat: usize, thread: ThreadNo) -> Option<Errno>
-        requires { seat_in self.now.threads thread ≡ Some seat }
-        ensures { result ≡ (if self.now.down then Some Errno.Down else (if is_some (open_in self.now.threads thread) then Some Errno.Busy else None)) }
+    fn refusal(&self, seat: &Seat) -> Option<Errno>
+        requires { IsSeatIn self.now.threads seat.now }
+        ensures { result ≡ (if self.now.down then Some Errno.Down else (if is_some (open_in self.now.threads seat.now.thread) then Some Errno.Busy else None)) }
     {
         if self.down {
             Some(Errno::Down)
-        } else if is_blocked(&self.threads, seat, thread) {
+        } else if self.threads.record(seat).open_call.is_some() {
             Some(Errno::Busy)
         } else {
             None
         }
     }
 
-    /// The thread at a seat as a caller, after the calls that were made.
-    fn caller_at(&self, seat: usize, thread: ThreadNo) -> Caller
+    /// The thread at a seat as the caller of the next call.
+    fn caller_at(&self, seat: &Seat) -> Caller
         requires limit { self.now.made < 2 ^ 40 }
-        requires seat { seat_in self.now.threads thread ≡ Some seat }
+        requires seat { IsSeatIn self.now.threads seat.now }
         ensures made { result.made ≡ self.now.made }
-        ensures thread { result.thread ≡ thread }
+        ensures seat { result.seat ≡ seat.now }
         ensures caller { IsCallerIn self.now.threads result }
     {
         Caller {
             made: self.made,
-            seat,
-            thread,
-            process: member_of(&self.threads, seat, thread).process,
+            seat: *seat,
+            process: self.threads.record(seat).member.process,
             alloc: self.alloc,
         }
     }
@@ -192,22 +193,57 @@ impl Kernel {
     }
 
     /// Makes one call of the thread at a seat: it is counted, and then refused whichever call it is, or made.
-    fn perform(&mut self, seat: usize, thread: ThreadNo, call: Call, endings: &mut Endings)
+    fn perform(&mut self, seat: &Seat, call: Call, endings: &mut Endings)
         requires limit { self.old.made < 2 ^ 40 }
-        requires seat { seat_in self.old.threads thread ≡ Some seat }
+        requires seat { IsSeatIn self.old.threads seat.now }
         requires none { endings.old.items ≡ [] }
-        ensures { Steps self.old thread call endings.new.items self.new }
+        ensures { Steps self.old seat.now.thread call endings.new.items self.new }
     {
-        let refusal = self.refusal(seat, thread);
-        let caller = self.caller_at(seat, thread);
+        let refusal = self.refusal(seat);
+        let caller = self.caller_at(seat);
         self.made += 1;
         if let Some(errno) = refusal {
-            let buffer = call.into_buffer(self.alloc);
-            return refuse(endings, self.made, thread, errno, buffer);
+            return caller.refuse(endings, errno, call.into_buffer(self.alloc));
         }
         if let Err(errno) = self.make(&caller, call, endings) {
             caller.refuse(endings, errno, Bytes::new(self.alloc));
         }
+    }
+
+    /// The seat of a thread, by which `call_at` makes its calls without a search; `None` if the thread isn't in
+    /// the roster. It holds as long as the kernel.
+    /// The locked kernel's ports keep theirs.
+    pub fn seat(&self, thread: ThreadNo) -> Option<Seat>
+        ensures seat { IfSome result (λ seat. IsSeatIn self.now.threads seat) }
+        ensures thread { IfSome result (λ seat. seat.thread ≡ thread) }
+        ensures known { is_some result ≡ is_some (member_at (members_of self.now.threads) thread) }
+    {
+        self.threads.seat(thread)
+    }
+
+    /// Makes one call of the thread at a seat, and puts its endings, in rising thread number, into a list that is
+    /// lent and may be used again once it is emptied. An `Err` is no event: it gives the call back and changes
+    /// nothing; `Exhausted`, after 2^40 calls, is the only one.
+    pub fn call_at(&mut self, seat: &Seat, call: Call, endings: &mut Endings) -> Result<(), (Errno, Call)>
+        requires seat { IsSeatIn self.old.threads seat.now }
+        requires none { endings.old.items ≡ [] }
+        ensures event { OnOk result (AnswersAtTraces self.old seat.now.thread call endings.new.items self.new) }
+        ensures refused { OnOk result (LeavesIfRefused self.old seat.now.thread call endings.new.items self.new) }
+        ensures roster { members_of self.new.threads ≡ members_of self.old.threads }
+        ensures ok { OnOk result ((self.old.made < 2 ^ 40) × (self.new.made ≡ self.old.made + 1)) }
+
+        // An event ends at most its own call and calls that were open.
+        ensures room { OnOk result (length endings.new.items + blocked_count self.new.threads ≤ blocked_count self.old.threads + 1) }
+
+        // Which error, and that it changes nothing.
+        ensures unchanged { IfErr result (λ refused. (self.new ≡ self.old) × (refused.1 ≡ call) × (endings.new.items ≡ [])) }
+        ensures error { IfErr result (λ refused. (2 ^ 40 ≤ self.old.made) × (refused.0 ≡ Errno.Exhausted)) }
+    {
+        if self.made >= CALL_LIMIT {
+            return Err((Errno::Exhausted, call));
+        }
+        self.perform(seat, call, endings);
+        Ok(())
     }
 
     /// Makes one call of a thread of the roster, and puts its endings, in rising thread number, into a list
@@ -226,10 +262,9 @@ impl Kernel {
         // An event ends at most its own call and calls that were open.
         ensures room { length endings.new.items + blocked_count self.new.threads ≤ blocked_count self.old.threads + 1 }
     {
-        if let Some(seat) = seat_of(&self.threads, thread) {
-            self.perform(seat, thread, call, endings);
-        } else {
-            unreachable!();
+        match self.seat(thread) {
+            Some(seat) => self.perform(&seat, call, endings),
+            None => unreachable!(),
         }
     }
 
@@ -247,14 +282,11 @@ impl Kernel {
         ensures unchanged { IfErr result (λ refused. (self.new ≡ self.old) × (refused.1 ≡ call)) }
         ensures error { IfErr result (λ refused. DispatchError self.old thread refused.0) }
     {
-        let Some(seat) = seat_of(&self.threads, thread) else {
+        let Some(seat) = self.seat(thread) else {
             return Err((Errno::NoThread, call));
         };
-        if self.made >= CALL_LIMIT {
-            return Err((Errno::Exhausted, call));
-        }
         let mut endings: Endings = ArrayVec::new_in(self.alloc);
-        self.perform(seat, thread, call, &mut endings);
+        self.call_at(&seat, call, &mut endings)?;
         Ok(endings)
     }
 
@@ -263,7 +295,7 @@ impl Kernel {
     pub fn knows(&self, thread: ThreadNo) -> bool
         ensures { result ≡ is_some (member_at (members_of self.now.threads) thread) }
     {
-        seat_of(&self.threads, thread).is_some()
+        self.seat(thread).is_some()
     }
 
     /// How many calls were made.

@@ -1,6 +1,8 @@
 pub mod Seats
 pub mod Senders
+pub mod Indexing
 pub mod Receivers
+pub mod Newest
 pub mod Inserting
 pub mod ChannelWrites
 pub mod Moving

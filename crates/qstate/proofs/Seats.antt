@@ -9,9 +9,10 @@ use Rattle.qtables.specs.Members.{member_at}
 use Rattle.qtables.specs.declared.member.Member.{Member}
 use Rattle.qmodel.specs.Private.Facts.{is_in_process}
 use Rattle.qstate.specs.declared.thread.Thread.{Thread}
-use Rattle.qstate.specs.Thread.{open_in, seat_in, SetsOpen, SetsPriority, Wakes, MarksUnblocked}
+use Rattle.qstate.specs.Thread.{open_in, seat_in, ChangesOpen, SetsOpen, SetsPriority, Wakes}
 use Rattle.qstate.specs.Kept.{members_of, thread_priority}
-use Rattle.qmodel.specs.Private.Step.{unblocked_call}
+use Rattle.qstate.specs.Threads.{open_at, IsRecordOf, IsSeatIn}
+use Rattle.qmodel.specs.declared.open_call.OpenCall.{OpenCall}
 use Rattle.std.specs.Option.{option_map}
 
 -- the thread stands at k, and nowhere before
@@ -150,19 +151,25 @@ nowhere_from u (t ∷ threads) i e =
       | false ↦ λ e. nowhere_from u threads (i + 1) e
     ] e
 
--- what the thread at a seat is blocked in is marked
-pub marks_unblocked : (u : ℕ) (threads : List Thread) (k : ℕ) (d x : Thread) → IsFirstAt threads u k → x.member ≡ (get_or threads k d).member → x.priority ≡ (get_or threads k d).priority
-    → x.open_call ≡ option_map unblocked_call (get_or threads k d).open_call → MarksUnblocked u threads (set threads k x)
-marks_unblocked u threads k d x first m p o =
+-- what the thread at a seat is blocked in is changed
+pub changes_open : (u : ℕ) (change : OpenCall → OpenCall) (threads : List Thread) (k : ℕ) (d x : Thread) → IsFirstAt threads u k → x.member ≡ (get_or threads k d).member → x.priority ≡ (get_or threads k d).priority
+    → x.open_call ≡ option_map change (get_or threads k d).open_call → ChangesOpen u change threads (set threads k x)
+changes_open u change threads k d x first m p o =
     let s = sets_open u threads k d x first m p in
     record {
       members = s.members;
-      open_call = λ v. s.open_call v ∙ (elim (eqb v u) as (λ b. eqb v u ≡ b → cond b x.open_call (open_in threads v) ≡ cond b (option_map unblocked_call (open_in threads v)) (open_in threads v)) [
-        | true ↦ λ same. o ∙ ap (option_map unblocked_call) (sym (first_open u threads k d first)) ∙ ap (λ w. option_map unblocked_call (open_in threads w)) (sym (eqb-true v u same))
+      open_call = λ v. s.open_call v ∙ (elim (eqb v u) as (λ b. eqb v u ≡ b → cond b x.open_call (open_in threads v) ≡ cond b (option_map change (open_in threads v)) (open_in threads v)) [
+        | true ↦ λ same. o ∙ ap (option_map change) (sym (first_open u threads k d first)) ∙ ap (λ w. option_map change (open_in threads w)) (sym (eqb-true v u same))
         | false ↦ λ other. refl
       ] refl);
       priority = s.priority;
     }
+
+-- the record of the thread at a seat
+pub record_there : (u : ℕ) (threads : List Thread) (k : ℕ) (d : Thread) → seat_in threads u ≡ Some k → IsRecordOf u threads (get_or threads k d)
+record_there u threads k d e =
+    let first = first_at u threads k e in
+    record { member = first_member u threads k d first; open_call = first_open u threads k d first; priority = first_level u threads k d first }
 
 pub nowhere_open : (u : ℕ) (threads : List Thread) → seat_in threads u ≡ None → open_in threads u ≡ None
 nowhere_open u threads e = nowhere_from u threads 0 (sym (position_from-zero (λ t. eqb t.member.thread u) threads) ∙ e)
@@ -208,3 +215,9 @@ not_there p u threads e = nobody (member_at (members_of threads) u) (sym (is_the
   nobody : (o : Option Member) → is_some o ≡ false → is_in_process p o ≡ false
   nobody None none = refl
   nobody (Some m) none = absurd (true≢false none)
+
+-- the open call of the thread at a place
+pub call_here : (threads : List Thread) (k : ℕ) (d : Thread) → k < length threads → open_at threads k ≡ (get_or threads k d).open_call
+call_here [] k d l = absurd (omega arith)
+call_here (t ∷ threads) zero d l = refl
+call_here (t ∷ threads) (suc k) d l = call_here threads k d (omega arith)

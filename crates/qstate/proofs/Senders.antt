@@ -3,7 +3,7 @@ use Rattle.std.proofs.Common.{◌≡◌, ℕ, suc, zero, ◌+◌, ◌<◌, List,
 use Rattle.std.specs.Prelude.{Option, None, Some, is_some, position}
 use Rattle.std.specs.List.{position_from, AllByRecursion}
 use Rattle.std.specs.Option.{option_map}
-use Rattle.std.proofs.lemmas.Bool.{eqb-true, eq-eqb, ne_eqb, true≢false}
+use Rattle.std.proofs.lemmas.Bool.{eqb-true, eq-eqb, ne_eqb, true≢false, and_parts}
 use Rattle.std.proofs.lemmas.Iterator.Adapters.{position_from-zero}
 use Rattle.std.proofs.lemmas.Option.{same_Some, none-some}
 use Rattle.qtables.specs.Members.{IsRoster}
@@ -15,7 +15,8 @@ use Rattle.qmodel.specs.Private.Facts.{threads_of, is_send, sender_among, messag
 use Rattle.qstate.specs.Held.{is_held_in, is_held_over}
 use Rattle.qstate.specs.Thread.{held_over_in, open_in, sender_in, sent_call, message_from, ChangesSender}
 use Rattle.qstate.specs.Kept.{members_of}
-use Rattle.qstate.proofs.Seats.{IsFirstAt, first_open, set_members, set_open, set_priority}
+use Rattle.qstate.specs.Threads.{number_at, open_at}
+use Rattle.qstate.proofs.Seats.{call_here, IsFirstAt, first_open, set_members, set_open, set_priority}
 
 -- ---- each thread waits for what its own record says
 
@@ -155,3 +156,20 @@ sender_of_held connections channels p o e =
       | None ↦ λ h. absurd (true≢false (sym h))
       | Some coid ↦ λ h. refl
     ] e
+
+-- ---- a sender that was looked up at a guess
+
+send_number : (i : ℕ) (o : Option OpenCall) → is_send i o ≡ true → option_map (λ c. c.number) o ≡ Some i
+send_number i None e = absurd (true≢false (sym e))
+send_number i (Some o) e = ap Some (eqb-true o.number i (and_parts _ _ e).0)
+
+-- no other thread before it sends the same, where open calls have numbers of their own
+pub sender_alone : (i : ℕ) (threads : List Thread) (k : ℕ) (d : Thread) → k < length threads → is_send i (get_or threads k d).open_call ≡ true → ((j m n : ℕ) → number_at threads j ≡ Some n → number_at threads m ≡ Some n → j ≡ m)
+    → sender_by i threads ≡ Some (get_or threads k d).member.thread
+sender_alone i [] k d l sends apart = absurd (omega arith)
+sender_alone i (t ∷ threads) zero d l sends apart = rw sends refl
+sender_alone i (t ∷ threads) (suc k) d l sends apart =
+    elim (is_send i t.open_call) as (λ b. is_send i t.open_call ≡ b → cond b (Some t.member.thread) (sender_by i threads) ≡ Some (get_or threads k d).member.thread) [
+      | true ↦ λ first. let same : 0 ≡ suc k = apart 0 (suc k) i (send_number i t.open_call first) (ap (option_map (λ c. c.number)) (call_here threads k d (omega arith)) ∙ send_number i _ sends) in absurd (omega arith)
+      | false ↦ λ other. sender_alone i threads k d (omega arith) sends (λ j m n a b. let same : suc j ≡ suc m = apart (suc j) (suc m) n a b in omega arith)
+    ] refl

@@ -11,11 +11,6 @@ abbrev pub is_receive : Wait → Bool
 is_receive (Answer coid message reply_buffer receipt) = false
 is_receive (ForItem chid kind buffer) = true
 
--- no thread is a receiver
-pub record IsEmpty (index : Index) : Type 0 where
-  pub receivers : (k : ℕ) → has index.receivers k ≡ false
-  pub rising : index.rising ≡ true
-
 -- this call blocks the thread at a place: the numbers rise if it is later than all before, and a receive makes
 -- that thread a receiver and the last one
 pub record Notes (place : ℕ) (call : OpenCall) (old new : Index) : Type 0 where

@@ -10,7 +10,7 @@ use qmodel::open_call::{OpenCall, Wait};
 use qtables::member::Member;
 
 /// Where the threads of a roster stand, by what they are looked for.
-#[derive(Debug)]
+#[derive(Debug, Drop)]
 pub struct Index {
     // For each thread number: the index of that thread, if it is in the roster.
     threads: [u8; 256],

@@ -1,26 +1,21 @@
 //! The threads of a kernel.
 
-ghost use Rattle.std.specs.Prelude.{◌≡◌, ◌+◌, ◌<◌, ◌≤◌, Some, true, is_some, length, map, drop, option_map, IfOk, IfSome, OnSome};
-ghost use Rattle.qtables.specs.Members.{member_at, IsRoster};
-ghost use Rattle.qqueue.specs.Best.{is_pulse};
-ghost use Rattle.qbase.specs.Laying.{laid_count};
-ghost use Rattle.qmodel.specs.Private.Facts.{is_in_process, is_send};
-ghost use Rattle.qmodel.specs.Private.Rows.{delivery_of};
+ghost use Rattle.std.specs.Prelude.{◌≡◌, ◌<◌, None, Some, true, is_some, length, map, IfOk, IfSome};
+ghost use Rattle.qtables.specs.Members.{member_at};
+ghost use Rattle.qmodel.specs.Private.Facts.{is_in_process};
 ghost use Rattle.qstate.specs.Kept.{members_of};
 ghost use Rattle.qstate.specs.Open.{receive_in, send_in};
-ghost use Rattle.qstate.specs.Thread.{ready_thread, open_in, newest_in, sender_in, message_from, SetsOpen, SetsPriority, Wakes, HandsOver};
-ghost use Rattle.qstate.specs.Threads.{IsSeatIn, IsRecordOf, newest_of, number_and_thread};
+ghost use Rattle.qstate.specs.Thread.{ready_thread, open_in, SetsOpen, SetsPriority, Wakes};
+ghost use Rattle.qstate.specs.Threads.{IsSeatIn, IsRecordOf};
 
+use crate::index::Index;
 use crate::open::{OpenReceive, OpenSend};
 use crate::seat::Seat;
 use crate::thread::Thread;
-use qbase::byte_set::ByteSet;
-use qbase::bytes::Bytes;
-use qbase::ids::{ChannelId, ProcessNo, ReceiveId, ThreadNo};
+use qbase::ids::{ProcessNo, ThreadNo};
 use qbase::priority::Priority;
-use qmodel::call::Mark;
-use qmodel::open_call::{OpenCall, Wait};
-use qqueue::item::Item;
+use qmodel::open_call::OpenCall;
+use qtables::member::Member;
 use qtables::roster::Roster;
 use std::alloc::{AllocError, Global};
 use std::marker::Model;
@@ -85,7 +80,7 @@ impl Threads {
     }
 
     /// The seat at an index.
-    fn seat_at(&self, index: usize) -> Seat
+    pub(crate) fn seat_at(&self, index: usize) -> Seat
         requires { index < length self.now }
         ensures seat { IsSeatIn self.now result }
         ensures index { result.index ≡ index }

@@ -14,13 +14,13 @@ use super::Kernel;
 use qbase::ids::ThreadNo;
 use qbase::state::ThreadState;
 use qmodel::open_call::Blocked;
-use qstate::thread::{Thread, is_blocked, seat_of};
+use qstate::thread::Thread;
 use qstate::thread_state::state_of_wait;
 use qtables::connections::Connections;
 use std::alloc::{AllocError, Global};
 
-/// Adds what is told of a thread, if it is blocked.
-fn tell(
+/// Adds what is known of a thread, if it is blocked.
+fn push_blocked(
     list: &mut Vec<Blocked>,
     connections: &Connections,
     thread: &Thread,
@@ -45,8 +45,8 @@ impl Kernel {
     pub fn is_blocked(&self, thread: ThreadNo) -> bool
         ensures { result ≡ is_some (open_in self.now.threads thread) }
     {
-        match seat_of(&self.threads, thread) {
-            Some(seat) => is_blocked(&self.threads, seat, thread),
+        match self.seat(thread) {
+            Some(seat) => self.threads.record(&seat).open_call.is_some(),
             None => false,
         }
     }
@@ -57,8 +57,8 @@ impl Kernel {
         ensures { (roster : List Member) (past : Trace) → StandsAt roster self.now past → IfOk result (λ list. list.items ≡ blocked_threads (facts_of roster past)) }
     {
         let mut list = Vec::new(alloc);
-        for thread in &self.threads {
-            tell(&mut list, &self.connections, thread)?;
+        for thread in self.threads.records() {
+            push_blocked(&mut list, &self.connections, thread)?;
         }
         Ok(list)
     }

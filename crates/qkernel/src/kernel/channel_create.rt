@@ -8,7 +8,7 @@ use qbase::ids::ChannelId;
 use qmodel::call::{Call, Mark};
 use qqueue::queue::Queue;
 use qstate::channel::Channel;
-use qstate::endings::Endings;
+use qstate::endings::{Endings, put};
 
 impl Kernel {
     ghost use Rattle.qkernel.specs.Private.Caller.{MayCall, MakesOrRefuses};
@@ -23,7 +23,7 @@ impl Kernel {
         requires { MayCall self.old caller.now endings.old.items }
         ensures { MakesOrRefuses self.old caller.now (Call.ChannelCreate flags) result endings.new.items self.new }
     {
-        let number = caller.made + 1;
+        let number = caller.number();
         if !flags.is_known() {
             return Err(Errno::Inval);
         }
@@ -33,7 +33,7 @@ impl Kernel {
             queue: Queue::new(self.alloc),
         };
         match self.channels.create(ChannelId(number), channel) {
-            Ok(()) => caller.end(endings, Mark::Channel(ChannelId(number))),
+            Ok(()) => put(endings, caller.ending(Mark::Channel(ChannelId(number)))),
             Err((errno, _)) => return Err(errno),
         }
         Ok(())

@@ -5,7 +5,7 @@ use super::caller::Caller;
 use qbase::errno::Errno;
 use qbase::ids::ChannelId;
 use qmodel::call::{Call, Mark};
-use qstate::cancelling::{CancelSet, cancel_calls};
+use qstate::cancelling::{Cancel, CancelSet};
 use qstate::channel::{close, owns};
 use qstate::endings::Endings;
 
@@ -27,12 +27,13 @@ impl Kernel {
         if !owns(&self.channels, caller.process, chid) {
             return Err(Errno::Inval);
         }
-        cancel_calls(
-            &mut self.threads,
+        self.threads.cancel(
             &mut self.channels,
             &self.connections,
-            CancelSet::On(chid),
-            Errno::Srch,
+            Cancel {
+                set: CancelSet::On(chid),
+                errno: Errno::Srch,
+            },
             caller.ending(Mark::Ok),
             endings,
         );

@@ -6,7 +6,7 @@ use qbase::errno::Errno;
 use qbase::ids::{ChannelId, ConnectionId};
 use qmodel::call::{Call, Mark};
 use qstate::channel::is_open;
-use qstate::endings::Endings;
+use qstate::endings::{Endings, put};
 use qtables::connection::Connection;
 
 impl Kernel {
@@ -22,7 +22,7 @@ impl Kernel {
         requires { MayCall self.old caller.now endings.old.items }
         ensures { MakesOrRefuses self.old caller.now (Call.ConnectAttach chid) result endings.new.items self.new }
     {
-        let number = caller.made + 1;
+        let number = caller.number();
         if !is_open(&self.channels, chid) {
             return Err(Errno::Srch);
         }
@@ -31,7 +31,7 @@ impl Kernel {
             channel: chid,
         };
         match self.connections.create(ConnectionId(number), connection) {
-            Ok(()) => caller.end(endings, Mark::Connection(ConnectionId(number))),
+            Ok(()) => put(endings, caller.ending(Mark::Connection(ConnectionId(number)))),
             Err((errno, _)) => return Err(errno),
         }
         Ok(())

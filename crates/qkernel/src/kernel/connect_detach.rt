@@ -10,9 +10,9 @@ use qbase::ids::{ConnectionId, ProcessNo};
 use qbase::priority::Priority;
 use qmodel::call::{Call, Mark};
 use qqueue::item::{Item, What};
-use qstate::cancelling::{CancelSet, cancel_calls};
+use qstate::cancelling::{Cancel, CancelSet};
 use qstate::channel::{own_connection, tells_detached};
-use qstate::endings::{Endings, end_also};
+use qstate::endings::{Endings, put_if};
 use qstate::pulses::send_due;
 
 /// The pulse that tells of a process's last connection, if it is that.
@@ -49,19 +49,20 @@ impl Kernel {
             return Err(Errno::Inval);
         };
         let last = tells_detached(&self.connections, &self.channels, caller.process, chid);
-        let priority = self.priority_of(caller);
-        let due = pulse_for(last, caller.made + 1, priority, caller.process);
+        let priority = self.priority(caller);
+        let due = pulse_for(last, caller.number(), priority, caller.process);
         let met = send_due(&mut self.threads, &mut self.channels, chid, due)?;
-        cancel_calls(
-            &mut self.threads,
+        self.threads.cancel(
             &mut self.channels,
             &self.connections,
-            CancelSet::Over(coid),
-            Errno::Badf,
+            Cancel {
+                set: CancelSet::Over(coid),
+                errno: Errno::Badf,
+            },
             caller.ending(Mark::Ok),
             endings,
         );
-        end_also(endings, met);
+        put_if(endings, met);
         let _ = self.connections.remove(coid);
         Ok(())
     }

@@ -1,19 +1,16 @@
 //! Error.
 
 ghost use Rattle.std.specs.Prelude.{◌≡◌};
-ghost use Rattle.qmodel.specs.Private.Calls.Error.{error_finish, mark_of};
-ghost use Rattle.qmodel.specs.Private.Held.{answer_ending};
+ghost use Rattle.qmodel.specs.Private.Calls.Error.{mark_of};
 
 use super::Kernel;
 use super::caller::Caller;
 use qbase::errno::Errno;
-use qbase::ids::{ReceiveId, ThreadNo};
-use qmodel::call::{Call, Completion, Mark};
-use qmodel::open_call::{OpenCall, Wait};
-use qstate::endings::Endings;
-use qstate::held::take_sent;
+use qbase::ids::ReceiveId;
+use qmodel::call::{Call, Mark};
+use qstate::endings::{Endings, put};
 
-/// How the sender's call is marked: the code 0 is a reply of status 0 with no bytes, our own profile.
+/// The mark of the sender's call: the code 0 is a reply of status 0 with no bytes, our own profile.
 fn mark(code: i32) -> Mark
     ensures { result ≡ mark_of code }
 {
@@ -24,22 +21,6 @@ fn mark(code: i32) -> Mark
         }
     } else {
         Mark::Errored(code)
-    }
-}
-
-/// How an open Send ends that is answered with a code; none where the call is no Send.
-fn errored_to(call: Option<OpenCall>, thread: ThreadNo, code: i32) -> Option<Completion>
-    ensures { result ≡ answer_ending (error_finish code) thread call }
-{
-    let OpenCall { number: sent, wait } = call?;
-    match wait {
-        Wait::Item { .. } => None,
-        Wait::Answer { reply_buffer, .. } => Some(Completion {
-            call: sent,
-            thread,
-            mark: mark(code),
-            buffer: reply_buffer,
-        }),
     }
 }
 
@@ -58,12 +39,10 @@ impl Kernel {
         requires { MayCall self.old caller.now endings.old.items }
         ensures { MakesOrRefuses self.old caller.now (Call.Error rcvid code) result endings.new.items self.new }
     {
-        let held = self.held_seat(caller, rcvid)?;
-        let (client, call) = take_sent(&mut self.threads, held, rcvid.0);
-        let Some(ended) = errored_to(call, client, code) else {
-            unreachable!();
-        };
-        caller.end_both(endings, ended);
+        let holder = self.holder(caller, rcvid)?;
+        let sent = self.threads.take_sent(&holder);
+        put(endings, caller.ending(Mark::Ok));
+        put(endings, sent.ending(mark(code)));
         Ok(())
     }
 }

@@ -5,8 +5,7 @@ use super::caller::Caller;
 use qbase::errno::Errno;
 use qbase::ids::ReceiveId;
 use qmodel::call::{Call, Info, Mark};
-use qstate::endings::Endings;
-use qstate::thread::sender_seat;
+use qstate::endings::{Endings, put};
 
 impl Kernel {
     ghost use Rattle.qkernel.specs.Stands.{InfoAtTraces};
@@ -18,8 +17,8 @@ impl Kernel {
     pub fn message_info(&self, rcvid: ReceiveId) -> Option<Info>
         ensures { InfoAtTraces self.now rcvid result }
     {
-        let seat = sender_seat(&self.threads, rcvid.0)?;
-        self.threads[seat].info()
+        let sender = self.threads.sender(rcvid.0)?;
+        self.threads.record(&sender).info()
     }
 
     /// Tells of a held message. Changes nothing, never blocks, and takes no memory.
@@ -32,11 +31,11 @@ impl Kernel {
         requires { MayCall self.old caller.now endings.old.items }
         ensures { MakesOrRefuses self.old caller.now (Call.Info rcvid) result endings.new.items self.new }
     {
-        let held = self.held_seat(caller, rcvid)?;
-        let Some(info) = self.threads[held].info() else {
+        let holder = self.holder(caller, rcvid)?;
+        let Some(info) = self.threads.record(&holder).info() else {
             unreachable!();
         };
-        caller.end(endings, Mark::Info(info));
+        put(endings, caller.ending(Mark::Info(info)));
         Ok(())
     }
 }

@@ -1,8 +1,9 @@
 //! A call whose bytes are lent.
 
-ghost use Rattle.std.specs.Prelude.{◌≡◌, ◌+◌, ◌<◌, ◌≤◌, ◌^◌, [], length, Some, is_some, true};
+ghost use Rattle.std.specs.Prelude.{◌≡◌, ◌+◌, ◌<◌, ◌≤◌, ◌^◌, [], length, is_some, true};
 ghost use Rattle.qtables.specs.Members.{member_at};
-ghost use Rattle.qstate.specs.Thread.{blocked_count, seat_in};
+ghost use Rattle.qstate.specs.Thread.{blocked_count};
+ghost use Rattle.qstate.specs.Threads.{IsSeatIn};
 ghost use Rattle.qstate.specs.Kept.{members_of};
 ghost use Rattle.qkernel.specs.LentCall.{call_lent};
 
@@ -13,7 +14,7 @@ use qbase::bytes::Bytes;
 use qbase::errno::Errno;
 use qbase::ids::ThreadNo;
 use qstate::endings::Endings;
-use qstate::thread::seat_of;
+use qstate::seat::Seat;
 
 impl Kernel {
     ghost use Rattle.qkernel.specs.Private.Steps.{Steps};
@@ -45,20 +46,14 @@ impl Kernel {
     }
 
     /// Makes one call of the thread at a seat: it is counted, and then refused whichever call it is, or made.
-    fn perform_lent(
-        &mut self,
-        seat: usize,
-        thread: ThreadNo,
-        call: &LentCall,
-        endings: &mut Endings,
-    )
+    fn perform_lent(&mut self, seat: &Seat, call: &LentCall, endings: &mut Endings)
         requires limit { self.old.made < 2 ^ 40 }
-        requires seat { seat_in self.old.threads thread ≡ Some seat }
+        requires seat { IsSeatIn self.old.threads seat.now }
         requires none { endings.old.items ≡ [] }
-        ensures { Steps self.old thread (call_lent call.now) endings.new.items self.new }
+        ensures { Steps self.old seat.now.thread (call_lent call.now) endings.new.items self.new }
     {
-        let refusal = self.refusal(seat, thread);
-        let caller = self.caller_at(seat, thread);
+        let refusal = self.refusal(seat);
+        let caller = self.caller_at(seat);
         self.made += 1;
         if let Some(errno) = refusal {
             return caller.refuse(endings, errno, Bytes::new(self.alloc));
@@ -81,10 +76,9 @@ impl Kernel {
         // An event ends at most its own call and calls that were open.
         ensures room { length endings.new.items + blocked_count self.new.threads ≤ blocked_count self.old.threads + 1 }
     {
-        if let Some(seat) = seat_of(&self.threads, thread) {
-            self.perform_lent(seat, thread, call, endings);
-        } else {
-            unreachable!();
+        match self.seat(thread) {
+            Some(seat) => self.perform_lent(&seat, call, endings),
+            None => unreachable!(),
         }
     }
 }

@@ -6,9 +6,7 @@ use qbase::errno::Errno;
 use qbase::ids::ThreadNo;
 use qbase::priority::Priority;
 use qmodel::call::{Call, Mark};
-use qstate::endings::Endings;
-use qstate::thread::set_priority;
-use qstate::unread::requeue_unread;
+use qstate::endings::{Endings, put};
 
 impl Kernel {
     ghost use Rattle.qkernel.specs.Private.Caller.{MayCall, MakesOrRefuses};
@@ -25,17 +23,15 @@ impl Kernel {
         requires { MayCall self.old caller.now endings.old.items }
         ensures { MakesOrRefuses self.old caller.now (Call.PrioritySet target priority) result endings.new.items self.new }
     {
-        let there = self.fellow_seat(caller, target)?;
-        requeue_unread(
-            &self.threads,
+        let fellow = self.fellow(caller, target)?;
+        self.threads.requeue_unread(
             &self.connections,
             &mut self.channels,
-            there,
-            target,
+            &fellow,
             priority,
         );
-        set_priority(&mut self.threads, there, target, Some(priority));
-        caller.end(endings, Mark::Ok);
+        self.threads.set_priority(&fellow, Some(priority));
+        put(endings, caller.ending(Mark::Ok));
         Ok(())
     }
 }

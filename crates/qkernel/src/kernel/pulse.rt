@@ -5,10 +5,10 @@ use super::caller::Caller;
 use qbase::errno::Errno;
 use qbase::ids::ConnectionId;
 use qbase::priority::Priority;
-use qmodel::call::Call;
+use qmodel::call::{Call, Mark};
 use qqueue::item::{Item, What};
 use qstate::channel::route;
-use qstate::endings::Endings;
+use qstate::endings::{Endings, put, put_if};
 use qstate::pulses::send_pulse;
 
 impl Kernel {
@@ -35,12 +35,13 @@ impl Kernel {
             return Err(Errno::Inval);
         }
         let item = Item {
-            number: caller.made + 1,
+            number: caller.number(),
             priority,
             what: What::User { code, value },
         };
         let met = send_pulse(&mut self.threads, &mut self.channels, chid, item)?;
-        caller.end_with(endings, met);
+        put(endings, caller.ending(Mark::Ok));
+        put_if(endings, met);
         Ok(())
     }
 }

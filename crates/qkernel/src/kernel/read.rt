@@ -5,7 +5,7 @@ use super::caller::Caller;
 use qbase::bytes::Bytes;
 use qbase::ids::ReceiveId;
 use qmodel::call::{Call, Mark};
-use qstate::endings::Endings;
+use qstate::endings::{Endings, put};
 
 impl Kernel {
     ghost use Rattle.qkernel.specs.Private.Caller.{MayCall, Makes};
@@ -23,12 +23,12 @@ impl Kernel {
         requires { MayCall self.old caller.now endings.old.items }
         ensures { Makes self.old caller.now (Call.Read rcvid offset buffer) endings.new.items self.new }
     {
-        let held = match self.held_seat(caller, rcvid) {
-            Ok(held) => held,
+        let holder = match self.holder(caller, rcvid) {
+            Ok(holder) => holder,
             Err(errno) => return caller.refuse(endings, errno, buffer),
         };
         let mut buffer = buffer;
-        let copied = buffer.take(self.threads[held].message(), offset);
-        caller.give_back(endings, Mark::Count(copied), buffer);
+        let copied = buffer.take(self.threads.record(&holder).message(), offset);
+        put(endings, caller.ending_with(Mark::Count(copied), buffer));
     }
 }

@@ -12,8 +12,7 @@ use qmodel::call::Call;
 use qmodel::open_call::Wait;
 use qqueue::item::Kind;
 use qstate::channel::{carried_priority, owns, take_best};
-use qstate::endings::Endings;
-use qstate::thread::{hand_item, set_priority};
+use qstate::endings::{Endings, put};
 
 impl Kernel {
     ghost use Rattle.qkernel.specs.Private.Caller.{MayCall, Makes};
@@ -50,14 +49,14 @@ impl Kernel {
         }
         match take_best(&mut self.channels, chid, kind) {
             None => {
-                caller.block(&mut self.threads, Wait::Item { chid, kind, buffer });
+                caller.block(&mut self.threads, Wait::Item { chid, kind, buffer }, 0);
             }
             Some(item) => {
                 let mut buffer = buffer;
                 let priority = carried_priority(&self.channels, chid, item.priority);
-                let mark = hand_item(&mut self.threads, item, &mut buffer);
-                set_priority(&mut self.threads, caller.seat, caller.thread, priority);
-                caller.give_back(endings, mark, buffer);
+                let mark = self.threads.hand_item(item, &mut buffer);
+                self.threads.set_priority(&caller.seat, priority);
+                put(endings, caller.ending_with(mark, buffer));
             }
         }
     }

@@ -1,41 +1,23 @@
 //! Reply.
 
 ghost use Rattle.std.specs.Prelude.{◌≡◌};
-ghost use Rattle.qmodel.specs.Private.Calls.Reply.{reply_finish};
-ghost use Rattle.qmodel.specs.Private.Held.{answer_ending};
+ghost use Rattle.qbase.specs.Laying.{laid_count, lay_over};
 
 use super::Kernel;
 use super::caller::Caller;
 use qbase::errno::Errno;
-use qbase::ids::{ReceiveId, ThreadNo};
+use qbase::ids::ReceiveId;
 use qmodel::call::{Call, Completion, Mark};
-use qmodel::open_call::{OpenCall, Wait};
-use qstate::endings::Endings;
-use qstate::held::take_sent;
+use qstate::endings::{Endings, put};
+use qstate::open::OpenSend;
 
-/// How an open Send ends that is replied to; none where the call is no Send.
-fn replied_to(
-    call: Option<OpenCall>,
-    thread: ThreadNo,
-    status: i64,
-    bytes: &[u8],
-) -> Option<Completion>
-    ensures { result ≡ answer_ending (reply_finish status bytes.now) thread call }
+/// The completion of a Send that is answered: the bytes lie over the front of its reply buffer.
+fn reply_ending(sent: OpenSend, status: i64, bytes: &[u8]) -> Completion
+    ensures { result ≡ record { call = sent.number; thread = sent.thread; mark = Mark.Replied status (laid_count sent.reply_buffer 0 bytes.now); buffer = lay_over sent.reply_buffer 0 bytes.now } }
 {
-    let OpenCall { number: sent, wait } = call?;
-    match wait {
-        Wait::Item { .. } => None,
-        Wait::Answer { reply_buffer, .. } => {
-            let mut buffer = reply_buffer;
-            let copied = buffer.lay(0, bytes);
-            Some(Completion {
-                call: sent,
-                thread,
-                mark: Mark::Replied { status, copied },
-                buffer,
-            })
-        }
-    }
+    let mut sent = sent;
+    let copied = sent.reply_buffer.lay(0, bytes);
+    sent.ending(Mark::Replied { status, copied })
 }
 
 impl Kernel {
@@ -53,12 +35,10 @@ impl Kernel {
         requires { MayCall self.old caller.now endings.old.items }
         ensures { MakesOrRefuses self.old caller.now (Call.Reply rcvid status bytes.now) result endings.new.items self.new }
     {
-        let held = self.held_seat(caller, rcvid)?;
-        let (client, call) = take_sent(&mut self.threads, held, rcvid.0);
-        let Some(ended) = replied_to(call, client, status, bytes) else {
-            unreachable!();
-        };
-        caller.end_both(endings, ended);
+        let holder = self.holder(caller, rcvid)?;
+        let sent = self.threads.take_sent(&holder);
+        put(endings, caller.ending(Mark::Ok));
+        put(endings, reply_ending(sent, status, bytes));
         Ok(())
     }
 }

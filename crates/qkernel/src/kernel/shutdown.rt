@@ -4,7 +4,7 @@ use super::Kernel;
 use super::caller::Caller;
 use qbase::errno::Errno;
 use qmodel::call::{Call, Mark};
-use qstate::cancelling::{CancelSet, cancel_calls};
+use qstate::cancelling::{Cancel, CancelSet};
 use qstate::endings::Endings;
 
 impl Kernel {
@@ -16,12 +16,13 @@ impl Kernel {
         requires { MayCall self.old caller.now endings.old.items }
         ensures { Makes self.old caller.now Call.Shutdown endings.new.items self.new }
     {
-        cancel_calls(
-            &mut self.threads,
+        self.threads.cancel(
             &mut self.channels,
             &self.connections,
-            CancelSet::All,
-            Errno::Srch,
+            Cancel {
+                set: CancelSet::All,
+                errno: Errno::Srch,
+            },
             caller.ending(Mark::Ok),
             endings,
         );

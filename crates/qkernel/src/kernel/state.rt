@@ -5,9 +5,7 @@ use super::caller::Caller;
 use qbase::errno::Errno;
 use qbase::ids::ThreadNo;
 use qmodel::call::{Call, Mark};
-use qstate::endings::Endings;
-use qstate::thread::{priority_at, seat_of};
-use qstate::thread_state::state_at;
+use qstate::endings::{Endings, put};
 
 impl Kernel {
     ghost use Rattle.qkernel.specs.Private.Caller.{MayCall, MakesOrRefuses};
@@ -22,14 +20,14 @@ impl Kernel {
         requires { MayCall self.old caller.now endings.old.items }
         ensures { MakesOrRefuses self.old caller.now (Call.State target) result endings.new.items self.new }
     {
-        let Some(there) = seat_of(&self.threads, target) else {
+        let Some(seat) = self.seat(target) else {
             return Err(Errno::Srch);
         };
         let mark = Mark::State {
-            state: state_at(&self.connections, &self.threads, there, target),
-            priority: priority_at(&self.threads, there, target),
+            state: self.threads.state(&self.connections, &seat),
+            priority: self.threads.record(&seat).priority,
         };
-        caller.end(endings, mark);
+        put(endings, caller.ending(mark));
         Ok(())
     }
 }

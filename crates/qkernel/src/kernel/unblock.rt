@@ -9,9 +9,9 @@ use qbase::errno::Errno;
 use qbase::ids::ThreadNo;
 use qmodel::call::{Call, Mark};
 use qqueue::item::{Item, What};
-use qstate::cancelling::{CancelSet, cancel_calls};
-use qstate::endings::Endings;
-use qstate::held::{Held, mark_unblocked};
+use qstate::cancelling::{Cancel, CancelSet};
+use qstate::endings::{Endings, put, put_if};
+use qstate::held::Held;
 use qstate::pulses::send_pulse;
 
 /// The pulse that tells of a held message whose sender is to be unblocked.
@@ -41,28 +41,30 @@ impl Kernel {
         requires { MayCall self.old caller.now endings.old.items }
         ensures { MakesOrRefuses self.old caller.now (Call.Unblock target) result endings.new.items self.new }
     {
-        let there = self.fellow_seat(caller, target)?;
-        let Some(guarded) = self.guarded_message(there, target) else {
-            cancel_calls(
-                &mut self.threads,
+        let fellow = self.fellow(caller, target)?;
+        let guarded = self.threads.guarded_message(&self.connections, &self.channels, &fellow);
+        let Some((held, chid)) = guarded else {
+            self.threads.cancel(
                 &mut self.channels,
                 &self.connections,
-                CancelSet::Of(target),
-                Errno::Intr,
+                Cancel {
+                    set: CancelSet::Of(target),
+                    errno: Errno::Intr,
+                },
                 caller.ending(Mark::Ok),
                 endings,
             );
             return Ok(());
         };
-        let (held, chid) = guarded;
         if held.receipt.unblocked {
-            caller.end(endings, Mark::Ok);
+            put(endings, caller.ending(Mark::Ok));
             return Ok(());
         }
-        let pulse = pulse_for(caller.made + 1, &held);
+        let pulse = pulse_for(caller.number(), &held);
         let met = send_pulse(&mut self.threads, &mut self.channels, chid, pulse)?;
-        mark_unblocked(&mut self.threads, there, target);
-        caller.end_with(endings, met);
+        self.threads.mark_unblocked(&fellow);
+        put(endings, caller.ending(Mark::Ok));
+        put_if(endings, met);
         Ok(())
     }
 }

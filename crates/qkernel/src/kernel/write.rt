@@ -5,8 +5,7 @@ use super::caller::Caller;
 use qbase::errno::Errno;
 use qbase::ids::ReceiveId;
 use qmodel::call::{Call, Mark};
-use qstate::endings::Endings;
-use qstate::held::write_sent;
+use qstate::endings::{Endings, put};
 
 impl Kernel {
     ghost use Rattle.qkernel.specs.Private.Caller.{MayCall, MakesOrRefuses};
@@ -24,9 +23,9 @@ impl Kernel {
         requires { MayCall self.old caller.now endings.old.items }
         ensures { MakesOrRefuses self.old caller.now (Call.Write rcvid offset bytes.now) result endings.new.items self.new }
     {
-        let held = self.held_seat(caller, rcvid)?;
-        let copied = write_sent(&mut self.threads, held, rcvid.0, offset, bytes);
-        caller.end(endings, Mark::Count(copied));
+        let holder = self.holder(caller, rcvid)?;
+        let copied = self.threads.write_sent(&holder, offset, bytes);
+        put(endings, caller.ending(Mark::Count(copied)));
         Ok(())
     }
 }

@@ -1,0 +1,258 @@
+-- What is kept of where the threads stand stays right as their records are written.
+use Rattle.std.proofs.Common.{◌≡◌, ◌≢◌, ◌<◌, ◌≤◌, ℕ, suc, zero, ◌+◌, List, [], ◌∷◌, length, map, set, get_or, Bool, ◌&&◌, refl, ap, sym, subst, ◌∙◌, cond, arith, true, false, eqb}
+use Rattle.std.specs.Prelude.{Option, None, Some, is_some, nat_lt, position}
+use Rattle.std.specs.List.{position_from}
+use Rattle.std.specs.Option.{option_map}
+use Rattle.std.proofs.lemmas.Bool.{eqb-true, eq-eqb, ne_eqb, true≢false, ltb-true, and_parts}
+use Rattle.std.proofs.lemmas.Iterator.Adapters.{position_from-zero}
+use Rattle.std.proofs.lemmas.List.{length-map}
+use Rattle.std.proofs.lemmas.Option.{same_Some, none-some}
+use Rattle.qbase.specs.ByteSet.{has}
+use Rattle.qtables.specs.Members.{IsRoster}
+use Rattle.qtables.specs.declared.member.Member.{Member}
+use Rattle.qmodel.specs.declared.open_call.OpenCall.{OpenCall}
+use Rattle.qmodel.specs.declared.open_call.Receipt.{Receipt}
+use Rattle.qmodel.specs.declared.open_call.Wait.{Wait}
+use Rattle.qmodel.specs.declared.open_call.Wait.TheVariants.{Answer, Item as ForItem}
+use Rattle.qmodel.specs.Private.Step.{held_call, unblocked_call, written_call}
+use Rattle.qstate.specs.declared.index.Index.{Index}
+use Rattle.qstate.specs.declared.thread.Thread.{Thread}
+use Rattle.qstate.specs.Index.{is_receive, Forgets, Notes}
+use Rattle.qstate.specs.Kept.{members_of}
+use Rattle.qstate.specs.Open.{receive_in}
+use Rattle.qstate.specs.Thread.{ready_thread, seat_in}
+use Rattle.qstate.specs.Threads.{IsIndexed, number_at, open_at, receive_at}
+use Rattle.qstate.proofs.Seats.{call_here, first_at, first_below, set_members, IsFirstAt}
+use Rattle.qstate.proofs.Senders.{roster_first}
+
+-- ---- a thread stands where its number says
+
+from_first : (u : ℕ) (threads : List Thread) (i k : ℕ) → IsFirstAt threads u k → position_from (λ t. eqb t.member.thread u) i threads ≡ Some (i + k)
+from_first u [] i k h = absurd h
+from_first u (t ∷ threads) i zero h = rw (eq-eqb t.member.thread u h) (ap Some (omega arith))
+from_first u (t ∷ threads) i (suc k) h = rw h.0 (from_first u threads (i + 1) k h.1 ∙ ap Some (omega arith))
+
+pub seat_first : (u : ℕ) (threads : List Thread) (k : ℕ) → IsFirstAt threads u k → seat_in threads u ≡ Some k
+seat_first u threads k h = position_from-zero (λ t. eqb t.member.thread u) threads ∙ from_first u threads 0 k h ∙ ap Some (omega arith)
+
+-- the thread of a record of a roster stands there
+pub seat_here : (threads : List Thread) (k : ℕ) (d : Thread) → IsRoster (members_of threads) → k < length threads → seat_in threads (get_or threads k d).member.thread ≡ Some k
+seat_here threads k d roster l = seat_first _ threads k (roster_first threads k d roster l)
+
+-- ---- open calls by place
+
+written_here : (threads : List Thread) (k : ℕ) (x : Thread) → k < length threads → open_at (set threads k x) k ≡ x.open_call
+written_here [] k x l = absurd (omega arith)
+written_here (t ∷ threads) zero x l = refl
+written_here (t ∷ threads) (suc k) x l = written_here threads k x (omega arith)
+
+written_elsewhere : (threads : List Thread) (k j : ℕ) (x : Thread) → j ≢ k → open_at (set threads k x) j ≡ open_at threads j
+written_elsewhere [] k j x other = refl
+written_elsewhere (t ∷ threads) zero zero x other = absurd (other refl)
+written_elsewhere (t ∷ threads) zero (suc j) x other = refl
+written_elsewhere (t ∷ threads) (suc k) zero x other = refl
+written_elsewhere (t ∷ threads) (suc k) (suc j) x other = written_elsewhere threads k j x (λ e. other (ap suc e))
+
+call_written : (threads : List Thread) (k j : ℕ) (x : Thread) → k < length threads → open_at (set threads k x) j ≡ cond (eqb j k) x.open_call (open_at threads j)
+call_written threads k j x l = elim (eqb j k) as (λ b. eqb j k ≡ b → open_at (set threads k x) j ≡ cond b x.open_call (open_at threads j)) [
+  | true ↦ λ same. ap (open_at (set threads k x)) (eqb-true j k same) ∙ written_here threads k x l
+  | false ↦ λ apart. written_elsewhere threads k j x (λ e. true≢false (sym (eq-eqb j k e) ∙ apart))
+] refl
+
+-- the number of an open call, and that of one that is a receive
+abbrev pub number_of : Option OpenCall → Option ℕ
+number_of o = option_map (λ c. c.number) o
+
+abbrev pub receive_number : Option OpenCall → Option ℕ
+receive_number o = option_map (λ r. r.number) (receive_in 0 o)
+
+pub receive_numbered : (o : Option OpenCall) (n : ℕ) → receive_number o ≡ Some n → number_of o ≡ Some n
+receive_numbered None n e = absurd (none-some n e)
+receive_numbered (Some o) n e = by_wait o.wait e where
+  by_wait : (w : Wait) → receive_number (Some (record { number = o.number; wait = w })) ≡ Some n → Some o.number ≡ Some n
+  by_wait (Answer coid message reply_buffer receipt) e = absurd (none-some n e)
+  by_wait (ForItem chid kind buffer) e = e
+
+members_length : (old new : List Thread) → members_of new ≡ members_of old → length new ≡ length old
+members_length old new e = sym (length-map new (λ t. t.member)) ∙ ap length e ∙ length-map old (λ t. t.member)
+
+-- ---- fewer calls are open
+
+pub indexed_fewer : (old new : List Thread) (index after : Index) → IsIndexed old index → members_of new ≡ members_of old → (after.rising ≡ index.rising) → (after.latest ≡ index.latest) → (after.newest ≡ index.newest) → (after.last ≡ index.last)
+    → ((k n : ℕ) → receive_at new k ≡ Some n → has index.receivers k ≡ true → has after.receivers k ≡ true)
+    → ((k n : ℕ) → number_at new k ≡ Some n → number_at old k ≡ Some n) → ((k n : ℕ) → receive_at new k ≡ Some n → receive_at old k ≡ Some n) → IsIndexed new after
+indexed_fewer old new index after i members rising latest newest last stays numbers receives = record {
+  few = rw (members_length old new members) i.few;
+  roster = rw members i.roster;
+  receivers = λ k n e. stays k n e (i.receivers k n (receives k n e));
+  latest = λ r k n e. rw latest (i.latest (sym rising ∙ r) k n (numbers k n e));
+  apart = λ r j k n a b. i.apart (sym rising ∙ r) j k n (numbers j n a) (numbers k n b);
+  others = λ r k n e other. rw newest (i.others (sym rising ∙ r) k n (receives k n e) (λ same. other (same ∙ sym last)));
+}
+
+-- a write that leaves an open call with its number, or ends it
+written_at : (f : Option OpenCall → Option ℕ) (threads : List Thread) (k : ℕ) (d x : Thread) → k < length threads → ((n : ℕ) → f x.open_call ≡ Some n → f (get_or threads k d).open_call ≡ Some n)
+    → (j n : ℕ) → f (open_at (set threads k x) j) ≡ Some n → f (open_at threads j) ≡ Some n
+written_at f threads k d x l less j n e =
+    elim (eqb j k) as (λ b. eqb j k ≡ b → f (cond b x.open_call (open_at threads j)) ≡ Some n → f (open_at threads j) ≡ Some n) [
+      | true ↦ λ same is. rw (eqb-true j k same, call_here threads k d l) (less n is)
+      | false ↦ λ other is. is
+    ] refl (sym (ap f (call_written threads k j x l)) ∙ e)
+
+pub indexed_written : (threads : List Thread) (k : ℕ) (d x : Thread) (index : Index) → IsIndexed threads index → k < length threads → members_of (set threads k x) ≡ members_of threads
+    → ((n : ℕ) → number_of x.open_call ≡ Some n → number_of (get_or threads k d).open_call ≡ Some n) → ((n : ℕ) → receive_number x.open_call ≡ Some n → receive_number (get_or threads k d).open_call ≡ Some n) → IsIndexed (set threads k x) index
+indexed_written threads k d x index i l members numbers receives =
+    indexed_fewer threads (set threads k x) index index i members refl refl refl refl (λ j n e h. h) (written_at number_of threads k d x l numbers) (written_at receive_number threads k d x l receives)
+
+pub indexed_freed : (threads : List Thread) (k : ℕ) (d x : Thread) (index after : Index) → IsIndexed threads index → Forgets k index after → k < length threads → members_of (set threads k x) ≡ members_of threads → x.open_call ≡ None → IsIndexed (set threads k x) after
+indexed_freed threads k d x index after i f l members none =
+    indexed_fewer threads (set threads k x) index after i members f.rising f.latest f.newest f.last
+    (λ j n e h. elim (eqb j k) as (λ b. eqb j k ≡ b → receive_number (cond b x.open_call (open_at threads j)) ≡ Some n → has after.receivers j ≡ true) [
+      | true ↦ λ same is. absurd (none-some n (rw none at is))
+      | false ↦ λ other is. f.receivers j (λ same. true≢false (sym (eq-eqb j k same) ∙ other)) ∙ h
+    ] refl (sym (ap receive_number (call_written threads k j x l)) ∙ e))
+    (written_at number_of threads k d x l (λ n is. absurd (none-some n (rw none at is)))) (written_at receive_number threads k d x l (λ n is. absurd (none-some n (rw none at is))))
+
+-- ---- one more call is open
+
+receiving : (call : OpenCall) (n : ℕ) → receive_number (Some call) ≡ Some n → (is_receive call.wait ≡ true) × (call.number ≡ n)
+receiving call n e = by_wait call.wait e where
+  by_wait : (w : Wait) → receive_number (Some (record { number = call.number; wait = w })) ≡ Some n → (is_receive w ≡ true) × (call.number ≡ n)
+  by_wait (Answer coid message reply_buffer receipt) e = absurd (none-some n e)
+  by_wait (ForItem chid kind buffer) e = (refl, same_Some _ n e)
+
+module _ (threads : List Thread) (k : ℕ) (x : Thread) (call : OpenCall) (index after : Index) (i : IsIndexed threads index) (notes : Notes k call index after) (l : k < length threads) (opens : x.open_call ≡ Some call) where
+  -- the call at a place is the new one, or an old one elsewhere
+  at_place : (f : Option OpenCall → Option ℕ) (j n : ℕ) → f (open_at (set threads k x) j) ≡ Some n → f (cond (eqb j k) (Some call) (open_at threads j)) ≡ Some n
+  at_place f j n e = rw opens at (sym (ap f (call_written threads k j x l)) ∙ e)
+
+  rose : after.rising ≡ true → (index.rising ≡ true) × (index.latest < call.number)
+  rose r = let both = and_parts index.rising (nat_lt index.latest call.number) (sym notes.rising ∙ r) in (both.0, ltb-true index.latest call.number both.1)
+
+  noted_receiver : (j n : ℕ) → receive_at (set threads k x) j ≡ Some n → has after.receivers j ≡ true
+  noted_receiver j n e = notes.receivers j ∙ (elim (eqb j k) as (λ b. eqb j k ≡ b → receive_number (cond b (Some call) (open_at threads j)) ≡ Some n → cond (is_receive call.wait && b) true (has index.receivers j) ≡ true) [
+    | true ↦ λ same is. rw (receiving call n is).0 refl
+    | false ↦ λ other is. rw (i.receivers j n is) (elim (is_receive call.wait && false) as (λ b. cond b true true ≡ true) [ true ↦ refl | false ↦ refl ])
+  ] refl (at_place receive_number j n e))
+
+  noted_latest : after.rising ≡ true → (j n : ℕ) → number_at (set threads k x) j ≡ Some n → n ≤ after.latest
+  noted_latest r j n e = rw notes.latest (elim (eqb j k) as (λ b. number_of (cond b (Some call) (open_at threads j)) ≡ Some n → n ≤ call.number) [
+    | true ↦ λ is. let same : call.number ≡ n = same_Some _ n is in omega arith
+    | false ↦ λ is. let old : n ≤ index.latest = i.latest (rose r).0 j n is in let more : index.latest < call.number = (rose r).1 in omega arith
+  ] (at_place number_of j n e))
+
+  noted_apart : after.rising ≡ true → (j m n : ℕ) → number_at (set threads k x) j ≡ Some n → number_at (set threads k x) m ≡ Some n → j ≡ m
+  noted_apart r j m n a b =
+      elim (eqb j k) as (λ p. eqb j k ≡ p → number_of (cond p (Some call) (open_at threads j)) ≡ Some n → j ≡ m) [
+        | true ↦ λ first is. elim (eqb m k) as (λ q. eqb m k ≡ q → number_of (cond q (Some call) (open_at threads m)) ≡ Some n → j ≡ m) [
+          | true ↦ λ second also. eqb-true j k first ∙ sym (eqb-true m k second)
+          | false ↦ λ second also. let same : call.number ≡ n = same_Some _ n is in let old : n ≤ index.latest = i.latest (rose r).0 m n also in let more : index.latest < call.number = (rose r).1 in absurd (omega arith)
+        ] refl (at_place number_of m n b)
+        | false ↦ λ first is. elim (eqb m k) as (λ q. eqb m k ≡ q → number_of (cond q (Some call) (open_at threads m)) ≡ Some n → j ≡ m) [
+          | true ↦ λ second also. let same : call.number ≡ n = same_Some _ n also in let old : n ≤ index.latest = i.latest (rose r).0 j n is in let more : index.latest < call.number = (rose r).1 in absurd (omega arith)
+          | false ↦ λ second also. i.apart (rose r).0 j m n is also
+        ] refl (at_place number_of m n b)
+      ] refl (at_place number_of j n a)
+
+  noted_others : after.rising ≡ true → (j n : ℕ) → receive_at (set threads k x) j ≡ Some n → j ≢ after.last → n < after.newest
+  noted_others r j n e other = rw notes.newest (elim (is_receive call.wait) as (λ p. is_receive call.wait ≡ p → j ≢ cond p k index.last → n < cond p call.number index.newest) [
+    | true ↦ λ it elsewhere. elim (eqb j k) as (λ b. eqb j k ≡ b → receive_number (cond b (Some call) (open_at threads j)) ≡ Some n → n < call.number) [
+      | true ↦ λ same is. absurd (elsewhere (eqb-true j k same))
+      | false ↦ λ apart is. let old : n ≤ index.latest = i.latest (rose r).0 j n (receive_numbered (open_at threads j) n is) in let more : index.latest < call.number = (rose r).1 in omega arith
+    ] refl (at_place receive_number j n e)
+    | false ↦ λ it elsewhere. elim (eqb j k) as (λ b. eqb j k ≡ b → receive_number (cond b (Some call) (open_at threads j)) ≡ Some n → n < index.newest) [
+      | true ↦ λ same is. absurd (true≢false (sym (receiving call n is).0 ∙ it))
+      | false ↦ λ apart is. i.others (rose r).0 j n is elsewhere
+    ] refl (at_place receive_number j n e)
+  ] refl (λ same. other (same ∙ sym notes.last)))
+
+pub indexed_blocked : (threads : List Thread) (k : ℕ) (x : Thread) (call : OpenCall) (index after : Index) → IsIndexed threads index → Notes k call index after → k < length threads → members_of (set threads k x) ≡ members_of threads → x.open_call ≡ Some call → IsIndexed (set threads k x) after
+indexed_blocked threads k x call index after i notes l members opens = record {
+  few = rw (members_length threads (set threads k x) members) i.few;
+  roster = rw members i.roster;
+  receivers = noted_receiver threads k x call index after i notes l opens;
+  latest = noted_latest threads k x call index after i notes l opens;
+  apart = noted_apart threads k x call index after i notes l opens;
+  others = noted_others threads k x call index after i notes l opens;
+}
+
+-- ---- no call is open
+
+ready_open : (members : List Member) (k : ℕ) → open_at (map ready_thread members) k ≡ None
+ready_open [] k = refl
+ready_open (m ∷ members) zero = refl
+ready_open (m ∷ members) (suc k) = ready_open members k
+
+ready_members : (members : List Member) → members_of (map ready_thread members) ≡ members
+ready_members [] = refl
+ready_members (m ∷ members) = ap (λ ms. m ∷ ms) (ready_members members)
+
+pub indexed_new : (members : List Member) (index : Index) → length members ≤ 64 → IsRoster members → IsIndexed (map ready_thread members) index
+indexed_new members index few roster = record {
+  few = rw (length-map members ready_thread) few;
+  roster = rw (ready_members members) roster;
+  receivers = λ k n e. absurd (none-some n (sym (ap receive_number (ready_open members k)) ∙ e));
+  latest = λ r k n e. absurd (none-some n (sym (ap number_of (ready_open members k)) ∙ e));
+  apart = λ r j k n a b. absurd (none-some n (sym (ap number_of (ready_open members j)) ∙ a));
+  others = λ r k n e other. absurd (none-some n (sym (ap receive_number (ready_open members k)) ∙ e));
+}
+
+-- ---- changes that keep a call's number and what it waits for
+
+pub record KeepsCall (change : OpenCall → OpenCall) : Type 0 where
+  pub number : (o : OpenCall) → (change o).number ≡ o.number
+  pub receive : (o : OpenCall) → receive_number (Some (change o)) ≡ receive_number (Some o)
+
+kept_number : (change : OpenCall → OpenCall) → KeepsCall change → (o : Option OpenCall) → number_of (option_map change o) ≡ number_of o
+kept_number change keeps None = refl
+kept_number change keeps (Some o) = ap Some (keeps.number o)
+
+kept_receive : (change : OpenCall → OpenCall) → KeepsCall change → (o : Option OpenCall) → receive_number (option_map change o) ≡ receive_number o
+kept_receive change keeps None = refl
+kept_receive change keeps (Some o) = keeps.receive o
+
+pub keeps_held : (kept : Receipt) → KeepsCall (held_call kept)
+keeps_held kept = record { number = λ o. refl; receive = λ o. by_wait o.number o.wait } where
+  by_wait : (n : ℕ) (w : Wait) → receive_number (Some (held_call kept (record { number = n; wait = w }))) ≡ receive_number (Some (record { number = n; wait = w }))
+  by_wait n (Answer coid message reply_buffer receipt) = refl
+  by_wait n (ForItem chid kind buffer) = refl
+
+pub keeps_written : (offset : ℕ) (bytes : List ℕ) → KeepsCall (written_call offset bytes)
+keeps_written offset bytes = record { number = λ o. refl; receive = λ o. by_wait o.number o.wait } where
+  by_wait : (n : ℕ) (w : Wait) → receive_number (Some (written_call offset bytes (record { number = n; wait = w }))) ≡ receive_number (Some (record { number = n; wait = w }))
+  by_wait n (Answer coid message reply_buffer receipt) = refl
+  by_wait n (ForItem chid kind buffer) = refl
+
+pub keeps_unblocked : KeepsCall unblocked_call
+keeps_unblocked = record { number = λ o. refl; receive = λ o. by_wait o.number o.wait } where
+  by_wait : (n : ℕ) (w : Wait) → receive_number (Some (unblocked_call (record { number = n; wait = w }))) ≡ receive_number (Some (record { number = n; wait = w }))
+  by_wait n (Answer coid message reply_buffer (Some receipt)) = refl
+  by_wait n (Answer coid message reply_buffer None) = refl
+  by_wait n (ForItem chid kind buffer) = refl
+
+-- ---- by the seat that is written
+
+module _ (threads : List Thread) (u k : ℕ) (d x : Thread) (index : Index) (i : IsIndexed threads index) (at : seat_in threads u ≡ Some k) (member : x.member ≡ (get_or threads k d).member) where
+  within : k < length threads
+  within = first_below u threads k (first_at u threads k at)
+
+  members : members_of (set threads k x) ≡ members_of threads
+  members = set_members u threads k d x (first_at u threads k at) member
+
+  -- the open call stays
+  pub indexed_same : x.open_call ≡ (get_or threads k d).open_call → IsIndexed (set threads k x) index
+  indexed_same same = indexed_written threads k d x index i within members (λ n e. rw same at e) (λ n e. rw same at e)
+
+  -- the open call is changed, but for its number and what it waits for
+  pub indexed_changed : (change : OpenCall → OpenCall) → KeepsCall change → x.open_call ≡ option_map change (get_or threads k d).open_call → IsIndexed (set threads k x) index
+  indexed_changed change keeps is = indexed_written threads k d x index i within members
+      (λ n e. sym (kept_number change keeps (get_or threads k d).open_call) ∙ sym (ap number_of is) ∙ e)
+      (λ n e. sym (kept_receive change keeps (get_or threads k d).open_call) ∙ sym (ap receive_number is) ∙ e)
+
+  -- the thread isn't blocked any more
+  pub indexed_ended : (after : Index) → Forgets k index after → x.open_call ≡ None → IsIndexed (set threads k x) after
+  indexed_ended after f none = indexed_freed threads k d x index after i f within members none
+
+  -- the thread is blocked
+  pub indexed_opened : (call : OpenCall) (after : Index) → Notes k call index after → x.open_call ≡ Some call → IsIndexed (set threads k x) after
+  indexed_opened call after notes opens = indexed_blocked threads k x call index after i notes within members opens

@@ -1,6 +1,0 @@
-use Rattle.std.proofs.Common.{◌≡◌, take, map}
-use Rattle.qstate.specs.Thread.{ready_thread}
-use Rattle.qstate.proofs.thread.threads_for.Given as goal
-
-abbrev pub invariant-loop-member : goal.invariant-loop-member
-invariant-loop-member l = l.threads.items ≡ map ready_thread (take l.member-index l.members)

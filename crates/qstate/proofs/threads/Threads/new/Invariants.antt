@@ -1,0 +1,6 @@
+use Rattle.std.proofs.Common.{◌≡◌, take, map}
+use Rattle.qstate.specs.Thread.{ready_thread}
+use Rattle.qstate.proofs.threads.Threads.new.Given as goal
+
+abbrev pub invariant-loop-member : goal.invariant-loop-member
+invariant-loop-member l = l.records.items ≡ map ready_thread (take l.member-index l.members)
