@@ -1,22 +1,25 @@
 -- What is kept of where the threads stand stays right as their records are written.
-use Rattle.std.proofs.Common.{◌≡◌, ◌≢◌, ◌<◌, ◌≤◌, ℕ, suc, zero, ◌+◌, List, [], ◌∷◌, length, map, set, get_or, Bool, ◌&&◌, refl, ap, sym, subst, ◌∙◌, cond, arith, true, false, eqb}
-use Rattle.std.specs.Prelude.{Option, None, Some, is_some, nat_lt, position}
+use Rattle.std.proofs.Common.{◌≡◌, ◌≢◌, ◌<◌, ◌≤◌, ℕ, suc, zero, ◌+◌, List, [], ◌∷◌, length, map, set, get_or, Bool, ◌&&◌, refl, ap, sym, ◌∙◌, cond, arith, true, false, eqb}
+use Rattle.std.specs.Prelude.{Option, None, Some, nat_lt}
 use Rattle.std.specs.List.{position_from}
 use Rattle.std.specs.Option.{option_map}
-use Rattle.std.proofs.lemmas.Bool.{eqb-true, eq-eqb, ne_eqb, true≢false, ltb-true, and_parts}
+use Rattle.std.proofs.lemmas.Bool.{eqb-true, eq-eqb, true≢false, ltb-true, and_parts}
 use Rattle.std.proofs.lemmas.Iterator.Adapters.{position_from-zero}
 use Rattle.std.proofs.lemmas.List.{length-map}
 use Rattle.std.proofs.lemmas.Option.{same_Some, none-some}
 use Rattle.qbase.specs.ByteSet.{has}
 use Rattle.qtables.specs.Members.{IsRoster}
+use Rattle.qtables.specs.declared.connection.Connection.{Connection}
 use Rattle.qtables.specs.declared.member.Member.{Member}
 use Rattle.qmodel.specs.declared.open_call.OpenCall.{OpenCall}
 use Rattle.qmodel.specs.declared.open_call.Receipt.{Receipt}
 use Rattle.qmodel.specs.declared.open_call.Wait.{Wait}
 use Rattle.qmodel.specs.declared.open_call.Wait.TheVariants.{Answer, Item as ForItem}
 use Rattle.qmodel.specs.Private.Step.{held_call, unblocked_call, written_call}
+use Rattle.qstate.specs.declared.cancelling.CancelSet.{CancelSet}
 use Rattle.qstate.specs.declared.index.Index.{Index}
 use Rattle.qstate.specs.declared.thread.Thread.{Thread}
+use Rattle.qstate.specs.Cancelling.{is_cancelled_by, is_cancelled_open, thread_after_cancelled}
 use Rattle.qstate.specs.Index.{is_receive, Forgets, Notes}
 use Rattle.qstate.specs.Kept.{members_of}
 use Rattle.qstate.specs.Open.{receive_in}
@@ -256,3 +259,21 @@ module _ (threads : List Thread) (u k : ℕ) (d x : Thread) (index : Index) (i :
   -- the thread is blocked
   pub indexed_opened : (call : OpenCall) (after : Index) → Notes k call index after → x.open_call ≡ Some call → IsIndexed (set threads k x) after
   indexed_opened call after notes opens = indexed_blocked threads k x call index after i notes within members opens
+
+-- ---- calls are cancelled
+
+cancelled_less : (f : Option OpenCall → Option ℕ) (is_cancelled : Wait → Bool) (o : Option OpenCall) (n : ℕ) → f None ≡ None → f (cond (is_cancelled_open is_cancelled o) None o) ≡ Some n → f o ≡ Some n
+cancelled_less f is_cancelled o n none e = elim (is_cancelled_open is_cancelled o) as (λ b. f (cond b None o) ≡ Some n → f o ≡ Some n) [
+  | true ↦ λ is. absurd (none-some n (sym none ∙ is))
+  | false ↦ λ is. is
+] e
+
+cancelled_at : (f : Option OpenCall → Option ℕ) (connection : ℕ → Option Connection) (cancel : CancelSet) (threads : List Thread) (k n : ℕ) → f None ≡ None → f (open_at (map (thread_after_cancelled connection cancel) threads) k) ≡ Some n → f (open_at threads k) ≡ Some n
+cancelled_at f connection cancel [] k n none e = e
+cancelled_at f connection cancel (t ∷ threads) zero n none e = cancelled_less f (is_cancelled_by connection cancel t.member.thread) t.open_call n none e
+cancelled_at f connection cancel (t ∷ threads) (suc k) n none e = cancelled_at f connection cancel threads k n none e
+
+pub indexed_cancelled : (connection : ℕ → Option Connection) (cancel : CancelSet) (threads : List Thread) (index : Index) → IsIndexed threads index → members_of (map (thread_after_cancelled connection cancel) threads) ≡ members_of threads → IsIndexed (map (thread_after_cancelled connection cancel) threads) index
+indexed_cancelled connection cancel threads index i members =
+    indexed_fewer threads (map (thread_after_cancelled connection cancel) threads) index index i members refl refl refl refl (λ k n e h. h)
+    (λ k n e. cancelled_at number_of connection cancel threads k n refl e) (λ k n e. cancelled_at receive_number connection cancel threads k n refl e)

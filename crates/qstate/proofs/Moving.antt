@@ -17,7 +17,7 @@ use Rattle.qbase.proofs.Lists.{eqb_either}
 use Rattle.qstate.specs.declared.channel.Channel.{Channel}
 use Rattle.qstate.specs.declared.unread.Unread.{Unread}
 use Rattle.qstate.specs.Channel.{SetsItems}
-use Rattle.qstate.specs.Kept.{channel_in, pending_in}
+use Rattle.qstate.specs.Kept.{pending_in}
 use Rattle.qstate.specs.Unread.{MovesUnread, unread_in, unread_of}
 
 -- ---- an open call and what waits on a channel

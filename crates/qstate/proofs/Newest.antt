@@ -1,9 +1,9 @@
 -- The newest receiver, by a look at the receivers alone.
-use Rattle.std.proofs.Common.{◌≡◌, ◌≢◌, ◌<◌, ◌≤◌, ◌+◌, ℕ, suc, zero, List, [], ◌∷◌, drop, length, get_or, refl, ap, sym, subst, ◌∙◌, arith, cond, Bool, ◌&&◌, ◌-◌, true, false, eqb}
-use Rattle.std.specs.Prelude.{Option, None, Some, is_some, nat_lt, IfSome}
+use Rattle.std.proofs.Common.{◌≡◌, ◌≢◌, ◌<◌, ◌≤◌, ◌+◌, ℕ, suc, zero, List, [], ◌∷◌, drop, length, get_or, refl, ap, sym, ◌∙◌, arith, cond, ◌&&◌, ◌-◌, true, false, eqb}
+use Rattle.std.specs.Prelude.{Option, None, Some, nat_lt, IfSome}
 use Rattle.std.specs.Option.{option_map}
 use Rattle.std.proofs.lemmas.Bool.{eqb-true, eq-eqb, ltb-false, ltb-true, true≢false}
-use Rattle.std.proofs.lemmas.List.{drop_all}
+use Rattle.std.proofs.lemmas.List.{at_drop_more, drop_all}
 use Rattle.std.proofs.lemmas.Option.{none-some, same_Some}
 use Rattle.qbase.specs.ByteSet.{has, HasNone, IsGreatest}
 use Rattle.qbase.specs.declared.byte_set.ByteSet.{ByteSet}
@@ -18,10 +18,9 @@ use Rattle.qstate.specs.declared.index.Index.{Index}
 use Rattle.qstate.specs.declared.seat.Seat.{Seat}
 use Rattle.qstate.specs.declared.thread.Thread.{Thread}
 use Rattle.qstate.specs.Kept.{members_of}
-use Rattle.qstate.specs.Open.{receive_in}
 use Rattle.qstate.specs.Thread.{later_of_two, newest_in}
 use Rattle.qstate.specs.Threads.{newer_of, newest_of, number_and_thread, open_at, receive_at, IsIndexed, IsSeatIn}
-use Rattle.qstate.proofs.Indexing.{call_here, receive_number}
+use Rattle.qstate.proofs.Indexing.{receive_number}
 use Rattle.qstate.proofs.Receivers.{newest_by, newest_found}
 
 -- ---- a search from the front finds what one from behind finds
@@ -48,16 +47,17 @@ later_joins (Some a) u (Some m) (Some b) =
         | false ↦ λ second. let x : m ≤ a.0 = ltb-false a.0 m first in let y : b.0 ≤ m = ltb-false m b.0 second in rw (first, more_is a.0 b.0 (omega arith)) refl
       ] refl
     ] refl where
-  less_is : (m n : ℕ) → m < n → nat_lt m n ≡ true
-  less_is m n l = elim (nat_lt m n) as (λ b. nat_lt m n ≡ b → b ≡ true) [
-    | true ↦ λ e. refl
-    | false ↦ λ e. let more : n ≤ m = ltb-false m n e in absurd (omega arith)
-  ] refl
-  more_is : (m n : ℕ) → n ≤ m → nat_lt m n ≡ false
-  more_is m n l = elim (nat_lt m n) as (λ b. nat_lt m n ≡ b → b ≡ false) [
-    | true ↦ λ e. let less : m < n = ltb-true m n e in absurd (omega arith)
-    | false ↦ λ e. refl
-  ] refl
+      less_is : (m n : ℕ) → m < n → nat_lt m n ≡ true
+      less_is m n l = elim (nat_lt m n) as (λ b. nat_lt m n ≡ b → b ≡ true) [
+        | true ↦ λ e. refl
+        | false ↦ λ e. let more : n ≤ m = ltb-false m n e in absurd (omega arith)
+      ] refl
+
+      more_is : (m n : ℕ) → n ≤ m → nat_lt m n ≡ false
+      more_is m n l = elim (nat_lt m n) as (λ b. nat_lt m n ≡ b → b ≡ false) [
+        | true ↦ λ e. let less : m < n = ltb-true m n e in absurd (omega arith)
+        | false ↦ λ e. refl
+      ] refl
 
 found_behind : (h : ℕ) (item : Item) (best : Option (ℕ × ℕ)) (threads : List Thread) → newest_by h item best threads ≡ later_of best (newest_of h item threads)
 found_behind h item None [] = refl
@@ -98,9 +98,17 @@ newest_skips h item threads i (suc gap) none =
 -- one thread more
 pub newest_more : (h : ℕ) (item : Item) (threads : List Thread) (i : ℕ) (d : Thread) → i < length threads
     → newest_of h item (drop i threads) ≡ newer_of (get_or threads i d).member.thread (wait_on h item (get_or threads i d).open_call) (newest_of h item (drop (i + 1) threads))
-newest_more h item [] i d l = absurd (omega arith)
-newest_more h item (t ∷ threads) zero d l = refl
-newest_more h item (t ∷ threads) (suc i) d l = newest_more h item threads i d (omega arith)
+newest_more h item threads i d l = at_drop_more (newest_of h item) threads i d l
+
+-- a thread that waits is the newest if none behind it waits, or the newest of those isn't newer
+pub newer_alone : (u n : ℕ) (rest : Option (ℕ × ℕ)) → rest ≡ None → newer_of u (Some n) rest ≡ Some (n, u)
+newer_alone u n rest e = rw e refl
+
+pub newer_first : (u n : ℕ) (rest : Option (ℕ × ℕ)) (b : ℕ × ℕ) → rest ≡ Some b → b.0 ≤ n → newer_of u (Some n) rest ≡ Some (n, u)
+newer_first u n rest b e least = rw e (elim (nat_lt n b.0) as (λ p. nat_lt n b.0 ≡ p → cond p (Some b) (Some (n, u)) ≡ Some (n, u)) [
+  | true ↦ λ less. let more : n < b.0 = ltb-true n b.0 less in absurd (omega arith)
+  | false ↦ λ more. refl
+] refl)
 
 -- ---- the one that is newer than all others
 
@@ -125,27 +133,27 @@ newest_is h item (t ∷ threads) zero n d l waits others =
     rw waits (elim (newest_of h item threads) as (λ r. newest_of h item threads ≡ r → newer_of t.member.thread (Some n) r ≡ Some (n, t.member.thread)) [
       | None ↦ λ empty. refl
       | Some best ↦ λ found. let r = found_waits h item threads best found in let less : best.0 < n = others (suc r.0) best.0 r.1 (λ e. absurd (omega arith)) in
-        elim (nat_lt n best.0) as (λ p. nat_lt n best.0 ≡ p → cond p (Some best) (Some (n, t.member.thread)) ≡ Some (n, t.member.thread)) [
-          | true ↦ λ e. let more : n < best.0 = ltb-true n best.0 e in absurd (omega arith)
-          | false ↦ λ e. refl
-        ] refl
+          elim (nat_lt n best.0) as (λ p. nat_lt n best.0 ≡ p → cond p (Some best) (Some (n, t.member.thread)) ≡ Some (n, t.member.thread)) [
+            | true ↦ λ e. let more : n < best.0 = ltb-true n best.0 e in absurd (omega arith)
+            | false ↦ λ e. refl
+          ] refl
     ] refl)
 newest_is h item (t ∷ threads) (suc k) n d l waits others =
     rw (newest_is h item threads k n d (omega arith) waits (λ j m is other. others (suc j) m is (λ e. other (omega arith))))
     (elim (wait_on h item t.open_call) as (λ w. wait_on h item t.open_call ≡ w → newer_of t.member.thread w (Some (n, (get_or threads k d).member.thread)) ≡ Some (n, (get_or threads k d).member.thread)) [
       | None ↦ λ none. refl
       | Some m ↦ λ waits. let less : m < n = others 0 m waits (λ e. absurd (omega arith)) in
-        elim (nat_lt m n) as (λ p. nat_lt m n ≡ p → cond p (Some (n, (get_or threads k d).member.thread)) (Some (m, t.member.thread)) ≡ Some (n, (get_or threads k d).member.thread)) [
-          | true ↦ λ e. refl
-          | false ↦ λ e. let more : n ≤ m = ltb-false m n e in absurd (omega arith)
-        ] refl
+          elim (nat_lt m n) as (λ p. nat_lt m n ≡ p → cond {A = Option (ℕ × ℕ)} p (Some (n, (get_or threads k d).member.thread)) (Some (m, t.member.thread)) ≡ Some (n, (get_or threads k d).member.thread)) [
+            | true ↦ λ e. refl
+            | false ↦ λ e. let more : n ≤ m = ltb-false m n e in absurd (omega arith)
+          ] refl
     ] refl)
 
 -- the last receiver, where the numbers rise
 pub newest_is_last : (h : ℕ) (item : Item) (threads : List Thread) (index : Index) (n : ℕ) (d : Thread) → IsIndexed threads index → index.last < length threads → index.rising ≡ true → wait_on h item (get_or threads index.last d).open_call ≡ Some n → n ≡ index.newest
-    → option_map (λ b. b.1) (newest_of h item threads) ≡ Some (get_or threads index.last d).member.thread
+    → newest_in h item threads ≡ Some (get_or threads index.last d).member.thread
 newest_is_last h item threads index n d i l rises waits same =
-    ap (option_map (λ (b : ℕ × ℕ). b.1)) (newest_is h item threads index.last n d l waits (λ j m is other. rw same (i.others rises j m (waits_receives h item (open_at threads j) m is) other)))
+    sym (newest_is_found h item threads i.roster) ∙ ap (option_map (λ (b : ℕ × ℕ). b.1)) (newest_is h item threads index.last n d l waits (λ j m is other. rw same (i.others rises j m (waits_receives h item (open_at threads j) m is) other)))
 
 -- ---- the search through the receivers
 
@@ -153,7 +161,7 @@ newest_is_last h item threads index n d i l rises waits same =
 pub record Searches (h : ℕ) (item : Item) (threads : List Thread) (receivers left : ByteSet) (best : Option (ℕ × Seat)) (turn : ℕ) : Type 0 where
   pub bound : ℕ
   pub fits : bound + turn ≤ 256
-  pub passed : (j : ℕ) → bound ≤ j → has left j ≡ false
+  pub passed : (j : ℕ) → bound ≤ j → j < 256 → has left j ≡ false
   pub remains : (j : ℕ) → j < bound → has left j ≡ has receivers j
   pub newest : number_and_thread best ≡ newest_of h item (drop bound threads)
   pub seat : IfSome best (λ b. IsSeatIn threads b.1)
@@ -164,11 +172,11 @@ no_waiter h item threads receivers j all none = elim (wait_on h item (open_at th
   | Some n ↦ λ e. absurd (true≢false (sym (all j n (waits_receives h item (open_at threads j) n e)) ∙ none))
 ] refl
 
-pub search_begins : (h : ℕ) (item : Item) (threads : List Thread) (receivers : ByteSet) → length threads ≤ 64 → ((j : ℕ) → 256 ≤ j → has receivers j ≡ false) → Searches h item threads receivers receivers None 0
-search_begins h item threads receivers few none = record {
+pub search_begins : (h : ℕ) (item : Item) (threads : List Thread) (receivers : ByteSet) → length threads ≤ 64 → Searches h item threads receivers receivers None 0
+search_begins h item threads receivers few = record {
   bound = 256;
   fits = omega arith;
-  passed = none;
+  passed = λ j l m. absurd (omega arith);
   remains = λ j l. refl;
   newest = ap (newest_of h item) (sym (drop_all 256 threads (omega arith)));
   seat = tt;
@@ -178,18 +186,19 @@ search_begins h item threads receivers few none = record {
 pub search_ends : (h : ℕ) (item : Item) (threads : List Thread) (receivers left : ByteSet) (best : Option (ℕ × Seat)) (turn : ℕ) → ((k n : ℕ) → receive_at threads k ≡ Some n → has receivers k ≡ true) → Searches h item threads receivers left best turn → HasNone left
     → number_and_thread best ≡ newest_of h item threads
 search_ends h item threads receivers left best turn all s none =
-    s.newest ∙ sym (newest_skips h item threads 0 s.bound (λ j l m. no_waiter h item threads receivers j all (sym (s.remains j (omega arith)) ∙ none j)))
+    let end : s.bound ≡ 0 + s.bound = omega arith in
+    s.newest ∙ ap (λ k. newest_of h item (drop k threads)) end ∙ sym (newest_skips h item threads 0 s.bound (λ j l m. no_waiter h item threads receivers j all (sym (s.remains j (omega arith)) ∙ none j)))
 
 -- nor is any left after as many turns as there are numbers
 pub search_over : (h : ℕ) (item : Item) (threads : List Thread) (receivers left : ByteSet) (best : Option (ℕ × Seat)) (turn : ℕ) → Searches h item threads receivers left best turn → 256 ≤ turn → number_and_thread best ≡ newest_of h item threads
-search_over h item threads receivers left best turn s over = s.newest ∙ ap (λ k. newest_of h item (drop k threads)) (let fits : s.bound + turn ≤ 256 = s.fits in omega arith)
+search_over h item threads receivers left best turn s over = (let fits : s.bound + turn ≤ 256 = s.fits in let end : s.bound ≡ 0 = omega arith in s.newest ∙ ap (λ k. newest_of h item (drop k threads)) end)
 
-module _ (h : ℕ) (item : Item) (threads : List Thread) (receivers left : ByteSet) (best : Option (ℕ × Seat)) (turn g : ℕ) (all : (k n : ℕ) → receive_at threads k ≡ Some n → has receivers k ≡ true) (s : Searches h item threads receivers left best turn) (greatest : IsGreatest left g) where
+module _ (h : ℕ) (item : Item) (threads : List Thread) (receivers left : ByteSet) (best : Option (ℕ × Seat)) (turn g : ℕ) (all : (k n : ℕ) → receive_at threads k ≡ Some n → has receivers k ≡ true) (s : Searches h item threads receivers left best turn) (greatest : IsGreatest left g) (byte : g < 256) where
   -- the greatest that is left is below the bound
   greatest_below : g < s.bound
   greatest_below = elim (nat_lt g s.bound) as (λ b. nat_lt g s.bound ≡ b → g < s.bound) [
     | true ↦ λ e. ltb-true g s.bound e
-    | false ↦ λ e. absurd (true≢false (sym greatest.0 ∙ s.passed g (ltb-false g s.bound e)))
+    | false ↦ λ e. absurd (true≢false (sym greatest.0 ∙ s.passed g (ltb-false g s.bound e) byte))
   ] refl
 
   -- and no thread waits between it and the bound
@@ -209,7 +218,7 @@ module _ (h : ℕ) (item : Item) (threads : List Thread) (receivers left : ByteS
       record {
         bound = g;
         fits = omega arith;
-        passed = λ j l. elim (eqb j g) as (λ b. eqb j g ≡ b → has after j ≡ false) [
+        passed = λ j l m. elim (eqb j g) as (λ b. eqb j g ≡ b → has after j ≡ false) [
           | true ↦ λ same. ap (has after) (eqb-true j g same) ∙ removed
           | false ↦ λ other. others j (λ e. true≢false (sym (eq-eqb j g e) ∙ other)) ∙ greatest.1 j (let apart : j ≢ g = λ e. true≢false (sym (eq-eqb j g e) ∙ other) in omega arith)
         ] refl;
@@ -217,3 +226,12 @@ module _ (h : ℕ) (item : Item) (threads : List Thread) (receivers left : ByteS
         newest = found;
         seat = seat;
       }
+
+-- a seat of what was found
+thread_found : (found : Option (ℕ × Seat)) → option_map (λ b. b.1.thread) found ≡ option_map (λ b. b.1) (number_and_thread found)
+thread_found None = refl
+thread_found (Some b) = refl
+
+-- what the search found is the newest receiver
+pub seat_found : (h : ℕ) (item : Item) (threads : List Thread) (found : Option (ℕ × Seat)) → IsRoster (members_of threads) → number_and_thread found ≡ newest_of h item threads → option_map (λ b. b.1.thread) found ≡ newest_in h item threads
+seat_found h item threads found roster is = thread_found found ∙ ap (option_map (λ (b : ℕ × ℕ). b.1)) is ∙ newest_is_found h item threads roster

@@ -15,7 +15,9 @@ use Rattle.qmodel.specs.declared.open_call.Wait.TheVariants.{Answer, Item as For
 use Rattle.qstate.specs.declared.thread.Thread.{Thread}
 use Rattle.qmodel.specs.Private.Facts.{threads_of, first_where}
 use Rattle.qmodel.specs.Private.Receivers.{is_after, wait_on}
-use Rattle.qmodel.specs.Private.Rows.{takes, takes_into}
+use Rattle.qmodel.specs.Private.Rows.{receipt_ending, takes, takes_into}
+use Rattle.qstate.specs.declared.open.OpenReceive.{OpenReceive}
+use Rattle.qstate.specs.Open.{receive_in}
 use Rattle.qmodel.proofs.Properties.Receivers.{after_less, any_after, newest_parts}
 use Rattle.qstate.specs.Thread.{later_of_two, newest_in, open_in}
 use Rattle.qstate.specs.Kept.{members_of}
@@ -140,3 +142,26 @@ met_there h m item message u o call r waits same ended none =
 pub taken_there : {R : Type 0} (h m : ℕ) (item : Item) (message : List ℕ) (u : ℕ) (o call : Option OpenCall) (r : Option (Completion × R)) → wait_on h item o ≡ Some m → call ≡ o → option_map (λ x. x.0) r ≡ takes item message u call → r ≡ None → ⊥
 taken_there h m item message u o call r waits same ended none =
     true≢false (sym (waits_takes h m item message u o waits) ∙ ap (λ x. is_some (takes item message u x)) (sym same) ∙ ap is_some (sym ended) ∙ ap (λ x. is_some (option_map (λ y. y.0) x)) none)
+
+-- what waits is a receive
+pub waits_receive : (h m : ℕ) (item : Item) (u : ℕ) (o : Option OpenCall) → wait_on h item o ≡ Some m → is_some (receive_in u o) ≡ true
+waits_receive h m item u None e = absurd (none-some m e)
+waits_receive h m item u (Some o) e = by_wait o.wait e where
+  by_wait : (w : Wait) → wait_on h item (Some (record { number = o.number; wait = w })) ≡ Some m → is_some (receive_in u (Some (record { number = o.number; wait = w }))) ≡ true
+  by_wait (Answer coid sent reply_buffer receipt) e = absurd (none-some m e)
+  by_wait (ForItem chid kind buffer) e = refl
+
+-- how it ends that takes an item
+pub taken_by : (item : Item) (message : List ℕ) (u : ℕ) (o : Option OpenCall) (r : OpenReceive) → receive_in u o ≡ Some r → takes item message u o ≡ Some (receipt_ending item message r.thread r.number r.buffer)
+taken_by item message u None r e = absurd (none-some r e)
+taken_by item message u (Some o) r e = by_wait o.wait e where
+  by_wait : (w : Wait) → receive_in u (Some (record { number = o.number; wait = w })) ≡ Some r → takes item message u (Some (record { number = o.number; wait = w })) ≡ Some (receipt_ending item message r.thread r.number r.buffer)
+  by_wait (Answer coid sent reply_buffer receipt) e = absurd (none-some r e)
+  by_wait (ForItem chid kind buffer) e = ap (λ x. Some (receipt_ending item message x.thread x.number x.buffer)) (same_Some _ r e)
+
+pub receives_thread : (u : ℕ) (o : Option OpenCall) (r : OpenReceive) → receive_in u o ≡ Some r → r.thread ≡ u
+receives_thread u None r e = absurd (none-some r e)
+receives_thread u (Some o) r e = by_wait o.wait e where
+  by_wait : (w : Wait) → receive_in u (Some (record { number = o.number; wait = w })) ≡ Some r → r.thread ≡ u
+  by_wait (Answer coid sent reply_buffer receipt) e = absurd (none-some r e)
+  by_wait (ForItem chid kind buffer) e = sym (ap (λ x. x.thread) (same_Some _ r e))

@@ -11,7 +11,7 @@ use Rattle.qmodel.specs.Private.Facts.{is_in_process}
 use Rattle.qstate.specs.declared.thread.Thread.{Thread}
 use Rattle.qstate.specs.Thread.{open_in, seat_in, ChangesOpen, SetsOpen, SetsPriority, Wakes}
 use Rattle.qstate.specs.Kept.{members_of, thread_priority}
-use Rattle.qstate.specs.Threads.{open_at, IsRecordOf, IsSeatIn}
+use Rattle.qstate.specs.Threads.{open_at, IsRecordOf}
 use Rattle.qmodel.specs.declared.open_call.OpenCall.{OpenCall}
 use Rattle.std.specs.Option.{option_map}
 

@@ -13,10 +13,10 @@ use Rattle.qmodel.specs.declared.open_call.OpenCall.{OpenCall}
 use Rattle.qstate.specs.declared.thread.Thread.{Thread}
 use Rattle.qmodel.specs.Private.Facts.{threads_of, is_send, sender_among, message_in}
 use Rattle.qstate.specs.Held.{is_held_in, is_held_over}
-use Rattle.qstate.specs.Thread.{held_over_in, open_in, sender_in, sent_call, message_from, ChangesSender}
+use Rattle.qstate.specs.Thread.{held_over_in, open_in, seat_in, sender_in, sent_call, message_from, ChangesOpen, ChangesSender}
 use Rattle.qstate.specs.Kept.{members_of}
-use Rattle.qstate.specs.Threads.{number_at, open_at}
-use Rattle.qstate.proofs.Seats.{call_here, IsFirstAt, first_open, set_members, set_open, set_priority}
+use Rattle.qstate.specs.Threads.{number_at}
+use Rattle.qstate.proofs.Seats.{call_here, first_at, first_number, IsFirstAt, first_open, set_members, set_open, set_priority}
 
 -- ---- each thread waits for what its own record says
 
@@ -173,3 +173,28 @@ sender_alone i (t ∷ threads) (suc k) d l sends apart =
       | true ↦ λ first. let same : 0 ≡ suc k = apart 0 (suc k) i (send_number i t.open_call first) (ap (option_map (λ c. c.number)) (call_here threads k d (omega arith)) ∙ send_number i _ sends) in absurd (omega arith)
       | false ↦ λ other. sender_alone i threads k d (omega arith) sends (λ j m n a b. let same : suc j ≡ suc m = apart (suc j) (suc m) n a b in omega arith)
     ] refl
+
+-- the sender is the thread whose seat that is
+pub sender_seated : (i : ℕ) (threads : List Thread) (k u : ℕ) → IsRoster (members_of threads) → position (λ t. is_send i t.open_call) threads ≡ Some k → seat_in threads u ≡ Some k → sender_in threads i ≡ Some u
+sender_seated i [] k u r at seat = absurd (sender_at i [] k at)
+sender_seated i (t ∷ threads) k u r at seat = sender_there i (t ∷ threads) k t r at ∙ ap Some (first_number u (t ∷ threads) k t (first_at u (t ∷ threads) k seat))
+
+-- ---- by the thread that sent it
+
+pub changes_none : (i : ℕ) (change : OpenCall → OpenCall) (threads : List Thread) → sender_in threads i ≡ None → ChangesSender i change threads threads
+changes_none i change threads none = record { members = refl; open_call = λ v. rw none refl; priority = λ v. refl }
+
+pub message_none : (i : ℕ) (threads : List Thread) → sender_in threads i ≡ None → message_from threads i ≡ []
+message_none i threads none = rw none refl
+
+pub message_sent : (i u : ℕ) (threads : List Thread) → sender_in threads i ≡ Some u → message_from threads i ≡ message_in (open_in threads u)
+message_sent i u threads sent = rw sent refl
+
+pub changes_sender : (i u : ℕ) (change : OpenCall → OpenCall) (old new : List Thread) → sender_in old i ≡ Some u → ChangesOpen u change old new → ChangesSender i change old new
+changes_sender i u change old new sent c = record { members = c.members; open_call = λ v. rw sent (c.open_call v); priority = c.priority }
+
+pub held_none : (connections : List (ℕ × Connection)) (channels : List (ℕ × Channel)) (p i : ℕ) (threads : List Thread) → sender_in threads i ≡ None → is_held_in threads connections channels p i ≡ false
+held_none connections channels p i threads none = rw none refl
+
+pub held_sent : (connections : List (ℕ × Connection)) (channels : List (ℕ × Channel)) (p i u : ℕ) (threads : List Thread) → sender_in threads i ≡ Some u → is_held_in threads connections channels p i ≡ is_held_over connections channels p (held_over_in (open_in threads u))
+held_sent connections channels p i u threads sent = rw sent refl

@@ -2,7 +2,6 @@
 use Rattle.std.specs.Prelude.{◌≡◌, ◌≤◌, ◌+◌, ℕ, ◌==◌, ◌&&◌, Bool, false, is_some, List, [], length, map}
 use Rattle.std.specs.Prelude.{Option, None, Some, if◌then◌else◌}
 use Rattle.std.specs.List.{AllByRecursion}
-use Rattle.std.specs.Option.{option_map}
 use Rattle.qqueue.specs.declared.item.Item.{Item}
 use Rattle.qtables.specs.Entries.{entry_at}
 use Rattle.qtables.specs.declared.connection.Connection.{Connection}

@@ -1,11 +1,12 @@
 //! Calls that are ended by force.
 
-ghost use Rattle.std.specs.Prelude.{◌≡◌, ◌==◌, ◌&&◌, ◌≤◌, ◌<◌, [], true, Some, None, is_some, length, filter_map, if◌then◌else◌};
+ghost use Rattle.std.specs.Prelude.{◌≡◌, ◌==◌, ◌&&◌, ◌≤◌, ◌<◌, [], true, Some, None, is_some, length, filter_map, map, if◌then◌else◌};
 ghost use Rattle.qtables.specs.Entries.{entry_at};
+ghost use Rattle.qtables.specs.Members.{IsRoster};
 ghost use Rattle.qmodel.specs.Private.Cancelling.{buffer_of_wait, is_on, is_over, cancel_call, cancel_where};
 ghost use Rattle.qmodel.specs.Private.Step.{is_unread_send};
 ghost use Rattle.qmodel.specs.Private.Facts.{threads_of};
-ghost use Rattle.qstate.specs.Cancelling.{is_cancelled_by, ending_for, with_ending, thread_unless_cancelled, unread_over_by, unread_on_by, call_if_cancelled, is_taken_from, Lose, AreCancelled, LoseCancelled};
+ghost use Rattle.qstate.specs.Cancelling.{is_cancelled_by, ending_for, with_ending, thread_after_cancelled, thread_unless_cancelled, unread_over_by, unread_on_by, call_if_cancelled, is_taken_from, Lose, AreCancelled, LoseCancelled};
 ghost use Rattle.qstate.specs.Thread.{open_in};
 ghost use Rattle.qstate.specs.Kept.{members_of};
 
@@ -216,9 +217,34 @@ fn caller_of(own: &Completion) -> ThreadNo
     own.thread
 }
 
+/// Ends each call that is cancelled, in rising thread number and the caller's own ending in its place among them.
+fn cancel_each(
+    threads: &mut Vec<Thread>,
+    channels: &mut Channels<Channel>,
+    connections: &Connections,
+    cancel: Cancel,
+    own: Completion,
+    endings: &mut Endings,
+)
+    requires roster { IsRoster (members_of threads.old.items) }
+    requires few { length threads.old.items ≤ 64 }
+    requires idle { open_in threads.old.items own.thread ≡ None }
+    requires none { endings.old.items ≡ [] }
+    ensures endings { endings.new.items ≡ filter_map (λ u. ending_for (entry_at connections.now) cancel.set cancel.errno own u (open_in threads.old.items u)) (threads_of (members_of threads.old.items)) }
+    ensures threads { threads.new.items ≡ map (thread_after_cancelled (entry_at connections.now) cancel.set) threads.old.items }
+    ensures channels { LoseCancelled (entry_at connections.now) cancel.set cancel.errno threads.old.items channels.old channels.new }
+{
+    let caller = caller_of(&own);
+    let mut left = Some(own);
+    for thread in threads.iter_mut() {
+        let ending = end_thread(thread, channels, connections, &cancel, caller, &mut left);
+        push_ending(endings, ending);
+    }
+}
+
 impl Threads {
-    /// Ends each call that is cancelled with this error, in rising thread number and the caller's own ending in
-    /// its place among them. A message that is cancelled before it is received leaves its channel's queue.
+    /// Ends each call of a set with an error, in rising thread number and the caller's own ending in its place
+    /// among them. A message that is cancelled before it is received leaves its channel's queue.
     pub fn cancel(
         &mut self,
         channels: &mut Channels<Channel>,
@@ -233,18 +259,13 @@ impl Threads {
         ensures threads { AreCancelled (entry_at connections.now) cancel.set cancel.errno self.old self.new }
         ensures channels { LoseCancelled (entry_at connections.now) cancel.set cancel.errno self.old channels.old channels.new }
     {
-        let caller = caller_of(&own);
-        let mut left = Some(own);
-        for thread in self.records.iter_mut() {
-            let ending = end_thread(
-                thread,
-                channels,
-                connections,
-                &cancel,
-                caller,
-                &mut left,
-            );
-            push_ending(endings, ending);
-        }
+        cancel_each(
+            &mut self.records,
+            channels,
+            connections,
+            cancel,
+            own,
+            endings,
+        );
     }
 }

@@ -29,8 +29,7 @@ pub struct Index {
 
 impl Index {
     /// The index of a roster's threads, none of them blocked.
-    pub fn new(members: &[Member]) -> Index
-    {
+    pub fn new(members: &[Member]) -> Index {
         let mut threads = [0; 256];
         let mut place: u8 = 0;
         for member in members {

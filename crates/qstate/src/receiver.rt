@@ -1,19 +1,60 @@
 //! The receivers of a channel.
 
 ghost use Rattle.std.specs.Prelude.{◌≡◌, ◌+◌, Some, drop, option_map, IfSome};
+ghost use Rattle.qtables.specs.Members.{IsRoster};
+ghost use Rattle.qstate.specs.Kept.{members_of};
 ghost use Rattle.qstate.specs.Thread.{newest_in};
 ghost use Rattle.qstate.specs.Threads.{IsSeatIn, newest_of, number_and_thread};
 
 use crate::seat::Seat;
+use crate::thread::Thread;
 use crate::threads::Threads;
 use qbase::ids::ChannelId;
 use qqueue::item::Item;
+
+/// The seat of a thread at an index.
+fn seat_of(there: &Thread, index: usize) -> Seat
+    ensures thread { result.thread ≡ there.now.member.thread }
+    ensures index { result.index ≡ index }
+{
+    Seat {
+        thread: there.member.thread,
+        index,
+    }
+}
+
+/// The thread at an index, if it receives on the channel, may take the item and is newer than the best of
+/// those behind it; else that best. Each with the number of its receive.
+fn newer(
+    threads: &[Thread],
+    best: Option<(u64, Seat)>,
+    index: usize,
+    channel: ChannelId,
+    item: &Item,
+) -> Option<(u64, Seat)>
+    requires roster { IsRoster (members_of threads.now) }
+    requires best { number_and_thread best ≡ newest_of channel item.now (drop (index + 1) threads.now) }
+    requires seat { IfSome best (λ b. IsSeatIn threads.now b.1) }
+    ensures newest { number_and_thread result ≡ newest_of channel item.now (drop index threads.now) }
+    ensures seat { IfSome result (λ b. IsSeatIn threads.now b.1) }
+{
+    let Some(there) = threads.get(index) else {
+        return best;
+    };
+    let Some(number) = there.receives(channel, item) else {
+        return best;
+    };
+    match best {
+        Some(best) if best.0 > number => Some(best),
+        _ => Some((number, seat_of(there, index))),
+    }
+}
 
 impl Threads {
     /// The seat of the last thread that began to receive, if it receives on the channel and may take the item.
     fn last_receiver(&self, channel: ChannelId, item: &Item) -> Option<Seat>
         ensures seat { IfSome result (λ seat. IsSeatIn self.now seat) }
-        ensures newest { IfSome result (λ seat. option_map (λ b. b.1) (newest_of channel item.now self.now) ≡ Some seat.thread) }
+        ensures newest { IfSome result (λ seat. newest_in channel item.now self.now ≡ Some seat.thread) }
     {
         let last = self.index.last;
         let number = self.records.get(last)?.receives(channel, item)?;
@@ -24,45 +65,20 @@ impl Threads {
         }
     }
 
-    /// The thread at an index, if it receives on the channel, may take the item and is newer than the best of
-    /// those behind it; else that best. Each with the number of its receive.
-    fn newer(
-        &self,
-        best: Option<(u64, Seat)>,
-        index: usize,
-        channel: ChannelId,
-        item: &Item,
-    ) -> Option<(u64, Seat)>
-        requires best { number_and_thread best ≡ newest_of channel item.now (drop (index + 1) self.now) }
-        requires seat { IfSome best (λ b. IsSeatIn self.now b.1) }
-        ensures newest { number_and_thread result ≡ newest_of channel item.now (drop index self.now) }
-        ensures seat { IfSome result (λ b. IsSeatIn self.now b.1) }
-    {
-        let Some(there) = self.records.get(index) else {
-            return best;
-        };
-        let Some(number) = there.receives(channel, item) else {
-            return best;
-        };
-        match best {
-            Some(best) if best.0 > number => Some(best),
-            _ => Some((number, self.seat_at(index))),
-        }
-    }
-
     /// The newest receiver of the channel that may take the item, by a look at each receiver.
     fn search_receiver(&self, channel: ChannelId, item: &Item) -> Option<(u64, Seat)>
-        ensures newest { number_and_thread result ≡ newest_of channel item.now self.now }
+        ensures newest { option_map (λ b. b.1.thread) result ≡ newest_in channel item.now self.now }
         ensures seat { IfSome result (λ b. IsSeatIn self.now b.1) }
     {
+        let threads: &[Thread] = &self.records;
         let mut best = None;
         let mut left = self.index.receivers;
-        for _ in 0..256 {
+        for _ in 0..256usize {
             let Some(index) = left.greatest() else {
                 return best;
             };
             left.remove(index);
-            best = self.newer(best, index as usize, channel, item);
+            best = newer(threads, best, index as usize, channel, item);
         }
         best
     }

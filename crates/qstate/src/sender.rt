@@ -1,14 +1,16 @@
 //! The senders of messages.
 
-ghost use Rattle.std.specs.Prelude.{◌≡◌, false, option_map, IfSome};
+ghost use Rattle.std.specs.Prelude.{◌≡◌, Some, false, option_map, position, IfSome};
 ghost use Rattle.qbase.specs.Laying.{laid_count, lay_over};
 ghost use Rattle.qqueue.specs.Best.{is_pulse};
+ghost use Rattle.qmodel.specs.Private.Facts.{is_send};
 ghost use Rattle.qmodel.specs.Private.Rows.{delivery_of};
 ghost use Rattle.qmodel.specs.Private.Step.{held_call};
 ghost use Rattle.qstate.specs.Thread.{sender_in, message_from, ChangesSender, HandsOver};
 ghost use Rattle.qstate.specs.Threads.{IsSeatIn};
 
 use crate::seat::Seat;
+use crate::thread::Thread;
 use crate::threads::Threads;
 use qbase::bytes::Bytes;
 use qbase::ids::ReceiveId;
@@ -16,18 +18,36 @@ use qbase::priority::Priority;
 use qmodel::call::Mark;
 use qqueue::item::Item;
 
+/// The index of the thread whose open call is the Send of this number, by a look at each.
+fn sender_index(threads: &[Thread], number: u64) -> Option<usize>
+    ensures { result ≡ position (λ t. is_send number t.open_call) threads.now }
+{
+    threads.iter().position(|t| t.sends(number))
+}
+
 impl Threads {
+    /// The seat of the sender of a message, if it stands where it is looked for first.
+    fn guess_sender(&self, number: u64) -> Option<Seat>
+        ensures seat { IfSome result (λ seat. IsSeatIn self.now seat) }
+        ensures sender { IfSome result (λ seat. sender_in self.now number ≡ Some seat.thread) }
+    {
+        let index = self.index.sender(number);
+        if self.index.rising && self.records.get(index)?.sends(number) {
+            Some(self.seat_at(index))
+        } else {
+            None
+        }
+    }
+
     /// The seat of the thread whose open call is the Send of this number.
     pub fn sender(&self, number: u64) -> Option<Seat>
         ensures seat { IfSome result (λ seat. IsSeatIn self.now seat) }
         ensures sender { option_map (λ seat. seat.thread) result ≡ sender_in self.now number }
     {
-        let guess = self.index.sender(number);
-        let index = match self.records.get(guess) {
-            Some(there) if self.index.rising && there.sends(number) => guess,
-            _ => self.records.iter().position(|t| t.sends(number))?,
-        };
-        Some(self.seat_at(index))
+        match self.guess_sender(number) {
+            Some(seat) => Some(seat),
+            None => Some(self.seat_at(sender_index(&self.records, number)?)),
+        }
     }
 
     /// Hands the message of this number over: lays it over the front of a buffer, keeps its receipt with its

@@ -5,7 +5,7 @@ ghost use Rattle.qtables.specs.Members.{member_at};
 ghost use Rattle.qmodel.specs.Private.Facts.{is_in_process};
 ghost use Rattle.qstate.specs.Kept.{members_of};
 ghost use Rattle.qstate.specs.Open.{receive_in, send_in};
-ghost use Rattle.qstate.specs.Thread.{ready_thread, open_in, SetsOpen, SetsPriority, Wakes};
+ghost use Rattle.qstate.specs.Thread.{ready_thread, open_in, seat_in, SetsOpen, SetsPriority, Wakes};
 ghost use Rattle.qstate.specs.Threads.{IsSeatIn, IsRecordOf};
 
 use crate::index::Index;
@@ -56,6 +56,13 @@ fn ready(member: Member) -> Thread
     }
 }
 
+/// The index of a thread, by a look at each.
+fn index_of(threads: &[Thread], thread: ThreadNo) -> Option<usize>
+    ensures { result ≡ seat_in threads.now thread }
+{
+    threads.iter().position(|t| t.member.thread == thread)
+}
+
 impl Threads {
     /// The threads of a roster, none of them blocked. The records are all that takes memory.
     pub fn new(alloc: Global, roster: &Roster) -> Result<Threads, AllocError>
@@ -91,16 +98,27 @@ impl Threads {
         }
     }
 
+    /// The index of a thread, if it stands where it is looked for first.
+    fn guess(&self, thread: ThreadNo) -> Option<usize>
+        ensures { IfSome result (λ index. seat_in self.now thread ≡ Some index) }
+    {
+        let index = self.index.thread(thread);
+        if self.records.get(index)?.member.thread == thread {
+            Some(index)
+        } else {
+            None
+        }
+    }
+
     /// The seat of a thread; `None` if it isn't in the roster.
     pub fn seat(&self, thread: ThreadNo) -> Option<Seat>
         ensures seat { IfSome result (λ seat. IsSeatIn self.now seat) }
         ensures thread { IfSome result (λ seat. seat.thread ≡ thread) }
         ensures known { is_some result ≡ is_some (member_at (members_of self.now) thread) }
     {
-        let guess = self.index.thread(thread);
-        let index = match self.records.get(guess) {
-            Some(there) if there.member.thread == thread => guess,
-            _ => self.records.iter().position(|t| t.member.thread == thread)?,
+        let index = match self.guess(thread) {
+            Some(index) => index,
+            None => index_of(&self.records, thread)?,
         };
         Some(Seat { thread, index })
     }

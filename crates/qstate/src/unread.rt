@@ -64,6 +64,12 @@ impl Threads {
         let Some(connection) = connections.get(unread.coid) else {
             return;
         };
-        requeue(channels, connection.channel, unread.number, there.key, priority);
+        requeue(
+            channels,
+            connection.channel,
+            unread.number,
+            there.key,
+            priority,
+        );
     }
 }

@@ -229,9 +229,8 @@ module _ (connection : ℕ → Option Connection) (cancel : CancelSet) (e : Errn
   pub at_end : (all : List Thread) (i : ℕ) (first now : List (ℕ × Channel)) (left : Option Completion) (endings : List Completion) → length all ≤ i → Sweeps all (drop i all) first now left endings → Sweeps all [] first now left endings
   at_end all i first now left endings l so = subst (λ rest. Sweeps all rest first now left endings) (drop_all i all l) so
 
-  pub swept_threads : (all items new : List Thread) (i n : ℕ) → items ≡ swept passed i all → i ≡ length all → length items ≡ n → AreCancelled connection cancel e all (take n (items ++ new))
-  swept_threads all items new i n is end long =
-      subst (AreCancelled connection cancel e all) (sym (take_at items new n long ∙ is ∙ ap (λ j. swept passed j all) end ∙ swept_all passed all)) (are_cancelled connection cancel e all)
+  pub swept_threads : (all items new : List Thread) (i n : ℕ) → items ≡ swept passed i all → i ≡ length all → length items ≡ n → take n (items ++ new) ≡ map passed all
+  swept_threads all items new i n is end long = take_at items new n long ∙ is ∙ ap (λ j. swept passed j all) end ∙ swept_all passed all
 
 pub few_more : (endings : List Completion) (ending : Option Completion) → length (with_ending endings ending) ≤ length endings + 1
 few_more endings None = omega arith

@@ -6,4 +6,4 @@ use Rattle.qstate.proofs.cancelling.cancel_thread.Goals as goal
 
 pub returns-in_err-call-clause-channels : goal.returns-in_err-call-clause-channels
 returns-in_err-call-clause-channels c =
-    loses_nothing _ c.args.channels.now (λ k i. untaken (entry_at c.args.connections.now) (is_cancelled_by (entry_at c.args.connections.now) c.args.cancel.now c.args.thread.now.member.thread) c.args.thread.now.open_call k i (sym c.in_err-call.ensures.had))
+    loses_nothing _ c.args.channels.now (λ k i. untaken (entry_at c.args.connections.now) (is_cancelled_by (entry_at c.args.connections.now) c.args.cancel.now.set c.args.thread.now.member.thread) c.args.thread.now.open_call k i (sym c.in_err-call.ensures.had))

@@ -1,4 +1,4 @@
-use Rattle.std.proofs.Common.{ap, refl, sym, ◌∙◌}
+use Rattle.std.proofs.Common.{ap, refl}
 use Rattle.qstate.proofs.Indexing.{indexed_opened}
 use Rattle.qstate.proofs.Seats.{first_at, sets_open}
 use Rattle.qstate.proofs.threads.Threads.block.Goals as goal

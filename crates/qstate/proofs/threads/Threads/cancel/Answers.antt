@@ -1,51 +1,24 @@
-use Rattle.std.proofs.Common.{◌≡◌, ◌<◌, ◌≤◌, ap, arith, length, ◌∙◌}
 use Rattle.qtables.specs.Entries.{entry_at}
-use Rattle.qstate.proofs.Cancels.Threads.{passed_on, idle_here, sweeps_init, sweeps_step, at_end, swept_endings, swept_threads, swept_channels, few_more}
+use Rattle.qstate.proofs.Cancels.Threads.{are_cancelled}
+use Rattle.qstate.proofs.Indexing.{indexed_cancelled}
 use Rattle.qstate.proofs.threads.Threads.cancel.Goals as goal
 
-pub loop-thread-init : goal.loop-thread-init
-loop-thread-init c = record {
-  threads = c.deref_mut-thread-items.ensures.value;
-  few = omega (arith, ap length c.requires.none);
-  so_far = sweeps_init (entry_at c.args.connections.now) c.args.cancel c.args.errno c.args.own c.args.threads.now.items c.args.channels.now c.args.endings.now.items c.requires.roster c.requires.idle c.requires.none;
+pub cancel_each-requires : goal.cancel_each-requires
+cancel_each-requires c = record {
+  roster = c.self.invariant.roster;
+  few = c.self.invariant.few;
+  idle = rw (← c.self.view_is) at c.requires.idle;
+  none = c.requires.none;
 }
 
-pub end_thread-ending-requires : goal.end_thread-ending-requires
-end_thread-ending-requires c =
-    let so = c.loop-thread.invariant in
-    let l : c.loop-thread.thread-index < length c.args.threads.now.items = omega (arith, ap length c.deref_mut-thread-items.ensures.value) in
-    record {
-      idle = idle_here (entry_at c.args.connections.now) c.args.cancel c.args.errno c.args.own c.args.threads.now.items c.loop-thread.thread-items c.loop-thread.thread-index c.thread-item.result c.args.channels.now c.loop-thread.channels c.loop-thread.left c.loop-thread.endings.items so.threads l so.so_far c.caller_of-caller.result c.caller_of-caller.ensures;
-    }
+pub invariant_of-self : goal.invariant_of-self
+invariant_of-self c =
+    let cancelled = are_cancelled (entry_at c.args.connections.now) c.args.cancel.set c.args.cancel.errno c.self.inside.records.items in
+    rw (c.cancel_each.ensures.threads) (indexed_cancelled (entry_at c.args.connections.now) c.args.cancel.set c.self.inside.records.items c.self.inside.index c.self.invariant cancelled.members)
 
-pub push_ending-requires : goal.push_ending-requires
-push_ending-requires c = omega (arith, ap length c.deref_mut-thread-items.ensures.value)
-
-pub loop-thread-preserved : goal.loop-thread-preserved
-loop-thread-preserved c =
-    let so = c.loop-thread.invariant in
-    let l : c.loop-thread.thread-index < length c.args.threads.now.items = omega (arith, ap length c.deref_mut-thread-items.ensures.value) in
-    record {
-      threads = passed_on (entry_at c.args.connections.now) c.args.cancel c.args.errno c.args.own c.args.threads.now.items c.loop-thread.thread-items c.loop-thread.thread-index c.thread-item.result c.end_thread-ending.new.thread so.threads l c.end_thread-ending.ensures.thread;
-      few = rw c.push_ending.ensures (omega (arith, few_more c.loop-thread.endings.items c.end_thread-ending.result));
-      so_far = sweeps_step (entry_at c.args.connections.now) c.args.cancel c.args.errno c.args.own c.args.threads.now.items c.loop-thread.thread-items c.loop-thread.thread-index c.thread-item.result c.args.channels.now c.loop-thread.channels c.loop-thread.left c.loop-thread.endings.items so.threads l so.so_far c.caller_of-caller.result c.caller_of-caller.ensures
-          c.end_thread-ending.new.channels c.end_thread-ending.new.own c.end_thread-ending.result c.push_ending.new.endings.items c.end_thread-ending.ensures.channels c.end_thread-ending.ensures.own c.end_thread-ending.ensures.ending c.push_ending.ensures;
-    }
-
-pub returns-clause-endings : goal.returns-clause-endings
-returns-clause-endings c =
-    let l : length c.args.threads.now.items ≤ c.loop-thread.thread-index = omega (arith, ap length c.deref_mut-thread-items.ensures.value) in
-    swept_endings (entry_at c.args.connections.now) c.args.cancel c.args.errno c.args.own c.args.threads.now.items c.args.channels.now c.loop-thread.channels c.loop-thread.left c.loop-thread.endings.items c.requires.roster
-    (at_end (entry_at c.args.connections.now) c.args.cancel c.args.errno c.args.own c.args.threads.now.items c.loop-thread.thread-index c.args.channels.now c.loop-thread.channels c.loop-thread.left c.loop-thread.endings.items l c.loop-thread.invariant.so_far)
-
-pub returns-clause-threads : goal.returns-clause-threads
-returns-clause-threads c =
-    let end : c.loop-thread.thread-index ≡ length c.args.threads.now.items = omega (arith, ap length c.deref_mut-thread-items.ensures.value) in
-    swept_threads (entry_at c.args.connections.now) c.args.cancel c.args.errno c.args.own c.args.threads.now.items c.loop-thread.thread-items _ c.loop-thread.thread-index c.args.threads.now.len c.loop-thread.invariant.threads end
-    (c.loop-thread.auto.thread-items ∙ c.deref_mut-thread-items.ensures.len)
-
-pub returns-clause-channels : goal.returns-clause-channels
-returns-clause-channels c =
-    let l : length c.args.threads.now.items ≤ c.loop-thread.thread-index = omega (arith, ap length c.deref_mut-thread-items.ensures.value) in
-    swept_channels (entry_at c.args.connections.now) c.args.cancel c.args.errno c.args.own c.args.threads.now.items c.args.channels.now c.loop-thread.channels c.loop-thread.left c.loop-thread.endings.items c.requires.roster
-    (at_end (entry_at c.args.connections.now) c.args.cancel c.args.errno c.args.own c.args.threads.now.items c.loop-thread.thread-index c.args.channels.now c.loop-thread.channels c.loop-thread.left c.loop-thread.endings.items l c.loop-thread.invariant.so_far)
+pub returns : goal.returns
+returns c = rw (← c.self.view_is) (record {
+  endings = c.cancel_each.ensures.endings;
+  threads = rw (c.cancel_each.ensures.threads) (are_cancelled (entry_at c.args.connections.now) c.args.cancel.set c.args.cancel.errno c.self.inside.records.items);
+  channels = c.cancel_each.ensures.channels;
+})
