@@ -11,7 +11,7 @@ use Rattle.qkernel.specs.declared.kernel.caller.Caller.{Caller}
 
 -- the caller's entry of the roster
 abbrev pub caller_of : Caller → ℕ → Member
-caller_of caller began = record { thread = caller.thread; process = caller.process; priority = began }
+caller_of caller began = record { thread = caller.seat.thread; process = caller.process; priority = began }
 
 -- a member is found under its number
 named : (t : ℕ) (ms : List Member) (m : Member) → member_at ms t ≡ Some m → m.thread ≡ t

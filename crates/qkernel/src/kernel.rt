@@ -197,7 +197,8 @@ impl Kernel {
         requires limit { self.old.made < 2 ^ 40 }
         requires seat { IsSeatIn self.old.threads seat.now }
         requires none { endings.old.items ≡ [] }
-        ensures { Steps self.old seat.now.thread call endings.new.items self.new }
+        ensures sound { IsSound self.old }
+        ensures steps { Steps self.old seat.now.thread call endings.new.items self.new }
     {
         let refusal = self.refusal(seat);
         let caller = self.caller_at(seat);

@@ -221,3 +221,16 @@ pub call_here : (threads : List Thread) (k : ℕ) (d : Thread) → k < length th
 call_here [] k d l = absurd (omega arith)
 call_here (t ∷ threads) zero d l = refl
 call_here (t ∷ threads) (suc k) d l = call_here threads k d (omega arith)
+
+-- a thread that isn't in the roster has no open call
+pub unknown_open : (u : ℕ) (threads : List Thread) → is_some (member_at (members_of threads) u) ≡ false → open_in threads u ≡ None
+unknown_open u [] e = refl
+unknown_open u (t ∷ threads) e =
+    elim (eqb t.member.thread u) as (λ b. is_some (cond b (Some t.member) (member_at (members_of threads) u)) ≡ false → cond b t.open_call (open_in threads u) ≡ None) [
+      | true ↦ λ known. absurd (true≢false known)
+      | false ↦ λ rest. unknown_open u threads rest
+    ] e
+
+-- a seat is of a thread of the roster
+pub seat_known : (u : ℕ) (threads : List Thread) (k : ℕ) → seat_in threads u ≡ Some k → is_some (member_at (members_of threads) u) ≡ true
+seat_known u threads k e = sym (is_there u threads) ∙ ap is_some e

@@ -10,6 +10,11 @@ use Rattle.qtables.specs.Members.{IsRoster}
 use Rattle.qtables.specs.declared.connection.Connection.{Connection}
 use Rattle.qstate.specs.declared.channel.Channel.{Channel}
 use Rattle.qmodel.specs.declared.open_call.OpenCall.{OpenCall}
+use Rattle.qmodel.specs.declared.open_call.Wait.{Wait}
+use Rattle.qmodel.specs.declared.open_call.Wait.TheVariants.{Answer, Item as ForItem}
+use Rattle.qmodel.specs.Private.Held.{Finish, answer_ending}
+use Rattle.qstate.specs.declared.open.OpenSend.{OpenSend}
+use Rattle.qstate.specs.Open.{send_in}
 use Rattle.qstate.specs.declared.thread.Thread.{Thread}
 use Rattle.qmodel.specs.Private.Facts.{threads_of, is_send, sender_among, message_in}
 use Rattle.qstate.specs.Held.{is_held_in, is_held_over}
@@ -198,3 +203,34 @@ held_none connections channels p i threads none = rw none refl
 
 pub held_sent : (connections : List (ℕ × Connection)) (channels : List (ℕ × Channel)) (p i u : ℕ) (threads : List Thread) → sender_in threads i ≡ Some u → is_held_in threads connections channels p i ≡ is_held_over connections channels p (held_over_in (open_in threads u))
 held_sent connections channels p i u threads sent = rw sent refl
+
+pub call_sent : (i u : ℕ) (threads : List Thread) → sender_in threads i ≡ Some u → sent_call threads i ≡ open_in threads u
+call_sent i u threads sent = rw sent refl
+
+-- the sender is blocked in a Send
+pub sends_it : (threads : List Thread) (i u : ℕ) → sender_in threads i ≡ Some u → is_send i (open_in threads u) ≡ true
+sends_it threads i u e = found (threads_of (members_of threads)) e where
+  found : (ts : List ℕ) → sender_among (open_in threads) i ts ≡ Some u → is_send i (open_in threads u) ≡ true
+  found [] e = absurd (none-some u e)
+  found (v ∷ ts) e = elim (is_send i (open_in threads v)) as (λ b. is_send i (open_in threads v) ≡ b → cond b (Some v) (sender_among (open_in threads) i ts) ≡ Some u → is_send i (open_in threads u) ≡ true) [
+    | true ↦ λ is e. subst (λ w. is_send i (open_in threads w) ≡ true) (same_Some v u e) is
+    | false ↦ λ is e. found ts e
+  ] refl e
+
+send_there : (i u : ℕ) (o : Option OpenCall) → is_send i o ≡ true → is_some (send_in u o) ≡ true
+send_there i u None e = absurd (true≢false (sym e))
+send_there i u (Some o) e = by_wait o.wait e where
+  by_wait : (w : Wait) → is_send i (Some (record { number = o.number; wait = w })) ≡ true → is_some (send_in u (Some (record { number = o.number; wait = w }))) ≡ true
+  by_wait (Answer coid message reply_buffer receipt) e = refl
+  by_wait (ForItem chid kind buffer) e = absurd (true≢false (sym (and_parts _ _ e).1))
+
+pub send_of_sender : (threads : List Thread) (i u : ℕ) → sender_in threads i ≡ Some u → is_some (send_in u (open_in threads u)) ≡ true
+send_of_sender threads i u sent = send_there i u (open_in threads u) (sends_it threads i u sent)
+
+-- how it ends that is answered
+pub answered_by : (finish : Finish) (u : ℕ) (o : Option OpenCall) (s : OpenSend) → send_in u o ≡ Some s → answer_ending finish u o ≡ Some (record { call = s.number; thread = s.thread; mark = (finish s.reply_buffer).0; buffer = (finish s.reply_buffer).1 })
+answered_by finish u None s e = absurd (none-some s e)
+answered_by finish u (Some o) s e = by_wait o.wait e where
+  by_wait : (w : Wait) → send_in u (Some (record { number = o.number; wait = w })) ≡ Some s → answer_ending finish u (Some (record { number = o.number; wait = w })) ≡ Some (record { call = s.number; thread = s.thread; mark = (finish s.reply_buffer).0; buffer = (finish s.reply_buffer).1 })
+  by_wait (Answer coid message reply_buffer receipt) e = ap (λ x. Some (record { call = x.number; thread = x.thread; mark = (finish x.reply_buffer).0; buffer = (finish x.reply_buffer).1 })) (same_Some _ s e)
+  by_wait (ForItem chid kind buffer) e = absurd (none-some s e)

@@ -1,7 +1,7 @@
 //! The threads of a kernel.
 
-ghost use Rattle.std.specs.Prelude.{◌≡◌, ◌<◌, None, Some, true, is_some, length, map, IfOk, IfSome};
-ghost use Rattle.qtables.specs.Members.{member_at};
+ghost use Rattle.std.specs.Prelude.{◌≡◌, ◌<◌, ◌≤◌, None, Some, true, is_some, length, map, IfOk, IfSome};
+ghost use Rattle.qtables.specs.Members.{member_at, IsRoster};
 ghost use Rattle.qmodel.specs.Private.Facts.{is_in_process};
 ghost use Rattle.qstate.specs.Kept.{members_of};
 ghost use Rattle.qstate.specs.Open.{receive_in, send_in};
@@ -66,7 +66,11 @@ fn index_of(threads: &[Thread], thread: ThreadNo) -> Option<usize>
 impl Threads {
     /// The threads of a roster, none of them blocked. The records are all that takes memory.
     pub fn new(alloc: Global, roster: &Roster) -> Result<Threads, AllocError>
-        ensures { IfOk result (λ threads. threads ≡ map ready_thread roster.now) }
+        ensures threads { IfOk result (λ threads. threads ≡ map ready_thread roster.now) }
+
+        // Every roster has at most 64 threads, in rising number.
+        ensures rising { IfOk result (λ threads. IsRoster roster.now) }
+        ensures few { IfOk result (λ threads. length roster.now ≤ 64) }
     {
         let members = roster.members();
         let mut records = Vec::with_capacity(alloc, members.len())?;

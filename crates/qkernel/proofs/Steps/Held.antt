@@ -58,15 +58,6 @@ module _ (s : State) (t : ℕ) (m : Member) (i : ℕ) (sound : IsSound s) (known
 
 -- ---- the sender
 
-sends : (threads : List Thread) (i u : ℕ) → sender_in threads i ≡ Some u → is_send i (open_in threads u) ≡ true
-sends threads i u e = found (threads_of (members_of threads)) e where
-  found : (ts : List ℕ) → sender_among (open_in threads) i ts ≡ Some u → is_send i (open_in threads u) ≡ true
-  found [] e = absurd (none-some u e)
-  found (v ∷ ts) e = elim (is_send i (open_in threads v)) as (λ b. is_send i (open_in threads v) ≡ b → cond b (Some v) (sender_among (open_in threads) i ts) ≡ Some u → is_send i (open_in threads u) ≡ true) [
-    | true ↦ λ is e. subst (λ w. is_send i (open_in threads w) ≡ true) (same_Some v u e) is
-    | false ↦ λ is e. found ts e
-  ] refl e
-
 among_senders : (threads : List Thread) (i u : ℕ) → sender_in threads i ≡ Some u → is_among (threads_of (members_of threads)) u ≡ true
 among_senders threads i u e = found (threads_of (members_of threads)) e where
   found : (ts : List ℕ) → sender_among (open_in threads) i ts ≡ Some u → is_among ts u ≡ true
@@ -78,24 +69,12 @@ among_senders threads i u e = found (threads_of (members_of threads)) e where
 
 -- ---- an answer
 
-finished_some : (i : ℕ) (finish : Finish) (u : ℕ) (o : Option OpenCall) → is_send i o ≡ true → is_some (answer_ending finish u o) ≡ true
-finished_some i finish u None e = absurd (true≢false (sym e))
-finished_some i finish u (Some o) e = by_wait o.wait e where
-  by_wait : (w : Wait) → is_send i (Some (record { number = o.number; wait = w })) ≡ true → is_some (answer_ending finish u (Some (record { number = o.number; wait = w }))) ≡ true
-  by_wait (Answer coid message reply_buffer receipt) e = refl
-  by_wait (ForItem chid kind buffer) e = absurd (true≢false (sym (and_parts _ _ e).1))
-
 finished_thread : (finish : Finish) (u : ℕ) (o : Option OpenCall) (y : Completion) → answer_ending finish u o ≡ Some y → y.thread ≡ u
 finished_thread finish u None y e = absurd (none-some y e)
 finished_thread finish u (Some o) y e = by_wait o.wait e where
   by_wait : (w : Wait) → answer_ending_of_wait finish u o.number w ≡ Some y → y.thread ≡ u
   by_wait (Answer coid message reply_buffer receipt) e = sym (ap (λ x. x.thread) (same_Some _ y e))
   by_wait (ForItem chid kind buffer) e = absurd (none-some y e)
-
--- the sender's call is a Send
-pub finished_there : (threads : List Thread) (i u : ℕ) (finish : Finish) (call : Option OpenCall) → sender_in threads i ≡ Some u → call ≡ open_in threads u → answer_ending finish u call ≡ None → ⊥
-finished_there threads i u finish call is same none =
-    true≢false (sym (finished_some i finish u (open_in threads u) (sends threads i u is)) ∙ ap (λ o. is_some (answer_ending finish u o)) (sym same) ∙ ap is_some none)
 
 module _ (s : State) (t : ℕ) (m : Member) (i : ℕ) (sound : IsSound s) (known : member_at (members_of s.threads) t ≡ Some m) (finish : Finish) (u : ℕ) (y : Completion) (up : s.down ≡ false) (free : open_in s.threads t ≡ None)
     (is_sender : sender_in s.threads i ≡ Some u) (ended : answer_ending finish u (open_in s.threads u) ≡ Some y) where

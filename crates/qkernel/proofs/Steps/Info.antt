@@ -17,14 +17,14 @@ use Rattle.qstate.specs.declared.thread.Thread.{Thread}
 use Rattle.qmodel.specs.declared.call.Info.{Info as Told}
 use Rattle.qmodel.specs.Private.Calls.Info.{info_of, info_of_open, info_ending}
 use Rattle.qmodel.specs.Private.Facts.{is_send, sender, threads_of}
-use Rattle.qstate.specs.Held.{is_held_in}
+use Rattle.qstate.specs.Held.{is_held_in, is_held_over}
 use Rattle.qkernel.specs.Kernel.{State, IsSound}
 use Rattle.qkernel.specs.Private.Steps.{Steps, facts_in}
 use Rattle.qkernel.specs.Stands.{InfoAtTraces}
-use Rattle.qstate.specs.Thread.{held_over_in, open_in}
+use Rattle.qstate.specs.Thread.{held_over_in, open_in, sender_in}
+use Rattle.qstate.specs.Threads.{IsRecordOf}
 use Rattle.qstate.specs.Kept.{members_of}
-use Rattle.qstate.proofs.Seats.{first_member, first_open}
-use Rattle.qstate.proofs.Senders.{first_there, held_there, no_sender, sender_in-by, sender_of_held, sender_there}
+use Rattle.qstate.proofs.Senders.{held_sent, sender_of_held}
 use Rattle.qmodel.proofs.Rosters.{among, only_own, rises}
 use Rattle.qrules.specs.Rules.Held as rules
 use Rattle.qrules.proofs.Rows.Held.{info_same}
@@ -32,18 +32,16 @@ use Rattle.qkernel.proofs.Contents.{content_same, open_among}
 use Rattle.qkernel.proofs.Steps.Common.{uncut, counted, stays_free}
 use Rattle.qkernel.proofs.Steps.Held.{is_held}
 
--- what is told of the thread at a seat
-pub info_there : (s : State) (i k : ℕ) (d : Thread) → IsRoster (members_of s.threads) → position (λ t. is_send i t.open_call) s.threads ≡ Some k
-    → info_of (facts_in s) (sender (facts_in s) i) ≡ info_of_open (get_or s.threads k d).member (get_or s.threads k d).open_call
-info_there s i k d r at =
-    let first = first_there i s.threads k d r at in
-    ap (info_of (facts_in s)) (sender_there i s.threads k d r at)
-    ∙ ap (option_and_then (λ m. info_of_open m (open_in s.threads (get_or s.threads k d).member.thread))) (first_member _ s.threads k d first)
-    ∙ ap (info_of_open (get_or s.threads k d).member) (first_open _ s.threads k d first)
+-- what is told of the thread that sent it
+pub info_there : (s : State) (i u : ℕ) (t : Thread) → sender_in s.threads i ≡ Some u → IsRecordOf u s.threads t → info_of (facts_in s) (sender (facts_in s) i) ≡ info_of_open t.member t.open_call
+info_there s i u t sent is =
+    ap (info_of (facts_in s)) sent
+    ∙ ap (option_and_then (λ m. info_of_open m (open_in s.threads u))) is.member
+    ∙ ap (info_of_open t.member) is.open_call
 
 -- nothing is told where no thread waits for the answer
-pub info_nowhere : (s : State) (i : ℕ) → IsRoster (members_of s.threads) → position (λ t. is_send i t.open_call) s.threads ≡ None → info_of (facts_in s) (sender (facts_in s) i) ≡ None
-info_nowhere s i r none = ap (info_of (facts_in s)) (sender_in-by i s.threads r ∙ no_sender i s.threads none)
+pub info_nowhere : (s : State) (i : ℕ) → sender_in s.threads i ≡ None → info_of (facts_in s) (sender (facts_in s) i) ≡ None
+info_nowhere s i none = ap (info_of (facts_in s)) none
 
 -- what is told by the kernel's content is told at every trace at which it stands
 pub info_at_traces : (s : State) (i : ℕ) (told : Option Told) → IsRoster (members_of s.threads) → told ≡ info_of (facts_in s) (sender (facts_in s) i) → InfoAtTraces s i told
@@ -58,11 +56,11 @@ told_some m (Some o) e = by_wait o.wait e where
   by_wait (Answer coid message reply_buffer None) e = e
   by_wait (ForItem chid kind buffer) e = e
 
-pub told_there : (connections : List (ℕ × Connection)) (channels : List (ℕ × Channel)) (p i : ℕ) (threads : List Thread) (k : ℕ) (d : Thread) → IsRoster (members_of threads) → position (λ t. is_send i t.open_call) threads ≡ Some k
-    → is_held_in threads connections channels p i ≡ true → info_of_open (get_or threads k d).member (get_or threads k d).open_call ≡ None → ⊥
-told_there connections channels p i threads k d r at held none =
-    let over = sender_of_held connections channels p (get_or threads k d).open_call (sym (held_there connections channels p i threads k d r at) ∙ held) in
-    true≢false (sym (told_some (get_or threads k d).member (get_or threads k d).open_call over) ∙ ap is_some none)
+pub told_there : (connections : List (ℕ × Connection)) (channels : List (ℕ × Channel)) (p i u : ℕ) (threads : List Thread) (t : Thread) → sender_in threads i ≡ Some u → IsRecordOf u threads t
+    → is_held_in threads connections channels p i ≡ true → info_of_open t.member t.open_call ≡ None → ⊥
+told_there connections channels p i u threads t sent is held none =
+    let over = sender_of_held connections channels p t.open_call (ap (λ o. is_held_over connections channels p (held_over_in o)) (sym is.open_call) ∙ sym (held_sent connections channels p i u threads sent) ∙ held) in
+    true≢false (sym (told_some t.member t.open_call over) ∙ ap is_some none)
 
 module _ (s : State) (t : ℕ) (m : Member) (i : ℕ) (sound : IsSound s) (known : member_at (members_of s.threads) t ≡ Some m) (up : s.down ≡ false) (free : open_in s.threads t ≡ None)
     (held : is_held_in s.threads s.connections s.channels m.process i ≡ true) where

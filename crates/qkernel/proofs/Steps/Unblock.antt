@@ -37,7 +37,7 @@ use Rattle.qstate.specs.Cancelling.{AreCancelled, LoseCancelled}
 use Rattle.qstate.specs.Held.{guard_in, guarded_message_in, held_message_in}
 use Rattle.qstate.specs.Pulses.{has_room}
 use Rattle.qmodel.specs.Private.Receivers.{newest_receiver}
-use Rattle.qstate.specs.Thread.{newest_in, open_in, MarksUnblocked}
+use Rattle.qstate.specs.Thread.{newest_in, open_in, ChangesOpen}
 use Rattle.qstate.specs.Kept.{members_of}
 use Rattle.qkernel.specs.Kernel.{State, IsSound}
 use Rattle.qkernel.specs.Private.Steps.{Steps, facts_in}
@@ -223,7 +223,7 @@ pub new_pulse : (n priority i : ℕ) (pulse : Item) → pulse ≡ unblock_item n
 new_pulse n priority i pulse is = subst (λ x. IsNew n (Some x)) (sym is) (refl, refl)
 
 -- what the thread is blocked in is marked
-pub are_marked : (thread : ℕ) (m : SentItem) (mid threads : List Thread) → MarksUnblocked thread mid threads → AreMarked (Unblock thread) (Some m) mid threads
+pub are_marked : (thread : ℕ) (m : SentItem) (mid threads : List Thread) → ChangesOpen thread unblocked_call mid threads → AreMarked (Unblock thread) (Some m) mid threads
 are_marked thread m mid threads marks = record {
   members = marks.members;
   open_call = λ u. marks.open_call u ∙ (elim (eqb u thread) as (λ b. cond b (option_map unblocked_call (open_in mid u)) (open_in mid u) ≡ cond (b && true) (option_map unblocked_call (open_in mid u)) (open_in mid u)) [ true ↦ refl | false ↦ refl ]);

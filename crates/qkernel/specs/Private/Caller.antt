@@ -5,7 +5,8 @@ use Rattle.qtables.specs.Members.{member_at}
 use Rattle.qmodel.specs.declared.call.Call.{Call}
 use Rattle.qmodel.specs.declared.call.Completion.{Completion}
 use Rattle.qmodel.specs.declared.call.Mark.TheVariants as mark
-use Rattle.qstate.specs.Thread.{open_in, seat_in}
+use Rattle.qstate.specs.Thread.{open_in}
+use Rattle.qstate.specs.Threads.{IsSeatIn}
 use Rattle.qstate.specs.Kept.{members_of}
 use Rattle.qstate.specs.declared.thread.Thread.{Thread}
 use Rattle.qkernel.specs.Kernel.{State, IsSound}
@@ -24,10 +25,10 @@ state_before caller s = record {
 
 -- the caller is the thread at its seat among these, and of its process
 pub record IsCallerIn (threads : List Thread) (caller : Caller) : Type 0 where
-  pub seat : seat_in threads caller.thread ≡ Some caller.seat
+  pub seat : IsSeatIn threads caller.seat
   pub began : ℕ
-  pub known : member_at (members_of threads) caller.thread
-      ≡ Some (record { thread = caller.thread; process = caller.process; priority = began })
+  pub known : member_at (members_of threads) caller.seat.thread
+      ≡ Some (record { thread = caller.seat.thread; process = caller.process; priority = began })
 
 -- the call of this caller may be made: it is counted and nothing else is done yet, no call has ended, the
 -- kernel isn't shut down, and the caller isn't blocked
@@ -36,17 +37,17 @@ pub record MayCall (s : State) (caller : Caller) (endings : List Completion) : T
   pub sound : IsSound (state_before caller s)
   pub among : IsCallerIn s.threads caller
   pub up : s.down ≡ false
-  pub free : open_in s.threads caller.thread ≡ None
+  pub free : open_in s.threads caller.seat.thread ≡ None
   pub none : endings ≡ []
 
 -- the call of this caller, from the content before it was counted
 abbrev pub Makes : State → Caller → Call → List Completion → State → Type 0
-Makes old caller c endings new = Steps (state_before caller old) caller.thread c endings new
+Makes old caller c endings new = Steps (state_before caller old) caller.seat.thread c endings new
 
 -- how the call of this caller ends that is refused and gives no buffer back
 abbrev pub refusal_of_caller : Caller → Errno → Completion
 refusal_of_caller caller e =
-    record { call = caller.made + 1; thread = caller.thread; mark = mark.Failed e; buffer = [] }
+    record { call = caller.made + 1; thread = caller.seat.thread; mark = mark.Failed e; buffer = [] }
 
 -- the call is made with these endings; or it is refused with an error, and none is put yet
 abbrev pub MakesOrRefuses : {T : Type 0} → State → Caller → Call → Result T Errno → List Completion → State

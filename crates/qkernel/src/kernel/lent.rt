@@ -17,6 +17,7 @@ use qstate::endings::Endings;
 use qstate::seat::Seat;
 
 impl Kernel {
+    ghost use Rattle.qkernel.specs.Kernel.{IsSound};
     ghost use Rattle.qkernel.specs.Private.Steps.{Steps};
     ghost use Rattle.qkernel.specs.Stands.{AnswersAtTraces, LeavesIfRefused};
     ghost use Rattle.qkernel.specs.Private.Caller.{MayCall, MakesOrRefuses};
@@ -50,7 +51,8 @@ impl Kernel {
         requires limit { self.old.made < 2 ^ 40 }
         requires seat { IsSeatIn self.old.threads seat.now }
         requires none { endings.old.items ≡ [] }
-        ensures { Steps self.old seat.now.thread (call_lent call.now) endings.new.items self.new }
+        ensures sound { IsSound self.old }
+        ensures steps { Steps self.old seat.now.thread (call_lent call.now) endings.new.items self.new }
     {
         let refusal = self.refusal(seat);
         let caller = self.caller_at(seat);

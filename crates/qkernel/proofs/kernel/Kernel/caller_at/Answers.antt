@@ -4,6 +4,6 @@ use Rattle.qkernel.proofs.kernel.Kernel.caller_at.Goals as goal
 pub returns-clause-caller : goal.returns-clause-caller
 returns-clause-caller c = record {
   seat = c.requires.seat;
-  began = c.member_of.result.priority;
-  known = rw (← c.self.view_is) (caller_known c.args.thread _ c.member_of.result (rw c.deref.ensures.value at c.member_of.ensures));
+  began = c.record.result.now.member.priority;
+  known = rw (← c.self.view_is) (caller_known c.args.seat.now.thread _ c.record.result.now.member c.record.ensures.member);
 }

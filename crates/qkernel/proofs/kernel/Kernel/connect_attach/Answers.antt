@@ -22,16 +22,16 @@ pub returns-in-Err : goal.returns-in-Err
 returns-in-Err c =
     let may = rw (← c.self.view_is) at c.requires in
     let opens : is_some (channel_in c.self.inside.channels c.args.chid) ≡ true = sym c.if-not-is_open.ensures in
-    (c.requires.none, rw (← c.self.view_is, may.counted, c.in-Err.ensures.err) (step_attach_refused _ c.args.caller.now.thread c.args.chid c.in-Err.errno _ may.up may.free opens c.in-Err.ensures.error refl))
+    (c.requires.none, rw (← c.self.view_is, may.counted, c.in-Err.ensures.err) (step_attach_refused _ c.args.caller.now.seat.thread c.args.chid c.in-Err.errno _ may.up may.free opens c.in-Err.ensures.error refl))
 
 pub invariant_of-self-2 : goal.invariant_of-self-2
 invariant_of-self-2 c =
     let may = rw (← c.self.view_is) at c.requires in
-    rw (may.counted, c.in-Ok.ensures.ok) (sound_attached _ c.args.caller.now.thread c.args.chid (caller_of c.args.caller.now may.among.began) may.sound)
+    rw (may.counted, c.in-Ok.ensures.ok) (sound_attached _ c.args.caller.now.seat.thread c.args.chid (caller_of c.args.caller.now may.among.began) may.sound)
 
 pub returns : goal.returns
 returns c =
     let may = rw (← c.self.view_is) at c.requires in
     let opens : is_some (channel_in c.self.inside.channels c.args.chid) ≡ true = sym c.if-not-is_open.ensures in
     let room : nat_lt (length c.self.inside.connections) 1024 ≡ true = lt-ltb (length c.self.inside.connections) 1024 (omega (arith, c.in-Ok.ensures.room)) in
-    rw (← c.self.view_is, may.counted, c.in-Ok.ensures.ok) (step_attached _ c.args.caller.now.thread c.args.chid _ may.sound _ may.among.known may.up may.free opens room c.end.ensures)
+    rw (← c.self.view_is, may.counted, c.in-Ok.ensures.ok) (step_attached _ c.args.caller.now.seat.thread c.args.chid _ may.sound _ may.among.known may.up may.free opens room (rw (c.ending.ensures, may.none) at c.put.ensures))

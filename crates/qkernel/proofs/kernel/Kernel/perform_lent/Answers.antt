@@ -12,7 +12,7 @@ make_lent-requires c =
       sound = rw (caller.made) c.self.invariant;
       among = caller.caller;
       up = free.up;
-      free = rw (caller.thread) free.free;
+      free = rw (caller.seat) free.free;
       none = c.requires.none;
     }
 
@@ -21,7 +21,7 @@ returns c =
     let caller = rw (← c.self.view_is) at c.caller_at-caller.ensures in
     elim c.match-make_lent.branch [
       | in-Err w ↦
-          let ended = rw (w.new-in-Err.ensures, caller.made, caller.thread) at w.refuse-in-Err.ensures in
-          rw (w.endings-is, ended, ← c.self.view_is) (rw (caller.made, caller.thread) at w.in-Err.ensures.1)
-      | in_default-make_lent w ↦ rw (w.endings-is, ← c.self.view_is) (rw (caller.made, caller.thread) at w.in_default-make_lent.ensures)
+          let ended = rw (w.new-in-Err.ensures, caller.made, caller.seat) at w.refuse-in-Err.ensures in
+          rw (w.endings-is, ended, ← c.self.view_is) (rw (caller.made, caller.seat) at w.in-Err.ensures.1)
+      | in_default-make_lent w ↦ rw (w.endings-is, ← c.self.view_is) (rw (caller.made, caller.seat) at w.in_default-make_lent.ensures)
     ]

@@ -4,12 +4,13 @@ use Rattle.qkernel.proofs.kernel.Kernel.priority_set.Goals as goal
 pub returns : goal.returns
 returns c =
     let may = rw (← c.self.view_is) at c.requires in
-    let own = rw (← c.self.view_is) at c.in_ok-there.ensures.fellow in
-    let moves = rw c.deref.ensures.value at c.requeue_unread.ensures in
-    rw (← c.self.view_is, may.counted) (step_set _ c.args.caller.now.thread c.args.target c.args.priority _ may.among.known may.up may.free _ _ _ may.sound own moves c.set_priority.ensures c.end.ensures)
+    let ended = rw (c.ending.ensures, may.none) at c.put.ensures in
+    let own = rw (← c.self.view_is) at c.in_ok-fellow.ensures.fellow in
+    let moves = c.requeue_unread.ensures in
+    rw (← c.self.view_is, may.counted) (step_set _ c.args.caller.now.seat.thread c.args.target c.args.priority _ may.among.known may.up may.free _ _ _ may.sound own moves c.set_priority.ensures ended)
 
 pub invariant_of-self : goal.invariant_of-self
 invariant_of-self c =
     let may = rw (← c.self.view_is) at c.requires in
-    let moves = rw c.deref.ensures.value at c.requeue_unread.ensures in
+    let moves = c.requeue_unread.ensures in
     rw (may.counted) (sound_set _ c.args.target c.args.priority _ _ may.sound moves c.set_priority.ensures.members)

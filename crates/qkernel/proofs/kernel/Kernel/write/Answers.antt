@@ -1,4 +1,8 @@
-use Rattle.std.proofs.Common.{refl}
+use Rattle.std.proofs.Common.{ap, refl, sym, ◌∙◌}
+use Rattle.qbase.specs.Laying.{laid_count}
+use Rattle.qmodel.specs.Private.Held.{reply_buffer_in}
+use Rattle.qmodel.specs.Private.Step.{written_call}
+use Rattle.qstate.proofs.Senders.{call_sent, changes_sender}
 use Rattle.std.proofs.lemmas.Result.{err_from_is_err_and}
 use Rattle.qmodel.specs.declared.call.Call.TheVariants.{Write}
 use Rattle.qkernel.proofs.Steps.Held.{step_unheld}
@@ -6,12 +10,12 @@ use Rattle.qkernel.proofs.Steps.Write.{step_written}
 use Rattle.qkernel.proofs.Steps.Delivering.{sound_threads}
 use Rattle.qkernel.proofs.kernel.Kernel.write.Goals as goal
 
-pub returns-in_err-held : goal.returns-in_err-held
-returns-in_err-held c =
+pub returns-in_err-holder : goal.returns-in_err-holder
+returns-in_err-holder c =
     let may = rw (← c.self.view_is) at c.requires in
-    let none = rw (← c.self.view_is) at c.in_err-held.ensures.none in
+    let none = rw (← c.self.view_is) at c.in_err-holder.ensures.none in
     let p = err_from_is_err_and c.from_residual.result c.from_residual.ensures.1 in
-    rw (p.1, p.2) (c.requires.none, rw (← c.self.view_is, may.counted, c.in_err-held.ensures.error) (step_unheld _ c.args.caller.now.thread _ c.args.rcvid may.sound may.among.known (Write c.args.rcvid c.args.offset c.args.bytes.now) _ refl may.up may.free none refl))
+    rw (p.1, p.2) (c.requires.none, rw (← c.self.view_is, may.counted, c.in_err-holder.ensures.error) (step_unheld _ c.args.caller.now.seat.thread _ c.args.rcvid may.sound may.among.known (Write c.args.rcvid c.args.offset c.args.bytes.now) _ refl may.up may.free none refl))
 
 pub invariant_of-self : goal.invariant_of-self
 invariant_of-self c =
@@ -21,7 +25,9 @@ invariant_of-self c =
 pub returns : goal.returns
 returns c =
     let may = rw (← c.self.view_is) at c.requires in
-    let held = rw (← c.self.view_is) at c.in_ok-held.ensures.held in
-    let changes = rw c.rcvid.view_is at c.write_sent-copied.ensures.after in
-    let count = rw c.rcvid.view_is at c.write_sent-copied.ensures.count in
-    rw (← c.self.view_is, may.counted) (step_written _ c.args.caller.now.thread _ c.args.rcvid may.sound may.among.known may.up may.free held c.args.offset c.args.bytes.now _ _ changes (rw count at c.end.ensures))
+    let held = rw (← c.self.view_is) at c.in_ok-holder.ensures.held in
+    let sent = rw (← c.self.view_is) at c.in_ok-holder.ensures.sender in
+    let changes = changes_sender c.args.rcvid c.in_ok-holder.holder.thread (written_call c.args.offset c.args.bytes.now) _ _ sent c.write_sent-copied.ensures.after in
+    let count = c.write_sent-copied.ensures.count ∙ ap (λ o. laid_count (reply_buffer_in o) c.args.offset c.args.bytes.now) (sym (call_sent c.args.rcvid c.in_ok-holder.holder.thread c.self.inside.threads sent)) in
+    let ended = rw (c.ending.ensures, count, may.none) at c.put.ensures in
+    rw (← c.self.view_is, may.counted) (step_written _ c.args.caller.now.seat.thread _ c.args.rcvid may.sound may.among.known may.up may.free held c.args.offset c.args.bytes.now _ _ changes ended)

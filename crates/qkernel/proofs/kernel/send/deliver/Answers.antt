@@ -1,23 +1,11 @@
-use Rattle.std.proofs.Common.{◌≡◌, List, ℕ, refl, sym, ap, ◌∙◌, true}
-use Rattle.std.specs.Prelude.{Option, None, Some, is_some}
-use Rattle.std.specs.Option.{option_map}
-use Rattle.std.proofs.lemmas.Bool.{true≢false}
-use Rattle.qqueue.specs.declared.item.Item.{Item}
-use Rattle.qmodel.specs.Private.Rows.{takes}
-use Rattle.qmodel.specs.declared.open_call.OpenCall.{OpenCall}
+use Rattle.std.proofs.Common.{◌≡◌, ap, refl, sym, ◌∙◌}
+use Rattle.std.specs.Prelude.{Some}
+use Rattle.qmodel.specs.Private.Rows.{receipt_ending}
+use Rattle.qstate.proofs.Receivers.{taken_by}
 use Rattle.qkernel.proofs.kernel.send.deliver.Goals as goal
 
--- what takes an item has an open call
-takes_open : (item : Item) (message : List ℕ) (u : ℕ) (o : Option OpenCall) → is_some (takes item message u o) ≡ true → is_some o ≡ true
-takes_open item message u None e = e
-takes_open item message u (Some o) e = refl
-
-pub wake-call-requires : goal.wake-call-requires
-wake-call-requires c = takes_open c.args.item.now c.args.message.now c.args.receiver _ c.requires.waits
-
-pub unreachable-requires : goal.unreachable-requires
-unreachable-requires c =
-    true≢false (sym c.requires.waits ∙ ap (λ o. is_some (takes c.args.item.now c.args.message.now c.args.receiver o)) (sym c.wake-call.ensures.had) ∙ ap is_some (sym c.ending_with_message.ensures.ended) ∙ ap (λ x. is_some (option_map (λ y. y.0) x)) c.in_default.is)
-
 pub returns-clause-ended : goal.returns-clause-ended
-returns-clause-ended c = ap (takes c.args.item.now c.args.message.now c.args.receiver) (sym c.wake-call.ensures.had) ∙ sym c.in-Some.ensures.ended
+returns-clause-ended c =
+    let r = c.wake-receive.result in
+    let same : receipt_ending c.args.item.now c.args.message.now r.thread r.number r.buffer ≡ c.ending.result = rw (c.ending.ensures, c.requires.message, c.lay-copied.ensures.count, c.lay-copied.ensures.after) refl in
+    taken_by c.args.item.now c.args.message.now c.args.receiver.now.thread _ r c.wake-receive.ensures.had ∙ ap Some same
