@@ -96,12 +96,15 @@ fn next_from(nodes: &Slab<Node>, first: usize, item: &Item) -> Option<usize>
     requires ring { Ring nodes.now (keys_on (is_pulse item.now.what) item.now.priority (places_of nodes.now)) }
     ensures { result ≡ first_of (keys_on (is_pulse item.now.what) item.now.priority (places_after item.now.number (places_of nodes.now))) }
 {
+    // The numbers rise: if the last isn't greater than the item's, none is, and no walk is needed.
+    let last = nodes[first].before;
+    if nodes[last].item.number <= item.number {
+        return None;
+    }
+    // The last number is greater, so the walk ends there or before.
     let mut key = first;
     while nodes[key].item.number <= item.number {
         key = nodes[key].after;
-        if key == first {
-            return None;
-        }
     }
     Some(key)
 }

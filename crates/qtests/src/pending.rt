@@ -92,13 +92,13 @@ fn take(rt: &impl Abort, queue: &mut Queue, list: &mut Vec<Item>, kind: Kind, nu
     assert_eq!(rt; taken, take_from_list(list, kind));
 }
 
-// Takes the item of a number from both, which may have one or not.
+// Takes the item of a number from both, which may have one or not. The key that is guessed is just any.
 fn remove(rt: &impl Abort, queue: &mut Queue, list: &mut Vec<Item>, id: u64, number: u64)
     requires { AllByRecursion (λ x. x.number < number) queue.old.items }
     ensures older { AllByRecursion (λ x. x.number < number + 1) queue.new.items }
     ensures room { queue.old.room ≤ queue.new.room }
 {
-    let removed = queue.remove(id);
+    let removed = queue.remove(id, number as usize % ROOM);
     assert_eq!(rt; removed, remove_from_list(list, id));
 }
 
@@ -113,7 +113,8 @@ fn requeue_in_list(list: &mut [Item], number: u64, priority: Priority) -> bool {
     false
 }
 
-// Gives the item of a number another priority in both, which may have one or not.
+// Gives the item of a number another priority in both, which may have one or not. The key that is guessed is
+// just any.
 fn requeue(
     rt: &impl Abort,
     queue: &mut Queue,
@@ -126,7 +127,7 @@ fn requeue(
     ensures older { AllByRecursion (λ x. x.number < number + 1) queue.new.items }
     ensures room { queue.old.room ≤ queue.new.room }
 {
-    let found = queue.requeue(id, priority);
+    let found = queue.requeue(id, priority, number as usize % ROOM);
     assert_eq!(rt; found, requeue_in_list(list, id, priority));
 }
 
@@ -283,13 +284,13 @@ fn go_in_order(rt: &impl Abort, queue: &mut Queue, kind: Kind, numbers: &[u64]) 
 #[test]
 fn a_raised_message_stands_at_its_place(rt: HostRuntime) {
     let mut between = waiting(&rt, rt.alloc(), false, &[10, 5, 10]);
-    assert!(rt; between.requeue(1, priority(&rt, 10)));
+    assert!(rt; between.requeue(1, priority(&rt, 10), 1));
     go_in_order(&rt, &mut between, Kind::Any, &[0, 1, 2]);
     let mut first = waiting(&rt, rt.alloc(), false, &[5, 10, 10]);
-    assert!(rt; first.requeue(0, priority(&rt, 10)));
+    assert!(rt; first.requeue(0, priority(&rt, 10), 0));
     go_in_order(&rt, &mut first, Kind::Any, &[0, 1, 2]);
     let mut last = waiting(&rt, rt.alloc(), false, &[10, 10, 5, 7]);
-    assert!(rt; last.requeue(2, priority(&rt, 10)));
+    assert!(rt; last.requeue(2, priority(&rt, 10), 2));
     go_in_order(&rt, &mut last, Kind::Any, &[0, 1, 2, 3]);
 }
 
@@ -297,8 +298,8 @@ fn a_raised_message_stands_at_its_place(rt: HostRuntime) {
 #[test]
 fn a_lowered_message_stands_at_its_place(rt: HostRuntime) {
     let mut queue = waiting(&rt, rt.alloc(), false, &[5, 10, 5]);
-    assert!(rt; queue.requeue(1, priority(&rt, 5)));
-    assert!(rt; queue.requeue(0, priority(&rt, 1)));
+    assert!(rt; queue.requeue(1, priority(&rt, 5), 1));
+    assert!(rt; queue.requeue(0, priority(&rt, 1), 0));
     go_in_order(&rt, &mut queue, Kind::Any, &[1, 2, 0]);
 }
 
@@ -308,9 +309,9 @@ fn the_same_priority_changes_nothing(rt: HostRuntime) {
     let mut queue = waiting(&rt, rt.alloc(), false, &[5, 5, 5, 64]);
     for number in 0..4 {
         let level = if number == 3 { 64 } else { 5 };
-        assert!(rt; queue.requeue(number, priority(&rt, level)));
+        assert!(rt; queue.requeue(number, priority(&rt, level), number as usize));
     }
-    assert!(rt; !queue.requeue(4, priority(&rt, 255)));
+    assert!(rt; !queue.requeue(4, priority(&rt, 255), 4));
     go_in_order(&rt, &mut queue, Kind::Any, &[3, 0, 1, 2]);
 }
 
@@ -318,9 +319,9 @@ fn the_same_priority_changes_nothing(rt: HostRuntime) {
 #[test]
 fn a_pulse_gets_another_priority(rt: HostRuntime) {
     let mut queue = waiting(&rt, rt.alloc(), true, &[10, 5, 10, 63]);
-    assert!(rt; queue.requeue(1, priority(&rt, 10)));
-    assert!(rt; queue.requeue(3, priority(&rt, 255)));
-    assert!(rt; queue.requeue(3, priority(&rt, 1)));
+    assert!(rt; queue.requeue(1, priority(&rt, 10), 1));
+    assert!(rt; queue.requeue(3, priority(&rt, 255), 3));
+    assert!(rt; queue.requeue(3, priority(&rt, 1), 3));
     assert_eq!(rt; queue.pulses(), 4);
     go_in_order(&rt, &mut queue, Kind::PulseOnly, &[0, 1, 2, 3]);
 }

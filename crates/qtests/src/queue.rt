@@ -35,7 +35,7 @@ fn starts_empty(rt: HostRuntime) {
     assert_eq!(rt; queue.pulses(), 0);
     assert!(rt; queue.best(Kind::Any).is_none());
     assert!(rt; queue.take(Kind::PulseOnly).is_none());
-    assert!(rt; queue.remove(1).is_none());
+    assert!(rt; queue.remove(1, 0).is_none());
 }
 
 /// Priorities 20, 10, 20 and 30: the greatest goes first. Of the two with 20 the message 4 was sent before the
@@ -84,12 +84,36 @@ fn one_is_removed_by_its_number(rt: HostRuntime) -> Result<(), Fail> {
     queue.reserve(3)?;
     let second = item(2, 10, What::Message)?;
     queue.push(item(1, 10, What::Message)?);
-    queue.push(second);
+    let key = queue.push(second);
     queue.push(item(3, 10, What::Message)?);
-    assert_eq!(rt; queue.remove(2), Some(second));
-    assert_eq!(rt; queue.remove(2), None);
+    assert_eq!(rt; queue.remove(2, key), Some(second));
+    assert_eq!(rt; queue.remove(2, key), None);
     assert_eq!(rt; number_of(queue.take(Kind::Any)), Some(1));
     assert_eq!(rt; number_of(queue.take(Kind::Any)), Some(3));
+    Ok(())
+}
+
+/// By the key that `push` returned, by that of another item, by that of one that is gone and by one that no item
+/// ever has, the same item is found, before and after it has another priority; what isn't there is found by none.
+#[test]
+fn any_key_finds_the_item(rt: HostRuntime) -> Result<(), Fail> {
+    let raised = Priority::new(20).ok_or("no such priority")?;
+    for guess in 0..4 {
+        let mut queue = Queue::new(rt.alloc());
+        queue.reserve(3)?;
+        let first = queue.push(item(1, 10, What::Message)?);
+        let second = queue.push(item(2, 10, What::Message)?);
+        let third = queue.push(item(3, 10, What::Message)?);
+        assert_eq!(rt; number_of(queue.remove(3, third)), Some(3));
+        let key = [second, first, third, usize::MAX][guess];
+        assert!(rt; queue.requeue(2, raised, key));
+        assert!(rt; !queue.requeue(3, raised, key));
+        assert_eq!(rt; queue.best(Kind::Any).map(|x| x.number), Some(2));
+        assert_eq!(rt; number_of(queue.remove(2, key)), Some(2));
+        assert!(rt; queue.remove(2, key).is_none());
+        assert_eq!(rt; number_of(queue.remove(1, key)), Some(1));
+        assert!(rt; queue.is_empty());
+    }
     Ok(())
 }
 
