@@ -225,7 +225,12 @@ impl Kernel {
     /// Makes one call of the thread at a seat, and puts its endings, in rising thread number, into a list that is
     /// lent and may be used again once it is emptied. An `Err` is no event: it gives the call back and changes
     /// nothing; `Exhausted`, after 2^40 calls, is the only one.
-    pub fn call_at(&mut self, seat: &Seat, call: Call, endings: &mut Endings) -> Result<(), (Errno, Call)>
+    pub fn call_at(
+        &mut self,
+        seat: &Seat,
+        call: Call,
+        endings: &mut Endings,
+    ) -> Result<(), (Errno, Call)>
         requires seat { IsSeatIn self.old.threads seat.now }
         requires none { endings.old.items ≡ [] }
         ensures event { OnOk result (AnswersAtTraces self.old seat.now.thread call endings.new.items self.new) }

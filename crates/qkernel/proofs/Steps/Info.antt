@@ -1,6 +1,6 @@
 -- Info as a step of the kernel.
-use Rattle.std.proofs.Common.{◌≡◌, ℕ, ◌+◌, List, [], ◌∷◌, get_or, refl, ap, sym, ◌∙◌, cond, eqb, arith, true, append-nil, false}
-use Rattle.std.specs.Prelude.{Option, None, Some, is_some, position}
+use Rattle.std.proofs.Common.{◌≡◌, ℕ, ◌+◌, List, [], ◌∷◌, refl, ap, sym, ◌∙◌, cond, eqb, arith, true, append-nil, false}
+use Rattle.std.specs.Prelude.{Option, None, Some, is_some}
 use Rattle.std.specs.List.{filter_map}
 use Rattle.std.specs.Option.{option_and_then, option_map}
 use Rattle.std.proofs.lemmas.Bool.{true≢false}
@@ -16,7 +16,7 @@ use Rattle.qmodel.specs.declared.open_call.Wait.TheVariants.{Answer, Item as For
 use Rattle.qstate.specs.declared.thread.Thread.{Thread}
 use Rattle.qmodel.specs.declared.call.Info.{Info as Told}
 use Rattle.qmodel.specs.Private.Calls.Info.{info_of, info_of_open, info_ending}
-use Rattle.qmodel.specs.Private.Facts.{is_send, sender, threads_of}
+use Rattle.qmodel.specs.Private.Facts.{sender, threads_of}
 use Rattle.qstate.specs.Held.{is_held_in, is_held_over}
 use Rattle.qkernel.specs.Kernel.{State, IsSound}
 use Rattle.qkernel.specs.Private.Steps.{Steps, facts_in}

@@ -31,7 +31,10 @@ impl Kernel {
             channel: chid,
         };
         match self.connections.create(ConnectionId(number), connection) {
-            Ok(()) => put(endings, caller.ending(Mark::Connection(ConnectionId(number)))),
+            Ok(()) => put(
+                endings,
+                caller.ending(Mark::Connection(ConnectionId(number))),
+            ),
             Err((errno, _)) => return Err(errno),
         }
         Ok(())

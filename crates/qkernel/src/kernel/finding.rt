@@ -33,12 +33,9 @@ impl Kernel {
         ensures none { IfErr result (λ e. is_held_in self.now.threads self.now.connections self.now.channels caller.now.process rcvid ≡ false) }
         ensures error { IfErr result (λ e. e ≡ Errno.Srch) }
     {
-        let seat = self.threads.holder(
-            &self.connections,
-            &self.channels,
-            caller.process,
-            rcvid,
-        );
+        let seat = self
+            .threads
+            .holder(&self.connections, &self.channels, caller.process, rcvid);
         seat.ok_or(Errno::Srch)
     }
 
@@ -50,6 +47,8 @@ impl Kernel {
         ensures none { IfErr result (λ e. is_in_process caller.now.process (member_at (members_of self.now.threads) target) ≡ false) }
         ensures error { IfErr result (λ e. e ≡ Errno.Srch) }
     {
-        self.threads.fellow(caller.process, target).ok_or(Errno::Srch)
+        self.threads
+            .fellow(caller.process, target)
+            .ok_or(Errno::Srch)
     }
 }

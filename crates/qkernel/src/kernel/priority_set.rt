@@ -24,12 +24,8 @@ impl Kernel {
         ensures { MakesOrRefuses self.old caller.now (Call.PrioritySet target priority) result endings.new.items self.new }
     {
         let fellow = self.fellow(caller, target)?;
-        self.threads.requeue_unread(
-            &self.connections,
-            &mut self.channels,
-            &fellow,
-            priority,
-        );
+        self.threads
+            .requeue_unread(&self.connections, &mut self.channels, &fellow, priority);
         self.threads.set_priority(&fellow, Some(priority));
         put(endings, caller.ending(Mark::Ok));
         Ok(())

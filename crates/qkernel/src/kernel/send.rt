@@ -80,11 +80,15 @@ impl Kernel {
             return caller.refuse(endings, Errno::Badf, reply_buffer);
         };
         let item = message_item(caller, self.priority(caller));
-        let (receipt, key) = match self.threads.newest_receiver(chid, &item) {
-            None => match enqueue(&mut self.channels, chid, item) {
-                Ok(key) => (None, key),
-                Err(errno) => return caller.refuse(endings, errno, reply_buffer),
-            },
+        let mut key = 0;
+        let receipt = match self.threads.newest_receiver(chid, &item) {
+            None => {
+                match enqueue(&mut self.channels, chid, item) {
+                    Ok(place) => key = place,
+                    Err(errno) => return caller.refuse(endings, errno, reply_buffer),
+                }
+                None
+            }
             Some(receiver) => {
                 let priority = carried_priority(&self.channels, chid, item.priority);
                 let (ended, receipt) = deliver(
@@ -95,7 +99,7 @@ impl Kernel {
                     &message,
                 );
                 put(endings, ended);
-                (Some(receipt), 0)
+                Some(receipt)
             }
         };
         let wait = Wait::Answer {

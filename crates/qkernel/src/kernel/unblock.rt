@@ -42,8 +42,10 @@ impl Kernel {
         ensures { MakesOrRefuses self.old caller.now (Call.Unblock target) result endings.new.items self.new }
     {
         let fellow = self.fellow(caller, target)?;
-        let guarded = self.threads.guarded_message(&self.connections, &self.channels, &fellow);
-        let Some((held, chid)) = guarded else {
+        let Some(guarded) = self
+            .threads
+            .guarded_message(&self.connections, &self.channels, &fellow)
+        else {
             self.threads.cancel(
                 &mut self.channels,
                 &self.connections,
@@ -56,6 +58,7 @@ impl Kernel {
             );
             return Ok(());
         };
+        let (held, chid) = guarded;
         if held.receipt.unblocked {
             put(endings, caller.ending(Mark::Ok));
             return Ok(());

@@ -1,4 +1,4 @@
-use Rattle.std.proofs.Common.{ap, sym, ◌∙◌}
+use Rattle.std.proofs.Common.{ap, sym}
 use Rattle.std.specs.Prelude.{is_some}
 use Rattle.qstate.proofs.Seats.{unknown_open}
 use Rattle.qkernel.proofs.kernel.Kernel.is_blocked.Goals as goal

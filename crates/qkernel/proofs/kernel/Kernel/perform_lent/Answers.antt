@@ -16,8 +16,8 @@ make_lent-requires c =
       none = c.requires.none;
     }
 
-pub returns : goal.returns
-returns c =
+pub returns-clause-steps : goal.returns-clause-steps
+returns-clause-steps c =
     let caller = rw (← c.self.view_is) at c.caller_at-caller.ensures in
     elim c.match-make_lent.branch [
       | in-Err w ↦

@@ -6,11 +6,11 @@ returns c =
     let may = rw (← c.self.view_is) at c.requires in
     let ended = rw (c.ending.ensures, may.none) at c.put.ensures in
     let own = rw (← c.self.view_is) at c.in_ok-fellow.ensures.fellow in
-    let moves = c.requeue_unread.ensures in
-    rw (← c.self.view_is, may.counted) (step_set _ c.args.caller.now.seat.thread c.args.target c.args.priority _ may.among.known may.up may.free _ _ _ may.sound own moves c.set_priority.ensures ended)
+    let moves = rw c.in_ok-fellow.ensures.thread at c.requeue_unread.ensures in
+    rw (← c.self.view_is, may.counted) (step_set _ c.args.caller.now.seat.thread c.args.target c.args.priority _ may.among.known may.up may.free _ _ _ may.sound own moves (rw c.in_ok-fellow.ensures.thread at c.set_priority.ensures) ended)
 
 pub invariant_of-self : goal.invariant_of-self
 invariant_of-self c =
     let may = rw (← c.self.view_is) at c.requires in
-    let moves = c.requeue_unread.ensures in
+    let moves = rw c.in_ok-fellow.ensures.thread at c.requeue_unread.ensures in
     rw (may.counted) (sound_set _ c.args.target c.args.priority _ _ may.sound moves c.set_priority.ensures.members)

@@ -1,4 +1,4 @@
-use Rattle.std.proofs.Common.{◌≡◌, refl, sym, ap, ◌∙◌, Some}
+use Rattle.std.proofs.Common.{◌≡◌, refl, sym, ap, ◌∙◌}
 use Rattle.qmodel.specs.Private.Facts.{message_in}
 use Rattle.qstate.specs.Thread.{message_from}
 use Rattle.qstate.proofs.Senders.{message_sent}
