@@ -6,18 +6,18 @@ use Rattle.qbase.specs.declared.errno.Errno.{Errno}
 use Rattle.qbase.specs.declared.errno.Errno.TheVariants.{Inval, NoMemory}
 use Rattle.qmodel.specs.declared.call.Call.{Call}
 use Rattle.qmodel.specs.declared.call.Call.TheVariants as call
-use Rattle.balsaeuchre_c.specs.declared.kind.Kind.{Kind}
-use Rattle.balsaeuchre_c.specs.declared.kind.Kind.TheVariants.{ChannelCreate, ConnectAttach, Send, Receive}
-use Rattle.balsaeuchre_c.specs.declared.kind.Kind.TheVariants.{Reply, Error, Read, Write, Info, ReceivePulse}
-use Rattle.balsaeuchre_c.specs.declared.kind.Kind.TheVariants.{Pulse, PrioritySet, State, ChannelDestroy}
-use Rattle.balsaeuchre_c.specs.declared.kind.Kind.TheVariants.{Shutdown, Unblock, ConnectDetach}
-use Rattle.balsaeuchre_c.specs.declared.kind.TheConstants.{KINDS}
+use Rattle.qmodel.specs.declared.kind.CallKind.{CallKind}
+use Rattle.qmodel.specs.declared.kind.CallKind.TheVariants.{ChannelCreate, ConnectAttach, Send, Receive}
+use Rattle.qmodel.specs.declared.kind.CallKind.TheVariants.{Reply, Error, Read, Write, Info, ReceivePulse}
+use Rattle.qmodel.specs.declared.kind.CallKind.TheVariants.{Pulse, PrioritySet, State, ChannelDestroy}
+use Rattle.qmodel.specs.declared.kind.CallKind.TheVariants.{Shutdown, Unblock, ConnectDetach}
+use Rattle.qmodel.specs.declared.kind.TheConstants.{KINDS}
 use Rattle.balsaeuchre_c.specs.declared.request.Request.{Request}
 use Rattle.balsaeuchre_c.specs.Numbers.{numbered}
 
 -- what a request of this kind means, with the bytes that it brings and its buffer; none where it names the
 -- priority 0
-abbrev pub call_as : Kind → Request → List ℕ → List ℕ → Option Call
+abbrev pub call_as : CallKind → Request → List ℕ → List ℕ → Option Call
 call_as ChannelCreate r sent room = Some (call.ChannelCreate (record { 0 = r.flags }))
 call_as ConnectAttach r sent room = Some (call.ConnectAttach r.id)
 call_as Send r sent room = Some (call.Send r.id sent room)
@@ -39,24 +39,10 @@ call_as Unblock r sent room = Some (call.Unblock r.target)
 call_as ConnectDetach r sent room = Some (call.ConnectDetach r.id)
 
 -- whether a call of this kind borrows its bytes, since it never blocks
-abbrev pub borrows : Kind → Bool
+abbrev pub borrows : CallKind → Bool
 borrows Reply = true
 borrows Write = true
-borrows ChannelCreate = false
-borrows ConnectAttach = false
-borrows Send = false
-borrows Receive = false
-borrows Error = false
-borrows Read = false
-borrows Info = false
-borrows ReceivePulse = false
-borrows Pulse = false
-borrows PrioritySet = false
-borrows State = false
-borrows ChannelDestroy = false
-borrows Shutdown = false
-borrows Unblock = false
-borrows ConnectDetach = false
+borrows other = false
 
 -- what a request means; none where no kind has its number either
 abbrev pub call_of : Request → List ℕ → List ℕ → Option Call

@@ -1,15 +1,17 @@
 //! A call as C writes it: numbers alone.
 
-ghost use Rattle.std.specs.Prelude.{◌≡◌, [], None, Some, MatchResult, false};
+ghost use Rattle.std.specs.Prelude.{◌≡◌, ℕ, List, [], None, Some, IfNone, IfSome, MatchResult, false};
+ghost use Rattle.qkernel.specs.LentCall.{call_lent};
 ghost use Rattle.balsaeuchre_c.specs.Requests.{borrows, call_as, IsRefusedAs};
 
-use crate::kind::Kind;
 use qbase::bytes::Bytes;
 use qbase::errno::Errno;
 use qbase::flags::ChannelFlags;
 use qbase::ids::{ChannelId, ConnectionId, ReceiveId, ThreadNo};
 use qbase::priority::Priority;
 use qkernel::call::Call;
+use qkernel::lent_call::LentCall;
+use qmodel::kind::CallKind;
 use std::alloc::Global;
 
 /// A call. `kind` says which, and each kind reads only what it needs; the bytes that it brings and its buffer
@@ -88,8 +90,8 @@ impl Request {
 
     fn pulse(&self) -> Result<Call, Errno>
         ensures { MatchResult result
-            (λ call. call_as Kind.Pulse self.now [] [] ≡ Some call)
-            (λ errno. (call_as Kind.Pulse self.now [] [] ≡ None) × (errno ≡ Errno.Inval)) }
+            (λ call. call_as CallKind.Pulse self.now [] [] ≡ Some call)
+            (λ errno. (call_as CallKind.Pulse self.now [] [] ≡ None) × (errno ≡ Errno.Inval)) }
     {
         match Priority::new(self.priority) {
             Some(priority) => Ok(Call::Pulse {
@@ -104,8 +106,8 @@ impl Request {
 
     fn priority_set(&self) -> Result<Call, Errno>
         ensures { MatchResult result
-            (λ call. call_as Kind.PrioritySet self.now [] [] ≡ Some call)
-            (λ errno. (call_as Kind.PrioritySet self.now [] [] ≡ None) × (errno ≡ Errno.Inval)) }
+            (λ call. call_as CallKind.PrioritySet self.now [] [] ≡ Some call)
+            (λ errno. (call_as CallKind.PrioritySet self.now [] [] ≡ None) × (errno ≡ Errno.Inval)) }
     {
         match Priority::new(self.priority) {
             Some(priority) => Ok(Call::PrioritySet {
@@ -116,11 +118,31 @@ impl Request {
         }
     }
 
+    /// The call that the request means where one of this kind borrows its bytes; else `None`.
+    pub fn lent<'a>(&self, kind: CallKind, sent: &'a [u8]) -> Option<LentCall<'a>>
+        ensures none { IfNone result (borrows kind ≡ false) }
+        ensures some { IfSome result (λ call. (room : List ℕ) → call_as kind self.now sent.now room ≡ Some (call_lent call)) }
+    {
+        match kind {
+            CallKind::Reply => Some(LentCall::Reply {
+                rcvid: ReceiveId(self.id),
+                status: self.status,
+                bytes: sent,
+            }),
+            CallKind::Write => Some(LentCall::Write {
+                rcvid: ReceiveId(self.id),
+                offset: self.offset,
+                bytes: sent,
+            }),
+            _ => None,
+        }
+    }
+
     /// What the request means as a call of this kind, which doesn't borrow its bytes. `Inval` where it means none, as
     /// its priority is none; else `NoMemory`.
     pub fn call_as(
         &self,
-        kind: Kind,
+        kind: CallKind,
         alloc: Global,
         sent: &[u8],
         room: &[u8],
@@ -131,25 +153,25 @@ impl Request {
             (IsRefusedAs (call_as kind self.now sent.now room.now)) }
     {
         match kind {
-            Kind::ChannelCreate => Ok(Call::ChannelCreate(ChannelFlags::of(self.flags))),
-            Kind::ConnectAttach => Ok(Call::ConnectAttach(ChannelId(self.id))),
-            Kind::Send => self.send(alloc, sent, room),
-            Kind::Receive => self.receive(alloc, room),
-            Kind::Reply | Kind::Write => unreachable!(),
-            Kind::Error => Ok(Call::Error {
+            CallKind::ChannelCreate => Ok(Call::ChannelCreate(ChannelFlags::of(self.flags))),
+            CallKind::ConnectAttach => Ok(Call::ConnectAttach(ChannelId(self.id))),
+            CallKind::Send => self.send(alloc, sent, room),
+            CallKind::Receive => self.receive(alloc, room),
+            CallKind::Reply | CallKind::Write => unreachable!(),
+            CallKind::Error => Ok(Call::Error {
                 rcvid: ReceiveId(self.id),
                 code: self.code,
             }),
-            Kind::Read => self.read(alloc, room),
-            Kind::Info => Ok(Call::Info(ReceiveId(self.id))),
-            Kind::ReceivePulse => Ok(Call::ReceivePulse(ChannelId(self.id))),
-            Kind::Pulse => self.pulse(),
-            Kind::PrioritySet => self.priority_set(),
-            Kind::State => Ok(Call::State(ThreadNo(self.target))),
-            Kind::ChannelDestroy => Ok(Call::ChannelDestroy(ChannelId(self.id))),
-            Kind::Shutdown => Ok(Call::Shutdown),
-            Kind::Unblock => Ok(Call::Unblock(ThreadNo(self.target))),
-            Kind::ConnectDetach => Ok(Call::ConnectDetach(ConnectionId(self.id))),
+            CallKind::Read => self.read(alloc, room),
+            CallKind::Info => Ok(Call::Info(ReceiveId(self.id))),
+            CallKind::ReceivePulse => Ok(Call::ReceivePulse(ChannelId(self.id))),
+            CallKind::Pulse => self.pulse(),
+            CallKind::PrioritySet => self.priority_set(),
+            CallKind::State => Ok(Call::State(ThreadNo(self.target))),
+            CallKind::ChannelDestroy => Ok(Call::ChannelDestroy(ChannelId(self.id))),
+            CallKind::Shutdown => Ok(Call::Shutdown),
+            CallKind::Unblock => Ok(Call::Unblock(ThreadNo(self.target))),
+            CallKind::ConnectDetach => Ok(Call::ConnectDetach(ConnectionId(self.id))),
         }
     }
 }

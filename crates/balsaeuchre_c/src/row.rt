@@ -112,6 +112,18 @@ impl Row {
         }
     }
 
+    fn replied(self, status: i64, copied: usize) -> Row
+        ensures mark { mark_of result ≡ Some (Mark.Replied status copied) }
+        ensures same { (ending : Completion) → (start written : ℕ) → IsOf self ending start written → IsOf result ending start written }
+    {
+        Row {
+            mark: 5,
+            status,
+            count: copied,
+            ..self
+        }
+    }
+
     fn info(self, info: Info) -> Row
         ensures mark { mark_of result ≡ Some (Mark.Info info) }
         ensures same { (ending : Completion) → (start written : ℕ) → IsOf self ending start written → IsOf result ending start written }
@@ -223,12 +235,7 @@ impl Row {
                 id: coid.0,
                 ..self
             },
-            Mark::Replied { status, copied } => Row {
-                mark: 5,
-                status,
-                count: copied,
-                ..self
-            },
+            Mark::Replied { status, copied } => self.replied(status, copied),
             Mark::Message { rcvid, copied } => self.message(rcvid, copied, info),
             Mark::Errored(code) => Row {
                 mark: 7,

@@ -9,10 +9,10 @@ ghost use Rattle.qtables.specs.Members.{member_at};
 ghost use Rattle.balsaeuchre_c.specs.Calling.{IsMade};
 ghost use Rattle.balsaeuchre_c.specs.Requests.{IsRefusedAs, call_of};
 
-use crate::kind::{Kind, kind_of};
+use crate::kind::kind_of;
 use crate::request::Request;
 use qbase::errno::Errno;
-use qbase::ids::{ReceiveId, ThreadNo};
+use qbase::ids::ThreadNo;
 use qkernel::call::Call;
 use qkernel::endings::Endings;
 use qkernel::kernel::{CALL_LIMIT, Kernel};
@@ -89,41 +89,16 @@ impl Session {
         ensures error { IfErr result (λ errno. IsRefusedAs (call_of request.now sent.now room.now) errno ⊎ DispatchError self.old.kernel request.now.thread errno) }
         ensures unchanged { IfErr result (λ _. self.new ≡ self.old) }
     {
-        let thread = ThreadNo(request.thread);
-        let rcvid = ReceiveId(request.id);
         let Some(kind) = kind_of(request.kind) else {
             return Err(Errno::Inval);
         };
-        match kind {
-            Kind::Reply => {
-                let status = request.status;
-                let bytes = sent;
-                self.call_lent(
-                    thread,
-                    &LentCall::Reply {
-                        rcvid,
-                        status,
-                        bytes,
-                    },
-                )?;
-            }
-            Kind::Write => {
-                let offset = request.offset;
-                let bytes = sent;
-                self.call_lent(
-                    thread,
-                    &LentCall::Write {
-                        rcvid,
-                        offset,
-                        bytes,
-                    },
-                )?;
-            }
-            kind => {
+        let thread = ThreadNo(request.thread);
+        match request.lent(kind, sent) {
+            Some(call) => self.call_lent(thread, &call),
+            None => {
                 let call = request.call_as(kind, alloc, sent, room)?;
-                self.call(thread, call)?;
+                self.call(thread, call)
             }
         }
-        Ok(())
     }
 }

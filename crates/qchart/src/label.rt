@@ -8,37 +8,35 @@ use qbase::ids::ThreadNo;
 use qbase::priority::Priority;
 use qbase::state::ThreadState;
 use qkernel::call::{Call, Completion, Mark};
+use qmodel::kind::CallKind;
 use qqueue::item::What;
 use std::alloc::{AllocError, Global};
 
 /// What a thread calls, as it stands beside its line. What a Send or a Pulse makes has the number of the call.
 pub fn call_words(alloc: Global, number: u64, call: &Call) -> Result<String, AllocError> {
+    let name = call.kind().word();
     match call {
-        Call::ChannelCreate(_) => format!(in alloc; "create"),
-        Call::Send { .. } => format!(in alloc; "send {number}"),
+        Call::ChannelCreate(_) => String::from_str(alloc, name),
+        Call::Send { .. } => number_label(alloc, name, number),
         Call::Pulse { code, value, .. } => user_words(alloc, number, *code, *value),
-        Call::Shutdown => format!(in alloc; "shutdown"),
-        Call::ConnectAttach(chid) => number_label(alloc, "attach to", chid.0),
-        Call::ConnectDetach(coid) => number_label(alloc, "detach", coid.0),
-        Call::ChannelDestroy(chid) => number_label(alloc, "destroy", chid.0),
-        Call::Receive { chid, .. } => number_label(alloc, "receive on", chid.0),
-        Call::ReceivePulse(chid) => number_label(alloc, "receivepulse on", chid.0),
-        Call::Read { rcvid, .. } => number_label(alloc, "read", rcvid.0),
-        Call::Write { rcvid, .. } => number_label(alloc, "write", rcvid.0),
-        Call::Info(rcvid) => number_label(alloc, "info", rcvid.0),
-        Call::State(thread) => number_label(alloc, "state of", u64::from(thread.0)),
-        Call::Unblock(thread) => number_label(alloc, "unblock", u64::from(thread.0)),
-        Call::Reply { rcvid, status, .. } => answer_label(
-            alloc, "reply", rcvid.0, "status", *status,
-        ),
-        Call::Error { rcvid, code } => answer_label(
-            alloc,
-            "error",
-            rcvid.0,
-            "code",
-            i64::from(*code),
-        ),
+        Call::Reply { rcvid, status, .. } => answer_label(alloc, name, rcvid.0, "status", *status),
+        Call::Error { rcvid, code } => answer_label(alloc, name, rcvid.0, "code", i64::from(*code)),
         Call::PrioritySet { thread, priority } => priority_label(alloc, thread.0, *priority),
+        _ => named_label(alloc, call.kind(), call.operand()),
+    }
+}
+
+/// A call and what it names.
+fn named_label(alloc: Global, kind: CallKind, operand: Option<u64>) -> Result<String, AllocError> {
+    let name = kind.word();
+    let Some(number) = operand else {
+        return String::from_str(alloc, name);
+    };
+    match kind {
+        CallKind::ConnectAttach => format!(in alloc; "{name} to {number}"),
+        CallKind::Receive | CallKind::ReceivePulse => format!(in alloc; "{name} on {number}"),
+        CallKind::State => format!(in alloc; "{name} of {number}"),
+        _ => number_label(alloc, name, number),
     }
 }
 

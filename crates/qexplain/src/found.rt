@@ -2,7 +2,7 @@
 
 use crate::history::{End, History, Past};
 use qbase::ids::ProcessNo;
-use qreading::reading::call::Verb;
+use qmodel::kind::CallKind;
 
 /// What became of a channel or a connection.
 #[derive(Clone, Copy, Debug, PartialEq, Eq)]
@@ -41,12 +41,12 @@ impl Past {
 
     /// Whether it destroyed this channel.
     fn destroys(&self, channel: u64) -> bool {
-        matches!(self.verb, Verb::Destroy) && self.operand == channel && self.is_accepted()
+        self.kind == CallKind::ChannelDestroy && self.operand == channel && self.is_accepted()
     }
 
     /// Whether it detached this connection.
     fn detaches(&self, connection: u64) -> bool {
-        matches!(self.verb, Verb::Detach) && self.operand == connection && self.is_accepted()
+        self.kind == CallKind::ConnectDetach && self.operand == connection && self.is_accepted()
     }
 }
 
@@ -86,7 +86,7 @@ impl History {
         let Some(send) = self.call(message) else {
             return Delivery::Absent;
         };
-        if !matches!(send.verb, Verb::Send) || send.is_refused(message) {
+        if send.kind != CallKind::Send || send.is_refused(message) {
             return Delivery::Absent;
         }
         match send.end {
@@ -108,7 +108,7 @@ impl History {
     /// The channel that a message was sent to; 0 where no call sent one of this number.
     pub fn channel_of_message(&self, message: u64) -> u64 {
         match self.call(message) {
-            Some(past) if matches!(past.verb, Verb::Send) => self.channel_of(past.operand),
+            Some(past) if past.kind == CallKind::Send => self.channel_of(past.operand),
             _ => 0,
         }
     }

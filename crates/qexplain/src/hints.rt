@@ -1,102 +1,21 @@
 //! What is often written in a script, and what to write in its place.
 
-use crate::grammar::Operand;
+use crate::grammar::{CALLS, Form, Operand};
 use qreading::reading::call::is;
 use std::alloc::{AllocError, Global};
 use std::str;
 
-/// A name of QNX, in small letters without underscores, and the word of a script for it.
-struct QnxName {
-    name: &'static str,
-    word: &'static str,
-}
-
-static QNX_NAMES: [QnxName; 18] = [
-    QnxName {
-        name: "channelcreate",
-        word: "create",
-    },
-    QnxName {
-        name: "channeldestroy",
-        word: "destroy",
-    },
-    QnxName {
-        name: "connectattach",
-        word: "attach",
-    },
-    QnxName {
-        name: "connectdetach",
-        word: "detach",
-    },
-    QnxName {
-        name: "msgsend",
-        word: "send",
-    },
-    QnxName {
-        name: "msgsendv",
-        word: "send",
-    },
-    QnxName {
-        name: "msgsendnc",
-        word: "send",
-    },
-    QnxName {
-        name: "msgreceive",
-        word: "receive",
-    },
-    QnxName {
-        name: "msgreceivepulse",
-        word: "receivepulse",
-    },
-    QnxName {
-        name: "msgsendpulse",
-        word: "pulse",
-    },
-    QnxName {
-        name: "msgreply",
-        word: "reply",
-    },
-    QnxName {
-        name: "msgerror",
-        word: "error",
-    },
-    QnxName {
-        name: "msgread",
-        word: "read",
-    },
-    QnxName {
-        name: "msgwrite",
-        word: "write",
-    },
-    QnxName {
-        name: "msginfo",
-        word: "info",
-    },
-    QnxName {
-        name: "schedset",
-        word: "setprio",
-    },
-    QnxName {
-        name: "schedget",
-        word: "state",
-    },
-    QnxName {
-        name: "timertimeout",
-        word: "unblock",
-    },
-];
-
-/// The call that QNX has under this name, in whichever case, also with underscores.
-pub fn qnx_call(alloc: Global, word: &[u8]) -> Result<Option<&'static str>, AllocError> {
+/// The form of the call that QNX has under this name, in whichever case, also with underscores.
+pub fn qnx_form(alloc: Global, word: &[u8]) -> Result<Option<Form>, AllocError> {
     let mut plain = Vec::new(alloc);
     for byte in word {
         if *byte != b'_' {
             plain.push(byte.to_ascii_lowercase())?;
         }
     }
-    for name in &QNX_NAMES {
-        if is(plain.as_slice(), name.name) {
-            return Ok(Some(name.word));
+    for form in &CALLS {
+        if form.qnx_names.iter().any(|name| is(plain.as_slice(), name)) {
+            return Ok(Some(*form));
         }
     }
     Ok(None)

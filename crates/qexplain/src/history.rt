@@ -1,9 +1,8 @@
 //! What each past call did, as a run goes on.
 
-use bitflags::Flags;
 use qbase::ids::{ProcessNo, ThreadNo};
 use qmodel::call::{Call, Completion, Mark};
-use qreading::reading::call::Verb;
+use qmodel::kind::CallKind;
 use qtables::member::Member;
 use std::alloc::{AllocError, Global};
 
@@ -47,7 +46,7 @@ impl End {
 #[derive(Clone, Copy)]
 pub struct Past {
     pub thread: ThreadNo,
-    pub verb: Verb,
+    pub kind: CallKind,
     /// Its first operand: an id, a thread or flags; 0 for a Shutdown.
     pub operand: u64,
     /// How it ended, if it did.
@@ -61,8 +60,8 @@ impl Past {
     pub fn of(thread: ThreadNo, call: &Call) -> Past {
         Past {
             thread,
-            verb: verb_of(call),
-            operand: operand_of(call),
+            kind: call.kind(),
+            operand: call.operand().unwrap_or(0),
             end: End::Open,
             ended_by: 0,
         }
@@ -76,69 +75,6 @@ impl Past {
     /// Whether it did what it says.
     pub fn is_accepted(&self) -> bool {
         self.end == End::Accepted
-    }
-}
-
-/// The verb of a call.
-fn verb_of(call: &Call) -> Verb {
-    match call {
-        Call::ChannelCreate(_) => Verb::Create,
-        Call::ConnectAttach(_) => Verb::Attach,
-        Call::Send { .. } => Verb::Send,
-        Call::Receive { .. } => Verb::Receive,
-        Call::Reply { .. } => Verb::Reply,
-        Call::Error { .. } => Verb::Error,
-        Call::Read { .. } => Verb::Read,
-        Call::Write { .. } => Verb::Write,
-        Call::Info(_) => Verb::Info,
-        Call::ReceivePulse(_) => Verb::ReceivePulse,
-        Call::Pulse { .. } => Verb::Pulse,
-        Call::PrioritySet { .. } => Verb::SetPrio,
-        Call::State(_) => Verb::State,
-        Call::ChannelDestroy(_) => Verb::Destroy,
-        Call::Shutdown => Verb::Shutdown,
-        Call::Unblock(_) => Verb::Unblock,
-        Call::ConnectDetach(_) => Verb::Detach,
-    }
-}
-
-/// The first operand of a call; 0 where it has none.
-fn operand_of(call: &Call) -> u64 {
-    match call {
-        Call::ChannelCreate(flags) => u64::from(flags.bits()),
-        Call::ConnectAttach(chid) | Call::ReceivePulse(chid) | Call::ChannelDestroy(chid) => chid.0,
-        Call::Receive { chid, .. } => chid.0,
-        Call::Send { coid, .. } | Call::Pulse { coid, .. } => coid.0,
-        Call::ConnectDetach(coid) => coid.0,
-        Call::Reply { rcvid, .. } | Call::Error { rcvid, .. } => rcvid.0,
-        Call::Read { rcvid, .. } | Call::Write { rcvid, .. } => rcvid.0,
-        Call::Info(rcvid) => rcvid.0,
-        Call::PrioritySet { thread, .. } => u64::from(thread.0),
-        Call::State(thread) | Call::Unblock(thread) => u64::from(thread.0),
-        Call::Shutdown => 0,
-    }
-}
-
-/// The word of a script that names a call.
-pub fn verb_word(verb: Verb) -> &'static str {
-    match verb {
-        Verb::Create => "create",
-        Verb::Attach => "attach",
-        Verb::Send => "send",
-        Verb::Receive => "receive",
-        Verb::Reply => "reply",
-        Verb::Error => "error",
-        Verb::Read => "read",
-        Verb::Write => "write",
-        Verb::Info => "info",
-        Verb::ReceivePulse => "receivepulse",
-        Verb::Pulse => "pulse",
-        Verb::SetPrio => "setprio",
-        Verb::State => "state",
-        Verb::Destroy => "destroy",
-        Verb::Shutdown => "shutdown",
-        Verb::Unblock => "unblock",
-        Verb::Detach => "detach",
     }
 }
 
@@ -200,9 +136,9 @@ impl History {
         let Some(past) = self.call(number) else {
             return;
         };
-        match past.verb {
-            Verb::Destroy => self.channels.retain(|channel| *channel != past.operand),
-            Verb::Detach => self
+        match past.kind {
+            CallKind::ChannelDestroy => self.channels.retain(|channel| *channel != past.operand),
+            CallKind::ConnectDetach => self
                 .connections
                 .retain(|connection| *connection != past.operand),
             _ => {}

@@ -4,7 +4,7 @@ use crate::found::{Delivery, Life};
 use crate::history::{History, Past};
 use qbase::errno::Errno;
 use qbase::ids::ProcessNo;
-use qreading::reading::call::Verb;
+use qmodel::kind::CallKind;
 
 /// What a call may name of another process.
 #[derive(Clone, Copy, Debug, PartialEq, Eq)]
@@ -58,7 +58,7 @@ impl History {
             Errno::Down => Reason::Down(self.shutdown()),
             Errno::Busy => Reason::Busy(self.open_call(past.thread).unwrap_or(0)),
             Errno::NoMemory => Reason::NoMemory,
-            Errno::Again => limit(past.verb),
+            Errno::Again => limit(past.kind),
             Errno::Inval => self.invalid(past),
             Errno::Badf => self.bad_connection(past),
             Errno::Srch => self.nothing_found(past),
@@ -68,7 +68,7 @@ impl History {
 
     /// The number of the call that shut the kernel down; 0 where none did.
     fn shutdown(&self) -> u64 {
-        let is_last = |past: &Past| matches!(past.verb, Verb::Shutdown) && past.is_accepted();
+        let is_last = |past: &Past| past.kind == CallKind::Shutdown && past.is_accepted();
         match self.calls().iter().position(is_last) {
             Some(place) => (place as u64).saturating_add(1),
             None => 0,
@@ -77,23 +77,23 @@ impl History {
 
     /// Why a call is refused with `Inval`.
     fn invalid(&self, past: &Past) -> Reason {
-        match past.verb {
-            Verb::Create => Reason::Flags(past.operand),
-            Verb::Pulse => Reason::Code,
-            Verb::Destroy => self.bad_channel(past),
-            Verb::Detach => self.bad_connection(past),
+        match past.kind {
+            CallKind::ChannelCreate => Reason::Flags(past.operand),
+            CallKind::Pulse => Reason::Code,
+            CallKind::ChannelDestroy => self.bad_channel(past),
+            CallKind::ConnectDetach => self.bad_connection(past),
             _ => Reason::Unknown,
         }
     }
 
     /// Why a call is refused with `Srch`.
     fn nothing_found(&self, past: &Past) -> Reason {
-        match past.verb {
-            Verb::Attach | Verb::Receive | Verb::ReceivePulse => self.bad_channel(past),
-            Verb::SetPrio | Verb::State | Verb::Unblock => self.bad_thread(past),
-            Verb::Reply | Verb::Error | Verb::Read | Verb::Write | Verb::Info => {
-                self.bad_message(past)
-            }
+        match past.kind {
+            CallKind::ConnectAttach | CallKind::Receive | CallKind::ReceivePulse =>
+                self.bad_channel(past),
+            CallKind::PrioritySet | CallKind::State | CallKind::Unblock => self.bad_thread(past),
+            CallKind::Reply | CallKind::Error | CallKind::Read | CallKind::Write | CallKind::Info =>
+                { self.bad_message(past) }
             _ => Reason::Unknown,
         }
     }
@@ -158,10 +158,10 @@ impl History {
 }
 
 /// The limit that a call met.
-fn limit(verb: Verb) -> Reason {
-    match verb {
-        Verb::Create => Reason::Channels,
-        Verb::Attach => Reason::Connections,
+fn limit(kind: CallKind) -> Reason {
+    match kind {
+        CallKind::ChannelCreate => Reason::Channels,
+        CallKind::ConnectAttach => Reason::Connections,
         _ => Reason::Pulses,
     }
 }

@@ -2,7 +2,7 @@
 
 use crate::history::History;
 use qbase::ids::{ProcessNo, ThreadNo};
-use qreading::reading::call::Verb;
+use qmodel::kind::CallKind;
 use qtables::member::Member;
 use std::alloc::{AllocError, Global};
 use std::fmt;
@@ -88,7 +88,7 @@ pub fn wait_words(alloc: Global, history: &History, number: u64) -> Result<Strin
         return String::from_str(alloc, "its thread is blocked");
     };
     let thread = past.thread.0;
-    if !matches!(past.verb, Verb::Send) {
+    if past.kind != CallKind::Send {
         let channel = past.operand;
         return format!(in alloc;
             "thread {thread} is blocked in call {number}, and waits to receive on channel {channel}"
@@ -120,7 +120,7 @@ fn wait_of(history: &History, thread: ThreadNo) -> Option<Wait> {
     let Some(send) = history.call(message) else {
         return None;
     };
-    if !matches!(send.verb, Verb::Send) {
+    if send.kind != CallKind::Send {
         return None;
     }
     let server = history.maker_of(history.channel_of(send.operand))?;

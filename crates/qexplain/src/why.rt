@@ -3,10 +3,10 @@
 mod names;
 mod rules;
 
-use crate::history::{History, Past, verb_word};
+use crate::history::{History, Past};
 use qbase::errno::{Errno, word};
 use qmodel::call::{Completion, Mark};
-use qreading::reading::call::Verb;
+use qmodel::kind::CallKind;
 use rules::rule_words;
 use std::alloc::{AllocError, Global};
 use std::fmt;
@@ -71,26 +71,26 @@ fn refusal_of(
 
 /// `NUMBER CALL OPERAND: fail ERROR`
 fn head_words(alloc: Global, number: u64, past: &Past, errno: Errno) -> Result<String, AllocError> {
-    let verb = verb_word(past.verb);
+    let name = past.kind.word();
     let error = word(errno);
     let operand = past.operand;
-    if matches!(past.verb, Verb::Shutdown) {
-        return format!(in alloc; "{number} {verb}: fail {error}");
+    if past.kind == CallKind::Shutdown {
+        return format!(in alloc; "{number} {name}: fail {error}");
     }
-    format!(in alloc; "{number} {verb} {operand}: fail {error}")
+    format!(in alloc; "{number} {name} {operand}: fail {error}")
 }
 
 /// Which call ended another by force, and how.
 fn cut_words(alloc: Global, number: u64, past: &Past) -> Result<String, AllocError> {
     let operand = past.operand;
-    match past.verb {
-        Verb::Destroy => format!(in alloc;
+    match past.kind {
+        CallKind::ChannelDestroy => format!(in alloc;
             "cut by call {number}, which destroyed channel {operand}"
         ),
-        Verb::Detach => {
+        CallKind::ConnectDetach => {
             format!(in alloc; "cut by call {number}, which detached connection {operand}")
         }
-        Verb::Unblock => format!(in alloc;
+        CallKind::Unblock => format!(in alloc;
             "cut by call {number}, which unblocked thread {operand}"
         ),
         _ => format!(in alloc; "cut by call {number}, which shut the kernel down"),

@@ -12,6 +12,7 @@ pub mod Cancelling
 pub mod Pulses
 pub mod Calls
 pub mod Effects
+pub mod Copying
 pub mod Answer
 pub mod Past
 pub mod Lawful

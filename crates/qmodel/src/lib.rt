@@ -3,4 +3,5 @@
 #![tactic(auto)]
 
 pub mod call;
+pub mod kind;
 pub mod open_call;

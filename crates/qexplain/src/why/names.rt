@@ -1,7 +1,7 @@
 //! What a number names, in words.
 
-use crate::history::{End, History, Past, verb_word};
-use qreading::reading::call::Verb;
+use crate::history::{End, History, Past};
+use qmodel::kind::CallKind;
 use std::alloc::{AllocError, Global};
 
 /// What the call of a number did, for one that names something else by that number.
@@ -33,18 +33,18 @@ fn past_words(alloc: Global, number: u64, past: &Past) -> Result<String, AllocEr
         End::Connection => format!(in alloc; "call {number} made a connection"),
         End::Message(message) => { format!(in alloc; "call {number} received message {message}") }
         End::Pulse(item) => format!(in alloc; "call {number} received pulse {item}"),
-        _ => verb_words(alloc, number, past.verb),
+        _ => kind_words(alloc, number, past.kind),
     }
 }
 
 /// What a past call was, where its end says nothing of it.
-fn verb_words(alloc: Global, number: u64, verb: Verb) -> Result<String, AllocError> {
-    if matches!(verb, Verb::Send) {
+fn kind_words(alloc: Global, number: u64, kind: CallKind) -> Result<String, AllocError> {
+    if kind == CallKind::Send {
         return format!(in alloc; "call {number} sent message {number}");
     }
-    if matches!(verb, Verb::Pulse) {
+    if kind == CallKind::Pulse {
         return format!(in alloc; "call {number} sent a pulse");
     }
-    let word = verb_word(verb);
+    let word = kind.word();
     format!(in alloc; "call {number} is the call '{word}'")
 }

@@ -3,6 +3,7 @@
 use crate::expecting::trace::number_in;
 use crate::line::{CallLine, Line, Operand};
 use crate::scope::Scope;
+use qmodel::kind::CallKind;
 use std::alloc::{AllocError, Global};
 
 /// What a call is.
@@ -41,10 +42,10 @@ fn deed_of(scope: &Scope, call: &CallLine) -> Deed {
         return Deed::Other;
     };
     let number = operand_number(scope, first);
-    match call.verb.as_str() {
-        "attach" => Deed::Attach(number),
-        "send" => Deed::Send(number),
-        "receive" | "receivepulse" => Deed::Receive(number),
+    match CallKind::of_word(call.verb.as_str().as_bytes()) {
+        Some(CallKind::ConnectAttach) => Deed::Attach(number),
+        Some(CallKind::Send) => Deed::Send(number),
+        Some(CallKind::Receive | CallKind::ReceivePulse) => Deed::Receive(number),
         _ => Deed::Other,
     }
 }

@@ -1,7 +1,7 @@
 use Rattle.std.proofs.Common.{◌-◌, sym, ap, ◌∙◌}
 use Rattle.std.specs.Prelude.{slice_get}
 use Rattle.core.proofs.slice.Searches.{copied_from_item}
-use Rattle.balsaeuchre_c.specs.declared.kind.TheConstants.{KINDS}
+use Rattle.qmodel.specs.declared.kind.TheConstants.{KINDS}
 use Rattle.balsaeuchre_c.proofs.Numbering.{numbered-at}
 use Rattle.balsaeuchre_c.proofs.kind.kind_of.Goals as goal
 

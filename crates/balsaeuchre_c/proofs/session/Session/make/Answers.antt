@@ -1,30 +1,20 @@
-use Rattle.std.proofs.Common.{ap, sym, subst, ◌∙◌, w64}
-use Rattle.std.proofs.lemmas.Int.{to_z-of_z}
-use Rattle.std.specs.Prelude.{ℤ, Some, option_and_then}
-use Rattle.qmodel.specs.declared.call.Call.TheVariants.{Reply, Write}
-use Rattle.qkernel.specs.Stands.{AnswersAtTraces}
+use Rattle.std.proofs.Common.{ap, sym, ◌∙◌}
+use Rattle.std.specs.Prelude.{Result, Ok, Err, IfOk, option_and_then}
+use Rattle.qkernel.specs.LentCall.{call_lent}
 use Rattle.balsaeuchre_c.specs.Requests.{call_as}
 use Rattle.balsaeuchre_c.proofs.session.Session.make.Goals as goal
 
-pub returns-in_ok-call_lent-in-Reply-clause-made : goal.returns-in_ok-call_lent-in-Reply-clause-made
-returns-in_ok-call_lent-in-Reply-clause-made c =
-    let made = c.in_ok-call_lent-in-Reply.ensures in
-    record {
-      call = Reply c.args.request.now.id c.args.request.now.status c.args.sent.now;
-      meant = ap (option_and_then (λ kind. call_as kind c.args.request.now c.args.sent.now c.args.room.now)) (sym c.kind_of.ensures ∙ c.in-Some.is ∙ ap Some c.in-Reply.is);
-      known = made.known;
-      sound = made.sound;
-      answers = subst (λ (status : ℤ). AnswersAtTraces c.args.self.now.kernel c.args.request.now.thread (Reply c.args.request.now.id status c.args.sent.now) c.call_lent.new.self.endings.items c.call_lent.new.self.kernel)
-          (to_z-of_z w64 c.args.request.now.status search) made.event;
-    }
+-- what three facts of an Ok come to
+if_ok : {T E A B C D : Type 0} (r : Result T E) → (A → B → C → D) → IfOk r (λ _. A) → IfOk r (λ _. B) → IfOk r (λ _. C) → IfOk r (λ _. D)
+if_ok (Ok value) f a b c = f a b c
+if_ok (Err error) f a b c = tt
 
-pub returns-in_ok-call_lent-in-Write-clause-made : goal.returns-in_ok-call_lent-in-Write-clause-made
-returns-in_ok-call_lent-in-Write-clause-made c =
-    let made = c.in_ok-call_lent-in-Write.ensures in
-    record {
-      call = Write c.args.request.now.id c.args.request.now.offset c.args.sent.now;
-      meant = ap (option_and_then (λ kind. call_as kind c.args.request.now c.args.sent.now c.args.room.now)) (sym c.kind_of.ensures ∙ c.in-Some.is ∙ ap Some c.in-Write.is);
-      known = made.known;
-      sound = made.sound;
-      answers = made.event;
-    }
+pub returns-in-Some-lent-clause-made : goal.returns-in-Some-lent-clause-made
+returns-in-Some-lent-clause-made c =
+    if_ok c.call_lent.result (λ event known sound. record {
+      call = call_lent c.in-Some-lent.call;
+      meant = ap (option_and_then (λ kind. call_as kind c.args.request.now c.args.sent.now c.args.room.now)) (sym c.kind_of.ensures ∙ c.in-Some.is) ∙ c.in-Some-lent.ensures.some c.args.room.now;
+      known = known;
+      sound = sound;
+      answers = event;
+    }) c.call_lent.ensures.event c.call_lent.ensures.known c.call_lent.ensures.sound
