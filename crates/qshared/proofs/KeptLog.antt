@@ -137,10 +137,6 @@ module _ (roster : List Member) (limit : ℕ) (threads rooms : List ℕ) (log : 
   pub apart : AreApart X
   apart = endings_are_apart roster past e f.kept.rises lawful_next
 
-  -- the thread stands among those of the roster
-  pub placed : is_some (place threads t) ≡ true
-  placed = subst (λ ts. is_some (place ts t) ≡ true) (sym f.kept.threads_are) (place_some (threads_of roster) t (known roster t f.member))
-
   module _ (i : ℕ) (found : place threads t ≡ Some i) where
     at : place (threads_of roster) t ≡ Some i
     at = ap (λ ts. place ts t) (sym f.kept.threads_are) ∙ found

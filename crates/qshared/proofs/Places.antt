@@ -1,12 +1,20 @@
 -- Where a thread stands among the threads of a roster.
 use Rattle.std.proofs.Common.{◌≡◌, ℕ, suc, zero, ◌+◌, ◌<◌, List, [], ◌∷◌, length, get_or, refl, ap, sym, subst, ◌∙◌, cond, arith, true, false, eqb}
-use Rattle.std.specs.Prelude.{Some, is_some, ◌||◌}
+use Rattle.std.specs.Prelude.{None, Some, is_some, ◌||◌}
 use Rattle.std.specs.List.{position_from, AllByRecursion}
 use Rattle.std.proofs.lemmas.Bool.{eqb-true, ne_eqb, eq-eqb, true≢false}
 use Rattle.std.proofs.lemmas.Iterator.Adapters.{position_from-zero}
 use Rattle.std.proofs.lemmas.Option.{same_Some, none-some}
 use Rattle.qbase.proofs.Lists.{is_among}
 use Rattle.qmodel.proofs.Rosters.{Rises}
+use Rattle.qrules.specs.Facts.{threads_of}
+use Rattle.qstate.specs.declared.seat.Seat.{Seat}
+use Rattle.qstate.specs.declared.thread.Thread.{Thread}
+use Rattle.qstate.specs.Kept.{members_of}
+use Rattle.qstate.specs.Thread.{seat_in}
+use Rattle.qstate.specs.Threads.{IsSeatIn}
+use Rattle.qstate.proofs.Seats.{is_there}
+use Rattle.qtables.specs.Members.{member_at}
 use Rattle.qshared.specs.Due.{place}
 
 -- thread t stands at i, and nowhere before
@@ -80,3 +88,23 @@ rises_at (u ∷ ts) (suc k) d r l = let near : k < length ts = omega arith in le
 
 pub place_at : (ts : List ℕ) (k d : ℕ) → Rises ts → k < length ts → place ts (get_or ts k d) ≡ Some k
 place_at ts k d r l = position_from-zero (λ u. eqb u (get_or ts k d)) ts ∙ at_found ts (get_or ts k d) k 0 (rises_at ts k d r l) ∙ ap Some (omega arith)
+
+-- ---- seats are places
+
+same_from : (u : ℕ) (threads : List Thread) (i : ℕ) → position_from (λ v. eqb v u) i (threads_of (members_of threads)) ≡ position_from (λ t. eqb t.member.thread u) i threads
+same_from u [] i = refl
+same_from u (t ∷ threads) i = ap (cond (eqb t.member.thread u) (Some i)) (same_from u threads (i + 1))
+
+pub place_is_seat : (threads : List Thread) (u : ℕ) → place (threads_of (members_of threads)) u ≡ seat_in threads u
+place_is_seat threads u = position_from-zero (λ v. eqb v u) (threads_of (members_of threads)) ∙ same_from u threads 0 ∙ sym (position_from-zero (λ t. eqb t.member.thread u) threads)
+
+-- the place of the thread at a seat
+pub seated : (threads : List Thread) (u k : ℕ) (seat : Seat) → IsSeatIn threads seat → seat.thread ≡ u → k ≡ seat.index → place (threads_of (members_of threads)) u ≡ Some k
+seated threads u k seat at same index = place_is_seat threads u ∙ ap (seat_in threads) (sym same) ∙ at ∙ ap Some (sym index)
+
+-- a thread that isn't in the roster has none
+pub unseated : (threads : List Thread) (u : ℕ) → false ≡ is_some (member_at (members_of threads) u) → place (threads_of (members_of threads)) u ≡ None
+unseated threads u unknown = place_is_seat threads u ∙ (elim (seat_in threads u) as (λ o. is_some o ≡ false → o ≡ None) [
+  | None ↦ λ e. refl
+  | Some k ↦ λ e. absurd (true≢false e)
+] (is_there u threads ∙ sym unknown))

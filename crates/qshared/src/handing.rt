@@ -3,6 +3,8 @@ ghost use Rattle.std.specs.Prelude.{◌≡◌, ◌<◌, ◌≤◌, [], ◌∷◌
 ghost use Rattle.std.specs.List.{AllByRecursion};
 ghost use Rattle.qhandoff.specs.Words.{cells_id, kernel_id, desk};
 ghost use Rattle.qmodel.specs.Private.Endings.{gets, AreApart};
+ghost use Rattle.qrules.specs.Facts.{threads_of};
+ghost use Rattle.qstate.specs.Kept.{members_of};
 ghost use Rattle.qshared.specs.Due.{place};
 ghost use Rattle.qshared.specs.Private.Putting.{MayPut, Handed};
 
@@ -10,30 +12,32 @@ use qbase::ids::ThreadNo;
 use qhandoff::cells::Cells;
 use qhandoff::seats::KernelSeat;
 use qkernel::endings::Endings;
+use qkernel::kernel::Kernel;
 use qmodel::call::Completion;
 
-/// Where a thread stands among these.
-pub(crate) fn place_of(threads: &[ThreadNo], thread: ThreadNo) -> Option<usize>
-    ensures { result ≡ place threads.now thread }
+/// The number of a thread's cell.
+pub(crate) fn place_of(kernel: &Kernel, thread: ThreadNo) -> Option<usize>
+    ensures { result ≡ place (threads_of (members_of kernel.now.threads)) thread }
 {
-    threads.iter().position(|t| *t == thread)
+    let seat = kernel.seat(thread)?;
+    Some(seat.index())
 }
 
 /// Puts one ending into its thread's cell.
 fn hand_one(
     seat: &mut KernelSeat<Completion>,
     cells: &Cells<Completion>,
-    threads: &[ThreadNo],
+    kernel: &Kernel,
     ending: Completion,
 ) -> usize
     requires cells { kernel_id seat.old ≡ cells_id cells.now }
-    requires sized { length threads.now ≡ (cells_id cells.now).slots }
-    requires may { MayPut threads.now (desk seat.old) ending }
+    requires sized { length (threads_of (members_of kernel.now.threads)) ≡ (cells_id cells.now).slots }
+    requires may { MayPut (threads_of (members_of kernel.now.threads)) (desk seat.old) ending }
     ensures cells { kernel_id seat.new ≡ kernel_id seat.old }
     ensures place { result < (cells_id cells.entry.now).slots }
-    ensures handed { Handed threads.now (ending ∷ []) (desk seat.old) (desk seat.new) }
+    ensures handed { Handed (threads_of (members_of kernel.now.threads)) (ending ∷ []) (desk seat.old) (desk seat.new) }
 {
-    let Some(place) = place_of(threads, ending.thread) else {
+    let Some(place) = place_of(kernel, ending.thread) else {
         unreachable!()
     };
     seat.put(cells, place, ending);
@@ -62,19 +66,19 @@ fn bit_of(place: usize, is_own: bool) -> u64
 pub(crate) fn hand_out(
     seat: &mut KernelSeat<Completion>,
     cells: &Cells<Completion>,
-    threads: &[ThreadNo],
+    kernel: &Kernel,
     endings: &mut Endings,
     thread: ThreadNo,
     woken: &mut u64,
 ) -> bool
     requires few { (cells_id cells.now).slots ≤ 64 }
     requires cells { kernel_id seat.old ≡ cells_id cells.now }
-    requires sized { length threads.now ≡ (cells_id cells.now).slots }
+    requires sized { length (threads_of (members_of kernel.now.threads)) ≡ (cells_id cells.now).slots }
     requires apart { AreApart endings.old.items }
-    requires may { AllByRecursion (MayPut threads.now (desk seat.old)) endings.old.items }
+    requires may { AllByRecursion (MayPut (threads_of (members_of kernel.now.threads)) (desk seat.old)) endings.old.items }
     ensures cells { kernel_id seat.new ≡ kernel_id seat.old }
     ensures own { result ≡ gets endings.old.items thread }
-    ensures handed { Handed threads.now endings.old.items (desk seat.old) (desk seat.new) }
+    ensures handed { Handed (threads_of (members_of kernel.now.threads)) endings.old.items (desk seat.old) (desk seat.new) }
     ensures emptied { endings.new.items ≡ [] }
 {
     endings.as_mut_slice().reverse();
@@ -82,7 +86,7 @@ pub(crate) fn hand_out(
     while let Some(ending) = endings.pop() {
         let is_own = ending.thread == thread;
         own = is_for(own, &ending, thread);
-        let place = hand_one(seat, cells, threads, ending);
+        let place = hand_one(seat, cells, kernel, ending);
         *woken |= bit_of(place, is_own);
     }
     own

@@ -4,6 +4,7 @@ ghost use Rattle.std.specs.List.{AllByRecursion};
 ghost use Rattle.qtables.specs.Members.{IsRoster};
 ghost use Rattle.qmodel.specs.Private.Endings.{AreApart};
 ghost use Rattle.qrules.specs.Facts.{threads_of};
+ghost use Rattle.qstate.specs.Kept.{members_of};
 ghost use Rattle.qrules.specs.Trace.{followed_by};
 ghost use Rattle.qshared.specs.Private.Rooms.{MayCopy, Copied};
 
@@ -13,9 +14,10 @@ use crate::log::Log;
 use crate::room::Room;
 use crate::tie::Tie;
 use qbase::errno::Errno;
-use qbase::ids::ThreadNo;
 use qkernel::endings::Endings;
 use qkernel::event_log::EventLog;
+use qkernel::kernel::Kernel;
+use qkernel::seat::Seat;
 use qkernel::trace::Trace;
 use qmodel::call::{Call, Completion};
 use std::alloc::{AllocError, Global};
@@ -26,9 +28,7 @@ use std::mem;
 #[derive(Drop)]
 pub struct Kept<K: Tie> {
     alloc: Global,
-    // The threads in rising number.
-    threads: Vec<ThreadNo>,
-    // For each of them room for a copy of its open call's buffer.
+    // For each thread, in rising number, room for a copy of its open call's buffer.
     rooms: Vec<Room>,
     log: EventLog,
     limit: usize,
@@ -41,6 +41,7 @@ pub struct Kept<K: Tie> {
 
 impl<K: Tie> Model for Kept<K> {
     ghost use Rattle.std.specs.Prelude.{◌≡◌, []};
+    ghost use Rattle.qrules.specs.Facts.{threads_of};
     ghost use Rattle.qrules.specs.Trace.{followed_by};
     ghost use Rattle.qshared.specs.Rooms.{KeptPast};
     ghost use Rattle.qshared.specs.Private.Rooms.{IsKept};
@@ -49,7 +50,7 @@ impl<K: Tie> Model for Kept<K> {
 
     ghost view = { λ k. record { past = followed_by [] k.log.events; noted = k.noted; ready = k.ready } };
 
-    ghost invariant = { λ k. (k.limit ≡ K.names.limit) × IsKept K.names.roster k.limit k.threads.items k.rooms.items k.log k.noted k.room k.ready };
+    ghost invariant = { λ k. (k.limit ≡ K.names.limit) × IsKept K.names.roster k.limit (threads_of K.names.roster) k.rooms.items k.log k.noted k.room k.ready };
 }
 
 /// So many rooms, each for nothing.
@@ -66,18 +67,18 @@ fn no_rooms(alloc: Global, many: usize) -> Result<Vec<Room>, AllocError>
 /// Copies an ending into its thread's room, behind the others of its event.
 fn copy_one(
     alloc: Global,
-    threads: &[ThreadNo],
+    kernel: &Kernel,
     rooms: &mut Vec<Room>,
     log: &mut EventLog,
     ending: &Completion,
 )
-    requires sized { length rooms.old.items ≡ length threads.now }
-    requires may { MayCopy threads.now rooms.old.items ending.now }
+    requires sized { length rooms.old.items ≡ length (threads_of (members_of kernel.now.threads)) }
+    requires may { MayCopy (threads_of (members_of kernel.now.threads)) rooms.old.items ending.now }
     requires room { 0 < log.old.ending_room }
-    ensures copied { Copied threads.now (ending.now ∷ []) rooms.old.items rooms.new.items }
+    ensures copied { Copied (threads_of (members_of kernel.now.threads)) (ending.now ∷ []) rooms.old.items rooms.new.items }
     ensures logged { log.new ≡ record log.old { endings = log.old.endings ++ ending.now ∷ []; ending_room = log.old.ending_room - 1 } }
 {
-    let Some(place) = place_of(threads, ending.thread) else {
+    let Some(place) = place_of(kernel, ending.thread) else {
         unreachable!()
     };
     let room = mem::replace(&mut rooms[place], Room::none(alloc));
@@ -92,41 +93,36 @@ fn copy_one(
 /// Copies the endings of an event, each into its thread's room.
 fn copy_all(
     alloc: Global,
-    threads: &[ThreadNo],
+    kernel: &Kernel,
     rooms: &mut Vec<Room>,
     log: &mut EventLog,
     endings: &[Completion],
 )
-    requires sized { length rooms.old.items ≡ length threads.now }
+    requires sized { length rooms.old.items ≡ length (threads_of (members_of kernel.now.threads)) }
     requires apart { AreApart endings.now }
-    requires may { AllByRecursion (MayCopy threads.now rooms.old.items) endings.now }
+    requires may { AllByRecursion (MayCopy (threads_of (members_of kernel.now.threads)) rooms.old.items) endings.now }
     requires room { length endings.now ≤ log.old.ending_room }
-    ensures copied { Copied threads.now endings.now rooms.old.items rooms.new.items }
+    ensures copied { Copied (threads_of (members_of kernel.now.threads)) endings.now rooms.old.items rooms.new.items }
     ensures logged { log.new ≡ record log.old { endings = log.old.endings ++ endings.now; ending_room = log.old.ending_room - length endings.now } }
 {
     let mut i = 0;
     while i < endings.len() {
-        copy_one(alloc, threads, rooms, log, &endings[i]);
+        copy_one(alloc, kernel, rooms, log, &endings[i]);
         i += 1;
     }
 }
 
 impl<K: Tie> Kept<K> {
-    /// An empty past of the kernel of these threads, in rising number, for at most `limit` events.
-    pub(crate) fn new(
-        alloc: Global,
-        threads: Vec<ThreadNo>,
-        limit: usize,
-    ) -> Result<Kept<K>, AllocError>
-        requires roster { IsRoster K.names.roster × (threads.items ≡ threads_of K.names.roster) }
+    /// An empty past of the kernel of so many threads, for at most `limit` events.
+    pub(crate) fn new(alloc: Global, many: usize, limit: usize) -> Result<Kept<K>, AllocError>
+        requires roster { IsRoster K.names.roster × (many ≡ length (threads_of K.names.roster)) }
         requires limit { (2 ≤ limit) × (limit ≤ 2 ^ 20) × (limit ≡ K.names.limit) }
         ensures empty { IfOk result (λ kept. kept.past ≡ []) }
     {
-        let rooms = no_rooms(alloc, threads.len())?;
+        let rooms = no_rooms(alloc, many)?;
         let log = EventLog::with_room(alloc, 1, 64)?;
         Ok(Kept {
             alloc,
-            threads,
             rooms,
             log,
             limit,
@@ -176,21 +172,19 @@ impl<K: Tie> Log for Kept<K> {
         }
     }
 
-    fn event(&mut self, thread: ThreadNo, endings: &Endings) {
-        let Some(place) = place_of(&self.threads, thread) else {
-            unreachable!()
-        };
+    fn event(&mut self, kernel: &Kernel, seat: &Seat, endings: &Endings) {
+        let place = seat.index();
         self.ready = false;
         self.rooms[place] = mem::replace(&mut self.room, Room::none(self.alloc));
         let call = mem::replace(&mut self.noted, Call::Shutdown);
         copy_all(
             self.alloc,
-            &self.threads,
+            kernel,
             &mut self.rooms,
             &mut self.log,
             endings.as_slice(),
         );
-        self.log.note(thread, call);
+        self.log.note(seat.thread(), call);
         self.log.event();
     }
 }

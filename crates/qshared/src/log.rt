@@ -7,12 +7,15 @@ ghost use Rattle.qrules.specs.Facts.{is_blocked};
 ghost use Rattle.qrules.specs.Lawful.{facts_of, IsLawful};
 ghost use Rattle.qrules.specs.Outcome.{Answers};
 ghost use Rattle.qrules.specs.Trace.{Trace};
+ghost use Rattle.qstate.specs.Kept.{members_of};
+ghost use Rattle.qstate.specs.Threads.{IsSeatIn};
 ghost use Rattle.qshared.specs.Past.{is_down};
 ghost use Rattle.qshared.specs.Performing.{Admits, Refuses};
 
 use qbase::errno::Errno;
-use qbase::ids::ThreadNo;
 use qkernel::endings::Endings;
+use qkernel::kernel::Kernel;
+use qkernel::seat::Seat;
 use qmodel::call::Call;
 
 /// How the past of a locked kernel is kept. A call is noted before it is made, which may be refused; then it is
@@ -45,13 +48,16 @@ pub trait Log: Drop {
         ensures few { OnOk result (length (past self.old) < 2 ^ 40) }
         ensures refused { IfErr result (λ e. refuses (past self.old) call.now e) };
 
-    /// The call that was noted was made by a thread that wasn't blocked, and is an event with these endings.
-    fn event(&mut self, thread: ThreadNo, endings: &Endings)
+    /// The call that was noted was made by the thread at a seat of the kernel, which wasn't blocked, and is an event with
+    /// these endings.
+    fn event(&mut self, kernel: &Kernel, seat: &Seat, endings: &Endings)
+        requires roster { members_of kernel.now.threads ≡ roster self.old }
+        requires seat { IsSeatIn kernel.now.threads seat.now }
         requires ready { ready self.old ≡ true }
         requires up { is_down (past self.old) ≡ false }
         requires lawful { IsLawful (roster self.old) (past self.old) }
-        requires thread { (is_some (member_at (roster self.old) thread) ≡ true) × (is_blocked (facts_of (roster self.old) (past self.old)) thread ≡ false) }
-        requires answers { Answers (facts_of (roster self.old) (past self.old)) thread (noted self.old) endings.now.items }
-        ensures event { past self.new ≡ record { thread = thread; call = noted self.old; endings = endings.now.items } ∷ past self.old }
+        requires thread { (is_some (member_at (roster self.old) seat.now.thread) ≡ true) × (is_blocked (facts_of (roster self.old) (past self.old)) seat.now.thread ≡ false) }
+        requires answers { Answers (facts_of (roster self.old) (past self.old)) seat.now.thread (noted self.old) endings.now.items }
+        ensures event { past self.new ≡ record { thread = seat.now.thread; call = noted self.old; endings = endings.now.items } ∷ past self.old }
         ensures same { roster self.new ≡ roster self.old };
 }

@@ -171,7 +171,7 @@ impl<K: Tie, L: Log> Shared<K, L> {
         let halves = Vec::with_capacity(alloc, many)?;
         let (book, mut spare) = blank.open::<K>();
         let (ports, unparkers) = ports_for(alloc, &threads, seats, asked, &mut spare)?;
-        let traced = Traced::new(kernel, seat, threads, log);
+        let traced = Traced::new(kernel, seat, log);
         let lock = Mutex::new(Locked::new(traced, book, spare, room, calls, left, halves, heard));
         let shared = Shared {
             cells,
@@ -259,7 +259,7 @@ impl<K: Tie> Shared<K, Kept<K>> {
     {
         let alloc = parts.kernel.alloc();
         let _made = parts.kernel.made();
-        let log = Kept::new(alloc, parts.threads.clone()?, parts.limit)?;
+        let log = Kept::new(alloc, parts.threads.len(), parts.limit)?;
         Ok(Shared::with_log(parts, log)?)
     }
 

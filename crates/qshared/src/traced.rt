@@ -9,7 +9,7 @@ ghost use Rattle.qhandoff.specs.Steps.{seated_desk};
 ghost use Rattle.qhandoff.specs.Words.{cells_id, kernel_id, desk};
 ghost use Rattle.qshared.specs.Performing.{Performs};
 
-use crate::handing::{hand_out, place_of};
+use crate::handing::hand_out;
 use crate::log::Log;
 use crate::performed::Performed;
 use crate::tie::Tie;
@@ -29,8 +29,6 @@ use std::marker::{Model, PhantomData};
 pub struct Traced<K: Tie, L: Log> {
     pub(crate) kernel: Kernel,
     pub(crate) seat: KernelSeat<Completion>,
-    // The threads in rising number; the place of each is the number of its cell.
-    pub(crate) threads: Vec<ThreadNo>,
     // Lent to each step; empty between two.
     pub(crate) endings: Endings,
     // The bit of each other thread whose cell the last call filled.
@@ -41,6 +39,8 @@ pub struct Traced<K: Tie, L: Log> {
 
 impl<K: Tie, L: Log> Model for Traced<K, L> {
     ghost use Rattle.std.specs.Prelude.{◌≡◌};
+    ghost use Rattle.qrules.specs.Facts.{threads_of};
+    ghost use Rattle.qstate.specs.Kept.{members_of};
     ghost use Rattle.qhandoff.specs.Words.{kernel_id, desk};
     ghost use Rattle.qshared.specs.UnderLock.{UnderLock, IsUnderLock};
 
@@ -48,7 +48,7 @@ impl<K: Tie, L: Log> Model for Traced<K, L> {
 
     ghost view = { λ t. record { kernel = t.kernel; desk = desk t.seat; past = L.past t.log } };
 
-    ghost invariant = { λ t. (kernel_id t.seat ≡ K.names.cells) × (L.roster t.log ≡ K.names.roster) × IsUnderLock K.names.roster K.names.cells.slots t.kernel (desk t.seat) t.threads.items (L.past t.log) t.endings.items };
+    ghost invariant = { λ t. (kernel_id t.seat ≡ K.names.cells) × (L.roster t.log ≡ K.names.roster) × IsUnderLock K.names.roster K.names.cells.slots t.kernel (desk t.seat) (threads_of (members_of t.kernel.threads)) (L.past t.log) t.endings.items };
 }
 
 // What a call came to that is an event.
@@ -67,13 +67,12 @@ impl<K: Tie, L: Log> Traced<K, L> {
     pub(crate) fn new(
         kernel: Kernel,
         seat: KernelSeat<Completion>,
-        threads: Vec<ThreadNo>,
         log: L,
     ) -> Traced<K, L>
         requires log { (L.roster log ≡ K.names.roster) × (L.past log ≡ []) }
         requires seat { (kernel_id seat ≡ K.names.cells) × (desk seat ≡ seated_desk K.names.cells.slots K.names.cells.slots) }
         requires roster { (members_of kernel.threads ≡ K.names.roster) × StandsAt (members_of kernel.threads) kernel [] }
-        requires threads { (threads.items ≡ threads_of (members_of kernel.threads)) × (length threads.items ≡ K.names.cells.slots) }
+        requires sized { length (threads_of (members_of kernel.threads)) ≡ K.names.cells.slots }
         ensures { result.past ≡ [] }
     {
         let _made = kernel.made();
@@ -81,7 +80,6 @@ impl<K: Tie, L: Log> Traced<K, L> {
         Traced {
             kernel,
             seat,
-            threads,
             endings: ArrayVec::new_in(alloc),
             woken: 0,
             log,
@@ -107,12 +105,13 @@ impl<K: Tie, L: Log> Traced<K, L> {
         ensures { Performs K.names.roster L.refuses L.admits self.old thread call result self.new }
     {
         self.woken = 0;
-        let Some(place) = place_of(&self.threads, thread) else {
+        let Some(seat) = self.kernel.seat(thread) else {
             return Performed::Refused(Errno::NoThread, call);
         };
         if self.kernel.is_down() {
             return Performed::Refused(Errno::Down, call);
         }
+        let place = seat.index();
         if !self.seat.open(cells, place) {
             return Performed::Refused(Errno::Busy, call);
         }
@@ -121,12 +120,14 @@ impl<K: Tie, L: Log> Traced<K, L> {
             self.seat.cancel(cells, place);
             return Performed::Refused(errno, call);
         }
-        self.kernel.step(thread, call, &mut self.endings);
-        self.log.event(thread, &self.endings);
+        let Ok(()) = self.kernel.call_at(&seat, call, &mut self.endings) else {
+            unreachable!();
+        };
+        self.log.event(&self.kernel, &seat, &self.endings);
         let own = hand_out(
             &mut self.seat,
             cells,
-            &self.threads,
+            &self.kernel,
             &mut self.endings,
             thread,
             &mut self.woken,

@@ -7,9 +7,9 @@ ghost use Rattle.qshared.specs.Past.{is_down};
 use crate::log::Log;
 use crate::tie::Tie;
 use qbase::errno::Errno;
-use qbase::ids::ThreadNo;
 use qkernel::endings::Endings;
-use qkernel::kernel::CALL_LIMIT;
+use qkernel::kernel::{CALL_LIMIT, Kernel};
+use qkernel::seat::Seat;
 use qmodel::call::Call;
 use qpast::past::Past;
 use std::marker::PhantomData;
@@ -64,7 +64,8 @@ impl<K: Tie> Log for Unkept<K> {
         Ok(())
     }
 
-    fn event(&mut self, thread: ThreadNo, endings: &Endings) {
+    fn event(&mut self, _kernel: &Kernel, seat: &Seat, endings: &Endings) {
+        let thread = seat.thread();
         self.past = self.past.with(&thread, &self.call, endings);
         self.call = Snapshot::of(&Call::Shutdown);
     }

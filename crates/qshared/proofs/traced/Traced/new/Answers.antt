@@ -1,3 +1,4 @@
+use Rattle.std.proofs.Common.{refl}
 use Rattle.qshared.proofs.Beginning.{held_first}
 use Rattle.qshared.proofs.traced.Traced.new.Goals as goal
 
@@ -6,5 +7,5 @@ invariant_of-result g c = (
   c.requires.seat.0,
   c.requires.log.0,
   rw (c.requires.seat.1, c.requires.log.1, c.new_in.ensures)
-      (held_first _ _ _ _ c.made-made.ensures.sound c.requires.roster.0 c.requires.roster.1 c.requires.threads.0 c.requires.threads.1),
+      (held_first _ _ _ _ c.made-made.ensures.sound c.requires.roster.0 c.requires.roster.1 refl c.requires.sized),
 )

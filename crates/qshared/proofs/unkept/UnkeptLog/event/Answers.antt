@@ -14,9 +14,9 @@ invariant_of-self-clause-spare g c = λ up.
     elim (cases_Bool (effect_of s.call.value).shuts_down) [
       | inl shut ↦
           let is = is_shutdown s.call.value shut in
-          let answers = subst (λ k. Answers (facts_of g.K.Tie.names.roster s.past.trace) c.args.thread k c.args.endings.now.items) is c.requires.answers in
-          let down : is_down (with_event c.args.thread s.call.value c.args.endings.now.items s.past.trace) ≡ true =
-          subst (λ k. is_down (with_event c.args.thread k c.args.endings.now.items s.past.trace) ≡ true) (sym is) (shutdown_down g.K.Tie.names.roster s.past.trace c.args.thread c.args.endings.now.items c.requires.lawful c.requires.up c.requires.thread.1 answers) in
-          absurd (true≢false (sym down ∙ ap is_down (sym c.with-self.ensures) ∙ up))
-      | inr other ↦ let few = s.admitted other in rw (c.with-self.ensures) (omega (arith, few))
+          let answers = subst (λ k. Answers (facts_of g.K.Tie.names.roster s.past.trace) c.args.seat.now.thread k c.args.endings.now.items) is c.requires.answers in
+          let down : is_down (with_event c.args.seat.now.thread s.call.value c.args.endings.now.items s.past.trace) ≡ true =
+          subst (λ k. is_down (with_event c.args.seat.now.thread k c.args.endings.now.items s.past.trace) ≡ true) (sym is) (shutdown_down g.K.Tie.names.roster s.past.trace c.args.seat.now.thread c.args.endings.now.items c.requires.lawful c.requires.up c.requires.thread.1 answers) in
+          absurd (true≢false (sym down ∙ ap is_down (sym (rw c.thread.ensures at c.with-self.ensures)) ∙ up))
+      | inr other ↦ let few = s.admitted other in rw (rw c.thread.ensures at c.with-self.ensures) (omega (arith, few))
     ]
