@@ -64,11 +64,7 @@ fn ended_or_open(own: bool) -> Performed
 
 impl<K: Tie, L: Log> Traced<K, L> {
     /// A kernel that made no call, with an empty past.
-    pub(crate) fn new(
-        kernel: Kernel,
-        seat: KernelSeat<Completion>,
-        log: L,
-    ) -> Traced<K, L>
+    pub(crate) fn new(kernel: Kernel, seat: KernelSeat<Completion>, log: L) -> Traced<K, L>
         requires log { (L.roster log ≡ K.names.roster) × (L.past log ≡ []) }
         requires seat { (kernel_id seat ≡ K.names.cells) × (desk seat ≡ seated_desk K.names.cells.slots K.names.cells.slots) }
         requires roster { (members_of kernel.threads ≡ K.names.roster) × StandsAt (members_of kernel.threads) kernel [] }

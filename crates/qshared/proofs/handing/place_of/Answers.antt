@@ -1,4 +1,4 @@
-use Rattle.std.proofs.Common.{refl, sym, ◌∙◌}
+use Rattle.std.proofs.Common.{sym, ◌∙◌}
 use Rattle.qshared.proofs.Places.{seated, unseated}
 use Rattle.qshared.proofs.handing.place_of.Goals as goal
 

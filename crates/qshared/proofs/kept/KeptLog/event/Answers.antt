@@ -1,4 +1,4 @@
-use Rattle.std.proofs.Common.{◌≡◌, ◌≤◌, length, arith, false, refl, sym, ◌∙◌, ap, subst}
+use Rattle.std.proofs.Common.{◌≡◌, ◌≤◌, length, arith, false, refl, sym, ap, subst}
 use Rattle.std.specs.Prelude.{Some}
 use Rattle.qmodel.specs.Private.Endings.{AreApart}
 use Rattle.qrules.specs.Facts.{threads_of}

@@ -1,4 +1,4 @@
-use Rattle.std.proofs.Common.{◌≡◌, length, sym, ◌∙◌, ap, refl, inl, inr, arith}
+use Rattle.std.proofs.Common.{◌≡◌, length, sym, ◌∙◌, ap, refl, inl, inr, arith, subst}
 use Rattle.std.specs.Prelude.{Some, None}
 use Rattle.qmodel.specs.Private.Lawful.{with_event}
 use Rattle.qhandoff.specs.Words.{desk}
@@ -8,6 +8,7 @@ use Rattle.qstate.proofs.Seats.{seat_kept}
 use Rattle.qshared.specs.Due.{place}
 use Rattle.qshared.proofs.Places.{seated, unseated}
 use Rattle.qshared.proofs.Keeps.{not_known, is_known, is_shut, is_busy, free, same_desk, held_after, apart, may_put, performs}
+use Rattle.qkernel.specs.Stands.{AnswersAtTraces}
 use Rattle.qkernel.proofs.Traces.{stands_down, stands_made, stands_roster}
 use Rattle.qshared.proofs.traced.Traced.perform.Goals as goal
 
@@ -81,22 +82,28 @@ event-requires-clause-answers g c =
 
 pub hand_out-own-requires-clause-apart : goal.hand_out-own-requires-clause-apart
 hand_out-own-requires-clause-apart g c =
+    let event : AnswersAtTraces c.self.inside.kernel c.args.thread c.args.call c.call_at.new.endings.items c.call_at.new.self =
+    subst (λ u. AnswersAtTraces c.self.inside.kernel u c.args.call c.call_at.new.endings.items c.call_at.new.self) c.in-Some.ensures.thread c.in-Ok.ensures.event in
     let at : place (threads_of (members_of c.self.inside.kernel.threads)) c.args.thread ≡ Some c.index-place.result = seated _ c.args.thread c.index-place.result c.in-Some.seat c.in-Some.ensures.seat c.in-Some.ensures.thread c.index-place.ensures in
     let up = sym c.is_down.ensures ∙ c.if-is_down.false in
     let opened = c.if-not-open.ensures.desk in
     let wide : length (desk c.self.inside.seat).lines ≡ g.K.Tie.names.cells.slots = c.self.inside.seat.knows.1 ∙ ap (λ z. z.slots) c.self.invariant.0 in
-    apart _ _ _ _ _ _ _ c.self.invariant.2 c.args.thread c.index-place.result at up opened.1 wide c.in_default-note.ensures.few c.args.call c.call_at.new.endings.items c.call_at.new.self (rw c.in-Some.ensures.thread at c.in-Ok.ensures.event)
+    apart _ _ _ _ _ _ _ c.self.invariant.2 c.args.thread c.index-place.result at up opened.1 wide c.in_default-note.ensures.few c.args.call c.call_at.new.endings.items c.call_at.new.self event
 
 pub hand_out-own-requires-clause-may : goal.hand_out-own-requires-clause-may
 hand_out-own-requires-clause-may g c =
+    let event : AnswersAtTraces c.self.inside.kernel c.args.thread c.args.call c.call_at.new.endings.items c.call_at.new.self =
+    subst (λ u. AnswersAtTraces c.self.inside.kernel u c.args.call c.call_at.new.endings.items c.call_at.new.self) c.in-Some.ensures.thread c.in-Ok.ensures.event in
     let at : place (threads_of (members_of c.self.inside.kernel.threads)) c.args.thread ≡ Some c.index-place.result = seated _ c.args.thread c.index-place.result c.in-Some.seat c.in-Some.ensures.seat c.in-Some.ensures.thread c.index-place.ensures in
     let up = sym c.is_down.ensures ∙ c.if-is_down.false in
     let opened = c.if-not-open.ensures.desk in
     let wide : length (desk c.self.inside.seat).lines ≡ g.K.Tie.names.cells.slots = c.self.inside.seat.knows.1 ∙ ap (λ z. z.slots) c.self.invariant.0 in
-    rw (c.call_at.ensures.roster, opened.0) (may_put _ _ _ _ _ _ _ c.self.invariant.2 c.args.thread c.index-place.result at up opened.1 wide c.in_default-note.ensures.few c.args.call c.call_at.new.endings.items c.call_at.new.self (rw c.in-Some.ensures.thread at c.in-Ok.ensures.event))
+    rw (c.call_at.ensures.roster, opened.0) (may_put _ _ _ _ _ _ _ c.self.invariant.2 c.args.thread c.index-place.result at up opened.1 wide c.in_default-note.ensures.few c.args.call c.call_at.new.endings.items c.call_at.new.self event)
 
 pub invariant_of-self-2 : goal.invariant_of-self-2
 invariant_of-self-2 g c =
+    let event : AnswersAtTraces c.self.inside.kernel c.args.thread c.args.call c.call_at.new.endings.items c.call_at.new.self =
+    subst (λ u. AnswersAtTraces c.self.inside.kernel u c.args.call c.call_at.new.endings.items c.call_at.new.self) c.in-Some.ensures.thread c.in-Ok.ensures.event in
     let at : place (threads_of (members_of c.self.inside.kernel.threads)) c.args.thread ≡ Some c.index-place.result = seated _ c.args.thread c.index-place.result c.in-Some.seat c.in-Some.ensures.seat c.in-Some.ensures.thread c.index-place.ensures in
     let up = sym c.is_down.ensures ∙ c.if-is_down.false in
     let opened = c.if-not-open.ensures.desk in
@@ -105,17 +112,19 @@ invariant_of-self-2 g c =
     let past = rw c.in-Some.ensures.thread at c.event.ensures.event ∙ ap (λ k. with_event c.args.thread k c.call_at.new.endings.items (g.L.Log.past c.note.new.self)) c.in_default-note.ensures.noted.0 ∙ ap (λ p. with_event c.args.thread c.args.call c.call_at.new.endings.items p) c.note.ensures.same.0 in (
       c.hand_out-own.ensures.cells ∙ c.open.ensures.cells ∙ c.self.invariant.0,
       c.event.ensures.same ∙ c.note.ensures.same.1 ∙ c.self.invariant.1,
-      rw (c.hand_out-own.ensures.emptied, past, c.call_at.ensures.roster) (held_after _ _ _ _ _ _ _ c.self.invariant.2 c.args.thread c.index-place.result at up opened.1 wide c.in_default-note.ensures.few c.args.call c.call_at.new.endings.items c.call_at.new.self (rw c.in-Some.ensures.thread at c.in-Ok.ensures.event) (desk c.hand_out-own.new.seat) handed),
+      rw (c.hand_out-own.ensures.emptied, past, c.call_at.ensures.roster) (held_after _ _ _ _ _ _ _ c.self.invariant.2 c.args.thread c.index-place.result at up opened.1 wide c.in_default-note.ensures.few c.args.call c.call_at.new.endings.items c.call_at.new.self event (desk c.hand_out-own.new.seat) handed),
     )
 
 pub returns : goal.returns
 returns g c =
+    let event : AnswersAtTraces c.self.inside.kernel c.args.thread c.args.call c.call_at.new.endings.items c.call_at.new.self =
+    subst (λ u. AnswersAtTraces c.self.inside.kernel u c.args.call c.call_at.new.endings.items c.call_at.new.self) c.in-Some.ensures.thread c.in-Ok.ensures.event in
     let at : place (threads_of (members_of c.self.inside.kernel.threads)) c.args.thread ≡ Some c.index-place.result = seated _ c.args.thread c.index-place.result c.in-Some.seat c.in-Some.ensures.seat c.in-Some.ensures.thread c.index-place.ensures in
     let up = sym c.is_down.ensures ∙ c.if-is_down.false in
     let opened = c.if-not-open.ensures.desk in
     let wide : length (desk c.self.inside.seat).lines ≡ g.K.Tie.names.cells.slots = c.self.inside.seat.knows.1 ∙ ap (λ z. z.slots) c.self.invariant.0 in
     let past = rw c.in-Some.ensures.thread at c.event.ensures.event ∙ ap (λ k. with_event c.args.thread k c.call_at.new.endings.items (g.L.Log.past c.note.new.self)) c.in_default-note.ensures.noted.0 ∙ ap (λ p. with_event c.args.thread c.args.call c.call_at.new.endings.items p) c.note.ensures.same.0 in
-    rw (← c.self.view_is, c.ended_or_open.ensures, c.hand_out-own.ensures.own, past) (performs _ _ _ _ _ _ _ c.self.invariant.2 c.args.thread c.index-place.result at up opened.1 wide c.in_default-note.ensures.few c.args.call c.call_at.new.endings.items c.call_at.new.self (rw c.in-Some.ensures.thread at c.in-Ok.ensures.event) g.L.Log.refuses g.L.Log.admits _ c.in_default-note.ensures.admitted)
+    rw (← c.self.view_is, c.ended_or_open.ensures, c.hand_out-own.ensures.own, past) (performs _ _ _ _ _ _ _ c.self.invariant.2 c.args.thread c.index-place.result at up opened.1 wide c.in_default-note.ensures.few c.args.call c.call_at.new.endings.items c.call_at.new.self event g.L.Log.refuses g.L.Log.admits _ c.in_default-note.ensures.admitted)
 
 pub note-requires : goal.note-requires
 note-requires g c = record {

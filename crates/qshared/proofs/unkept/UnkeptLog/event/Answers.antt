@@ -17,6 +17,6 @@ invariant_of-self-clause-spare g c = λ up.
           let answers = subst (λ k. Answers (facts_of g.K.Tie.names.roster s.past.trace) c.args.seat.now.thread k c.args.endings.now.items) is c.requires.answers in
           let down : is_down (with_event c.args.seat.now.thread s.call.value c.args.endings.now.items s.past.trace) ≡ true =
           subst (λ k. is_down (with_event c.args.seat.now.thread k c.args.endings.now.items s.past.trace) ≡ true) (sym is) (shutdown_down g.K.Tie.names.roster s.past.trace c.args.seat.now.thread c.args.endings.now.items c.requires.lawful c.requires.up c.requires.thread.1 answers) in
-          absurd (true≢false (sym down ∙ ap is_down (sym (rw c.thread.ensures at c.with-self.ensures)) ∙ up))
-      | inr other ↦ let few = s.admitted other in rw (rw c.thread.ensures at c.with-self.ensures) (omega (arith, few))
+          absurd (true≢false (sym down ∙ ap is_down (sym (rw c.thread-thread.ensures at c.with-self.ensures)) ∙ up))
+      | inr other ↦ let few = s.admitted other in rw (rw c.thread-thread.ensures at c.with-self.ensures) (omega (arith, few))
     ]
