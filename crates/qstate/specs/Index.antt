@@ -11,8 +11,8 @@ abbrev pub is_receive : Wait → Bool
 is_receive (Answer coid message reply_buffer receipt) = false
 is_receive (ForItem chid kind buffer) = true
 
--- this call blocks the thread at a place: the numbers rise if it is later than all before, and a receive makes
--- that thread a receiver and the last one
+-- this call blocks the thread at a place: the numbers rise if it is later than all before, and a receive
+-- makes that thread a receiver and the last one
 pub record Notes (place : ℕ) (call : OpenCall) (old new : Index) : Type 0 where
   pub rising : new.rising ≡ (old.rising && nat_lt old.latest call.number)
   pub latest : new.latest ≡ call.number

@@ -1,6 +1,6 @@
 -- The seats of threads, and what is kept beside their records.
-use Rattle.std.specs.Prelude.{◌≡◌, ◌≢◌, ◌≤◌, ◌<◌, ℕ, zero, suc, true, List, [], ◌∷◌, length, nat_lt, Option, None}
-use Rattle.std.specs.Prelude.{Some, if◌then◌else◌}
+use Rattle.std.specs.Prelude.{◌≡◌, ◌≢◌, ◌≤◌, ◌<◌, ℕ, zero, suc, true, List, [], ◌∷◌, length, nat_lt}
+use Rattle.std.specs.Prelude.{Option, None, Some, if◌then◌else◌}
 use Rattle.std.specs.Option.{option_map}
 use Rattle.qbase.specs.ByteSet.{has}
 use Rattle.qqueue.specs.declared.item.Item.{Item}
@@ -38,16 +38,18 @@ number_at threads k = option_map (λ o. o.number) (open_at threads k)
 abbrev pub receive_at : List Thread → ℕ → Option ℕ
 receive_at threads k = option_map (λ r. r.number) (receive_in 0 (open_at threads k))
 
--- there are at most 64 threads, each that is blocked in a receive is a receiver, and while the numbers of calls
--- that block rise, no two open calls have the same, none is above the latest, and all receives but that of the
--- last receiver are below the newest
+-- there are at most 64 threads; each that is blocked in a receive is a receiver; and while the numbers of
+-- calls that block rise, no two open calls have the same, none is above the latest, and all receives but that
+-- of the last receiver are below the newest
 pub record IsIndexed (threads : List Thread) (index : Index) : Type 0 where
   pub few : length threads ≤ 64
   pub roster : IsRoster (members_of threads)
   pub receivers : (k n : ℕ) → receive_at threads k ≡ Some n → has index.receivers k ≡ true
   pub latest : index.rising ≡ true → (k n : ℕ) → number_at threads k ≡ Some n → n ≤ index.latest
-  pub apart : index.rising ≡ true → (j k n : ℕ) → number_at threads j ≡ Some n → number_at threads k ≡ Some n → j ≡ k
-  pub others : index.rising ≡ true → (k n : ℕ) → receive_at threads k ≡ Some n → k ≢ index.last → n < index.newest
+  pub apart : index.rising ≡ true → (j k n : ℕ) → number_at threads j ≡ Some n → number_at threads k ≡ Some n
+      → j ≡ k
+  pub others : index.rising ≡ true → (k n : ℕ) → receive_at threads k ≡ Some n → k ≢ index.last
+      → n < index.newest
 
 -- the newer of a receive of thread u, if there is one, and the newest behind it, each a number and a thread
 abbrev pub newer_of : ℕ → Option ℕ → Option (ℕ × ℕ) → Option (ℕ × ℕ)
@@ -58,7 +60,8 @@ newer_of u (Some m) (Some best) = if nat_lt m best.0 then Some best else Some (m
 -- the newest receive on channel h that may take the item: its number and its thread
 abbrev pub newest_of : ℕ → Item → List Thread → Option (ℕ × ℕ)
 newest_of h item [] = None
-newest_of h item (t ∷ threads) = newer_of t.member.thread (wait_on h item t.open_call) (newest_of h item threads)
+newest_of h item (t ∷ threads) =
+    newer_of t.member.thread (wait_on h item t.open_call) (newest_of h item threads)
 
 -- a receive's number and its thread's seat, as a number and a thread
 abbrev pub number_and_thread : Option (ℕ × Seat) → Option (ℕ × ℕ)
