@@ -2,13 +2,12 @@
 
 use crate::outcome::faults;
 use qdesign::reading::words::first_words;
-use qdesign::table::{CHECK, LINES, Row, TESTS, table};
+use qdesign::table::{CHECK, LINES, TESTS, table};
 use std::alloc::Global;
 use std::process::Abort;
 
 /// Asserts that the example of a row is read.
-fn expect_read(rt: &impl Abort, alloc: Global, row: &Row) {
-    let example = row.example;
+fn expect_read(rt: &impl Abort, alloc: Global, example: &str) {
     let text = format!(in alloc; "thread t p 10\n{example}\n").expect(rt, "room");
     let found = faults(alloc, text.as_str()).expect(rt, "room");
     assert_eq!(rt; found.as_str(), "");
@@ -17,10 +16,10 @@ fn expect_read(rt: &impl Abort, alloc: Global, row: &Row) {
 #[test]
 fn each_form_is_read(rt: HostRuntime) {
     for row in &LINES {
-        expect_read(&rt, rt.alloc(), row);
+        expect_read(&rt, rt.alloc(), row.example);
     }
     for row in &TESTS {
-        expect_read(&rt, rt.alloc(), row);
+        expect_read(&rt, rt.alloc(), row.example);
     }
     let check = CHECK.form;
     let text = format!(in rt.alloc(); "{check}\nthread t p 10\n").expect(&rt, "room");
