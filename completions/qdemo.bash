@@ -6,12 +6,13 @@ _qdemo() {
     [ "$COMP_CWORD" -gt 1 ] && command="${COMP_WORDS[1]}"
     COMPREPLY=()
     case "$command" in
-        "") options="script check play chart serve help -h --help -V --version" ;;
-        help) [ "$COMP_CWORD" -eq 2 ] && options="script check play chart serve" ;;
+        "") options="script check play chart explore serve help -h --help -V --version" ;;
+        help) [ "$COMP_CWORD" -eq 2 ] && options="script check play chart explore serve" ;;
         script) options="--explain --plain --strict -h --help" ;;
         check) options="--update --explain -h --help" ;;
         play) options="-h --help" ;;
         chart) options="-o --output --text --bytes --from --to -h --help" ;;
+        explore) options="--script --most --random --seed -h --help" ;;
         serve) options="--clients --servers --rounds --hold --time --json --quiet --record -h --help" ;;
     esac
     case "$command $before" in
@@ -19,6 +20,9 @@ _qdemo() {
             mapfile -t COMPREPLY < <(compgen -f -- "$word"); return ;;
         "chart --from") return ;;
         "chart --to") return ;;
+        "explore --most") return ;;
+        "explore --random") return ;;
+        "explore --seed") return ;;
         "serve --clients") return ;;
         "serve --servers") return ;;
         "serve --rounds") return ;;
@@ -34,6 +38,8 @@ _qdemo() {
         play)
             [ "${word#-}" = "$word" ] && mapfile -t COMPREPLY < <(compgen -f -- "$word") ;;
         chart)
+            [ "${word#-}" = "$word" ] && mapfile -t COMPREPLY < <(compgen -f -- "$word") ;;
+        explore)
             [ "${word#-}" = "$word" ] && mapfile -t COMPREPLY < <(compgen -f -- "$word") ;;
     esac
 }

@@ -8,7 +8,8 @@ use clap::Error;
 use clap::error::ErrorKind;
 use qtool::charts::run_chart;
 use qtool::check::run_check;
-use qtool::command::{Action, ChartRun, ScriptRun, action_of};
+use qtool::command::{Action, ChartRun, ExploreRun, ScriptRun, action_of};
+use qtool::designs::run_explore;
 use qtool::ending::{end_failed, end_unwritten, end_with};
 use qtool::play::run_play;
 use qtool::scripts::run_script;
@@ -36,6 +37,10 @@ fn main(rt: HostRuntime) -> ExitCode {
         Ok(Action::Chart(run)) => {
             let terminal = rt.stdout().is_terminal();
             run_chart(&rt, &ChartRun { terminal, ..run })
+        }
+        Ok(Action::Explore(run)) => {
+            let terminal = rt.stderr().is_terminal();
+            run_explore(&rt, &ExploreRun { terminal, ..run })
         }
         Ok(Action::Serve(run)) => run_serve(&rt, run, rt.stderr().is_terminal()),
         Err(error) => end_without_action(&rt, &error),

@@ -1,15 +1,18 @@
 //! Compares what scripts print with the traces that stand beside them.
 
+mod design;
 mod named;
 mod origin;
 mod places;
 mod tally;
 
 use crate::command::CheckRun;
+use crate::designs::is_design;
 use crate::ending::{end_failed, end_unwritten};
 use crate::example::{Outcome, outcome_of, printed};
 use crate::lines::without_returns;
 use crate::names::is_named;
+use design::check_design;
 use named::check_named;
 use origin::origin_of;
 use places::{Example, count_unread, examples};
@@ -84,6 +87,9 @@ fn check_one<R: Files + Print + Eprint + AllocGlobal>(
     };
     if is_named(example.script.as_str()) {
         return check_named(rt, example, script.as_slice(), tally);
+    }
+    if is_design(example.script.as_str()) {
+        return check_design(rt, run, example, script.as_slice(), tally);
     }
     match fs::read(rt, example.trace.as_str()) {
         Ok(trace) => compare(

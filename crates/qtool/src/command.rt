@@ -2,8 +2,8 @@
 
 use crate::texts::{
     ABOUT, CHART_ABOUT, CHART_EXAMPLE, CHART_LONG, CHECK_ABOUT, CHECK_EXAMPLE, CHECK_LONG, EXAMPLE,
-    PLAY_ABOUT, PLAY_EXAMPLE, PLAY_LONG, SCRIPT_ABOUT, SCRIPT_EXAMPLE, SCRIPT_LONG, SERVE_ABOUT,
-    SERVE_EXAMPLE, SERVE_LONG, VERSION,
+    EXPLORE_ABOUT, EXPLORE_EXAMPLE, EXPLORE_LONG, PLAY_ABOUT, PLAY_EXAMPLE, PLAY_LONG,
+    SCRIPT_ABOUT, SCRIPT_EXAMPLE, SCRIPT_LONG, SERVE_ABOUT, SERVE_EXAMPLE, SERVE_LONG, VERSION,
 };
 use clap::{Arg, ArgAction, ArgMatches, Command, Error, value_parser};
 use std::alloc::{AllocError, Global};
@@ -60,6 +60,23 @@ pub struct ChartRun {
     pub terminal: bool,
 }
 
+/// A design that is to be explored.
+#[derive(Drop)]
+pub struct ExploreRun {
+    /// Its file; `None` where it is on standard input.
+    pub file: Option<String>,
+    /// Whether the run that shows a fault is to be printed alone, as a script.
+    pub script: bool,
+    /// The most moments that are looked at, 1 at least.
+    pub most: u32,
+    /// How many interleavings are made by chance; `None` where all are to be looked at.
+    pub random: Option<u32>,
+    /// What chance begins with.
+    pub seed: u32,
+    /// Whether standard error is a terminal, on which progress is shown.
+    pub terminal: bool,
+}
+
 /// A server with its clients that is to be run.
 #[derive(Drop)]
 pub struct ServeRun {
@@ -92,6 +109,8 @@ pub enum Action {
     Play(PlayRun),
     /// To draw the run of a script.
     Chart(ChartRun),
+    /// To explore a design.
+    Explore(ExploreRun),
     /// To run a server with its clients.
     Serve(ServeRun),
 }
@@ -257,6 +276,42 @@ fn chart_command<'a>(alloc: Global) -> Result<Command<'a>, AllocError> {
         .arg(to)
 }
 
+fn explore_command<'a>(alloc: Global) -> Result<Command<'a>, AllocError> {
+    let file = Arg::new(alloc, "file")
+        .value_name("FILE")
+        .help("The design's file; none or - is standard input");
+    let script = Arg::new(alloc, "script")
+        .long("script")
+        .action(ArgAction::SetTrue)
+        .help("Print the run that shows a fault alone, as a script");
+    let most = Arg::new(alloc, "most")
+        .long("most")
+        .value_name("N")
+        .value_parser(value_parser!(u32).range(1..4294967295))
+        .default_value("1000000")
+        .help("Give up once more than N moments are known");
+    let random = Arg::new(alloc, "random")
+        .long("random")
+        .value_name("N")
+        .value_parser(value_parser!(u32).range(1..4294967295))
+        .help("Make N interleavings by chance, and not all");
+    let seed = Arg::new(alloc, "seed")
+        .long("seed")
+        .value_name("S")
+        .value_parser(value_parser!(u32).range(0..4294967295))
+        .default_value("1")
+        .help("What chance begins with; the same seed makes the same interleavings");
+    Command::new(alloc, "explore")
+        .about(EXPLORE_ABOUT)
+        .long_about(EXPLORE_LONG)
+        .after_help(EXPLORE_EXAMPLE)
+        .arg(file)?
+        .arg(script)?
+        .arg(most)?
+        .arg(random)?
+        .arg(seed)
+}
+
 fn command<'a>(alloc: Global) -> Result<Command<'a>, AllocError> {
     Command::new(alloc, "qdemo")
         .version(VERSION)
@@ -267,6 +322,7 @@ fn command<'a>(alloc: Global) -> Result<Command<'a>, AllocError> {
         .subcommand(check_command(alloc)?)?
         .subcommand(play_command(alloc)?)?
         .subcommand(chart_command(alloc)?)?
+        .subcommand(explore_command(alloc)?)?
         .subcommand(serve_command(alloc)?)
 }
 
@@ -302,6 +358,18 @@ fn chart_of(alloc: Global, matches: &ArgMatches<'_>) -> Result<ChartRun, AllocEr
         bytes: matches.get_flag("bytes"),
         from: matches.get_one("from").unwrap_or(1),
         to: matches.get_one("to"),
+        terminal: false,
+    })
+}
+
+/// Which design these words ask for.
+fn explore_of(alloc: Global, matches: &ArgMatches<'_>) -> Result<ExploreRun, AllocError> {
+    Ok(ExploreRun {
+        file: file_of(alloc, matches, "file")?,
+        script: matches.get_flag("script"),
+        most: matches.get_one("most").unwrap_or(1_000_000),
+        random: matches.get_one("random"),
+        seed: matches.get_one("seed").unwrap_or(1),
         terminal: false,
     })
 }
@@ -366,6 +434,9 @@ pub fn action_of(alloc: Global, words: &[String]) -> Result<Action, Error> {
     }
     if let Some(chart) = matches.subcommand_matches("chart") {
         return Ok(Action::Chart(chart_of(alloc, chart)?));
+    }
+    if let Some(explore) = matches.subcommand_matches("explore") {
+        return Ok(Action::Explore(explore_of(alloc, explore)?));
     }
     match matches.subcommand_matches("script") {
         Some(script) => Ok(Action::Script(script_of(alloc, script)?)),

@@ -18,8 +18,9 @@ A script goes in, and what its calls are answered comes out on standard output.
 
 Status: 0; 1 for a faulty script, a trace that differs, or a run that isn't as its
 script expects; 2 for a faulty command line; 3 where reading, writing or memory
-fails; 4 where a worker fails. Where nobody reads the output any more, as behind
-'| head -1', the program ends without a message, with status 141.";
+fails; 4 where a worker fails, or a search didn't look at all. Where nobody reads the
+output any more, as behind '| head -1', the program ends without a message, with
+status 141.";
 
 /// What `script` does, in a line.
 pub const SCRIPT_ABOUT: &str = "Runs a script and prints what its calls answer";
@@ -155,9 +156,10 @@ a line feed. The output has a line for each script, those of a folder in the ord
 of their names, and a last line that counts. Where one prints something else, the
 first line that differs comes after it, as it was found and as it was wanted, and
 the line of the script that it comes from. A file NAME.names is a script with
-names, which says itself what it expects, and has no trace.
+names, which says itself what it expects, and has no trace. A file NAME.design is a
+design, and NAME.verdict what 'qdemo explore' has to tell of it.
 
-With --update a trace that is missing or differs is written.";
+With --update a trace or a verdict that is missing or differs is written.";
 
 /// Below the help of `check`.
 pub const CHECK_EXAMPLE: &str = "Example:
@@ -246,6 +248,90 @@ pub const CHART_EXAMPLE: &str = "Example:
 Status: 0; 1 for a faulty script, or one of too many calls; 2 for a faulty command
 line, or a drawing that would be written over its script; 3 where reading, writing
 or memory fails; 141 where nobody reads the output.";
+
+/// What `explore` does, in a line.
+pub const EXPLORE_ABOUT: &str = "Makes every interleaving of a design, and tells what goes wrong";
+
+/// What `explore` does.
+pub const EXPLORE_LONG: &str = "Makes every interleaving of a design, and tells what goes wrong.
+
+A design is a small system of servers and clients. A line begins the section of a
+thread, and the lines up to the next section are its program:
+
+  thread NAME PROCESS PRIORITY [COPIES]
+
+With COPIES the section stands for NAME.1, NAME.2 and so on, each in a process of
+its own. A program has these lines:
+
+  CALL OPERANDS           a call of a script, with names for ids and threads
+  NAME = CALL OPERANDS    the same; NAME stands for what it gives: the channel, the
+                          connection, the message that it receives or that an
+                          unblock pulse is about, or nothing
+  expect PATTERN          the call above has to end so
+  if PATTERN              goes by how the call above ended
+  if not PATTERN
+  else
+  end
+  repeat N                N times, up to its end
+  loop                    without an end, up to its end
+  leave                   goes out of the innermost repeat or loop
+  stop                    the program ends
+  NAME = OTHER            NAME stands for what OTHER stands for
+  forget NAME             NAME stands for nothing
+  push ROW NAME           puts what NAME stands for behind a row
+  pop NAME ROW            takes the first one out of a row
+  remove ROW NAME         takes what NAME stands for out of a row
+  check inversion         on top: an inversion of priorities is a fault too
+
+A PATTERN has one or more of these with 'or' between them. '*' is any number, and
+numbers may be left out from the last one on:
+
+  ok
+  fail [srch|badf|inval|again|intr|busy|nomemory|down]
+  channel
+  connection
+  message [COPIED]
+  pulse [user [CODE [VALUE]]|unblock|disconnect [PROCESS]]
+  reply [STATUS [COPIED]]
+  error [CODE]
+  count [N]
+  state [ready [PRIORITY]|send|receive|reply [CHANNEL [PRIORITY]]]
+  info [NUMBERS]
+  bytes BYTES             the buffer begins so
+  has NAME                the name stands for something
+  is NAME NAME            both names stand for the same
+  in NAME ROW             the message is in the row
+  any                     it ended in any way
+
+Another thread's name is THREAD.NAME. A call that names what another thread hasn't
+made yet waits for it. Calls 'create' and 'attach' with which programs begin are made
+first, in the order of the text.
+
+From each moment on each thread that isn't blocked may make its next call, and all
+that can follow is looked at: this is more than a computer with few processors does.
+What is wrong is told with the fewest calls that lead to it:
+
+  blocked for ever               nobody goes on, and somebody is left who is no server
+                                 that receives in a loop
+  a call fails                   and no expect or if below it names fail
+  an expectation doesn't hold    with what came
+  a name stands for nothing      in a call
+  priorities are inverted        a client waits for a server that works below another
+                                 thread, which is ready
+
+docs/EXPLORE.md shows it by examples. 'qdemo help script' describes calls.";
+
+/// Below the help of `explore`.
+pub const EXPLORE_EXAMPLE: &str = "Example:
+  $ qdemo explore designs/two-servers-mended.design
+  designs/two-servers-mended.design: nothing found in all 2,218 interleavings: \
+    4 threads, 88 moments, 153 moves, none longer than 19 calls
+    ends with files and names in receive, reader and finder done
+
+Status: 0 if nothing is wrong in any interleaving; 1 where something is, or for a
+faulty design; 2 for a faulty command line; 3 where reading, writing or memory fails;
+4 where nothing is wrong so far, but not all was looked at: it gave up, or made some
+interleavings by chance; 141 where nobody reads the output.";
 
 /// What `serve` does, in a line.
 pub const SERVE_ABOUT: &str = "Runs a server and its clients on threads, and prints what they did";

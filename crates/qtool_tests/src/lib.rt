@@ -2,6 +2,8 @@
 #![tactic(auto)]
 
 #[cfg(test)]
+mod explores;
+#[cfg(test)]
 mod plays;
 #[cfg(test)]
 mod tests;

@@ -16,7 +16,7 @@ use std::io::{Read, Write};
 use std::process::Abort;
 
 /// What these words are answered behind the program's name.
-fn answer(rt: &impl Abort, alloc: Global, words: &[&str]) -> Result<Action, Error> {
+pub fn answer(rt: &impl Abort, alloc: Global, words: &[&str]) -> Result<Action, Error> {
     let mut all = Vec::new(alloc);
     let program = String::from_str(alloc, "qdemo").expect(rt, "a word");
     all.push(program).expect(rt, "room");

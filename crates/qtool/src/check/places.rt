@@ -2,6 +2,7 @@
 
 use super::CheckFault;
 use super::tally::Tally;
+use crate::designs::is_design;
 use crate::ending::{tell_failed, tell_unread};
 use crate::names::is_named;
 use std::alloc::{AllocError, Global};
@@ -17,7 +18,8 @@ pub struct Example {
 }
 
 /// The scripts of these files and folders, in order: those of a folder in the order of their names. What can't be read
-/// is told and counted. A script of the only folder is called by its name alone, any other by its path.
+/// is told and counted. A script of the only
+/// folder or of the current one is called by its name alone, any other by its path.
 pub fn examples<R: Files + Eprint + AllocGlobal + Clone + Drop>(
     rt: &R,
     paths: &[String],
@@ -66,7 +68,10 @@ fn push_folder<R: Files + Eprint + AllocGlobal + Clone + Drop>(
         Err(error) => return count_unread(rt, folder, error, tally),
     };
     if names.is_empty() {
-        tell_failed(rt, format_args!("{folder}: no file NAME.txt or NAME.names"));
+        tell_failed(
+            rt,
+            format_args!("{folder}: no file NAME.txt, NAME.names or NAME.design"),
+        );
         tally.unread = tally.unread.saturating_add(1);
     }
     for name in &names {
@@ -76,7 +81,7 @@ fn push_folder<R: Files + Eprint + AllocGlobal + Clone + Drop>(
     Ok(())
 }
 
-/// The names of the scripts in a folder: without `.txt`, and with `.names`.
+/// The names of the scripts in a folder: without `.txt`, and with `.names` or `.design`.
 fn names_read<R: Files + AllocGlobal + Clone + Drop>(
     rt: &R,
     folder: &str,
@@ -87,7 +92,7 @@ fn names_read<R: Files + AllocGlobal + Clone + Drop>(
         let file = entry.file_name();
         if let Some(name) = file.strip_suffix(".txt") {
             names.push(String::from_str(rt.alloc(), name)?)?;
-        } else if is_named(file) {
+        } else if is_named(file) || is_design(file) {
             names.push(String::from_str(rt.alloc(), file)?)?;
         }
     }
@@ -102,7 +107,7 @@ fn example_in(
     name: &str,
     is_only: bool,
 ) -> Result<Example, AllocError> {
-    let shown = if is_only {
+    let shown = if is_only || folder == "." {
         String::from_str(alloc, name)?
     } else {
         format!(in alloc; "{folder}/{name}")?
@@ -110,17 +115,27 @@ fn example_in(
     Ok(Example {
         name: shown,
         script: script_in(alloc, folder, name)?,
-        trace: format!(in alloc; "{folder}/{name}.trace")?,
+        trace: trace_of(alloc, script_in(alloc, folder, name)?.as_str())?,
     })
 }
 
 /// The file of a script of this name in a folder.
 fn script_in(alloc: Global, folder: &str, name: &str) -> Result<String, AllocError> {
-    if is_named(name) {
+    if is_named(name) || is_design(name) {
         format!(in alloc; "{folder}/{name}")
     } else {
         format!(in alloc; "{folder}/{name}.txt")
     }
+}
+
+/// The file that has what a script's or a design's file is to be compared with: NAME.trace of NAME.txt, and NAME.verdict
+/// of NAME.design.
+fn trace_of(alloc: Global, path: &str) -> Result<String, AllocError> {
+    if let Some(name) = path.strip_suffix(".design") {
+        return format!(in alloc; "{name}.verdict");
+    }
+    let name = path.strip_suffix(".txt").unwrap_or(path);
+    format!(in alloc; "{name}.trace")
 }
 
 /// The script of a file.
@@ -129,6 +144,6 @@ fn example_of(alloc: Global, path: &str) -> Result<Example, AllocError> {
     Ok(Example {
         name: String::from_str(alloc, name)?,
         script: String::from_str(alloc, path)?,
-        trace: format!(in alloc; "{name}.trace")?,
+        trace: trace_of(alloc, path)?,
     })
 }
