@@ -1,9 +1,11 @@
 -- What a look-up by number finds after each change of the entries.
-use Rattle.std.proofs.Common.{◌≡◌, ℕ, ◌<◌, true, false, cond, not, eqb, List, [], ◌∷◌, ◌++◌, refl, sym, ◌∙◌, arith}
+use Rattle.std.proofs.Common.{◌≡◌, ℕ, ◌<◌, true, false, cond, not, eqb, List, [], ◌∷◌, ◌++◌, refl, subst, sym, ◌∙◌, arith}
 use Rattle.std.specs.Prelude.{None, Some}
+use Rattle.std.specs.List.{AllByRecursion}
 use Rattle.std.specs.Option.{option_map}
 use Rattle.std.proofs.lemmas.Bool.{ne_eqb, eqb-true, eqb-false}
-use Rattle.qtables.specs.Entries.{entry_at, with_record, without_entry}
+use Rattle.std.proofs.lemmas.Option.{same_Some}
+use Rattle.qtables.specs.Entries.{entry_at, with_record, without_entry, IsRising}
 use Rattle.qtables.proofs.Fresh.{Below}
 use Rattle.qbase.proofs.Lists.{cond_same, eqb_either}
 
@@ -30,6 +32,22 @@ module _ {R : Type 0} where
         | false ↦ λ differs. refl
       ] refl
       )
+
+  -- a record that isn't there can't be changed
+  unchanged_below : (n : ℕ) (r : R) (es : List (ℕ × R)) → AllByRecursion (λ e. n < e.0) es → with_record es n r ≡ es
+  unchanged_below n r [] above = refl
+  unchanged_below n r (e ∷ es) above =
+      let high : n < e.0 = above.0 in
+      rw (ne_eqb e.0 n (λ same. omega arith), unchanged_below n r es above.1) refl
+
+  -- where the numbers rise, the record that is there already changes nothing
+  pub unchanged : (es : List (ℕ × R)) (n : ℕ) (r : R) → IsRising es → entry_at es n ≡ Some r → with_record es n r ≡ es
+  unchanged [] n r rises is = refl
+  unchanged (e ∷ es) n r rises is =
+      elim (eqb e.0 n) as (λ b. eqb e.0 n ≡ b → cond b (Some e.1) (entry_at es n) ≡ Some r → (e.0, cond b r e.1) ∷ with_record es n r ≡ e ∷ es) [
+        | true ↦ λ same own. rw (← same_Some e.1 r own, unchanged_below n e.1 es (subst (λ k. AllByRecursion (λ x. k < x.0) es) (eqb-true e.0 n same) rises.0)) refl
+        | false ↦ λ differs own. rw (unchanged es n r rises.1 own) refl
+      ] refl is
 
   -- a removal changes just its own number
   pub entry_at-without_entry : (es : List (ℕ × R)) (n id : ℕ) → entry_at (without_entry es n) id ≡ cond (eqb n id) None (entry_at es id)

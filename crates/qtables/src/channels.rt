@@ -1,6 +1,6 @@
 //! The open channels.
 
-ghost use Rattle.std.specs.Prelude.{◌≡◌, ◌<◌, ◌≤◌, ◌==◌, nat_lt, ◌+◌, [], ◌∷◌, ◌++◌, length, option_copied, if◌then◌else◌, IfErr, OnOk, OnErr, OnSome};
+ghost use Rattle.std.specs.Prelude.{◌≡◌, ◌<◌, ◌≤◌, ◌==◌, nat_lt, ◌+◌, [], ◌∷◌, ◌++◌, length, option_copied, if◌then◌else◌, IfErr, IfSome, OnOk, OnErr, OnSome};
 ghost use Rattle.std.specs.List.{AllByRecursion};
 ghost use Rattle.std.specs.Option.{option_copied_mut};
 ghost use Rattle.std.specs.Borrow.{sem};
@@ -35,7 +35,7 @@ impl<Record> Model for Channels<Record> {
 }
 
 impl<Record: Drop> Channels<Record> {
-    ghost use Rattle.qtables.specs.Entries.{entry_at, without_entry, IsRising};
+    ghost use Rattle.qtables.specs.Entries.{entry_at, with_record, without_entry, IsRising};
     ghost use Rattle.qtables.specs.Lending.{lends_channel};
 
     /// No channels, and no memory.
@@ -71,6 +71,9 @@ impl<Record: Drop> Channels<Record> {
     pub fn get_mut(&mut self, id: ChannelId) -> Option<&mut Record>
         ensures* writes_back { sem 𝓛 (lends_channel Record.row self.entry id result) }
         ensures value { option_copied_mut result ≡ entry_at self.old id }
+
+        // If nothing is written, nothing changes.
+        ensures unwritten { IfSome result (λ channel. with_record self.old id channel.now ≡ self.old) }
     {
         self.entries.get_mut(id.0)
     }

@@ -4,7 +4,7 @@ ghost use Rattle.std.specs.Prelude.{◌≡◌, ◌<◌, ◌≤◌, nat_lt, ◌+�
 ghost use Rattle.std.specs.List.{AllByRecursion};
 ghost use Rattle.std.specs.Option.{option_copied_mut, option_map};
 ghost use Rattle.std.specs.Borrow.{sem};
-ghost use Rattle.qtables.specs.Entries.{entry_at, without_entry, IsRising};
+ghost use Rattle.qtables.specs.Entries.{entry_at, with_record, without_entry, IsRising};
 
 use qbase::errno::Errno;
 use slab::Slab;
@@ -104,6 +104,7 @@ impl<Record: Drop> Entries<Record> {
     pub fn get_mut(&mut self, number: u64) -> Option<&mut Record>
         ensures* writes_back { sem 𝓛 (lends_entry Record.row self.entry number result) }
         ensures value { option_copied_mut result ≡ entry_at self.old number }
+        ensures unwritten { IfSome result (λ there. with_record self.old number there.now ≡ self.old) }
     {
         let key = key_of(&self.index, number)?;
         Some(&mut self.slots[key].1)
