@@ -1,17 +1,17 @@
--- Which numbers a set of numbers has.
+-- The numbers in a set of numbers.
 use Rattle.std.specs.Prelude.{◌≡◌, ℕ, ◌/◌, ◌%◌, ◌<◌, ◌==◌, Bool, true, false, slice_index}
 use Rattle.std.specs.Int.{bit_at}
 use Rattle.qbase.specs.declared.byte_set.ByteSet.{ByteSet}
 
--- the number's bit is set: of 64 numbers in each word, the first ones in the first word; from 256 on there is
--- no word
+-- true if the number is in the set, that is, if its bit is set: word 0 has the bits of 0 to 63, word 1 of 64
+-- to 127, and so on; false for all numbers from 256 on
 abbrev pub has : ByteSet → ℕ → Bool
 has set number = bit_at (slice_index set.words (number / 64)) (number % 64) == 1
 
--- the number is there, and none above it
+-- the number is in the set, and no greater number is
 abbrev pub IsGreatest : ByteSet → ℕ → Type 0
 IsGreatest set number = (has set number ≡ true) × ((above : ℕ) → number < above → has set above ≡ false)
 
--- no number is there
+-- the set is empty
 abbrev pub HasNone : ByteSet → Type 0
 HasNone set = (number : ℕ) → has set number ≡ false

@@ -1,10 +1,10 @@
--- The words of the errors.
+-- The names of the errors.
 use Rattle.std.specs.Prelude.{ℕ, List, codes}
 use Rattle.qbase.specs.declared.errno.Errno.{Errno}
 use Rattle.qbase.specs.declared.errno.Errno.TheVariants.{Srch, Badf, Inval, Again, Intr, Busy, NoMemory, Down}
 use Rattle.qbase.specs.declared.errno.Errno.TheVariants.{Exhausted, TraceFull, NoThread}
 
--- the error's name in small letters
+-- the error's name in lower case
 abbrev pub word_of : Errno → List ℕ
 word_of Srch = codes "srch"
 word_of Badf = codes "badf"

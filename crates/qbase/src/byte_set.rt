@@ -1,16 +1,16 @@
-//! Sets of numbers of one byte.
+//! Sets of `u8` numbers.
 
 ghost use Rattle.std.specs.Prelude.{◌≡◌, ◌<◌, ℕ};
 ghost use Rattle.std.specs.Int.{bit_at};
 
-/// A set of numbers, 0 to 255, a bit for each. Contracts see it by `has`, which says of each number whether
-/// it is there.
+/// A set of numbers from 0 to 255, kept as one bit per number. Contracts read it with `has`, which is true of the
+/// numbers in the set.
 #[derive(Clone, Copy, Debug)]
 pub struct ByteSet {
     words: [u64; 4],
 }
 
-/// The number of the greatest bit that is set in a word.
+/// Returns the index of the highest set bit of a word that isn't 0.
 fn greatest_bit(word: u64) -> u8
     requires { 0 < word }
     ensures within { result < 64 }
@@ -24,14 +24,14 @@ impl ByteSet {
     ghost use Rattle.std.specs.Prelude.{◌≢◌, ◌↔◌, true, false, IfSome, IfNone, IsTrue};
     ghost use Rattle.qbase.specs.ByteSet.{has, IsGreatest, HasNone};
 
-    /// The empty set.
+    /// Makes an empty set.
     pub fn new() -> ByteSet
         ensures none { HasNone result }
     {
         ByteSet { words: [0; 4] }
     }
 
-    /// Puts a number in; one that is there stays.
+    /// Adds a number; nothing changes if it is in the set already.
     pub fn insert(&mut self, number: u8)
         ensures inserted { has self.new number ≡ true }
         ensures others { (other : ℕ) → other ≢ number → has self.new other ≡ has self.old other }
@@ -39,7 +39,7 @@ impl ByteSet {
         self.words[number as usize / 64] |= 1 << (number % 64);
     }
 
-    /// Takes a number out, if it is there.
+    /// Removes a number; nothing changes if it isn't in the set.
     pub fn remove(&mut self, number: u8)
         ensures removed { has self.new number ≡ false }
         ensures others { (other : ℕ) → other ≢ number → has self.new other ≡ has self.old other }
@@ -47,14 +47,14 @@ impl ByteSet {
         self.words[number as usize / 64] &= !(1 << (number % 64));
     }
 
-    /// Whether a number is there.
+    /// Returns whether a number is in the set.
     pub fn contains(&self, number: u8) -> bool
         ensures { result ≡ has self.now number }
     {
         self.words[number as usize / 64] >> (number % 64) & 1 == 1
     }
 
-    /// The greatest number that is there, found without a look at each.
+    /// Returns the greatest number in the set, or `None` if the set is empty. Looks at four words, not at each number.
     pub fn greatest(&self) -> Option<u8>
         ensures some { IfSome result (λ number. IsGreatest self.now number) }
         ensures none { IfNone result (HasNone self.now) }
@@ -68,7 +68,7 @@ impl ByteSet {
         None
     }
 
-    /// Whether no number is there.
+    /// Returns whether the set is empty.
     pub fn is_empty(&self) -> bool
         ensures { IsTrue result ↔ HasNone self.now }
     {

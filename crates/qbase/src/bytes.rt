@@ -7,8 +7,8 @@ use crate::laying::{lay, take};
 use std::alloc::{AllocError, Global};
 use std::marker::Model;
 
-/// A message, a buffer or the data of a reply. Contracts see the list of the bytes, and not where they
-/// lie or how much room there is.
+/// A message, a buffer or the data of a reply. Contracts see the list of the bytes, but neither their address nor the
+/// capacity.
 #[derive(Debug, Drop)]
 pub struct Bytes {
     items: Vec<u8>,
@@ -29,7 +29,7 @@ impl From<Vec<u8>> for Bytes {
 }
 
 impl Bytes {
-    /// No bytes, and no memory.
+    /// Makes an empty `Bytes`; takes no memory.
     pub fn new(alloc: Global) -> Bytes
         ensures { result ≡ [] }
     {
@@ -38,8 +38,8 @@ impl Bytes {
         }
     }
 
-    /// A copy of these bytes.
-    /// `first_message.rt` of `crates/balsaeuchre_uses` makes messages and buffers so.
+    /// Makes a `Bytes` with a copy of `bytes`; error if the allocator refuses.
+    /// `first_message.rt` of `crates/balsaeuchre_uses` makes its messages and buffers with it.
     pub fn copied(alloc: Global, bytes: &[u8]) -> Result<Bytes, AllocError>
         ensures { IfOk result (λ copy. copy ≡ bytes.now) }
     {
@@ -48,7 +48,7 @@ impl Bytes {
         })
     }
 
-    /// As many of one byte, as for a buffer of zeros.
+    /// Makes a `Bytes` with `len` copies of one byte, such as a buffer of zeros; error if the allocator refuses.
     pub fn filled(alloc: Global, byte: u8, len: usize) -> Result<Bytes, AllocError>
         ensures { IfOk result (λ bytes. bytes ≡ replicate len byte) }
     {
@@ -57,7 +57,7 @@ impl Bytes {
         })
     }
 
-    /// The bytes as a `Vec`; takes no memory.
+    /// Returns the bytes as a `Vec`; takes no memory.
     pub fn into_vec(self) -> Vec<u8>
         ensures { result.items ≡ self }
     {
@@ -65,28 +65,29 @@ impl Bytes {
         items
     }
 
-    /// The bytes.
+    /// Returns the bytes.
     pub fn as_slice(&self) -> &[u8]
         ensures { result.now ≡ self.now }
     {
         self.items.as_slice()
     }
 
-    /// How many bytes.
+    /// Returns the number of bytes.
     pub fn len(&self) -> usize
         ensures { result ≡ length self.now }
     {
         self.items.len()
     }
 
-    /// Whether there are none.
+    /// Returns whether there are no bytes.
     pub fn is_empty(&self) -> bool
         ensures { result ≡ (length self.now == 0) }
     {
         self.items.is_empty()
     }
 
-    /// Copies other bytes over these from the place `at`, cut at the end, and answers how many.
+    /// Copies `bytes` over these bytes from index `at` on, and returns how many it copied: as many as fit before the
+    /// end, and 0 if `at` is at or past the end. The length stays as it is.
     pub fn lay(&mut self, at: usize, bytes: &[u8]) -> usize
         ensures after { self.new ≡ lay_over self.old at bytes.now }
         ensures count { result ≡ laid_count self.old at bytes.now }
@@ -94,8 +95,8 @@ impl Bytes {
         lay(&mut self.items, at, bytes)
     }
 
-    /// Copies `source` from the place `at` on to the front of these bytes, cut at the end, and answers how
-    /// many.
+    /// Copies `source` from index `at` on over the front of these bytes, and returns how many it copied: as many as fit
+    /// before the end, and 0 if `at` is at or past the end of `source`. The length stays as it is.
     pub fn take(&mut self, source: &[u8], at: usize) -> usize
         ensures after { self.new ≡ lay_over self.old 0 (drop at source.now) }
         ensures count { result ≡ laid_count self.old 0 (drop at source.now) }

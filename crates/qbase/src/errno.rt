@@ -1,25 +1,26 @@
-//! Why a call is refused, or ended by force.
+//! The errors of calls that are refused, or ended by force.
 
 ghost use Rattle.std.specs.Prelude.{◌≡◌};
 ghost use Rattle.qbase.specs.Errno.{word_of};
 
 use std::alloc::{AllocError, AllocFailed};
 
-/// The errors. The first six carry the letters of their POSIX names; which error answers which case is
-/// the kernel's own profile.
+/// An error of a call. The first six have the names of POSIX errors without the `E`. The kernel's own profile sets
+/// which error is returned in which case.
 #[derive(Clone, Copy, Debug, PartialEq, Eq)]
 pub enum Errno {
-    /// No such thread, channel or held message; a call ended by a destroyed channel or a shutdown.
+    /// There is no such thread, channel or held message, or the call was ended because its channel was destroyed or the
+    /// kernel shut down.
     Srch,
-    /// No such connection, or its channel is gone.
+    /// There is no such connection, or its channel was destroyed.
     Badf,
-    /// An argument outside its range.
+    /// An argument is out of range.
     Inval,
     /// A limit is reached.
     Again,
-    /// Unblocked.
+    /// The thread was unblocked.
     Intr,
-    /// The thread is blocked, and makes no call.
+    /// The thread is blocked, so it can't make a call.
     Busy,
     /// The allocator refused.
     NoMemory,
@@ -53,7 +54,7 @@ impl<T: Drop> From<AllocFailed<T>> for Errno {
     }
 }
 
-/// The case's name in small letters, as a trace prints it.
+/// Returns the name of the error in lower case, as a trace prints it.
 pub fn word(errno: Errno) -> &'static str
     ensures { result.now ≡ word_of errno }
 {

@@ -4,7 +4,7 @@ ghost use Rattle.std.specs.Prelude.{⊤, ◌≡◌, [], ◌∷◌, codes, nat_lt
 
 use bitflags::{Flag, Flags, bitflag_items};
 
-/// What a server asks of its channel as it creates it. The bits are the kernel's own, none of QNX's.
+/// The flags that a server passes to ChannelCreate. The bits are the kernel's own, not QNX's.
 #[derive(Clone, Copy, Debug, PartialEq, Eq)]
 pub struct ChannelFlags(u8);
 
@@ -39,37 +39,39 @@ impl Flags for ChannelFlags {
 }
 
 impl ChannelFlags {
-    /// The flags of these bits, known or not.
-    /// A channel with none has `ChannelFlags::of(0)`.
+    /// Makes flags of these bits; any bits are allowed.
+    /// `ChannelFlags::of(0)` has no flag.
     pub fn of(bits: u8) -> ChannelFlags
         ensures { result.0 ≡ bits }
     {
         Self(bits)
     }
 
-    /// Whether no bit is set but those of the three flags.
+    /// Returns whether no other bits are set than those of the three flags.
     pub fn is_known(self) -> bool
         ensures { result ≡ nat_lt self.0 8 }
     {
         self.0 < 8
     }
 
-    /// Whether a receipt on the channel leaves the receiver's priority as it is.
+    /// Returns whether `FIXED_PRIORITY` is set: then the priority of a thread doesn't change when it receives from the
+    /// channel.
     pub fn fixes_priority(self) -> bool
         ensures { result ≡ (bit_and self.0 1 == 1) }
     {
         self.contains(ChannelFlags::FIXED_PRIORITY)
     }
 
-    /// Whether a server is told, by a pulse, of a client that wants to be unblocked while its message is
-    /// held.
+    /// Returns whether `UNBLOCK` is set: then the server gets a pulse if a client is to be unblocked while the server
+    /// holds its message.
     pub fn tells_unblock(self) -> bool
         ensures { result ≡ (bit_and self.0 2 == 2) }
     {
         self.contains(ChannelFlags::UNBLOCK)
     }
 
-    /// Whether a server is told, by a pulse, of a process that has detached its last connection.
+    /// Returns whether `DISCONNECT` is set: then the server gets a pulse when a process detaches its last connection to
+    /// the channel.
     pub fn tells_disconnect(self) -> bool
         ensures { result ≡ (bit_and self.0 4 == 4) }
     {

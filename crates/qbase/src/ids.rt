@@ -1,12 +1,12 @@
-//! The numbers by which a call names a thread, a process, a channel, a connection or a message.
-//! Contracts see each of them as that number.
+//! The numbers that stand for a thread, a process, a channel, a connection or a message in a call. Contracts see each
+//! of them as a plain number.
 
 ghost use Rattle.std.specs.Prelude.{ℕ};
 
 use std::marker::Model;
 
-/// The number of a thread, 0 to 255; a roster has at most 64 of them. `first_message.rt` of `crates/balsaeuchre_uses`
-/// names two.
+/// The number of a thread, 0 to 255; a roster has at most 64 threads. `first_message.rt` of `crates/balsaeuchre_uses`
+/// uses two.
 #[derive(Clone, Copy, Debug, PartialEq, Eq)]
 pub struct ThreadNo(pub u8);
 
@@ -31,8 +31,8 @@ impl Model for ProcessNo {
     ghost inverse = { λ n. record { 0 = n } };
 }
 
-/// A channel's id: the number of the call that created it. It is never given again (own profile).
-/// A `ChannelCreate` ends with it in its mark.
+/// A channel's id: the number of the call that created it. It is never used again for another channel (own profile).
+/// The mark of a `ChannelCreate` carries it.
 #[derive(Clone, Copy, Debug, PartialEq, Eq)]
 pub struct ChannelId(pub u64);
 
@@ -44,8 +44,8 @@ impl Model for ChannelId {
     ghost inverse = { λ n. record { 0 = n } };
 }
 
-/// A connection's id: the number of the call that attached it. It is never given again (own profile).
-/// A `ConnectAttach` ends with it in its mark.
+/// A connection's id: the number of the call that attached it. It is never used again for another connection (own
+/// profile). The mark of a `ConnectAttach` carries it.
 #[derive(Clone, Copy, Debug, PartialEq, Eq)]
 pub struct ConnectionId(pub u64);
 
@@ -57,8 +57,8 @@ impl Model for ConnectionId {
     ghost inverse = { λ n. record { 0 = n } };
 }
 
-/// The receive id of a message: the number of the call that sent it (own profile; `MsgReceive`'s rcvid).
-/// A receipt ends with it in its mark.
+/// The receive id of a message: the number of the call that sent it (own profile; `MsgReceive`'s rcvid). The mark of a
+/// `Receive` that got a message carries it.
 #[derive(Clone, Copy, Debug, PartialEq, Eq)]
 pub struct ReceiveId(pub u64);
 

@@ -1,4 +1,4 @@
-//! What all of the kernel's crates speak of: numbers, errors, states, flags, bytes and their copying.
+//! The types that all crates of the kernel share: ids, errors, thread states, channel flags, priorities and bytes.
 #![tactic(auto)]
 
 pub mod byte_set;

@@ -5,8 +5,7 @@ ghost use Rattle.qbase.specs.Priority.{priority_of};
 
 use std::marker::Model;
 
-/// A priority from 1 to 255, the greater the more urgent; 0 is the idle thread's and is none here.
-/// Contracts see its number.
+/// A priority from 1 to 255; a greater one is more urgent. The idle thread's 0 isn't allowed. Contracts see the number.
 #[derive(Clone, Copy, Debug, PartialEq, Eq)]
 pub struct Priority {
     level: u8,
@@ -23,7 +22,7 @@ impl Model for Priority {
 }
 
 impl Priority {
-    /// The priority of a number; `None` for 0 alone.
+    /// Makes a priority of a number; `None` if it is 0.
     /// `carried.rt` of `crates/balsaeuchre_uses` makes three.
     pub fn new(level: u8) -> Option<Priority>
         ensures { result ≡ priority_of level }
@@ -35,14 +34,14 @@ impl Priority {
         }
     }
 
-    /// The priority of number 1.
+    /// Returns the lowest priority, 1.
     pub fn lowest() -> Priority
         ensures { result ≡ 1 }
     {
         Priority { level: 1 }
     }
 
-    /// Its number.
+    /// Returns the number, 1 to 255.
     pub fn get(self) -> u8
         ensures value { result ≡ self }
         ensures low { 1 ≤ result }

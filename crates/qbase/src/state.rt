@@ -1,17 +1,16 @@
-//! What a thread does.
+//! The states of a thread.
 
 use crate::ids::ChannelId;
 
-/// A thread's state, in the words of the QNX Neutrino System Architecture, with the channel on which it
-/// is blocked.
+/// A thread's state, named as in the QNX Neutrino System Architecture, with the channel on which it is blocked.
 #[derive(Clone, Copy, Debug, PartialEq, Eq)]
 pub enum ThreadState {
-    /// It isn't blocked in the kernel.
+    /// The thread isn't blocked in the kernel.
     Ready,
-    /// It sent a message that no server has received.
+    /// The thread sent a message that no server has received.
     SendBlocked(ChannelId),
-    /// It waits for a message or a pulse.
+    /// The thread waits for a message or a pulse.
     ReceiveBlocked(ChannelId),
-    /// Its message was received and isn't answered.
+    /// The thread's message was received and isn't answered.
     ReplyBlocked(ChannelId),
 }

@@ -1,4 +1,4 @@
--- What the rule comes to.
+-- A law that follows from the rule.
 use Rattle.std.specs.Prelude.{◌≡◌, ℕ, ◌<◌, ◌≤◌, List, ◌++◌, length, Option}
 use mathlib.Core.Option.{some}
 use lib.ListN.{get_elem?}
@@ -9,8 +9,8 @@ use Rattle.qhandoff.specs.declared.view.View.{View}
 use Rattle.qhandoff.specs.declared.view.View.TheVariants.{Kernel, Thread}
 use Rattle.qhandoff.specs.Rule.{line, KeepsRule}
 
--- between any two steps, what the seat of a thread took is a beginning of what the kernel's seat put for it,
--- at most one shorter
+-- between any two steps, the list that the seat of a thread took is a prefix of the list that the kernel's
+-- seat put for it, shorter by at most one
 abbrev pub TakenIsABeginning : Type 0 → Type 0
 TakenIsABeginning T = (n : ℕ) (s : State (Option T) (View T)) (d : Desk T) (h : Hand T) (i j : ℕ)
     → KeepsRule n s → get_elem? s.views i ≡ some (Kernel d) → get_elem? s.views j ≡ some (Thread h)

@@ -12,33 +12,32 @@ use Rattle.qhandoff.specs.declared.view.Hand.{Hand}
 use Rattle.qhandoff.specs.declared.view.View.{View}
 use Rattle.qhandoff.specs.declared.view.View.TheVariants.{Kernel, Thread, Joined}
 
--- what a cell's slot is: at home with what it has, or held by a seat
+-- a cell's slot: at home, with the value in it, or held by a seat
 abbrev pub Slot : Type 0 → Type 0
 Slot T = maybe.Option (maybe.Option (Option T))
 
--- which of the table's words is that of the cell t: one in eight, so that each has a cache line of its own;
--- the words between aren't used
+-- the index of the word of cell t: every eighth word is used, so that each has a cache line of its own
 abbrev pub word_of : ℕ → ℕ
 word_of t = t * 8
 
--- the cell that such a word is of
+-- the cell of a word
 abbrev pub cell_of : ℕ → ℕ
 cell_of w = w / 8
 
 module _ {T : Type 0} where
-  -- nothing was opened or put
+  -- the line of a thread for which nothing was opened or put
   abbrev pub idle_line : Line T
   idle_line = record { opened = false; putting = false; put = []; taken = None }
 
-  -- nothing was taken
+  -- the hand of a thread that took nothing
   abbrev pub new_hand : ℕ → Hand T
   new_hand t = record { thread = t; taken = []; taking = None }
 
-  -- what the kernel's seat knows of the thread t
+  -- the kernel's seat's knowledge of thread t
   abbrev pub line : Desk T → ℕ → Line T
   line d t = slice_index_or d.lines t idle_line
 
-  -- what the kernel's seat knows, with another line for t
+  -- the desk with another line for thread t
   abbrev pub with_line : Desk T → ℕ → Line T → Desk T
   with_line d t l = record d { lines = slice_set d.lines t l }
 
@@ -62,8 +61,8 @@ module _ {T : Type 0} where
   abbrev pub AllTakenBut : Line T → Hand T → T → Type 0
   AllTakenBut l h x = l.put ≡ h.taken ++ x ∷ []
 
-  -- for each word of a cell: is it opened, is it being put, is its thread taking, how far is the taking
-  -- behind the putting, and where is what the slot has
+  -- for each value of a cell's word: whether the cell is opened, whether a completion is being put, whether
+  -- the thread is taking one, whether all that was put was taken, and where the slot is
   abbrev pub Fits : ℕ → Line T → Hand T → Slot T → Type 0
   Fits zero l h o = (l.opened ≡ false) × (l.putting ≡ false) × (h.taking ≡ None) × AllTaken l h × IsEmpty o
   Fits (suc zero) l h o = (l.opened ≡ true) × (l.putting ≡ false) × (h.taking ≡ None) × AllTaken l h
@@ -90,8 +89,8 @@ module _ {T : Type 0} where
       (j ≡ suc h.thread) × (h ≡ hand h.thread) × ((line desk h.thread).taken ≡ None)
   Knows desk hand j Joined = Unit {0}
 
-  -- there are n cells, and a desk and a hand for each thread that their words, their slots and all seats
-  -- agree with; a thread whose seat isn't made yet took nothing
+  -- there are n cells, a desk, and a hand for each thread, and the words, the slots and all seats agree with
+  -- them; a thread whose seat isn't made yet took nothing
   pub record KeepsRule (n : ℕ) (s : State (Option T) (View T)) : Type 0 where
     pub desk : Desk T
     pub hand : ℕ → Hand T

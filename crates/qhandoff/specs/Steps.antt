@@ -1,6 +1,6 @@
--- The kinds of step, each with what it tells its seat: what the seat knows and holds afterwards. In each,
--- `st.word` says which word, and so which cell, `m` is the seat before, `r` what was found in the word, and
--- `m'` the seat after.
+-- The kinds of step, and what each does to its seat: what the seat knows and holds afterwards. In each,
+-- `st.word` is the index of the word, which gives the cell, `m` is the seat before, `r` the value that was
+-- found in the word, and `m'` the seat after.
 use Rattle.std.specs.Prelude.{◌≡◌, ◌⊎◌, ℕ, suc, true, false, List, [], ◌∷◌, ◌++◌, replicate, Option, Some}
 use Rattle.std.specs.Prelude.{None}
 use Rattle.atomic_table.specs.Table.{Me, Step}
@@ -11,7 +11,7 @@ use Rattle.qhandoff.specs.declared.view.View.{View}
 use Rattle.qhandoff.specs.declared.view.View.TheVariants.{Kernel, Thread, Joined}
 use Rattle.qhandoff.specs.Rule.{cell_of, idle_line, new_hand, line, with_line}
 
--- what a step tells: of the step, the seat before, the word that was found, and the seat after
+-- a relation between the step, the seat before, the value found in the word, and the seat after
 abbrev pub Tells : Type 0 → Type 1
 Tells T = Step (Option T) → Me (Option T) (View T) → ℕ → Me (Option T) (View T) → Type 0
 
@@ -20,69 +20,69 @@ module _ {T : Type 0} where
   abbrev pub seated_desk : ℕ → ℕ → Desk T
   seated_desk k n = record { seats = k; lines = replicate n idle_line }
 
-  -- what the first seat knows as the cells are made: no thread's seat is split off
+  -- the first seat's knowledge as the cells are made: no thread's seat is split off
   abbrev pub first_view : ℕ → View T
   first_view n = Kernel (seated_desk 0 n)
 
-  -- the kernel's seat when one more thread seat is split off
+  -- the kernel's seat's knowledge after one more thread seat is split off
   abbrev pub seats_one_more : View T → View T
   seats_one_more (Kernel d) = Kernel (record d { seats = suc d.seats })
   seats_one_more v = v
 
-  -- the thread seat that is split off
+  -- the knowledge of the thread seat that is split off
   abbrev pub next_hand : View T → View T
   next_hand (Kernel d) = Thread (new_hand d.seats)
   next_hand v = Joined
 
-  -- what the kernel's seat knows, and what a thread's seat knows
+  -- the desk in the view of the kernel's seat; an empty one for other views
   abbrev pub desk_in : View T → Desk T
   desk_in (Kernel d) = d
   desk_in v = seated_desk 0 0
 
-  -- what a thread's seat knows, by its view
+  -- the hand in the view of a thread's seat; a new one for other views
   abbrev pub hand_in : View T → Hand T
   hand_in (Thread h) = h
   hand_in v = new_hand 0
 
-  -- the thread t is opened
+  -- the desk after thread t's cell is opened
   abbrev pub opened_desk : Desk T → ℕ → Desk T
   opened_desk d t = with_line d t (record (line d t) { opened = true })
 
-  -- it isn't any more
+  -- the desk after the opening of thread t's cell is cancelled
   abbrev pub cancelled_desk : Desk T → ℕ → Desk T
   cancelled_desk d t = with_line d t (record (line d t) { opened = false })
 
-  -- it is being put
+  -- the desk while a completion is being put for thread t
   abbrev pub putting_desk : Desk T → ℕ → Desk T
   putting_desk d t = with_line d t (record (line d t) { putting = true })
 
-  -- x was put for it
+  -- the desk after x was put for thread t
   abbrev pub put_desk : Desk T → ℕ → T → Desk T
   put_desk d t x = with_line d t
       (record (line d t) { opened = false; putting = false; put = (line d t).put ++ x ∷ [] })
 
-  -- its seat, which took these, is joined
+  -- the desk after the seat of thread t, which took ts, is joined
   abbrev pub joined_at : Desk T → ℕ → List T → Desk T
   joined_at d t ts = with_line d t (record (line d t) { taken = Some ts })
 
-  -- the seat of this hand, which took what the hand has, is joined
+  -- the desk after the seat with hand h is joined
   abbrev pub joined_desk : Desk T → Hand T → Desk T
   joined_desk d h = joined_at d h.thread h.taken
 
-  -- a thread's seat is taking x
+  -- the hand of a thread that is taking x
   abbrev pub taking_hand : Hand T → T → Hand T
   taking_hand h x = record h { taking = Some x }
 
-  -- it took x
+  -- the hand of a thread that took x
   abbrev pub taken_hand : Hand T → T → Hand T
   taken_hand h x = record h { taken = h.taken ++ x ∷ []; taking = None }
 
-  -- the cell isn't idle for all that the kernel's seat knows: it is opened, or something was put
+  -- the kernel's seat can't know that the cell is idle: it is opened, or something was put
   abbrev pub IsBusy : Line T → Type 0
   IsBusy l = (l.opened ≡ true) ⊎ ¬ (l.put ≡ [])
 
-  -- open, by the kernel's seat, 0 to 1: where it found 0 the cell is opened, which it wasn't; else nothing
-  -- changes, and the cell is opened or something was put
+  -- open, by the kernel's seat, 0 to 1: if it found 0, the cell wasn't opened and is opened now; otherwise
+  -- nothing changes, and the cell is opened already or something was put
   abbrev pub OpenTells : Tells T
   OpenTells st m r m' = (r ≡ 0
       → (m' ≡ (Kernel (opened_desk (desk_in m.0) (cell_of st.word)), m.1))
@@ -98,24 +98,26 @@ module _ {T : Type 0} where
   BeginPutTells st m r m' = m'
       ≡ (Kernel (putting_desk (desk_in m.0) (cell_of st.word)), (cell_of st.word, None) ∷ m.1)
 
-  -- end put, by the kernel's seat, 3 over 2: what the slot has by then was put, and the slot is let go
+  -- end put, by the kernel's seat, 3 over 2: the value that is in the slot by then was put, and the slot is
+  -- released
   abbrev pub EndPutTells : Tells T
   EndPutTells st m r m' = (x : T) → m.1 ≡ (cell_of st.word, Some x) ∷ []
       → m' ≡ (Kernel (put_desk (desk_in m.0) (cell_of st.word) x), [])
 
-  -- take, by the thread's seat, 3 to 4: where it found 3 it holds the slot and what is in it; else nothing
-  -- changes
+  -- take, by the thread's seat, 3 to 4: if it found 3, it holds the slot and the value in it; otherwise
+  -- nothing changes
   abbrev pub TakeTells : Tells T
   TakeTells st m r m' = (r ≡ 3
       → (x : T) × (m' ≡ (Thread (taking_hand (hand_in m.0) x), (cell_of st.word, Some x) ∷ m.1)))
       × (¬ (r ≡ 3) → m' ≡ m)
 
-  -- give back, by the thread's seat, 0 over 4: what it was taking it took, and the slot is let go
+  -- give back, by the thread's seat, 0 over 4: it has taken the value that it was taking, and the slot is
+  -- released
   abbrev pub GiveBackTells : Tells T
   GiveBackTells st m r m' = (x : T) → (hand_in m.0).taking ≡ Some x
       → m' ≡ (Thread (taken_hand (hand_in m.0) x), [])
 
-  -- join, by the kernel's seat: what the thread's seat took comes into its line
+  -- join, by the kernel's seat: the thread's line now has what its seat took
   abbrev pub joined_views : View T → View T → View T
   joined_views (Kernel d) (Thread h) = Kernel (joined_desk d h)
   joined_views v w = v

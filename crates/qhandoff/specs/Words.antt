@@ -1,4 +1,4 @@
--- What a clause says of cells, of seats and of what is left.
+-- Words for contracts about cells, seats and the completions that are left.
 use Rattle.std.specs.Prelude.{◌<◌, ◌≡◌, ℕ, ◌==◌, if◌then◌else◌, List, [], ◌∷◌, Option, Some, None}
 use mathlib.Core.Option.{none, some}
 use mathlib.Core.Option as maybe
@@ -11,27 +11,27 @@ use Rattle.atomic_table.specs.Seated.{TableId}
 use Rattle.qhandoff.specs.Steps.{desk_in, hand_in}
 
 module _ {T : Type 0} where
-  -- which cells they are
+  -- the identity of these cells
   abbrev pub cells_id : Cells T → TableId
   cells_id c = c.table.shared.table_id
 
-  -- how many cells there are
+  -- the number of cells
   abbrev pub count : Cells T → ℕ
   count c = c.table.shared.table_id.slots
 
-  -- what the kernel's seat knows
+  -- the kernel's seat's knowledge
   abbrev pub desk : KernelSeat T → Desk T
   desk s = desk_in s.seat.me.0
 
-  -- which cells the kernel's seat is of
+  -- the identity of the cells that the kernel's seat belongs to
   abbrev pub kernel_id : KernelSeat T → TableId
   kernel_id s = s.seat.table_id
 
-  -- which cells a thread's seat is of
+  -- the identity of the cells that a thread's seat belongs to
   abbrev pub thread_id : ThreadSeat T → TableId
   thread_id s = s.seat.table_id
 
-  -- the number of its cell
+  -- the number of the cell that a thread's seat empties
   abbrev pub thread_of : ThreadSeat T → ℕ
   thread_of s = s.thread
 
@@ -43,39 +43,39 @@ module _ {T : Type 0} where
   abbrev pub IsThreadOf : Cells T → ThreadSeat T → Type 0
   IsThreadOf c s = thread_id s ≡ cells_id c
 
-  -- what the thread took, in order
+  -- the completions that the thread took, in order
   abbrev pub taken : ThreadSeat T → List T
   taken s = (hand_in s.seat.me.0).taken
 
-  -- seats of these cells, by rising number of the cell
+  -- the seats belong to these cells, and the seat at index k empties cell k
   abbrev pub IsRow : TableId → List (ThreadSeat T) → Type 0
   IsRow z seats = (k : ℕ) (s : ThreadSeat T) → get_elem? seats k ≡ some s
       → (thread_id s ≡ z) × (thread_of s ≡ k)
 
-  -- what the seat at a place took, and nothing where there is none
+  -- the completions that the seat took; none if there is no seat
   abbrev pub took : maybe.Option (ThreadSeat T) → List T
   took none = []
   took (some s) = taken s
 
-  -- what is left for the thread t
+  -- the completions that are left for thread t
   abbrev pub left_for : ℕ → List (ℕ × T) → List T
   left_for t [] = []
   left_for t (x ∷ xs) = if x.0 == t then x.1 ∷ left_for t xs else left_for t xs
 
-  -- the one value, or none
+  -- the list with the one value, or the empty list
   abbrev pub one : Option T → List T
   one None = []
   one (Some x) = x ∷ []
 
-  -- the one value with the thread that it is left for, or none
+  -- the list with the one value and the thread that it is left for, or the empty list
   abbrev pub tagged : ℕ → Option T → List (ℕ × T)
   tagged t None = []
   tagged t (Some x) = (t, x) ∷ []
 
-  -- the threads rise
+  -- the threads are in rising order
   abbrev pub Rises : List (ℕ × T) → Type 0
   Rises xs = (j k : ℕ) (x y : ℕ × T) → get_elem? xs j ≡ some x → get_elem? xs k ≡ some y → j < k → x.0 < y.0
 
-  -- each is left for one of n threads
+  -- each thread number is below n
   abbrev pub AreBelow : ℕ → List (ℕ × T) → Type 0
   AreBelow n xs = (k : ℕ) (x : ℕ × T) → get_elem? xs k ≡ some x → x.0 < n

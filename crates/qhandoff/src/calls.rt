@@ -1,5 +1,5 @@
-//! What the seats do. Every load, store and exchange of a word is sequentially consistent in `atomic_table`; beside
-//! each stands what is needed of it.
+//! The operations of the seats. `atomic_table` makes every load, store and exchange of a word sequentially consistent;
+//! a comment at each says which weaker order would be enough.
 
 ghost use Rattle.std.specs.Prelude.{◌≡◌, ◌<◌, ◌++◌, [], ◌∷◌, true, false, MatchBool, MatchOption};
 ghost use Rattle.std.specs.Bool.{OnTrue};
@@ -11,24 +11,24 @@ use crate::cells::{Cells, word_of};
 use crate::seats::{KernelSeat, ThreadSeat};
 use crate::steps::{BeginPut, Cancel, EndPut, GiveBack, Open, Take};
 
-/// Nothing was opened, or what was put was taken.
+/// The cell is idle: it wasn't opened, or its last completion was taken.
 const IDLE: u64 = 0;
 
-/// Opened for a completion that is to come.
+/// The cell is opened for a completion that is still to come.
 const OPENED: u64 = 1;
 
-/// The kernel's seat holds the slot.
+/// The kernel's seat is putting a completion, and holds the slot.
 const PUTTING: u64 = 2;
 
-/// A completion lies in the slot.
+/// The slot has a completion that isn't taken.
 const FULL: u64 = 3;
 
-/// The thread's seat holds the slot.
+/// The thread's seat is taking the completion, and holds the slot.
 const TAKING: u64 = 4;
 
 impl<T: Drop> KernelSeat<T> {
-    /// Opens the cell of a thread, or answers false where it wasn't idle: it is opened already, or something was put
-    /// for it. Nothing changes then.
+    /// Opens the cell of a thread and returns true. Returns false and changes nothing if the cell isn't idle: it is
+    /// opened already, or its completion isn't taken yet.
     pub fn open(&mut self, cells: &Cells<T>, thread: usize) -> bool
         requires cells { IsKernelOf cells.now self.old }
         requires thread { thread < count cells.now }
@@ -59,7 +59,7 @@ impl<T: Drop> KernelSeat<T> {
             .store::<Cancel>(&mut self.seat, word_of(thread), IDLE)
     }
 
-    /// Fills an opened cell.
+    /// Puts a completion into an opened cell.
     pub fn put(&mut self, cells: &Cells<T>, thread: usize, completion: T)
         requires cells { IsKernelOf cells.now self.old }
         requires thread { thread < count cells.now }
@@ -73,13 +73,13 @@ impl<T: Drop> KernelSeat<T> {
         shared.store::<BeginPut>(&mut self.seat, word, PUTTING);
         // No atomic step: this seat holds the slot, so this is a plain read and a plain write.
         drop(shared.exchange(&mut self.seat, thread, Some(completion)));
-        // SeqCst. Release is enough: who finds 3 by an acquire sees the whole completion in the slot.
+        // SeqCst. Release is enough: a thread that finds 3 by an acquire sees the whole completion in the slot.
         shared.store::<EndPut>(&mut self.seat, word, FULL);
     }
 }
 
 impl<T: Drop> ThreadSeat<T> {
-    /// The number of the thread's cell.
+    /// Returns the number of the thread, which is the number of its cell.
     pub fn thread(&self) -> usize
         ensures number { result ≡ thread_of self.now }
         ensures within { result < (thread_id self.now).slots }
@@ -87,7 +87,7 @@ impl<T: Drop> ThreadSeat<T> {
         self.thread
     }
 
-    /// Takes what was put, if anything was. It tries once and waits for nobody.
+    /// Takes the completion out of the thread's cell; `None` if there is none. Tries once and never waits.
     pub fn poll(&mut self, cells: &Cells<T>) -> Option<T>
         requires cells { IsThreadOf cells.now self.old }
         ensures cells { thread_id self.new ≡ thread_id self.old }
@@ -97,7 +97,8 @@ impl<T: Drop> ThreadSeat<T> {
         let shared = &cells.table.shared;
         let thread = self.thread;
         let word = word_of(thread);
-        // SeqCst. Relaxed is enough: it only spares an exchange that would fail, and the exchange finds out by itself.
+        // SeqCst. Relaxed is enough: the load only saves an exchange that would fail, and the exchange tests the word
+        // again.
         if shared.peek(word) != FULL {
             return None;
         }
@@ -107,7 +108,7 @@ impl<T: Drop> ThreadSeat<T> {
         }
         // No atomic step: this seat holds the slot, so this is a plain read and a plain write.
         let completion = shared.exchange(&mut self.seat, thread, None);
-        // SeqCst. Release is enough: who finds 0 by an acquire sees the slot as it was left.
+        // SeqCst. Release is enough: a seat that finds 0 by an acquire sees the slot as it was left.
         shared.store::<GiveBack>(&mut self.seat, word, IDLE);
         completion
     }

@@ -1,4 +1,4 @@
-//! The cells.
+//! The cells, and how they lie in a table of words.
 
 ghost use Rattle.std.specs.Prelude.{◌≡◌, ◌*◌, ◌<◌, ◌≤◌, [], vec_capacity};
 ghost use Rattle.qhandoff.specs.Rule.{cell_of};
@@ -8,12 +8,12 @@ use crate::view::View;
 use atomic_table::Table;
 use std::alloc::Global;
 
-/// How far the words of two cells are from each other: so far that each has a cache line of its own, and a thread that
-/// looks at its own word doesn't pay for what is done to its neighbours'. The words between aren't used.
+/// The distance between the words of two cells, in words of 8 bytes. Each cell's word has a cache line of its own, so a
+/// thread that polls its word isn't slowed down by writes to its neighbours'. The words between aren't used.
 pub(crate) const STRIDE: usize = 8;
 
-/// Which of the table's words is that of a thread's cell. Other words would be as safe, and at worst slower, as long as
-/// no two cells have the same one.
+/// Returns the index of the word of a thread's cell. Any other layout would be as safe, and at worst slower, if no two
+/// cells have the same word.
 pub(crate) fn word_of(thread: usize) -> usize
     requires { thread < 64 }
     ensures word { result ≡ thread * 8 }
@@ -22,7 +22,7 @@ pub(crate) fn word_of(thread: usize) -> usize
     thread * STRIDE
 }
 
-/// One cell for each thread, and the room that is needed when they are closed.
+/// One cell for each thread, and the room that `close` needs.
 #[derive(Drop)]
 pub struct Cells<T: Drop> {
     pub(crate) table: Table<Option<T>, View<T>, usize, HandOff, Global>,

@@ -1,4 +1,4 @@
-//! How the cells are closed: the seats are joined, and what is left is taken out.
+//! Closes the cells: joins the seats, and takes out the completions that are left.
 
 ghost use Rattle.std.specs.Prelude.{◌≡◌, ◌<◌, ◌≤◌, ◌*◌, ◌++◌, ℕ, [], Some, length, vec_capacity};
 ghost use Rattle.std.specs.Mem.Slots.{slots_items, slots_len, IsFull};
@@ -16,7 +16,7 @@ use crate::view::View;
 use atomic_table::{Closed, Seat, Shared};
 use std::alloc::Global;
 
-/// The kernel's seat learns what one thread took.
+/// Joins one thread's seat, so that the kernel's seat knows what this thread took.
 fn join_one<T: Drop>(
     shared: &Shared<Option<T>, View<T>, usize, HandOff>,
     seat: &mut Seat<Option<T>, View<T>>,
@@ -31,12 +31,12 @@ fn join_one<T: Drop>(
         thread: _,
         seat: other,
     } = other;
-    // A load by SeqCst, of which nothing is needed: both seats are in this one thread, so what handed the other's over
-    // came before.
+    // A SeqCst load; Relaxed is enough: both seats are in this one thread, so the hand-over of the other seat came
+    // before.
     shared.join_seat::<JoinOne>(seat, other);
 }
 
-/// The same of all threads, the last one first.
+/// Joins the seats of all threads, the last one first.
 fn join_all<T: Drop>(
     shared: &Shared<Option<T>, View<T>, usize, HandOff>,
     seat: &mut Seat<Option<T>, View<T>>,
@@ -53,7 +53,7 @@ fn join_all<T: Drop>(
     }
 }
 
-/// Keeps what was in one slot.
+/// Appends the value of one slot, if it has one.
 fn keep<T: Drop>(room: &mut Vec<(usize, T)>, thread: usize, value: Option<T>)
     requires { length room.old.items < vec_capacity room.old }
     ensures { (room.new.items ≡ room.old.items ++ tagged thread value) × (vec_capacity room.new ≡ vec_capacity room.old) }
@@ -63,7 +63,7 @@ fn keep<T: Drop>(room: &mut Vec<(usize, T)>, thread: usize, value: Option<T>)
     }
 }
 
-/// What is in the slots, by rising thread.
+/// Returns the completions that are in the slots, each with its thread, in rising thread number.
 fn collect<T: Drop>(
     mut closed: Closed<Option<T>, Global>,
     mut room: Vec<(usize, T)>,
@@ -84,15 +84,16 @@ fn collect<T: Drop>(
 }
 
 impl<T: Drop> Cells<T> {
-    /// How many cells there are.
+    /// Returns the number of cells, one for each thread.
     pub fn threads(&self) -> usize
         ensures { result ≡ count self.now }
     {
         self.table.slot_count()
     }
 
-    /// What is still in the cells, by rising thread, once all seats are handed in. What a thread took, and then what
-    /// is left for it, is what was put for it.
+    /// Takes all seats back and returns the completions that are still in the cells, each with its thread, in rising
+    /// thread number; takes no memory. For each thread, the completions that it took, followed by the one that is left,
+    /// are those that were put for it.
     pub fn close(self, kernel: KernelSeat<T>, threads: Vec<ThreadSeat<T>>) -> Vec<(usize, T)>
         requires kernel { IsKernelOf self kernel }
         requires threads { (length threads.items ≡ count self) × IsRow (cells_id self) threads.items }

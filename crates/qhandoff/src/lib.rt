@@ -1,5 +1,5 @@
-//! One cell for each thread, through which the kernel's seat hands completions to the thread's own seat with
-//! no lock.
+//! Hands completions from the kernel to threads without a lock: each thread has a cell, which the kernel's seat fills
+//! and the thread's own seat empties.
 #![tactic(auto)]
 
 mod calls;

@@ -1,4 +1,4 @@
-//! How the cells and their seats are made.
+//! Makes the cells and their seats.
 
 ghost use Rattle.std.specs.Prelude.{◌≡◌, ◌<◌, ◌≤◌, ◌+◌, ℕ, ◌*◌, [], IfOk, IfErr, length};
 ghost use lib.ListN.{get_elem?};
@@ -15,13 +15,13 @@ use atomic_table::{Seat, Shared, Table};
 use qbase::errno::Errno;
 use std::alloc::{AllocError, Global};
 
-/// The most cells that there may be.
+/// The greatest number of cells.
 const LIMIT: usize = 64;
 
-/// Cells with the seat that fills them, and for each the seat that empties it.
+/// The cells, the seat that fills them, and for each cell the seat that empties it.
 type Made<T> = (Cells<T>, KernelSeat<T>, Vec<ThreadSeat<T>>);
 
-/// The seat of the next thread.
+/// Splits off the seat of the next thread.
 fn next_seat<T: Drop>(
     shared: &Shared<Option<T>, View<T>, usize, HandOff>,
     seat: &mut Seat<Option<T>, View<T>>,
@@ -32,12 +32,12 @@ fn next_seat<T: Drop>(
     ensures seat { (seat.new.table_id ≡ seat.old.table_id) × (seat.new.me ≡ (Kernel (seated_desk (thread + 1) shared.now.table_id.slots), [])) }
     ensures next { (thread_id result ≡ seat.old.table_id) × (thread_of result ≡ thread) × (taken result ≡ []) }
 {
-    // A load by SeqCst, of which nothing is needed: no other thread has a seat yet.
+    // A SeqCst load; Relaxed is enough: no other thread has a seat yet.
     let seat = shared.split_seat::<SeatOne>(seat);
     ThreadSeat { thread, seat }
 }
 
-/// So many idle cells, with the room for `close`.
+/// Makes `threads` idle cells and their seats, with the room for `close`.
 fn make_cells<T: Drop>(alloc: Global, threads: usize) -> Result<Made<T>, AllocError>
     requires { threads ≤ 64 }
     ensures cells { IfOk result (λ r. (count r.0 ≡ threads) × IsKernelOf r.0 r.1 × (desk r.1 ≡ seated_desk threads threads)) }
@@ -54,8 +54,9 @@ fn make_cells<T: Drop>(alloc: Global, threads: usize) -> Result<Made<T>, AllocEr
 }
 
 impl<T: Drop> Cells<T> {
-    /// Cells for so many threads, at most 64, the seat that fills them, and for each thread the seat that empties its
-    /// own. The room that `close` needs is made here.
+    /// Makes idle cells for `threads` threads, at most 64. Returns them with the seat that fills them and, for each
+    /// thread, the seat that empties its cell. Takes the memory that `close` needs, too. Error: `Inval` if `threads` is
+    /// more than 64, `NoMemory` if the allocator refuses.
     pub fn new(
         alloc: Global,
         threads: usize,

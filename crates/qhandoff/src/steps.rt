@@ -1,5 +1,5 @@
-//! The rule of the cells' table, and the kinds of step by name. `specs/Rule.antt` and `specs/Steps.antt` say what
-//! they mean.
+//! The rule of the cells' table, and a name for each kind of step. `specs/Rule.antt` and `specs/Steps.antt` define
+//! them.
 
 ghost use Rattle.qhandoff.specs.Rule.{KeepsRule};
 ghost use Rattle.qhandoff.specs.Steps.{first_view, seats_one_more, next_hand, joined_views, OpenTells, CancelTells, BeginPutTells, EndPutTells, TakeTells, GiveBackTells};
@@ -17,7 +17,7 @@ impl<T> TableRule<Option<T>, View<T>, usize> for HandOff {
     ghost first = { first_view };
 }
 
-/// While the cells are made: one more thread's seat is split off the kernel's.
+/// Splits a thread's seat off the kernel's, as the cells are made.
 pub struct SeatOne;
 
 impl<T> Split<View<T>> for SeatOne {
@@ -26,7 +26,7 @@ impl<T> Split<View<T>> for SeatOne {
     ghost right = { next_hand };
 }
 
-/// While the cells are closed: the kernel's seat learns what a thread's seat took.
+/// Joins a thread's seat to the kernel's, which then knows what it took, as the cells are closed.
 pub struct JoinOne;
 
 impl<T> Join<View<T>> for JoinOne {
@@ -49,28 +49,28 @@ impl<T> Play<Option<T>, View<T>> for Cancel {
     ghost then = { CancelTells };
 }
 
-/// The kernel's seat begins to put into an opened cell, and has its slot from then on.
+/// The kernel's seat begins to put a completion into an opened cell, and holds its slot from then on.
 pub struct BeginPut;
 
 impl<T> Play<Option<T>, View<T>> for BeginPut {
     ghost then = { BeginPutTells };
 }
 
-/// The kernel's seat has put, and lets go of the slot.
+/// The kernel's seat has put a completion, and releases the slot.
 pub struct EndPut;
 
 impl<T> Play<Option<T>, View<T>> for EndPut {
     ghost then = { EndPutTells };
 }
 
-/// A thread's seat begins to take from its full cell, and has its slot from then on.
+/// A thread's seat begins to take the completion out of its full cell, and holds its slot from then on.
 pub struct Take;
 
 impl<T> Play<Option<T>, View<T>> for Take {
     ghost then = { TakeTells };
 }
 
-/// A thread's seat has taken, and lets go of the slot.
+/// A thread's seat has taken the completion, and releases the slot.
 pub struct GiveBack;
 
 impl<T> Play<Option<T>, View<T>> for GiveBack {

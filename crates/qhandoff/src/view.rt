@@ -1,8 +1,8 @@
-//! What a seat knows. Contracts and the rule speak of these types; no value of them is made.
+//! The knowledge of a seat. Only contracts and the rule use these types; the code makes no value of them.
 
 use std::collections::LinkedList;
 
-/// What the kernel's seat knows of one thread.
+/// The kernel's seat's knowledge of one thread.
 pub struct Line<T> {
     /// The thread's cell was opened, and nothing is put into it yet.
     pub opened: bool,
@@ -10,32 +10,32 @@ pub struct Line<T> {
     pub putting: bool,
     /// All that was put for the thread, the oldest first.
     pub put: LinkedList<T>,
-    /// What the thread's seat took, once it is joined.
+    /// All that the thread's seat took, the oldest first; `None` until it is joined.
     pub taken: Option<LinkedList<T>>,
 }
 
-/// What the kernel's seat knows: how many thread seats were made, and a line for each thread.
+/// The kernel's seat's knowledge: the number of thread seats that were made, and a line for each thread.
 pub struct Desk<T> {
     pub seats: u64,
     pub lines: LinkedList<Line<T>>,
 }
 
-/// What the seat of a thread knows.
+/// A thread's seat's knowledge.
 pub struct Hand<T> {
     /// The number of the thread's cell.
     pub thread: u64,
     /// All that the thread took, the oldest first.
     pub taken: LinkedList<T>,
-    /// What the thread is taking out of its slot.
+    /// The completion that the thread is taking out of its slot.
     pub taking: Option<T>,
 }
 
-/// What a seat at the table knows.
+/// The knowledge of any seat at the table.
 pub enum View<T> {
     /// The kernel's seat.
     Kernel(Desk<T>),
     /// The seat of a thread.
     Thread(Hand<T>),
-    /// A thread's seat whose knowledge went over to the kernel's seat.
+    /// A thread's seat that was joined: the kernel's seat has its knowledge.
     Joined,
 }

@@ -1,4 +1,5 @@
--- Laws of the endings of one event: whose they are, what they may receive, and who waits afterwards.
+-- Laws of the endings of one event: the threads that get them, what they may receive, and the threads that
+-- wait afterwards.
 use Rattle.std.specs.Prelude.{◌&&◌, ◌+◌, ◌<◌, ◌==◌, ◌||◌, ◌∷◌, ◌≡◌, ◌↔◌, if◌then◌else◌}
 use Rattle.qrules.specs.Words.{[], false, is_some, length, list_any, member_at, option_map}
 use Rattle.qrules.specs.Words.{option_or, true, unwrap_or, AllByRecursion, Bool, Completion, Down, List}
@@ -18,7 +19,7 @@ use Rattle.qlaws.specs.OpenCalls.{waiting_number}
 abbrev pub OfEachEnding : (List Member → Trace → Event → Completion → Type 0) → Type 0
 OfEachEnding P = InEachNewest (λ roster past e. AllByRecursion (P roster past e) e.endings)
 
--- ---- whose they are
+-- ---- the threads that get them
 
 -- the thread that made the call of number i
 abbrev pub thread_at : Trace → CallNo → Option ThreadNo
@@ -29,12 +30,12 @@ thread_at (e ∷ past) i = if i == length past + 1 then Some e.thread else threa
 abbrev pub EndingsNameOwnCalls : Type 0
 EndingsNameOwnCalls = OfEachEnding (λ roster past e x. thread_at (e ∷ past) x.call ≡ Some x.thread)
 
--- these endings rise in the number of their threads, so each goes to a thread of its own
+-- the thread numbers of these endings rise, so each goes to a different thread
 abbrev pub RiseByThread : List Completion → Type 0
 RiseByThread [] = Unit {0}
 RiseByThread (x ∷ endings) = AllByRecursion (λ y. x.thread < y.thread) endings × RiseByThread endings
 
--- so it is in each event
+-- the thread numbers of the endings rise in each event
 abbrev pub EndingsRiseByThread : Type 0
 EndingsRiseByThread = InEachNewest (λ roster past e. RiseByThread e.endings)
 
@@ -42,12 +43,12 @@ EndingsRiseByThread = InEachNewest (λ roster past e. RiseByThread e.endings)
 abbrev pub gets : List Completion → ThreadNo → Bool
 gets endings t = list_any (λ x. x.thread == t) endings
 
--- each of these endings goes to a thread of its own
+-- each of these endings goes to a different thread
 abbrev pub AreApart : List Completion → Type 0
 AreApart [] = Unit {0}
 AreApart (x ∷ endings) = (gets endings x.thread ≡ false) × AreApart endings
 
--- so it is in each event
+-- in each event, each ending goes to a different thread
 abbrev pub EndingsAreApart : Type 0
 EndingsAreApart = InEachNewest (λ roster past e. AreApart e.endings)
 
@@ -55,29 +56,30 @@ EndingsAreApart = InEachNewest (λ roster past e. AreApart e.endings)
 abbrev pub may_end : Facts → ThreadNo → ThreadNo → Bool
 may_end f t u = (u == t) || is_blocked f u
 
--- each ending goes to a thread of the roster, and one whose call may end
+-- each ending goes to a thread of the roster whose call may end
 abbrev pub EndingsGoToBlocked : Type 0
 EndingsGoToBlocked = OfEachEnding (λ roster past e x.
     (is_some (member_at roster x.thread) ≡ true) × (may_end (facts_of roster past) e.thread x.thread ≡ true))
 
--- ---- who waits afterwards
+-- ---- the threads that wait afterwards
 
--- after an event of a thread that didn't wait those threads wait whose calls might have ended and did not
+-- after an event of a thread that didn't wait, the threads that wait are those whose calls might have ended
+-- in it and didn't
 abbrev pub BlockedUnlessEnded : Type 0
 BlockedUnlessEnded = InEachNewest (λ roster past e. is_blocked (facts_of roster past) e.thread ≡ false
     → (u : ThreadNo) → is_blocked (facts_of roster (e ∷ past)) u
     ≡ (if gets e.endings u then false else may_end (facts_of roster past) e.thread u))
 
--- one of the endings is of the event's own call
+-- one of the endings is that of the event's own call
 abbrev pub ends_itself : Trace → Event → Bool
 ends_itself past e = list_any (λ x. x.call == length past + 1) e.endings
 
--- a call either ends in its own event, or its thread waits in it afterwards
+-- either a call ends in its own event, or its thread waits in it afterwards
 abbrev pub EndsOrWaits : Type 0
 EndsOrWaits = InEachNewest (λ roster past e. (ends_itself past e ≡ false)
     ↔ (waiting_number (facts_of roster (e ∷ past)) e.thread ≡ Some (length past + 1)))
 
--- the caller gets an ending just where its call ends in its own event
+-- the caller gets an ending exactly if its call ends in its own event
 abbrev pub CallerGetsItsOwn : Type 0
 CallerGetsItsOwn = InEachNewest (λ roster past e. gets e.endings e.thread ≡ ends_itself past e)
 
@@ -89,7 +91,8 @@ waiting_buffer f u = unwrap_or
     (option_or (option_map (λ s. s.reply_buffer) (send_of f u)) (option_map (λ r. r.buffer) (receive_of f u)))
     []
 
--- each ending's buffer is as long as the one that its thread brought, with this call or with one it waits in
+-- each ending's buffer is as long as the one that its thread passed in, with this call or with the one that
+-- it waits in
 abbrev pub EndingsKeepLength : Type 0
 EndingsKeepLength = OfEachEnding (λ roster past e x. length x.buffer
     ≡ length (if x.thread == e.thread then buffer_of (effect_of e.call)
@@ -97,12 +100,12 @@ EndingsKeepLength = OfEachEnding (λ roster past e x. length x.buffer
 
 -- ---- what they receive
 
--- connection k, attached, leads to channel h
+-- connection k was attached to channel h
 abbrev pub LeadsTo : List Member → Trace → ConnectionId → ChannelId → Type 0
 LeadsTo roster past k h = option_map (λ c. c.channel) (attached_connection roster past k) ≡ Some h
 
--- item i, which the ending receives, was made by then on the channel on which the ended call receives; and
--- the connection over which it was sent, if it was sent over one, leads there
+-- item i, which the ending receives, was made by then on the channel on which the ended call receives; if it
+-- was sent over a connection, that leads to this channel
 pub record WasSent (roster : List Member) (past : Trace) (x : Completion) (i : CallNo) : Type 0 where
   pub request : ReceiveRequest
   pub call : request_of past x.call ≡ Some request
@@ -110,7 +113,7 @@ pub record WasSent (roster : List Member) (past : Trace) (x : Completion) (i : C
       list_any (λ m. (m.item.number == i) && (m.channel == request.channel)) (items roster past) ≡ true
   pub sent : (k : ConnectionId) → connection_of past i ≡ Some k → LeadsTo roster past k request.channel
 
--- what is received was sent so
+-- each item that is received was sent in this way
 abbrev pub ReceivedWasSent : Type 0
 ReceivedWasSent = OfEachEnding (λ roster past e x. (i : CallNo) → number_received x ≡ Some i
     → WasSent roster (e ∷ past) x i)
@@ -123,7 +126,7 @@ NothingFromDestroyed = OfEachEnding (λ roster past e x. (h : ChannelId) (i : Ca
 
 -- ---- refusals
 
--- a refused call changes nothing but how many calls were made
+-- a refused call changes nothing but the number of calls
 abbrev pub RefusedChangesNothing : Type 0
 RefusedChangesNothing = InEachNewest (λ roster past e. is_accepted e past ≡ false
     → facts_of roster (e ∷ past)

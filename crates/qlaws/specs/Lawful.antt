@@ -1,4 +1,4 @@
--- Laws of all lawful traces: what each of them leaves behind, and what its newest event is like.
+-- Two forms of laws of all lawful traces: of what holds after a trace, and of its newest event.
 use Rattle.std.specs.Prelude.{◌∷◌}
 use Rattle.qtables.specs.Members.{IsRoster}
 use Rattle.qrules.specs.Words.{List, Member}

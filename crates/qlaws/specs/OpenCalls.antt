@@ -32,7 +32,7 @@ abbrev pub waiting_number : Facts → ThreadNo → Option CallNo
 waiting_number f t =
     option_or (option_map (λ s. s.number) (send_of f t)) (option_map (λ r. r.number) (receive_of f t))
 
--- a thread waits in just that call
+-- a thread waits in exactly that call
 abbrev pub OpenIsUnended : Type 0
 OpenIsUnended = AfterEach (λ roster past. (t : ThreadNo) (i : CallNo)
     → (waiting_number (facts_of roster past) t ≡ Some i) ↔ IsUnended past t i)
@@ -45,7 +45,7 @@ pub record IsRouted (f : Facts) (s : OpenSend) : Type 0 where
   pub is_live : f.connection s.connection ≡ Some connection
   pub is_open : is_some (f.channel connection.channel) ≡ true
 
--- so it is with each open Send
+-- each open Send is routed
 abbrev pub OpenSendsAreRouted : Type 0
 OpenSendsAreRouted =
     AfterEach (λ roster past. AllByRecursion (IsRouted (facts_of roster past))
@@ -55,7 +55,7 @@ OpenSendsAreRouted =
 abbrev pub is_held : Trace → ReceiveId → Bool
 is_held past i = is_received past i && not (is_ended past i)
 
--- a message is held exactly where its Send is open and has a receipt
+-- a message is held exactly if its Send is open and has a receipt
 abbrev pub HeldIsOpenSend : Type 0
 HeldIsOpenSend = AfterEach (λ roster past. (i : ReceiveId)
     → is_held past i ≡ option_map_or (λ s. is_some s.receipt) (open_send (facts_of roster past) i) false)
@@ -66,7 +66,7 @@ HeldIsOpenSend = AfterEach (λ roster past. (i : ReceiveId)
 abbrev pub may_receive : SentItem → OpenReceive → Bool
 may_receive m r = (r.channel == m.channel) && may_take r.kind m.item
 
--- the receive is open and may take the item, and none that may began later
+-- the receive is open and may take the item, and no receive that may take it began later
 pub record IsNewest (f : Facts) (m : SentItem) (r : OpenReceive) : Type 0 where
   pub is_open : receive_of f r.thread ≡ Some r
   pub may : may_receive m r ≡ true
@@ -77,13 +77,13 @@ abbrev pub NewestIsLast : Type 0
 NewestIsLast = AfterEach (λ roster past. (m : SentItem) (r : OpenReceive)
     → newest_receiver (facts_of roster past) m ≡ Some r → IsNewest (facts_of roster past) m r)
 
--- there is none exactly where no open receive may take the item
+-- there is no newest receiver exactly if no open receive may take the item
 abbrev pub NoneIsNewest : Type 0
 NoneIsNewest = AfterEach (λ roster past. (m : SentItem)
     → (newest_receiver (facts_of roster past) m ≡ None)
     ↔ AllByRecursion (λ r. may_receive m r ≡ false) (facts_of roster past).open_receives)
 
--- nothing is pending on the channel of an open receive that this may take
+-- no item that an open receive may take is pending on its channel
 abbrev pub NothingPendingForWaiting : Type 0
 NothingPendingForWaiting = AfterEach (λ roster past. AllByRecursion
     (λ r. AllByRecursion (λ item. may_take r.kind item ≡ false) ((facts_of roster past).pending r.channel))
@@ -91,7 +91,7 @@ NothingPendingForWaiting = AfterEach (λ roster past. AllByRecursion
 
 -- ---- buffers
 
--- this buffer of call i is as long as the one that the call brought
+-- this buffer of call i is as long as the one that was passed in
 pub record IsAsLong (past : Trace) (i : CallNo) (buffer : Bytes) : Type 0 where
   pub call : Call
   pub is : call_at past i ≡ Some call
@@ -102,7 +102,7 @@ abbrev pub ReplyBuffersKeepLength : Type 0
 ReplyBuffersKeepLength = AfterEach (λ roster past.
     AllByRecursion (λ s. IsAsLong past s.number s.reply_buffer) (facts_of roster past).open_sends)
 
--- and so does the buffer of each open receive
+-- the buffer of each open receive keeps its length
 abbrev pub ReceiveBuffersKeepLength : Type 0
 ReceiveBuffersKeepLength = AfterEach (λ roster past.
     AllByRecursion (λ r. IsAsLong past r.number r.buffer) (facts_of roster past).open_receives)

@@ -27,12 +27,12 @@ OfEachPending P = AfterEach (λ roster past. (h : ChannelId)
 abbrev pub PendingRises : Type 0
 PendingRises = AfterEach (λ roster past. (h : ChannelId) → IsRising ((facts_of roster past).pending h))
 
--- no more than 1,024 of them are pulses
+-- at most 1,024 of the items that are pending on a channel are pulses
 abbrev pub PulsesAreLimited : Type 0
 PulsesAreLimited = AfterEach (λ roster past. (h : ChannelId)
     → count_by (λ x. is_pulse x.what) ((facts_of roster past).pending h) ≤ 1024)
 
--- nothing is both pending and held
+-- no item is both pending and held
 abbrev pub NonePendingIsHeld : Type 0
 NonePendingIsHeld = OfEachPending (λ roster past item. is_held past item.number ≡ false)
 
@@ -44,12 +44,12 @@ pub record IsUnreceived (roster : List Member) (past : Trace) (i : ReceiveId) : 
   pub is_open : send_of (facts_of roster past) send.thread ≡ Some send
   pub unread : send.receipt ≡ None
 
--- so it is with each message that is pending
+-- each pending message is unreceived in this sense
 abbrev pub PendingIsOpen : Type 0
 PendingIsOpen =
     OfEachPending (λ roster past item. is_pulse item.what ≡ false → IsUnreceived roster past item.number)
 
--- a pending message has the priority that its sender has by now
+-- a pending message has the present priority of its sender
 abbrev pub PendingFollowsItsSender : Type 0
 PendingFollowsItsSender = OfEachPending (λ roster past item. is_pulse item.what ≡ false
     → (t : ThreadNo) → sender_of past item.number ≡ Some t
@@ -65,13 +65,13 @@ pub record TakesBeside (past : Trace) (z : Completion) (i : CallNo) (h : Channel
   pub may : may_take request.kind x ≡ true
   pub item : number_received z ≡ Some i
 
--- item x has the priority that its number has by now
+-- the priority in x is the present priority of the item of its number
 abbrev pub HasPriority : List Member → Trace → Item → Type 0
 HasPriority roster past x =
     priority_of_item (item_among (items_by_now past (items roster past)) x.number) ≡ x.priority
 
--- of two items that were pending on a channel, of which x comes before y, and that have their priorities
--- still, y isn't received by a call that may take x before x is gone
+-- if x and y were pending on a channel, x comes before y, and both still have their priorities, then no call
+-- that may take x receives y before x is gone
 abbrev pub FirstGoesFirst : Type 0
 FirstGoesFirst = (past : Trace) → InEachNewest (λ roster after e. (later : List Event) → after ≡ later ++ past
     → (h : ChannelId) → AllByRecursion (λ x. AllByRecursion (λ y. comes_before x y ≡ true
@@ -85,18 +85,19 @@ FirstGoesFirst = (past : Trace) → InEachNewest (λ roster after e. (later : Li
 abbrev pub is_message_of : Trace → ThreadNo → Item → Bool
 is_message_of past t item = not (is_pulse item.what) && is_number (sender_of past item.number) t
 
--- P holds of each accepted PrioritySet and each channel, by what is pending there before and after it
+-- P holds of each accepted PrioritySet and each channel, given the items that are pending there before and
+-- after it
 abbrev pub OfEachSetting : (Trace → ThreadNo → Priority → List Item → List Item → Type 0) → Type 0
 OfEachSetting P = InEachNewest (λ roster past e. is_accepted e past ≡ true
     → (t : ThreadNo) (priority : Priority) → e.call ≡ calls.PrioritySet t priority → (h : ChannelId)
     → P past t priority ((facts_of roster past).pending h) ((facts_of roster (e ∷ past)).pending h))
 
--- it gives the pending message of its thread that priority, and changes nothing else that is pending
+-- a PrioritySet sets the priority of its thread's pending message, and changes no other pending item
 abbrev pub SettingMovesItsOwn : Type 0
 SettingMovesItsOwn = OfEachSetting (λ past t priority before after. after
     ≡ map (λ item. if is_message_of past t item then with_priority priority item else item) before)
 
--- so the others are what they were, in their order
+-- so the other items stay as they were, in the same order
 abbrev pub OthersKeepTheirOrder : Type 0
 OthersKeepTheirOrder = OfEachSetting (λ past t priority before after.
     filter (λ item. not (is_message_of past t item)) after

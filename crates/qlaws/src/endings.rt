@@ -10,36 +10,36 @@ pub fn endings_name_own_calls()
     ensures { EndingsNameOwnCalls }
 {}
 
-/// The endings of one event rise by thread.
+/// The endings of one event are in rising thread number.
 pub fn endings_rise_by_thread()
     ensures { EndingsRiseByThread }
 {}
 
-/// The endings of one event go to threads of the roster, each to one of its own: to the caller, or to one that waited.
+/// The endings of one event go to different threads of the roster: to the caller, or to threads that waited.
 pub fn endings_go_to_blocked()
     ensures apart { EndingsAreApart }
     ensures blocked { EndingsGoToBlocked }
 {}
 
-/// After an event those threads wait that waited before it or made its call, and got no ending in it.
+/// The threads that wait after an event are those that waited before it or made its call, and got no ending in it.
 pub fn blocked_unless_ended()
     ensures { BlockedUnlessEnded }
 {}
 
-/// A call either ends in its own event, or its thread waits in it afterwards. The caller gets an ending just where its
+/// Either a call ends in its own event, or its thread waits in it afterwards. The caller gets an ending exactly if its
 /// call ends.
 pub fn ends_or_waits()
     ensures waits { EndsOrWaits }
     ensures gets { CallerGetsItsOwn }
 {}
 
-/// The buffer of each ending is as long as the one that its thread brought.
+/// The buffer of each ending is as long as the one that its thread passed in.
 pub fn endings_keep_length()
     ensures { EndingsKeepLength }
 {}
 
-/// What is received was made before or in the same event, for the channel on which it is received. What was sent over a
-/// connection was sent to the channel that this leads to.
+/// An item that is received was made in the same event or earlier, for the channel on which it is received. If it was
+/// sent over a connection, the connection leads to that channel.
 pub fn received_was_sent()
     ensures { ReceivedWasSent }
 {}
@@ -49,7 +49,7 @@ pub fn nothing_from_destroyed()
     ensures { NothingFromDestroyed }
 {}
 
-/// A refused call changes nothing but how many calls were made.
+/// A refused call changes nothing but the number of calls.
 pub fn refused_changes_nothing()
     ensures { RefusedChangesNothing }
 {}

@@ -1,5 +1,6 @@
-//! What the rules of the kernel's calls come to, as laws of every lawful trace. Each function does nothing: its contract
-//! is a law. No code of a kernel stands on them; they tell a reader that the definitions mean what they should.
+//! Laws of every lawful trace, which follow from the rules of the kernel's calls. The functions do nothing: the
+//! contract of each is a law. No code of a kernel uses them; they show a reader that the definitions mean what they
+//! should.
 #![tactic(auto)]
 
 pub mod endings;

@@ -4,7 +4,7 @@ ghost use Rattle.qlaws.specs.OpenCalls.{AtMostOneOpen, HeldIsOpenSend, NewestIsL
 ghost use Rattle.qlaws.specs.OpenCalls.{NothingPendingForWaiting, OpenIsUnended, OpenSendsAreRouted};
 ghost use Rattle.qlaws.specs.OpenCalls.{ReceiveBuffersKeepLength, ReplyBuffersKeepLength};
 
-/// Of a thread's accepted calls that may wait at most one isn't ended, and the thread waits in just that one.
+/// At most one of a thread's accepted calls that may wait isn't ended, and the thread waits in exactly that one.
 pub fn one_open_call()
     ensures one { AtMostOneOpen }
     ensures same { OpenIsUnended }
@@ -15,24 +15,24 @@ pub fn open_sends_are_routed()
     ensures { OpenSendsAreRouted }
 {}
 
-/// A message is held, that is received and not answered, exactly where its Send is open and has a receipt.
+/// A message is held, that is, received and not answered, exactly if its Send is open and has a receipt.
 pub fn held_is_open_send()
     ensures { HeldIsOpenSend }
 {}
 
-/// The newest receiver of an item is the open receive that began last of all on its channel that may take it. There is
-/// none exactly where no open receive may.
+/// The newest receiver of an item is the open receive that began last, of all on the item's channel that may take it.
+/// There is none exactly if no open receive may take it.
 pub fn newest_is_last()
     ensures last { NewestIsLast }
     ensures none { NoneIsNewest }
 {}
 
-/// Nothing is pending on a channel while a receive is open there that may take it.
+/// No item is pending on a channel while a receive that may take it is open there.
 pub fn nothing_pending_for_waiting()
     ensures { NothingPendingForWaiting }
 {}
 
-/// The buffer of an open call is as long as the one that it brought.
+/// The buffer of an open call is as long as the one that was passed in.
 pub fn buffers_keep_length()
     ensures sends { ReplyBuffersKeepLength }
     ensures receives { ReceiveBuffersKeepLength }

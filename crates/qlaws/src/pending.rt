@@ -4,8 +4,8 @@ ghost use Rattle.qlaws.specs.Pending.{FirstGoesFirst, NonePendingIsHeld, OthersK
 ghost use Rattle.qlaws.specs.Pending.{PendingFollowsItsSender, PendingIsOpen, PendingRises, PulsesAreLimited};
 ghost use Rattle.qlaws.specs.Pending.{SettingMovesItsOwn};
 
-/// What is pending on a channel rises in number, and isn't held. The sender of each message waits in its Send, and has
-/// the priority that the message has.
+/// The items that are pending on a channel are in rising number, and none is held. The sender of each message waits in
+/// its Send, and has the same priority as the message.
 pub fn pending_is_sent()
     ensures rising { PendingRises }
     ensures unheld { NonePendingIsHeld }
@@ -18,14 +18,14 @@ pub fn pulses_are_limited()
     ensures { PulsesAreLimited }
 {}
 
-/// Of two items that are pending on a channel the one that comes before the other is received first, or is gone otherwise,
-/// as long as both keep their priorities. A ReceivePulse passes messages over.
+/// If two items are pending on a channel and both keep their priorities, the one that comes before the other is
+/// received first, or is removed in another way. A ReceivePulse passes over messages.
 pub fn first_goes_first()
     ensures { FirstGoesFirst }
 {}
 
-/// An accepted PrioritySet gives its thread's pending message that priority. It changes nothing else that is pending, and
-/// the order of no two others.
+/// An accepted PrioritySet sets the priority of its thread's pending message, too. It changes no other pending item,
+/// and leaves the others in their order.
 pub fn setting_moves_its_own()
     ensures moved { SettingMovesItsOwn }
     ensures others { OthersKeepTheirOrder }

@@ -1,4 +1,4 @@
--- The kinds of calls, the words by which scripts name them, and what a call names first.
+-- The kinds of calls, their words in scripts, and the first operand of a call.
 use Rattle.std.specs.Prelude.{ℕ, List, Option, Some, None, codes}
 use Rattle.std.specs.List.{find}
 use Rattle.std.specs.Str.{bytes_eq}
@@ -8,7 +8,7 @@ use Rattle.qmodel.specs.declared.kind.CallKind.{CallKind}
 use Rattle.qmodel.specs.declared.kind.CallKind.TheVariants as kind
 use Rattle.qmodel.specs.declared.kind.TheConstants.{KINDS}
 
--- the word by which a script names a call of this kind
+-- the word for a call of this kind in a script
 abbrev pub script_word : CallKind → List ℕ
 script_word kind.ChannelCreate = codes "create"
 script_word kind.ConnectAttach = codes "attach"
@@ -28,7 +28,7 @@ script_word kind.Shutdown = codes "shutdown"
 script_word kind.Unblock = codes "unblock"
 script_word kind.ConnectDetach = codes "detach"
 
--- the kind that a word names: the first whose word it is
+-- the first kind with this word; None if no kind has it
 unfoldable pub kind_named : List ℕ → Option CallKind
 kind_named word = find (λ k. bytes_eq word (script_word k)) KINDS
 
@@ -52,7 +52,7 @@ kind_of call.Shutdown = kind.Shutdown
 kind_of (call.Unblock thread) = kind.Unblock
 kind_of (call.ConnectDetach coid) = kind.ConnectDetach
 
--- what a call names first: flags, a channel, a connection, a receive id or a thread; a Shutdown nothing
+-- the first operand of a call: flags, a channel, a connection, a receive id or a thread; None for a Shutdown
 abbrev pub operand_of : Call → Option ℕ
 operand_of (call.ChannelCreate flags) = Some flags.0
 operand_of (call.ConnectAttach chid) = Some chid

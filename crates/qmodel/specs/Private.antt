@@ -1,5 +1,5 @@
--- Words of the state half, over the kernel's own records: for contracts of inner functions and for proofs. No
--- clause of a function that the library hands on cites one of them.
+-- Words over the kernel's own records, for contracts of inner functions and for proofs. No contract of a
+-- function that the library exports cites one of them.
 pub mod ThreadState
 pub mod Facts
 pub mod Rows

@@ -1,4 +1,4 @@
--- The list of all past calls, and the numbers and records by which it is spoken of.
+-- The list of all past calls, and the numbers and records in it.
 use Rattle.std.specs.Prelude.{ℕ, List}
 use Rattle.qbase.specs.declared.flags.ChannelFlags.{ChannelFlags}
 use Rattle.qqueue.specs.declared.item.Item.{Item}
@@ -15,7 +15,7 @@ ThreadNo = ℕ
 abbrev pub ProcessNo : Type 0
 ProcessNo = ℕ
 
--- the number of a call, which is its event's, and that of the item that it makes
+-- the number of a call; its event and the item that it makes have the same number
 abbrev pub CallNo : Type 0
 CallNo = ℕ
 
@@ -37,13 +37,13 @@ Priority = ℕ
 
 -- ---- events
 
--- a call that a thread made, and the endings that it brought, in rising thread number
+-- a call that a thread made, and the endings that it caused, in rising thread number
 pub record Event : Type 0 where
   pub thread : ThreadNo
   pub call : Call
   pub endings : List Completion
 
--- all past events, the newest first: an event's number is how many there are from it on, so the first is 1
+-- all past events, the newest first; the oldest event has the number 1
 abbrev pub Trace : Type 0
 Trace = List Event
 

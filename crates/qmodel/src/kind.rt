@@ -3,7 +3,7 @@
 ghost use Rattle.std.specs.Prelude.{◌≡◌};
 ghost use Rattle.qmodel.specs.Kinds.{kind_named, script_word};
 
-/// A call without its operands. The cases have the names of those of `Call`.
+/// A call without its operands. The variants are named as those of `Call`.
 #[derive(Clone, Copy, Debug, PartialEq, Eq)]
 pub enum CallKind {
     ChannelCreate,
@@ -25,7 +25,7 @@ pub enum CallKind {
     ConnectDetach,
 }
 
-/// The kinds in the order in which the library for C numbers them, from 1 on.
+/// All kinds, in the order in which the library for C numbers them from 1 on.
 pub const KINDS: [CallKind; 17] = [
     CallKind::ChannelCreate,
     CallKind::ConnectAttach,
@@ -47,7 +47,7 @@ pub const KINDS: [CallKind; 17] = [
 ];
 
 impl CallKind {
-    /// The word by which a script names a call of this kind.
+    /// Returns the word for a call of this kind in a script.
     pub fn word(self) -> &'static str
         ensures { result.now ≡ script_word self }
     {
@@ -72,7 +72,7 @@ impl CallKind {
         }
     }
 
-    /// The kind that a word names; `None` where no kind has this word.
+    /// Returns the kind with this word; `None` if no kind has it.
     pub fn of_word(word: &[u8]) -> Option<CallKind>
         ensures { result ≡ kind_named word.now }
     {

@@ -1,5 +1,5 @@
-//! The calls of the kernel and what each is answered, as definitions over the list of all past calls. What those
-//! definitions mean is proved here, of all lawful lists and without any code of a kernel.
+//! The calls of the kernel and the result of each, defined over the list of all past calls. The crate proves what these
+//! definitions mean for all lawful lists, without any code of a kernel.
 #![tactic(auto)]
 
 pub mod call;

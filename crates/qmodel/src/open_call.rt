@@ -1,4 +1,4 @@
-//! A call that isn't ended: what its thread is blocked in.
+//! Open calls: calls that haven't ended, in which their threads are blocked.
 
 use qbase::bytes::Bytes;
 use qbase::ids::{ChannelId, ConnectionId, ThreadNo};
@@ -6,28 +6,28 @@ use qbase::priority::Priority;
 use qbase::state::ThreadState;
 use qqueue::item::Kind;
 
-/// What is kept of a message's receipt.
+/// The kernel's record of a message's receipt.
 #[derive(Clone, Copy, Debug, PartialEq, Eq)]
 pub struct Receipt {
     /// The priority that the message was received with.
     pub priority: Priority,
-    /// Whether an unblock pulse was made for it.
+    /// Whether an unblock pulse was made for the message.
     pub unblocked: bool,
-    /// How many of its bytes were copied.
+    /// The number of the message's bytes that were copied.
     pub copied: usize,
 }
 
-/// What a blocked thread waits for.
+/// The event that a blocked thread waits for.
 #[derive(Debug, Drop)]
 pub enum Wait {
-    /// For an answer to its message: SEND-blocked while there is no receipt, and then REPLY-blocked.
+    /// The answer to its message: the thread is SEND-blocked while there is no receipt, and then REPLY-blocked.
     Answer {
         coid: ConnectionId,
         message: Bytes,
         reply_buffer: Bytes,
         receipt: Option<Receipt>,
     },
-    /// For an item of this kind: RECEIVE-blocked.
+    /// An item of this kind: the thread is RECEIVE-blocked.
     Item {
         chid: ChannelId,
         kind: Kind,
@@ -42,7 +42,7 @@ pub struct OpenCall {
     pub wait: Wait,
 }
 
-/// A thread that is blocked, as a trace's text tells of it.
+/// A blocked thread, as the text of a trace shows it.
 #[derive(Clone, Copy, Debug, PartialEq, Eq)]
 pub struct Blocked {
     /// The number of its open call.

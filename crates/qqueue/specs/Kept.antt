@@ -1,4 +1,4 @@
--- What the lists of a queue keep true.
+-- The invariant of the lists of a queue.
 use Rattle.std.specs.Prelude.{◌≡◌, ℕ, ◌+◌, ◌<◌, ◌≤◌, Bool, true, false, Option}
 use Rattle.std.specs.Vec.{vec_len}
 use Rattle.slab.specs.Slab.{Slab, slab_len}
@@ -13,14 +13,14 @@ abbrev pub first_at : Lane → Lane → Bool → ℕ → Option ℕ
 first_at messages pulses true level = first_in pulses level
 first_at messages pulses false level = first_in messages level
 
--- the nodes of each kind and level are one ring, in rising number, that begins at the first key
+-- the nodes of each kind and level are one ring, in rising number, which begins at the first key
 abbrev pub AreRings : (Bool → ℕ → Option ℕ) → Slab Node → Type 0
 AreRings first nodes =
     (pulse : Bool) (level : ℕ) → (first pulse level ≡ first_of (keys_on pulse level (places_of nodes)))
     × Ring nodes (keys_on pulse level (places_of nodes))
 
--- each item has a number of its own and stands on just one ring; the slab has the room that is counted; where
--- there are nodes or room for them, there are first keys
+-- each item has a number of its own and is on exactly one ring; the slab has at least the counted room; if
+-- there are nodes or room for them, there is room for the first keys
 pub record IsKept (lists : Lists) : Type 0 where
   pub rises : Rises (places_of lists.nodes)
   pub rings : AreRings (first_at lists.messages lists.pulses) lists.nodes

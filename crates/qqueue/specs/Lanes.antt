@@ -5,7 +5,7 @@ use Rattle.qqueue.specs.declared.item.Item.{Item}
 use Rattle.qqueue.specs.declared.lane.Lane.{Lane}
 use Rattle.qbase.specs.ByteSet.{has}
 
--- the key of a level's first node; none where the level isn't in the set
+-- the key of a level's first node; None if the level isn't in the set
 abbrev pub first_in : Lane → ℕ → Option ℕ
 first_in lane level = if has lane.levels level then Some (slice_index lane.firsts.items level) else None
 
@@ -13,8 +13,8 @@ first_in lane level = if has lane.levels level then Some (slice_index lane.first
 abbrev pub IsForemost : (ℕ → Option ℕ) → ℕ × ℕ → Type 0
 IsForemost first found = (first found.0 ≡ Some found.1) × ((above : ℕ) → found.0 < above → first above ≡ None)
 
--- of a message and a pulse, each under its level and key, the chosen key is that of the greater level, or of
--- the lesser number
+-- given a message and a pulse, each with its level and key, the chosen key is that of the greater level, or
+-- of the lesser number if both have one level
 abbrev pub IsEarlier : ℕ × ℕ → Item → ℕ × ℕ → Item → ℕ → Type 0
 IsEarlier message m pulse p chosen =
     chosen ≡ (if nat_lt pulse.0 message.0 || ((message.0 == pulse.0) && nat_lt m.number p.number)

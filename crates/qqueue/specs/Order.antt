@@ -10,11 +10,11 @@ use Rattle.qqueue.specs.Contents.{IsRising}
 abbrev pub comes_before : Item → Item → Bool
 comes_before a b = nat_lt b.priority a.priority || ((a.priority == b.priority) && nat_lt a.number b.number)
 
--- of two items of different numbers just one comes before the other
+-- of two items with different numbers, exactly one comes before the other
 abbrev pub JustOneComesBefore : Type 0
 JustOneComesBefore = (a b : Item) → a.number ≢ b.number → comes_before a b ≡ not (comes_before b a)
 
--- what comes before an item that comes before a third comes before that third
+-- if a comes before b and b before c, a comes before c
 abbrev pub BeforeIsTransitive : Type 0
 BeforeIsTransitive = (a b c : Item) → IsTrue (comes_before a b) → IsTrue (comes_before b c)
     → IsTrue (comes_before a c)
@@ -23,18 +23,18 @@ BeforeIsTransitive = (a b c : Item) → IsTrue (comes_before a b) → IsTrue (co
 abbrev pub NoneBeforeItself : Type 0
 NoneBeforeItself = (a : Item) → IsFalse (comes_before a a)
 
--- of the items, x may be taken and comes before every other that may be taken
+-- x is one of the items, may be taken, and comes before every other item that may be taken
 pub record IsFirst (kind : Kind) (items : List Item) (x : Item) : Type 0 where
   pub among : Contains items x
   pub may : IsTrue (may_take kind x)
   pub first : All (λ y. IsTrue (may_take kind y) → y ≢ x → IsTrue (comes_before x y)) items
 
--- in a list of rising numbers the best is first
+-- in a list of rising numbers, the best item comes before all others that may be taken
 abbrev pub BestIsFirst : Type 0
 BestIsFirst = (kind : Kind) (items : List Item) (x : Item) → IsRising items → best_of kind items ≡ Some x
     → IsFirst kind items x
 
--- there is no best exactly where no item may be taken
+-- there is no best item exactly if no item may be taken
 abbrev pub NoBestIfNoneMayBeTaken : Type 0
 NoBestIfNoneMayBeTaken = (kind : Kind) (items : List Item) → (best_of kind items ≡ None)
     ↔ All (λ y. IsFalse (may_take kind y)) items

@@ -9,7 +9,7 @@ use Rattle.qqueue.specs.declared.item.Item.{Item}
 use Rattle.qqueue.specs.declared.node.Node.{Node}
 use Rattle.qqueue.specs.Best.{is_pulse}
 
--- an item with the key of its node, put at its place by number
+-- the places with one more, an item with the key of its node, inserted by number
 abbrev pub put_place : Item × ℕ → List (Item × ℕ) → List (Item × ℕ)
 put_place place [] = place ∷ []
 put_place place (first ∷ places) =
@@ -19,7 +19,7 @@ put_place place (first ∷ places) =
 abbrev pub places_after : ℕ → List (Item × ℕ) → List (Item × ℕ)
 places_after number places = filter (λ place. nat_lt number place.0.number) places
 
--- the items of these slots with their keys, in rising number, where the first slot has this key
+-- the items of these slots with their keys, in rising number; the first slot has this key
 abbrev pub places_from : ℕ → List (Option Node) → List (Item × ℕ)
 places_from key [] = []
 places_from key (None ∷ rest) = places_from (key + 1) rest
@@ -29,20 +29,20 @@ places_from key (Some node ∷ rest) = put_place (node.item, key) (places_from (
 abbrev pub places_of : Slab Node → List (Item × ℕ)
 places_of nodes = places_from 0 nodes.slots
 
--- the items of places
+-- the items of these places
 abbrev pub items_at : List (Item × ℕ) → List Item
 items_at places = map (λ place. place.0) places
 
--- how many items are pulses
+-- the number of items that are pulses
 abbrev pub pulses_of : List Item → ℕ
 pulses_of items = count_by (λ item. is_pulse item.what) items
 
--- the number of each item is greater than those in front of it
+-- each item has a greater number than those in front of it
 abbrev pub Rises : List (Item × ℕ) → Type 0
 Rises [] = Unit {0}
 Rises (first ∷ places) = AllByRecursion (λ place. first.0.number < place.0.number) places × Rises places
 
--- the item is a pulse, or it is a message
+-- the item is of this kind: true for a pulse, false for a message
 abbrev pub is_of : Bool → Item → Bool
 is_of true item = is_pulse item.what
 is_of false item = not (is_pulse item.what)
@@ -59,29 +59,29 @@ keys_on pulse level places = map (λ place. place.1) (filter (is_on pulse level)
 abbrev pub item_of : Slab Node → ℕ → Option Item
 item_of nodes key = option_map (λ node. node.item) (get nodes key)
 
--- the key that stands after a key
+-- the key after a key
 abbrev pub after_of : Slab Node → ℕ → Option ℕ
 after_of nodes key = option_map (λ node. node.after) (get nodes key)
 
--- the key that stands before a key
+-- the key before a key
 abbrev pub before_of : Slab Node → ℕ → Option ℕ
 before_of nodes key = option_map (λ node. node.before) (get nodes key)
 
--- y stands after x, and x before y
+-- y comes after x, and x before y
 abbrev pub Linked : Slab Node → ℕ → ℕ → Type 0
 Linked nodes x y = (after_of nodes x ≡ Some y) × (before_of nodes y ≡ Some x)
 
--- from x the links lead through the keys to z, and back
+-- the links lead from x through the keys to z, and back
 abbrev pub Path : Slab Node → ℕ → List ℕ → ℕ → Type 0
 Path nodes x [] z = Linked nodes x z
 Path nodes x (y ∷ keys) z = Linked nodes x y × Path nodes y keys z
 
--- the links lead through the keys, and from the last to the first
+-- the links lead through the keys, and from the last to the first, and back
 abbrev pub Ring : Slab Node → List ℕ → Type 0
 Ring nodes [] = Unit {0}
 Ring nodes (first ∷ keys) = Path nodes first keys first
 
--- the first of keys
+-- the first of these keys
 abbrev pub first_of : List ℕ → Option ℕ
 first_of [] = None
 first_of (first ∷ keys) = Some first

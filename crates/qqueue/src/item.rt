@@ -1,16 +1,16 @@
-//! What waits to be received.
+//! The messages and pulses that wait to be received.
 
 use qbase::ids::{ProcessNo, ReceiveId};
 use qbase::priority::Priority;
 
-/// What an item brings: a message, or one of the three kinds of pulse.
+/// The content of an item: a message, or one of the three kinds of pulse.
 #[derive(Clone, Copy, Debug, PartialEq, Eq)]
 pub enum What {
     /// A message; its bytes stay with the sender until it is received.
     Message,
     /// A pulse that a thread sent: a code from 0 to 127 and a value (`MsgSendPulse`).
     User { code: i8, value: i32 },
-    /// A pulse of the kernel: the sender of this held message wants to be unblocked.
+    /// A pulse of the kernel: the sender of this held message is to be unblocked.
     Unblock(ReceiveId),
     /// A pulse of the kernel: this process detached its last connection to the channel.
     Disconnect(ProcessNo),
@@ -20,7 +20,7 @@ impl What {
     ghost use Rattle.std.specs.Prelude.{◌≡◌};
     ghost use Rattle.qqueue.specs.Best.{is_pulse};
 
-    /// Whether it is a pulse, whose receipt gives nothing to answer.
+    /// Returns whether it is a pulse. A pulse is never answered.
     pub fn is_pulse(&self) -> bool
         ensures { result ≡ is_pulse self.now }
     {
@@ -34,20 +34,20 @@ impl What {
 /// A message or a pulse that was sent and not yet received.
 #[derive(Clone, Copy, Debug, PartialEq, Eq)]
 pub struct Item {
-    /// The number of the call that made it; the least was made first.
+    /// The number of the call that made it; numbers rise in the order of making.
     pub number: u64,
-    /// The greatest is received first.
+    /// Its priority; the item of the greatest priority is received first.
     pub priority: Priority,
-    /// What it brings.
+    /// Its content.
     pub what: What,
 }
 
-/// What a receive may take.
+/// The items that a receive may take.
 #[derive(Clone, Copy, Debug, PartialEq, Eq)]
 pub enum Kind {
     /// Messages and pulses (`MsgReceive`).
     Any,
-    /// Pulses alone (`MsgReceivePulse`).
+    /// Only pulses (`MsgReceivePulse`).
     PulseOnly,
 }
 
@@ -55,7 +55,7 @@ impl Kind {
     ghost use Rattle.std.specs.Prelude.{◌≡◌};
     ghost use Rattle.qqueue.specs.Best.{may_take};
 
-    /// Whether a receive of this kind may take the item.
+    /// Returns whether a receive of this kind may take the item.
     pub fn may_take(self, item: &Item) -> bool
         ensures { result ≡ may_take self item.now }
     {

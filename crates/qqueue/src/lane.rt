@@ -1,4 +1,4 @@
-//! The first nodes of the rings of one kind of items, a ring for each level.
+//! The first nodes of the rings of one kind of items, with one ring for each level of priority.
 
 ghost use Rattle.std.specs.Prelude.{◌≡◌, ◌≢◌, ◌≤◌, ℕ, None, Some, IfSome, IfNone, OnOk, OnErr};
 ghost use Rattle.std.specs.Vec.{vec_len, vec_capacity};
@@ -7,21 +7,21 @@ ghost use Rattle.qqueue.specs.Lanes.{first_in, IsForemost};
 use qbase::byte_set::ByteSet;
 use std::alloc::{AllocError, Global};
 
-/// How many levels there are.
+/// The number of levels: the priorities, and 0, which none has.
 const LEVELS: usize = 256;
 
-/// Which levels have nodes, and the key of each one's first node. A key means something only where its level
-/// is in the set.
+/// The set of levels that have nodes, and the key of each level's first node. A key has a meaning only if its level is
+/// in the set.
 #[derive(Debug, Drop)]
 pub struct Lane {
     /// The levels that have a node.
     pub levels: ByteSet,
-    /// The keys of the first nodes, by level; none until room is made.
+    /// The keys of the first nodes, by level; empty until `make` is called.
     pub firsts: Vec<usize>,
 }
 
 impl Lane {
-    /// No level has a node; takes no memory.
+    /// Makes a lane without nodes; takes no memory.
     pub fn new(alloc: Global) -> Lane
         ensures none { (level : ℕ) → first_in result level ≡ None }
         ensures empty { vec_len result.firsts ≡ 0 }
@@ -33,7 +33,7 @@ impl Lane {
         }
     }
 
-    /// Makes room for the keys, if there is none.
+    /// Makes room for the keys, if there is none yet; error if the allocator refuses.
     pub fn make(&mut self) -> Result<(), AllocError>
         requires { vec_len self.old.firsts ≤ 256 }
         ensures made { OnOk result (vec_len self.new.firsts ≡ 256) }
@@ -43,7 +43,7 @@ impl Lane {
         self.firsts.resize(LEVELS, 0)
     }
 
-    /// The key of a level's first node.
+    /// Returns the key of a level's first node; `None` if the level has no node.
     pub fn first(&self, level: u8) -> Option<usize>
         requires { vec_len self.now.firsts ≡ 256 }
         ensures { result ≡ first_in self.now level }
@@ -55,7 +55,7 @@ impl Lane {
         }
     }
 
-    /// Lets a level begin with a node.
+    /// Sets the first node of a level.
     pub fn set(&mut self, level: u8, key: usize)
         requires { vec_len self.old.firsts ≡ 256 }
         ensures set { first_in self.new level ≡ Some key }
@@ -66,7 +66,7 @@ impl Lane {
         self.levels.insert(level);
     }
 
-    /// Lets a level have no node.
+    /// Records that a level has no node.
     pub fn clear(&mut self, level: u8)
         ensures cleared { first_in self.new level ≡ None }
         ensures others { (other : ℕ) → other ≢ level → first_in self.new other ≡ first_in self.old other }
@@ -75,7 +75,7 @@ impl Lane {
         self.levels.remove(level);
     }
 
-    /// The greatest level that has a node, and the key of its first node.
+    /// Returns the greatest level that has a node, with the key of its first node; `None` if no level has one.
     pub fn foremost(&self) -> Option<(u8, usize)>
         requires { (level key : ℕ) → first_in self.now level ≡ Some key → vec_len self.now.firsts ≡ 256 }
         ensures some { IfSome result (λ found. IsForemost (first_in self.now) found) }

@@ -1,4 +1,4 @@
-//! Links between nodes.
+//! The links between nodes.
 
 ghost use Rattle.std.specs.Prelude.{◌≡◌, ◌≢◌, ◌+◌, ◌==◌, ℕ, None, Some, IfSome, IfNone, IsSome};
 ghost use Rattle.slab.specs.Slab.{get, slab_len, HasRoomFor};
@@ -8,7 +8,7 @@ use crate::item::Item;
 use crate::node::Node;
 use slab::Slab;
 
-/// Writes which node stands after one.
+/// Sets the node after a node.
 fn set_after(nodes: &mut Slab<Node>, key: usize, after: usize)
     requires { IsSome (item_of nodes.old key) }
     ensures set { after_of nodes.new key ≡ Some after }
@@ -22,7 +22,7 @@ fn set_after(nodes: &mut Slab<Node>, key: usize, after: usize)
     nodes[key].after = after;
 }
 
-/// Writes which node stands before one.
+/// Sets the node before a node.
 fn set_before(nodes: &mut Slab<Node>, key: usize, before: usize)
     requires { IsSome (item_of nodes.old key) }
     ensures set { before_of nodes.new key ≡ Some before }
@@ -36,7 +36,7 @@ fn set_before(nodes: &mut Slab<Node>, key: usize, before: usize)
     nodes[key].before = before;
 }
 
-/// Lets the second node stand after the first, and the first before the second.
+/// Links two nodes: the second comes after the first, and the first before the second.
 pub fn link(nodes: &mut Slab<Node>, first: usize, second: usize)
     requires first_there { IsSome (item_of nodes.old first) }
     requires second_there { IsSome (item_of nodes.old second) }
@@ -52,8 +52,8 @@ pub fn link(nodes: &mut Slab<Node>, first: usize, second: usize)
     set_before(nodes, second, first);
 }
 
-/// Adds a node that is a ring of its own, into the room that there is, and returns its key: the one that was
-/// vacated last.
+/// Adds a node that is a ring of its own, and returns its key: the one that was vacated last. Takes no memory, for
+/// there is room.
 pub fn add(nodes: &mut Slab<Node>, item: Item) -> usize
     requires { HasRoomFor nodes.old 1 }
     ensures key { result ≡ nodes.old.vacant_key }
@@ -74,7 +74,7 @@ pub fn add(nodes: &mut Slab<Node>, item: Item) -> usize
     })
 }
 
-/// The key of the item of a number, by a look at each node.
+/// Searches all nodes for the item of a number, and returns its key; `None` if there is no such item.
 fn search(nodes: &Slab<Node>, number: u64) -> Option<usize>
     ensures found { IfSome result (λ key. IfSome (item_of nodes.now key) (λ item. item.number ≡ number)) }
     ensures there { IfSome result (λ key. IsSome (item_of nodes.now key)) }
@@ -88,7 +88,8 @@ fn search(nodes: &Slab<Node>, number: u64) -> Option<usize>
     None
 }
 
-/// The key of the item of a number: this key, where the item is under it, or else by a search.
+/// Returns the key of the item of a number: `key`, if the item is under it, or else by a search of all nodes; `None` if
+/// there is no such item.
 pub fn key_of(nodes: &Slab<Node>, number: u64, key: usize) -> Option<usize>
     ensures found { IfSome result (λ key. IfSome (item_of nodes.now key) (λ item. item.number ≡ number)) }
     ensures there { IfSome result (λ key. IsSome (item_of nodes.now key)) }

@@ -1,4 +1,4 @@
-//! The nodes of a queue and its rings: one more item, one taken out, one of another priority, the best.
+//! The nodes and rings of a queue: adds items, takes them out, changes their priority, and finds the best one.
 
 ghost use Rattle.std.specs.Prelude.{◌≡◌, ◌≢◌, ◌+◌, ◌<◌, ◌≤◌, ℕ, [], ◌∷◌, ◌++◌, None, Some, IfSome, IfNone, IsSome, OnOk, OnErr, IsOk, if◌then◌else◌, unwrap_or};
 ghost use Rattle.std.specs.List.{AllByRecursion};
@@ -17,7 +17,8 @@ use qbase::priority::Priority;
 use slab::Slab;
 use std::alloc::{AllocError, Global};
 
-/// Nodes, and for each level a ring of messages and a ring of pulses, each in rising number.
+/// The nodes of a queue, with a ring of messages and a ring of pulses for each level of priority. Each ring is in
+/// rising number.
 #[derive(Debug, Drop)]
 pub struct Lists {
     /// The rings of messages.
@@ -26,19 +27,19 @@ pub struct Lists {
     pub pulses: Lane,
     /// The nodes of both.
     pub nodes: Slab<Node>,
-    /// For how many more nodes there is room.
+    /// The number of nodes that can still be added without taking memory.
     pub room: usize,
 }
 
-/// How many more nodes fit without memory.
+/// Returns how many nodes can still be added without taking memory.
 fn room_of(nodes: &Slab<Node>) -> usize
     ensures { slab_len nodes.now + result ≡ nodes.now.capacity }
 {
     nodes.capacity() - nodes.len()
 }
 
-/// Puts a node that is a ring of its own on a level's ring: before the next node, or behind all others where
-/// there is no next.
+/// Moves a node that is a ring of its own to a level's ring: before the node `next`, or behind all others if `next` is
+/// `None`.
 fn join(lane: &mut Lane, nodes: &mut Slab<Node>, level: u8, key: usize, next: Option<usize>)
     requires made { vec_len lane.old.firsts ≡ 256 }
     requires there { IsSome (item_of nodes.old key) }
@@ -64,7 +65,7 @@ fn join(lane: &mut Lane, nodes: &mut Slab<Node>, level: u8, key: usize, next: Op
     }
 }
 
-/// Closes a level's ring where a node was taken out, whose neighbours these were.
+/// Closes a level's ring after `node` was taken out of it.
 fn close_up(lane: &mut Lane, nodes: &mut Slab<Node>, key: usize, node: Node)
     requires made { vec_len lane.old.firsts ≡ 256 }
     requires before_there { node.after ≢ key → IsSome (item_of nodes.old node.before) }
@@ -88,8 +89,8 @@ fn close_up(lane: &mut Lane, nodes: &mut Slab<Node>, key: usize, node: Node)
     }
 }
 
-/// The key of the first node of the ring of an item's kind and level whose number is greater than the item's,
-/// where the ring begins at this key.
+/// Returns the key of the first node with a greater number than the item's, in the ring that begins at the key `first`;
+/// `None` if no number is greater. The ring is that of the item's kind and level.
 fn next_from(nodes: &Slab<Node>, first: usize, item: &Item) -> Option<usize>
     requires rises { Rises (places_of nodes.now) }
     requires first { first_of (keys_on (is_pulse item.now.what) item.now.priority (places_of nodes.now)) ≡ Some first }
@@ -109,8 +110,8 @@ fn next_from(nodes: &Slab<Node>, first: usize, item: &Item) -> Option<usize>
     Some(key)
 }
 
-/// Of the foremost message and the foremost pulse, each with its level, the one that is received first: of
-/// one level the one of lesser number.
+/// Returns the key of the foremost message or the foremost pulse, whichever is received first: the one of the greater
+/// level, or of the lesser number if both have one level.
 fn earlier(nodes: &Slab<Node>, message: (u8, usize), pulse: (u8, usize)) -> usize
     requires message_there { IsSome (item_of nodes.now message.1) }
     requires pulse_there { IsSome (item_of nodes.now pulse.1) }
@@ -134,7 +135,7 @@ fn earlier(nodes: &Slab<Node>, message: (u8, usize), pulse: (u8, usize)) -> usiz
 impl Lists {
     ghost use Rattle.qqueue.specs.Kept.{IsKept};
 
-    /// No items, and no memory.
+    /// Makes empty lists; takes no memory.
     pub fn new(alloc: Global) -> Lists
         ensures kept { IsKept result }
         ensures empty { result.nodes.slots ≡ [] }
@@ -151,7 +152,8 @@ impl Lists {
         }
     }
 
-    /// Makes room for `n` more nodes and, the first time, for the keys of the first ones.
+    /// Makes room for `n` more nodes and, the first time, for the keys of the first nodes; error if the allocator
+    /// refuses.
     pub fn reserve(&mut self, n: usize) -> Result<(), AllocError>
         requires { IsKept self.old }
         ensures kept { IsKept self.new }
@@ -171,7 +173,7 @@ impl Lists {
         Ok(())
     }
 
-    /// Puts an item behind all others, into the room that there is, and returns its key.
+    /// Adds an item behind all others, and returns its key. Takes no memory, for there is room.
     pub fn append(&mut self, item: Item) -> usize
         requires kept { IsKept self.old }
         requires room { 0 < self.old.room }
@@ -184,7 +186,7 @@ impl Lists {
         self.put(item, None)
     }
 
-    /// Puts an item at its place by number, into the room that there is, and returns its key.
+    /// Adds an item at its place by number, and returns its key. Takes no memory, for there is room.
     fn insert(&mut self, item: Item) -> usize
         requires kept { IsKept self.old }
         requires room { 0 < self.old.room }
@@ -198,7 +200,8 @@ impl Lists {
         self.put(item, next)
     }
 
-    /// Puts an item before the next one of its kind and level, into the room that there is, and returns its key.
+    /// Adds an item before the node `next` of its kind and level, or behind all of them if `next` is `None`, and
+    /// returns its key. Takes no memory, for there is room.
     fn put(&mut self, item: Item, next: Option<usize>) -> usize
         requires kept { IsKept self.old }
         requires room { 0 < self.old.room }
@@ -221,7 +224,7 @@ impl Lists {
         key
     }
 
-    /// The key of the first of the items of an item's kind and level whose number is greater.
+    /// Returns the key of the first item of the same kind and level that has a greater number; `None` if there is none.
     fn next_of(&self, item: &Item) -> Option<usize>
         requires kept { IsKept self.now }
         requires room { 0 < self.now.room }
@@ -236,7 +239,7 @@ impl Lists {
         next_from(&self.nodes, first?, item)
     }
 
-    /// Takes out the item under a key.
+    /// Takes the item under a key out, and returns it.
     pub fn take_out(&mut self, key: usize) -> Item
         requires kept { IsKept self.old }
         requires there { IsSome (item_of self.old.nodes key) }
@@ -258,8 +261,8 @@ impl Lists {
         node.item
     }
 
-    /// Gives the item under a key another priority: it then stands at its place by number among the items of
-    /// that priority, under the same key.
+    /// Changes the priority of the item under a key. It moves to its place by number among the items of that priority,
+    /// and keeps its key.
     pub fn requeue(&mut self, key: usize, priority: Priority)
         requires kept { IsKept self.old }
         requires there { IsSome (item_of self.old.nodes key) }
@@ -271,14 +274,14 @@ impl Lists {
     {
         let room = self.room;
         let item = self.take_out(key);
-        // The key that was vacated last is the first that is given out: the item comes under its own again.
+        // The key that was vacated last is used first, so the item gets its own key again.
         self.insert(Item { priority, ..item });
-        // What was taken out left room for what came: the room that was promised is the same.
+        // The item that was taken out left room for itself, so the reserved room is the same.
         self.room = room;
     }
 
-    /// The key of the item that a receive of this kind takes: the first of the greatest level, found by the
-    /// sets of levels alone.
+    /// Returns the key of the item that a receive of this kind takes, the first of the greatest level; `None` if there
+    /// is none. Looks only at the sets of levels.
     pub fn best(&self, kind: Kind) -> Option<usize>
         requires { IsKept self.now }
         ensures best { item_at self.now.nodes result ≡ best_of kind (items_at (places_of self.now.nodes)) }
@@ -291,7 +294,7 @@ impl Lists {
         }
     }
 
-    /// The key of the best of all items, where this is the foremost pulse.
+    /// Returns the key of the best of all items, given the foremost pulse; `None` if there are no items.
     fn best_with(&self, pulse: Option<(u8, usize)>) -> Option<usize>
         requires kept { IsKept self.now }
         requires some { IfSome pulse (λ found. IsForemost (first_in self.now.pulses) found) }

@@ -1,14 +1,14 @@
-//! Nodes: what is kept for an item.
+//! The nodes, one for each item.
 
 use crate::item::Item;
 
 /// An item that stands on a ring of nodes, named by their keys.
 #[derive(Clone, Copy, Debug)]
 pub struct Node {
-    /// What waits.
+    /// The item.
     pub item: Item,
-    /// The key of the node before it; before the first stands the last.
+    /// The key of the node before it; the last node comes before the first.
     pub before: usize,
-    /// The key of the node after it; after the last stands the first.
+    /// The key of the node after it; the first node comes after the last.
     pub after: usize,
 }

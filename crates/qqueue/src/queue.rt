@@ -16,12 +16,12 @@ use qbase::priority::Priority;
 use std::alloc::Global;
 use std::marker::Model;
 
-/// The messages and pulses that were sent to one channel and not yet received, in the order in which they
-/// were sent. Contracts see its items and the room that is reserved for more; how they are kept isn't seen.
+/// The messages and pulses that were sent to one channel and not yet received, in the order in which they were sent.
+/// Contracts see the items and the room that is reserved for more, but not how they are kept.
 #[derive(Debug, Drop)]
 pub struct Queue {
     lists: Lists,
-    // How many of the items are pulses.
+    // The number of items that are pulses.
     pulses: usize,
 }
 
@@ -38,7 +38,7 @@ impl Model for Queue {
     ghost invariant = { λ q. IsKept q.lists × (q.pulses ≡ pulses_of (items_at (places_of q.lists.nodes))) };
 }
 
-/// Takes out the item under a key, and counts the pulses that are left.
+/// Takes the item under a key out, keeps the count of pulses right, and returns the item.
 fn take_out(lists: &mut Lists, pulses: &mut usize, key: usize) -> Item
     requires kept { IsKept lists.old }
     requires there { IsSome (item_of lists.old.nodes key) }
@@ -57,7 +57,7 @@ fn take_out(lists: &mut Lists, pulses: &mut usize, key: usize) -> Item
 }
 
 impl Queue {
-    /// An empty queue; takes no memory.
+    /// Makes an empty queue; takes no memory.
     pub fn new(alloc: Global) -> Queue
         ensures { result ≡ record { items = []; room = 0 } }
     {
@@ -67,13 +67,13 @@ impl Queue {
         }
     }
 
-    /// Makes room for `n` more items, the only call of a queue that takes memory.
+    /// Makes room for `n` more items; `NoMemory` if the allocator refuses. No other method of a queue takes memory.
     pub fn reserve(&mut self, n: usize) -> Result<(), Errno>
         ensures items { self.new.items ≡ self.old.items }
         ensures room { OnOk result (n ≤ self.new.room) }
         ensures kept { self.old.room ≤ self.new.room }
 
-        // The error is want of memory, where the room was missing; then nothing is changed.
+        // The error is `NoMemory`, and only if room was missing; then nothing changes.
         ensures succeeds { n ≤ self.old.room → IsOk result }
         ensures error { IfErr result (λ e. e ≡ NoMemory) }
         ensures err { OnErr result (self.new ≡ self.old) }
@@ -81,9 +81,9 @@ impl Queue {
         self.lists.reserve(n).map_err(|_| Errno::NoMemory)
     }
 
-    /// Puts an item behind all others, into the room that was reserved; takes no memory: just one place of the
-    /// room is used. Returns the item's key, by which `remove` and `requeue` find it at once: it keeps this key
-    /// for as long as it waits.
+    /// Adds an item behind all others. There must be room for it, made by `reserve`: one place of it is used, and no
+    /// memory is taken. Returns the item's key, by which `remove` and `requeue` find it at once; the item keeps this
+    /// key for as long as it waits.
     pub fn push(&mut self, item: Item) -> usize
         requires room { 0 < self.old.room }
         requires newest { AllByRecursion (λ x. x.number < item.number) self.old.items }
@@ -99,7 +99,7 @@ impl Queue {
         key
     }
 
-    /// The item that `take` would give.
+    /// Returns the item that `take` would return, and leaves it in the queue.
     pub fn best(&self, kind: Kind) -> Option<&Item>
         ensures { option_copied result ≡ best_of kind self.now.items }
     {
@@ -107,8 +107,8 @@ impl Queue {
         Some(&self.lists.nodes[key].item)
     }
 
-    /// Takes out the item of greatest priority that a receive of this kind may take; among equals the one
-    /// that was sent first (messages and pulses in one order: own profile).
+    /// Takes out the item of greatest priority that a receive of this kind may take, and among equals the one that was
+    /// sent first (messages and pulses in one order: own profile). `None` if there is no such item.
     pub fn take(&mut self, kind: Kind) -> Option<Item>
         ensures best { result ≡ best_of kind self.old.items }
         ensures rest { IfSome result (λ item. self.new.items ≡ without_item item.number self.old.items) }
@@ -119,8 +119,9 @@ impl Queue {
         Some(take_out(&mut self.lists, &mut self.pulses, best))
     }
 
-    /// Takes out the item of this number, whatever its priority. The key is a guess, and may be any number: the
-    /// item is found at once where it is the one that `push` returned, and otherwise by a look at each item.
+    /// Takes out the item of this number, whatever its priority; `None` if there is no such item. The key is a hint,
+    /// and may be any number: the item is found at once if it is the key that `push` returned, and otherwise by a
+    /// search of all items.
     pub fn remove(&mut self, number: u64, key: usize) -> Option<Item>
         ensures found { result ≡ item_of_number number self.old.items }
         ensures rest { self.new.items ≡ without_item number self.old.items }
@@ -131,9 +132,9 @@ impl Queue {
         Some(take_out(&mut self.lists, &mut self.pulses, key))
     }
 
-    /// Gives the item of this number another priority, and says whether there is one; takes no memory. It then
-    /// stands among the items of its new priority at its place by number, not behind them. The key is a guess,
-    /// as in `remove`.
+    /// Changes the priority of the item of this number; takes no memory. Returns whether there is such an item. It
+    /// moves to its place by number among the items of its new priority, not behind them. The key is a hint, as in
+    /// `remove`.
     pub fn requeue(&mut self, number: u64, priority: Priority, key: usize) -> bool
         ensures found { result ≡ is_some (item_of_number number self.old.items) }
         ensures items { self.new.items ≡ with_item_priority number priority self.old.items }
@@ -149,7 +150,7 @@ impl Queue {
         }
     }
 
-    /// How many items wait.
+    /// Returns the number of items.
     pub fn len(&self) -> usize
         ensures count { result ≡ length self.now.items }
         ensures rising { IsRising self.now.items }
@@ -157,14 +158,14 @@ impl Queue {
         self.lists.nodes.len()
     }
 
-    /// Whether none waits.
+    /// Returns whether there are no items.
     pub fn is_empty(&self) -> bool
         ensures { result ≡ (length self.now.items == 0) }
     {
         self.lists.nodes.is_empty()
     }
 
-    /// How many of the items are pulses, the kernel's own among them.
+    /// Returns the number of items that are pulses, including the kernel's own.
     pub fn pulses(&self) -> usize
         ensures { result ≡ count_by (λ x. is_pulse x.what) self.now.items }
     {

@@ -1,4 +1,4 @@
--- What a rule may read of the past.
+-- The facts of the past that a rule may read.
 use Rattle.std.specs.Prelude.{◌&&◌, ◌+◌, ◌==◌, ◌||◌, if◌then◌else◌}
 use Rattle.qrules.specs.Words.{[], bit_and, false, find, is_some, map, member_at, option_and_then}
 use Rattle.qrules.specs.Words.{option_map_or, Bool, Connection, Item, Kind, List, Member, None, Option, Some}
@@ -7,7 +7,7 @@ use Rattle.qrules.specs.Trace.{Bytes, CallNo, ChannelId, ConnectionId, Priority,
 use Rattle.qrules.specs.Trace.{ThreadNo}
 pub use Rattle.qmodel.specs.Trace.{OpenChannel}
 
--- how a message was received
+-- the receipt of a message
 pub record Receipt : Type 0 where
   pub priority : Priority  -- the message's, as it was received
   pub copied : ℕ  -- how many of its bytes
@@ -30,7 +30,7 @@ pub record OpenReceive : Type 0 where
   pub kind : Kind  -- what it may take
   pub buffer : Bytes
 
--- what is so after all past calls
+-- the facts after all past calls
 pub record Facts : Type 0 where
   pub roster : List Member  -- the threads, in rising number
   pub number : CallNo  -- of the call that is answered
@@ -48,11 +48,11 @@ pub record Facts : Type 0 where
 abbrev pub threads_of : List Member → List ThreadNo
 threads_of roster = map (λ m. m.thread) roster
 
--- the channel is open and has this flag: 1 fixes priorities, 2 tells of unblocks, 4 tells of disconnects
+-- the channel is open and has this flag: 1 is FIXED_PRIORITY, 2 is UNBLOCK, 4 is DISCONNECT
 abbrev pub has_flag : ℕ → Option OpenChannel → Bool
 has_flag flag channel = option_map_or (λ c. bit_and c.flags.0 flag == flag) channel false
 
--- how many of the numbers up to n have something
+-- how many of the numbers from 1 to n have a value that isn't None
 abbrev pub count_to : {A : Type 0} → (ℕ → Option A) → ℕ → ℕ
 count_to at Prim.Native.Nat.zero = 0
 count_to at (Prim.Native.Nat.suc n) = (if is_some (at (n + 1)) then 1 else 0) + count_to at n
@@ -74,7 +74,7 @@ module _ (f : Facts) where
   abbrev pub leads_to : ConnectionId → ChannelId → Bool
   leads_to k h = option_map_or (λ c. c.channel == h) (f.connection k) false
 
-  -- the open channel that the thread may send to over connection k, which its process attached
+  -- the open channel that the thread may send to over connection k, if its process attached this connection
   abbrev pub route : ThreadNo → ConnectionId → Option ChannelId
   route t k = option_and_then
       (λ c. if is_of_process t c.process && is_some (f.channel c.channel) then Some c.channel else None)

@@ -1,4 +1,4 @@
--- What the endings of a call have to be, by what was so before it.
+-- The endings that a call must have, given the facts before it.
 use Rattle.std.specs.Prelude.{◌==◌, ◌∷◌, ◌≡◌, ◌⊎◌, if◌then◌else◌}
 use Rattle.qrules.specs.Words.{[], false, filter_map, find, true, Bool, Busy, Call, Completion, Down, Errno}
 use Rattle.qrules.specs.Words.{List, NoMemory, None, Option, Some}
@@ -13,16 +13,18 @@ module _ (f : Facts) (t : ThreadNo) (c : Call) where
   abbrev pub row : Row
   row = (rule_of c).row f t
 
-  -- the first refusal that applies: Down after a shutdown, then Busy of a blocked thread, then the row's own
+  -- the first refusal that applies: Down after a shutdown, then Busy if the caller is blocked, then the row's
+  -- own
   abbrev pub first_refusal : Option Errno
   first_refusal = if f.down then Some Down else (if is_blocked f t then Some Busy else row.refusal)
 
-  -- the refusals that may be given: that one, or want of memory where there is none
+  -- the refusals that are allowed: that one, or lack of memory if there is none
   abbrev pub MayRefuse : Errno → Type 0
   MayRefuse e = (first_refusal ≡ Some e)
       ⊎ ((first_refusal ≡ None) × (row.takes_memory ≡ true) × (e ≡ NoMemory))
 
-  -- accepted: each thread gets its ending, in rising number; refused: the caller alone gets its buffer back
+  -- accepted: the endings are those of the row, in rising thread number; refused: only the caller gets an
+  -- ending, with its buffer
   abbrev pub Outcome : Bool → List Completion → Type 0
   Outcome true endings = (first_refusal ≡ None)
       × (endings ≡ filter_map (λ u. find (λ x. x.thread == u) row.endings) (threads_of f.roster))

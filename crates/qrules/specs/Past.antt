@@ -1,4 +1,4 @@
--- What is searched for in the list of all past calls.
+-- Searches in the list of all past calls.
 use Rattle.std.specs.Prelude.{◌&&◌, ◌+◌, ◌==◌, ◌||◌, ◌∷◌, if◌then◌else◌}
 use Rattle.qrules.specs.Words.{[], false, filter, filter_map, find, fold, is_pulse, is_some, lay_over, length}
 use Rattle.qrules.specs.Words.{list_any, map, member_at, not, option_and_then, option_map, option_map_or}
@@ -40,7 +40,7 @@ accepted_calls (e ∷ past) = let call : AcceptedCall =
 abbrev pub accepted_call : Trace → CallNo → Option AcceptedCall
 accepted_call past i = find (λ c. c.number == i) (accepted_calls past)
 
--- an accepted call did this
+-- an accepted call had an effect for which the condition is true
 abbrev pub was_done : (Effect → Bool) → Trace → Bool
 was_done is_such past = list_any (λ c. is_such c.effect) (accepted_calls past)
 
@@ -54,7 +54,7 @@ is_number number i = option_map_or (λ n. n == i) number false
 abbrev pub is_ended : Trace → CallNo → Bool
 is_ended past i = list_any (λ x. x.call == i) (endings_of past)
 
--- an item that is received, and how many bytes were copied, none of a pulse
+-- an item that is received, and how many bytes were copied, 0 for a pulse
 pub record ReceivedItem : Type 0 where
   pub number : CallNo
   pub copied : ℕ
@@ -79,7 +79,7 @@ is_received past i = is_some (received_item past i)
 abbrev pub is_destroyed : Trace → ChannelId → Bool
 is_destroyed past h = was_done (λ e. is_number e.destroys h) past
 
--- channel h as it was created: of its thread's process
+-- channel h as it was created, owned by its thread's process
 abbrev pub created_channel : List Member → Trace → ChannelId → Option OpenChannel
 created_channel roster past h = option_and_then (λ c. option_and_then
     (λ m. option_map (λ flags. record { owner = m.process; flags = flags }) c.effect.creates)
@@ -89,7 +89,7 @@ created_channel roster past h = option_and_then (λ c. option_and_then
 abbrev pub channel_at : List Member → Trace → ChannelId → Option OpenChannel
 channel_at roster past h = if is_destroyed past h then None else created_channel roster past h
 
--- connection k as it was attached: of its thread's process
+-- connection k as it was attached, by its thread's process
 abbrev pub attached_connection : List Member → Trace → ConnectionId → Option Connection
 attached_connection roster past k = option_and_then (λ c. option_and_then
     (λ m. option_map (λ h. record { process = m.process; channel = h }) c.effect.attaches)
@@ -102,11 +102,11 @@ connection_at roster past k =
 
 -- ---- items
 
--- of these items the one of number i
+-- the one of these items that has number i
 abbrev pub item_among : List SentItem → CallNo → Option SentItem
 item_among items i = find (λ m. m.item.number == i) items
 
--- the priority of an item, 0 where there is none
+-- the priority of an item; 0 if there is none
 abbrev pub priority_of_item : Option SentItem → Priority
 priority_of_item item = option_map_or (λ m. m.item.priority) item 0
 
@@ -127,29 +127,30 @@ priority_set_since (e ∷ past) i t = if i == length past + 1 then None
     else option_or (if is_received past i then None else priority_set_by e past t)
     (priority_set_since past i t)
 
--- an item's priority by now: a message takes on what is set for its sender until it is received
+-- an item's present priority: a priority that is set for a message's sender is the message's, too, until it
+-- is received
 abbrev pub current_priority : Trace → Item → Priority
 current_priority past item = if is_pulse item.what then item.priority
     else unwrap_or (option_and_then (priority_set_since past item.number) (sender_of past item.number))
     item.priority
 
--- these items as they are by now
+-- these items with their present priorities
 abbrev pub items_by_now : Trace → List SentItem → List SentItem
 items_by_now past items = map
     (λ m. record { item = with_priority (current_priority past m.item) m.item; channel = m.channel }) items
 
--- the item waits no more: it is received, or is a message whose Send is ended
+-- the item doesn't wait any more: it is received, or it is a message whose Send is ended
 abbrev pub is_gone : Trace → Item → Bool
 is_gone past item = is_received past item.number || (not (is_pulse item.what) && is_ended past item.number)
 
--- of these items those that wait on channel h to be received
+-- those of these items that wait on channel h to be received
 abbrev pub pending_among : Trace → List SentItem → ChannelId → List Item
 pending_among past items h = if is_destroyed past h then []
     else map (λ m. m.item) (filter (λ m. (m.channel == h) && not (is_gone past m.item)) items)
 
 -- ---- open calls
 
--- the call that thread t waits in: its newest accepted one that may wait, unless that is ended
+-- the call that thread t waits in: its newest accepted call that may wait, unless that is ended
 abbrev pub waiting_call : Trace → ThreadNo → Option AcceptedCall
 waiting_call past t = option_and_then (λ c. if is_ended past c.number then None else Some c)
     (find (λ c. (c.thread == t) && (is_some c.effect.sends || is_some c.effect.receives))
@@ -166,7 +167,7 @@ abbrev pub is_unblock_for : ReceiveId → What → Bool
 is_unblock_for i (what.Unblock rcvid) = rcvid == i
 is_unblock_for i other = false
 
--- the open Send of thread t, by all items as they are by now
+-- the open Send of thread t, given all items with their present priorities
 abbrev pub send_after : Trace → List SentItem → ThreadNo → Option OpenSend
 send_after past items t = option_and_then (λ c. option_map (λ s. record {
   number = c.number;

@@ -49,8 +49,8 @@ is_answer (mark.Replied status copied) = true
 is_answer (mark.Errored code) = true
 is_answer other = false
 
--- the ending answers the message that the event's call names: while it was held, by a thread of the process
--- that owns its channel, and to the thread that sent it
+-- the ending answers the message that the event's call names, while the message was held; the caller's
+-- process owns the message's channel, and the ending goes to the thread that sent it
 pub record AnswersIts (roster : List Member) (past : Trace) (e : Event) (x : Completion) : Type 0 where
   pub named : (effect_of e.call).answers ≡ Some x.call
   pub accepted : is_accepted e past ≡ true
@@ -59,42 +59,44 @@ pub record AnswersIts (roster : List Member) (past : Trace) (e : Event) (x : Com
       (item_among (items roster past) x.call) false ≡ true
   pub sender : sender_of past x.call ≡ Some x.thread
 
--- an accepted call that answers a message has just one ending of its Send
+-- an accepted call that answers a message has exactly one ending of that message's Send
 abbrev pub AnswersOnce : Trace → Event → Type 0
 AnswersOnce past e = (i : ReceiveId) → (effect_of e.call).answers ≡ Some i → is_accepted e past ≡ true
     → count_by (λ x. x.call == i) e.endings ≡ 1
 
--- each ending that is an answer answers its message so, and each accepted answer has one
+-- each ending that is an answer meets AnswersIts, and each accepted call that answers has exactly one
 abbrev pub AnsweredToSender : List Member → Trace → Type 0
 AnsweredToSender roster = InEachEvent (λ past e.
     AllByRecursion (λ x. is_answer x.mark ≡ true → AnswersIts roster past e x) e.endings × AnswersOnce past e)
 
--- ---- every buffer and every count is what was to be copied
+-- ---- every buffer and every count is exactly as the copying requires
 
 -- the bytes of message i
 abbrev pub message_at : Trace → ReceiveId → Bytes
 message_at past i =
     option_map_or (λ s. s.message) (option_and_then (λ c. (effect_of c).sends) (call_at past i)) []
 
--- the buffer of call i: a Send's with what was written over it, and any other's as the call brought it
+-- the buffer of call i: a Send's with the bytes that were written over it, any other as the call brought it
 abbrev pub buffer_at : Trace → CallNo → Bytes
 buffer_at past i = option_map_or (λ c. if is_some (effect_of c).sends
     then with_writes past i (buffer_of (effect_of c)) else buffer_of (effect_of c)) (call_at past i) []
 
--- these bytes are laid over the buffer from the offset on, and counted: what it is after, and how many
+-- after is the buffer with these bytes copied over it from the offset on, and copied is their count
 abbrev pub IsLaid : Bytes → ℕ → Bytes → Bytes → ℕ → Type 0
 IsLaid buffer offset bytes after copied =
     (after ≡ lay_over buffer offset bytes) × (copied ≡ laid_count buffer offset bytes)
 
--- a Read lays the message from its offset on over its buffer, a Write has no buffer, and no other call counts
+-- a Read copies the message from its offset on over its buffer, a Write has no buffer, and no other call
+-- counts
 abbrev pub IsCounted : Trace → Effect → Completion → ℕ → Type 0
 IsCounted past e x copied = MatchOption e.reads
     (IsSomeAnd e.writes
     (λ w. (x.buffer ≡ []) × (copied ≡ laid_count (buffer_at past w.rcvid) w.offset w.bytes)))
     (λ r. IsLaid r.bytes 0 (drop r.offset (message_at past r.rcvid)) x.buffer copied)
 
--- a receipt lays the message over the front of the receiver's buffer, a reply its bytes over the sender's,
--- a Read and a Write copy what they count, and any other ending gives the buffer as it is by then
+-- a receipt copies the message over the front of the receiver's buffer, and a reply its bytes over the
+-- sender's; a Read and a Write copy as many bytes as they count; any other ending returns the buffer in its
+-- present state
 abbrev pub IsCopied : Trace → Event → Completion → Mark → Type 0
 IsCopied past e x (mark.Message rcvid copied) =
     IsLaid (buffer_at (e ∷ past) x.call) 0 (message_at (e ∷ past) rcvid) x.buffer copied
@@ -104,22 +106,23 @@ IsCopied past e x (mark.Replied status copied) =
 IsCopied past e x (mark.Count copied) = IsCounted past (effect_of e.call) x copied
 IsCopied past e x other = x.buffer ≡ buffer_at (e ∷ past) x.call
 
--- each ending is copied so
+-- the bytes of each ending are copied in this way
 abbrev pub CopiedExactly : Trace → Type 0
 CopiedExactly = InEachEnding (λ past e x. IsCopied past e x x.mark)
 
 -- ---- a receipt takes the item of greatest priority, and among equals the one that was made first
 
--- what could be taken from channel h in this event: what was pending before it, and the item that it makes
+-- the items that could be taken from channel h in this event: those pending before it, and the one that it
+-- makes
 abbrev pub takeable : List Member → Trace → Event → ChannelId → List Item
 takeable roster past e h = (facts_of roster past).pending h ++ map (λ m. m.item)
     (filter (λ m. m.channel == h) (option_to_list (item_made_by (facts_of roster past) e past)))
 
--- what call i asks to receive
+-- the request of call i, if it is a receive
 abbrev pub request_of : Trace → CallNo → Option ReceiveRequest
 request_of past i = option_and_then (λ c. (effect_of c).receives) (call_at past i)
 
--- the ending receives item i as the best of what its call may take
+-- the ending receives item i, which is the best that its call may take
 pub record TakesBest
     (roster : List Member) (past : Trace) (e : Event) (x : Completion) (i : CallNo) : Type 0 where
   pub request : ReceiveRequest
@@ -132,7 +135,7 @@ abbrev pub BestFirst : List Member → Trace → Type 0
 BestFirst roster =
     InEachEnding (λ past e x. (i : CallNo) → number_received x ≡ Some i → TakesBest roster past e x i)
 
--- ---- of what was sent over one connection and has one priority, what was sent first is received first
+-- ---- items of one priority, sent over one connection, are received in the order in which they were sent
 
 -- the connection over which item i was sent
 abbrev pub connection_of : Trace → CallNo → Option ConnectionId
@@ -153,13 +156,13 @@ abbrev pub priority_before : List Member → Trace → Event → CallNo → Prio
 priority_before roster past e i =
     priority_of_item (item_among (items_by_now past (items roster (e ∷ past))) i)
 
--- nothing that could be taken, was sent over connection k and had the priority of item j is earlier than j
+-- no item that could be taken, was sent over connection k and had the priority of item j is earlier than j
 abbrev pub IsEarliest : List Member → Trace → Event → CallNo → ConnectionId → Type 0
 IsEarliest roster past e j k = (h : ChannelId) → AllByRecursion
     (λ item. connection_of (e ∷ past) item.number ≡ Some k → item.priority ≡ priority_before roster past e j
     → j ≤ item.number) (takeable roster past e h)
 
--- each receipt by a Receive of what was sent over a connection takes the earliest of its priority
+-- each receipt by a Receive of an item that was sent over a connection takes the earliest of its priority
 abbrev pub SentOrder : List Member → Trace → Type 0
 SentOrder roster = InEachEnding
     (λ past e x. (j : CallNo) (k : ConnectionId) → TakesSent (e ∷ past) x j k → IsEarliest roster past e j k)
@@ -184,7 +187,7 @@ ShutForGood roster = InEachEvent
 
 -- ---- all six
 
--- what every lawful trace has
+-- the six properties that every lawful trace has
 pub record HasProperties (roster : List Member) (past : Trace) : Type 0 where
   pub received_once : ReceivedOnce roster past
   pub answered_to_sender : AnsweredToSender roster past

@@ -1,4 +1,4 @@
--- What the rule of a call says: what the call is answered, and what it does to the past.
+-- The rule of a call: its answer, and its effect.
 use Rattle.std.specs.Prelude.{◌++◌, ◌∷◌}
 use Rattle.qrules.specs.Words.{[], false, option_map, option_or, unwrap_or, Bool, ChannelFlags, Completion}
 use Rattle.qrules.specs.Words.{Errno, Kind, List, Mark, None, Option, What, ℕ, ℤ}
@@ -6,7 +6,7 @@ use Rattle.qrules.specs.Trace.{Bytes, ChannelId, ConnectionId, Priority, Receive
 use Rattle.qrules.specs.Facts.{Facts}
 pub use Rattle.qmodel.specs.Trace.{SentItem}
 
--- what a call is answered
+-- the answer to a call
 pub record Row : Type 0 where
   pub refusal : Option Errno  -- the first of its own refusals that applies
   pub takes_memory : Bool  -- it may also be refused for want of memory
@@ -25,23 +25,23 @@ own_row f t refusal mark buffer =
 abbrev pub plain_row : Facts → ThreadNo → Option Errno → Mark → Row
 plain_row f t refusal mark = own_row f t refusal mark []
 
--- the row with these endings too
+-- the row with these endings added
 abbrev pub with_endings : Row → List Completion → Row
 with_endings row endings = record row { endings = row.endings ++ endings }
 
--- what a Send brings
+-- the operands of a Send
 pub record SendRequest : Type 0 where
   pub connection : ConnectionId
   pub message : Bytes
   pub reply_buffer : Bytes
 
--- what a Receive or a ReceivePulse brings
+-- the operands of a Receive or a ReceivePulse
 pub record ReceiveRequest : Type 0 where
   pub channel : ChannelId
   pub kind : Kind  -- what it may take
   pub buffer : Bytes  -- empty for a ReceivePulse
 
--- bytes that are read of a message, or written over its sender's reply buffer
+-- a transfer of bytes: a read of a message, or a write over its sender's reply buffer
 pub record Transfer : Type 0 where
   pub rcvid : ReceiveId  -- of the message
   pub offset : ℕ  -- where in the message, or in the reply buffer
@@ -52,7 +52,7 @@ pub record PriorityChange : Type 0 where
   pub thread : ThreadNo
   pub priority : Priority
 
--- what an accepted call does: all that a later search may look for
+-- the effect of an accepted call: all that a later search in the past may look for
 pub record Effect : Type 0 where
   pub sends : Option SendRequest  -- it sends a message, and waits for the answer
   pub receives : Option ReceiveRequest  -- it receives an item, or waits for one

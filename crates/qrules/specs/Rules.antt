@@ -1,4 +1,4 @@
--- The table of calls: of each call its rule.
+-- The table of calls: the rule of each call.
 pub mod Channels
 pub mod Connections
 pub mod Send
@@ -43,6 +43,6 @@ rule_of (calls.State thread) = state thread
 rule_of (calls.Unblock thread) = unblock thread
 rule_of calls.Shutdown = shutdown
 
--- what a call does
+-- the effect of a call, if it is accepted
 abbrev pub effect_of : Call → Effect
 effect_of c = (rule_of c).effect

@@ -1,4 +1,4 @@
--- The list of all past calls, and what is read of it alone.
+-- The list of all past calls, and definitions that depend only on it.
 use Rattle.std.specs.Prelude.{◌+◌, ◌==◌, ◌∷◌, if◌then◌else◌}
 use Rattle.qrules.specs.Words.{[], flat_map, length, Call, Completion, List, None, Option, Some, ℕ}
 pub use Rattle.qmodel.specs.Trace.{CallNo, ChannelId, ConnectionId, Event, OpenChannel, Priority, ProcessNo}
@@ -13,7 +13,7 @@ abbrev pub InEachEvent : (Trace → Event → Type 0) → Trace → Type 0
 InEachEvent P [] = Unit {0}
 InEachEvent P (e ∷ past) = InEachEvent P past × P past e
 
--- the past followed by events, of which the oldest stands first
+-- the past followed by these events, which are given with the oldest first
 abbrev pub followed_by : Trace → List Event → Trace
 followed_by past [] = past
 followed_by past (e ∷ events) = followed_by (e ∷ past) events

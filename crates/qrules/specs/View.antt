@@ -1,4 +1,4 @@
--- What a thread's open call is, as the kernel keeps it: an open Send or an open receive.
+-- A thread's open call, as the kernel keeps it, seen as an open Send or an open receive.
 use Rattle.qrules.specs.Words.{option_and_then, option_map, None, Option, Some}
 use Rattle.qrules.specs.Trace.{CallNo, ThreadNo}
 use Rattle.qrules.specs.Facts.{OpenReceive, OpenSend, Receipt}
@@ -7,11 +7,11 @@ use Rattle.qmodel.specs.declared.open_call.Receipt.{Receipt as KeptReceipt}
 use Rattle.qmodel.specs.declared.open_call.Wait.{Wait}
 use Rattle.qmodel.specs.declared.open_call.Wait.TheVariants.{Answer, Item as ForItem}
 
--- what is kept of a receipt
+-- the receipt of a kept record
 abbrev pub receipt_view : KeptReceipt → Receipt
 receipt_view r = record { priority = r.priority; copied = r.copied; unblocked = r.unblocked }
 
--- call n of thread u, where it waits for an answer
+-- call n of thread u, if it waits for an answer
 abbrev pub send_in : ThreadNo → CallNo → Wait → Option OpenSend
 send_in u n (Answer coid message reply_buffer receipt) = Some (record {
   number = n;
@@ -27,7 +27,7 @@ send_in u n (ForItem chid kind buffer) = None
 abbrev pub send_view : ThreadNo → Option OpenCall → Option OpenSend
 send_view u call = option_and_then (λ o. send_in u o.number o.wait) call
 
--- call n of thread u, where it waits for an item
+-- call n of thread u, if it waits for an item
 abbrev pub receive_in : ThreadNo → CallNo → Wait → Option OpenReceive
 receive_in u n (Answer coid message reply_buffer receipt) = None
 receive_in u n (ForItem chid kind buffer) =

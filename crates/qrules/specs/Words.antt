@@ -1,4 +1,5 @@
--- The words of the library, of the tables and of the calls that the definitions use. Declares nothing.
+-- The words of the library, of the tables and of the calls that the definitions use. Declares none of its
+-- own.
 -- A module `declared` has the types of the Rattle code as the prover sees them: bytes are a list of numbers.
 pub use Rattle.std.specs.Prelude.{not, Bool, true, false, IsTrue}
 pub use Rattle.std.specs.Prelude.{ℕ, ℤ, pos, nat_lt, int_lt, bit_and}

@@ -1,3 +1,3 @@
-//! The rules of the kernel's calls, and what every lawful trace has, as definitions over the list of all past calls. The
-//! crate has no function: it is cited by contracts.
+//! The rules of the kernel's calls, and the properties of every lawful trace, defined over the list of all past calls.
+//! The crate has no functions: contracts cite its definitions.
 #![tactic(auto)]

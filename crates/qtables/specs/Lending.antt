@@ -1,5 +1,5 @@
--- What a table ends as, once a `&mut` to one of its records has ended: the record of this number is the last
--- value written through r, and at `None` the table stays as it is.
+-- The table after a `&mut` to one of its records has ended: the record of this number is the last value that
+-- was written through r. If r is `None`, the table is as it was.
 use Rattle.std.specs.Prelude.{ℕ, List, Option}
 use Rattle.std.specs.Borrow.{LendsIf, Fml, RattleType, MutBor}
 use Rattle.qtables.specs.Entries.{with_record}
@@ -10,7 +10,7 @@ use Rattle.qtables.specs.contracts.connection.Connection.{the_row as connection_
 use Rattle.qtables.specs.declared.connection.Connection.{Connection}
 
 module _ (R : RattleType) (t : MutBor (List (ℕ × R.Denot))) (id : ℕ) (r : Option (MutBor R.Denot)) where
-  -- for the entries that channels and connections share
+  -- for the map that channels and connections use
   abbrev pub lends_entry : Fml
   lends_entry = LendsIf (entries_row R) R t r (with_record t.now id) t.now
 

@@ -11,11 +11,10 @@ use qbase::ids::ChannelId;
 use std::alloc::Global;
 use std::marker::Model;
 
-/// How many channels may be open at a time (own profile).
+/// The greatest number of channels that may be open at a time (own profile).
 pub const CHANNEL_LIMIT: usize = 64;
 
-/// The open channels: a map from id to what the kernel keeps of a channel. Contracts see the entries in
-/// rising id.
+/// The open channels: a map from a channel's id to the kernel's record of it. Contracts see the entries in rising id.
 #[derive(Drop)]
 pub struct Channels<Record> {
     entries: Entries<Record>,
@@ -38,7 +37,7 @@ impl<Record: Drop> Channels<Record> {
     ghost use Rattle.qtables.specs.Entries.{entry_at, with_record, without_entry, IsRising};
     ghost use Rattle.qtables.specs.Lending.{lends_channel};
 
-    /// No channels, and no memory.
+    /// Makes an empty table of channels; takes no memory.
     pub fn new(alloc: Global) -> Channels<Record>
         ensures { result ≡ [] }
     {
@@ -47,8 +46,8 @@ impl<Record: Drop> Channels<Record> {
         }
     }
 
-    /// Opens a channel whose id is greater than all open ones', or gives its record back: `Again` where
-    /// 64 are open, and `NoMemory` where the allocator refused.
+    /// Opens a channel, whose id must be greater than those of all open channels. On an error it returns the record:
+    /// `Again` if 64 channels are open, or else `NoMemory` if the allocator refuses.
     pub fn create(&mut self, number: ChannelId, entry: Record) -> Result<(), (Errno, Record)>
         requires { AllByRecursion (λ e. e.0 < number) self.old }
         ensures ok { OnOk result (self.new ≡ self.old ++ (number, entry) ∷ []) }
@@ -60,14 +59,14 @@ impl<Record: Drop> Channels<Record> {
         self.entries.create(number.0, entry, CHANNEL_LIMIT)
     }
 
-    /// What is kept of a channel.
+    /// Returns the record of a channel; `None` if the channel isn't open.
     pub fn get(&self, id: ChannelId) -> Option<&Record>
         ensures { option_copied result ≡ entry_at self.now id }
     {
         self.entries.get(id.0)
     }
 
-    /// What is kept of a channel, for writing.
+    /// Returns the record of a channel, for writing; `None` if the channel isn't open.
     pub fn get_mut(&mut self, id: ChannelId) -> Option<&mut Record>
         ensures* writes_back { sem 𝓛 (lends_channel Record.row self.entry id result) }
         ensures value { option_copied_mut result ≡ entry_at self.old id }
@@ -78,7 +77,7 @@ impl<Record: Drop> Channels<Record> {
         self.entries.get_mut(id.0)
     }
 
-    /// Takes a channel out; takes no memory.
+    /// Removes a channel and returns its record; `None` if the channel isn't open. Takes no memory.
     pub fn remove(&mut self, id: ChannelId) -> Option<Record>
         ensures value { result ≡ entry_at self.old id }
         ensures after { self.new ≡ without_entry self.old id }
@@ -87,7 +86,7 @@ impl<Record: Drop> Channels<Record> {
         self.entries.remove(id.0)
     }
 
-    /// How many are open.
+    /// Returns the number of open channels, at most 64.
     pub fn len(&self) -> usize
         ensures value { result ≡ length self.now }
         ensures fits { length self.now ≤ 64 }
@@ -96,7 +95,7 @@ impl<Record: Drop> Channels<Record> {
         self.entries.len()
     }
 
-    /// Whether none is open.
+    /// Returns whether no channel is open.
     pub fn is_empty(&self) -> bool
         ensures { result ≡ (length self.now == 0) }
     {

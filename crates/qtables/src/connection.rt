@@ -1,9 +1,8 @@
-//! What is kept of a connection.
+//! The kernel's record of a connection.
 
 use qbase::ids::{ChannelId, ProcessNo};
 
-/// The process that attached, any thread of which may use the connection, and the channel that it
-/// leads to.
+/// A connection: the process that attached it, all of whose threads may use it, and the channel that it leads to.
 #[derive(Clone, Copy, Debug, PartialEq, Eq)]
 pub struct Connection {
     pub process: ProcessNo,

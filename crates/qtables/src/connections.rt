@@ -12,7 +12,7 @@ use qbase::ids::{ChannelId, ConnectionId, ProcessNo};
 use std::alloc::Global;
 use std::marker::Model;
 
-/// How many connections may be live at a time (own profile).
+/// The greatest number of connections that may be live at a time (own profile).
 pub const CONNECTION_LIMIT: usize = 1024;
 
 /// The live connections: a map from id to connection. Contracts see the entries in rising id.
@@ -36,7 +36,7 @@ impl Connections {
     ghost use Rattle.qtables.specs.Entries.{entry_at, without_entry, IsRising};
     ghost use Rattle.qtables.specs.Lending.{lends_connection};
 
-    /// No connections, and no memory.
+    /// Makes an empty table of connections; takes no memory.
     pub fn new(alloc: Global) -> Connections
         ensures { result ≡ [] }
     {
@@ -45,8 +45,8 @@ impl Connections {
         }
     }
 
-    /// Adds a connection whose id is greater than all live ones', or gives it back: `Again` where 1,024
-    /// are live, and `NoMemory` where the allocator refused.
+    /// Adds a connection, whose id must be greater than those of all live connections. On an error it returns the
+    /// connection: `Again` if 1,024 connections are live, or else `NoMemory` if the allocator refuses.
     pub fn create(
         &mut self,
         number: ConnectionId,
@@ -62,14 +62,14 @@ impl Connections {
         self.entries.create(number.0, entry, CONNECTION_LIMIT)
     }
 
-    /// A connection.
+    /// Returns a connection; `None` if it isn't live.
     pub fn get(&self, id: ConnectionId) -> Option<&Connection>
         ensures { option_copied result ≡ entry_at self.now id }
     {
         self.entries.get(id.0)
     }
 
-    /// A connection, for writing.
+    /// Returns a connection, for writing; `None` if it isn't live.
     pub fn get_mut(&mut self, id: ConnectionId) -> Option<&mut Connection>
         ensures* writes_back { sem 𝓛 (lends_connection self.entry id result) }
         ensures value { option_copied_mut result ≡ entry_at self.old id }
@@ -77,7 +77,7 @@ impl Connections {
         self.entries.get_mut(id.0)
     }
 
-    /// Takes a connection out; takes no memory.
+    /// Removes a connection and returns it; `None` if it isn't live. Takes no memory.
     pub fn remove(&mut self, id: ConnectionId) -> Option<Connection>
         ensures value { result ≡ entry_at self.old id }
         ensures after { self.new ≡ without_entry self.old id }
@@ -86,7 +86,7 @@ impl Connections {
         self.entries.remove(id.0)
     }
 
-    /// How many are live.
+    /// Returns the number of live connections, at most 1,024.
     pub fn len(&self) -> usize
         ensures value { result ≡ length self.now }
         ensures fits { length self.now ≤ 1024 }
@@ -95,14 +95,14 @@ impl Connections {
         self.entries.len()
     }
 
-    /// Whether none is live.
+    /// Returns whether no connection is live.
     pub fn is_empty(&self) -> bool
         ensures { result ≡ (length self.now == 0) }
     {
         self.len() == 0
     }
 
-    /// How many connections a process has to a channel.
+    /// Returns how many connections a process has to a channel.
     pub fn count(&self, process: ProcessNo, channel: ChannelId) -> usize
         ensures { result ≡ count_by (λ e. (e.1.process == process) && (e.1.channel == channel)) self.now }
     {

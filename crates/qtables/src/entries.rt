@@ -1,4 +1,4 @@
-//! Records by number, kept in rising number: what channels and connections have in common.
+//! A map from numbers to records, which the tables of channels and of connections use.
 
 ghost use Rattle.std.specs.Prelude.{◌≡◌, ◌<◌, ◌≤◌, nat_lt, ◌+◌, [], ◌∷◌, ◌++◌, length, slice_get, option_copied, if◌then◌else◌, IfErr, IfSome, IfNone, OnOk, OnErr, OnSome, None, Some};
 ghost use Rattle.std.specs.List.{AllByRecursion};
@@ -11,9 +11,9 @@ use slab::Slab;
 use std::alloc::Global;
 use std::marker::Model;
 
-/// Records by number. A record stands in a slot beside its number, until it is taken out. The index has the
-/// numbers, which rise, each with the key of its slot: a slot is found by its number alone, so one that is
-/// used again answers to no old number.
+/// A map from numbers to records. A record stays in one slot, beside its number, until it is removed. The index has the
+/// numbers in rising order, each with the key of its slot. A slot is found only by its number, so an old number never
+/// leads to a slot that is used again.
 #[derive(Drop)]
 pub struct Entries<Record> {
     slots: Slab<(u64, Record)>,
@@ -34,7 +34,7 @@ impl<Record> Model for Entries<Record> {
     ghost invariant = { λ a. IsIndexed a.slots a.index.items };
 }
 
-/// The place of a number in an index.
+/// Returns the place of a number in an index; `None` if it isn't there.
 fn place_of(index: &[(u64, usize)], number: u64) -> Option<usize>
     requires { IsRising index.now }
     ensures there { IfSome result (λ place. option_map (λ e. e.0) (slice_get index.now place) ≡ Some number) }
@@ -43,7 +43,7 @@ fn place_of(index: &[(u64, usize)], number: u64) -> Option<usize>
     index.binary_search_by_key(&number, |entry| entry.0).ok()
 }
 
-/// The key that a number has in an index.
+/// Returns the key that a number has in an index; `None` if it isn't there.
 fn key_of(index: &[(u64, usize)], number: u64) -> Option<usize>
     requires { IsRising index.now }
     ensures { result ≡ entry_at index.now number }
@@ -55,7 +55,7 @@ fn key_of(index: &[(u64, usize)], number: u64) -> Option<usize>
 impl<Record: Drop> Entries<Record> {
     ghost use Rattle.qtables.specs.Lending.{lends_entry};
 
-    /// No entries, and no memory.
+    /// Makes an empty map; takes no memory.
     pub fn new(alloc: Global) -> Entries<Record>
         ensures { result ≡ [] }
     {
@@ -65,8 +65,8 @@ impl<Record: Drop> Entries<Record> {
         }
     }
 
-    /// Adds an entry after all others, or gives the record back: `Again` at the limit, and `NoMemory`
-    /// where the allocator refused.
+    /// Adds an entry, whose number must be greater than all others. On an error it returns the record: `Again` if there
+    /// are `limit` entries, or else `NoMemory` if the allocator refuses.
     pub fn create(
         &mut self,
         number: u64,
@@ -92,7 +92,7 @@ impl<Record: Drop> Entries<Record> {
         Ok(())
     }
 
-    /// The record of a number.
+    /// Returns the record of a number; `None` if there is none.
     pub fn get(&self, number: u64) -> Option<&Record>
         ensures { option_copied result ≡ entry_at self.now number }
     {
@@ -100,7 +100,7 @@ impl<Record: Drop> Entries<Record> {
         Some(&self.slots[key].1)
     }
 
-    /// The record of a number, for writing; its number isn't lent.
+    /// Returns the record of a number, for writing; `None` if there is none. The number itself can't be written.
     pub fn get_mut(&mut self, number: u64) -> Option<&mut Record>
         ensures* writes_back { sem 𝓛 (lends_entry Record.row self.entry number result) }
         ensures value { option_copied_mut result ≡ entry_at self.old number }
@@ -110,7 +110,8 @@ impl<Record: Drop> Entries<Record> {
         Some(&mut self.slots[key].1)
     }
 
-    /// Takes the entry of a number out. The index closes up, and no other record moves.
+    /// Removes the entry of a number and returns its record; `None` if there is none. The index closes the gap, and no
+    /// other record moves.
     pub fn remove(&mut self, number: u64) -> Option<Record>
         ensures value { result ≡ entry_at self.old number }
         ensures after { self.new ≡ without_entry self.old number }
@@ -123,7 +124,7 @@ impl<Record: Drop> Entries<Record> {
         Some(record)
     }
 
-    /// How many entries.
+    /// Returns the number of entries.
     pub fn len(&self) -> usize
         ensures value { result ≡ length self.now }
         ensures rising { IsRising self.now }
@@ -131,7 +132,7 @@ impl<Record: Drop> Entries<Record> {
         self.index.len()
     }
 
-    /// The record at a place of the entries.
+    /// Returns the record at a place of the entries, which are in rising number.
     pub fn at(&self, place: usize) -> &Record
         requires { place < length self.now }
         ensures { option_map (λ e. e.1) (slice_get self.now place) ≡ Some result.now }

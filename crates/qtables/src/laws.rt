@@ -1,4 +1,5 @@
-//! Laws of the definitions that the contracts of this crate cite.
+//! Laws of the definitions that the contracts of this crate use. The functions do nothing: the contract of each is a
+//! law.
 
 ghost use Rattle.std.specs.Prelude.{◌≡◌, ◌<◌, ℕ, ◌==◌, List, [], ◌∷◌, ◌++◌, None, Some, if◌then◌else◌, option_map};
 ghost use Rattle.std.specs.List.{AllByRecursion};
@@ -6,7 +7,7 @@ ghost use Rattle.qtables.specs.Entries.{entry_at, with_record, without_entry};
 ghost use Rattle.qtables.specs.declared.member.Member.{Member};
 ghost use Rattle.qtables.specs.Members.{member_at, with_member, IsRoster};
 
-/// A thread that isn't in a roster joins just its own entry, and the members rise as before.
+/// Adding a thread that isn't in the roster adds its own entry and changes no other; the members still rise in number.
 pub fn joins_just_its_own()
     ensures own { (m : Member) (roster : List Member) (thread : ℕ) → member_at roster m.thread ≡ None →
         member_at (with_member m roster) thread ≡ (if m.thread == thread then Some m else member_at roster thread) }
@@ -14,7 +15,7 @@ pub fn joins_just_its_own()
         IsRoster (with_member m roster) }
 {}
 
-/// A table is a map: each change of its entries changes the look-up of just one number.
+/// A table is a map: each change of its entries changes the look-up of exactly one number.
 pub fn tables_are_maps<Record>()
     ensures created { (entries : List (ℕ × Record)) (number : ℕ) (entry : Record) (id : ℕ) → AllByRecursion (λ e. e.0 < number) entries →
         entry_at (entries ++ (number, entry) ∷ []) id ≡ (if number == id then Some entry else entry_at entries id) }

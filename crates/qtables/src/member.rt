@@ -5,7 +5,7 @@ use qbase::priority::Priority;
 use std::alloc::Global;
 use std::default::MadeWith;
 
-/// A thread, its process and the priority that it begins with.
+/// A thread, with its process and the priority that it begins with.
 #[derive(Clone, Copy, Debug, PartialEq, Eq)]
 pub struct Member {
     pub thread: ThreadNo,
@@ -13,7 +13,7 @@ pub struct Member {
     pub priority: Priority,
 }
 
-// What stands in the unused places of a roster.
+// The value in the unused places of a roster.
 impl MadeWith<Global> for Member {
     fn made_with(_alloc: Global) -> Member {
         Member {

@@ -1,4 +1,4 @@
-//! The threads that a kernel knows.
+//! The roster: the threads that a kernel knows.
 
 ghost use Rattle.std.specs.Prelude.{◌≡◌, ◌<◌, ◌≤◌, ◌==◌, [], length, None, Some, IfOk, IfErr, OnOk, OnErr, MatchResult, is_some, option_map, slice_get, insert, true};
 ghost use Rattle.qtables.specs.declared.member.Member.{Member};
@@ -11,7 +11,7 @@ use qbase::priority::Priority;
 use std::alloc::Global;
 use std::marker::Model;
 
-/// How many threads a roster may have (own profile).
+/// The greatest number of threads in a roster (own profile).
 pub const THREAD_LIMIT: usize = 64;
 
 /// The threads, each with its process and the priority that it begins with. Contracts see the members in
@@ -37,7 +37,7 @@ impl Model for Roster {
 impl Roster {
     ghost use Rattle.qtables.specs.Members.{member_at, with_member, join_refusal, IsRoster};
 
-    /// No threads, and no memory.
+    /// Makes an empty roster; takes no memory.
     pub fn new(alloc: Global) -> Roster
         ensures { result ≡ [] }
     {
@@ -46,8 +46,8 @@ impl Roster {
         }
     }
 
-    /// Adds a thread; takes no memory. `Inval` where it is there, then `Again` where there are 64.
-    /// `first_message.rt` of `crates/balsaeuchre_uses` adds two.
+    /// Adds a thread; takes no memory. Error: `Inval` if the thread is in the roster already, or else `Again` if the
+    /// roster has 64 threads. `first_message.rt` of `crates/balsaeuchre_uses` adds two.
     pub fn add(
         &mut self,
         thread: ThreadNo,
@@ -78,7 +78,7 @@ impl Roster {
         }
     }
 
-    /// A thread's process and the priority that it begins with.
+    /// Returns a thread's process and the priority that it begins with; `None` if the thread isn't in the roster.
     pub fn get(&self, thread: ThreadNo) -> Option<(ProcessNo, Priority)>
         ensures { result ≡ option_map (λ m. (m.process, m.priority)) (member_at self.now thread) }
     {
@@ -91,7 +91,7 @@ impl Roster {
         }
     }
 
-    /// The threads, in rising number.
+    /// Returns the threads, in rising number.
     pub fn members(&self) -> &[Member]
         ensures all { result.now ≡ self.now }
         ensures rising { IsRoster result.now }
@@ -100,7 +100,7 @@ impl Roster {
         self.members.as_slice()
     }
 
-    /// How many threads.
+    /// Returns the number of threads, at most 64.
     pub fn len(&self) -> usize
         ensures value { result ≡ length self.now }
         ensures fits { result ≤ 64 }
@@ -108,14 +108,14 @@ impl Roster {
         self.members.len()
     }
 
-    /// Whether there are none.
+    /// Returns whether there are no threads.
     pub fn is_empty(&self) -> bool
         ensures { result ≡ (length self.now == 0) }
     {
         self.members.is_empty()
     }
 
-    // The place of a thread, or the place that it would have.
+    // Returns the place of a thread, or as an error the place where it would be inserted.
     fn search(&self, thread: ThreadNo) -> Result<usize, usize>
         ensures there { IfOk result (λ i.
             (i < length self.now)

@@ -1,5 +1,5 @@
--- On a channel with all three flags each is kept: priorities stay as they are, and a client that is to be
--- unblocked stays blocked while its message is held.
+-- On a channel with all three flags, each has its effect: priorities stay as they are, and a client that is
+-- to be unblocked stays blocked while its message is held.
 use Rattle.std.specs.Prelude.{List, [], ◌∷◌, replicate, pos, negsuc}
 use Rattle.qbase.specs.declared.errno.Errno.TheVariants.{Intr}
 use Rattle.qbase.specs.declared.state.ThreadState.TheVariants.{Ready, ReceiveBlocked, ReplyBlocked}
@@ -56,7 +56,7 @@ not_held = attached (
     ∷ event 31 (Unblock 31) (ended 10 31 mark.Ok [] ∷ [])
     ∷ [])
 
--- of two receivers the later one, which has the lesser thread number, takes a message, and then a pulse; its
+-- the later of two receivers, which has the lesser thread number, takes a message, and then a pulse; its
 -- priority stays as it is
 abbrev pub waiting : List Event
 waiting = attached (

@@ -1,5 +1,5 @@
--- An offset at the end or past it copies nothing. A message is answered with a code and no bytes, and by the
--- code 0 as by a reply of status 0.
+-- An offset at the end or past it copies nothing. An Error answers a message with a code and no bytes; the
+-- code 0 is like a reply of status 0.
 use Rattle.std.specs.Prelude.{List, [], ◌∷◌, pos}
 use Rattle.qmodel.specs.declared.call.Call.TheVariants.{Send, Receive, Error, Read, Write}
 use Rattle.qmodel.specs.declared.call.Mark.TheVariants as mark

@@ -1,4 +1,4 @@
--- What is counted towards a limit: what is open, live or pending by now, and nothing else.
+-- The limits count what is open, live or pending at the time, and nothing else.
 use Rattle.std.specs.Prelude.{count_by, ℕ, List, [], ◌∷◌, pos, negsuc}
 use Rattle.qbase.specs.declared.errno.Errno.TheVariants.{Srch, Inval}
 use Rattle.qqueue.specs.declared.item.What.TheVariants as what
@@ -13,9 +13,9 @@ use Rattle.qrules.specs.Trace.{Event}
 use Rattle.qworked.specs.Runs.{event, ended, flags_of}
 use Rattle.qworked.specs.ThreeProcesses.{attached, roster}
 
--- of three channels one is destroyed, and one isn't created; of five connections one is detached, and another
--- isn't attached; two pulses and a message are pending on channel 1, where one was received, and a pulse on
--- channel 4
+-- three ChannelCreates, one of them refused, and a ChannelDestroy; four ConnectAttaches, one of them refused,
+-- and a ConnectDetach; two pulses and a message are pending on channel 1, where a third pulse was received,
+-- and a pulse on channel 4
 abbrev pub events : List Event
 events = attached (
     event 35 (ChannelCreate (flags_of 0)) (ended 4 35 (mark.Channel 4) [] ∷ [])
@@ -36,10 +36,10 @@ events = attached (
     ∷ event 31 (ReceivePulse 1) (ended 19 31 (mark.Pulse 16 53 (what.User (pos 77) (pos 88))) [] ∷ [])
     ∷ [])
 
--- what may be read after them
+-- the facts after these events
 abbrev pub facts : Facts
 facts = facts_of roster (followed_by [] events)
 
--- how many pulses are pending on channel h then
+-- how many pulses are pending on channel h after them
 abbrev pub pulses_on : ℕ → ℕ
 pulses_on h = count_by (λ x. is_pulse x.what) (facts.pending h)

@@ -1,4 +1,4 @@
--- What doesn't fit a buffer is cut: a message that is received, bytes that are written, and a reply.
+-- A message that is received, the bytes of a Write and a reply are cut if they don't fit the buffer.
 use Rattle.std.specs.Prelude.{List, [], ◌∷◌, pos, negsuc}
 use Rattle.qmodel.specs.declared.call.Call.TheVariants.{Send, Receive, Reply, Write}
 use Rattle.qmodel.specs.declared.call.Mark.TheVariants as mark
@@ -6,7 +6,7 @@ use Rattle.qrules.specs.Trace.{Event}
 use Rattle.qworked.specs.Runs.{event, ended}
 use Rattle.qworked.specs.Setting.{connected}
 
--- a message of five bytes is received into two, and three are kept for its answer
+-- a message of five bytes is received into a buffer of two, and has a reply buffer of three
 abbrev pub events : List Event
 events = connected (
     event 2 (Send 2 (0x01 ∷ 0x02 ∷ 0x03 ∷ 0x04 ∷ 0x05 ∷ []) (0xcc ∷ 0xcc ∷ 0xcc ∷ [])) []

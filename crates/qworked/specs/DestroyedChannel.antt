@@ -1,4 +1,4 @@
--- A destroyed channel ends what is blocked on it, and nothing is done with it any more.
+-- A ChannelDestroy ends the calls that are blocked on the channel, and later calls on it are refused.
 use Rattle.std.specs.Prelude.{List, [], ◌∷◌, pos}
 use Rattle.qbase.specs.declared.errno.Errno.TheVariants.{Srch, Badf, Inval}
 use Rattle.qqueue.specs.declared.item.What.TheVariants as what

@@ -1,5 +1,5 @@
--- A detached connection cancels what was sent over it, and the server of a channel with the disconnect flag
--- is told of the last one.
+-- A ConnectDetach cancels the Sends over the connection, and the server of a channel with the disconnect flag
+-- gets a pulse for the last connection.
 use Rattle.std.specs.Prelude.{List, [], ◌∷◌, pos}
 use Rattle.qbase.specs.declared.errno.Errno.TheVariants.{Badf, Inval, Srch}
 use Rattle.qbase.specs.declared.state.ThreadState.TheVariants.{ReceiveBlocked}
@@ -12,7 +12,7 @@ use Rattle.qrules.specs.Trace.{Event}
 use Rattle.qworked.specs.Runs.{event, ended, blocked, flags_of}
 use Rattle.qworked.specs.Setting.{connected}
 
--- message 3 isn't received: it leaves the channel, and the connection leads nowhere
+-- message 3 isn't received: it leaves the channel, and the connection isn't live any more
 abbrev pub waiting : List Event
 waiting = connected (
     event 3 (Send 2 (0xaa ∷ []) (0x00 ∷ 0x00 ∷ [])) []
@@ -26,8 +26,8 @@ waiting = connected (
 abbrev pub nothing_there : List Blocked
 nothing_there = blocked 7 1 (ReceiveBlocked 1) ∷ []
 
--- message 3 is held, its server can't detach the client's connection, and after the client did there is
--- nothing to answer; what was sent over another connection of the client is answered
+-- message 3 is held; its server can't detach the client's connection; after the client has detached it, there
+-- is nothing to answer; the message over another connection of the client is answered
 abbrev pub held : List Event
 held = connected (
     event 3 (Send 2 (0xaa ∷ []) (0x00 ∷ [])) []
@@ -50,7 +50,7 @@ twice_attached events = connected (
     ∷ event 3 (ConnectAttach 3) (ended 5 3 (mark.Connection 5) [] ∷ [])
     ∷ events)
 
--- no pulse is made of the first detach, and one of the second, which waits
+-- the first ConnectDetach makes no pulse, and the second makes one, which waits
 abbrev pub told_once : List Event
 told_once = twice_attached (
     event 3 (ConnectDetach 4) (ended 6 3 mark.Ok [] ∷ [])
@@ -63,7 +63,7 @@ told_once = twice_attached (
 abbrev pub no_more : List Blocked
 no_more = blocked 9 1 (ReceiveBlocked 3) ∷ []
 
--- a server that waits takes the pulse at once, in the event that cancels what was sent over the connection
+-- a server that waits takes the pulse at once, in the event that cancels the Send over the connection
 abbrev pub taken_at_once : List Event
 taken_at_once = twice_attached (
     event 3 (ConnectDetach 4) (ended 6 3 mark.Ok [] ∷ [])
@@ -75,8 +75,8 @@ taken_at_once = twice_attached (
     ∷ event 1 (Receive 3 []) []
     ∷ [])
 
--- a client's process has connections 2 and 3 to one channel; a message that was sent over connection 3 is
--- told as such, and stays held as connection 2 is detached
+-- a client's process has connections 2 and 3 to one channel; an Info of a message that was sent over
+-- connection 3 returns that connection, and the message stays held when connection 2 is detached
 abbrev pub beside_another : List Event
 beside_another = connected (
     event 3 (ConnectAttach 1) (ended 3 3 (mark.Connection 3) [] ∷ [])
@@ -99,8 +99,9 @@ beside_another = connected (
     (ended 8 1 mark.Ok [] ∷ ended 4 2 (mark.Replied (pos 0) 1) (0xbb ∷ 0x00 ∷ []) ∷ [])
     ∷ [])
 
--- a client's process has connections 2 and 3 to one channel; Info says of a message that was sent over the
--- older one, 2, that it was; it stays held as connection 3 is detached, and is ended as connection 2 is
+-- a client's process has connections 2 and 3 to one channel; an Info of a message that was sent over the
+-- older one, 2, returns that connection; the message stays held when connection 3 is detached, and its Send
+-- ends when connection 2 is detached
 abbrev pub beside_a_newer : List Event
 beside_a_newer = connected (
     event 2 (ConnectAttach 1) (ended 3 2 (mark.Connection 3) [] ∷ [])

@@ -7,7 +7,7 @@ use Rattle.qmodel.specs.declared.call.Mark.TheVariants as mark
 use Rattle.qrules.specs.Trace.{Event}
 use Rattle.qworked.specs.Runs.{member, event, ended, flags_of, with_endings}
 
--- a server and a client, each a process of its own
+-- a server and a client, each with a process of its own
 abbrev pub roster : List Member
 roster = member 1 1 10 ∷ member 2 2 20 ∷ []
 
@@ -21,7 +21,7 @@ events =
     ∷ event 1 (Reply 3 (pos 0) []) (ended 5 1 mark.Ok [] ∷ ended 3 2 (mark.Replied (pos 0) 0) [] ∷ [])
     ∷ []
 
--- the sender isn't told that its message is answered
+-- the sender gets no ending for the answer to its message
 abbrev pub one_left_out : List Event
 one_left_out = with_endings 5 (ended 5 1 mark.Ok [] ∷ []) events
 
@@ -33,11 +33,11 @@ one_added = with_endings 3 (ended 3 2 (mark.Replied (pos 0) 0) [] ∷ []) events
 abbrev pub mark_changed : List Event
 mark_changed = with_endings 4 (ended 4 1 (mark.Message 2 0) [] ∷ []) events
 
--- the client is told that the server's call ended
+-- the ending of the server's call goes to the client
 abbrev pub thread_changed : List Event
 thread_changed = with_endings 4 (ended 4 2 (mark.Message 3 0) [] ∷ []) events
 
--- the message is answered as it is received, and not as the server replies
+-- the message is answered when it is received, and not when the server replies
 abbrev pub one_moved : List Event
 one_moved = with_endings 5 (ended 5 1 mark.Ok [] ∷ [])
     (with_endings 4 (ended 4 1 (mark.Message 3 0) [] ∷ ended 3 2 (mark.Replied (pos 0) 0) [] ∷ []) events)

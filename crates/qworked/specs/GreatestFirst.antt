@@ -1,5 +1,5 @@
--- Of the messages that are pending the server receives the one of greatest priority first, and among equals
--- the one that was sent first.
+-- The server receives the pending message of greatest priority first, and among equals the one that was sent
+-- first.
 use Rattle.std.specs.Prelude.{List, [], ◌∷◌}
 use Rattle.qbase.specs.declared.state.ThreadState.TheVariants.{ReplyBlocked}
 use Rattle.qmodel.specs.declared.call.Call.TheVariants.{ConnectAttach, Send, Receive}
@@ -9,7 +9,7 @@ use Rattle.qrules.specs.Trace.{Event}
 use Rattle.qworked.specs.Runs.{event, ended, blocked, with_endings}
 use Rattle.qworked.specs.Setting.{connected}
 
--- of two messages the later has the greater priority
+-- the later of two messages has the greater priority
 abbrev pub events : List Event
 events = connected (
     event 4 (ConnectAttach 1) (ended 3 4 (mark.Connection 3) [] ∷ [])
@@ -52,6 +52,6 @@ ties = connected (
     ∷ event 1 (Receive 1 (0x00 ∷ [])) (ended 9 1 (mark.Message 4 1) (0x01 ∷ []) ∷ [])
     ∷ [])
 
--- all three are held then
+-- all three messages are held after these events
 abbrev pub all_wait : List Blocked
 all_wait = blocked 5 2 (ReplyBlocked 1) ∷ blocked 6 3 (ReplyBlocked 1) ∷ blocked 4 4 (ReplyBlocked 1) ∷ []

@@ -1,4 +1,4 @@
--- A message that is held is told of, read and written to, until it is answered.
+-- Info, Read and Write are allowed on a held message until it is answered.
 use Rattle.std.specs.Prelude.{List, [], ◌∷◌, pos}
 use Rattle.qbase.specs.declared.errno.Errno.TheVariants.{Srch}
 use Rattle.qmodel.specs.declared.call.Call.TheVariants.{Send, Receive, Reply, Read, Write, Info}

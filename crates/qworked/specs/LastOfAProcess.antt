@@ -1,4 +1,4 @@
--- The server is told of the last connection of each process, though another process is still attached.
+-- The server gets a pulse for the last connection of each process, though another process is still attached.
 use Rattle.std.specs.Prelude.{List, [], ◌∷◌, pos, negsuc}
 use Rattle.qbase.specs.declared.errno.Errno.TheVariants.{Badf, Inval, Srch}
 use Rattle.qqueue.specs.declared.item.What.TheVariants as what
@@ -9,10 +9,10 @@ use Rattle.qrules.specs.Trace.{Event}
 use Rattle.qworked.specs.Runs.{event, ended}
 use Rattle.qworked.specs.ThreeProcesses.{attached}
 
--- two Sends are open, over connections 4 and 3: the detach of connection 2 ends neither, that of connection 4
--- its own. The disconnect pulse names the process and has the priority that the detaching thread has by now.
--- The pulse that was sent over the connection before its end is still received, and so is the other process's
--- message
+-- two Sends are open, over connections 4 and 3: the detach of connection 2 ends neither, and that of
+-- connection 4 ends its own. The disconnect pulse names the process and has the present priority of the
+-- detaching thread. The pulse that was sent over the connection before its end is still received, and so is
+-- the other process's message
 abbrev pub two_processes : List Event
 two_processes = attached (
     event 42 (ConnectAttach 1) (ended 4 42 (mark.Connection 4) [] ∷ [])

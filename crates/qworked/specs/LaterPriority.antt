@@ -1,4 +1,4 @@
--- Of a priority that is set and one that is taken with a receipt a thread has the later one.
+-- A thread has the last priority that was set for it or that it took with a receipt.
 use Rattle.std.specs.Prelude.{List, [], ◌∷◌, pos}
 use Rattle.qbase.specs.declared.state.ThreadState.TheVariants.{Ready}
 use Rattle.qqueue.specs.declared.item.What.TheVariants as what
@@ -9,7 +9,8 @@ use Rattle.qrules.specs.Trace.{Event}
 use Rattle.qworked.specs.Runs.{event, ended, flags_of}
 use Rattle.qworked.specs.ThreeProcesses.{attached}
 
--- set, taken from a message, set, and taken from a pulse, on a channel that leaves no priorities as they are
+-- a thread's priority is set, taken from a message, set, and taken from a pulse, on a channel without the
+-- flag for fixed priorities
 abbrev pub events : List Event
 events = attached (
     event 35 (ChannelCreate (flags_of 0)) (ended 4 35 (mark.Channel 4) [] ∷ [])

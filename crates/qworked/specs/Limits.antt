@@ -1,5 +1,5 @@
--- What is answered at a limit: 64 open channels, 1,024 live connections, and 1,024 pulses that are pending on
--- a channel.
+-- The results of calls at a limit: 64 open channels, 1,024 live connections, or 1,024 pulses that are pending
+-- on a channel.
 use Rattle.std.specs.Prelude.{◌≡◌, ℕ, ◌+◌, List, [], ◌∷◌, ◌++◌, replicate, pos}
 use Rattle.qbase.specs.declared.errno.Errno.{Errno}
 use Rattle.qqueue.specs.declared.item.Item.{Item}
@@ -20,11 +20,11 @@ use Rattle.qworked.specs.Detached.{twice_attached}
 use Rattle.qworked.specs.Setting.{roster, connected}
 use Rattle.qworked.specs.UnblockPulse.{held}
 
--- what may be read after these events
+-- the facts after these events
 abbrev pub facts_after : List Event → Facts
 facts_after events = facts_of roster (followed_by [] events)
 
--- the call is answered by a refusal with this error, and by nothing else
+-- the only answer to the call is a refusal with this error
 abbrev pub IsRefusedWith : Facts → ℕ → Call → Errno → Type 0
 IsRefusedWith f t c e =
     Answers f t c (ended f.number t (mark.Failed e) (buffer_of (effect_of c)) ∷ [])
@@ -41,38 +41,39 @@ creations n (Prim.Native.Nat.suc k) = event 1 (ChannelCreate (flags_of 0))
 abbrev pub channels : List Event
 channels = connected (creations 3 63)
 
--- and one of them is destroyed
+-- the same run, after which one of the channels is destroyed
 abbrev pub one_destroyed : List Event
 one_destroyed = connected (creations 3 63 ++ (event 1 (ChannelDestroy 5) (ended 66 1 mark.Ok [] ∷ []) ∷ []))
 
--- the facts where so many connections are live
+-- the facts, with this number of live connections
 abbrev pub with_connections : ℕ → Facts
 with_connections n = record (facts_after (connected [])) { live_connections = n }
 
--- so many pulses
+-- a list of this number of pulses
 abbrev pub pulses : ℕ → ℕ → List Item
 pulses n h = replicate n (record { number = 0; priority = 1; what = User (pos 0) (pos 0) })
 
--- the facts where so many pulses are pending on each channel
+-- the facts, with this number of pulses pending on each channel
 abbrev pub with_pulses : ℕ → Facts
 with_pulses n = record (facts_after (connected [])) { pending = pulses n }
 
--- those facts where a message is held on a channel with the unblock flag
+-- the facts in which a message is held on a channel with the unblock flag, with this number of pulses pending
+-- on each channel
 abbrev pub held_with_pulses : ℕ → Facts
 held_with_pulses n = record (facts_after (held [])) { pending = pulses n }
 
--- the facts where so many pulses are pending on each channel, and 64 messages
+-- the facts, with 64 messages and this number of pulses pending on each channel
 abbrev pub with_messages_and_pulses : ℕ → Facts
 with_messages_and_pulses n = record (facts_after (connected [])) {
   pending = λ h. replicate 64 (record { number = 0; priority = 1; what = Message }) ++ pulses n h;
 }
 
--- the facts where so many pulses are pending and a process has connections 4 and 5 to a channel with the
--- disconnect flag
+-- the facts in which a process has connections 4 and 5 to a channel with the disconnect flag, with this
+-- number of pulses pending on each channel
 abbrev pub twice_with_pulses : ℕ → Facts
 twice_with_pulses n = record (facts_after (twice_attached [])) { pending = pulses n }
 
--- those facts where it has connection 5 alone
+-- the same facts, but the process has only connection 5
 abbrev pub last_with_pulses : ℕ → Facts
 last_with_pulses n = record
     (facts_after

@@ -1,5 +1,5 @@
--- A pending message has the priority that is set for its sender: it is received in its place among those of
--- that priority. A held message and a pulse keep theirs.
+-- A pending message takes the priority that is set for its sender, and is received at its place among the
+-- items of that priority. A held message and a pulse keep their priorities.
 use Rattle.std.specs.Prelude.{List, [], ◌∷◌, pos}
 use Rattle.qbase.specs.declared.errno.Errno.TheVariants.{Busy, Srch}
 use Rattle.qbase.specs.declared.state.ThreadState.TheVariants.{Ready, ReplyBlocked, SendBlocked}
@@ -20,7 +20,7 @@ both_sent events = connected (
     ∷ event 4 (Send 3 [] []) []
     ∷ events)
 
--- the later one is raised over the other, and its receiver takes the priority that it has by then
+-- the later one is raised over the other, and its receiver takes the new priority
 abbrev pub raised : List Event
 raised = both_sent (
     event 1 (PrioritySet 4 30) (ended 6 1 mark.Ok [] ∷ [])
@@ -51,7 +51,7 @@ lowered = both_sent (
     ∷ event 1 (State 1) (ended 9 1 (mark.State Ready 5) [] ∷ [])
     ∷ [])
 
--- the later one is raised and then lowered: the last counts
+-- the later one is raised and then lowered: the last setting counts
 abbrev pub set_twice : List Event
 set_twice = both_sent (
     event 1 (PrioritySet 4 30) (ended 6 1 mark.Ok [] ∷ [])
@@ -61,7 +61,7 @@ set_twice = both_sent (
     ∷ event 1 (State 1) (ended 10 1 (mark.State Ready 15) [] ∷ [])
     ∷ [])
 
--- a message is raised to a priority of which an earlier and a later one wait: it is received between them
+-- a message is raised to the priority of an earlier and a later one: it is received between them
 abbrev pub between : List Event
 between = both_sent (
     event 3 (Send 2 [] []) []
@@ -71,7 +71,7 @@ between = both_sent (
     ∷ event 1 (Receive 1 []) (ended 10 1 (mark.Message 6 0) [] ∷ [])
     ∷ [])
 
--- a message is set to the priority that it has, beside a later one of that priority: it stays before it
+-- a message is set to the priority that it has already, and stays before a later one of that priority
 abbrev pub set_the_same : List Event
 set_the_same = connected (
     event 4 (ConnectAttach 1) (ended 3 4 (mark.Connection 3) [] ∷ [])
@@ -83,7 +83,7 @@ set_the_same = connected (
     ∷ event 1 (Receive 1 []) (ended 9 1 (mark.Message 6 0) [] ∷ [])
     ∷ [])
 
--- message 5 is held as its sender's priority is set: it keeps its own, and so has its unblock pulse
+-- message 5 is held when its sender's priority is set: it keeps its own, and its unblock pulse has the same
 abbrev pub held_stays : List Event
 held_stays = held (
     event 3 (PrioritySet 2 40) (ended 7 3 mark.Ok [] ∷ [])
@@ -104,8 +104,8 @@ held_stays = held (
     ∷ event 1 (State 2) (ended 11 1 (mark.State (ReplyBlocked 3) 40) [] ∷ [])
     ∷ [])
 
--- a thread's pulse and its message are pending as its priority is set: the message has it, and the pulse its
--- own
+-- a thread's pulse and its message are pending when its priority is set: the message takes it, and the pulse
+-- keeps its own
 abbrev pub pulse_stays : List Event
 pulse_stays = connected (
     event 2 (Pulse 2 25 (pos 1) (pos 0)) (ended 3 2 mark.Ok [] ∷ [])
@@ -116,8 +116,8 @@ pulse_stays = connected (
     ∷ event 1 (State 1) (ended 8 1 (mark.State Ready 25) [] ∷ [])
     ∷ [])
 
--- a thread's priority is set, it takes a lesser one with a pulse, and then it sends: its message has the
--- lesser one, which no set since has changed
+-- a thread's priority is set, then it takes a lesser one with a pulse, and then it sends: its message has the
+-- lesser one
 abbrev pub set_before : List Event
 set_before = connected (
     event 1 (PrioritySet 4 40) (ended 3 1 mark.Ok [] ∷ [])

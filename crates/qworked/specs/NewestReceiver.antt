@@ -1,4 +1,4 @@
--- What is sent goes to the receiver that began to wait last, of those that may take it.
+-- An item goes to the receiver that began to wait last, among those that may take it.
 use Rattle.std.specs.Prelude.{List, [], ◌∷◌, pos}
 use Rattle.qbase.specs.declared.state.ThreadState.TheVariants.{ReceiveBlocked, ReplyBlocked}
 use Rattle.qqueue.specs.declared.item.What.TheVariants as what
@@ -17,7 +17,7 @@ newest = connected (
     ∷ event 2 (Send 2 [] []) (ended 4 4 (mark.Message 5 0) [] ∷ [])
     ∷ [])
 
--- the later receiver waits for pulses alone: a message passes it over, and a pulse doesn't
+-- the later receiver waits only for pulses: it takes a pulse, but a message goes to the earlier one
 abbrev pub passed_over : List Event
 passed_over = connected (
     event 1 (Receive 1 (0x00 ∷ [])) []
@@ -27,6 +27,6 @@ passed_over = connected (
     (ended 6 3 mark.Ok [] ∷ ended 4 4 (mark.Pulse 6 5 (what.User (pos 0) (pos 0))) [] ∷ [])
     ∷ [])
 
--- the earlier receiver, and the client that waits for its answer
+-- the earlier receiver is blocked, and the client, which waits for its answer
 abbrev pub still_waiting : List Blocked
 still_waiting = blocked 3 1 (ReceiveBlocked 1) ∷ blocked 5 2 (ReplyBlocked 1) ∷ []

@@ -10,7 +10,7 @@ use Rattle.qrules.specs.Trace.{Event}
 use Rattle.qworked.specs.Runs.{event, ended, blocked}
 use Rattle.qworked.specs.Setting.{connected}
 
--- a pulse, and then a message of the same priority, which was set
+-- a pulse, and then a message of the same priority, which was set for its sender
 abbrev pub pulse_first : List Event
 pulse_first = connected (
     event 2 (Pulse 2 15 (pos 1) (pos 100)) (ended 3 2 mark.Ok [] ∷ [])

@@ -1,4 +1,5 @@
--- Work on a message is refused that is not yet received, is held by another process, or is answered.
+-- A call on a message is refused if the message isn't received yet, is held by another process, or is
+-- answered.
 use Rattle.std.specs.Prelude.{List, [], ◌∷◌, pos}
 use Rattle.qbase.specs.declared.errno.Errno.TheVariants.{Srch}
 use Rattle.qmodel.specs.declared.call.Call.TheVariants.{Send, Receive, Reply, Error, Read, Write, Info}
@@ -7,7 +8,7 @@ use Rattle.qrules.specs.Trace.{Event}
 use Rattle.qworked.specs.Runs.{event, ended}
 use Rattle.qworked.specs.Setting.{connected}
 
--- work on a message from its sending until after its answer
+-- calls on a message, from its sending until after its answer
 abbrev pub events : List Event
 events = connected (
     event 2 (Send 2 (0x01 ∷ []) (0x00 ∷ [])) []

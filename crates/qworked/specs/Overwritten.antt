@@ -1,5 +1,5 @@
--- What is written later goes over what was written before, and the reply over both. A message is answered
--- with a negative code.
+-- A later Write goes over an earlier one, and the reply over both. A message is answered with a negative
+-- code.
 use Rattle.std.specs.Prelude.{List, [], ◌∷◌, pos, negsuc}
 use Rattle.qmodel.specs.declared.call.Call.TheVariants.{Send, Receive, Reply, Error, Write}
 use Rattle.qmodel.specs.declared.call.Mark.TheVariants as mark
@@ -7,7 +7,7 @@ use Rattle.qrules.specs.Trace.{Event}
 use Rattle.qworked.specs.Runs.{event, ended}
 use Rattle.qworked.specs.ThreeProcesses.{attached}
 
--- two bytes from place 1 on, one at place 2, and a reply of two
+-- two bytes are written at offset 1 and one at offset 2, and the reply has two
 abbrev pub events : List Event
 events = attached (
     event 43 (Send 2 [] (0x00 ∷ 0x00 ∷ 0x00 ∷ 0x00 ∷ [])) []

@@ -6,8 +6,8 @@ use Rattle.qrules.specs.Trace.{Event}
 use Rattle.qworked.specs.Runs.{event, ended}
 use Rattle.qworked.specs.ThreeProcesses.{attached}
 
--- a message of three bytes is read, and its reply buffer of two is written over, each at the end, one place
--- past it, and as far past it as an offset may be; both lengths stay, and so does the reply buffer
+-- a message of three bytes is read, and its reply buffer of two is written over, each at the end, one byte
+-- past it, and at the greatest offset; both lengths stay, and so does the reply buffer
 abbrev pub events : List Event
 events = attached (
     event 43 (Send 2 (0x01 ∷ 0x02 ∷ 0x03 ∷ []) (0x11 ∷ 0x22 ∷ [])) []

@@ -1,4 +1,5 @@
--- A receiver that waits takes the priority of a pulse as it is sent, and keeps it until its priority is set.
+-- A receiver that waits takes the priority of a pulse when that is sent, and keeps it until its priority is
+-- set.
 use Rattle.std.specs.Prelude.{List, [], ◌∷◌, pos}
 use Rattle.qbase.specs.declared.errno.Errno.TheVariants.{Srch}
 use Rattle.qbase.specs.declared.state.ThreadState.TheVariants.{Ready}

@@ -1,5 +1,5 @@
--- A server takes the priority of what it receives and sends with it, unless its channel leaves priorities as
--- they are.
+-- A server takes the priority of a message that it receives, and sends with it, unless the channel leaves
+-- priorities as they are.
 use Rattle.std.specs.Prelude.{List, [], ◌∷◌}
 use Rattle.qbase.specs.declared.state.ThreadState.TheVariants.{Ready, ReplyBlocked}
 use Rattle.qmodel.specs.declared.call.Call.TheVariants.{ChannelCreate, ConnectAttach, Send, Receive, Info}
@@ -39,7 +39,7 @@ carried_on = connected (
 abbrev pub both_wait : List Blocked
 both_wait = blocked 9 1 (ReplyBlocked 7) ∷ blocked 4 2 (ReplyBlocked 1) ∷ []
 
--- such a receipt on a channel that fixes priorities
+-- a receipt of such a message on a channel that fixes priorities
 abbrev pub fixed : List Event
 fixed = connected (
     event 1 (ChannelCreate (flags_of 1)) (ended 3 1 (mark.Channel 3) [] ∷ [])

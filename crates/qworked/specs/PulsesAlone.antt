@@ -1,5 +1,4 @@
--- A receive that takes pulses alone takes a pulse though a message was sent before it, and waits though a
--- message is pending.
+-- A ReceivePulse takes a pulse though a message was sent before it, and waits though a message is pending.
 use Rattle.std.specs.Prelude.{List, [], ◌∷◌, pos}
 use Rattle.qbase.specs.declared.state.ThreadState.TheVariants.{ReceiveBlocked, ReplyBlocked}
 use Rattle.qqueue.specs.declared.item.What.TheVariants as what

@@ -1,5 +1,5 @@
--- Pulses with a negative code or over another process's connection, and what is asked of another process's
--- channel.
+-- Refused pulses, with a negative code or over another process's connection, and refused calls on another
+-- process's channel.
 use Rattle.std.specs.Prelude.{List, [], ◌∷◌, pos, negsuc}
 use Rattle.qbase.specs.declared.errno.Errno.TheVariants.{Srch, Badf, Inval}
 use Rattle.qmodel.specs.declared.call.Call.TheVariants.{Receive, ReceivePulse, Pulse, ChannelDestroy}
@@ -8,7 +8,7 @@ use Rattle.qrules.specs.Trace.{Event}
 use Rattle.qworked.specs.Runs.{event, ended}
 use Rattle.qworked.specs.Setting.{connected}
 
--- calls of which none is accepted, and a Receive that finds the channel open and no pulse
+-- calls that are all refused, and a Receive that finds the channel open and no pulse pending
 abbrev pub events : List Event
 events = connected (
     event 2 (Pulse 2 20 (negsuc 0) (pos 0)) (ended 3 2 (mark.Failed Inval) [] ∷ [])

@@ -1,4 +1,4 @@
--- How a run is written out.
+-- The words in which runs are written out.
 use Rattle.std.specs.Prelude.{◌≡◌, ◌⊎◌, ℕ, ◌-◌, ◌==◌, List, [], ◌∷◌, take, filter_map, Option, option_map}
 use Rattle.std.specs.Prelude.{if◌then◌else◌}
 use Rattle.std.specs.Option.{option_or}
@@ -43,16 +43,16 @@ flags_of bits = record { 0 = bits }
 abbrev pub IsLawfulRun : List Member → List Event → Type 0
 IsLawfulRun roster events = IsLawful roster (followed_by [] events)
 
--- they are none
+-- the events aren't a lawful trace
 abbrev pub IsUnlawfulRun : List Member → List Event → Type 0
 IsUnlawfulRun roster events = IsLawfulRun roster events → ⊥
 
--- what is told of thread t, if it waits in an open call
+-- the record of thread t as blocked, if it waits in an open call
 abbrev pub blocked_in : Facts → ℕ → Option Blocked
 blocked_in f t = option_map (λ n. blocked n t (state_of f t))
     (option_or (option_map (λ s. s.number) (send_of f t)) (option_map (λ r. r.number) (receive_of f t)))
 
--- who is blocked after the events
+-- the threads that are blocked after the events
 abbrev pub blocked_after : List Member → List Event → List Blocked
 blocked_after roster events = filter_map (blocked_in (facts_of roster (followed_by [] events)))
     (threads_of roster)
@@ -65,7 +65,7 @@ with_endings n endings [] = []
 with_endings n endings (e ∷ events) = if n == 1 then event e.thread e.call endings ∷ events else e
     ∷ with_endings (n - 1) endings events
 
--- what is told of event n
+-- the completions that tell returns for event n; none if there is no such event
 abbrev pub of_event : (Event → List Completion) → ℕ → List Event → List Completion
 of_event tell n [] = []
 of_event tell n (e ∷ events) = if n == 1 then tell e else of_event tell (n - 1) events
@@ -74,21 +74,21 @@ of_event tell n (e ∷ events) = if n == 1 then tell e else of_event tell (n - 1
 abbrev pub endings_at : ℕ → List Event → List Completion
 endings_at n events = of_event (λ e. e.endings) n events
 
--- event n as it ends where memory runs out: refused, with its buffer as it was
+-- the endings of event n if memory runs out: the call is refused, with its buffer as it was
 abbrev pub refused_at : ℕ → List Event → List Completion
 refused_at n events = of_event
     (λ e. ended n e.thread (mark.Failed NoMemory) (buffer_of (effect_of e.call)) ∷ []) n events
 
--- the events up to event n are a lawful trace where it has these endings
+-- the events up to event n are a lawful trace if event n has these endings
 abbrev pub MayEnd : List Member → List Event → ℕ → List Completion → Type 0
 MayEnd roster events n endings = IsLawfulRun roster (with_endings n endings (take n events))
 
--- event n has just the endings that are written: none is changed, left out or added
+-- event n can have only the endings that are written: none is changed, left out or added
 abbrev pub EndsOnlySo : List Member → List Event → ℕ → Type 0
 EndsOnlySo roster events n = (endings : List Completion) → MayEnd roster events n endings → endings
     ≡ endings_at n events
 
--- event n is refused where memory runs out, and else has just the endings that are written
+-- event n can only be refused for lack of memory, or have the endings that are written
 abbrev pub EndsOnlySoWithMemory : List Member → List Event → ℕ → Type 0
 EndsOnlySoWithMemory roster events n =
     MayEnd roster events n (refused_at n events)

@@ -1,4 +1,4 @@
--- What most of the runs begin with.
+-- The beginning of most runs.
 use Rattle.std.specs.Prelude.{List, [], ◌∷◌}
 use Rattle.qtables.specs.declared.member.Member.{Member}
 use Rattle.qmodel.specs.declared.call.Call.TheVariants.{ChannelCreate, ConnectAttach}

@@ -1,4 +1,5 @@
--- A blocked thread is busy. A shutdown ends every open call, and every later call is refused.
+-- A call of a blocked thread is refused with Busy. A shutdown ends every open call, and every later call is
+-- refused.
 use Rattle.std.specs.Prelude.{List, [], ◌∷◌}
 use Rattle.qbase.specs.declared.errno.Errno.TheVariants.{Srch, Busy, Down}
 use Rattle.qmodel.specs.declared.call.Call.TheVariants.{ChannelCreate, Send, Receive, Write, ReceivePulse}
@@ -8,7 +9,7 @@ use Rattle.qrules.specs.Trace.{Event}
 use Rattle.qworked.specs.Runs.{event, ended, flags_of}
 use Rattle.qworked.specs.Setting.{connected}
 
--- a receiver is busy until the client shuts the kernel down
+-- the calls of a receiver are refused with Busy until the client shuts the kernel down
 abbrev pub events : List Event
 events = connected (
     event 1 (Receive 1 []) []

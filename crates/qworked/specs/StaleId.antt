@@ -1,4 +1,4 @@
--- The id of a message whose sender was unblocked answers nothing, even while the sender waits in another
+-- A call on the id of a message whose sender was unblocked is refused, even while the sender waits in another
 -- Send.
 use Rattle.std.specs.Prelude.{List, [], ◌∷◌, pos}
 use Rattle.qbase.specs.declared.errno.Errno.TheVariants.{Srch, Intr}

@@ -1,4 +1,4 @@
--- What a thread is told of another's state, through a receipt and an answer.
+-- The results of State for another thread, through a receipt and an answer.
 use Rattle.std.specs.Prelude.{List, [], ◌∷◌, pos}
 use Rattle.qbase.specs.declared.state.ThreadState.TheVariants.{Ready, SendBlocked, ReceiveBlocked}
 use Rattle.qbase.specs.declared.state.ThreadState.TheVariants.{ReplyBlocked}

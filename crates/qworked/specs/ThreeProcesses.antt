@@ -1,4 +1,4 @@
--- A setting in which no number stands for two things: three processes, their threads, a channel with all
+-- A setting in which no number is used for two things: three processes, their threads, a channel with all
 -- three flags, and a connection of each client.
 use Rattle.std.specs.Prelude.{List, [], ◌∷◌}
 use Rattle.qtables.specs.declared.member.Member.{Member}

@@ -1,5 +1,5 @@
--- A server that waits takes a message as it is sent; what is copied goes over the front of its buffer, and
--- the reply over the front of the sender's.
+-- A server that waits takes a message when that is sent. The message is copied over the front of the server's
+-- buffer, and the reply over the front of the sender's.
 use Rattle.std.specs.Prelude.{List, [], ◌∷◌, ℕ, replicate, pos}
 use Rattle.qmodel.specs.declared.call.Call.TheVariants.{Send, Receive, Reply}
 use Rattle.qmodel.specs.declared.call.Mark.TheVariants as mark

@@ -1,4 +1,4 @@
-//! Runs that break one of the properties of a lawful trace: the property refuses them.
+//! Runs that break one of the properties of lawful traces. Each contract says that the property doesn't hold of them.
 
 ghost use Rattle.std.specs.Prelude.{[]};
 ghost use Rattle.qrules.specs.Properties.{AnsweredToSender};
@@ -43,7 +43,7 @@ pub fn answered_to_sender()
     ensures after_the_end { AnsweredToSender roster answered.after_the_end → ⊥ }
 {}
 
-/// No byte and no count is another than what was to be copied.
+/// Every byte and every count is exactly as the copying requires.
 pub fn copied_exactly()
     ensures message_byte { CopiedExactly copied.message_byte → ⊥ }
     ensures message_rest { CopiedExactly copied.message_rest → ⊥ }
@@ -67,7 +67,7 @@ pub fn copied_exactly()
     ensures counted_nothing { CopiedExactly copied.counted_nothing → ⊥ }
 {}
 
-/// No receipt takes a lesser item, a later one of equal priority, or one that it may not take.
+/// No receipt takes an item of lesser priority, a later one of equal priority, or one that it may not take.
 pub fn best_first()
     ensures lesser { BestFirst roster taken.lesser → ⊥ }
     ensures later { BestFirst roster taken.later → ⊥ }
@@ -76,7 +76,7 @@ pub fn best_first()
     ensures raised_passed_over { BestFirst roster taken.raised_passed_over → ⊥ }
 {}
 
-/// Of two equals over one connection the later isn't received first.
+/// The later of two items of equal priority over one connection isn't received first.
 pub fn sent_order()
     ensures overtaken { SentOrder roster taken.overtaken → ⊥ }
     ensures overtaken_by_a_pulse { SentOrder roster taken.overtaken_by_a_pulse → ⊥ }
@@ -84,7 +84,7 @@ pub fn sent_order()
     ensures overtaken_when_lowered { SentOrder roster taken.overtaken_when_lowered → ⊥ }
 {}
 
-/// Nothing is received from a destroyed channel, and nobody stays blocked on it.
+/// Nothing is received from a destroyed channel, and no thread stays blocked on it.
 pub fn shut_for_good()
     ensures received { ShutForGood roster shut.received → ⊥ }
     ensures send_left { ShutForGood roster shut.send_left → ⊥ }
@@ -93,20 +93,20 @@ pub fn shut_for_good()
     ensures detached_left { ShutForGood roster shut.detached_left → ⊥ }
 {}
 
-/// A run in which a call was refused for want of memory had none, and the first run had it.
+/// A run in which a call was refused with `NoMemory` doesn't meet `HadMemory`; the first run does.
 pub fn had_memory()
     ensures had { HadMemory first.events }
     ensures had_none { HadMemory (with_endings 3 (refused_at 3 first.events) first.events) → ⊥ }
 {}
 
-/// What the broken runs begin with is lawful.
+/// The beginnings of the broken runs are lawful.
 pub fn lawful_so_far()
     ensures attached { IsLawful roster (run_of []) }
     ensures sent { IsLawful roster (sent []) }
     ensures held { IsLawful roster (held []) }
 {}
 
-/// Each of these runs breaks one property, and has the five others.
+/// Each of these runs breaks one property, and meets the five others.
 pub fn one_property_broken()
     ensures ended_twice_answered { AnsweredToSender roster received.ended_twice }
     ensures ended_twice_copied { CopiedExactly received.ended_twice }

@@ -1,4 +1,4 @@
-//! Lawful runs in which every buffer and every count is what was to be copied.
+//! Lawful runs in which every buffer and every count is exactly as the copying requires.
 
 ghost use Rattle.std.specs.Prelude.{[]};
 ghost use Rattle.qrules.specs.Properties.{CopiedExactly};
@@ -9,7 +9,8 @@ ghost use Rattle.qworked.specs.Overwritten as overwritten;
 ghost use Rattle.qworked.specs.PastTheEnd as past_the_end;
 ghost use Rattle.qworked.specs.UnblockPulse as unblock_pulse;
 
-/// A receipt of a pulse leaves its buffer, and a receipt, a Read, a Write and an answer copy what they count.
+/// A receipt of a pulse leaves the buffer as it was; a receipt of a message, a Read, a Write and an answer copy as many
+/// bytes as they count.
 pub fn copied_exactly()
     ensures pulse { CopiedExactly (followed_by [] unblock_pulse.taken_at_once) }
     ensures held { CopiedExactly (followed_by [] held.events) }

@@ -1,4 +1,4 @@
-//! What ends blocked calls: an Unblock, the end of a channel, and the end of the kernel.
+//! Blocked calls that are ended by an Unblock, by the end of a connection or a channel, or by a shutdown.
 
 ghost use Rattle.std.specs.Prelude.{◌≡◌};
 ghost use Rattle.qworked.specs.DestroyedChannel as destroyed;
@@ -9,7 +9,7 @@ ghost use Rattle.qworked.specs.Unblocked as unblocked;
 ghost use Rattle.qworked.specs.Runs.{EndsOnlySo, EndsOnlySoWithMemory, IsLawfulRun, blocked_after};
 ghost use Rattle.qworked.specs.Setting.{roster};
 
-/// The id of a message whose sender was unblocked answers nothing.
+/// A call on the id of a message whose sender was unblocked is refused.
 pub fn stale_id()
     ensures lawful { IsLawfulRun roster stale.events }
     ensures unblocked { EndsOnlySo roster stale.events 5 }
@@ -31,7 +31,7 @@ pub fn unblocked()
     ensures message_gone { EndsOnlySo roster unblocked.events 11 }
 {}
 
-/// A detached connection ends what was sent over it and isn't received.
+/// A ConnectDetach ends the Sends over the connection whose messages aren't received.
 pub fn detached_connection()
     ensures lawful { IsLawfulRun roster detached.waiting }
     ensures cancelled { EndsOnlySo roster detached.waiting 4 }
@@ -41,7 +41,7 @@ pub fn detached_connection()
     ensures blocked { blocked_after roster detached.waiting ≡ detached.nothing_there }
 {}
 
-/// A detached connection ends also what was received, and no other connection's.
+/// A ConnectDetach also ends the Sends whose messages were received, and none over other connections.
 pub fn detached_while_held()
     ensures lawful { IsLawfulRun roster detached.held }
     ensures of_others { EndsOnlySo roster detached.held 5 }
@@ -51,7 +51,7 @@ pub fn detached_while_held()
     ensures of_none { EndsOnlySo roster detached.held 11 }
 {}
 
-/// A detached connection ends nothing that was sent over another one of its process to the same channel.
+/// A ConnectDetach ends no Send over another connection of its process to the same channel.
 pub fn held_beside_another_connection()
     ensures lawful { IsLawfulRun roster detached.beside_another }
     ensures told { EndsOnlySo roster detached.beside_another 6 }
@@ -59,7 +59,8 @@ pub fn held_beside_another_connection()
     ensures answered { EndsOnlySo roster detached.beside_another 8 }
 {}
 
-/// A message that was sent over the older of two connections is told of and ended by that one.
+/// An Info of a message that was sent over the older of two connections returns that connection, and its ConnectDetach
+/// ends the Send.
 pub fn held_beside_a_newer_connection()
     ensures lawful { IsLawfulRun roster detached.beside_a_newer }
     ensures told { EndsOnlySo roster detached.beside_a_newer 6 }
@@ -69,7 +70,7 @@ pub fn held_beside_a_newer_connection()
     ensures answered { EndsOnlySo roster detached.beside_a_newer 10 }
 {}
 
-/// The server of a channel with the disconnect flag is told once, of the last connection of a process.
+/// The server of a channel with the disconnect flag gets one pulse, when a process detaches its last connection.
 pub fn told_of_the_last_detach()
     ensures lawful { IsLawfulRun roster detached.told_once }
     ensures first { EndsOnlySo roster detached.told_once 6 }
@@ -87,7 +88,7 @@ pub fn disconnect_pulse_taken_at_once()
     ensures message_gone { EndsOnlySo roster detached.taken_at_once 10 }
 {}
 
-/// A destroyed channel ends what is blocked on it.
+/// A ChannelDestroy ends the calls that are blocked on the channel.
 pub fn destroyed_channel()
     ensures lawful { IsLawfulRun roster destroyed.events }
     ensures destroyed { EndsOnlySo roster destroyed.events 7 }
@@ -100,7 +101,7 @@ pub fn destroyed_channel()
     ensures attached { EndsOnlySo roster destroyed.events 14 }
 {}
 
-/// Who waits on another channel than the destroyed one still waits.
+/// Threads that wait on another channel than the destroyed one still wait.
 pub fn other_channel_stays()
     ensures lawful { IsLawfulRun roster destroyed.others_stay }
     ensures destroyed { EndsOnlySo roster destroyed.others_stay 6 }
@@ -108,7 +109,7 @@ pub fn other_channel_stays()
     ensures pulse { EndsOnlySo roster destroyed.others_stay 8 }
 {}
 
-/// A blocked thread is busy until the kernel is shut down, and then every call is refused.
+/// A call of a blocked thread is refused with `Busy`, and every call after a shutdown with `Down`.
 pub fn busy_and_shut_down()
     ensures lawful { IsLawfulRun roster down.events }
     ensures busy { EndsOnlySo roster down.events 4 }

@@ -1,7 +1,7 @@
-//! Runs written out by hand, with what each call answers. Each function does nothing: its contract says that
-//! the run is lawful, and of the calls that it shows that they end only so, with no ending changed, left out or
-//! added. The runs of `broken` are none of these: each breaks one of the properties of all lawful traces, and
-//! its contract says that the property refuses it.
+//! Runs written out by hand, with the result of each call. The functions do nothing: the contract of each says that the
+//! run is lawful, and that the calls that it shows can't end in any other way, with an ending changed, left out or
+//! added. The runs of `broken` aren't lawful: each breaks one of the properties of all lawful traces, and its contract
+//! says that the property doesn't hold of it.
 #![tactic(auto)]
 
 pub mod broken;

@@ -28,7 +28,7 @@ pub fn first_run()
     ensures moved { IsUnlawfulRun first.roster first.one_moved }
 {}
 
-/// Of two messages the one of greater priority is received first, though it was sent later.
+/// The message of greater priority is received first, though it was sent later.
 pub fn greatest_priority_first()
     ensures lawful { IsLawfulRun roster greatest.events }
     ensures first { EndsOnlySo roster greatest.events 6 }
@@ -40,7 +40,7 @@ pub fn greatest_priority_first()
     ensures moved { IsUnlawfulRun roster greatest.one_moved }
 {}
 
-/// Of messages of equal priority the one that was sent first is received first.
+/// The message that was sent first is received first among messages of equal priority.
 pub fn first_among_equals()
     ensures lawful { IsLawfulRun roster greatest.ties }
     ensures first { EndsOnlySo roster greatest.ties 7 }
@@ -57,7 +57,7 @@ pub fn waiting_receiver_takes_at_once()
     ensures answered { EndsOnlySo roster waiting.events 5 }
 {}
 
-/// Of two receivers that wait the later one takes a message.
+/// The receiver that began to wait last takes a message.
 pub fn newest_receiver_takes()
     ensures lawful { IsLawfulRun roster receivers.newest }
     ensures waits { EndsOnlySo roster receivers.newest 4 }
@@ -65,7 +65,7 @@ pub fn newest_receiver_takes()
     ensures blocked { blocked_after roster receivers.newest ≡ receivers.still_waiting }
 {}
 
-/// A message that doesn't fit its receiver's buffer is cut, and so are bytes that are written over the end.
+/// A message that doesn't fit its receiver's buffer is cut, and so is a Write past the end of the reply buffer.
 pub fn cut_to_fit()
     ensures lawful { IsLawfulRun roster cut.events }
     ensures received { EndsOnlySo roster cut.events 4 }
@@ -80,7 +80,7 @@ pub fn reply_cut_to_fit()
     ensures answered { EndsOnlySo roster cut.reply_cut 5 }
 {}
 
-/// A message that is held is told of, read and written to, until it is answered.
+/// Info, Read and Write are allowed on a held message until it is answered.
 pub fn held_message()
     ensures lawful { IsLawfulRun roster held.events }
     ensures received { EndsOnlySo roster held.events 4 }
@@ -91,7 +91,7 @@ pub fn held_message()
     ensures told_no_more { EndsOnlySo roster held.events 9 }
 {}
 
-/// An offset at the end or past it copies nothing and is no error.
+/// A Read or a Write with an offset at or past the end copies nothing, and isn't an error.
 pub fn past_the_end()
     ensures lawful { IsLawfulRun three.roster past_the_end.events }
     ensures read_at_the_end { EndsOnlySo three.roster past_the_end.events 6 }
@@ -104,7 +104,7 @@ pub fn past_the_end()
     ensures answered { EndsOnlySo three.roster past_the_end.events 13 }
 {}
 
-/// An offset past the end copies nothing; a message is answered with a code and no bytes.
+/// An offset past the end copies nothing. An Error answers a message with a code and no bytes.
 pub fn answered_with_code()
     ensures lawful { IsLawfulRun roster code.events }
     ensures written_past_the_end { EndsOnlySo roster code.events 5 }

@@ -1,10 +1,10 @@
-//! Pending messages that move as the priority of their sender is set.
+//! Pending messages that move when the priority of their sender is set.
 
 ghost use Rattle.qworked.specs.MovedMessage as moved;
 ghost use Rattle.qworked.specs.Runs.{EndsOnlySo, IsLawfulRun};
 ghost use Rattle.qworked.specs.Setting.{roster};
 
-/// A message that is raised over another is received before it, with the priority that it has by then.
+/// A message that is raised over another is received before it, with its new priority.
 pub fn raised_over_another()
     ensures lawful { IsLawfulRun roster moved.raised }
     ensures set { EndsOnlySo roster moved.raised 6 }
@@ -24,7 +24,7 @@ pub fn lowered_beneath_another()
     ensures taken { EndsOnlySo roster moved.lowered 9 }
 {}
 
-/// Of two priorities that are set one after the other a message has the later.
+/// A message has the last of two priorities that are set one after the other.
 pub fn set_twice()
     ensures lawful { IsLawfulRun roster moved.set_twice }
     ensures again { EndsOnlySo roster moved.set_twice 7 }
@@ -33,7 +33,7 @@ pub fn set_twice()
     ensures taken { EndsOnlySo roster moved.set_twice 10 }
 {}
 
-/// A message that is raised stands between those of its priority that were sent before and after it.
+/// A message that is raised comes between those of its new priority that were sent before and after it.
 pub fn raised_between_two()
     ensures lawful { IsLawfulRun roster moved.between }
     ensures first { EndsOnlySo roster moved.between 8 }
@@ -41,7 +41,7 @@ pub fn raised_between_two()
     ensures third { EndsOnlySo roster moved.between 10 }
 {}
 
-/// A message whose priority is set to what it was stays where it is.
+/// A message whose priority is set to the same value stays in its place.
 pub fn set_to_the_same()
     ensures lawful { IsLawfulRun roster moved.set_the_same }
     ensures first { EndsOnlySo roster moved.set_the_same 8 }
@@ -57,7 +57,7 @@ pub fn held_stays()
     ensures level { EndsOnlySo roster moved.held_stays 11 }
 {}
 
-/// A thread's pulse keeps the priority that was given with it.
+/// A thread's pulse keeps the priority that it was sent with.
 pub fn pulse_stays()
     ensures lawful { IsLawfulRun roster moved.pulse_stays }
     ensures first { EndsOnlySo roster moved.pulse_stays 6 }

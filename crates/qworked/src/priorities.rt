@@ -1,4 +1,4 @@
-//! Priorities and states: what a server takes with what it receives, and what is told of a thread.
+//! Priorities and states: a server takes the priority of an item that it receives, and State returns a thread's state.
 
 ghost use Rattle.std.specs.Prelude.{◌≡◌};
 ghost use Rattle.qworked.specs.PriorityGiven as given;
@@ -7,7 +7,7 @@ ghost use Rattle.qworked.specs.ThreadsStates as states;
 ghost use Rattle.qworked.specs.Runs.{EndsOnlySo, EndsOnlySoWithMemory, IsLawfulRun, blocked_after};
 ghost use Rattle.qworked.specs.Setting.{roster};
 
-/// A server takes the priority of what it receives, and sends with it.
+/// A server takes the priority of a message that it receives, and sends with it.
 pub fn priority_carried_on()
     ensures lawful { IsLawfulRun roster taken.carried_on }
     ensures set { EndsOnlySo roster taken.carried_on 3 }
@@ -20,7 +20,7 @@ pub fn priority_carried_on()
     ensures blocked { blocked_after roster taken.carried_on ≡ taken.both_wait }
 {}
 
-/// On a channel that leaves priorities as they are a server keeps its own.
+/// A server keeps its priority if it receives from a channel with the flag for fixed priorities.
 pub fn priority_left()
     ensures lawful { IsLawfulRun roster taken.fixed }
     ensures created { EndsOnlySoWithMemory roster taken.fixed 3 }
@@ -43,7 +43,7 @@ pub fn priority_given()
     ensures fellow { EndsOnlySo roster given.events 13 }
 {}
 
-/// What is told of a thread's state.
+/// State returns the state of a thread: RECEIVE-blocked, REPLY-blocked, SEND-blocked or ready.
 pub fn threads_states()
     ensures lawful { IsLawfulRun roster states.events }
     ensures receives { EndsOnlySo roster states.events 4 }

@@ -1,4 +1,4 @@
-//! Pulses: received in one order with messages, or alone.
+//! Pulses that are received in one order with messages, or by a ReceivePulse.
 
 ghost use Rattle.std.specs.Prelude.{◌≡◌};
 ghost use Rattle.qworked.specs.FirstRun as first;
@@ -9,7 +9,7 @@ ghost use Rattle.qworked.specs.UnblockPulse as unblock_pulse;
 ghost use Rattle.qworked.specs.Runs.{EndsOnlySo, EndsOnlySoWithMemory, IsLawfulRun, blocked_after};
 ghost use Rattle.qworked.specs.Setting.{roster};
 
-/// Of a pulse and a later message of one priority the pulse is received first.
+/// A pulse is received before a later message of the same priority.
 pub fn pulse_before_message()
     ensures lawful { IsLawfulRun roster order.pulse_first }
     ensures pulsed { EndsOnlySoWithMemory roster order.pulse_first 3 }
@@ -18,7 +18,7 @@ pub fn pulse_before_message()
     ensures message { EndsOnlySo roster order.pulse_first 7 }
 {}
 
-/// Of a message and a later pulse of one priority the message is received first.
+/// A message is received before a later pulse of the same priority.
 pub fn message_before_pulse()
     ensures lawful { IsLawfulRun roster order.message_first }
     ensures message { EndsOnlySo roster order.message_first 5 }
@@ -34,7 +34,7 @@ pub fn greater_pulse_first()
     ensures lesser { EndsOnlySo roster order.greater_first 8 }
 {}
 
-/// A receive that waits for pulses alone takes no message.
+/// A ReceivePulse takes no message.
 pub fn pulses_alone()
     ensures lawful { IsLawfulRun roster pulses_alone.events }
     ensures pulse { EndsOnlySo roster pulses_alone.events 5 }
@@ -43,7 +43,7 @@ pub fn pulses_alone()
     ensures blocked { blocked_after roster pulses_alone.events ≡ pulses_alone.still_waiting }
 {}
 
-/// A receiver that waits for pulses alone is passed over by a message.
+/// A message passes over a thread that waits in a ReceivePulse.
 pub fn passed_over_by_message()
     ensures lawful { IsLawfulRun roster receivers.passed_over }
     ensures waits { EndsOnlySo roster receivers.passed_over 4 }

@@ -30,7 +30,7 @@ pub fn refusals()
     ensures still_pending { EndsOnlySo roster refusals.events 12 }
 {}
 
-/// Work on a message that isn't held, or that another process holds, is refused.
+/// A call on a message that isn't held, or that another process holds, is refused.
 pub fn others_messages()
     ensures lawful { IsLawfulRun roster others.events }
     ensures read_too_early { EndsOnlySo roster others.events 4 }
@@ -44,7 +44,7 @@ pub fn others_messages()
     ensures written_late { EndsOnlySo roster others.events 13 }
 {}
 
-/// Pulses that are refused, and what is asked of another process's channel.
+/// Pulses that are refused, and refused calls on another process's channel.
 pub fn refused_pulses()
     ensures lawful { IsLawfulRun roster refused_pulses.events }
     ensures negative { EndsOnlySo roster refused_pulses.events 3 }
@@ -56,7 +56,7 @@ pub fn refused_pulses()
     ensures waits { EndsOnlySo roster refused_pulses.events 9 }
 {}
 
-/// What is counted towards a limit.
+/// The limits count only what is open, live or pending.
 pub fn counted()
     ensures lawful { IsLawfulRun three.roster counted.events }
     ensures channels { counted.facts.open_channels ≡ 2 }
@@ -66,7 +66,7 @@ pub fn counted()
     ensures pulses_nowhere { counted.pulses_on 8 ≡ 0 }
 {}
 
-/// What is answered at the limits of channels and connections, and just below them.
+/// The results of ChannelCreate and ConnectAttach at the limits of channels and connections, and just below them.
 pub fn limits()
     ensures channels { IsLawfulRun roster limits.channels }
     ensures no_more_channels { IsRefusedWith (facts_after limits.channels) 1 (ChannelCreate (flags_of 0)) Again }
@@ -77,7 +77,7 @@ pub fn limits()
     ensures no_channel { IsRefusedWith (limits.with_connections 1024) 2 (ConnectAttach 9) Srch }
 {}
 
-/// What is answered at the limit of pulses, and just below it.
+/// The results of calls that send a pulse at the limit of pulses, and just below it.
 pub fn limit_of_pulses()
     ensures pulses { Answers (limits.with_pulses 1023) 2 (Pulse 2 1 (pos 0) (pos 0)) (ended 3 2 mark.Ok [] ∷ []) }
     ensures messages_apart { Answers (limits.with_messages_and_pulses 1023) 2 (Pulse 2 1 (pos 0) (pos 0)) (ended 3 2 mark.Ok [] ∷ []) }

@@ -1,4 +1,4 @@
-//! Runs of three processes in which no number stands for two things, most of them on a channel with all three flags.
+//! Runs of three processes in which no number is used for two things, most of them on a channel with all three flags.
 
 ghost use Rattle.std.specs.Prelude.{◌≡◌};
 ghost use Rattle.qworked.specs.AllFlags as flags;
@@ -8,7 +8,7 @@ ghost use Rattle.qworked.specs.Overwritten as overwritten;
 ghost use Rattle.qworked.specs.Runs.{EndsOnlySo, EndsOnlySoWithMemory, IsLawfulRun, blocked_after};
 ghost use Rattle.qworked.specs.ThreeProcesses.{roster};
 
-/// A held message is told of and unblocked with the priority that it was sent with, whatever is set since.
+/// An Info of a held message and its unblock pulse have the priority that it was received with, whatever is set later.
 pub fn held_with_all_flags()
     ensures lawful { IsLawfulRun roster flags.held }
     ensures received { EndsOnlySo roster flags.held 6 }
@@ -24,7 +24,7 @@ pub fn held_with_all_flags()
     ensures set { EndsOnlySo roster flags.held 16 }
 {}
 
-/// A thread whose message isn't held is unblocked at once, on a channel with the unblock flag too.
+/// A thread whose message isn't held is unblocked at once, even on a channel with the unblock flag.
 pub fn not_held_with_all_flags()
     ensures lawful { IsLawfulRun roster flags.not_held }
     ensures sender_cut { EndsOnlySo roster flags.not_held 5 }
@@ -34,7 +34,7 @@ pub fn not_held_with_all_flags()
     ensures itself { EndsOnlySo roster flags.not_held 10 }
 {}
 
-/// Of two receivers that wait the later one takes what is sent, though its thread has the lesser number.
+/// The receiver that began to wait last takes an item, though its thread has the lesser number.
 pub fn waiting_with_all_flags()
     ensures lawful { IsLawfulRun roster flags.waiting }
     ensures waits { EndsOnlySo roster flags.waiting 5 }
@@ -46,7 +46,7 @@ pub fn waiting_with_all_flags()
     ensures blocked { blocked_after roster flags.waiting ≡ flags.still_waiting }
 {}
 
-/// The server is told of the last connection of a process, though another process is attached.
+/// The server gets a pulse when a process detaches its last connection, though another process is still attached.
 pub fn last_connection_of_a_process()
     ensures lawful { IsLawfulRun roster last.two_processes }
     ensures first { EndsOnlySo roster last.two_processes 7 }
@@ -58,7 +58,7 @@ pub fn last_connection_of_a_process()
     ensures message_kept { EndsOnlySo roster last.two_processes 13 }
 {}
 
-/// A connection whose channel is destroyed is still detached.
+/// A connection whose channel is destroyed can still be detached.
 pub fn connection_to_a_destroyed_channel()
     ensures lawful { IsLawfulRun roster last.destroyed }
     ensures destroyed { EndsOnlySo roster last.destroyed 5 }
@@ -67,7 +67,7 @@ pub fn connection_to_a_destroyed_channel()
     ensures others { EndsOnlySo roster last.destroyed 8 }
 {}
 
-/// What is written later goes over what was written before, and the reply over both.
+/// A later Write goes over an earlier one, and the reply over both.
 pub fn overwritten()
     ensures lawful { IsLawfulRun roster overwritten.events }
     ensures written { EndsOnlySo roster overwritten.events 6 }
@@ -81,7 +81,7 @@ pub fn answered_with_negative_code()
     ensures answered { EndsOnlySo roster overwritten.negative_code 7 }
 {}
 
-/// Of a priority that is set and one that is taken with a receipt a thread has the later one.
+/// A thread has the last priority that was set for it or that it took with a receipt.
 pub fn later_priority()
     ensures lawful { IsLawfulRun roster later.events }
     ensures set { EndsOnlySo roster later.events 8 }

@@ -1,4 +1,4 @@
--- What the endings of an event have to be.
+-- The endings that an event must have.
 use Rattle.std.specs.Prelude.{◌≡◌, ◌==◌, Bool, true, false, is_some, List, [], ◌∷◌, Option, None, Some}
 use Rattle.std.specs.Prelude.{if◌then◌else◌, ◌⊎◌}
 use Rattle.std.specs.List.{filter_map}
@@ -12,13 +12,13 @@ use Rattle.qmodel.specs.Private.Calls.{row_of}
 use Rattle.qmodel.specs.Private.Effects.{buffer_of}
 use Rattle.qmodel.specs.Private.Facts.{Facts, threads_of}
 
--- the first refusal that applies: a kernel that is shut down makes no call, nor a thread that is blocked, and
--- then those of the row
+-- the first refusal that applies: Down after a shutdown, then Busy if the caller is blocked, then the row's
+-- own
 abbrev pub refusal : Facts → ThreadNo → Call → Option Errno
 refusal f t c = if f.down then Some Down
     else (if is_some (f.open_call t) then Some Busy else (row_of f t c).refusal)
 
--- the refusals that may be given: the first that applies, or want of memory where none does
+-- the refusals that are allowed: the first that applies, or lack of memory if none does
 abbrev pub MayRefuse : Facts → ThreadNo → Call → Errno → Type 0
 MayRefuse f t c e = (refusal f t c ≡ Some e)
     ⊎ ((refusal f t c ≡ None) × ((row_of f t c).takes_memory ≡ true) × (e ≡ NoMemory))
@@ -31,8 +31,8 @@ refusal_ending f t c e = record { call = f.number; thread = t; mark = mark.Faile
 abbrev pub ending : Facts → ThreadNo → Call → ThreadNo → Option Completion
 ending f t c u = if u == t then (row_of f t c).own else (row_of f t c).ends u
 
--- accepted: each thread of the roster, in rising number, gets what the row says; refused: the caller alone,
--- its refusal
+-- accepted: each thread of the roster gets the ending that the row says, in rising number; refused: only the
+-- caller gets an ending, its refusal
 abbrev pub Outcome : Bool → Facts → ThreadNo → Call → List Completion → Type 0
 Outcome true f t c endings =
     (refusal f t c ≡ None) × (endings ≡ filter_map (ending f t c) (threads_of f.roster))

@@ -1,4 +1,4 @@
--- Who is blocked, in which state and on which channel.
+-- The blocked threads, with their states and channels.
 use Rattle.std.specs.Option.{option_map}
 use Rattle.std.specs.Prelude.{List, Option}
 use Rattle.std.specs.List.{filter_map}
@@ -12,7 +12,7 @@ use Rattle.qmodel.specs.Private.Lawful.{facts_of}
 use Rattle.qmodel.specs.Private.ThreadState.{state_of}
 use Rattle.qmodel.specs.Trace.{Trace}
 
--- what is told of a thread, if it has an open call
+-- the record of a blocked thread; None if it has no open call
 abbrev pub blocked_thread : (ConnectionId → Option Connection) → ThreadNo → Option OpenCall → Option Blocked
 blocked_thread connection u call =
     option_map (λ o. record { number = o.number; thread = u; state = state_of connection o.wait }) call

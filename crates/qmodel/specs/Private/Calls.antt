@@ -1,4 +1,4 @@
--- The table of calls: of each call its row and its effect, which stand in a file of the call's own.
+-- The table of calls: each call's row and effect, which are defined in a file of its own.
 pub mod ChannelCreate
 pub mod ConnectAttach
 pub mod Send

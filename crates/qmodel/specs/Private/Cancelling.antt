@@ -1,4 +1,4 @@
--- Cutting: calls that are blocked are ended by force.
+-- Cancelling: open calls are ended by force.
 use Rattle.std.specs.Option.{option_and_then, option_map_or}
 use Rattle.std.specs.Prelude.{ℕ, ◌==◌, Bool, false, List, Option, None, Some, if◌then◌else◌}
 use Rattle.qbase.specs.declared.errno.Errno.{Errno}
@@ -31,7 +31,7 @@ abbrev pub is_over : ConnectionId → Wait → Bool
 is_over k (Answer coid message reply_buffer receipt) = coid == k
 is_over k (ForItem chid kind buffer) = false
 
--- how thread u's open call ends that is cancelled: it fails, and gives its buffer back as it is by now
+-- the ending of thread u's cancelled call: it fails, and gives its buffer back in its present state
 abbrev pub cancel_call : Errno → ThreadNo → OpenCall → Completion
 cancel_call e u o = record {
   call = o.number;
@@ -40,11 +40,11 @@ cancel_call e u o = record {
   buffer = buffer_of_wait o.wait;
 }
 
--- how thread u's open call is cancelled, if this is so of what it waits for
+-- the ending of thread u's open call, if its wait is one that is cancelled
 abbrev pub cancel_where : (Wait → Bool) → Errno → ThreadNo → Option OpenCall → Option Completion
 cancel_where is_cancelled e u call =
     option_and_then (λ o. if is_cancelled o.wait then Some (cancel_call e u o) else None) call
 
--- each open call is cancelled of which this is so, by its thread and what it waits for
+-- cancels each open call for whose thread and wait the condition is true
 abbrev pub cancels : Facts → (ThreadNo → Wait → Bool) → Errno → ThreadNo → Option Completion
 cancels f is_cancelled e u = cancel_where (is_cancelled u) e u (f.open_call u)

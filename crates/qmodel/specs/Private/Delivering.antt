@@ -13,7 +13,7 @@ use Rattle.qmodel.specs.Private.Rows.{Received, takes, receipt_in}
 abbrev pub receiver : Facts → Item → Option ChannelId → Option ThreadNo
 receiver f item channel = option_and_then (λ h. newest_receiver f h item) channel
 
--- no receiver takes the item at once, so it wants memory to wait in
+-- no receiver takes the item at once, so it needs memory to wait in
 abbrev pub wants_room : Facts → Item → Option ChannelId → Bool
 wants_room f item o = not (is_some (receiver f item o))
 

@@ -1,4 +1,4 @@
--- What a call does to the past: all that a later search may look for in it.
+-- The effect of a call: all that a later search in the past may look for.
 use Rattle.std.specs.Prelude.{ℕ, ℤ, Bool, false, List, Option, None}
 use Rattle.qbase.specs.declared.flags.ChannelFlags.{ChannelFlags}
 use Rattle.qqueue.specs.declared.item.Kind.{Kind}
@@ -8,13 +8,13 @@ use Rattle.qmodel.specs.Private.Facts.{Facts}
 use Rattle.qmodel.specs.Private.Rows.{Setting, Written}
 use Rattle.qmodel.specs.Trace.{SentItem}
 
--- what is read: bytes of which message, from which place, into which buffer
+-- a read: the message, the offset in it, and the buffer that is read into
 pub record Reading : Type 0 where
   pub message : ReceiveId
   pub offset : ℕ
   pub buffer : List ℕ
 
--- what a call does, by kind; None where it does nothing of that kind
+-- what a call does, by kind; None if it does nothing of that kind
 pub record Effect : Type 0 where
   -- what it waits for, if it doesn't end in its own event
   pub waits : Option Wait
@@ -44,14 +44,14 @@ pub record Effect : Type 0 where
   pub reads : Option Reading
   -- what it writes to a sender's reply buffer
   pub writes : Option Written
-  -- the priority that it sets, and whose
+  -- the priority that it sets, and the thread that it sets it for
   pub sets : Option Setting
   -- the thread that it unblocks
   pub unblocks : Option ThreadNo
   -- whether it shuts the kernel down
   pub shuts_down : Bool
 
--- none of all that
+-- the effect of a call that does nothing
 abbrev pub no_effect : Effect
 no_effect = record {
   waits = None;

@@ -1,4 +1,4 @@
--- What each call does to the past.
+-- The effects of each call.
 use Rattle.std.specs.Prelude.{ℕ, ℤ, Bool, List, [], Option, unwrap_or}
 use Rattle.std.specs.Option.{option_map, option_and_then}
 use Rattle.qqueue.specs.declared.item.Kind.{Kind}
@@ -15,11 +15,11 @@ use Rattle.qmodel.specs.Trace.{SentItem}
 
 -- ---- waiting, and buffers
 
--- what a call waits for where it doesn't end in its own event
+-- the open call that a call leaves if it doesn't end in its own event
 abbrev pub asks : CallNo → Call → Option OpenCall
 asks n c = option_map (λ wait. record { number = n; wait = wait }) (effect_of c).waits
 
--- the buffer that a call brings, empty where it brings none
+-- the buffer that a call brings; empty if it brings none
 abbrev pub buffer_of : Call → List ℕ
 buffer_of c = unwrap_or (effect_of c).buffer []
 
@@ -51,7 +51,7 @@ shuts_down c = (effect_of c).shuts_down
 
 -- ---- items
 
--- the item that a call of thread t makes, by what was so before it
+-- the item that a call of thread t makes, given the facts before it
 abbrev pub makes : Facts → ThreadNo → Call → Option SentItem
 makes f t c = (effect_of c).makes f t
 
@@ -59,7 +59,7 @@ makes f t c = (effect_of c).makes f t
 abbrev pub sends_over : Call → Option ConnectionId
 sends_over c = (effect_of c).sends_over
 
--- the thread of a Send
+-- the thread, if the call is a Send
 abbrev pub thread_of_send : ThreadNo → Call → Option ThreadNo
 thread_of_send t c = option_map (λ message. t) (effect_of c).sends
 
@@ -67,7 +67,7 @@ thread_of_send t c = option_map (λ message. t) (effect_of c).sends
 abbrev pub message_sent : Call → List ℕ
 message_sent c = unwrap_or (effect_of c).sends []
 
--- the channel that a call receives on, and what it may take
+-- the channel that a call receives on, and the kind of items that it may take
 abbrev pub receives_on : Call → Option (ChannelId × Kind)
 receives_on c = (effect_of c).receives_on
 
@@ -87,10 +87,10 @@ writes c = (effect_of c).writes
 
 -- ---- threads
 
--- what a call sets
+-- the priority that a call sets
 abbrev pub sets : Call → Option Setting
 sets c = (effect_of c).sets
 
--- the thread that a call wants to unblock
+-- the thread that a call unblocks
 abbrev pub unblocks : Call → Option ThreadNo
 unblocks c = (effect_of c).unblocks

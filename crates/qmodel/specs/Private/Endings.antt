@@ -1,5 +1,5 @@
--- The endings of one event: whose they are, how long their buffers are, and who is blocked afterwards; as
--- laws of all lawful traces.
+-- Laws of the endings of one event, in all lawful traces: the threads that get them, the lengths of their
+-- buffers, and the threads that are blocked afterwards.
 use Rattle.std.specs.Prelude.{◌≡◌, ◌↔◌, ℕ, ◌+◌, ◌==◌, ◌||◌, Bool, true, false, is_some, length, List, [], ◌∷◌}
 use Rattle.std.specs.Prelude.{Option, None, Some, if◌then◌else◌}
 use Rattle.std.specs.List.{AllByRecursion, list_any}
@@ -17,18 +17,18 @@ use Rattle.qmodel.specs.Private.Lawful.{IsLawful}
 use Rattle.qmodel.specs.Private.Past.{has_ending_of, open_call}
 use Rattle.qmodel.specs.Trace.{Event, Trace}
 
--- ---- whose they are
+-- ---- the threads that get them
 
 -- one of these endings goes to thread t
 abbrev pub gets : List Completion → ThreadNo → Bool
 gets endings t = list_any (λ x. x.thread == t) endings
 
--- each of these endings goes to a thread of its own
+-- each of these endings goes to a different thread
 abbrev pub AreApart : List Completion → Type 0
 AreApart [] = Unit {0}
 AreApart (x ∷ endings) = (gets endings x.thread ≡ false) × AreApart endings
 
--- so it is in each event
+-- in each event, each ending goes to a different thread
 abbrev pub EndingsAreApart : Type 0
 EndingsAreApart = (roster : List Member) (past : Trace) (e : Event) → IsRoster roster
     → IsLawful roster (e ∷ past) → AreApart e.endings
@@ -37,7 +37,7 @@ EndingsAreApart = (roster : List Member) (past : Trace) (e : Event) → IsRoster
 abbrev pub may_end : List Member → Trace → ThreadNo → ThreadNo → Bool
 may_end roster past t u = (u == t) || is_some (open_call roster past u)
 
--- in an event of thread t the ending goes to a thread of the roster whose call may end
+-- the ending goes to a thread of the roster whose call may end in an event of thread t
 pub record GoesToBlocked (roster : List Member) (past : Trace) (t : ThreadNo) (x : Completion) : Type 0 where
   pub known : is_some (member_at roster x.thread) ≡ true
   pub may : may_end roster past t x.thread ≡ true
@@ -47,10 +47,10 @@ abbrev pub EndingsGoToBlocked : Type 0
 EndingsGoToBlocked = (roster : List Member) (past : Trace) (e : Event) → IsRoster roster
     → IsLawful roster (e ∷ past) → AllByRecursion (GoesToBlocked roster past e.thread) e.endings
 
--- ---- who is blocked afterwards
+-- ---- the threads that are blocked afterwards
 
--- after an event of a thread that wasn't blocked just those threads are blocked whose calls might have ended
--- and did not
+-- after an event of a thread that wasn't blocked, the blocked threads are exactly those whose calls might
+-- have ended in it and didn't
 abbrev pub BlockedUnlessEnded : Type 0
 BlockedUnlessEnded = (roster : List Member) (past : Trace) (e : Event) → IsRoster roster
     → IsLawful roster (e ∷ past) → is_some (open_call roster past e.thread) ≡ false
@@ -59,26 +59,26 @@ BlockedUnlessEnded = (roster : List Member) (past : Trace) (e : Event) → IsRos
 
 -- ---- the event's own call
 
--- a call either ends in its own event, or its thread waits in it afterwards
+-- either a call ends in its own event, or its thread is blocked in it afterwards
 abbrev pub EndsOrWaits : Type 0
 EndsOrWaits = (roster : List Member) (past : Trace) (e : Event) → IsRoster roster → IsLawful roster (e ∷ past)
     → (has_ending_of e.endings (length past + 1) ≡ false)
     ↔ (option_map (λ o. o.number) (open_call roster (e ∷ past) e.thread) ≡ Some (length past + 1))
 
--- the caller gets an ending just where its call ends in its own event
+-- the caller gets an ending exactly if its call ends in its own event
 abbrev pub CallerGetsItsOwn : Type 0
 CallerGetsItsOwn = (roster : List Member) (past : Trace) (e : Event) → IsRoster roster
     → IsLawful roster (e ∷ past) → gets e.endings e.thread ≡ has_ending_of e.endings (length past + 1)
 
--- ---- how long their buffers are
+-- ---- the lengths of their buffers
 
 -- the buffer that an open call gives back
 abbrev pub buffer_of_open : Option OpenCall → List ℕ
 buffer_of_open None = []
 buffer_of_open (Some o) = buffer_of_wait o.wait
 
--- the buffer that thread u brought whose call may end in call c of thread t: with that call, or with the one
--- that it is blocked in
+-- the buffer that thread u gets back if its call ends in call c of thread t: the one of that call, or of the
+-- call that it is blocked in
 abbrev pub buffer_brought : List Member → Trace → ThreadNo → Call → ThreadNo → List ℕ
 buffer_brought roster past t c u = if u == t then buffer_of c else buffer_of_open (open_call roster past u)
 
@@ -95,7 +95,7 @@ pub record IsAsLong (past : Trace) (o : OpenCall) : Type 0 where
   pub is : call_at past o.number ≡ Some call
   pub same : length (buffer_of_wait o.wait) ≡ length (buffer_of call)
 
--- so it is with each open call
+-- the buffer of each open call keeps its length
 abbrev pub OpenCallsKeepLength : Type 0
 OpenCallsKeepLength = (roster : List Member) (past : Trace) → IsRoster roster → IsLawful roster past
     → (u : ThreadNo) (o : OpenCall) → open_call roster past u ≡ Some o → IsAsLong past o

@@ -1,4 +1,4 @@
--- What may be read of the past as a call is answered.
+-- The facts of the past that the answer to a call may depend on.
 use Rattle.std.specs.Prelude.{ℕ, ◌+◌, ◌==◌, ◌&&◌, Bool, true, false, is_some, List, [], ◌∷◌, map, Option}
 use Rattle.std.specs.Prelude.{None, Some, if◌then◌else◌, bit_and}
 use Rattle.std.specs.Option.{option_and_then, option_map_or}
@@ -13,9 +13,9 @@ use Rattle.qmodel.specs.declared.open_call.Wait.TheVariants.{Answer, Item as For
 use Rattle.qmodel.specs.Trace.{OpenChannel}
 use Rattle.qmodel.specs.Trace.{CallNo, ChannelId, ConnectionId, Priority, ProcessNo, ReceiveId, ThreadNo}
 
--- the threads, the number of the call that is answered, whether the kernel is shut down, each open channel
--- and how many there are, each live connection and how many there are, each thread's open call, what waits on
--- each channel in rising number, and each thread's priority
+-- the threads, the number of the call that is answered, whether the kernel is shut down, the open channels
+-- and their number, the live connections and their number, each thread's open call, the pending items of each
+-- channel in rising number, and each thread's priority
 pub record Facts : Type 0 where
   pub roster : List Member
   pub number : CallNo
@@ -53,8 +53,8 @@ is_fellow f t u = option_map_or (λ m. is_of_process f u m.process) (member_at f
 abbrev pub owns : Facts → ThreadNo → ChannelId → Bool
 owns f t h = option_map_or (λ c. is_of_process f t c.owner) (f.channel h) false
 
--- the channel that the thread may send to over connection k: the one that it leads to, where the thread's
--- process attached it and the channel is open
+-- the channel that the thread may send to over connection k: the one that the connection leads to, if the
+-- thread's process attached it and the channel is open
 abbrev pub route : Facts → ThreadNo → ConnectionId → Option ChannelId
 route f t k =
     option_and_then (λ c. if is_of_process f t c.process && is_some (f.channel c.channel) then Some c.channel
@@ -64,19 +64,19 @@ route f t k =
 abbrev pub has_flag : ℕ → Option OpenChannel → Bool
 has_flag flag channel = option_map_or (λ c. bit_and c.flags.0 flag == flag) channel false
 
--- the channel leaves its receivers' priorities as they are
+-- the channel has the flag that leaves its receivers' priorities as they are
 abbrev pub is_fixed : Option OpenChannel → Bool
 is_fixed channel = has_flag 1 channel
 
--- the channel's servers are told of a client that wants to be unblocked
+-- the channel has the unblock flag
 abbrev pub tells_unblock : Option OpenChannel → Bool
 tells_unblock channel = has_flag 2 channel
 
--- the channel's servers are told of a process that has detached its last connection to it
+-- the channel has the disconnect flag
 abbrev pub tells_disconnect : Option OpenChannel → Bool
 tells_disconnect channel = has_flag 4 channel
 
--- how many of the numbers up to n have something
+-- how many of the numbers from 1 to n have a value that isn't None
 abbrev pub count_to : {A : Type 0} → (ℕ → Option A) → ℕ → ℕ
 count_to at Prim.Native.Nat.zero = 0
 count_to at (Prim.Native.Nat.suc n) = (if is_some (at (n + 1)) then 1 else 0) + count_to at n
@@ -97,7 +97,7 @@ is_for_receipt wait = false
 abbrev pub is_send : ReceiveId → Option OpenCall → Bool
 is_send i call = option_map_or (λ o. (o.number == i) && is_for_answer o.wait) call false
 
--- the first of these numbers of which this is so
+-- the first of these numbers for which the condition is true
 abbrev pub first_where : (ℕ → Bool) → List ℕ → Option ℕ
 first_where is_so [] = None
 first_where is_so (n ∷ numbers) = if is_so n then Some n else first_where is_so numbers
@@ -114,7 +114,7 @@ sender f i = sender_among f.open_call i (threads_of f.roster)
 abbrev pub open_send : Facts → ReceiveId → Option OpenCall
 open_send f i = option_and_then f.open_call (sender f i)
 
--- the message whose answer is waited for
+-- the message whose answer the thread waits for
 abbrev pub message_of : Wait → List ℕ
 message_of (Answer coid message reply_buffer receipt) = message
 message_of (ForItem chid kind buffer) = []

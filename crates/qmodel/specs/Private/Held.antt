@@ -11,36 +11,37 @@ use Rattle.qmodel.specs.declared.open_call.Wait.TheVariants.{Answer, Item as For
 use Rattle.qmodel.specs.Trace.{CallNo, ReceiveId, ThreadNo}
 use Rattle.qmodel.specs.Private.Facts.{Facts, owns, sender, open_send}
 
--- ---- who may work on a message
+-- ---- the threads that may work on a message
 
--- a message that is held, on a channel of the thread's process
+-- the wait is for the answer to a message that is held on a channel of the thread's process
 abbrev pub is_held_by : Facts → ThreadNo → Wait → Bool
 is_held_by f t (Answer coid message reply_buffer (Some receipt)) =
     option_map_or (λ c. owns f t c.channel) (f.connection coid) false
 is_held_by f t wait = false
 
--- no such message is held, or its channel is another process's
+-- Srch if no such message is held, or its channel is another process's
 abbrev pub refusal : Facts → ThreadNo → ReceiveId → Option Errno
 refusal f t rcvid = if option_map_or (λ o. is_held_by f t o.wait) (open_send f rcvid) false then None
     else Some Srch
 
 -- ---- answering
 
--- what an answer makes of the reply buffer: the mark of the Send's ending, and the buffer that it gives back
+-- a function of an answer, from the reply buffer to the mark of the Send's ending and the buffer that it
+-- gives back
 abbrev pub Finish : Type 0
 Finish = List ℕ → Mark × List ℕ
 
--- how the Send of number m ends, of thread u, that is answered so
+-- the ending of thread u's Send of number m with this answer
 abbrev pub answer_ending_of_wait : Finish → ThreadNo → CallNo → Wait → Option Completion
 answer_ending_of_wait finish u m (Answer coid message reply_buffer receipt) =
     Some (record { call = m; thread = u; mark = (finish reply_buffer).0; buffer = (finish reply_buffer).1 })
 answer_ending_of_wait finish u m (ForItem chid kind buffer) = None
 
--- how the open call of thread u ends, if it is a Send, that is answered so
+-- the ending of thread u's open call with this answer, if it is a Send
 abbrev pub answer_ending : Finish → ThreadNo → Option OpenCall → Option Completion
 answer_ending finish u call = option_and_then (λ o. answer_ending_of_wait finish u o.number o.wait) call
 
--- the sender's call ends, and no other
+-- ends the sender's call, and no other
 abbrev pub ends_sender : Facts → Finish → Option ThreadNo → ThreadNo → Option Completion
 ends_sender f finish sender u =
     option_and_then (λ s. if u == s then answer_ending finish u (f.open_call u) else None) sender

@@ -10,7 +10,7 @@ use Rattle.qmodel.specs.Private.Facts.{Facts}
 use Rattle.qmodel.specs.Private.Past.{facts_by, knowledge_of}
 use Rattle.qmodel.specs.Trace.{Event, Trace}
 
--- all that a row may read, searched for in the past
+-- the facts that a row may read, searched for in the past
 abbrev pub facts_of : List Member → Trace → Facts
 facts_of roster past = facts_by roster past (knowledge_of roster past)
 
@@ -21,7 +21,7 @@ IsLawful roster (e ∷ past) =
     IsLawful roster past × IsTrue (is_some (member_at roster e.thread))
     × Answers (facts_of roster past) e.thread e.call e.endings
 
--- the past followed by events, of which the oldest stands first
+-- the past followed by these events, which are given with the oldest first
 abbrev pub followed_by : Trace → List Event → Trace
 followed_by past [] = past
 followed_by past (e ∷ events) = followed_by (e ∷ past) events

@@ -1,4 +1,4 @@
--- What the definitions of the past mean, as laws of all lawful traces.
+-- Laws of all lawful traces that say what the definitions of the past mean.
 use Rattle.std.specs.Prelude.{◌≡◌, ◌↔◌, ℕ, ◌+◌, ◌<◌, ◌≤◌, ◌==◌, ◌&&◌, Bool, true, false, is_some, filter}
 use Rattle.std.specs.Prelude.{length, List, [], ◌∷◌, ◌++◌, map, not, Option, None, Some, if◌then◌else◌}
 use Rattle.std.specs.List.{AllByRecursion, list_any}
@@ -51,8 +51,8 @@ pub record LeadsTo (roster : List Member) (past : Trace) (k : ConnectionId) (h :
 abbrev pub is_made_on : List Member → Trace → CallNo → ChannelId → Bool
 is_made_on roster past i h = list_any (λ m. (m.item.number == i) && (m.channel == h)) (items roster past)
 
--- item i, which the ending receives, was made by then on the channel on which the ended call receives, to
--- which the connection leads over which it was sent, if it was sent over one
+-- item i, which the ending receives, was made by then, on the channel on which the ended call receives; if it
+-- was sent over a connection, that leads to this channel
 pub record WasSent (roster : List Member) (past : Trace) (x : Completion) (i : CallNo) : Type 0 where
   pub call : Call
   pub channel : ChannelId
@@ -62,7 +62,8 @@ pub record WasSent (roster : List Member) (past : Trace) (x : Completion) (i : C
   pub made : is_made_on roster past i channel ≡ true
   pub sent : (k : ConnectionId) → connection_of past i ≡ Some k → LeadsTo roster past k channel
 
--- what the newest event of a lawful trace receives was made so, by an earlier event or by this one
+-- each item that the newest event of a lawful trace receives was made in this way, by an earlier event or by
+-- this one
 abbrev pub ReceivedWasSent : Type 0
 ReceivedWasSent = (roster : List Member) (past : Trace) (e : Event) → IsRoster roster
     → IsLawful roster (e ∷ past)
@@ -70,7 +71,7 @@ ReceivedWasSent = (roster : List Member) (past : Trace) (e : Event) → IsRoster
 
 -- ---- open calls
 
--- the thread of an event whose call may wait
+-- the thread of an event, if its call may wait
 abbrev pub blocker : Event → Option ThreadNo
 blocker e = if is_some (asks 0 e.call) then Some e.thread else None
 
@@ -84,7 +85,7 @@ abbrev pub AtMostOneOpen : Type 0
 AtMostOneOpen = (roster : List Member) (past : Trace) → IsRoster roster → IsLawful roster past
     → (t : ThreadNo) (i j : CallNo) → IsUnended past t i → IsUnended past t j → i ≡ j
 
--- and its open call is just that
+-- and this call is its open call
 abbrev pub OpenIsUnended : Type 0
 OpenIsUnended = (roster : List Member) (past : Trace) → IsRoster roster → IsLawful roster past
     → (t : ThreadNo) (i : CallNo) → (option_map (λ o. o.number) (open_call roster past t) ≡ Some i)
@@ -106,25 +107,26 @@ OpenSendsAreLive = (roster : List Member) (past : Trace) → IsRoster roster →
 
 -- ---- receivers
 
--- thread u waits for such an item, in this call, and no thread does in a later one
+-- thread u waits for such an item, and no thread waits for one in a later call
 pub record IsLastWait (f : Facts) (h : ChannelId) (item : Item) (u : ThreadNo) : Type 0 where
   pub number : CallNo
   pub waits : wait_on h item (f.open_call u) ≡ Some number
   pub greatest : (v : ThreadNo) (n : CallNo) → wait_on h item (f.open_call v) ≡ Some n → n ≤ number
 
--- the newest receiver of an item is the one whose call has the greatest number of all that may take it
+-- the newest receiver of an item is the thread whose call has the greatest number of all calls that may take
+-- it
 abbrev pub NewestIsGreatest : Type 0
 NewestIsGreatest = (roster : List Member) (past : Trace) → IsRoster roster → IsLawful roster past
     → (h : ChannelId) (u : ThreadNo) (item : Item) → newest_receiver (facts_of roster past) h item ≡ Some u
     → IsLastWait (facts_of roster past) h item u
 
--- there is none exactly where no thread waits that may take it
+-- there is no newest receiver exactly if no thread waits that may take the item
 abbrev pub NoneIsNewest : Type 0
 NoneIsNewest = (roster : List Member) (past : Trace) → IsRoster roster → IsLawful roster past
     → (h : ChannelId) (item : Item) → (newest_receiver (facts_of roster past) h item ≡ None)
     ↔ ((u : ThreadNo) → wait_on h item (open_call roster past u) ≡ None)
 
--- nothing is pending on a channel that a thread may take which waits there
+-- no item is pending on a channel that a thread which waits there may take
 abbrev pub NothingPendingForWaiting : Type 0
 NothingPendingForWaiting = (roster : List Member) (past : Trace) → IsRoster roster → IsLawful roster past
     → (u : ThreadNo) (n : CallNo) (h : ChannelId) (kind : Kind) (buffer : List ℕ)
@@ -144,13 +146,13 @@ abbrev pub PendingRises : Type 0
 PendingRises = (roster : List Member) (past : Trace) → IsRoster roster → IsLawful roster past
     → (h : ChannelId) → IsRising (pending_items roster past h)
 
--- neither the past nor an open call says of item i that it is a message received and not answered
+-- item i isn't a message that is received and not answered, neither by the past nor by the open calls
 pub record IsNotHeld (roster : List Member) (past : Trace) (i : CallNo) : Type 0 where
   pub unread : is_held past i ≡ false
   pub unkept : (u : ThreadNo) (o : OpenCall) → open_call roster past u ≡ Some o → is_for_reply o.wait ≡ true
       → (o.number == i) ≡ false
 
--- nothing is both pending and held
+-- no item is both pending and held
 abbrev pub NonePendingIsHeld : Type 0
 NonePendingIsHeld = (roster : List Member) (past : Trace) → IsRoster roster → IsLawful roster past
     → (h : ChannelId) → AllByRecursion (λ item. IsNotHeld roster past item.number)
@@ -171,7 +173,7 @@ PendingIsOpen = (roster : List Member) (past : Trace) → IsRoster roster → Is
     → (h : ChannelId) → AllByRecursion
     (λ item. is_pulse item.what ≡ false → IsOpenSend roster past item.number) (pending_items roster past h)
 
--- a pending message has the priority that its sender has by now
+-- a pending message has the present priority of its sender
 abbrev pub PendingFollowsItsSender : Type 0
 PendingFollowsItsSender = (roster : List Member) (past : Trace) → IsRoster roster → IsLawful roster past
     → (h : ChannelId) → AllByRecursion
@@ -189,12 +191,12 @@ pub record TakesBeside (past : Trace) (z : Completion) (i : CallNo) (h : Channel
   pub may : may_take kind x ≡ true
   pub item : item_received z ≡ Some i
 
--- item x has the priority that its number has by now
+-- the priority in x is the present priority of the item of its number
 abbrev pub HasPriority : List Member → Trace → Item → Type 0
 HasPriority roster past x = priority_of_item roster past x.number ≡ x.priority
 
--- of two items that were pending on a channel, of which x comes before y, and that have their priorities
--- still, y isn't received by a call that may take x before x is gone
+-- if x and y were pending on a channel, x comes before y, and both still have their priorities, then no call
+-- that may take x receives y before x is gone
 abbrev pub FirstGoesFirst : Type 0
 FirstGoesFirst = (roster : List Member) (past later : Trace) (e : Event) → IsRoster roster
     → IsLawful roster (e ∷ later ++ past) → (h : ChannelId)
@@ -215,8 +217,8 @@ abbrev pub with_messages_at : Trace → ThreadNo → Priority → List Item → 
 with_messages_at past t priority items =
     map (λ item. if is_message_of past t item then with_priority priority item else item) items
 
--- an accepted PrioritySet gives its thread's pending message that priority, and changes nothing else that is
--- pending
+-- an accepted PrioritySet sets the priority of its thread's pending message, and changes no other pending
+-- item
 abbrev pub SettingMovesItsOwn : Type 0
 SettingMovesItsOwn = (roster : List Member) (past : Trace) (e : Event) → IsRoster roster
     → IsLawful roster (e ∷ past) → is_accepted e past ≡ true
@@ -224,11 +226,11 @@ SettingMovesItsOwn = (roster : List Member) (past : Trace) (e : Event) → IsRos
     → (h : ChannelId) → pending_items roster (e ∷ past) h
     ≡ with_messages_at past t priority (pending_items roster past h)
 
--- the items but the messages of thread t
+-- the items without the messages of thread t
 abbrev pub others_than : Trace → ThreadNo → List Item → List Item
 others_than past t items = filter (λ item. not (is_message_of past t item)) items
 
--- so the others are what they were, in their order
+-- so the other items stay as they were, in the same order
 abbrev pub OthersKeepTheirOrder : Type 0
 OthersKeepTheirOrder = (roster : List Member) (past : Trace) (e : Event) → IsRoster roster
     → IsLawful roster (e ∷ past) → is_accepted e past ≡ true
@@ -246,15 +248,15 @@ pub record IsHeldSend (roster : List Member) (past : Trace) (i : ReceiveId) : Ty
   pub is_open : open_call roster past thread ≡ Some waiting
   pub received : is_for_reply waiting.wait ≡ true
 
--- a message is held as the past has it, received and its Send not ended, exactly where it is held as the rows
--- have it
+-- a message is held by the definition on the past (it is received, and its Send hasn't ended) exactly if it
+-- is held by the definition that the rows use
 abbrev pub HeldIsHeldSend : Type 0
 HeldIsHeldSend = (roster : List Member) (past : Trace) → IsRoster roster → IsLawful roster past
     → (i : ReceiveId) → (is_held past i ≡ true) ↔ IsHeldSend roster past i
 
 -- ---- refusals
 
--- all is as it was, but one more call was made
+-- nothing changes but the number of calls, which is one more
 pub record IsOnlyCounted (f g : Facts) : Type 0 where
   pub roster : g.roster ≡ f.roster
   pub number : g.number ≡ f.number + 1
@@ -267,7 +269,7 @@ pub record IsOnlyCounted (f g : Facts) : Type 0 where
   pub pending : (h : ChannelId) → g.pending h ≡ f.pending h
   pub priority : (u : ThreadNo) → g.priority u ≡ f.priority u
 
--- a refused call changes nothing but how many were made
+-- a refused call changes nothing but the number of calls
 abbrev pub RefusedChangesNothing : Type 0
 RefusedChangesNothing = (roster : List Member) (past : Trace) (e : Event) → IsRoster roster
     → IsLawful roster (e ∷ past)
@@ -281,8 +283,8 @@ NothingFromDestroyed = (roster : List Member) (past : Trace) (e : Event) → IsR
     → IsLawful roster (e ∷ past)
     → (h : ChannelId) → is_closed (e ∷ past) h ≡ true → NoneReceivedFrom roster (e ∷ past) h e.endings
 
--- after an accepted Shutdown each event is a refusal: its one ending is its own, with Down and the buffer
--- that the call brought
+-- after an accepted Shutdown each call is refused: its event has one ending, its own, with Down and the
+-- buffer that the call brought
 abbrev pub OnlyRefusedWhenDown : Type 0
 OnlyRefusedWhenDown = (roster : List Member) (past : Trace) (e : Event) → IsRoster roster
     → IsLawful roster (e ∷ past)
@@ -303,12 +305,12 @@ EndingsNameOwnCalls = (roster : List Member) (past : Trace) (e : Event) → IsRo
     → IsLawful roster (e ∷ past)
     → AllByRecursion (λ x. thread_at (e ∷ past) x.call ≡ Some x.thread) e.endings
 
--- these endings rise in the number of their threads, so each goes to a thread of its own
+-- the thread numbers of these endings rise, so each goes to a different thread
 abbrev pub RiseByThread : List Completion → Type 0
 RiseByThread [] = Unit {0}
 RiseByThread (x ∷ endings) = AllByRecursion (λ y. x.thread < y.thread) endings × RiseByThread endings
 
--- so it is in each event
+-- the thread numbers of the endings rise in each event
 abbrev pub EndingsRiseByThread : Type 0
 EndingsRiseByThread = (roster : List Member) (past : Trace) (e : Event) → IsRoster roster
     → IsLawful roster (e ∷ past) → RiseByThread e.endings

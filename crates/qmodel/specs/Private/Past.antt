@@ -1,4 +1,4 @@
--- What is searched for in the list of all past calls. The newest event stands first.
+-- Searches in the list of all past calls, which has the newest event first.
 use Rattle.std.specs.Prelude.{ℕ, ◌+◌, ◌==◌, ◌&&◌, ◌||◌, not, Bool, true, false, is_some, List, [], ◌∷◌, ◌++◌}
 use Rattle.std.specs.Prelude.{length, map, filter, Option, None, Some, if◌then◌else◌, option_and_then}
 use Rattle.std.specs.Prelude.{unwrap_or}
@@ -35,7 +35,7 @@ abbrev pub is_failure : Mark → Bool
 is_failure (mark.Failed errno) = true
 is_failure other = false
 
--- these endings refuse call n: one is of n itself, and a failure
+-- these endings refuse call n: one of them is of n itself, and is a failure
 abbrev pub refuses : List Completion → CallNo → Bool
 refuses endings n = list_any (λ x. (x.call == n) && is_failure x.mark) endings
 
@@ -53,13 +53,13 @@ is_ended past i = list_any (λ e. has_ending_of e.endings i) past
 
 -- ---- channels and connections
 
--- what the event of number i made, where it was accepted
+-- what the event of number i made, if it was accepted
 abbrev pub made_at : {A : Type 0} → (Event → Option A) → Trace → CallNo → Option A
 made_at make [] i = None
 made_at make (e ∷ past) i = if i == length past + 1 then (if is_accepted e past then make e else None)
     else made_at make past i
 
--- a call of which this is so was accepted
+-- a call for which the condition is true was accepted
 abbrev pub was_accepted : (Call → Bool) → Trace → Bool
 was_accepted is_such [] = false
 was_accepted is_such (e ∷ past) = (is_accepted e past && is_such e.call) || was_accepted is_such past
@@ -102,27 +102,27 @@ live_connections roster past = count_to (connection_at roster past) (length past
 
 -- ---- searching
 
--- what the first of these endings has of which something is told
+-- the first value that isn't None among those of the endings
 abbrev pub first_among : {A : Type 0} → (Completion → Option A) → List Completion → Option A
 first_among tell [] = None
 first_among tell (x ∷ endings) = option_or (tell x) (first_among tell endings)
 
--- the priority of a member, 0 where there is none
+-- the priority of a member; 0 if there is none
 abbrev pub priority_in : Option Member → Priority
 priority_in member = option_map_or (λ m. m.priority) member 0
 
--- of these items the one of number i
+-- the one of these items that has number i
 abbrev pub made_among : List SentItem → CallNo → Option SentItem
 made_among [] i = None
 made_among (m ∷ made) i = if m.item.number == i then Some m else made_among made i
 
--- the priority of an item, 0 where there is none
+-- the priority of an item; 0 if there is none
 abbrev pub priority_of_made : Option SentItem → Priority
 priority_of_made made = option_map_or (λ m. m.item.priority) made 0
 
 -- ---- receipts
 
--- the receipt that an ending is of item i: how many bytes it copied
+-- how many bytes an ending copied, if it is the receipt of item i
 abbrev pub copied_count_in : CallNo → Option (CallNo × ℕ) → Option ℕ
 copied_count_in i item = option_and_then (λ r. if r.0 == i then Some r.1 else None) item
 
@@ -143,19 +143,19 @@ is_taken past i = is_some (copied_count_of past i)
 abbrev pub is_gone : Trace → Item → Bool
 is_gone past item = is_taken past item.number || (not (is_pulse item.what) && is_ended past item.number)
 
--- the items of channel h that are not gone, of these items, in rising number; none where it is destroyed
+-- those of these items that are pending on channel h, in rising number; none if it is destroyed
 abbrev pub pending_among : Trace → List SentItem → ChannelId → List Item
 pending_among past made h =
     if is_closed past h then []
     else filter (λ item. not (is_gone past item)) (map (λ m. m.item) (filter (λ m. m.channel == h) made))
 
--- ---- what a message is worth by now
+-- ---- the present priority of a message
 
 -- the thread that sent message i
 abbrev pub sender_of : Trace → ReceiveId → Option ThreadNo
 sender_of past i = made_at (λ e. thread_of_send e.thread e.call) past i
 
--- the priority that event e sets for thread t, where it is an accepted PrioritySet
+-- the priority that event e sets for thread t, if it is an accepted PrioritySet
 abbrev pub priority_set_by : Event → Trace → ThreadNo → Option Priority
 priority_set_by e past t = if is_accepted e past then priority_set_for (sets e.call) t else None
 
@@ -167,15 +167,15 @@ priority_set_since (e ∷ past) i t =
     if i == length past + 1 then None
     else option_or (if is_taken past i then None else priority_set_by e past t) (priority_set_since past i t)
 
--- the priority of an item by now: a message has what was set last for its thread while it was pending, and
--- else, as each pulse, what it was made with
+-- the present priority of an item: that of a message is the one that was set last for its thread while the
+-- message was pending; if none was, and for each pulse, it is the one that the item was made with
 abbrev pub current_priority : Trace → Item → Priority
 current_priority past item =
     if is_pulse item.what then item.priority
     else unwrap_or (option_and_then (priority_set_since past item.number) (sender_of past item.number))
     item.priority
 
--- these items as they are by now
+-- these items with their present priorities
 abbrev pub items_by_now : Trace → List SentItem → List SentItem
 items_by_now past made = map
     (λ m. record { item = with_priority (current_priority past m.item) m.item; channel = m.channel }) made
@@ -189,7 +189,7 @@ newest_block (e ∷ past) t =
     if (e.thread == t) && is_accepted e past && is_some (asks (length past + 1) e.call)
     then asks (length past + 1) e.call else newest_block past t
 
--- a wait for an answer with what is kept of the message's receipt
+-- a wait for an answer, with the record of the message's receipt
 abbrev pub wait_with_receipt : Receipt → Wait → Wait
 wait_with_receipt receipt (Answer coid message reply_buffer before) =
     Answer coid message reply_buffer (Some receipt)
@@ -202,7 +202,7 @@ with_writes (e ∷ past) i b =
     if is_accepted e past then buffer_after_write (writes e.call) i (with_writes past i b)
     else with_writes past i b
 
--- a call with its reply buffer as it is by now
+-- a call with the present content of its reply buffer
 abbrev pub call_by_now : Trace → OpenCall → OpenCall
 call_by_now past o = record o { wait = with_buffer (with_writes past o.number) o.wait }
 
@@ -210,7 +210,7 @@ call_by_now past o = record o { wait = with_buffer (with_writes past o.number) o
 abbrev pub unless_ended : Trace → Option OpenCall → Option OpenCall
 unless_ended past call = option_and_then (λ o. if is_ended past o.number then None else Some o) call
 
--- a call with what is kept of its message's receipt, where there was one
+-- a call with the record of its message's receipt, if there was one
 abbrev pub with_receipt : Priority → Bool → Option ℕ → OpenCall → OpenCall
 with_receipt priority unblocked copied o =
     option_map_or (λ n. record o
@@ -226,7 +226,7 @@ is_unblock_for i other = false
 abbrev pub unblocked_among : List SentItem → ReceiveId → Bool
 unblocked_among made i = list_any (λ m. is_unblock_for i m.item.what) made
 
--- the open call of thread t, of all items as they are by now
+-- the open call of thread t, given all items with their present priorities
 abbrev pub open_call_by : Trace → List SentItem → ThreadNo → Option OpenCall
 open_call_by past made t =
     option_map
@@ -234,14 +234,14 @@ open_call_by past made t =
     (copied_count_of past o.number) (call_by_now past o))
     (unless_ended past (newest_block past t))
 
--- ---- all that a row may read
+-- ---- the facts that a row may read
 
 -- all items that were made so far, each as it was made, in rising number, and each thread's priority
 pub record Knowledge : Type 0 where
   pub made : List SentItem
   pub priority : ThreadNo → Priority
 
--- searched for in the past, of what is known of it
+-- the facts after a past, given the items that were made and the priorities
 abbrev pub facts_by : List Member → Trace → Knowledge → Facts
 facts_by roster past k = record {
   roster = roster;
@@ -256,7 +256,7 @@ facts_by roster past k = record {
   priority = k.priority;
 }
 
--- the item that an event makes, by what was so before it
+-- the item that an event makes, given the facts before it
 abbrev pub item_by : Facts → Event → Trace → Option SentItem
 item_by f e past = if is_accepted e past then makes f e.thread e.call else None
 
@@ -268,21 +268,21 @@ abbrev pub carried_priority : (ChannelId → Option OpenChannel) → Option Sent
 carried_priority channel made =
     option_and_then (λ m. if is_fixed (channel m.channel) then None else Some m.item.priority) made
 
--- the priority that an ending gives thread t, where each item that is received carries one or none
+-- the priority that thread t takes by an ending, given the priority, or none, that each received item carries
 abbrev pub priority_from_ending : (CallNo → Option Priority) → ThreadNo → Completion → Option Priority
 priority_from_ending priority t x =
     if x.thread == t then option_and_then (λ r. priority r.0) (item_in_mark x.mark) else None
 
--- the priority that event e gives thread t, of all that was made by then: an accepted PrioritySet sets it, or
--- the thread receives an item, as that was before the event
+-- the priority that thread t takes by event e, given all items made by then: an accepted PrioritySet sets it,
+-- or the thread receives an item and takes the priority that this had before the event
 abbrev pub priority_from_event : List Member → Event → Trace → List SentItem → ThreadNo → Option Priority
 priority_from_event roster e past made t =
     option_or (priority_set_by e past t)
     (first_among (priority_from_ending
     (λ i. carried_priority (channel_at roster past) (made_among (items_by_now past made) i)) t) e.endings)
 
--- what is known after event e, by when these items were made: a thread's priority is what the event gave it,
--- or else what it was
+-- the items and priorities after event e, given all items made by then: a thread's priority is the one that
+-- it takes by the event, or else the one before
 abbrev pub knowledge_after : List Member → Event → Trace → Knowledge → List SentItem → Knowledge
 knowledge_after roster e past k made =
     record {
@@ -291,8 +291,8 @@ knowledge_after roster e past k made =
           (k.priority t);
     }
 
--- what is known of a past: each accepted event may make an item, and a thread begins with the priority that
--- the roster gives it
+-- the items and priorities after a past: each accepted event may make an item, and a thread begins with the
+-- priority in the roster
 abbrev pub knowledge_of : List Member → Trace → Knowledge
 knowledge_of roster [] = record { made = []; priority = λ t. priority_in (member_at roster t) }
 knowledge_of roster (e ∷ past) =
@@ -304,13 +304,13 @@ knowledge_of roster (e ∷ past) =
 abbrev pub items : List Member → Trace → List SentItem
 items roster past = (knowledge_of roster past).made
 
--- a thread's priority: what the newest event gave it that gave it one, or else what the roster gives it
+-- a thread's priority: the one that an event changed it to last, or else the one in the roster
 abbrev pub priority_of_thread : List Member → Trace → ThreadNo → Priority
 priority_of_thread roster past t = (knowledge_of roster past).priority t
 
--- ---- what was so after all past calls
+-- ---- the facts after all past calls
 
--- the item that is made, where it is of channel h
+-- the item that is made, if it is for channel h
 abbrev pub made_on : ChannelId → Option SentItem → List Item
 made_on h made = option_map_or (λ m. if m.channel == h then m.item ∷ [] else []) made []
 
@@ -318,7 +318,7 @@ made_on h made = option_map_or (λ m. if m.channel == h then m.item ∷ [] else 
 abbrev pub item_of : List Member → Event → Trace → Option SentItem
 item_of roster e past = item_by (facts_by roster past (knowledge_of roster past)) e past
 
--- the priority of item i by now
+-- the present priority of item i
 abbrev pub priority_of_item : List Member → Trace → CallNo → Priority
 priority_of_item roster past i = priority_of_made (made_among (items_by_now past (items roster past)) i)
 
@@ -327,7 +327,7 @@ abbrev pub priority_before : List Member → Event → Trace → CallNo → Prio
 priority_before roster e past i =
     priority_of_made (made_among (items_by_now past (items roster (e ∷ past))) i)
 
--- what is pending on channel h, in rising number
+-- the items that are pending on channel h, in rising number
 abbrev pub pending_items : List Member → Trace → ChannelId → List Item
 pending_items roster past h = pending_among past (items_by_now past (items roster past)) h
 

@@ -1,4 +1,4 @@
--- Pulses: what the calls share that make them.
+-- Pulses: the definitions that the calls which make pulses share.
 use Rattle.std.specs.Option.{option_and_then, option_map_or}
 use Rattle.std.specs.Prelude.{ℕ, nat_lt, Bool, false, List, [], count_by, Option, None, Some, if◌then◌else◌}
 use Rattle.qbase.specs.declared.errno.Errno.{Errno}
@@ -17,19 +17,19 @@ use Rattle.qmodel.specs.Trace.{SentItem}
 abbrev pub pulses_among : List Item → ℕ
 pulses_among items = count_by (λ x. is_pulse x.what) items
 
--- the refusal of one more where 1,024 pulses are pending on channel h
+-- Again if 1,024 pulses are pending on channel h
 abbrev pub refusal_if_full : Facts → ChannelId → Option Errno
 refusal_if_full f h = if nat_lt (pulses_among (f.pending h)) 1024 then None else Some Again
 
--- the refusal of a pulse that is due, if one is, where its channel is full
+-- the refusal if a pulse must be sent and its channel is full
 abbrev pub refusal_if_full_for : Facts → Option SentItem → Option Errno
 refusal_if_full_for f pulse = option_and_then (λ m. refusal_if_full f m.channel) pulse
 
--- a pulse is made that wants memory to wait in
+-- a pulse is made that needs memory to wait in
 abbrev pub wants_room_for : Facts → Option SentItem → Bool
 wants_room_for f pulse = option_map_or (λ m. wants_room f m.item (Some m.channel)) pulse false
 
--- the call of the receiver ends that a pulse which is made meets
+-- ends the call of the receiver that takes the pulse
 abbrev pub ends_receiver : Facts → Option SentItem → ThreadNo → Option Completion
 ends_receiver f pulse u = option_and_then (λ m. delivers f m.item [] (receiver f m.item (Some m.channel)) u)
     pulse
@@ -39,8 +39,8 @@ abbrev pub pulse_receipt : Facts → Option SentItem → Option Received
 pulse_receipt f pulse = option_and_then
     (λ m. receipt_when_sent f None m.item [] (Some m.channel) (receiver f m.item (Some m.channel))) pulse
 
--- the row of a call that may make this pulse, ends so what others wait in, and ends with Ok: it never blocks,
--- and wants memory only for a pulse that waits
+-- the row of a call that may make this pulse, ends these calls of others, and ends with Ok: it never blocks,
+-- and needs memory only for a pulse that waits
 abbrev pub pulse_row : Facts → ThreadNo → Option Errno → Option SentItem → (ThreadNo → Option Completion)
     → Row
 pulse_row f t refusal pulse ends =

@@ -1,4 +1,4 @@
--- Receiving: what Receive and ReceivePulse share.
+-- Receiving: the definitions that Receive and ReceivePulse share.
 use Rattle.std.specs.Option.{option_and_then, option_map}
 use Rattle.std.specs.Prelude.{ℕ, List, Option, None, Some, if◌then◌else◌}
 use Rattle.qbase.specs.declared.errno.Errno.{Errno}
@@ -14,15 +14,15 @@ use Rattle.qmodel.specs.Trace.{ChannelId, ThreadNo}
 use Rattle.qmodel.specs.Private.Facts.{Facts, owns, sender, message}
 use Rattle.qmodel.specs.Private.Rows.{Row, Received, receipt_ending, receipt_in, empty_row}
 
--- a channel that isn't open, or isn't of the thread's process
+-- Srch if the channel isn't open, or isn't of the thread's process
 abbrev pub refusal : Facts → ThreadNo → ChannelId → Option Errno
 refusal f t chid = if owns f t chid then None else Some Srch
 
--- how the call ends that takes the item into its buffer
+-- the ending of the call that takes the item into its buffer
 abbrev pub own_receipt : Facts → ThreadNo → List ℕ → Option Item → Option Completion
 own_receipt f t buffer item = option_map (λ i. receipt_ending i (message f i.number) t f.number buffer) item
 
--- the thread that waits for the answer to an item: there is one only of a message
+-- the thread that waits for the answer to an item; None for a pulse
 abbrev pub sender_for : Facts → Item → Option ThreadNo
 sender_for f item = if is_pulse item.what then None else sender f item.number
 
@@ -31,7 +31,7 @@ abbrev pub receipt_when_taken : Facts → ChannelId → Option Completion → Op
 receipt_when_taken f h ending item =
     option_and_then (λ i. receipt_in h (sender_for f i) i.priority ending) item
 
--- the best item that the kind may take; with none the call is blocked until one comes
+-- the call takes the best item that the kind may take; if there is none, it is blocked until one comes
 abbrev pub receive_row : Facts → ThreadNo → ChannelId → Kind → List ℕ → Row
 receive_row f t chid kind buffer = record empty_row {
   refusal = refusal f t chid;
@@ -40,8 +40,8 @@ receive_row f t chid kind buffer = record empty_row {
       (best_of kind (f.pending chid));
 }
 
--- the call that receives so: a Receive may take any item; a ReceivePulse takes pulses alone, and has no
--- buffer
+-- the call that receives items of this kind: a Receive may take any item; a ReceivePulse takes only pulses,
+-- and has no buffer
 abbrev pub receive_of : Kind → ChannelId → List ℕ → Call
 receive_of Any chid buffer = Receive chid buffer
 receive_of PulseOnly chid buffer = ReceivePulse chid

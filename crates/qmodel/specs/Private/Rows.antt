@@ -1,4 +1,4 @@
--- What a row of the table of calls says, and what the rows share.
+-- The rows of the table of calls, and the definitions that they share.
 use Rattle.std.specs.Option.{option_and_then, option_map, option_map_or}
 use Rattle.std.specs.Prelude.{ℕ, ℤ, ◌==◌, Bool, false, List, Option, None, Some, if◌then◌else◌, []}
 use Rattle.qbase.specs.Laying.{laid_count, lay_over}
@@ -27,10 +27,10 @@ pub record Received : Type 0 where
   pub sender : Option ThreadNo
   pub kept : Receipt
 
--- what a call is answered: the first of its own refusals that applies, whether it may also be refused for
--- want of memory, how it ends in its own event where it does, and how it ends the open call of another
--- thread; and the receipt that it brings about, which says nothing of what is answered: it serves to tell
--- what is so after the call (Step)
+-- the answer to a call: the first of its own refusals that applies, whether it may also be refused for lack
+-- of memory, its own ending, if it has one in its own event, and the endings of the open calls of other
+-- threads; and the receipt that it causes, which isn't part of the answer: the facts after the call depend on
+-- it (Step)
 pub record Row : Type 0 where
   pub refusal : Option Errno
   pub takes_memory : Bool
@@ -38,15 +38,15 @@ pub record Row : Type 0 where
   pub ends : ThreadNo → Option Completion
   pub receipt : Option Received
 
--- how a call ends with this mark and no buffer
+-- the ending of a call with this mark and no buffer
 abbrev pub ends_with : CallNo → ThreadNo → Mark → Completion
 ends_with n t mark = record { call = n; thread = t; mark = mark; buffer = [] }
 
--- a row of which nothing is refused, that takes no memory, and that ends and receives nothing
+-- a row that refuses nothing, takes no memory, and ends and receives nothing
 abbrev pub empty_row : Row
 empty_row = record { refusal = None; takes_memory = false; own = None; ends = λ u. None; receipt = None }
 
--- the row of a call that may be refused so, and else ends in its own event with this mark and no buffer
+-- the row of a call with this refusal, which otherwise ends in its own event with this mark and no buffer
 abbrev pub plain_row : CallNo → ThreadNo → Option Errno → Mark → Row
 plain_row n t refusal mark = record empty_row { refusal = refusal; own = Some (ends_with n t mark) }
 
@@ -64,17 +64,17 @@ message_item n priority = record { number = n; priority = priority; what = Messa
 abbrev pub pulse_item : CallNo → Priority → ℤ → ℤ → Item
 pulse_item n priority code value = record { number = n; priority = priority; what = User code value }
 
--- the pulse of this number and priority that tells that the sender of message i wants to be unblocked
+-- the unblock pulse of this number and priority for message i
 abbrev pub unblock_item : CallNo → Priority → ReceiveId → Item
 unblock_item n priority i = record { number = n; priority = priority; what = what.Unblock i }
 
--- the pulse of this number and priority that tells that process p has detached its last connection
+-- the disconnect pulse of this number and priority for process p
 abbrev pub disconnect_item : CallNo → Priority → ProcessNo → Item
 disconnect_item n priority p = record { number = n; priority = priority; what = what.Disconnect p }
 
 -- ---- writing
 
--- what is written: over the reply buffer of which message, from which place, and the bytes
+-- a write: the message whose reply buffer is written to, the offset in it, and the bytes
 pub record Written : Type 0 where
   pub message : ReceiveId
   pub offset : ℕ
@@ -82,7 +82,7 @@ pub record Written : Type 0 where
 
 -- ---- setting priorities
 
--- a thread's priority that is set
+-- a change of a thread's priority
 pub record Setting : Type 0 where
   pub thread : ThreadNo
   pub priority : Priority
@@ -93,7 +93,7 @@ priority_set_for setting u = option_and_then (λ s. if s.thread == u then Some s
 
 -- ---- closing
 
--- this is the one
+-- the number is this one
 abbrev pub names : Option ℕ → ℕ → Bool
 names number h = option_map_or (λ k. k == h) number false
 
@@ -111,14 +111,14 @@ with_buffer f (ForItem chid kind buffer) = ForItem chid kind buffer
 
 -- ---- receipts
 
--- how a receive ends that takes an item into its buffer: a message is laid over the front, with that count; a
--- pulse stands in the mark alone
+-- the mark and the buffer of a receive that takes an item: a message is copied over the front of the buffer,
+-- and the mark has the count; a pulse is only in the mark
 abbrev pub delivery_of : Item → List ℕ → List ℕ → Mark × List ℕ
 delivery_of item message buffer =
     if is_pulse item.what then (mark.Pulse item.number item.priority item.what, buffer)
     else (mark.Message item.number (laid_count buffer 0 message), lay_over buffer 0 message)
 
--- the ending of call m of thread u that takes the item so
+-- the ending of call m of thread u, which takes the item
 abbrev pub receipt_ending : Item → List ℕ → ThreadNo → CallNo → List ℕ → Completion
 receipt_ending item message u m buffer =
     record {
@@ -129,22 +129,22 @@ receipt_ending item message u m buffer =
           message buffer).1;
     }
 
--- how the open call of number m ends, of thread u, that takes the item into what it waits with
+-- the ending of thread u's open call of number m, if it takes the item into its buffer
 abbrev pub takes_into : Item → List ℕ → ThreadNo → CallNo → Wait → Option Completion
 takes_into item message u m (Answer coid sent reply_buffer receipt) = None
 takes_into item message u m (ForItem chid kind buffer) = Some (receipt_ending item message u m buffer)
 
--- how the open call of thread u ends that takes the item
+-- the ending of thread u's open call, which takes the item
 abbrev pub takes : Item → List ℕ → ThreadNo → Option OpenCall → Option Completion
 takes item message u call = option_and_then (λ o. takes_into item message u o.number o.wait) call
 
--- the number of the item that an ending receives, and how many bytes were copied, none of a pulse
+-- the number of the item that an ending receives, and how many bytes were copied, 0 for a pulse
 abbrev pub item_in_mark : Mark → Option (CallNo × ℕ)
 item_in_mark (mark.Message rcvid copied) = Some (rcvid, copied)
 item_in_mark (mark.Pulse item priority what) = Some (item, 0)
 item_in_mark other = None
 
--- the receipt that an ending is, of an item of this channel, sender and priority
+-- the receipt in an ending, of an item of this channel, sender and priority
 abbrev pub receipt_in : ChannelId → Option ThreadNo → Priority → Option Completion → Option Received
 receipt_in h sender priority ending =
     option_and_then (λ y. option_map (λ r. record {

@@ -1,4 +1,4 @@
--- One call by its facts: what they are after it.
+-- One call: the facts after it, given the facts before it.
 use Rattle.std.specs.Prelude.{◌≡◌, ℕ, ◌+◌, ◌==◌, ◌&&◌, ◌||◌, not, filter, Bool, true, false, is_some, List}
 use Rattle.std.specs.Prelude.{[], ◌++◌, map, Option, None, Some, if◌then◌else◌, unwrap_or}
 use Rattle.std.specs.List.{list_any}
@@ -30,7 +30,7 @@ abbrev pub put_at : {A : Type 0} → Option A → ℕ → (ℕ → Option A) →
 put_at None n at i = at i
 put_at (Some x) n at i = if i == n then Some x else at i
 
--- one where there is something
+-- 1 if there is a value, and 0 if there is none
 abbrev pub one_for : {A : Type 0} → Option A → ℕ
 one_for None = 0
 one_for (Some x) = 1
@@ -49,7 +49,7 @@ connection_after f t c k = if names (detaches c) k then None
 abbrev pub held_call : Receipt → OpenCall → OpenCall
 held_call kept o = record o { wait = wait_with_receipt kept o.wait }
 
--- this thread
+-- the thread is this one
 abbrev pub is_thread : Option ThreadNo → ThreadNo → Bool
 is_thread None u = false
 is_thread (Some s) u = u == s
@@ -79,7 +79,7 @@ unblocked_wait wait = wait
 abbrev pub unblocked_call : OpenCall → OpenCall
 unblocked_call o = record o { wait = unblocked_wait o.wait }
 
--- what thread u waits for after the call that is to unblock a thread made this item
+-- what thread u waits for after a call that unblocks a thread and makes this item
 abbrev pub after_unblock : Option SentItem → Option ThreadNo → ThreadNo → Option OpenCall → Option OpenCall
 after_unblock m None u o = o
 after_unblock m (Some thread) u o = if (u == thread) && is_some m then option_map unblocked_call o else o
@@ -88,8 +88,8 @@ after_unblock m (Some thread) u o = if (u == thread) && is_some m then option_ma
 abbrev pub unless : Bool → Option OpenCall → Option OpenCall
 unless b o = if b then None else o
 
--- what the caller u waits for after its call, of this row: what it asks for, as that is received, unless it
--- ended at once
+-- what the caller u waits for after its call with this row: its request, with the receipt if the message is
+-- received at once; nothing if the call has ended
 abbrev pub own_call_after : Facts → Call → Row → ThreadNo → Option OpenCall
 own_call_after f c row u = unless (is_some row.own) (after_receipt row.receipt u (asks f.number c))
 
@@ -98,7 +98,7 @@ abbrev pub call_left_by : Facts → ThreadNo → Call → Row → ThreadNo → O
 call_left_by f t c row u = after_unblock (makes f t c) (unblocks c) u
     (after_receipt row.receipt u (after_write f (writes c) u (f.open_call u)))
 
--- what it waits for then, unless the call ends it
+-- what another thread u waits for after the call; nothing if the call ends it
 abbrev pub other_call_after : Facts → ThreadNo → Call → Row → ThreadNo → Option OpenCall
 other_call_after f t c row u = unless (is_some (row.ends u)) (call_left_by f t c row u)
 
@@ -113,7 +113,7 @@ abbrev pub is_unread_send : (ConnectionId → Option Connection) → ChannelId �
 is_unread_send connection h i call =
     option_map_or (λ o. (o.number == i) && is_for_receipt o.wait && is_on connection h o.wait) call false
 
--- the items of channel h but the one that was received from it
+-- the items of channel h without the one that was received from it
 abbrev pub unreceived_items : Option Received → ChannelId → List Item → List Item
 unreceived_items None h items = items
 unreceived_items (Some r) h items = if r.channel == h then without_item r.item items else items
@@ -123,21 +123,20 @@ abbrev pub is_cancelled : Facts → ThreadNo → Call → ChannelId → ReceiveI
 is_cancelled f t c h i = list_any (λ s. is_unread_send f.connection h i (f.open_call s)
     && is_some ((row_of f t c).ends s)) (threads_of f.roster)
 
--- the items of channel h but the messages whose Sends the call ends
+-- the items of channel h without the messages whose Sends the call ends
 abbrev pub uncut_items : Facts → ThreadNo → Call → ChannelId → List Item → List Item
 uncut_items f t c h items = filter (λ item. not (is_cancelled f t c h item.number)) items
 
--- the items of channel h, where the message of the thread that the priority is set for has it, if it waits
--- there
+-- the items of channel h, with the new priority for the pending message of the thread that it is set for
 abbrev pub items_with_priority_set : Facts → ChannelId → Option Setting → List Item → List Item
 items_with_priority_set f h None items = items
 items_with_priority_set f h (Some s) items =
     map (λ item. if is_unread_send f.connection h item.number (f.open_call s.thread)
     then with_priority s.priority item else item) items
 
--- nothing is left of a channel that is destroyed; to any other the item joins that the call makes, a message
--- goes whose Send ends, the one that is received goes, and a message has the priority that is set for its
--- thread
+-- the pending items after the call: none if the channel is destroyed; otherwise the item that the call makes
+-- is added, the messages whose Sends end and the item that is received are removed, and a priority that is
+-- set for a thread is set for its message
 abbrev pub pending_after : Facts → ThreadNo → Call → ChannelId → List Item
 pending_after f t c h =
     if names (closes c) h then []
@@ -145,14 +144,14 @@ pending_after f t c h =
     (unreceived_items (row_of f t c).receipt h
     (uncut_items f t c h (f.pending h ++ made_on h (makes f t c))))
 
--- the priority that thread u takes by a receipt: the item's, unless its channel leaves priorities as they are
+-- the priority that thread u takes by a receipt: the item's, unless the channel leaves priorities as they are
 abbrev pub priority_taken : Facts → Option Received → ThreadNo → Option Priority
 priority_taken f None u = None
 priority_taken f (Some r) u =
     if r.by == u then (if is_fixed (f.channel r.channel) then None else Some r.kept.priority) else None
 
--- the priority of thread u after the call: the one that is set for it, or else that it takes by a receipt, or
--- else its own
+-- the priority of thread u after the call: the one that is set for it, or else the one that it takes by a
+-- receipt, or else its present one
 abbrev pub priority_after : Facts → ThreadNo → Call → ThreadNo → Priority
 priority_after f t c u = unwrap_or
     (option_or (priority_set_for (sets c) u) (priority_taken f (row_of f t c).receipt u)) (f.priority u)

@@ -10,7 +10,7 @@ use Rattle.qmodel.specs.declared.open_call.Wait.{Wait}
 use Rattle.qmodel.specs.declared.open_call.Wait.TheVariants.{Answer, Item as ForItem}
 use Rattle.qmodel.specs.Trace.{ChannelId, ConnectionId}
 
--- the channel of a connection, 0 where there is none
+-- the channel of a connection; 0 if there is none
 abbrev pub channel_over : Option Connection → ChannelId
 channel_over connection = option_map_or (λ c. c.channel) connection 0
 

@@ -7,7 +7,8 @@ use Rattle.qrules.specs.Rule.{no_effect, plain_row, with_endings, Rule}
 use Rattle.qrules.specs.Delivery.{cancel}
 use Rattle.qrules.specs.Words.mark
 
--- a new channel of the caller's process, whose id is its number; refused with other flags, or past 64 of them
+-- creates a channel of the caller's process, whose id is the call's number; Inval if other flags are set, or
+-- else Again if 64 are open
 abbrev pub channel_create : ChannelFlags → Rule
 channel_create flags = record {
   row = λ f t. record (plain_row f t
@@ -16,7 +17,7 @@ channel_create flags = record {
   effect = record no_effect { creates = Some flags };
 }
 
--- the end of a channel of the caller's process, which cancels each call that is blocked on it
+-- ends a channel of the caller's process, and cancels each call that is blocked on it
 abbrev pub channel_destroy : ChannelId → Rule
 channel_destroy h = record {
   row = λ f t. with_endings (plain_row f t (if owns f t h then None else Some Inval) mark.Ok)

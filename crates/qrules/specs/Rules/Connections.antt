@@ -9,7 +9,8 @@ use Rattle.qrules.specs.Delivery.{cancel, pulse_row, refusal_if_full}
 use Rattle.qrules.specs.Words.mark
 use Rattle.qrules.specs.Words.what
 
--- a new connection of the caller's process to an open channel, whose id is its number; at most 1,024 live
+-- attaches the caller's process to an open channel; the connection's id is the call's number; at most 1,024
+-- are live
 abbrev pub connect_attach : ChannelId → Rule
 connect_attach h = record {
   row = λ f t. record (plain_row f t
@@ -25,13 +26,13 @@ connections_like f c = count_to (λ k. option_and_then
     (λ d. if (d.process == c.process) && (d.channel == c.channel) then Some d else None)
     (f.connection k)) f.number
 
--- the pulse that tells that a process detaches its last connection to a channel with the disconnect flag
+-- the pulse that is sent if a process detaches its last connection to a channel with the disconnect flag
 abbrev pub disconnect_pulse : Facts → ThreadNo → ConnectionId → Option SentItem
 disconnect_pulse f t k = option_and_then
     (λ c. if has_flag 4 (f.channel c.channel) && (connections_like f c == 1)
     then Some (new_item f (f.priority t) (what.Disconnect c.process) c.channel) else None) (f.connection k)
 
--- the end of a connection of the caller's process, which cancels each Send over it
+-- ends a connection of the caller's process, and cancels each Send over it
 abbrev pub connect_detach : ConnectionId → Rule
 connect_detach k = record {
   row = λ f t. pulse_row f t

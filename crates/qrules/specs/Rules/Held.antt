@@ -8,11 +8,11 @@ use Rattle.qrules.specs.Facts.{holds, message, open_send, Facts}
 use Rattle.qrules.specs.Rule.{no_effect, own_ending, own_row, plain_row, with_endings, Row, Rule, Transfer}
 use Rattle.qrules.specs.Words.mark
 
--- the refusal of a call whose message isn't held for the caller
+-- Srch if the message isn't held for the caller
 abbrev pub refusal_unless_held : Facts → ThreadNo → ReceiveId → Option Errno
 refusal_unless_held f t i = if holds f t i then None else Some Srch
 
--- the row of a call that answers message i; answer makes of the reply buffer the Send's mark and its buffer
+-- the row of a call that answers message i; answer takes the reply buffer to the Send's mark and its buffer
 abbrev pub answer_row : ReceiveId → (Bytes → Mark × Bytes) → Facts → ThreadNo → Row
 answer_row i answer f t = with_endings (plain_row f t (refusal_unless_held f t i) mark.Ok)
     (option_to_list (option_map (λ s. record {
@@ -22,14 +22,14 @@ answer_row i answer f t = with_endings (plain_row f t (refusal_unless_held f t i
       buffer = (answer s.reply_buffer).1;
     }) (open_send f i)))
 
--- Reply: the bytes over the front of the reply buffer
+-- Reply: copies the bytes over the front of the reply buffer
 abbrev pub reply : ReceiveId → ℤ → Bytes → Rule
 reply i status bytes = record {
   row = answer_row i (λ buffer. (mark.Replied status (laid_count buffer 0 bytes), lay_over buffer 0 bytes));
   effect = record no_effect { answers = Some i; replies = Some (status, bytes) };
 }
 
--- Error: a code, and no bytes; the code 0 is a reply of status 0
+-- Error: answers with a code and no bytes; the code 0 is a reply of status 0
 abbrev pub error : ReceiveId → ℤ → Rule
 error i code = record {
   row = answer_row i (λ buffer.
@@ -40,7 +40,7 @@ error i code = record {
   };
 }
 
--- Read: what stands in the message from the offset on, over the front of the buffer
+-- Read: copies the message from the offset on over the front of the buffer
 abbrev pub read : Transfer → Rule
 read r = record {
   row = λ f t. own_row f t (refusal_unless_held f t r.rcvid)
@@ -49,7 +49,8 @@ read r = record {
   effect = record no_effect { reads = Some r };
 }
 
--- Write: the bytes over the sender's reply buffer from the offset on; it ends with how many found room
+-- Write: copies the bytes over the sender's reply buffer from the offset on; the mark has how many were
+-- copied
 abbrev pub write : Transfer → Rule
 write w = record {
   row = λ f t. plain_row f t (refusal_unless_held f t w.rcvid) (mark.Count
@@ -57,7 +58,7 @@ write w = record {
   effect = record no_effect { writes = Some w };
 }
 
--- what is told of message i, if it is received
+-- the data of message i, if it is received
 abbrev pub info_of : Facts → ReceiveId → Option Info
 info_of f i = option_and_then (λ s. option_map (λ receipt. record {
   process = option_map_or (λ m. m.process) (member_at f.roster s.thread) 0;
@@ -69,7 +70,7 @@ info_of f i = option_and_then (λ s. option_map (λ receipt. record {
   priority = receipt.priority;
 }) s.receipt) (open_send f i)
 
--- Info: what is told of a held message
+-- Info: returns the data of a held message
 abbrev pub info : ReceiveId → Rule
 info i = record {
   row = λ f t. record (plain_row f t (refusal_unless_held f t i) mark.Ok) {

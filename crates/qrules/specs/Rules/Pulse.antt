@@ -1,4 +1,4 @@
--- Pulse: a pulse to the newest receiver, or to what waits on the channel.
+-- Pulse: sends a pulse to the newest receiver, or adds it to the items that wait on the channel.
 use Rattle.std.specs.Prelude.{if◌then◌else◌}
 use Rattle.qrules.specs.Words.{[], int_lt, option_map, option_map_or, pos, Badf, Inval, Option, Some, User, ℤ}
 use Rattle.qrules.specs.Trace.{ConnectionId, Priority}
@@ -6,12 +6,13 @@ use Rattle.qrules.specs.Facts.{route, Facts}
 use Rattle.qrules.specs.Rule.{new_item, no_effect, Rule, SentItem}
 use Rattle.qrules.specs.Delivery.{pulse_row, refusal_if_full}
 
--- the pulse over connection k, of the priority that is given
+-- the pulse over connection k, with this priority
 abbrev pub pulse_over : Facts → ConnectionId → Priority → ℤ → ℤ → Option SentItem
 pulse_over f k priority code value =
     option_map (λ c. new_item f priority (User code value) c.channel) (f.connection k)
 
--- refused without a route, with a code below 0, and past 1,024 pulses
+-- Badf if no connection of the thread's process leads to an open channel, or else Inval if the code is below
+-- 0, or else Again if 1,024 pulses are pending
 abbrev pub pulse : ConnectionId → Priority → ℤ → ℤ → Rule
 pulse k priority code value = record {
   row = λ f t. pulse_row f t (option_map_or (λ h. if int_lt code (pos 0) then Some Inval

@@ -1,11 +1,12 @@
--- Receive and ReceivePulse: the best item of the channel, or a wait for one.
+-- Receive and ReceivePulse: take the best item of the channel, or wait for one.
 use Rattle.std.specs.Prelude.{if◌then◌else◌}
 use Rattle.qrules.specs.Words.{best_of, false, option_map, option_to_list, None, Some, Srch}
 use Rattle.qrules.specs.Facts.{message, owns}
 use Rattle.qrules.specs.Rule.{no_effect, ReceiveRequest, Rule}
 use Rattle.qrules.specs.Delivery.{delivery}
 
--- the best item that the kind may take, with the bytes of its Send; refused on a channel of another process
+-- takes the best item that the kind may take, with the bytes of its Send; Srch if the channel is another
+-- process's
 abbrev pub receive : ReceiveRequest → Rule
 receive r = record {
   row = λ f t. record {

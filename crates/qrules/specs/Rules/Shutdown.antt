@@ -1,4 +1,4 @@
--- Shutdown: the end of every open call, and of the kernel.
+-- Shutdown: ends every open call, and the kernel.
 use Rattle.qrules.specs.Words.{true, None, Srch}
 use Rattle.qrules.specs.Rule.{no_effect, plain_row, with_endings, Rule}
 use Rattle.qrules.specs.Delivery.{cancel}

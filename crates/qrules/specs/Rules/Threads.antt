@@ -7,7 +7,7 @@ use Rattle.qrules.specs.Facts.{is_of_same_process, receive_of, send_of, Facts, O
 use Rattle.qrules.specs.Rule.{no_effect, plain_row, PriorityChange, Rule}
 use Rattle.qrules.specs.Words.mark
 
--- another priority for a thread of the caller's process, and for its message that isn't received
+-- sets the priority of a thread of the caller's process, and of its message that isn't received
 abbrev pub priority_set : PriorityChange → Rule
 priority_set change = record {
   row = λ f t. plain_row f t (if is_of_same_process f t change.thread then None else Some Srch) mark.Ok;
@@ -24,7 +24,7 @@ abbrev pub state_of : Facts → ThreadNo → ThreadState
 state_of f t = unwrap_or (option_or (option_map (state_of_send f) (send_of f t))
     (option_map (λ r. ReceiveBlocked r.channel) (receive_of f t))) Ready
 
--- a thread's state and priority
+-- returns a thread's state and priority
 abbrev pub state : ThreadNo → Rule
 state u = record {
   row = λ f t. plain_row f t (if is_some (member_at f.roster u) then None else Some Srch)

@@ -1,4 +1,4 @@
--- Unblock: what stands for a signal or a timeout.
+-- Unblock: stands for a signal or a timeout.
 use Rattle.std.specs.Prelude.{◌&&◌, ◌==◌, if◌then◌else◌}
 use Rattle.qrules.specs.Words.{is_some, not, option_and_then, Intr, None, Option, Some, Srch}
 use Rattle.qrules.specs.Trace.{ChannelId, ThreadNo}
@@ -7,18 +7,19 @@ use Rattle.qrules.specs.Rule.{new_item, no_effect, Rule, SentItem}
 use Rattle.qrules.specs.Delivery.{cancel, pulse_row, refusal_if_full}
 use Rattle.qrules.specs.Words.what
 
--- the channel with the unblock flag on which a message is held: its server is told, and the Send stays open
+-- the channel on which a message is held, if it has the unblock flag: then the server gets a pulse, and the
+-- Send stays open
 abbrev pub unblock_channel : Facts → OpenSend → Option ChannelId
 unblock_channel f s = option_and_then (λ c. if is_some s.receipt && has_flag 2 (f.channel c.channel)
     then Some c.channel else None) (f.connection s.connection)
 
--- the unblock pulse, one for a message, which has the priority that the message was received with
+-- the unblock pulse, at most one for each message; it has the priority that the message was received with
 abbrev pub unblock_pulse : Facts → ThreadNo → Option SentItem
 unblock_pulse f u = option_and_then (λ s. option_and_then (λ receipt. option_and_then
     (λ h. if receipt.unblocked then None else Some (new_item f receipt.priority (what.Unblock s.number) h))
     (unblock_channel f s)) s.receipt) (send_of f u)
 
--- the end of what a thread of the caller's process is blocked in, or an unblock pulse to its server
+-- ends the call that a thread of the caller's process is blocked in, or sends an unblock pulse to its server
 abbrev pub unblock : ThreadNo → Rule
 unblock u = record {
   row = λ f t. pulse_row f t

@@ -1,4 +1,4 @@
--- A held message is answered wrongly, and what else there is to the answer is as it should be.
+-- A held message is answered wrongly in one way; the rest of the answer is right.
 use Rattle.std.specs.Prelude.{ℕ, [], ◌∷◌, pos}
 use Rattle.qbase.specs.declared.errno.Errno.TheVariants.{Srch}
 use Rattle.qmodel.specs.declared.call.Call.TheVariants.{Send, Receive, Reply, Error, ReceivePulse}
@@ -8,7 +8,7 @@ use Rattle.qrules.specs.Trace.{Trace}
 use Rattle.qworked.specs.Runs.{event, ended}
 use Rattle.qworked.specs.Broken.Held.{held, sent}
 
--- thread t is told that message 4 was answered
+-- thread t gets the answer to message 4
 abbrev pub answered : ℕ → Completion
 answered t = ended 4 t (mark.Replied (pos 61) 1) (0xdd ∷ 0x22 ∷ 0x33 ∷ [])
 
@@ -17,25 +17,25 @@ abbrev pub to_another_thread : Trace
 to_another_thread = held
     (event 31 (Reply 4 (pos 61) (0xdd ∷ [])) (ended 6 31 mark.Ok [] ∷ answered 42 ∷ []) ∷ [])
 
--- a thread answers whose process doesn't own the channel
+-- a thread whose process doesn't own the channel answers
 abbrev pub by_another_process : Trace
 by_another_process = held
     (event 54 (Reply 4 (pos 61) (0xdd ∷ [])) (answered 43 ∷ ended 6 54 mark.Ok [] ∷ []) ∷ [])
 
--- a Reply is accepted, and the sender isn't told
+-- a Reply is accepted, and the sender gets no answer
 abbrev pub by_nothing : Trace
 by_nothing = held (event 31 (Reply 4 (pos 61) (0xdd ∷ [])) (ended 6 31 mark.Ok [] ∷ []) ∷ [])
 
--- an Error is accepted, and the sender isn't told
+-- an Error is accepted, and the sender gets no answer
 abbrev pub by_no_code : Trace
 by_no_code = held (event 31 (Error 4 (pos 61)) (ended 6 31 mark.Ok [] ∷ []) ∷ [])
 
--- the sender is told twice
+-- the sender gets the answer twice
 abbrev pub twice : Trace
 twice = held
     (event 31 (Reply 4 (pos 61) (0xdd ∷ [])) (ended 6 31 mark.Ok [] ∷ answered 43 ∷ answered 43 ∷ []) ∷ [])
 
--- the sender is told, and the Reply is refused
+-- the sender gets the answer, though the Reply is refused
 abbrev pub though_refused : Trace
 though_refused = held
     (event 31 (Reply 4 (pos 61) (0xdd ∷ [])) (ended 6 31 (mark.Failed Srch) [] ∷ answered 43 ∷ []) ∷ [])
@@ -63,7 +63,7 @@ code_to_another_thread = held
     (event 31 (Error 4 (pos 61))
     (ended 6 31 mark.Ok [] ∷ ended 4 42 (mark.Errored (pos 61)) (0x11 ∷ 0x22 ∷ 0x33 ∷ []) ∷ []) ∷ [])
 
--- a thread answers with a code whose process doesn't own the channel
+-- a thread whose process doesn't own the channel answers with a code
 abbrev pub code_by_another_process : Trace
 code_by_another_process = held
     (event 54 (Error 4 (pos 61))

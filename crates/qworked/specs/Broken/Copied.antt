@@ -1,4 +1,4 @@
--- A byte or a count isn't what was to be copied.
+-- A byte or a count isn't as the copying requires.
 use Rattle.std.specs.Prelude.{[], ◌∷◌, pos}
 use Rattle.qbase.specs.declared.errno.Errno.TheVariants.{Intr}
 use Rattle.qbase.specs.declared.state.ThreadState.TheVariants.{Ready}
@@ -37,7 +37,7 @@ pulse_buffer = run_of (
     ∷ ended 5 54 mark.Ok [] ∷ [])
     ∷ [])
 
--- the byte of the reply isn't the one that was handed in
+-- the byte of the reply isn't the one that the server passed
 abbrev pub reply_byte : Trace
 reply_byte = held
     (event 31 (Reply 4 (pos 61) (0xdd ∷ []))
@@ -49,13 +49,13 @@ reply_count = held
     (event 31 (Reply 4 (pos 61) (0xdd ∷ []))
     (ended 6 31 mark.Ok [] ∷ ended 4 43 (mark.Replied (pos 61) 0) (0xdd ∷ 0x22 ∷ 0x33 ∷ []) ∷ []) ∷ [])
 
--- the status isn't the one that was handed in
+-- the status isn't the one that the server passed
 abbrev pub reply_status : Trace
 reply_status = held
     (event 31 (Reply 4 (pos 61) (0xdd ∷ []))
     (ended 6 31 mark.Ok [] ∷ ended 4 43 (mark.Replied (pos 60) 1) (0xdd ∷ 0x22 ∷ 0x33 ∷ []) ∷ []) ∷ [])
 
--- what was written isn't there at the answer
+-- the bytes of a Write aren't in the buffer at the answer
 abbrev pub write_lost : Trace
 write_lost = held (
     event 31 (Write 4 1 (0xcc ∷ [])) (ended 6 31 (mark.Count 1) [] ∷ [])
@@ -63,7 +63,7 @@ write_lost = held (
     (ended 7 31 mark.Ok [] ∷ ended 4 43 (mark.Replied (pos 61) 1) (0xdd ∷ 0x22 ∷ 0x33 ∷ []) ∷ [])
     ∷ [])
 
--- one byte finds room, and two are counted
+-- one byte fits, and two are counted
 abbrev pub write_count : Trace
 write_count = held (event 31 (Write 4 2 (0xcc ∷ 0xdd ∷ [])) (ended 6 31 (mark.Count 2) [] ∷ []) ∷ [])
 
@@ -93,16 +93,16 @@ failed_buffer = sent
 abbrev pub buffer_from_nothing : Trace
 buffer_from_nothing = sent (event 42 (Unblock 42) (ended 5 42 mark.Ok (0xaa ∷ []) ∷ []) ∷ [])
 
--- a channel is created with a buffer
+-- a ChannelCreate ends with a buffer
 abbrev pub channel_buffer : Trace
 channel_buffer = run_of
     (event 31 (ChannelCreate (flags_of 0)) (ended 4 31 (mark.Channel 4) (0xaa ∷ []) ∷ []) ∷ [])
 
--- a connection is attached with a buffer
+-- a ConnectAttach ends with a buffer
 abbrev pub connection_buffer : Trace
 connection_buffer = run_of (event 43 (ConnectAttach 1) (ended 4 43 (mark.Connection 4) (0xaa ∷ []) ∷ []) ∷ [])
 
--- a message is told of with a buffer
+-- an Info ends with a buffer
 abbrev pub info_buffer : Trace
 info_buffer = held
     (event 31 (Info 4)
@@ -118,14 +118,14 @@ info_buffer = held
       priority = 23;
     })) (0xaa ∷ []) ∷ []) ∷ [])
 
--- a thread's state is told with a buffer
+-- a State ends with a buffer
 abbrev pub state_buffer : Trace
 state_buffer = run_of (event 31 (State 54) (ended 4 31 (mark.State Ready 26) (0xaa ∷ []) ∷ []) ∷ [])
 
--- a write ends with a buffer
+-- a Write ends with a buffer
 abbrev pub write_buffer : Trace
 write_buffer = held (event 31 (Write 4 2 (0xcc ∷ [])) (ended 6 31 (mark.Count 1) (0xaa ∷ []) ∷ []) ∷ [])
 
--- a call counts that neither reads nor writes
+-- a call that neither reads nor writes has a count
 abbrev pub counted_nothing : Trace
 counted_nothing = held (event 31 (Info 4) (ended 6 31 (mark.Count 0) [] ∷ []) ∷ [])

@@ -1,4 +1,4 @@
--- What the broken runs begin with.
+-- The beginnings of the broken runs.
 use Rattle.std.specs.Prelude.{List, [], ◌∷◌}
 use Rattle.qmodel.specs.declared.call.Call.TheVariants.{Send, Receive}
 use Rattle.qmodel.specs.declared.call.Mark.TheVariants as mark

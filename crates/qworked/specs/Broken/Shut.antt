@@ -1,4 +1,4 @@
--- A channel is destroyed, and what was on it goes on.
+-- A channel is destroyed, and calls on it go on.
 use Rattle.std.specs.Prelude.{[], ◌∷◌}
 use Rattle.qbase.specs.declared.errno.Errno.TheVariants.{Srch}
 use Rattle.qmodel.specs.declared.call.Call.TheVariants.{ConnectDetach, Receive, ReceivePulse, ChannelDestroy}
@@ -23,7 +23,7 @@ send_left = sent (event 31 (ChannelDestroy 1) (ended 5 31 mark.Ok [] ∷ []) ∷
 abbrev pub held_left : Trace
 held_left = held (event 31 (ChannelDestroy 1) (ended 6 31 mark.Ok [] ∷ []) ∷ [])
 
--- a receiver stays
+-- a receiver stays blocked
 abbrev pub receiver_left : Trace
 receiver_left = run_of (
     event 35 (ReceivePulse 1) []

@@ -1,4 +1,4 @@
--- Another item is received than the one that was to be.
+-- Another item is received than the best one.
 use Rattle.std.specs.Prelude.{[], ◌∷◌, pos}
 use Rattle.qqueue.specs.declared.item.What.TheVariants as what
 use Rattle.qmodel.specs.declared.call.Call.TheVariants.{ChannelCreate, Send, Receive, Pulse, PrioritySet}
@@ -15,7 +15,7 @@ lesser = sent (
     ∷ event 31 (Receive 1 []) (ended 6 31 (mark.Message 4 0) [] ∷ [])
     ∷ [])
 
--- two messages have the priority 23, and the later is received, which was sent over another connection
+-- two messages have the priority 23, and the later one, which was sent over another connection, is received
 abbrev pub later : Trace
 later = sent (
     event 54 (PrioritySet 54 23) (ended 5 54 mark.Ok [] ∷ [])
@@ -23,11 +23,11 @@ later = sent (
     ∷ event 31 (Receive 1 []) (ended 7 31 (mark.Message 6 0) [] ∷ [])
     ∷ [])
 
--- a receive that takes pulses alone takes a message
+-- a ReceivePulse takes a message
 abbrev pub by_a_pulse_receive : Trace
 by_a_pulse_receive = sent (event 31 (ReceivePulse 1) (ended 5 31 (mark.Message 4 0) [] ∷ []) ∷ [])
 
--- a message is received that was sent to another channel
+-- a message that was sent to another channel is received
 abbrev pub on_another_channel : Trace
 on_another_channel = sent (
     event 31 (ChannelCreate (flags_of 7)) (ended 5 31 (mark.Channel 5) [] ∷ [])
@@ -42,7 +42,7 @@ overtaken = sent (
     ∷ event 31 (Receive 1 []) (ended 7 31 (mark.Message 6 0) [] ∷ [])
     ∷ [])
 
--- a message and a pulse over one connection have the priority 23, and the pulse is received, which is later
+-- a message and a later pulse over one connection have the priority 23, and the pulse is received
 abbrev pub overtaken_by_a_pulse : Trace
 overtaken_by_a_pulse = sent (
     event 42 (Pulse 2 23 (pos 1) (pos 0)) (ended 5 42 mark.Ok [] ∷ [])
@@ -57,8 +57,8 @@ overtaken_when_raised = sent (
     ∷ event 31 (Receive 1 []) (ended 7 31 (mark.Message 5 0) [] ∷ [])
     ∷ [])
 
--- message 4 has the priority 23 and is lowered to 20, that of message 6, which is sent later over the same
--- connection, and received first
+-- message 4 has the priority 23 and is lowered to 20; message 6, which is sent later over the same
+-- connection, has 20 as well and is received first
 abbrev pub overtaken_when_lowered : Trace
 overtaken_when_lowered = sent (
     event 42 (PrioritySet 43 20) (ended 5 42 mark.Ok [] ∷ [])
@@ -66,7 +66,7 @@ overtaken_when_lowered = sent (
     ∷ event 31 (Receive 1 []) (ended 7 31 (mark.Message 6 0) [] ∷ [])
     ∷ [])
 
--- message 4 has the priority 23 and is raised to 40, and message 6 is received, which has 26
+-- message 4 has the priority 23 and is raised to 40, and message 6 with the priority 26 is received
 abbrev pub raised_passed_over : Trace
 raised_passed_over = sent (
     event 42 (PrioritySet 43 40) (ended 5 42 mark.Ok [] ∷ [])

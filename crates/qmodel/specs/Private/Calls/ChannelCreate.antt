@@ -9,12 +9,12 @@ use Rattle.qmodel.specs.Private.Facts.{Facts}
 use Rattle.qmodel.specs.Private.Rows.{Row, plain_row}
 use Rattle.qmodel.specs.Private.Effect.{Effect, no_effect}
 
--- a flag that isn't one of the three, and then 64 open channels
+-- Inval if another flag than the three is set, or else Again if 64 channels are open
 abbrev pub refusal : Facts → ChannelFlags → Option Errno
 refusal f flags = if nat_lt flags.0 8 then (if nat_lt f.open_channels 64 then None else Some Again)
     else Some Inval
 
--- its id is its number
+-- the channel's id is the number of the call
 abbrev pub row : Facts → ThreadNo → ChannelFlags → Row
 row f t flags = record (plain_row f.number t (refusal f flags) (mark.Channel f.number))
     { takes_memory = true }

@@ -9,11 +9,12 @@ use Rattle.qmodel.specs.Private.Facts.{Facts, owns}
 use Rattle.qmodel.specs.Private.Rows.{Row, plain_row}
 use Rattle.qmodel.specs.Private.Effect.{Effect, no_effect}
 
--- a channel that isn't open, or isn't of the thread's process
+-- Inval if the channel isn't open, or isn't of the thread's process
 abbrev pub refusal : Facts → ThreadNo → ChannelId → Option Errno
 refusal f t chid = if owns f t chid then None else Some Inval
 
--- that the channel is closed is read off the past calls
+-- it cancels the calls that are blocked on the channel; that the channel is closed follows from the past
+-- calls
 abbrev pub row : Facts → ThreadNo → ChannelId → Row
 row f t chid = record (plain_row f.number t (refusal f t chid) mark.Ok)
     { ends = cancels f (λ u. is_on f.connection chid) Srch }

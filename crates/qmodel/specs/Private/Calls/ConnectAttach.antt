@@ -8,12 +8,12 @@ use Rattle.qmodel.specs.Private.Facts.{Facts}
 use Rattle.qmodel.specs.Private.Rows.{Row, plain_row}
 use Rattle.qmodel.specs.Private.Effect.{Effect, no_effect}
 
--- no such channel, and then 1,024 live connections
+-- Srch if there is no such channel, or else Again if 1,024 connections are live
 abbrev pub refusal : Facts → ChannelId → Option Errno
 refusal f chid = if is_some (f.channel chid)
     then (if nat_lt f.live_connections 1024 then None else Some Again) else Some Srch
 
--- its id is its number
+-- the connection's id is the number of the call
 abbrev pub row : Facts → ThreadNo → ChannelId → Row
 row f t chid = record (plain_row f.number t (refusal f chid) (mark.Connection f.number))
     { takes_memory = true }

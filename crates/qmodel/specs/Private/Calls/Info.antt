@@ -1,4 +1,4 @@
--- Info: what is told of a held message.
+-- Info: the data of a held message.
 use Rattle.std.specs.Prelude.{length, Option, None, Some}
 use Rattle.std.specs.Option.{option_map, option_and_then}
 use Rattle.qtables.specs.Members.{member_at}
@@ -15,8 +15,8 @@ use Rattle.qmodel.specs.Private.Held.{refusal}
 use Rattle.qmodel.specs.Private.Rows.{Row, ends_with, empty_row}
 use Rattle.qmodel.specs.Private.Effect.{Effect, no_effect}
 
--- the sender, the connection, how many bytes were copied at the receipt, the lengths of message and reply
--- buffer, and the priority of the receipt
+-- the data of a message: the sender, the connection, how many bytes were copied at the receipt, the lengths
+-- of message and reply buffer, and the priority of the receipt; None if it isn't received
 abbrev pub info_of_wait : Member → Wait → Option Info
 info_of_wait m (Answer coid message reply_buffer (Some receipt)) = Some (record {
   process = m.process;
@@ -29,16 +29,16 @@ info_of_wait m (Answer coid message reply_buffer (Some receipt)) = Some (record 
 })
 info_of_wait m wait = None
 
--- what is told of a member's open call, if that is a Send whose message is received
+-- the data of a member's message; None if its open call isn't a Send whose message is received
 abbrev pub info_of_open : Member → Option OpenCall → Option Info
 info_of_open m call = option_and_then (λ o. info_of_wait m o.wait) call
 
--- what is told of the thread that sent a message
+-- the data of the message that this thread sent
 abbrev pub info_of : Facts → Option ThreadNo → Option Info
 info_of f sender = option_and_then
     (λ s. option_and_then (λ m. info_of_open m (f.open_call s)) (member_at f.roster s)) sender
 
--- how the call ends that tells so
+-- the ending of the Info
 abbrev pub info_ending : CallNo → ThreadNo → Info → Completion
 info_ending n t info = ends_with n t (mark.Info info)
 

@@ -1,5 +1,5 @@
--- PrioritySet: another priority for a thread of the caller's process, and for the message that it waits with
--- to be received.
+-- PrioritySet: another priority for a thread of the caller's process, and for its message that isn't
+-- received.
 use Rattle.std.specs.Prelude.{Option, None, Some, if◌then◌else◌}
 use Rattle.qbase.specs.declared.errno.Errno.{Errno}
 use Rattle.qbase.specs.declared.errno.Errno.TheVariants.{Srch}
@@ -9,11 +9,11 @@ use Rattle.qmodel.specs.Private.Facts.{Facts, is_fellow}
 use Rattle.qmodel.specs.Private.Rows.{Row, plain_row}
 use Rattle.qmodel.specs.Private.Effect.{Effect, no_effect}
 
--- a thread that the roster hasn't, or of another process
+-- Srch if the thread isn't in the roster, or is of another process
 abbrev pub refusal : Facts → ThreadNo → ThreadNo → Option Errno
 refusal f t thread = if is_fellow f t thread then None else Some Srch
 
--- that the priority is set, of the thread and of its pending message, is read off the past calls
+-- the new priority of the thread and of its pending message follows from the past calls
 abbrev pub row : Facts → ThreadNo → ThreadNo → Row
 row f t thread = plain_row f.number t (refusal f t thread) mark.Ok
 

@@ -10,23 +10,23 @@ use Rattle.qmodel.specs.Private.Rows.{Row, pulse_item, item_sent_over}
 use Rattle.qmodel.specs.Trace.{SentItem}
 use Rattle.qmodel.specs.Private.Effect.{Effect, no_effect}
 
--- a code below 0
+-- true of a code below 0
 abbrev pub is_negative : ℤ → Bool
 is_negative (pos n) = false
 is_negative (negsuc n) = true
 
--- a connection that the thread's process hasn't, or whose channel isn't open, and then a code below 0, and
--- then 1,024 pulses pending on the channel
+-- Badf if the thread's process hasn't this connection, or its channel isn't open; or else Inval if the code
+-- is below 0; or else Again if 1,024 pulses are pending on the channel
 abbrev pub refusal : Facts → ThreadNo → ConnectionId → ℤ → Option Errno
 refusal f t coid code = option_map_or (λ h. if is_negative code then Some Inval else refusal_if_full f h)
     (route f t coid) (Some Badf)
 
--- the pulse of the priority that is given, sent over the connection
+-- the pulse of this priority, sent over the connection
 abbrev pub sent_pulse : Facts → ConnectionId → Priority → ℤ → ℤ → Option SentItem
 sent_pulse f coid priority code value =
     item_sent_over (f.connection coid) (pulse_item f.number priority code value)
 
--- it never blocks; memory is wanted only for a pulse that waits
+-- it never blocks, and needs memory only for a pulse that waits
 abbrev pub row : Facts → ThreadNo → ConnectionId → Priority → ℤ → ℤ → Row
 row f t coid priority code value =
     pulse_row f t (refusal f t coid code) (sent_pulse f coid priority code value)

@@ -8,7 +8,7 @@ use Rattle.qmodel.specs.Private.Held.{refusal}
 use Rattle.qmodel.specs.Private.Rows.{Row, empty_row}
 use Rattle.qmodel.specs.Private.Effect.{Effect, no_effect}
 
--- what stands in the message from the offset on, over the front of the buffer
+-- the bytes of the message from the offset on, copied over the front of the buffer
 abbrev pub row : Facts → ThreadNo → ReceiveId → ℕ → List ℕ → Row
 row f t rcvid offset buffer = record empty_row {
   refusal = refusal f t rcvid;

@@ -8,7 +8,7 @@ use Rattle.qmodel.specs.Private.Rows.{Row}
 use Rattle.qmodel.specs.Private.Effect.{Effect, no_effect}
 use Rattle.qmodel.specs.declared.open_call.Wait.TheVariants.{Item as ForItem}
 
--- it takes pulses alone, and has no buffer
+-- it takes only pulses, and has no buffer
 abbrev pub row : Facts → ThreadNo → ChannelId → Row
 row f t chid = receive_row f t chid PulseOnly []
 

@@ -8,7 +8,7 @@ use Rattle.qmodel.specs.Private.Held.{Finish, ends_sender, refusal}
 use Rattle.qmodel.specs.Private.Rows.{Row, plain_row}
 use Rattle.qmodel.specs.Private.Effect.{Effect, no_effect}
 
--- the reply over the front of the buffer
+-- the reply copied over the front of the buffer
 abbrev pub reply_finish : ℤ → List ℕ → Finish
 reply_finish status bytes buffer = (mark.Replied status (laid_count buffer 0 bytes), lay_over buffer 0 bytes)
 

@@ -10,15 +10,15 @@ use Rattle.qmodel.specs.Private.Rows.{Row, message_item, item_sent_over, empty_r
 use Rattle.qmodel.specs.Private.Effect.{Effect, no_effect}
 use Rattle.qmodel.specs.declared.open_call.Wait.TheVariants.{Answer}
 
--- a connection that the thread's process hasn't, or whose channel isn't open
+-- Badf if the thread's process hasn't this connection, or its channel isn't open
 abbrev pub refusal : Facts → ThreadNo → ConnectionId → Option Errno
 refusal f t coid = if is_some (route f t coid) then None else Some Badf
 
--- the message, of the sender's priority
+-- the message, with the sender's priority
 abbrev pub item : Facts → ThreadNo → Item
 item f t = message_item f.number (f.priority t)
 
--- the sender is blocked until its message is answered; memory is wanted only for a message that waits
+-- the sender is blocked until its message is answered; memory is needed only for a message that waits
 abbrev pub row : Facts → ThreadNo → ConnectionId → List ℕ → Row
 row f t coid message = record empty_row {
   refusal = refusal f t coid;

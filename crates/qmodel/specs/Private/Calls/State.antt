@@ -10,11 +10,11 @@ use Rattle.qmodel.specs.Private.ThreadState.{state_in}
 use Rattle.qmodel.specs.Private.Rows.{Row, plain_row}
 use Rattle.qmodel.specs.Private.Effect.{Effect, no_effect}
 
--- a thread that the roster hasn't
+-- Srch if the thread isn't in the roster
 abbrev pub refusal : Facts → ThreadNo → Option Errno
 refusal f thread = if is_some (member_at f.roster thread) then None else Some Srch
 
--- any thread may ask for any
+-- any thread may ask for the state of any thread
 abbrev pub row : Facts → ThreadNo → ThreadNo → Row
 row f t thread = plain_row f.number t (refusal f thread)
     (mark.State (state_in f.connection (f.open_call thread)) (f.priority thread))

@@ -8,7 +8,7 @@ use Rattle.qmodel.specs.Private.Held.{refusal, reply_buffer}
 use Rattle.qmodel.specs.Private.Rows.{Row, plain_row}
 use Rattle.qmodel.specs.Private.Effect.{Effect, no_effect}
 
--- how many bytes found room; what was written is read off the past calls
+-- it returns how many bytes it copied; the bytes themselves follow from the past calls
 abbrev pub row : Facts → ThreadNo → ReceiveId → ℕ → List ℕ → Row
 row f t rcvid offset bytes =
     plain_row f.number t (refusal f t rcvid) (mark.Count (laid_count (reply_buffer f rcvid) offset bytes))

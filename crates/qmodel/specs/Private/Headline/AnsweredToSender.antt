@@ -19,7 +19,7 @@ use Rattle.qmodel.specs.Private.Effects.{answered_by}
 abbrev pub is_held : Trace → ReceiveId → Bool
 is_held past i = is_taken past i && not (is_ended past i)
 
--- the channel of the item of number i among these
+-- the channel of the one of these items that has number i
 abbrev pub channel_among : List SentItem → CallNo → Option ChannelId
 channel_among [] i = None
 channel_among (m ∷ made) i = if m.item.number == i then Some m.channel else channel_among made i
@@ -53,12 +53,12 @@ EachAnswersIts roster past e =
 abbrev pub endings_for : CallNo → List Completion → ℕ
 endings_for i endings = count_by (λ x. x.call == i) endings
 
--- an accepted call that answers a message has just one ending of its Send
+-- an accepted call that answers a message has exactly one ending of that message's Send
 abbrev pub AnswersOnce : Trace → Event → Type 0
 AnswersOnce past e = (i : ReceiveId) → answered_by e.call ≡ Some i → is_accepted e past ≡ true
     → endings_for i e.endings ≡ 1
 
--- so it is in each event
+-- in each event, each answer is such an answer, and each accepted call that answers has one
 abbrev pub AnsweredToSender : List Member → Trace → Type 0
 AnsweredToSender roster [] = Unit {0}
 AnsweredToSender roster (e ∷ past) =

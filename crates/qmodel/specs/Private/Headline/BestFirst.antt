@@ -15,11 +15,12 @@ use Rattle.qmodel.specs.Private.Past.{pending_items, item_of, made_on}
 use Rattle.qmodel.specs.Trace.{Event, Trace}
 use Rattle.qmodel.specs.Private.Effects.{receives_on}
 
--- what could be taken from channel h in this event: what was pending before it, and the item that it makes
+-- the items that could be taken from channel h in this event: those pending before it, and the one that it
+-- makes
 abbrev pub takeable : List Member → Trace → Event → ChannelId → List Item
 takeable roster past e h = pending_items roster past h ++ made_on h (item_of roster e past)
 
--- the ending receives item i as the best of what its call may take
+-- the ending receives item i, which is the best that its call may take
 pub record TakesBest (roster : List Member) (past : Trace) (e : Event) (x : Completion) (i : CallNo) : Type
     0 where
   pub call : Call
@@ -29,7 +30,7 @@ pub record TakesBest (roster : List Member) (past : Trace) (e : Event) (x : Comp
   pub receives : receives_on call ≡ Some (channel, kind)
   pub best : option_map (λ item. item.number) (best_of kind (takeable roster past e channel)) ≡ Some i
 
--- so it is with each receipt of each event
+-- each receipt of each event takes the best item
 abbrev pub BestFirst : List Member → Trace → Type 0
 BestFirst roster [] = Unit {0}
 BestFirst roster (e ∷ past) =

@@ -35,7 +35,7 @@ calls_ended endings = map (λ x. x.call) endings
 abbrev pub is_made : List Member → Trace → CallNo → Bool
 is_made roster past i = list_any (λ m. m.item.number == i) (items roster past)
 
--- each event receives only what was made by then
+-- each event receives only items that were made by then
 abbrev pub NoneEarly : List Member → Trace → Type 0
 NoneEarly roster [] = Unit {0}
 NoneEarly roster (e ∷ past) =

@@ -1,5 +1,5 @@
--- Of what was sent over one connection and has one priority as it is received, what was sent first is
--- received first.
+-- Items that were sent over one connection and have one priority as they are received are received in the
+-- order in which they were sent.
 use Rattle.std.specs.Prelude.{◌≡◌, ℕ, ◌≤◌, List, [], ◌∷◌, Option, Some}
 use Rattle.std.specs.List.{AllByRecursion}
 use Rattle.std.specs.Option.{option_and_then}
@@ -27,15 +27,16 @@ pub record TakesSent (past : Trace) (x : Completion) (j : CallNo) (k : Connectio
   pub item : item_received x ≡ Some j
   pub connection : connection_of past j ≡ Some k
 
--- of what could be taken from any channel, nothing that was sent over connection k and had the priority of
--- item j before the event is earlier than j
+-- no item that could be taken from any channel, was sent over connection k and had the priority of item j
+-- before the event is earlier than j
 abbrev pub IsEarliest : List Member → Trace → Event → CallNo → ConnectionId → Type 0
 IsEarliest roster past e j k = (h : ChannelId) → AllByRecursion
     (λ item. connection_of (e ∷ past) item.number ≡ Some k → item.priority ≡ priority_before roster e past j
     → j ≤ item.number)
     (takeable roster past e h)
 
--- so it is with each receipt by a Receive, of each event, of an item that was sent over a connection
+-- each receipt by a Receive of an item that was sent over a connection takes the earliest item of its
+-- priority
 abbrev pub SentOrder : List Member → Trace → Type 0
 SentOrder roster [] = Unit {0}
 SentOrder roster (e ∷ past) =

@@ -24,7 +24,8 @@ NoneBlockedOn roster past h =
     (u : ThreadNo) (o : OpenCall) → open_call roster past u ≡ Some o
     → is_on (λ k. attached_connection roster past k) h o.wait ≡ false
 
--- after each event, and in it, so it is with each channel that is destroyed by then
+-- if a channel is destroyed by an event or before it, no ending of the event receives from it, and no call is
+-- blocked on it afterwards
 abbrev pub ShutForGood : List Member → Trace → Type 0
 ShutForGood roster [] = Unit {0}
 ShutForGood roster (e ∷ past) =
