@@ -1,6 +1,6 @@
 -- What a write to one channel's record changes, and what its removal does.
 use Rattle.std.proofs.Common.{◌≡◌, ℕ, ◌+◌, ◌≤◌, List, [], ◌∷◌, length, map, not, refl, ap, sym, ◌∙◌, cond, true, false, eqb}
-use Rattle.std.specs.Prelude.{Option, None, Some, is_some, IfNone, OnSome, Result, Ok, Err, OnErr}
+use Rattle.std.specs.Prelude.{Option, None, Some, is_some, OnSome}
 use Rattle.std.specs.List.{AllByRecursion}
 use Rattle.std.specs.Option.{option_map}
 use Rattle.std.proofs.lemmas.Bool.{eqb-true, true≢false}
@@ -36,21 +36,24 @@ module _ {R : Type 0} where
         | false ↦ (h.0, ids_kept P entries id h.1)
       ]
 
--- a write that changes a channel's queue alone
-pub sets_items : (channels : List (ℕ × Channel)) (h : ℕ) (c : Channel) (q : Contents) (items : List Item) → entry_at channels h ≡ Some c → q.items ≡ items
+-- a write that leaves a channel its owner and its flags
+pub sets_items : (channels : List (ℕ × Channel)) (h : ℕ) (c d : Channel) (items : List Item) → entry_at channels h ≡ Some c → d.owner ≡ c.owner → d.flags ≡ c.flags → d.queue.items ≡ items
+    → SetsItems h items channels (with_record channels h d)
+sets_items channels h c d items is owner flags now = record {
+  ids = ids_same channels h d;
+  channel = λ k. ap (option_map open_channel_of) (written_at channels h c d k is)
+      ∙ (elim (eqb k h) as (λ b. eqb k h ≡ b → option_map open_channel_of (cond b (Some d) (entry_at channels k)) ≡ channel_in channels k) [
+        | true ↦ λ e. rw (eqb-true k h e, is, owner, flags) refl
+        | false ↦ λ e. refl
+      ] refl);
+  pending = λ k. ap items_waiting_on (written_at channels h c d k is)
+      ∙ (elim (eqb k h) as (λ b. items_waiting_on (cond b (Some d) (entry_at channels k)) ≡ cond b items (items_waiting_on (entry_at channels k))) [ true ↦ now | false ↦ refl ]);
+}
+
+-- a write to a channel's queue
+pub sets_queue : (channels : List (ℕ × Channel)) (h : ℕ) (c : Channel) (q : Contents) (items : List Item) → entry_at channels h ≡ Some c → q.items ≡ items
     → SetsItems h items channels (with_record channels h (record { owner = c.owner; flags = c.flags; queue = q }))
-sets_items channels h c q items is now =
-    let d : Channel = record { owner = c.owner; flags = c.flags; queue = q } in
-    record {
-      ids = ids_same channels h d;
-      channel = λ k. ap (option_map open_channel_of) (written_at channels h c d k is)
-          ∙ (elim (eqb k h) as (λ b. eqb k h ≡ b → option_map open_channel_of (cond b (Some d) (entry_at channels k)) ≡ channel_in channels k) [
-            | true ↦ λ e. rw (eqb-true k h e, is) refl
-            | false ↦ λ e. refl
-          ] refl);
-      pending = λ k. ap items_waiting_on (written_at channels h c d k is)
-          ∙ (elim (eqb k h) as (λ b. items_waiting_on (cond b (Some d) (entry_at channels k)) ≡ cond b items (items_waiting_on (entry_at channels k))) [ true ↦ now | false ↦ refl ]);
-    }
+sets_queue channels h c q items is now = sets_items channels h c (record { owner = c.owner; flags = c.flags; queue = q }) items is refl refl now
 
 -- what holds where there is a channel holds where one is open
 on_open : {P : Type 0} (o : Option Channel) → is_some (option_map open_channel_of o) ≡ true → OnSome o P → P
@@ -65,13 +68,3 @@ closes_in h channels there fewer = record {
   pending = λ k. ap items_waiting_on (entry_at-without_entry channels h k) ∙ (elim (eqb h k) as (λ b. items_waiting_on (cond b None (entry_at channels k)) ≡ cond b [] (pending_in channels k)) [ true ↦ refl | false ↦ refl ]);
   fewer = on_open (entry_at channels h) there fewer;
 }
-
--- what holds at all holds at an error
-pub on_err : {T E P : Type 0} (r : Result T E) → P → OnErr r P
-on_err (Ok x) h = tt
-on_err (Err e) h = h
-
--- what follows from what holds where there is none
-pub if_none : {A : Type 0} {P Q : Type 0} (o : Option A) → (P → Q) → IfNone o P → IfNone o Q
-if_none None f h = f h
-if_none (Some x) f h = tt

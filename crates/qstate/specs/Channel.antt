@@ -3,20 +3,10 @@ use Rattle.std.specs.Prelude.{◌≡◌, ◌≤◌, ◌+◌, ℕ, ◌==◌, ◌&
 use Rattle.std.specs.Prelude.{Option, None, Some, if◌then◌else◌}
 use Rattle.std.specs.List.{AllByRecursion}
 use Rattle.qqueue.specs.declared.item.Item.{Item}
-use Rattle.qtables.specs.Entries.{entry_at}
 use Rattle.qtables.specs.declared.connection.Connection.{Connection}
 use Rattle.qstate.specs.declared.channel.Channel.{Channel}
 use Rattle.qstate.specs.Kept.{channel_in, pending_in}
 use Rattle.qmodel.specs.Trace.{OpenChannel}
-
--- how many more items a channel has room for
-abbrev pub room_of : Option Channel → ℕ
-room_of None = 0
-room_of (Some c) = c.queue.room
-
--- how many more items the channel of an id has room for
-abbrev pub room_in : List (ℕ × Channel) → ℕ → ℕ
-room_in channels h = room_of (entry_at channels h)
 
 -- the channel is one of this process
 abbrev pub is_of : ℕ → Option OpenChannel → Bool

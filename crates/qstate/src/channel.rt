@@ -1,19 +1,18 @@
 //! What the kernel keeps of an open channel.
 
-ghost use Rattle.std.specs.Prelude.{◌≡◌, ◌==◌, ◌+◌, ◌≤◌, ◌<◌, ◌++◌, ◌∷◌, ◌&&◌, [], count_by, is_some, true, None, Some, if◌then◌else◌, IsOk, OnOk, OnErr, IfErr, IfSome, IfNone};
+ghost use Rattle.std.specs.Prelude.{◌≡◌, ◌==◌, ◌+◌, ◌≤◌, ◌<◌, ◌++◌, ◌∷◌, ◌&&◌, [], count_by, is_some, true, None, Some, if◌then◌else◌, IsOk, OnOk, OnErr, IfErr};
 ghost use Rattle.std.specs.List.{AllByRecursion};
-ghost use Rattle.qqueue.specs.Best.{best_of, with_item_priority, without_item};
-ghost use Rattle.qmodel.specs.Private.Pulses.{pulses_among};
+ghost use Rattle.qqueue.specs.Best.{with_item_priority};
 ghost use Rattle.qmodel.specs.Private.Facts.{is_fixed, tells_disconnect, tells_unblock};
-ghost use Rattle.qstate.specs.Channel.{own_channel_in, is_of, room_in, route_in, ClosesIn, SetsItems};
-ghost use Rattle.qstate.specs.Kept.{channel_in, pending_in};
+ghost use Rattle.qstate.specs.Channel.{own_channel_in, is_of, route_in, ClosesIn, SetsItems};
+ghost use Rattle.qstate.specs.Kept.{channel_in, open_channel_of, pending_in};
 ghost use Rattle.qtables.specs.Entries.{entry_at};
 
 use qbase::errno::Errno;
 use qbase::flags::ChannelFlags;
 use qbase::ids::{ChannelId, ConnectionId, ProcessNo};
 use qbase::priority::Priority;
-use qqueue::item::{Item, Kind};
+use qqueue::item::Item;
 use qqueue::queue::Queue;
 use qtables::channels::Channels;
 use qtables::connections::Connections;
@@ -26,6 +25,35 @@ pub struct Channel {
     pub flags: ChannelFlags,
     /// What was sent to it and isn't received.
     pub queue: Queue,
+}
+
+impl Channel {
+    /// Returns the priority that a receiver takes with an item of this priority; `None` if the channel has the
+    /// fixed-priority flag and leaves its receivers' priorities as they are.
+    pub fn carried(&self, priority: Priority) -> Option<Priority>
+        ensures { result ≡ (if is_fixed (Some (open_channel_of self.now)) then None else Some priority) }
+    {
+        if self.flags.fixes_priority() {
+            None
+        } else {
+            Some(priority)
+        }
+    }
+
+    /// Puts an item behind all that wait, after room was made for it, and returns its key in the queue; takes no
+    /// memory if there is room already.
+    pub fn enqueue(&mut self, item: Item) -> Result<usize, Errno>
+        requires newest { AllByRecursion (λ x. x.number < item.number) self.old.queue.items }
+        ensures owner { self.new.owner ≡ self.old.owner }
+        ensures flags { self.new.flags ≡ self.old.flags }
+        ensures ok { OnOk result (self.new.queue.items ≡ self.old.queue.items ++ item ∷ []) }
+        ensures err { OnErr result (self.new.queue.items ≡ self.old.queue.items) }
+        ensures succeeds { 0 < self.old.queue.room → IsOk result }
+        ensures error { IfErr result (λ e. e ≡ Errno.NoMemory) }
+    {
+        self.queue.reserve(1)?;
+        Ok(self.queue.push(item))
+    }
 }
 
 /// Whether the channel is open.
@@ -95,31 +123,6 @@ pub fn tells_detached(
     }
 }
 
-/// How many pulses wait on a channel.
-pub fn pulses_on(channels: &Channels<Channel>, chid: ChannelId) -> usize
-    ensures { result ≡ pulses_among (pending_in channels.now chid) }
-{
-    match channels.get(chid) {
-        None => 0,
-        Some(channel) => channel.queue.pulses(),
-    }
-}
-
-/// The priority that a receiver on the channel takes of an item of this priority: none where the channel
-/// leaves its receivers' priorities as they are.
-pub fn carried_priority(
-    channels: &Channels<Channel>,
-    chid: ChannelId,
-    priority: Priority,
-) -> Option<Priority>
-    ensures { result ≡ (if is_fixed (channel_in channels.now chid) then None else Some priority) }
-{
-    match channels.get(chid) {
-        Some(channel) if channel.flags.fixes_priority() => None,
-        _ => Some(priority),
-    }
-}
-
 /// Whether a channel has the unblock flag.
 pub fn tells_unblock(channels: &Channels<Channel>, chid: ChannelId) -> bool
     ensures { result ≡ tells_unblock (channel_in channels.now chid) }
@@ -128,37 +131,6 @@ pub fn tells_unblock(channels: &Channels<Channel>, chid: ChannelId) -> bool
         None => false,
         Some(channel) => channel.flags.tells_unblock(),
     }
-}
-
-/// Takes the best item that waits on a channel.
-pub fn take_best(channels: &mut Channels<Channel>, chid: ChannelId, kind: Kind) -> Option<Item>
-    ensures best { result ≡ best_of kind (pending_in channels.old chid) }
-    ensures taken { IfSome result (λ item. SetsItems chid (without_item item.number (pending_in channels.old chid)) channels.old channels.new) }
-    ensures none { IfNone result (SetsItems chid (pending_in channels.old chid) channels.old channels.new) }
-{
-    let channel = channels.get_mut(chid)?;
-    channel.queue.take(kind)
-}
-
-/// Puts an item behind all that wait on a channel, after room was made for it, and returns its key in the queue;
-/// takes no memory if there is room already.
-pub fn enqueue(
-    channels: &mut Channels<Channel>,
-    chid: ChannelId,
-    item: Item,
-) -> Result<usize, Errno>
-    requires there { is_some (channel_in channels.old chid) ≡ true }
-    requires newest { AllByRecursion (λ x. x.number < item.number) (pending_in channels.old chid) }
-    ensures ok { OnOk result (SetsItems chid (pending_in channels.old chid ++ item ∷ []) channels.old channels.new) }
-    ensures err { OnErr result (SetsItems chid (pending_in channels.old chid) channels.old channels.new) }
-    ensures succeeds { 0 < room_in channels.old chid → IsOk result }
-    ensures error { IfErr result (λ e. e ≡ Errno.NoMemory) }
-{
-    let Some(channel) = channels.get_mut(chid) else {
-        unreachable!();
-    };
-    channel.queue.reserve(1)?;
-    Ok(channel.queue.push(item))
 }
 
 /// Gives the item of this number on a channel another priority, if it waits there, where it has this key; takes

@@ -30,6 +30,10 @@ pub fn put(endings: &mut Endings, ending: Completion)
     requires { length endings.old.items < 64 }
     ensures { endings.new.items ≡ with_ending_in_place ending endings.old.items }
 {
+    if endings.is_empty() {
+        endings.push(ending);
+        return;
+    }
     match first_later(endings, ending.thread) {
         None => endings.push(ending),
         Some(place) => endings.insert(place, ending),

@@ -6,7 +6,7 @@ ghost use Rattle.qqueue.specs.Best.{is_pulse};
 ghost use Rattle.qstate.specs.Kept.{channel_in, pending_in};
 ghost use Rattle.qstate.specs.Pulses.{IsSent, IsSentIfDue, IsTurnedAway, IsUnsent};
 
-use crate::channel::{Channel, carried_priority, enqueue, pulses_on};
+use crate::channel::Channel;
 use crate::threads::Threads;
 use qbase::errno::Errno;
 use qbase::ids::ChannelId;
@@ -43,15 +43,19 @@ pub fn send_pulse(
     ensures ok { IfOk result (λ met. IsSent chid item threads.old channels.old threads.new channels.new met) }
     ensures err { IfErr result (λ e. IsTurnedAway chid item threads.old channels.old threads.new channels.new e) }
 {
-    if pulses_on(channels, chid) >= PULSE_LIMIT {
+    let Some(channel) = channels.get_mut(chid) else {
+        unreachable!();
+    };
+    if channel.queue.pulses() >= PULSE_LIMIT {
         return Err(Errno::Again);
     }
     let Some(receiver) = threads.newest_receiver(chid, &item) else {
-        enqueue(channels, chid, item)?;
-        return Ok(None);
+        return match channel.enqueue(item) {
+            Ok(_) => Ok(None),
+            Err(errno) => Err(errno),
+        };
     };
-    let priority = carried_priority(channels, chid, item.priority);
-    let receive = threads.wake(&receiver, priority);
+    let receive = threads.wake(&receiver, channel.carried(item.priority));
     Ok(Some(receive.ending(pulse_mark(&item))))
 }
 

@@ -11,7 +11,6 @@ use qbase::ids::ChannelId;
 use qmodel::call::Call;
 use qmodel::open_call::Wait;
 use qqueue::item::Kind;
-use qstate::channel::{carried_priority, owns, take_best};
 use qstate::endings::{Endings, put};
 
 impl Kernel {
@@ -44,16 +43,17 @@ impl Kernel {
         requires buffer { kind ≡ Kind.PulseOnly → buffer ≡ [] }
         ensures { Makes self.old caller.now (receive_of kind chid buffer) endings.new.items self.new }
     {
-        if !owns(&self.channels, caller.process, chid) {
-            return caller.refuse(endings, Errno::Srch, buffer);
-        }
-        match take_best(&mut self.channels, chid, kind) {
+        let channel = match self.channels.get_mut(chid) {
+            Some(channel) if channel.owner == caller.process => channel,
+            _ => return caller.refuse(endings, Errno::Srch, buffer),
+        };
+        match channel.queue.take(kind) {
             None => {
                 caller.block(&mut self.threads, Wait::Item { chid, kind, buffer }, 0);
             }
             Some(item) => {
                 let mut buffer = buffer;
-                let priority = carried_priority(&self.channels, chid, item.priority);
+                let priority = channel.carried(item.priority);
                 let mark = self.threads.hand_item(item, &mut buffer);
                 self.threads.set_priority(&caller.seat, priority);
                 put(endings, caller.ending_with(mark, buffer));

@@ -16,7 +16,7 @@ use qbase::priority::Priority;
 use qmodel::call::{Call, Completion, Mark};
 use qmodel::open_call::{Receipt, Wait};
 use qqueue::item::{Item, What};
-use qstate::channel::{carried_priority, enqueue, route};
+use qstate::channel::own_connection;
 use qstate::endings::{Endings, put};
 use qstate::seat::Seat;
 use qstate::threads::Threads;
@@ -76,21 +76,24 @@ impl Kernel {
         requires { MayCall self.old caller.now endings.old.items }
         ensures { Makes self.old caller.now (Call.Send coid message reply_buffer) endings.new.items self.new }
     {
-        let Some(chid) = route(&self.connections, &self.channels, caller.process, coid) else {
+        let item = message_item(caller, self.priority(caller));
+        let Some(chid) = own_connection(&self.connections, caller.process, coid) else {
             return caller.refuse(endings, Errno::Badf, reply_buffer);
         };
-        let item = message_item(caller, self.priority(caller));
+        let Some(channel) = self.channels.get_mut(chid) else {
+            return caller.refuse(endings, Errno::Badf, reply_buffer);
+        };
         let mut key = 0;
         let receipt = match self.threads.newest_receiver(chid, &item) {
             None => {
-                match enqueue(&mut self.channels, chid, item) {
+                match channel.enqueue(item) {
                     Ok(place) => key = place,
                     Err(errno) => return caller.refuse(endings, errno, reply_buffer),
                 }
                 None
             }
             Some(receiver) => {
-                let priority = carried_priority(&self.channels, chid, item.priority);
+                let priority = channel.carried(item.priority);
                 let (ended, receipt) = deliver(
                     &mut self.threads,
                     &receiver,

@@ -3,7 +3,7 @@ use Rattle.std.proofs.lemmas.Bool.{and_right}
 use Rattle.qqueue.specs.Best.{without_item}
 use Rattle.qtables.specs.Entries.{entry_at}
 use Rattle.qstate.specs.Kept.{items_waiting_on}
-use Rattle.qstate.proofs.ChannelWrites.{sets_items}
+use Rattle.qstate.proofs.ChannelWrites.{sets_queue}
 use Rattle.qstate.proofs.Cancels.Queues.{loses_nothing, loses_gone, loses_one, waits_so, unread_so}
 use Rattle.qstate.proofs.cancelling.take_message.Goals as goal
 
@@ -19,5 +19,5 @@ pub returns : goal.returns
 returns c =
     let there = sym c.in-Some-get_mut.ensures.value in
     loses_one _ c.args.channels.now _ c.in-Some.chid c.args.call.now.number
-    (sets_items c.args.channels.now c.in-Some.chid c.in-Some-get_mut.channel.now c.remove.new.self _ there (c.remove.ensures.rest ∙ ap (without_item c.args.call.now.number) (sym (ap items_waiting_on there))))
+    (sets_queue c.args.channels.now c.in-Some.chid c.in-Some-get_mut.channel.now c.remove.new.self _ there (c.remove.ensures.rest ∙ ap (without_item c.args.call.now.number) (sym (ap items_waiting_on there))))
     (λ k i. unread_so (entry_at c.args.connections.now) c.args.call.now.number c.args.call.now.wait k i ∙ ap (λ o. waits_so o c.args.call.now.number k i) (sym c.in-Some.ensures))
