@@ -222,6 +222,18 @@ impl Kernel {
         self.threads.seat(thread)
     }
 
+    /// The seat of a thread that is in the roster.
+    fn known_seat(&self, thread: ThreadNo) -> Seat
+        requires { is_some (member_at (members_of self.now.threads) thread) ≡ true }
+        ensures seat { IsSeatIn self.now.threads result }
+        ensures thread { result.thread ≡ thread }
+    {
+        match self.seat(thread) {
+            Some(seat) => seat,
+            None => unreachable!(),
+        }
+    }
+
     /// Makes one call of the thread at a seat, and puts its endings, in rising thread number, into a list that is
     /// lent and may be used again once it is emptied. An `Err` is no event: it gives the call back and changes
     /// nothing; `Exhausted`, after 2^40 calls, is the only one.
@@ -268,10 +280,8 @@ impl Kernel {
         // An event ends at most its own call and calls that were open.
         ensures room { length endings.new.items + blocked_count self.new.threads ≤ blocked_count self.old.threads + 1 }
     {
-        match self.seat(thread) {
-            Some(seat) => self.perform(&seat, call, endings),
-            None => unreachable!(),
-        }
+        let seat = self.known_seat(thread);
+        self.perform(&seat, call, endings);
     }
 
     /// Makes one call. Every `Ok` is an event, whose number is one more than the last, and holds the endings

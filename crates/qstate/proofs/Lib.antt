@@ -5,5 +5,6 @@ pub mod Receivers
 pub mod Newest
 pub mod Inserting
 pub mod ChannelWrites
+pub mod Routes
 pub mod Moving
 pub mod Cancels

@@ -78,9 +78,7 @@ impl Kernel {
         // An event ends at most its own call and calls that were open.
         ensures room { length endings.new.items + blocked_count self.new.threads ≤ blocked_count self.old.threads + 1 }
     {
-        match self.seat(thread) {
-            Some(seat) => self.perform_lent(&seat, call, endings),
-            None => unreachable!(),
-        }
+        let seat = self.known_seat(thread);
+        self.perform_lent(&seat, call, endings);
     }
 }

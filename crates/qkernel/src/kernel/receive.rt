@@ -43,10 +43,12 @@ impl Kernel {
         requires buffer { kind ≡ Kind.PulseOnly → buffer ≡ [] }
         ensures { Makes self.old caller.now (receive_of kind chid buffer) endings.new.items self.new }
     {
-        let channel = match self.channels.get_mut(chid) {
-            Some(channel) if channel.owner == caller.process => channel,
-            _ => return caller.refuse(endings, Errno::Srch, buffer),
+        let Some(channel) = self.channels.get_mut(chid) else {
+            return caller.refuse(endings, Errno::Srch, buffer);
         };
+        if caller.process != channel.owner {
+            return caller.refuse(endings, Errno::Srch, buffer);
+        }
         match channel.queue.take(kind) {
             None => {
                 caller.block(&mut self.threads, Wait::Item { chid, kind, buffer }, 0);

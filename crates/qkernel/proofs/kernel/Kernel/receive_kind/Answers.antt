@@ -1,39 +1,60 @@
-use Rattle.std.proofs.Common.{sym, ◌∙◌}
+use Rattle.std.proofs.Common.{sym, ap, ◌∙◌, cond}
+use Rattle.std.specs.Prelude.{None, Some}
+use Rattle.std.specs.Option.{option_copied_mut, option_map}
+use Rattle.std.proofs.lemmas.Bool.{not-false, not-true}
 use Rattle.qstate.proofs.Seats.{seat_kept}
-use Rattle.qqueue.specs.Best.{is_pulse}
-use Rattle.qkernel.proofs.Steps.Receiving.{hands_members, step_receive_refused, step_receive_waits, step_receive_takes, sound_taken, sound_kept}
+use Rattle.qstate.proofs.ChannelWrites.{sets_queue}
+use Rattle.qmodel.specs.Private.Facts.{is_fixed}
+use Rattle.qstate.specs.Channel.{is_of}
+use Rattle.qstate.specs.Kept.{items_waiting_on, open_channel_of}
+use Rattle.qqueue.specs.Best.{best_of, is_pulse, without_item}
+use Rattle.qkernel.proofs.Steps.Receiving.{hands_members, step_receive_refused, step_receive_waits, step_receive_takes, sound_taken}
 use Rattle.qkernel.proofs.kernel.Kernel.receive_kind.Goals as goal
-
-pub invariant_of-self : goal.invariant_of-self
-invariant_of-self c =
-    let may = rw (← c.self.view_is) at c.requires.may in
-    rw (may.counted) (sound_kept _ _ _ c.args.chid may.sound c.block.ensures.members c.in-None.ensures.none)
-
-pub invariant_of-self-in-Some : goal.invariant_of-self-in-Some
-invariant_of-self-in-Some c =
-    let may = rw (← c.self.view_is) at c.requires.may in
-    rw (may.counted) (sound_taken _ _ _ c.args.chid c.in-Some.item.number may.sound (c.set_priority.ensures.members ∙ hands_members (is_pulse c.in-Some.item.what) _ _ _ _ c.hand_item-mark.ensures.kept) c.in-Some.ensures.taken)
-
-pub set_priority-requires : goal.set_priority-requires
-set_priority-requires c =
-    let may = rw (← c.self.view_is) at c.requires.may in
-    let at = may.among.seat in
-    seat_kept c.args.caller.now.seat.thread _ _ (hands_members (is_pulse c.in-Some.item.what) _ _ _ _ c.hand_item-mark.ensures.kept) ∙ at
-
-pub returns-then-not-owns : goal.returns-then-not-owns
-returns-then-not-owns c =
-    let may = rw (← c.self.view_is) at c.requires.may in
-    rw (← c.self.view_is, may.counted) (step_receive_refused _ c.args.caller.now.seat.thread c.args.chid c.args.kind c.args.buffer _ _ c.requires.buffer may.among.known may.up may.free (sym c.if-not-owns.ensures) c.refuse.ensures)
 
 pub returns-in-None : goal.returns-in-None
 returns-in-None c =
     let may = rw (← c.self.view_is) at c.requires.may in
-    rw (← c.self.view_is, may.counted) (step_receive_waits _ c.args.caller.now.seat.thread c.args.chid c.args.kind c.args.buffer _ may.sound may.among.known may.up may.free (sym c.if-not-owns.ensures) c.requires.buffer _ _ _
-    (sym c.in-None.ensures.best) c.block.ensures c.in-None.ensures.none may.none)
+    let there = sym c.in-Some.ensures.value in
+    let own = ap (λ o. is_of c.args.caller.now.process (option_map open_channel_of o)) there ∙ not-false _ (sym c.if-ne.ensures) in
+    let sets = sets_queue c.self.inside.channels c.args.chid c.in-Some.channel.now c.take.new.self _ there (ap (λ q. q.items) c.in-None.ensures.unchanged ∙ sym (ap items_waiting_on there)) in
+    rw (← c.self.view_is, may.counted) (step_receive_waits _ c.args.caller.now.seat.thread c.args.chid c.args.kind c.args.buffer _ may.sound may.among.known may.up may.free own c.requires.buffer _ _ _
+    (ap (λ o. best_of c.args.kind (items_waiting_on o)) there ∙ sym c.in-None.ensures.best) c.block.ensures sets may.none)
 
-pub returns-in-Some : goal.returns-in-Some
-returns-in-Some c =
+pub set_priority-requires : goal.set_priority-requires
+set_priority-requires c =
     let may = rw (← c.self.view_is) at c.requires.may in
+    seat_kept c.args.caller.now.seat.thread _ _ (hands_members (is_pulse c.in-Some-take.item.what) _ _ _ _ c.hand_item-mark.ensures.kept) ∙ may.among.seat
+
+pub invariant_of-self-in-Some-take : goal.invariant_of-self-in-Some-take
+invariant_of-self-in-Some-take c =
+    let may = rw (← c.self.view_is) at c.requires.may in
+    let there = sym c.in-Some.ensures.value in
+    let sets = sets_queue c.self.inside.channels c.args.chid c.in-Some.channel.now c.take.new.self _ there (c.in-Some-take.ensures.rest ∙ ap (without_item c.in-Some-take.item.number) (sym (ap items_waiting_on there))) in
+    rw (may.counted) (sound_taken _ _ _ c.args.chid c.in-Some-take.item.number may.sound (c.set_priority.ensures.members ∙ hands_members (is_pulse c.in-Some-take.item.what) _ _ _ _ c.hand_item-mark.ensures.kept) sets)
+
+pub returns-in-Some-take : goal.returns-in-Some-take
+returns-in-Some-take c =
+    let may = rw (← c.self.view_is) at c.requires.may in
+    let there = sym c.in-Some.ensures.value in
+    let own = ap (λ o. is_of c.args.caller.now.process (option_map open_channel_of o)) there ∙ not-false _ (sym c.if-ne.ensures) in
+    let sets = sets_queue c.self.inside.channels c.args.chid c.in-Some.channel.now c.take.new.self _ there (c.in-Some-take.ensures.rest ∙ ap (without_item c.in-Some-take.item.number) (sym (ap items_waiting_on there))) in
+    let best = ap (λ o. best_of c.args.kind (items_waiting_on o)) there ∙ sym c.in-Some-take.ensures.best in
+    let carried = c.carried-priority.ensures ∙ ap (λ o. cond (is_fixed o) None (Some c.in-Some-take.item.priority)) (sym (sets.channel c.args.chid ∙ ap (option_map open_channel_of) there)) in
     let ended = rw (c.ending_with.ensures, c.hand_item-mark.ensures.mark, c.hand_item-mark.ensures.buffer, may.none) at c.put.ensures in
-    rw (← c.self.view_is, may.counted) (step_receive_takes _ c.args.caller.now.seat.thread c.args.chid c.args.kind c.args.buffer _ may.sound may.among.known may.up may.free (sym c.if-not-owns.ensures) c.requires.buffer c.in-Some.item (sym c.in-Some.ensures.best) _ _ _ _
-    c.hand_item-mark.ensures.kept (rw c.carried_priority-priority.ensures at c.set_priority.ensures) c.in-Some.ensures.taken ended)
+    rw (← c.self.view_is, may.counted) (step_receive_takes _ c.args.caller.now.seat.thread c.args.chid c.args.kind c.args.buffer _ may.sound may.among.known may.up may.free own c.requires.buffer c.in-Some-take.item best _ _ _ _
+    c.hand_item-mark.ensures.kept (rw carried at c.set_priority.ensures) sets ended)
+
+pub returns-in_default : goal.returns-in_default
+returns-in_default c =
+    let may = rw (← c.self.view_is) at c.requires.may in
+    let gone = sym c.get_mut.ensures.value ∙ ap option_copied_mut c.in_default.is in
+    let other = ap (λ o. is_of c.args.caller.now.process (option_map open_channel_of o)) gone in
+    rw (← c.self.view_is, may.counted) (step_receive_refused _ c.args.caller.now.seat.thread c.args.chid c.args.kind c.args.buffer _ _ c.requires.buffer may.among.known may.up may.free other c.refuse.ensures)
+
+pub returns-then-ne : goal.returns-then-ne
+returns-then-ne c =
+    let may = rw (← c.self.view_is) at c.requires.may in
+    let there = sym c.in-Some.ensures.value in
+    let other = ap (λ o. is_of c.args.caller.now.process (option_map open_channel_of o)) there ∙ not-true _ (sym c.if-ne.ensures) in
+    rw (c.in-Some.ensures.unwritten, ← c.self.view_is, may.counted)
+    (step_receive_refused _ c.args.caller.now.seat.thread c.args.chid c.args.kind c.args.buffer _ _ c.requires.buffer may.among.known may.up may.free other c.refuse-then-ne.ensures)

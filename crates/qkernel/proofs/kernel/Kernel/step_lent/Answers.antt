@@ -1,19 +1,13 @@
-use Rattle.std.proofs.Common.{ap, sym, ◌∙◌}
-use Rattle.std.specs.Prelude.{is_some}
-use Rattle.std.proofs.lemmas.Bool.{true≢false}
 use Rattle.qkernel.specs.LentCall.{call_lent}
 use Rattle.qkernel.proofs.Room.{steps_room}
 use Rattle.qkernel.proofs.Standing.{refused_leaves, step_at_traces}
 use Rattle.qkernel.proofs.kernel.Kernel.step_lent.Goals as goal
 
-pub unreachable-requires : goal.unreachable-requires
-unreachable-requires c = true≢false (sym c.requires.known ∙ sym c.seat.ensures.known ∙ ap is_some c.in-None.is)
-
 pub returns-clause-event : goal.returns-clause-event
-returns-clause-event c = step_at_traces _ _ _ _ _ c.perform_lent.ensures.sound.roster c.requires.known (rw c.in-Some.ensures.thread at c.perform_lent.ensures.steps)
+returns-clause-event c = step_at_traces _ _ _ _ _ c.perform_lent.ensures.sound.roster c.requires.known (rw c.known_seat-seat.ensures.thread at c.perform_lent.ensures.steps)
 
 pub returns-clause-refused : goal.returns-clause-refused
-returns-clause-refused c = refused_leaves _ _ _ _ _ c.perform_lent.ensures.sound.roster (rw c.in-Some.ensures.thread at c.perform_lent.ensures.steps)
+returns-clause-refused c = refused_leaves _ _ _ _ _ c.perform_lent.ensures.sound.roster (rw c.known_seat-seat.ensures.thread at c.perform_lent.ensures.steps)
 
 pub returns-clause-room : goal.returns-clause-room
-returns-clause-room c = steps_room _ c.args.thread (call_lent c.args.call.now) _ _ c.perform_lent.ensures.sound.roster (rw c.in-Some.ensures.thread at c.perform_lent.ensures.steps)
+returns-clause-room c = steps_room _ c.args.thread (call_lent c.args.call.now) _ _ c.perform_lent.ensures.sound.roster (rw c.known_seat-seat.ensures.thread at c.perform_lent.ensures.steps)

@@ -1,0 +1,7 @@
+use Rattle.std.proofs.Common.{ap, sym, ◌∙◌}
+use Rattle.std.specs.Prelude.{is_some}
+use Rattle.std.proofs.lemmas.Bool.{true≢false}
+use Rattle.qkernel.proofs.kernel.Kernel.known_seat.Goals as goal
+
+pub unreachable-requires : goal.unreachable-requires
+unreachable-requires c = true≢false (sym c.requires ∙ sym c.seat.ensures.known ∙ ap is_some c.in-None.is)
