@@ -42,6 +42,7 @@ impl Channel {
 
     /// Puts an item behind all that wait, after room was made for it, and returns its key in the queue; takes no
     /// memory if there is room already.
+    #[inline]
     pub fn enqueue(&mut self, item: Item) -> Result<usize, Errno>
         requires newest { AllByRecursion (λ x. x.number < item.number) self.old.queue.items }
         ensures owner { self.new.owner ≡ self.old.owner }

@@ -25,18 +25,27 @@ fn first_later(endings: &Endings, thread: ThreadNo) -> Option<usize>
     endings.iter().position(|e| is_before(thread, e.thread))
 }
 
+/// Puts an ending in its place among others.
+fn put_among(endings: &mut Endings, ending: Completion)
+    requires { length endings.old.items < 64 }
+    ensures { endings.new.items ≡ with_ending_in_place ending endings.old.items }
+{
+    match first_later(endings, ending.thread) {
+        None => endings.push(ending),
+        Some(place) => endings.insert(place, ending),
+    }
+}
+
 /// Puts an ending in its place among the endings.
+#[inline(always)]
 pub fn put(endings: &mut Endings, ending: Completion)
     requires { length endings.old.items < 64 }
     ensures { endings.new.items ≡ with_ending_in_place ending endings.old.items }
 {
     if endings.is_empty() {
         endings.push(ending);
-        return;
-    }
-    match first_later(endings, ending.thread) {
-        None => endings.push(ending),
-        Some(place) => endings.insert(place, ending),
+    } else {
+        put_among(endings, ending);
     }
 }
 

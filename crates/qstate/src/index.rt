@@ -58,6 +58,7 @@ impl Index {
     }
 
     /// Keeps that a call blocks the thread at a place.
+    #[inline(always)]
     pub fn note(&mut self, place: usize, call: &OpenCall)
         requires { place < 64 }
         ensures { Notes place call.now self.old self.new }

@@ -159,6 +159,7 @@ impl Threads {
     }
 
     /// Takes the open call of the thread at a seat, which then isn't blocked.
+    #[inline(always)]
     fn take_open(&mut self, seat: &Seat) -> Option<OpenCall>
         requires { IsSeatIn self.old seat.now }
         ensures had { result ≡ open_in self.old seat.now.thread }
@@ -171,6 +172,7 @@ impl Threads {
 
     /// Blocks the thread at a seat in a call. The key is that of its message in the queue of the channel, if
     /// the call waits there.
+    #[inline(always)]
     pub fn block(&mut self, seat: &Seat, call: OpenCall, key: usize)
         requires { IsSeatIn self.old seat.now }
         ensures { SetsOpen seat.now.thread (Some call) self.old self.new }

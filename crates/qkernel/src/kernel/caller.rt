@@ -71,6 +71,7 @@ impl Caller {
     }
 
     /// Blocks it in its call. The key is that of its message in the queue of the channel, if the call waits there.
+    #[inline(always)]
     pub(crate) fn block(&self, threads: &mut Threads, wait: Wait, key: usize)
         requires { IsSeatIn threads.old self.now.seat }
         ensures { SetsOpen self.now.seat.thread (Some (record { number = self.now.made + 1; wait = wait })) threads.old threads.new }
