@@ -2,8 +2,8 @@
 
 mod options;
 
-use self::options::command;
 use clap::{ArgMatches, Error};
+use options::command;
 use std::alloc::{AllocError, Global};
 
 /// A script that is to be run.
