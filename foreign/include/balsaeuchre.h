@@ -1,19 +1,19 @@
 /* The kernel of synchronous messages, for C and C++. Link libbalsaeuchre_c.a and the three functions of the heap
  * (docs/FOREIGN.md says how).
  *
- * A thread of a kernel is a number here, and nothing blocks: a call that waits has no ending until a later call brings
- * it. Each call is an event, with the endings that it brings: of the call itself, or of calls that waited.
+ * A thread of a kernel is a number here, and nothing blocks: a call that waits has no ending until a later call ends
+ * it. Each call is an event, with endings: that of the call itself, and those of calls that waited until then.
  *
- * The library's four functions are proved against their contracts (docs/FOREIGN.md says what these say) for every caller
+ * The library's four functions are proved against their contracts (described in docs/FOREIGN.md) for every caller
  * that keeps these duties, which nothing checks:
  *
  *   1. A handle begins as BALSAEUCHRE_NONE, or with all bytes zero, and only the functions below write it.
  *   2. A handle that holds a kernel isn't copied, or only one of the copies is ever used again.
- *   3. One function at a time uses a handle, and what one did happens before what the next does: one thread of the program,
- *      or several that take turns under a lock.
- *   4. Each pointer is aligned, isn't null, also where its length is 0, and may be read for its length, or written where
- *      it isn't const. What is written overlaps nothing else that is passed.
- *   5. malloc, realloc and free are of one allocator, which aligns as C says; no function is called from a signal
+ *   3. One function at a time uses a handle, and what one did happens before what the next does: one thread of the
+ *      program calls them, or several that take turns under a lock.
+ *   4. Each pointer is aligned, isn't null, even if its length is 0, and may be read for its length, and written if it
+ *      isn't const. Memory that is written overlaps nothing else that is passed.
+ *   5. malloc, realloc and free are of one allocator, which aligns as C requires; no function is called in a signal
  *      handler, or in a forked child of a process with threads.
  */
 #ifndef BALSAEUCHRE_H
@@ -26,32 +26,32 @@
 extern "C" {
 #endif
 
-/* The version of this header: a hundred times the first number and then the second, so 10 is 0.10. The library of the same
- * version answers it (balsaeuchre_version). */
+/* The version of this header: a hundred times the first number plus the second, so 10 is 0.10. balsaeuchre_version
+ * returns that of the library, which has to be the same. */
 #define BALSAEUCHRE_VERSION 10
 
-/* A kernel, or none. */
+/* A handle, which holds a kernel or none. */
 typedef struct balsaeuchre {
     void *place;
 } balsaeuchre;
 
-/* Holds no kernel. */
+/* The initial value of a handle, which holds no kernel. */
 #define BALSAEUCHRE_NONE {NULL}
 
-/* How many rows a call needs: an event has at most as many endings. */
+/* The rows that a call needs: an event has at most this many endings. */
 #define BALSAEUCHRE_ROWS 64
 
-/* A thread of a kernel: its number and its process, 0 to 255, and the priority that it begins with, 1 to 255. */
+/* A thread of a kernel: its number and its process, 0 to 255, and its initial priority, 1 to 255. */
 typedef struct balsaeuchre_thread {
     uint8_t thread;
     uint8_t process;
     uint8_t priority;
 } balsaeuchre_thread;
 
-/* What a function answers: 0, or why it did nothing. The first eleven are also a row's errno. */
+/* The results of the functions: 0, or the reason why the function did nothing. 1 to 11 are also a row's errno_. */
 enum balsaeuchre_error {
     BALSAEUCHRE_OK = 0,
-    BALSAEUCHRE_SRCH = 1,       /* no such thread, channel or held message; ended by a destroyed channel or a shutdown */
+    BALSAEUCHRE_SRCH = 1,       /* no such thread, channel or held message; the channel was destroyed, or a shutdown */
     BALSAEUCHRE_BADF = 2,       /* no such connection, or its channel is gone */
     BALSAEUCHRE_INVAL = 3,      /* an argument outside its range */
     BALSAEUCHRE_AGAIN = 4,      /* a limit is reached */
@@ -60,7 +60,7 @@ enum balsaeuchre_error {
     BALSAEUCHRE_NO_MEMORY = 7,  /* the allocator refused */
     BALSAEUCHRE_DOWN = 8,       /* the kernel is shut down */
     BALSAEUCHRE_EXHAUSTED = 9,  /* the kernel has made all the 2^40 calls that it can number */
-    BALSAEUCHRE_TRACE_FULL = 10,
+    BALSAEUCHRE_TRACE_FULL = 10, /* the kept trace is full; no function here returns it */
     BALSAEUCHRE_NO_THREAD = 11, /* the thread isn't in the roster */
     BALSAEUCHRE_CLOSED = 12,    /* the handle holds no kernel */
     BALSAEUCHRE_IS_OPEN = 13    /* the handle holds a kernel already */
@@ -90,33 +90,32 @@ enum balsaeuchre_kind {
 /* The flags of a channel. */
 enum balsaeuchre_flag {
     BALSAEUCHRE_FIXED_PRIORITY = 1, /* a receipt leaves the receiver's priority as it is */
-    BALSAEUCHRE_TELL_UNBLOCK = 2,   /* a server is told by a pulse of a client that wants to be unblocked */
-    BALSAEUCHRE_TELL_DISCONNECT = 4 /* a server is told by a pulse of a process that detached its last connection */
+    BALSAEUCHRE_TELL_UNBLOCK = 2,   /* the server gets a pulse when an Unblock names a client whose message it holds */
+    BALSAEUCHRE_TELL_DISCONNECT = 4 /* the server gets a pulse when a process has detached its last connection */
 };
 
-/* How a call ended, and in brackets the fields of the row that say more. The others are 0. */
+/* How a call ended. The brackets have the fields of the row that are used; the others are 0. */
 enum balsaeuchre_mark {
-    BALSAEUCHRE_DONE = 1,         /* it did what it says */
+    BALSAEUCHRE_DONE = 1,         /* it succeeded, and has no result */
     BALSAEUCHRE_FAILED = 2,       /* refused, or ended by force [errno_] */
     BALSAEUCHRE_CHANNEL = 3,      /* a channel was created [id] */
     BALSAEUCHRE_CONNECTION = 4,   /* a connection was attached [id] */
     BALSAEUCHRE_REPLIED = 5,      /* the message was answered [status; count bytes copied into the reply buffer] */
-    BALSAEUCHRE_MESSAGE = 6,      /* a message was received [rcvid; count bytes copied into the buffer; and as INFORMED would
-                                     tell of it at once: process, sender, priority; id: the connection; srcmsglen,
-                                     dstmsglen] */
+    BALSAEUCHRE_MESSAGE = 6,      /* a message was received [rcvid; count: the bytes copied into the buffer; process,
+                                     sender, priority; id: the connection; srcmsglen, dstmsglen] */
     BALSAEUCHRE_ERRORED = 7,      /* the message was answered with a code that isn't 0 [value] */
-    BALSAEUCHRE_COUNT = 8,        /* what a Read or a Write copied [count] */
-    BALSAEUCHRE_INFORMED = 9,     /* of a held message [process, sender, priority; id: the connection; count: the bytes copied
-                                     at its receipt; srcmsglen, dstmsglen] */
+    BALSAEUCHRE_COUNT = 8,        /* a Read or a Write copied bytes [count: how many] */
+    BALSAEUCHRE_INFORMED = 9,     /* an Info of a held message [process, sender, priority; id: the connection; count:
+                                     the bytes copied at its receipt; srcmsglen, dstmsglen] */
     BALSAEUCHRE_PULSED = 10,      /* a pulse was received [id: the call that made it; priority; what] */
-    BALSAEUCHRE_THREAD_STATE = 11 /* of a thread [state, priority; id: the channel, unless it is ready] */
+    BALSAEUCHRE_THREAD_STATE = 11 /* a State of a thread [state, priority; id: the channel, unless it is ready] */
 };
 
-/* What a pulse brings. */
+/* The content of a pulse. */
 enum balsaeuchre_what {
     BALSAEUCHRE_WHAT_MESSAGE = 1,   /* never in a pulse */
     BALSAEUCHRE_WHAT_USER = 2,      /* a thread sent it [pulse_code, value] */
-    BALSAEUCHRE_WHAT_UNBLOCK = 3,   /* the sender of a held message wants to be unblocked [rcvid] */
+    BALSAEUCHRE_WHAT_UNBLOCK = 3,   /* an Unblock named the sender of a held message [rcvid] */
     BALSAEUCHRE_WHAT_DISCONNECT = 4 /* a process detached its last connection [process] */
 };
 
@@ -143,10 +142,10 @@ typedef struct balsaeuchre_request {
     size_t offset;  /* of a Read or a Write */
 } balsaeuchre_request;
 
-/* How a call ended, with the front of its buffer as far as it may have changed: of a MESSAGE and a COUNT the first count
- * bytes, of a PULSED none, of any other all, since a Write may have written anywhere over a reply buffer. Behind that the
- * buffer is as the call brought it. The front has length bytes, of which the first written lie at bytes[start]: all, unless
- * there was less room. */
+/* The ending of a call, with the front of its buffer as far as it may have changed: for a MESSAGE and a COUNT the first
+ * count bytes, for a PULSED none, for any other mark all, since a Write may have written anywhere over a reply buffer.
+ * Behind that the buffer is as the call passed it. The front has length bytes; the first written of these are at
+ * bytes[start]. written is length, or less if bytes had no room for more. */
 typedef struct balsaeuchre_ending {
     uint64_t call; /* the number of the ended call; the first call of a kernel is 1 */
     uint8_t thread; /* who made it */
@@ -163,14 +162,15 @@ typedef struct balsaeuchre_ending {
     uint64_t rcvid;
     int64_t status;
     size_t count;
-    size_t srcmsglen; /* how many bytes the message has */
-    size_t dstmsglen; /* how many bytes the sender's reply buffer has */
+    size_t srcmsglen; /* bytes of the message */
+    size_t dstmsglen; /* bytes of the sender's reply buffer */
     size_t start;
     size_t length;
     size_t written;
 } balsaeuchre_ending;
 
-/* How many endings an event has, how many bytes of their buffers were written, and the number of its call. */
+/* The number of endings of an event, the number of bytes of their buffers that were written, and the number of its
+ * call. */
 typedef struct balsaeuchre_done {
     size_t endings;
     size_t bytes;
@@ -179,29 +179,30 @@ typedef struct balsaeuchre_done {
 
 /* ---- the library's functions */
 
-/* The version of the library, which is to be BALSAEUCHRE_VERSION. */
+/* Returns the version of the library, which has to be BALSAEUCHRE_VERSION. */
 uint32_t balsaeuchre_version(void);
 
-/* Makes a kernel of these threads, of which no call has been made, and writes where it lies. 0, or nothing is written and
- * the answer is, of the first thread that may not join, INVAL (it has the priority 0, or its number stands twice) or AGAIN
- * (it is the 65th); else NO_MEMORY. */
+/* Makes a kernel of these threads, before any call, and writes its address. Returns 0. On an error it writes nothing,
+ * and returns for the first thread that may not join INVAL (its priority is 0, or its number comes twice) or AGAIN (it
+ * is the 65th); else NO_MEMORY. */
 uint32_t balsaeuchre_new(const balsaeuchre_thread *threads, size_t thread_count, void **place);
 
-/* Frees a kernel that balsaeuchre_new made and that isn't freed. */
+/* Frees a kernel that balsaeuchre_new made and that isn't freed yet. */
 void balsaeuchre_free(balsaeuchre handle);
 
-/* Makes the call that the request means, on a kernel that balsaeuchre_new made and that isn't freed. 0, and the endings of
- * the event stand in the first rows, in rising thread number, and the bytes that they tell in bytes, one behind another.
- * Else nothing is changed or written, no call is counted, and the answer is INVAL (fewer than BALSAEUCHRE_ROWS rows, no
- * such kind, or the priority 0), else NO_MEMORY, NO_THREAD or EXHAUSTED.
- * sent is what a Send, a Reply or a Write brings, and room the reply buffer of a Send or the buffer of a Receive or a
- * Read; both are copied, and a waiting call gives its buffer back only when it ends. So bytes should have room for the
- * buffers of all calls that are open: an ending whose bytes didn't fit says so by written < length. */
+/* Makes the call of the request, on a kernel that balsaeuchre_new made and that isn't freed yet. Returns 0, and writes
+ * the endings of the event into the first rows, in rising thread number, and the bytes of their buffers into bytes, one
+ * behind another. On an error it changes and writes nothing, counts no call, and returns INVAL (fewer than
+ * BALSAEUCHRE_ROWS rows, no such kind, or the priority 0), else NO_MEMORY, NO_THREAD or EXHAUSTED. sent has the bytes
+ * of a Send, a Reply or a Write; room is the reply buffer of a Send or the buffer of a Receive or a Read. Both are
+ * copied, and a call that waits returns its buffer only when it ends. So bytes should have room for the buffers of all
+ * open calls; if the bytes of an ending didn't fit, its written is less than its length. */
 uint32_t balsaeuchre_make_call(balsaeuchre *handle, const balsaeuchre_request *request, const uint8_t *sent,
                                size_t sent_len, const uint8_t *room, size_t room_len, balsaeuchre_ending *rows,
                                size_t row_count, uint8_t *bytes, size_t bytes_len, balsaeuchre_done *done);
 
-/* What a call's event is written to: the rows, room for the buffers' bytes, which is the caller's, and the counts. */
+/* The memory that a call's event is written to: the rows, the caller's room for the bytes of buffers, and the counts.
+ */
 typedef struct balsaeuchre_event {
     balsaeuchre_ending rows[BALSAEUCHRE_ROWS];
     balsaeuchre_done done;
@@ -213,15 +214,15 @@ typedef struct balsaeuchre_event {
 }
 #endif
 
-/* ---- handles that may be empty: the tests stand here, and aren't proved */
+/* ---- handles that may be empty: these functions check it; they aren't proved */
 
-/* Puts a kernel of these threads into a handle that holds none: 0, IS_OPEN, or what balsaeuchre_new answers. */
+/* Puts a kernel of these threads into a handle that holds none. Returns 0, IS_OPEN, or an error of balsaeuchre_new. */
 static inline uint32_t balsaeuchre_open(const balsaeuchre_thread *threads, size_t thread_count, balsaeuchre *handle) {
     if (handle->place) return BALSAEUCHRE_IS_OPEN;
     return balsaeuchre_new(threads, thread_count, &handle->place);
 }
 
-/* Frees the kernel that a handle holds: 0, or CLOSED where it holds none. It holds none afterwards. */
+/* Frees the kernel of a handle, which holds none afterwards. Returns 0, or CLOSED if it held none. */
 static inline uint32_t balsaeuchre_close(balsaeuchre *handle) {
     if (!handle->place) return BALSAEUCHRE_CLOSED;
     balsaeuchre_free(*handle);
@@ -229,7 +230,7 @@ static inline uint32_t balsaeuchre_close(balsaeuchre *handle) {
     return BALSAEUCHRE_OK;
 }
 
-/* ---- each call by a function of its own; data may be null where its length is 0 */
+/* ---- each call by a function of its own; data may be null if its length is 0 */
 
 static inline balsaeuchre_request balsaeuchre_request_of(int kind, uint8_t thread, uint64_t id) {
     balsaeuchre_request request = {0, 0, 0, 0, 0, 0, 0, 0, 0, 0, 0};
@@ -276,7 +277,7 @@ static inline uint32_t balsaeuchre_send(balsaeuchre *handle, uint8_t thread, uin
                             reply_buffer, reply_len, event);
 }
 
-/* Takes a message or a pulse of a channel, or waits for one; a message is copied into the buffer. */
+/* Receives a message or a pulse of a channel, or waits for one; a message is copied into the buffer. */
 static inline uint32_t balsaeuchre_receive(balsaeuchre *handle, uint8_t thread, uint64_t chid, const void *buffer,
                                            size_t buffer_len, balsaeuchre_event *event) {
     return balsaeuchre_make(handle, balsaeuchre_request_of(BALSAEUCHRE_RECEIVE, thread, chid), NULL, 0, buffer,
@@ -315,19 +316,19 @@ static inline uint32_t balsaeuchre_write(balsaeuchre *handle, uint8_t thread, ui
     return balsaeuchre_make(handle, request, bytes, bytes_len, NULL, 0, event);
 }
 
-/* Tells of a held message. */
+/* Returns the sender, the connection and the lengths of a held message, in a row marked INFORMED. */
 static inline uint32_t balsaeuchre_info(balsaeuchre *handle, uint8_t thread, uint64_t rcvid,
                                         balsaeuchre_event *event) {
     return balsaeuchre_make_plain(handle, balsaeuchre_request_of(BALSAEUCHRE_INFO, thread, rcvid), event);
 }
 
-/* Takes a pulse of a channel, or waits for one; never takes a message. */
+/* Receives a pulse of a channel, or waits for one; never receives a message. */
 static inline uint32_t balsaeuchre_receive_pulse(balsaeuchre *handle, uint8_t thread, uint64_t chid,
                                                  balsaeuchre_event *event) {
     return balsaeuchre_make_plain(handle, balsaeuchre_request_of(BALSAEUCHRE_RECEIVE_PULSE, thread, chid), event);
 }
 
-/* Sends a pulse: a code from 0 to 127 and a value; never waits. */
+/* Sends a pulse with a code, 0 to 127, and a value; never waits. */
 static inline uint32_t balsaeuchre_pulse(balsaeuchre *handle, uint8_t thread, uint64_t coid, uint8_t priority,
                                          int8_t code, int32_t value, balsaeuchre_event *event) {
     balsaeuchre_request request = balsaeuchre_request_of(BALSAEUCHRE_PULSE, thread, coid);
@@ -346,7 +347,7 @@ static inline uint32_t balsaeuchre_priority_set(balsaeuchre *handle, uint8_t thr
     return balsaeuchre_make_plain(handle, request, event);
 }
 
-/* Tells a thread's state and priority. */
+/* Returns the state and the priority of a thread, in a row marked THREAD_STATE. */
 static inline uint32_t balsaeuchre_thread_state(balsaeuchre *handle, uint8_t thread, uint8_t target,
                                                 balsaeuchre_event *event) {
     balsaeuchre_request request = balsaeuchre_request_of(BALSAEUCHRE_STATE, thread, 0);
@@ -360,12 +361,13 @@ static inline uint32_t balsaeuchre_channel_destroy(balsaeuchre *handle, uint8_t 
     return balsaeuchre_make_plain(handle, balsaeuchre_request_of(BALSAEUCHRE_CHANNEL_DESTROY, thread, chid), event);
 }
 
-/* Ends every open call; every later call is refused. */
+/* Ends every open call; every later call is refused with DOWN. */
 static inline uint32_t balsaeuchre_shutdown(balsaeuchre *handle, uint8_t thread, balsaeuchre_event *event) {
     return balsaeuchre_make_plain(handle, balsaeuchre_request_of(BALSAEUCHRE_SHUTDOWN, thread, 0), event);
 }
 
-/* Ends what a thread of the caller's process is blocked in, or tells the server that it wants to end. */
+/* Ends the call that a thread of the caller's process is blocked in. If the message is held on a channel with the flag
+ * TELL_UNBLOCK, the call stays open, and the server gets a pulse. */
 static inline uint32_t balsaeuchre_unblock(balsaeuchre *handle, uint8_t thread, uint8_t target,
                                            balsaeuchre_event *event) {
     balsaeuchre_request request = balsaeuchre_request_of(BALSAEUCHRE_UNBLOCK, thread, 0);

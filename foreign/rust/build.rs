@@ -1,6 +1,6 @@
-//! Links the static library. `BALSAEUCHRE_LIB_DIR` names the folder that has it: `libbalsaeuchre.a`, as it is installed,
-//! or `libbalsaeuchre_c.a` with the heap's `liblibc_c.a`. Without it the library is the one that `rt lib` made in the
-//! clone that this package lies in, and the heap the toolchain's.
+//! Links the static library. `BALSAEUCHRE_LIB_DIR` names the folder that has it: `libbalsaeuchre.a`, as it is
+//! installed, or `libbalsaeuchre_c.a` with the heap's `liblibc_c.a`. Without it the library is the one that `rt lib`
+//! made in the clone that this package lies in, and the heap the toolchain's.
 
 use std::path::{Path, PathBuf, absolute};
 use std::process::Command;

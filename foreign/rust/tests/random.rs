@@ -1,5 +1,5 @@
-//! Threads that make calls at random, of every kind, until one of them shuts the kernel down. With the feature `record` all
-//! of it is made again by one thread.
+//! Threads that make calls at random, of every kind, until one of them shuts the kernel down. With the feature `record`
+//! all of it is made again by one thread.
 
 mod common;
 

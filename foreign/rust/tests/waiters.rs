@@ -255,7 +255,8 @@ fn a_port_is_passed_on_while_it_is_woken() {
         let [mut server, mut client, _] = few();
         let channel = server.channel_create(ChannelFlags::NONE).unwrap();
         let to = client.connect_attach(channel).unwrap();
-        // The two threads take turns. ThreadSanitizer sees of a lock only what is inlined here, so nobody sleeps for one.
+        // The two threads take turns. ThreadSanitizer sees of a lock only what is inlined here, so nobody sleeps for
+        // one.
         let (client, turn) = (Mutex::new(client), AtomicUsize::new(0));
         let send = |odd: usize| {
             for round in 0..150 {

@@ -124,8 +124,8 @@ fn read_on(message: &mut Got, rest: Ending<'_>, msglens: &mut [usize; 256]) {
 }
 
 impl Port {
-    /// Makes all calls so far again by one thread on a new kernel, and panics where a thread got something else. No call
-    /// may be open. Returns how many there are.
+    /// Makes all calls so far again by one thread on a new kernel, and panics where a thread got something else. No
+    /// call may be open. Returns how many there are.
     #[doc(hidden)]
     pub fn made_again(&mut self) -> usize {
         // The lock is let go before a panic, which would else abort the program.
