@@ -20,7 +20,7 @@ pub fn leaves_at(chart: &Chart, arrow: &Arrow) -> Side {
     }
 }
 
-/// Returns the side of the caller's line on which a row's words stand: beside the arrow that the call sends, and away
+/// Returns the side of the caller's line on which a row's words are: beside the arrow that the call sends, and away
 /// from the one that it receives.
 pub fn words_side(chart: &Chart, row: &Row) -> Side {
     let Some(arrow) = row.arrows.first() else {

@@ -63,7 +63,7 @@ pub fn byte_hint(line: &[u8], at: usize) -> &'static str {
     }
 }
 
-/// Returns whether a text is in UTF-16, of which no line can be read.
+/// Returns whether a text is in UTF-16, so that no line of it can be read.
 pub fn is_utf_16(text: &[u8]) -> bool {
     text.starts_with(b"\xff\xfe") || text.starts_with(b"\xfe\xff") || text.get(1) == Some(&0)
 }

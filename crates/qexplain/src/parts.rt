@@ -37,7 +37,7 @@ pub struct Place {
 pub struct Word<'a> {
     /// Its bytes.
     pub bytes: &'a [u8],
-    /// Where it stands.
+    /// Its place in the line.
     pub place: Place,
 }
 

@@ -26,7 +26,7 @@ pub fn word_of(alloc: Global, bytes: &[u8]) -> Result<Word, AllocError> {
     Word::of(alloc, std::str::from_utf8(bytes).unwrap_or("?"))
 }
 
-/// Returns the fault of a part of another sort where a word has to stand.
+/// Returns the fault of a part of another sort in place of a word.
 pub fn wanted(alloc: Global, token: &Token<'_>, what: &str) -> ReadError {
     let text = match token.sort {
         Sort::Word => {
@@ -130,7 +130,7 @@ fn flags(alloc: Global, token: &Token<'_>) -> Result<Operand, ReadError> {
     Ok(Operand::Number(u64::from(bits)))
 }
 
-/// Returns the words for a name of this kind, for a fault where something else stands.
+/// Returns the words for a name of this kind, for the fault of something else in its place.
 fn wanted_name(kind: Kind) -> &'static str {
     match kind {
         Kind::Thread => "a thread's name or number is wanted",

@@ -43,7 +43,7 @@ said_of is_late line (first ∷ rest) =
     else if bytes_eq first (codes "thread") then roster_line_of is_late rest
     else call_line_of first rest
 
--- what a line says; `is_late` says whether call lines stand above it
+-- what a line says; `is_late` says whether call lines are above it
 unfoldable pub line_of : Bool → List ℕ → Result Line LineFault
 line_of is_late line = if nat_lt 4096 (length line) then Err LongLine
     else said_of is_late line (words_of line)

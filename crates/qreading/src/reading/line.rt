@@ -60,7 +60,7 @@ fn is_plain_text(line: &[u8]) -> bool
         .all(|b| *b == b'\t' || (*b >= 0x20 && *b <= 0x7e))
 }
 
-/// Reads a line of any length; `is_late` says whether call lines stand above it.
+/// Reads a line of any length; `is_late` says whether call lines are above it.
 #[tactic(auto, unfolding(crate::specs::Reading::Line::said_of))]
 fn said(alloc: Global, is_late: bool, line: &[u8]) -> Result<Line, ParseError>
     ensures { Gives result (said_of is_late line.now (words_of line.now)) }
@@ -80,7 +80,7 @@ fn said(alloc: Global, is_late: bool, line: &[u8]) -> Result<Line, ParseError>
     call_line(alloc, first, rest)
 }
 
-/// Reads a line of at most 4,096 bytes; `is_late` says whether call lines stand above it.
+/// Reads a line, which may have at most 4,096 bytes; `is_late` says whether call lines are above it.
 #[tactic(auto, unfolding(crate::specs::Reading::Line::line_of))]
 pub fn line_said(alloc: Global, is_late: bool, line: &[u8]) -> Result<Line, ParseError>
     ensures { Gives result (line_of is_late line.now) }

@@ -81,7 +81,7 @@ fn place(roster: &[Member], said: Line) -> Result<Line, LineFault>
     }
 }
 
-/// Reads a line that stands behind those of the script.
+/// Reads a line that follows those of the script.
 #[tactic(auto, unfolding(crate::specs::Reading::Meaning::line_with))]
 fn line_after(alloc: Global, script: &Script, line: &[u8]) -> Result<Line, ParseError>
     ensures { Gives result (line_with script.now.roster.items script.now.calls.items line.now) }

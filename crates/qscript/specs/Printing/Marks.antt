@@ -16,7 +16,7 @@ abbrev pub info_words : Info → List (List ℕ)
 info_words i = codes "info" ∷ decimal i.process ∷ decimal i.thread ∷ decimal i.connection ∷ decimal i.msglen
     ∷ decimal i.srcmsglen ∷ decimal i.dstmsglen ∷ decimal i.priority ∷ []
 
--- the content of a pulse: a code and a value, the message whose sender wants to be unblocked, or the process
+-- the content of a pulse: a code and a value, the message whose sender is to be unblocked, or the process
 -- that detached
 abbrev pub brought_words : What → List (List ℕ)
 brought_words Message = []
