@@ -21,8 +21,8 @@ static size_t visible_length(const struct call *c) {
     return c->request.kind == BALSAEUCHRE_RECEIVE && c->room_len > FRONT ? FRONT : c->room_len;
 }
 
-/* Makes the call under the lock, and delivers the endings. Returns 0 and the threads whose calls have ended, or an
- * errno if none has. */
+/* Makes the call under the lock, and delivers the endings. Returns 0, and sets *ended to the threads whose calls
+ * have ended; or returns an errno, and no call has. */
 static int make_under_lock(neutrino *k, struct place *p, struct call *c, uint64_t *ended) {
     size_t room_len = visible_length(c);
     bool receives = c->request.kind == BALSAEUCHRE_RECEIVE;

@@ -43,7 +43,7 @@ borrows Reply = true
 borrows Write = true
 borrows other = false
 
--- the call of a request; none also if no kind has its number
+-- the call of a request; none if no kind has its number, or if it needs a priority and has 0
 abbrev pub call_of : Request → List ℕ → List ℕ → Option Call
 call_of r sent room = option_and_then (λ kind. call_as kind r sent room) (numbered KINDS r.kind)
 

@@ -16,7 +16,7 @@ use Rattle.qchart.specs.Rows.{IsDrawn}
 use Rattle.qchart.specs.View.{drawn_count}
 
 -- the chart of a run of these calls, which is lawful from the first call on: a line for each thread, and a
--- row for each drawn event
+-- row for each event, with what happened in it
 pub record IsChartOf (roster : List Member) (calls : List (ℕ × Call)) (chart : Chart) : Type 0 where
   pub run : Run
   pub left : List Blocked

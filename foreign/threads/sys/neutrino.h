@@ -48,16 +48,17 @@ struct neutrino_thread {
     uint8_t priority; /* 1 to 255: the initial one */
 };
 
-/* Makes a kernel of these threads. Returns null on an error: EINVAL (a number or priority is 0, or a tid comes
- * twice), EAGAIN (the threads and the processes are more than 64 together, or the host has no key for threads left),
- * ENOMEM, ENOEXEC (this header, the layer and the library are not of one version). */
+/* Makes a kernel of these threads. Returns null and sets errno on an error: EINVAL (a number or priority is 0, or a
+ * tid comes twice), EAGAIN (the threads and the processes are more than 64 together, or the host has no key for
+ * threads left), ENOMEM, ENOEXEC (this header, the layer and the library are not of one version). */
 static inline neutrino *neutrino_open(const struct neutrino_thread *threads, size_t count);
 
 /* neutrino_open for a caller that was built with this version of the header. */
 neutrino *neutrino_open_version(uint32_t version, const struct neutrino_thread *threads, size_t count);
 
-/* Makes the calling thread the one with this number. Returns -1 on an error: ESRCH (there is no such number), EBUSY
- * (another thread has joined as it, or this thread has joined a kernel already), EPERM (in a forked child), ENOMEM. */
+/* Makes the calling thread the one with this number. Returns -1 and sets errno on an error, as all functions below:
+ * ESRCH (there is no such number), EBUSY (another thread has joined as it, or this thread has joined a kernel
+ * already), EPERM (in a forked child), ENOMEM. */
 int neutrino_join(neutrino *kernel, int tid);
 
 /* Removes the calling thread from the kernel. A thread that ends, or is cancelled, leaves by itself; the messages
@@ -68,7 +69,7 @@ int neutrino_leave(void);
  * caller need not have joined. */
 int neutrino_shutdown(neutrino *kernel);
 
-/* Frees the kernel. Returns -1 on an error: EBUSY (a thread is joined), EPERM (in a forked child). */
+/* Frees the kernel. EBUSY: a thread is joined. EPERM: in a forked child. */
 int neutrino_close(neutrino *kernel);
 
 /* Ends the call that a thread of the caller's process waits in, with EINTR. If the thread is REPLY-blocked on a
