@@ -1,6 +1,6 @@
-//! Links the static library. `BALSAEUCHRE_LIB_DIR` names the folder that has it: `libbalsaeuchre.a`, as it is installed,
-//! or `libbalsaeuchre_c.a` with the heap's `liblibc_c.a`. Without it the library is the one that `rt lib` made in the
-//! clone that this package lies in, and the heap the toolchain's.
+//! Links the static library. `BALSAEUCHRE_LIB_DIR` names the folder that has it: `libbalsaeuchre.a`, as it is
+//! installed, or `libbalsaeuchre_c.a` with the heap's `liblibc_c.a`. Without it the library is the one that `rt lib`
+//! made in the clone that this package lies in, and the heap the toolchain's.
 
 use std::path::{Path, PathBuf, absolute};
 use std::process::Command;
@@ -8,7 +8,7 @@ use std::{env, fs};
 
 const VARIABLE: &str = "BALSAEUCHRE_LIB_DIR";
 
-/// Where the library is in a clone, and where the toolchain keeps the heap, by its own word.
+/// Returns the folder of the library in a clone, and the toolchain's folder of the heap, which `rt doc` tells.
 fn built() -> Vec<PathBuf> {
     let here = env::var_os("CARGO_MANIFEST_DIR").expect("cargo sets it");
     let mut folders = vec![Path::new(&here).join("../../crates/balsaeuchre_c/out")];
@@ -32,7 +32,7 @@ fn main() {
     println!("cargo::rerun-if-env-changed={VARIABLE}");
     println!("cargo::rerun-if-env-changed=DOCS_RS");
     if env::var_os("DOCS_RS").is_some() {
-        return; // documents are made without the library
+        return; // the documentation needs no library
     }
     let named = env::var_os(VARIABLE).map(|folder| vec![absolute(folder).unwrap_or_default()]);
     let folders = named.unwrap_or_else(built);

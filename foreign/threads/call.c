@@ -1,4 +1,4 @@
-/* A call: made under the lock, and waited for. Tested, not proved. */
+/* Makes a call under the lock, and waits for its end. Tested, not proved. */
 
 /* Starts the timeout that the thread set for this call, if any. */
 static void start_timeout(struct place *p, struct call *c) {
@@ -9,19 +9,20 @@ static void start_timeout(struct place *p, struct call *c) {
     c->until = start + p->time < start ? UINT64_MAX : start + p->time;
 }
 
-/* The priority of a pulse that has its sender's. If the kernel does not tell it, then it refuses the pulse too. */
+/* Returns the sender's priority, for a pulse. If the kernel refuses to tell it, it refuses the pulse too. */
 static uint8_t priority_of(neutrino *k, const struct place *p) {
     uint32_t error = balsaeuchre_thread_state(&k->library, p->tid, p->tid, &k->event);
     return error || k->event.rows[0].mark != BALSAEUCHRE_THREAD_STATE ? 1 : k->event.rows[0].priority;
 }
 
-/* How much of its buffer a call shows the kernel. */
+/* Returns the number of bytes of a call's buffer that the kernel gets. */
 static size_t visible_length(const struct call *c) {
     if (c->request.kind == BALSAEUCHRE_RECEIVE_PULSE) return 0;
     return c->request.kind == BALSAEUCHRE_RECEIVE && c->room_len > FRONT ? FRONT : c->room_len;
 }
 
-/* Makes the call under the lock, and brings the endings: 0, and whose calls are ended; or an errno, and none is. */
+/* Makes the call under the lock, and delivers the endings. Returns 0, and sets *ended to the threads whose calls
+ * have ended; or returns an errno, and no call has. */
 static int make_under_lock(neutrino *k, struct place *p, struct call *c, uint64_t *ended) {
     size_t room_len = visible_length(c);
     bool receives = c->request.kind == BALSAEUCHRE_RECEIVE;
@@ -39,7 +40,7 @@ static int make_under_lock(neutrino *k, struct place *p, struct call *c, uint64_
     return 0;
 }
 
-/* Makes the call and waits for its ending, which p->error and p->result tell. */
+/* Makes the call, and waits for its end. p->error and p->result have the result. */
 static void make(neutrino *k, struct place *p, struct call *c) {
     uint64_t ended = 0, own = bit_of(k, p);
     start_timeout(p, c);

@@ -1,7 +1,7 @@
-/* Endings, brought from the kernel's rows to the threads that wait for them. Tested, not proved.
- * All of this is under the lock. A thread whose call is open sits in it, so its struct call and its buffers live.
+/* Delivers endings from the kernel's rows to the threads that wait for them. Tested, not proved.
+ * All of this is under the lock. A thread with an open call is in that call, so its struct call and its buffers live.
  */
-/* Makes an event's room for bytes at least this long: whether the allocator gave it. */
+/* Makes an event's room for bytes at least this long. Returns false if there is no memory. */
 static bool grow(balsaeuchre_event *event, size_t length) {
     if (length <= event->bytes_len) return true;
     void *grown = realloc(event->bytes, length);
@@ -11,7 +11,7 @@ static bool grow(balsaeuchre_event *event, size_t length) {
     return true;
 }
 
-/* Makes room for the buffers of all calls that can be open, of which each thread has one. */
+/* Makes room for the buffers of all open calls, one of each thread. Returns false if there is no memory. */
 static bool make_room(neutrino *k, struct place *p, size_t length) {
     if (length <= p->longest) return true;
     size_t whole = k->event.bytes_len + (length - p->longest);
@@ -22,7 +22,7 @@ static bool make_room(neutrino *k, struct place *p, size_t length) {
 
 static int32_t length_of_info(size_t length) { return length < INT32_MAX ? (int32_t)length : INT32_MAX; }
 
-/* What is known of a held message, which stands in an Info's row and in a message's. */
+/* Copies the facts of a held message from the row of an Info or a message. */
 static void fill_info(const struct place *sender, const balsaeuchre_ending *row, struct _msg_info *info) {
     memset(info, 0, sizeof *info);
     info->nd = info->srcnd = ND_LOCAL_NODE;
@@ -37,8 +37,8 @@ static void fill_info(const struct place *sender, const balsaeuchre_ending *row,
     info->priority = row->priority;
 }
 
-/* Reads in the receiver's name what a message has behind the front of its buffer. If the allocator refuses, then
- * msglen says that only the front was copied. */
+/* Reads the rest of a message, behind the front of the buffer, by a call of the receiver. If there is no memory, msglen
+ * has only the length of the front. */
 static void read_on(neutrino *k, struct place *p, struct place *sender, const balsaeuchre_ending *row) {
     size_t length = (row->srcmsglen < p->call->room_len ? row->srcmsglen : p->call->room_len) - FRONT;
     uint8_t *behind = (uint8_t *)p->call->room + FRONT;
@@ -77,7 +77,7 @@ static void receive_pulse(neutrino *k, struct place *p, const balsaeuchre_ending
     if (length) memcpy(p->call->room, &pulse, length);
 }
 
-/* What an ending answers its thread. */
+/* Writes the result of an ending for its thread. */
 static void answer(neutrino *k, struct place *p, const balsaeuchre_ending *row) {
     switch (row->mark) {
     case BALSAEUCHRE_MESSAGE: receive_message(k, p, row); break;
@@ -111,7 +111,7 @@ static void deliver(neutrino *k, struct place *p, const balsaeuchre_ending *row)
     p->call = NULL;
 }
 
-/* Brings each thread its ending of the last event, but not the clocks: whose calls are ended. */
+/* Delivers the endings of the last event, except those of clocks. Returns the threads whose calls have ended. */
 static uint64_t deliver_all(neutrino *k) {
     uint64_t ended = 0;
     for (size_t at = 0; at < k->event.done.endings; at++) {

@@ -1,4 +1,4 @@
-/* A kernel: opened, joined, left, shut down and closed. Tested, not proved. */
+/* Opens, joins, leaves, shuts down and closes kernels. Tested, not proved. */
 _Static_assert(NEUTRINO_VERSION == BALSAEUCHRE_VERSION, "both headers are of one version");
 
 static pthread_once_t once = PTHREAD_ONCE_INIT;
@@ -10,7 +10,7 @@ static void leave_at_end(void *place) {
     if (self) neutrino_leave();
 }
 
-/* In a forked child, whose one thread may have inherited the lock as another thread held it. */
+/* Runs in a forked child, whose one thread may have inherited the lock while another thread held it. */
 static void forget(void) { self = NULL; }
 
 static void prepare(void) {
@@ -18,10 +18,10 @@ static void prepare(void) {
     if (!refused) refused = pthread_atfork(NULL, NULL, forget);
 }
 
-/* Where the lock may not be taken. */
+/* Fails if the lock may not be taken. */
 static int refuse(const neutrino *k) { return k->process != getpid() ? fail(EPERM) : inside ? fail(EDEADLK) : 0; }
 
-/* The roster: the threads, and a clock for each process, whose number is one that no thread has. */
+/* Fills the roster: the threads, and a clock for each process, with a number that no thread has. */
 static size_t roster_of(neutrino *k, const struct neutrino_thread *threads, size_t count, balsaeuchre_thread *roster) {
     bool is_taken[256] = {true}, has_clock[256] = {false};
     size_t length = count;
@@ -41,7 +41,7 @@ static size_t roster_of(neutrino *k, const struct neutrino_thread *threads, size
     return length;
 }
 
-/* Fills a kernel: 0 or an errno. */
+/* Fills a kernel. Returns 0 or an errno. */
 static int open_kernel(neutrino *k, const struct neutrino_thread *threads, size_t count) {
     balsaeuchre_thread roster[2 * PLACES] = {{0, 0, 0}};
     memset(k, 0, sizeof *k);

@@ -1,10 +1,10 @@
-/* What the parts of the layer share. Tested, not proved. sys/neutrino.h has what callers see.
+/* The parts of the layer share these. Tested, not proved. sys/neutrino.h is for callers.
  *
- * A kernel lies under one lock. Each of its threads has a place, with a word at which it sleeps while its call is
- * open. A call takes the lock, opens the word, and makes the call in the library, which brings endings: of this call,
- * and of calls that other threads wait in. Each ending is copied to where its own thread wants it (that thread sits
- * in its call, so its buffers live), and then the word is set to ENDED. When the lock is free again, those that sleep
- * are woken.
+ * A kernel is under one lock. Each of its threads has a place, with a word at which it sleeps while its call is
+ * open. A call takes the lock, opens the word, and makes the call in the library, which returns endings: of this call,
+ * and of calls that other threads wait in. Each ending is copied to the buffers of its own thread (that thread is
+ * in its call, so its buffers live), and then the word is set to ENDED. After the lock is released, the threads that
+ * sleep are woken.
  */
 #ifndef LAYER_H
 #define LAYER_H
@@ -23,10 +23,10 @@
 
 enum { PLACES = BALSAEUCHRE_ROWS, CHANNEL_BITS = 6, CONNECTION_BITS = 10, MESSAGE_BITS = 6 };
 enum { SCOID = 0x40000000 };  /* a server connection id is this and the client's process */
-enum { FRONT = 1024 };        /* how much of a receive buffer the kernel sees; a Read brings what is behind */
-enum { OPEN, ASLEEP, ENDED }; /* a word: the call is open; and its thread sleeps; the ending is there */
+enum { FRONT = 1024 };        /* bytes of a receive buffer that the kernel gets; a Read brings the rest */
+enum { OPEN, ASLEEP, ENDED }; /* a word: the call is open; its thread also sleeps; the call has ended */
 
-/* An id of the kernel's, which has 40 bits, and the int that stands for it: a place, and how often that was taken. */
+/* An id of the kernel, which has 40 bits, and its int: a place, and how often that was taken. */
 struct name {
     uint64_t id; /* 0: the place is free */
     uint32_t turn;
@@ -43,16 +43,16 @@ struct names {
 /* The table in which the id of a call's request has its name. */
 enum table { NO_TABLE, CHANNELS, CONNECTIONS, MESSAGES, TABLES };
 
-/* A call as its thread makes it. It lies on that thread's stack; while the call is open, who has the lock may read
- * it. */
+/* A call as its thread makes it. It is on that thread's stack; while the call is open, the thread with the lock may
+ * read it. */
 struct call {
     balsaeuchre_request request;
     enum table table;
     int number;        /* the name of the request's id */
-    uint8_t owner;     /* whose name it must be, or 0 */
-    bool own_priority; /* a pulse has its sender's; a State is asked for it */
+    uint8_t owner;     /* the owner that the name must have, or 0 */
+    bool own_priority; /* a pulse has its sender's, which a State returns */
     int states;        /* those that may be timed out, as _NTO_TIMEOUT_* */
-    uint64_t until;    /* when its time is over */
+    uint64_t until;    /* the time at which it times out */
     const void *sent;
     size_t sent_len;
     void *room;
@@ -60,17 +60,17 @@ struct call {
     struct _msg_info *info;
 };
 
-/* A thread. All but the word is read and written under the lock, or by the thread itself while no call of it is
- * open. */
+/* A thread. Everything except the word is read and written under the lock, or by the thread itself while it has no
+ * open call. */
 struct place {
     _Alignas(64) _Atomic uint32_t word;
-    int error; /* how its call ended: an errno; or 0, and the result */
+    int error; /* of its call: an errno, or 0 if there is a result */
     long result;
     struct call *call; /* while that is open */
     uint8_t tid, pid;
     bool joined;
     int state;
-    int looks;             /* how often it looks at its word before it sleeps */
+    int looks;             /* looks at its word before it sleeps */
     int coid, chid, rcvid; /* of the message that it sent; rcvid is 0 until that is received */
     size_t msglen;         /* of that message, as it was received */
     size_t longest;        /* of its buffers */
@@ -81,18 +81,18 @@ struct place {
 struct neutrino {
     pthread_mutex_t lock;
     balsaeuchre library;
-    pid_t process; /* the host's, which opened it */
+    pid_t process; /* the host's process that opened it */
     size_t joined;
-    uint8_t place_of[256]; /* PLACES: it is no thread's number */
-    uint8_t clock_of[256]; /* by process: the thread in whose name its calls are timed out */
+    uint8_t place_of[256]; /* PLACES: no thread has this number */
+    uint8_t clock_of[256]; /* by process: the thread that unblocks calls that time out */
     struct names tables[TABLES];
     struct name channels[1 << CHANNEL_BITS], connections[1 << CONNECTION_BITS], messages[1 << MESSAGE_BITS];
     balsaeuchre_event event, side;
     struct place places[PLACES];
 };
 
-/* The kernel and the place of the calling thread. self is null where it has not joined. inside counts the calls and
- * locks that it is within, for its own signal handlers. */
+/* The kernel and the place of the calling thread. self is null if it has not joined. inside counts the calls and
+ * locks that it is in, for its own signal handlers. */
 static _Thread_local neutrino *kernel;
 static _Thread_local struct place *self;
 static _Thread_local volatile sig_atomic_t inside;
@@ -110,7 +110,7 @@ static int fail(int error) {
     return -1;
 }
 
-/* Where the calling thread may make no call. */
+/* Fails if the calling thread may not make a call. */
 static int refuse_call(void) { return !self ? fail(EPERM) : inside ? fail(EDEADLK) : 0; }
 
 #endif

@@ -1,4 +1,4 @@
-/* Ints that stand for the kernel's ids of 40 bits. Tested, not proved.
+/* Names: ints for the kernel's ids, which have 40 bits. Tested, not proved.
  *
  * A name is a place in a table and how often that place was taken, so it leads to the id that it was made for and,
  * once that is gone, to none. Places are taken in turn. A name comes again only when its place has been taken 2^25
@@ -13,7 +13,7 @@ static void open_names(neutrino *k) {
 
 static int place_in(const struct names *names, int number) { return number & ((1 << names->bits) - 1); }
 
-/* A free place of which the kernel has one too: it allows as many ids at a time as there are places. */
+/* Returns a free place. There is one if the kernel made an id, as it allows no more ids at a time than places. */
 static int free_place(const struct names *names) {
     int count = 1 << names->bits;
     for (int looked = 0; looked < count; looked++) {
@@ -34,7 +34,7 @@ static int new_name(neutrino *k, enum table table, uint64_t id, uint8_t owner) {
     return (int)(name->turn << names->bits) | place;
 }
 
-/* The id that a number stands for, if the owner is 0 or the name's; or 0, which the kernel refuses. */
+/* Returns the id of a number, if the owner is 0 or the name's; or 0, which the kernel refuses. */
 static uint64_t id_of(const neutrino *k, enum table table, int number, uint8_t owner) {
     const struct names *names = &k->tables[table];
     if (number <= 0) return 0;
@@ -43,7 +43,7 @@ static uint64_t id_of(const neutrino *k, enum table table, int number, uint8_t o
     return name->id;
 }
 
-/* The number that stands for an id, or 0. */
+/* Returns the number of an id, or 0. */
 static int number_of(const neutrino *k, enum table table, uint64_t id) {
     const struct names *names = &k->tables[table];
     for (int place = 0; place < 1 << names->bits; place++) {

@@ -2,9 +2,9 @@
 #include <linux/futex.h>
 #include <sys/syscall.h>
 
-/* How often a thread looks for the lock before it sleeps at it, and at its word; half as often where that was in vain,
- * down to a fifth, which is some microseconds: with fewer looks two threads that slept once would never see an answer
- * come again. It never yields its core: on a busy machine that takes milliseconds, and a sleep ends at once. */
+/* The number of tries for the lock, and of looks at its word, before a thread sleeps. Looks in vain halve the number
+ * for the next call, down to a fifth, which takes some microseconds: with fewer, two threads that slept once would
+ * always sleep. It never yields its core: on a busy machine that takes milliseconds, and a sleep ends at once. */
 #ifndef LOCK_LOOKS
 #define LOCK_LOOKS 100
 #endif
@@ -32,7 +32,7 @@ static void unlock(neutrino *k) {
     inside--;
 }
 
-/* Nanoseconds of CLOCK_MONOTONIC. */
+/* Returns the nanoseconds of CLOCK_MONOTONIC. */
 static uint64_t now(void) {
     struct timespec t;
     clock_gettime(CLOCK_MONOTONIC, &t);
@@ -43,7 +43,7 @@ static void open_word(struct place *p) { atomic_store_explicit(&p->word, OPEN, m
 
 static bool is_ended(struct place *p) { return atomic_load_explicit(&p->word, memory_order_acquire) == ENDED; }
 
-/* Looks at the word for a while: whether the ending came. */
+/* Looks at the word for a while. Returns whether the call has ended. */
 static bool look(struct place *p) {
     for (int looks = -1; looks < p->looks; looks++) {
         if (is_ended(p)) {
@@ -56,7 +56,7 @@ static bool look(struct place *p) {
     return false;
 }
 
-/* Waits until the call is ended, or until a time that is not 0: whether it is ended. */
+/* Waits until the call has ended, or until a time that is not 0. Returns whether the call has ended. */
 static bool sleep_until(struct place *p, uint64_t until) {
     struct timespec end = {(time_t)(until / 1000000000u), (long)(until % 1000000000u)};
     uint32_t open = OPEN;
@@ -70,7 +70,7 @@ static bool sleep_until(struct place *p, uint64_t until) {
     return true;
 }
 
-/* Tells these threads that their calls are ended: which of them sleep. */
+/* Sets the words of these threads to ENDED. Returns those that sleep. */
 static uint64_t tell(neutrino *k, uint64_t ended) {
     uint64_t asleep = 0;
     for (; ended; ended &= ended - 1) {
@@ -80,8 +80,7 @@ static uint64_t tell(neutrino *k, uint64_t ended) {
     return asleep;
 }
 
-/* Wakes these threads, with the lock free. They are joined until this thread leaves: the kernel is not closed
- * before. */
+/* Wakes these threads, without the lock. A kernel is not closed while this thread is joined. */
 static void wake(neutrino *k, uint64_t asleep) {
     for (; asleep; asleep &= asleep - 1) {
         syscall(SYS_futex, &k->places[__builtin_ctzll(asleep)].word, FUTEX_WAKE_PRIVATE, 1, NULL, NULL, 0);

@@ -1,9 +1,9 @@
-/* Timeouts: a thread that waits too long is unblocked in the name of its process's clock, a hidden thread of the
- * kernel's that does nothing else. Tested, not proved.
+/* Timeouts: a thread that waits too long is unblocked by its process's clock, a hidden thread of the kernel that does
+ * nothing else. Tested, not proved.
  */
 
-/* Unblocks a thread whose call is open, under the lock: whether the kernel did so. Adds those whose calls are
- * ended by that; a call of which its server is only told stays open. */
+/* Unblocks a thread whose call is open, under the lock. Returns whether the kernel did so. Adds the threads whose calls
+ * ended by that; a call whose server got a pulse stays open. */
 static bool unblock(neutrino *k, struct place *p, uint64_t *ended) {
     uint8_t clock = k->clock_of[p->pid];
     if (balsaeuchre_unblock(&k->library, clock, p->tid, &k->event)) return false;
@@ -16,8 +16,8 @@ static bool unblock(neutrino *k, struct place *p, uint64_t *ended) {
     return true;
 }
 
-/* By a thread whose time is over: when it has to look again, or 0. It does where it may be timed out in the state that
- * follows, and where the kernel refused the Unblock. */
+/* Unblocks the calling thread after its timeout. Returns the time at which it has to try again, or 0: it has to if it
+ * may time out in a later state, or if the kernel refused the Unblock. */
 static uint64_t time_out(neutrino *k, struct place *p) {
     enum { LATER = 1000000 }; /* nanoseconds */
     uint64_t ended = 0, asleep = 0, again = 0;

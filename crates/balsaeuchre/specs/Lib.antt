@@ -1,5 +1,5 @@
 -- The words of the contracts that a caller sees.
--- where the bytes of a message, a reply or a read are laid, and what is counted
+-- how the bytes of a message, a reply or a read are copied, and what is counted
 pub use Rattle.qbase.specs.Laying
 -- rosters
 pub use Rattle.qtables.specs.Members
@@ -30,7 +30,7 @@ pub use Rattle.qshared.specs.Names
 pub use Rattle.qshared.specs.Naming
 pub use Rattle.qshared.specs.TwoCalls
 pub use Rattle.qshared.specs.Unkept
--- the calls under QNX's names: what an endpoint did, what a call comes to, and what its result is read off
+-- the calls under QNX's names: what an endpoint did, how a call ends, and from what its result is read
 pub use Rattle.qcalls.specs.History
 pub use Rattle.qcalls.specs.Errors
 pub use Rattle.qcalls.specs.Results

@@ -1,7 +1,7 @@
 //! The calls of a thread over the shared kernel, under QNX Neutrino's names.
 //!
-//! A thread makes a `Caller` of its `Port` and the shared kernel. Each method of the caller waits for its call's ending,
-//! and returns what the call is for or a `CallError`.
+//! A thread makes a `Caller` of its `Port` and the shared kernel. Each method of the caller waits until its call ends,
+//! and returns the result or a `CallError`.
 
 pub use qcalls::Result;
 pub use qcalls::alarms::Alarms;

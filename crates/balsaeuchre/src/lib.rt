@@ -1,7 +1,7 @@
-//! All that a caller of the kernel needs, under one name: in `calls` what a thread of its own calls, in `simulator` the
-//! calls of many threads in one, in `shared` the kernel under its lock, and here the kernel itself.
+//! All that a caller of the kernel needs, under one name: in `calls` the calls of a thread of its own, in `simulator`
+//! the calls of many threads in one, in `shared` the kernel under its lock, and here the kernel itself.
 //!
-//! `docs/LIBRARY.md` begins with a server and its client, and lists what is here.
+//! `docs/LIBRARY.md` begins with a server and its client, and lists the items.
 #![tactic(auto)]
 
 pub mod calls;

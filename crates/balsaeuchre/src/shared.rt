@@ -1,7 +1,8 @@
 //! The kernel for threads of its own: one lock round a kernel, and a port for each thread.
 //!
-//! `Parts` are made of a roster. A function over `K: Tie` opens a `Shared` kernel of them and has a `Port` for each
-//! thread; it is called with `std::marker::Brand`. Once all ports are handed in, `finish` tells what the kernel did.
+//! `Parts` are made of a roster. A function over `K: Tie` opens a `Shared` kernel of them and gets a `Port` for each
+//! thread; it is called with `std::marker::Brand`. Once all ports are returned, `finish` returns a report of what the
+//! kernel did.
 
 pub use qshared::kept::Kept;
 pub use qshared::log::Log;

@@ -1,4 +1,4 @@
--- What a `&mut` to the session behind a `Handle` writes back.
+-- The value that a `&mut` to the session behind a `Handle` writes back.
 use Rattle.std.specs.Borrow.{Lends, MutBor, Fml}
 use Rattle.balsaeuchre_c.specs.declared.session.Session.{Session}
 use Rattle.balsaeuchre_c.specs.contracts.session.Session as session

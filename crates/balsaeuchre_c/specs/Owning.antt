@@ -1,4 +1,4 @@
--- What a `Handle` owns: the same as a `Box<Session>`.
+-- The memory that a `Handle` owns: that of a `Box<Session>`.
 use base.Fml.{Fml}
 use base.Stored.{Coded}
 use denote.RawPtr.{Ptr}
@@ -8,10 +8,10 @@ use Rattle.std.specs.contracts.impls.GlobalAllocator.TheImpl.{ghosts}
 use Rattle.balsaeuchre_c.specs.declared.session.Session.{Session}
 use Rattle.balsaeuchre_c.specs.contracts.session.Session.{the_row}
 
--- what a handle owns that leads to this session
+-- the memory of a handle whose pointer leads to this session
 abbrev pub handle_owns : Global → Ptr → Session → Fml
 handle_owns alloc = box_owns (ghosts.dealloc_token alloc) the_row
 
--- how a session lies in memory
+-- the representation of a session in memory
 abbrev pub session_coded : Coded Session
 session_coded = the_row.coded

@@ -15,8 +15,7 @@ use Rattle.qmodel.specs.declared.kind.TheConstants.{KINDS}
 use Rattle.balsaeuchre_c.specs.declared.request.Request.{Request}
 use Rattle.balsaeuchre_c.specs.Numbers.{numbered}
 
--- what a request of this kind means, with the bytes that it brings and its buffer; none where it names the
--- priority 0
+-- the call of a request of this kind, with these bytes and this buffer; none if it needs a priority and has 0
 abbrev pub call_as : CallKind → Request → List ℕ → List ℕ → Option Call
 call_as ChannelCreate r sent room = Some (call.ChannelCreate (record { 0 = r.flags }))
 call_as ConnectAttach r sent room = Some (call.ConnectAttach r.id)
@@ -38,16 +37,16 @@ call_as Shutdown r sent room = Some call.Shutdown
 call_as Unblock r sent room = Some (call.Unblock r.target)
 call_as ConnectDetach r sent room = Some (call.ConnectDetach r.id)
 
--- whether a call of this kind borrows its bytes, since it never blocks
+-- whether a call of this kind borrows its bytes, as it never blocks
 abbrev pub borrows : CallKind → Bool
 borrows Reply = true
 borrows Write = true
 borrows other = false
 
--- what a request means; none where no kind has its number either
+-- the call of a request; none if no kind has its number, or if it needs a priority and has 0
 abbrev pub call_of : Request → List ℕ → List ℕ → Option Call
 call_of r sent room = option_and_then (λ kind. call_as kind r sent room) (numbered KINDS r.kind)
 
--- why there is no call where this is meant: nothing is, or else there is no memory
+-- the reason why there is no call: the request means none, or else there is no memory
 abbrev pub IsRefusedAs : Option Call → Errno → Type 0
 IsRefusedAs meant errno = ((meant ≡ None) × (errno ≡ Inval)) ⊎ ((is_some meant ≡ true) × (errno ≡ NoMemory))

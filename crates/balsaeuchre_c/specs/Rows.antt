@@ -1,4 +1,4 @@
--- The ending that a row tells.
+-- The ending in a row.
 use Rattle.std.specs.Prelude.{◌≡◌, ℕ, ◌==◌, length, List, [], take, Option, None, Some, option_map}
 use Rattle.std.specs.Prelude.{if◌then◌else◌}
 use Rattle.qbase.specs.declared.state.ThreadState.{ThreadState}
@@ -15,7 +15,7 @@ use Rattle.balsaeuchre_c.specs.declared.error.TheConstants.{ERRNOS}
 use Rattle.balsaeuchre_c.specs.declared.row.Row.{Row}
 use Rattle.balsaeuchre_c.specs.Numbers.{numbered}
 
--- what the pulse of a row brings
+-- the content of the pulse in a row
 abbrev pub what_of : Row → Option What
 what_of r =
     if r.what == 1 then Some what.Message
@@ -33,7 +33,7 @@ state_of r =
     else if r.state == 4 then Some (state.ReplyBlocked r.id)
     else None
 
--- what a row tells of a held message
+-- the facts of a held message in a row
 abbrev pub info_in : Row → Info
 info_in r = record {
   process = r.process;
@@ -45,7 +45,7 @@ info_in r = record {
   dstmsglen = r.dstmsglen;
 }
 
--- how the call of a row ended
+-- the mark in a row
 abbrev pub mark_of : Row → Option Mark
 mark_of r =
     if r.mark == 1 then Some mark.Ok
@@ -61,8 +61,8 @@ mark_of r =
     else if r.mark == 11 then option_map (λ state. mark.State state r.priority) (state_of r)
     else None
 
--- what is told of the buffer of a call that ended so: the bytes that were copied into the front of it;
--- nothing of one that took a pulse; else all of it, since a Write may have written anywhere over a reply
+-- the part of the buffer that is written for a call with this mark: the bytes that were copied into its
+-- front; nothing if it took a pulse; else all of it, since a Write may have written anywhere over a reply
 -- buffer
 abbrev pub told_of : Mark → List ℕ → List ℕ
 told_of (mark.Message rcvid copied) buffer = take copied buffer
@@ -70,11 +70,11 @@ told_of (mark.Count copied) buffer = take copied buffer
 told_of (mark.Pulse item priority what) buffer = []
 told_of other buffer = buffer
 
--- the bytes that are told of an ending
+-- the bytes of the buffer that are written for an ending
 abbrev pub told_bytes : Completion → List ℕ
 told_bytes e = told_of e.mark e.buffer
 
--- a row is of this ending, whose told bytes begin at a place of the room for bytes, and of which so many were
+-- a row is that of this ending, whose bytes begin at `at` in the room for bytes, and of which `count` were
 -- written
 pub record IsOf (r : Row) (e : Completion) (at count : ℕ) : Type 0 where
   pub call : r.call ≡ e.call
@@ -83,23 +83,23 @@ pub record IsOf (r : Row) (e : Completion) (at count : ℕ) : Type 0 where
   pub start : r.start ≡ at
   pub written : r.written ≡ count
 
--- what a row tells of a message but how many bytes were copied is what is told of it, if anything is
+-- the row has the facts of a message, if there are any, except the number of copied bytes
 abbrev pub Fills : Row → Option Info → Type 0
 Fills r None = Unit {0}
 Fills r (Some info) = record info { msglen = r.count } ≡ info_in r
 
--- it tells the message of this id that was received with this count, and what a kernel says of it
+-- the row has the message with this id, which was received with this count, and the kernel's facts of it
 pub record TellsMessage (r : Row) (s : State) (rcvid copied : ℕ) : Type 0 where
   pub count : r.count ≡ copied
   pub info : Option Info
   pub said : InfoAtTraces s rcvid info
   pub filled : Fills r info
 
--- where the ending is the receipt of a message it tells that
+-- if the ending is the receipt of a message, the row has the message
 abbrev pub TellsReceipt : Row → State → Completion → Type 0
 TellsReceipt r s e = (rcvid copied : ℕ) → e.mark ≡ mark.Message rcvid copied → TellsMessage r s rcvid copied
 
--- it tells the ending whole, and what the kernel says after it of a message that was received
+-- the row has the whole ending, and the kernel's facts, after the event, of a received message
 pub record Tells (r : Row) (s : State) (e : Completion) (at count : ℕ) : Type 0 where
   pub of : IsOf r e at count
   pub mark : mark_of r ≡ Some e.mark

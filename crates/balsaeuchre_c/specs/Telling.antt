@@ -1,4 +1,4 @@
--- What is written for C of an event.
+-- The rows and bytes that are written for an event.
 use Rattle.std.specs.Prelude.{◌≡◌, ℕ, ◌<◌, List, length, take, slice_get, Some, flat_map}
 use Rattle.qbase.specs.Laying.{laid_count, lay_over}
 use Rattle.qkernel.specs.Kernel.{State}
@@ -7,24 +7,24 @@ use Rattle.balsaeuchre_c.specs.declared.row.Row.{Row}
 use Rattle.balsaeuchre_c.specs.declared.telling.Done.{Done}
 use Rattle.balsaeuchre_c.specs.Rows.{Tells, told_bytes}
 
--- the told bytes of endings one behind another
+-- the bytes of endings one behind another
 abbrev pub buffers : List Completion → List ℕ
 buffers endings = flat_map told_bytes endings
 
--- where the bytes of the ending at a place begin in a room for bytes: behind those of the endings before it,
--- at the room's end at the latest
+-- the place at which the bytes of the ending at `place` begin in the room for bytes: behind those of the
+-- endings before it, but at most at the end of the room
 abbrev pub start_of : List Completion → List ℕ → ℕ → ℕ
 start_of endings room place = laid_count room 0 (buffers (take place endings))
 
--- the row at a place tells the ending at that place
+-- the row at a place has the ending at that place
 abbrev pub TellsAt : State → List Completion → List ℕ → List Row → ℕ → Type 0
 TellsAt s endings room rows place = (e : Completion) → slice_get endings place ≡ Some e
     → (row : Row) × (slice_get rows place ≡ Some row)
     × Tells row s e (start_of endings room place)
     (laid_count room (start_of endings room place) (told_bytes e))
 
--- the first rows tell the endings in their order, the bytes lie in the room one behind another, cut at its
--- end, and so it is counted
+-- the first rows have the endings in order, their bytes are in the room one behind another, cut at its end,
+-- and the counts are those of the endings and of the written bytes
 pub record IsTold (s : State) (endings : List Completion) (rows : List Row) (old_bytes new_bytes : List ℕ)
     (done : Done) : Type 0 where
   pub told : (place : ℕ) → place < length endings → TellsAt s endings old_bytes rows place

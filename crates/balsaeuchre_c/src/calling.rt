@@ -1,4 +1,4 @@
-//! Making a call.
+//! Makes calls.
 
 ghost use Rattle.std.specs.Prelude.{◌≡◌, length, IfOk, IfErr};
 ghost use Rattle.qstate.specs.Kept.{members_of};
@@ -11,10 +11,10 @@ use crate::telling::{Done, tell};
 use qbase::errno::Errno;
 use std::alloc::Global;
 
-/// How many rows a call needs: an event has at most as many endings.
+/// The rows that a call needs: an event has at most this many endings.
 const ROW_LIMIT: usize = 64;
 
-/// Makes the call that a request means, and writes what ended.
+/// Makes the call of a request, and writes the endings of its event.
 pub fn make_call(
     alloc: Global,
     session: &mut Session,

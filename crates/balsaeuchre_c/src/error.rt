@@ -5,7 +5,7 @@ ghost use Rattle.balsaeuchre_c.specs.Numbers.{numbered};
 
 use qbase::errno::Errno;
 
-/// The errors, numbered from 1 on.
+/// The errors; the first has number 1.
 pub const ERRNOS: [Errno; 11] = [
     Errno::Srch,
     Errno::Badf,
@@ -20,7 +20,7 @@ pub const ERRNOS: [Errno; 11] = [
     Errno::NoThread,
 ];
 
-/// The number of an error.
+/// Returns the number of an error.
 pub fn errno_number(errno: Errno) -> u8
     ensures value { numbered ERRNOS result ≡ Some errno }
     ensures low { 1 ≤ result }

@@ -12,7 +12,7 @@ use parts::Parts;
 use std::alloc::Global;
 use std::marker::Model;
 
-/// The one who holds it owns the session. C sees a struct of one pointer.
+/// A handle that owns its session. For C it is a struct of one pointer.
 #[repr(C)]
 #[derive(Drop)]
 pub struct Handle {
@@ -26,14 +26,14 @@ impl Model for Handle {
 }
 
 impl Handle {
-    /// From a box.
+    /// Returns the handle of a box.
     pub fn of(session: Box<Session, Global>) -> Handle
         ensures { result.session ≡ session.value }
     {
         Handle::of_parts(Parts::of(session))
     }
 
-    /// The box again.
+    /// Returns the box.
     pub fn into_box(self) -> Box<Session, Global>
         ensures { result.value ≡ self.session }
     {

@@ -5,7 +5,7 @@ ghost use Rattle.balsaeuchre_c.specs.Numbers.{numbered};
 
 use qmodel::kind::{CallKind, KINDS};
 
-/// The kind of a number: they are numbered from 1 on.
+/// Returns the kind with this number, from 1.
 pub fn kind_of(number: u8) -> Option<CallKind>
     ensures { result ≡ numbered KINDS number }
 {

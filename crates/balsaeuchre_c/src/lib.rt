@@ -1,5 +1,5 @@
-//! The kernel for C and for Rust, as a static library. `foreign/include/balsaeuchre.h` is its header, and says what a
-//! caller owes.
+//! The kernel for C and for Rust, as a static library. Its header is `foreign/include/balsaeuchre.h`, which also has
+//! the duties of a caller.
 #![tactic(auto)]
 
 ghost use Rattle.std.specs.Prelude.{◌≡◌, ◌≤◌, length, Some};
@@ -32,10 +32,10 @@ use std::alloc::Global;
 use std::ptr::NonNull;
 use telling::Done;
 
-/// The version of the library and of its header: a hundred times the first number and then the second, so 10 is 0.10.
+/// The version of the library and of its header: a hundred times the first number plus the second, so 10 is 0.10.
 const VERSION: u32 = 10;
 
-/// The version, which is that of the header that fits.
+/// Returns the version, which has to be that of the header.
 #[unsafe(no_mangle)]
 pub extern "C" fn balsaeuchre_version() -> u32
     ensures { result ≡ 10 }
@@ -43,7 +43,8 @@ pub extern "C" fn balsaeuchre_version() -> u32
     VERSION
 }
 
-/// Makes a kernel of these threads, and writes where it lies: 0, or an error's number, and nothing is written.
+/// Makes a kernel of these threads, and writes its address. Returns 0, or the number of an error; then nothing is
+/// written.
 #[unsafe(no_mangle)]
 pub extern "C" fn balsaeuchre_new(alloc: Global, threads: &[Thread], out: &mut *mut u8) -> u32
     ensures made { result ≡ 0 → (session : Session) × IsNewOf threads.now session }
@@ -64,8 +65,8 @@ pub extern "C" fn balsaeuchre_free(kernel: Handle) {
     drop(kernel.into_box());
 }
 
-/// Makes one call: 0, and the endings of its event are written, in rising thread number; or an error's number, and
-/// nothing is changed or written.
+/// Makes one call. Returns 0, and writes the endings of its event, in rising thread number; or returns the number of an
+/// error, and changes and writes nothing.
 #[unsafe(no_mangle)]
 pub extern "C" fn balsaeuchre_make_call(
     alloc: Global,
@@ -80,7 +81,7 @@ pub extern "C" fn balsaeuchre_make_call(
     ensures event { result ≡ 0 → IsEvent kernel.old.session request.now sent.now room.now kernel.new.session rows.new bytes.old bytes.new done.new }
     ensures refused { 1 ≤ result → (errno : Errno) × (numbered ERRNOS result ≡ Some errno) × CallError kernel.old.session request.now sent.now room.now (length rows.old) errno }
 
-    // What stays: all where the call is no event, and the roster.
+    // What is unchanged: all if the call is no event, and the roster.
     ensures unchanged { 1 ≤ result → (kernel.new.session ≡ kernel.old.session) × (rows.new ≡ rows.old) × (bytes.new ≡ bytes.old) × (done.new ≡ done.old) }
     ensures roster { members_of kernel.new.session.kernel.threads ≡ members_of kernel.old.session.kernel.threads }
 {

@@ -1,4 +1,4 @@
-//! A new kernel.
+//! Makes a new kernel.
 
 ghost use Rattle.std.specs.Prelude.{MatchResult};
 ghost use Rattle.balsaeuchre_c.specs.Opening.{IsNewOf, NewError};
@@ -10,7 +10,7 @@ use qbase::errno::Errno;
 use qkernel::kernel::Kernel;
 use std::alloc::Global;
 
-/// A kernel of these threads, on the heap.
+/// Returns a kernel of these threads, on the heap.
 pub fn new_session(alloc: Global, threads: &[Thread]) -> Result<Box<Session, Global>, Errno>
     ensures { MatchResult result (λ session. IsNewOf threads.now session.value) (NewError threads.now) }
 {

@@ -1,4 +1,4 @@
-//! A call as C writes it: numbers alone.
+//! A call in the form that C passes: only numbers.
 
 ghost use Rattle.std.specs.Prelude.{◌≡◌, ℕ, List, [], None, Some, IfNone, IfSome, MatchResult, false};
 ghost use Rattle.qkernel.specs.LentCall.{call_lent};
@@ -14,8 +14,8 @@ use qkernel::lent_call::LentCall;
 use qmodel::kind::CallKind;
 use std::alloc::Global;
 
-/// A call. `kind` says which, and each kind reads only what it needs; the bytes that it brings and its buffer
-/// come beside it.
+/// A call. `kind` says which, and each kind reads only the fields that it needs; its bytes and its buffer are passed
+/// beside it.
 #[repr(C)]
 #[derive(Clone, Copy)]
 pub struct Request {
@@ -23,7 +23,7 @@ pub struct Request {
     pub kind: u8,
     /// The thread that makes it.
     pub thread: u8,
-    /// The thread that a PrioritySet, a State or an Unblock speaks of.
+    /// The thread that a PrioritySet, a State or an Unblock is about.
     pub target: u8,
     /// The priority of a Pulse or a PrioritySet, 1 to 255.
     pub priority: u8,
@@ -118,7 +118,7 @@ impl Request {
         }
     }
 
-    /// The call that the request means where one of this kind borrows its bytes; else `None`.
+    /// Returns the call of the request if this kind borrows its bytes, else `None`.
     pub fn lent<'a>(&self, kind: CallKind, sent: &'a [u8]) -> Option<LentCall<'a>>
         ensures none { IfNone result (borrows kind ≡ false) }
         ensures some { IfSome result (λ call. (room : List ℕ) → call_as kind self.now sent.now room ≡ Some (call_lent call)) }
@@ -138,8 +138,8 @@ impl Request {
         }
     }
 
-    /// What the request means as a call of this kind, which doesn't borrow its bytes. `Inval` where it means none, as
-    /// its priority is none; else `NoMemory`.
+    /// Returns the call of the request, of a kind that doesn't borrow its bytes. Fails with `Inval` if the request
+    /// means no call, since its priority is 0; else with `NoMemory`.
     pub fn call_as(
         &self,
         kind: CallKind,

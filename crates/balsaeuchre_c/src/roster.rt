@@ -1,4 +1,4 @@
-//! The threads of a kernel as C writes them.
+//! The threads of a kernel in the form that C passes.
 
 ghost use Rattle.std.specs.Prelude.{◌≡◌, [], None, Some, MatchResult};
 ghost use Rattle.balsaeuchre_c.specs.Opening.{member_of, roster_from, thread_refusal};
@@ -33,8 +33,8 @@ fn add(roster: &mut Roster, thread: &Thread) -> Result<(), Errno>
     }
 }
 
-/// The roster of these threads; takes no memory. `Inval` where one has the priority 0 or stands twice, `Again`
-/// where there are more than 64, whichever comes first.
+/// Returns the roster of these threads; takes no memory. Fails with `Inval` if a thread has the priority 0 or its
+/// number comes twice, and with `Again` if it is the 65th; the first such thread decides.
 pub fn roster_of(alloc: Global, threads: &[Thread]) -> Result<Roster, Errno>
     ensures { result ≡ roster_from [] threads.now }
 {

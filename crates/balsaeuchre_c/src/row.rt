@@ -1,4 +1,4 @@
-//! An ending as C reads it: numbers alone.
+//! An ending in the form that C gets: only numbers.
 
 ghost use Rattle.std.specs.Prelude.{◌≡◌, ℕ, length, Some};
 ghost use Rattle.qkernel.specs.Stands.{InfoAtTraces};
@@ -14,7 +14,7 @@ use qkernel::call::{Completion, Info, Mark};
 use qkernel::kernel::Kernel;
 use qqueue::item::What;
 
-/// What is told of the message that was received with this mark.
+/// Returns the facts of the message that was received with this mark.
 fn info_beside(kernel: &Kernel, mark: Mark) -> Option<Info>
     ensures { (rcvid copied : ℕ) → mark ≡ Mark.Message rcvid copied → InfoAtTraces kernel.now rcvid result }
 {
@@ -24,7 +24,7 @@ fn info_beside(kernel: &Kernel, mark: Mark) -> Option<Info>
     }
 }
 
-/// How a call ended. `mark` says which fields hold something; the others are 0.
+/// The ending of a call. `mark` says which fields are used; the others are 0.
 #[repr(C)]
 #[derive(Clone, Copy)]
 pub struct Row {
@@ -36,15 +36,15 @@ pub struct Row {
     pub mark: u8,
     /// The error's number, 1 to 11.
     pub errno: u8,
-    /// A priority, 1 to 255; of a message the one that it was received with.
+    /// A priority, 1 to 255; for a message the one with which it was received.
     pub priority: u8,
     /// A thread's state, 1 to 4.
     pub state: u8,
-    /// What a pulse brings, 1 to 4.
+    /// The content of a pulse, 1 to 4.
     pub what: u8,
     /// A pulse's code.
     pub pulse_code: i8,
-    /// A process; of a message the sender's.
+    /// A process; for a message the sender's.
     pub process: u8,
     /// A pulse's value, or an Error's code.
     pub value: i32,
@@ -56,23 +56,23 @@ pub struct Row {
     pub rcvid: u64,
     /// A Reply's status.
     pub status: i64,
-    /// How many bytes were copied.
+    /// The number of bytes that were copied.
     pub count: usize,
-    /// How many bytes a message has.
+    /// The bytes of a message.
     pub srcmsglen: usize,
-    /// How many bytes a sender's reply buffer has.
+    /// The bytes of the sender's reply buffer.
     pub dstmsglen: usize,
-    /// Where the bytes begin in the room for bytes.
+    /// The index in the room for bytes at which the bytes of the buffer begin.
     pub start: usize,
-    /// How many bytes of the buffer are told.
+    /// The number of bytes of the buffer that the ending has.
     pub length: usize,
-    /// How many of them were written: all, or as many as there was room for.
+    /// The number of these bytes that were written; fewer if there wasn't room.
     pub written: usize,
 }
 
 impl Row {
-    /// The row of an ending but for its mark, of whose buffer so many bytes are told, which begin at a place of
-    /// the room, and of which so many were written.
+    /// Returns the row of an ending without its mark. `told_len` bytes of its buffer belong to it; they begin at
+    /// `start` in the room for bytes, and `written` of them were written.
     fn without_mark(ending: &Completion, start: usize, told_len: usize, written: usize) -> Row
         requires { told_len ≡ length (told_bytes ending.now) }
         ensures { IsOf result ending.now start written }
@@ -257,8 +257,8 @@ impl Row {
         }
     }
 
-    /// The row of an ending of the kernel's last event, of whose buffer so many bytes are told, which begin at a
-    /// place of the room for bytes, and of which so many were written.
+    /// Returns the row of an ending of the kernel's last event. `told_len` bytes of its buffer belong to it; they begin
+    /// at `start` in the room for bytes, and `written` of them were written.
     pub fn of(
         kernel: &Kernel,
         ending: &Completion,

@@ -1,4 +1,4 @@
-//! A kernel with the list that its endings are put into.
+//! A kernel with the list that takes its endings.
 
 ghost use Rattle.std.specs.Prelude.{◌≡◌, ◌<◌, ◌^◌, ◌⊎◌, [], true, is_some, IfOk, IfErr};
 ghost use Rattle.qkernel.specs.Kernel.{IsSound};
@@ -27,7 +27,8 @@ pub struct Session {
 }
 
 impl Session {
-    /// Empties the list for the next call of a thread, unless the kernel would count none.
+    /// Empties the list for the next call of a thread. Fails if the thread is not in the roster, or if no more calls
+    /// can be numbered.
     fn begin(&mut self, thread: ThreadNo) -> Result<(), Errno>
         ensures known { IfOk result (λ _. is_some (member_at (members_of self.old.kernel.threads) thread) ≡ true) }
         ensures limit { IfOk result (λ _. self.old.kernel.made < 2 ^ 40) }
@@ -46,8 +47,8 @@ impl Session {
         Ok(())
     }
 
-    /// Makes a call. Ok is an event, whose endings stand in the list in rising thread number; an error is
-    /// none.
+    /// Makes a call. `Ok` is an event, whose endings are in the list in rising thread number; on an error nothing is
+    /// called.
     fn call(&mut self, thread: ThreadNo, call: Call) -> Result<(), Errno>
         ensures event { IfOk result (λ _. AnswersAtTraces self.old.kernel thread call self.new.endings.items self.new.kernel) }
         ensures known { IfOk result (λ _. is_some (member_at (members_of self.old.kernel.threads) thread) ≡ true) }
@@ -61,7 +62,7 @@ impl Session {
         Ok(())
     }
 
-    /// `call` with bytes that are lent.
+    /// Makes a call with bytes that are lent.
     fn call_lent(&mut self, thread: ThreadNo, call: &LentCall) -> Result<(), Errno>
         ensures event { IfOk result (λ _. AnswersAtTraces self.old.kernel thread (call_lent call.now) self.new.endings.items self.new.kernel) }
         ensures known { IfOk result (λ _. is_some (member_at (members_of self.old.kernel.threads) thread) ≡ true) }
@@ -75,8 +76,9 @@ impl Session {
         Ok(())
     }
 
-    /// Makes the call that a request means. A Reply and a Write borrow their bytes; the others get copies of the bytes
-    /// and of the buffer that they need. `Inval` where the request means no call, as its kind or its priority is none.
+    /// Makes the call of a request. A Reply and a Write borrow their bytes; the other kinds get copies of the bytes and
+    /// the buffer that they need. Fails with `Inval` if the request means no call, since its kind or its priority is
+    /// none.
     pub fn make(
         &mut self,
         alloc: Global,

@@ -1,4 +1,4 @@
-//! Endings, written for C.
+//! Writes endings for C.
 
 ghost use Rattle.std.specs.Prelude.{◌≡◌, ◌≤◌, length, take};
 ghost use Rattle.balsaeuchre_c.specs.Rows.{told_bytes};
@@ -9,7 +9,8 @@ use qbase::laying::lay;
 use qkernel::call::{Completion, Mark};
 use qkernel::kernel::Kernel;
 
-/// How many endings an event has, how many bytes of their buffers were written, and its number.
+/// The number of endings of an event, the number of bytes of their buffers that were written, and the number of the
+/// event's call.
 #[repr(C)]
 #[derive(Clone, Copy)]
 pub struct Done {
@@ -19,7 +20,7 @@ pub struct Done {
     pub call: u64,
 }
 
-/// The front of some bytes: so many, or all where there are fewer.
+/// Returns the first `count` bytes, or all if there are fewer.
 fn front(bytes: &[u8], count: usize) -> &[u8]
     ensures { result.now ≡ take count bytes.now }
 {
@@ -30,7 +31,7 @@ fn front(bytes: &[u8], count: usize) -> &[u8]
     }
 }
 
-/// The bytes that are told of an ending's buffer.
+/// Returns the bytes of an ending's buffer that are written for it.
 fn told_front(ending: &Completion) -> &[u8]
     ensures { result.now ≡ told_bytes ending.now }
 {
@@ -43,8 +44,8 @@ fn told_front(ending: &Completion) -> &[u8]
     }
 }
 
-/// Writes the endings of a kernel's last event into the front of the rows, and what is told of their buffers
-/// one behind another into the room for bytes, cut at its end.
+/// Writes the endings of a kernel's last event into the first rows, and the bytes of their buffers one behind another
+/// into the room for bytes, cut at its end.
 pub fn tell(kernel: &Kernel, endings: &[Completion], rows: &mut [Row], bytes: &mut [u8]) -> Done
     requires { length endings.now ≤ length rows.old }
     ensures { IsTold kernel.now endings.now rows.new bytes.old bytes.new result }

@@ -1,4 +1,4 @@
--- A priority that is carried through two servers, written out.
+-- A priority that is carried through two servers, event by event.
 use Rattle.std.specs.Prelude.{List, [], ◌∷◌, pos}
 use Rattle.qbase.specs.declared.state.ThreadState.TheVariants.{Ready}
 use Rattle.qtables.specs.declared.member.Member.{Member}
@@ -8,11 +8,11 @@ use Rattle.qmodel.specs.declared.call.Mark.TheVariants as mark
 use Rattle.qworked.specs.Runs.{member, event, ended, flags_of}
 use Rattle.balsaeuchre.specs.Trace.{Event}
 
--- a store and a server of priority 10, an urgent client and a middling one, each a process of its own
+-- a store and a server of priority 10, an urgent client and a less urgent one, each in a process of its own
 abbrev pub roster : List Member
 roster = member 1 1 10 ∷ member 2 2 10 ∷ member 3 3 40 ∷ member 4 4 20 ∷ []
 
--- message 9, which the server sends at the urgent client's priority, is received before the middling client's
+-- message 9, which the server sends at the urgent client's priority, is received before the other client's
 -- message 6
 abbrev pub events : List Event
 events =

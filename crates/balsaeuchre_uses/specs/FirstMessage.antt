@@ -1,4 +1,4 @@
--- The first message, written out.
+-- The first message, event by event.
 use Rattle.std.specs.Prelude.{ℕ, List, [], ◌∷◌, pos, replicate}
 use Rattle.qtables.specs.declared.member.Member.{Member}
 use Rattle.qmodel.specs.declared.call.Call.TheVariants.{ChannelCreate, ConnectAttach, Send, Receive, Reply}
@@ -7,7 +7,7 @@ use Rattle.qworked.specs.Runs.{member, event, ended, flags_of}
 use Rattle.balsaeuchre.specs.Laying.{laid_count, lay_over}
 use Rattle.balsaeuchre.specs.Trace.{Event}
 
--- a server and a client, each a process of its own
+-- a server and a client, each in a process of its own
 abbrev pub roster : List Member
 roster = member 1 1 1 ∷ member 2 2 1 ∷ []
 
@@ -15,7 +15,7 @@ roster = member 1 1 1 ∷ member 2 2 1 ∷ []
 abbrev pub zeros : List ℕ
 zeros = replicate 8 0
 
--- five calls: the message is laid over the server's buffer, and the answer over the client's
+-- five calls: the message is copied into the server's buffer, and the answer into the client's
 abbrev pub events : List ℕ → List ℕ → List Event
 events message answer =
     event 1 (ChannelCreate (flags_of 0)) (ended 1 1 (mark.Channel 1) [] ∷ [])

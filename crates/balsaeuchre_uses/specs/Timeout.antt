@@ -1,4 +1,4 @@
--- A timeout, written out.
+-- A timeout, event by event.
 use Rattle.std.specs.Prelude.{ℕ, List, [], ◌∷◌, pos}
 use Rattle.qbase.specs.declared.errno.Errno.TheVariants.{Srch, Intr}
 use Rattle.qqueue.specs.declared.item.What.TheVariants as what

@@ -1,5 +1,5 @@
-//! A priority carried through two servers. An urgent client asks a server, which asks a store for it: both work at the
-//! client's priority, and the request at the store goes before one that was sent first and is less urgent.
+//! Carries a priority through two servers. An urgent client asks a server, which asks a store on its behalf: both work
+//! at the client's priority, and the store receives this request before one that was sent earlier and is less urgent.
 
 ghost use Rattle.std.specs.Prelude.{◌≡◌, [], pos, IfOk};
 ghost use Rattle.balsaeuchre.specs.Stands.{StandsAt};
@@ -20,7 +20,7 @@ const URGENT: ThreadNo = ThreadNo(3);
 
 const MIDDLING: ThreadNo = ThreadNo(4);
 
-/// The priority of a number; a fault for 0.
+/// Returns the priority with this number; an error for 0.
 fn level(number: u8) -> Result<Priority, Errno>
     ensures { IfOk result (λ priority. priority ≡ number) }
 {
@@ -30,7 +30,8 @@ fn level(number: u8) -> Result<Priority, Errno>
     }
 }
 
-/// Four threads, each a process of its own: the store and the server of priority 10, the clients of 40 and 20.
+/// Returns a kernel of four threads, each in a process of its own: the store and the server of priority 10, the clients
+/// of 40 and 20.
 fn kernel_of_four(alloc: Global) -> Result<Kernel, Errno>
     ensures { IfOk result (λ kernel. StandsAt roster kernel []) }
 {
@@ -45,7 +46,7 @@ fn kernel_of_four(alloc: Global) -> Result<Kernel, Errno>
     Ok(Kernel::new(alloc, &roster)?)
 }
 
-/// An empty message over a connection.
+/// Returns an empty message over a connection.
 fn send(alloc: Global, coid: ConnectionId) -> Call
     ensures { result ≡ Call.Send coid [] [] }
 {
@@ -56,7 +57,7 @@ fn send(alloc: Global, coid: ConnectionId) -> Call
     }
 }
 
-/// A receive on a channel, with no room for bytes.
+/// Returns a receive on a channel, with no room for bytes.
 fn receive(alloc: Global, chid: ChannelId) -> Call
     ensures { result ≡ Call.Receive chid [] }
 {
@@ -66,7 +67,7 @@ fn receive(alloc: Global, chid: ChannelId) -> Call
     }
 }
 
-/// An answer without bytes.
+/// Returns an answer without bytes.
 fn reply(alloc: Global, rcvid: ReceiveId) -> Call
     ensures { result ≡ Call.Reply rcvid (pos 0) [] }
 {
@@ -77,7 +78,7 @@ fn reply(alloc: Global, rcvid: ReceiveId) -> Call
     }
 }
 
-/// The middling client's request waits at the store, and then the urgent client asks the server.
+/// Lets the less urgent client's request wait at the store, and then the urgent client ask the server.
 pub fn carry_priority(alloc: Global) -> Result<Trace, Errno>
     ensures { IfOk result (λ trace. IsRunOf roster events trace) }
 {

@@ -1,4 +1,4 @@
-//! A driver: a server that keeps its client waiting until the device has a value, of which a third thread tells it by a
+//! A driver: a server that keeps its client waiting until the device has a value, which a third thread reports by a
 //! pulse.
 
 ghost use Rattle.balsaeuchre.specs.Naming.{AreParts};
@@ -11,8 +11,8 @@ use std::marker::Brand;
 use std::sync::Wait;
 use std::thread::{Threads, join};
 
-/// The driver's work: answers each message with the device's next value, whichever of the two comes first, until the
-/// client has detached.
+/// Does the driver's work: answers each message with the device's next value, whichever of the two comes first, until
+/// the client has detached.
 fn drive<E: Endpoint, R: Wait>(driver: &mut Caller<E, R>, chid: ChannelId) -> Result<()> {
     let mut values = Vec::new(driver.alloc());
     let mut held = None;
@@ -33,7 +33,7 @@ fn drive<E: Endpoint, R: Wait>(driver: &mut Caller<E, R>, chid: ChannelId) -> Re
     Ok(())
 }
 
-/// The device's thread: tells the driver of each value, as an interrupt would.
+/// Does the work of the device's thread: reports each value to the driver, as an interrupt would.
 fn interrupt<E: Endpoint, R: Wait>(
     device: &mut Caller<E, R>,
     chid: ChannelId,
@@ -46,7 +46,7 @@ fn interrupt<E: Endpoint, R: Wait>(
     Ok(())
 }
 
-/// The client: asks for as many values, and waits for each.
+/// Does the client's work: asks for this many values, and waits for each.
 fn read<E: Endpoint, R: Wait>(
     client: &mut Caller<E, R>,
     chid: ChannelId,
@@ -62,7 +62,7 @@ fn read<E: Endpoint, R: Wait>(
     client.connect_detach(coid)
 }
 
-/// The device's thread and the client's, side by side.
+/// Runs the device's thread and the client's concurrently.
 fn use_device<D: Endpoint + Send, C: Endpoint + Send, R: Threads + Wait + Sync>(
     rt: &R,
     device: &mut Caller<D, R>,
@@ -106,7 +106,8 @@ fn run<K: Tie + Send + Sync, R: Threads + Wait + Sync>(
     drove.and(done)
 }
 
-/// A client reads these values of a device by its driver. The driver and the device's thread are of one process.
+/// Lets a client read these values of a device through its driver. The driver and the device's thread are of one
+/// process.
 pub fn with_a_driver<R: Threads + Wait + Sync>(
     rt: &R,
     alloc: Global,

@@ -1,4 +1,4 @@
-//! The whole of it in one function: a roster, a kernel, a channel, a connection, a message and its answer.
+//! All steps in one function: a roster, a kernel, a channel, a connection, a message and its answer.
 
 ghost use Rattle.std.specs.Prelude.{IfOk};
 ghost use Rattle.balsaeuchre_uses.specs.FirstMessage.{roster, events};
@@ -10,7 +10,7 @@ use balsaeuchre::{
 };
 use std::alloc::Global;
 
-/// The client's message is received by the server, which answers it with bytes of its own.
+/// Lets the server receive the client's message, and answer it with bytes of its own.
 pub fn first_message(alloc: Global, message: &[u8], answer: &[u8]) -> Result<Trace, Errno>
     ensures { IfOk result (λ trace. IsRunOf roster (events message.now answer.now) trace) }
 {

@@ -1,5 +1,5 @@
-//! A server of one resource that keeps a client waiting: it holds the message of who asks while the resource is
-//! taken, and answers it once the resource is given back. Nothing is asked of the client but its one Send.
+//! A server of one resource that keeps clients waiting: it holds the message of a client that asks while the resource
+//! is taken, and answers it once the resource is given back. All that a client does is one Send.
 
 ghost use Rattle.std.specs.Prelude.{◌≡◌, ◌++◌, [], ◌∷◌, true, false, IfOk, IfSome, IfNone, OnErr, Some, None, if◌then◌else◌};
 
@@ -18,12 +18,12 @@ const FIRST: ThreadNo = ThreadNo(2);
 
 const SECOND: ThreadNo = ThreadNo(3);
 
-/// What the message of one who takes the resource says, and of one who gives it back.
+/// The byte of a message that takes the resource; `GIVE_BACK` is that of one that gives it back.
 const TAKE: u8 = 1;
 
 const GIVE_BACK: u8 = 2;
 
-/// Whether the resource is taken, and the messages of those who wait for it, the first of them in front.
+/// Whether the resource is taken, and the messages of the clients that wait for it, in order.
 #[derive(Drop)]
 pub struct Resource {
     taken: bool,
@@ -31,7 +31,7 @@ pub struct Resource {
 }
 
 impl Resource {
-    /// The resource, which nobody has.
+    /// Returns the resource, which nobody has.
     pub fn new(alloc: Global) -> Resource
         ensures { (result.taken ≡ false) × (result.waiting.items ≡ []) }
     {
@@ -41,7 +41,8 @@ impl Resource {
         }
     }
 
-    /// Somebody asks for it by a message, which is to be answered now if it is given back; else the message is kept.
+    /// Takes the resource for the client of this message. Returns the message if it has to be answered now, and else
+    /// keeps it until the resource is given back.
     pub fn ask(&mut self, rcvid: ReceiveId) -> Result<Option<ReceiveId>, AllocError>
         ensures answer { IfOk result (λ next. next ≡ (if self.old.taken then None else Some rcvid)) }
         ensures kept { IfOk result (λ next. self.new.waiting.items ≡ (if self.old.taken then self.old.waiting.items ++ rcvid ∷ [] else self.old.waiting.items)) }
@@ -56,7 +57,7 @@ impl Resource {
         Ok(Some(rcvid))
     }
 
-    /// Who has it gives it back. The message of who has it next is to be answered now.
+    /// Gives the resource back. Returns the message of the client that has it next, which has to be answered now.
     pub fn give_back(&mut self) -> Option<ReceiveId>
         ensures next { IfSome result (λ rcvid. (self.old.waiting.items ≡ rcvid ∷ self.new.waiting.items) × (self.new.taken ≡ true)) }
         ensures free { IfNone result ((self.old.waiting.items ≡ []) × (self.new.waiting.items ≡ []) × (self.new.taken ≡ false)) }
@@ -77,7 +78,7 @@ struct Client {
 }
 
 impl Client {
-    /// A client that attaches to the channel.
+    /// Returns a client that is attached to the channel.
     fn attach(
         simulator: &mut Simulator,
         thread: ThreadNo,
@@ -90,14 +91,14 @@ impl Client {
         })
     }
 
-    /// Sends its wish, and is blocked.
+    /// Sends a wish, which blocks the client.
     fn wish(&mut self, simulator: &mut Simulator, wish: u8) -> Result<(), CallError> {
         let _blocked = simulator.msg_send(self.thread, self.coid, &[wish], 0)?;
         self.call = simulator.kernel().made();
         Ok(())
     }
 
-    /// Takes the answer if it came.
+    /// Takes the answer if there is one.
     fn take_answer(
         &self,
         simulator: &mut Simulator,
@@ -114,7 +115,7 @@ impl Client {
     }
 }
 
-/// A server and two clients, each a process of its own.
+/// Returns a simulator of a server and two clients, each in a process of its own.
 fn simulator_of_three(alloc: Global) -> Result<Simulator, CallError> {
     let mut roster = Roster::new(alloc);
     roster.add(SERVER, ProcessNo(1), Priority::lowest())?;
@@ -123,7 +124,7 @@ fn simulator_of_three(alloc: Global) -> Result<Simulator, CallError> {
     Simulator::new(alloc, &roster)
 }
 
-/// The server receives one message, and answers whom it can.
+/// Lets the server receive one message, and answer the client that can go on.
 fn serve_one(
     simulator: &mut Simulator,
     chid: ChannelId,
@@ -146,7 +147,7 @@ fn serve_one(
     }
 }
 
-/// A client sends its wish, and the server serves it.
+/// Lets a client send its wish, and the server serve it.
 fn ask(
     simulator: &mut Simulator,
     client: &mut Client,
@@ -158,8 +159,8 @@ fn ask(
     serve_one(simulator, chid, resource)
 }
 
-/// Both clients ask for the resource, and the first gives it back. It gives the clients' answers in the order in which
-/// they came.
+/// Lets both clients ask for the resource, and the first give it back. Returns the answers in the order in which they
+/// came.
 pub fn kept_waiting(alloc: Global) -> Result<Vec<Reply>, CallError> {
     let mut simulator = simulator_of_three(alloc)?;
     let chid = simulator.channel_create(SERVER, ChannelFlags::of(0))?;

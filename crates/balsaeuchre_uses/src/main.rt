@@ -1,4 +1,4 @@
-//! Uses of the kernel as a library, each on one page. The program makes all of them, and prints how the calls ended.
+//! Examples of the kernel as a library, each on one page. The program runs all of them, and prints how the calls ended.
 #![tactic(auto)]
 
 mod carried;
@@ -17,7 +17,7 @@ use reply::Reply;
 use std::io;
 use std::test::Fail;
 
-/// Prints an ending: the number of the ended call, its thread, how it ended, and the buffer that came back.
+/// Prints an ending: the number of the ended call, its thread, its mark, and the buffer that came back.
 fn show(rt: &impl Print, ending: &Completion) -> io::Result<()> {
     let (call, thread, mark) = (ending.call, ending.thread.0, ending.mark);
     let buffer = ending.buffer.as_slice();

@@ -11,7 +11,7 @@ const SERVER: ThreadNo = ThreadNo(1);
 
 const CLIENT: ThreadNo = ThreadNo(2);
 
-/// The client sends a message, and the server answers it with the buffer that it received it in.
+/// Lets the client send a message, and the server answer it with the buffer into which it received it.
 pub fn echo(alloc: Global, message: &[u8]) -> Result<Reply, CallError> {
     let mut roster = Roster::new(alloc);
     roster.add(SERVER, ProcessNo(1), Priority::lowest())?;

@@ -1,9 +1,9 @@
-//! The answer that a client got.
+//! The answer to a client.
 
 use balsaeuchre::ThreadNo;
 use balsaeuchre::calls::Answer;
 
-/// The answer that a client got, with the number of its send.
+/// An answer to a client, with the number of the client's send.
 #[derive(Debug, Drop)]
 pub struct Reply {
     pub call: u64,

@@ -1,4 +1,5 @@
-//! What the uses with three threads share: a server, a client, and another thread of the client's process.
+//! The parts that the examples with three threads share: a server, a client, and another thread of the client's
+//! process.
 
 ghost use Rattle.std.specs.Prelude.{◌≡◌, [], pos, IfOk};
 ghost use Rattle.balsaeuchre.specs.Stands.{StandsAt};
@@ -19,7 +20,7 @@ pub const CLIENT: ThreadNo = ThreadNo(2);
 /// Another thread of process 2.
 pub const FELLOW: ThreadNo = ThreadNo(3);
 
-/// A kernel for the three threads, at its first call.
+/// Returns a kernel of the three threads, before any call.
 pub fn kernel_of_three(alloc: Global) -> Result<Kernel, Errno>
     ensures { IfOk result (λ kernel. StandsAt roster kernel []) }
 {
@@ -30,7 +31,7 @@ pub fn kernel_of_three(alloc: Global) -> Result<Kernel, Errno>
     Ok(Kernel::new(alloc, &roster)?)
 }
 
-/// An empty message over connection 2.
+/// Returns an empty message over connection 2.
 pub fn send(alloc: Global) -> Call
     ensures { result ≡ Call.Send 2 [] [] }
 {
@@ -41,7 +42,7 @@ pub fn send(alloc: Global) -> Call
     }
 }
 
-/// A receive on channel 1, with no room for bytes.
+/// Returns a receive on channel 1, with no room for bytes.
 pub fn receive(alloc: Global) -> Call
     ensures { result ≡ Call.Receive 1 [] }
 {
@@ -51,7 +52,7 @@ pub fn receive(alloc: Global) -> Call
     }
 }
 
-/// An answer without bytes to message 3.
+/// Returns an answer without bytes to message 3.
 pub fn reply(alloc: Global) -> Call
     ensures { result ≡ Call.Reply 3 (pos 0) [] }
 {

@@ -1,5 +1,5 @@
 //! A timeout by `Unblock`. A client's message is received and not answered, and another thread of the client's process
-//! gives up for it. What comes of that is the server's choice, by the flags of its channel.
+//! unblocks the client. The flags of the server's channel decide what happens.
 
 ghost use Rattle.std.specs.Prelude.{◌≡◌, IfOk};
 ghost use Rattle.balsaeuchre_uses.specs.ThreeThreads.{roster};
@@ -12,7 +12,7 @@ use balsaeuchre::{
 };
 use std::alloc::Global;
 
-/// The calls 1 to 4, by which the server holds message 3, and call 5, which is the timeout.
+/// Returns calls 1 to 4, by which the server holds message 3, and call 5, which is the timeout.
 fn until_the_timeout(alloc: Global, flags: ChannelFlags) -> Result<Vec<(ThreadNo, Call)>, Errno>
     ensures { IfOk result (λ calls. calls.items ≡ begun flags) }
 {
@@ -26,7 +26,7 @@ fn until_the_timeout(alloc: Global, flags: ChannelFlags) -> Result<Vec<(ThreadNo
     Ok(calls)
 }
 
-/// Without a flag the Send ends at once, with `Intr`, and the server's answer comes too late.
+/// Makes the timeout without a flag: the Send ends at once, with `Intr`, and the server's answer comes too late.
 pub fn without_flag(alloc: Global) -> Result<Trace, Errno>
     ensures { IfOk result (λ trace. IsRunOf roster cut_events trace) }
 {
@@ -36,8 +36,8 @@ pub fn without_flag(alloc: Global) -> Result<Trace, Errno>
     Ok(run(&mut kernel, calls)?)
 }
 
-/// With the flag `UNBLOCK` the client stays blocked, and the server gets a pulse that names the message. It lets the
-/// client go with a code of its own.
+/// Makes the timeout with the flag `UNBLOCK`: the client stays blocked, and the server gets a pulse that names the
+/// message. The server answers with an error code of its own.
 pub fn with_flag(alloc: Global) -> Result<Trace, Errno>
     ensures { IfOk result (λ trace. IsRunOf roster told_events trace) }
 {

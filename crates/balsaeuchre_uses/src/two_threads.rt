@@ -12,7 +12,7 @@ use std::marker::Brand;
 use std::sync::Wait;
 use std::thread::{Threads, join};
 
-/// What the client sends.
+/// The client's messages.
 pub const MESSAGES: [&[u8]; 3] = [b"one", b"two", b"three"];
 
 /// Answers each message with its own bytes, until the client has detached.
@@ -61,7 +61,8 @@ fn run<K: Tie + Send + Sync, R: Threads + Wait + Sync>(
     close(shared, ports)
 }
 
-/// A server on a thread of its own answers messages of a client on another. Returns all that the kernel did.
+/// Runs a server and a client on threads of their own; the server answers the client's messages. Returns the trace of
+/// the kernel.
 pub fn on_two_threads<R: Threads + Wait + Sync>(rt: &R, alloc: Global) -> Result<Trace> {
     let mut roster = Roster::new(alloc);
     roster.add(ThreadNo(1), ProcessNo(1), Priority::lowest())?;

@@ -8,17 +8,17 @@ use Rattle.qchart.specs.declared.arrow.Arrow.{Arrow}
 use Rattle.qchart.specs.declared.arrow.What.{What}
 use Rattle.qchart.specs.declared.arrow.What.TheVariants as arrows
 
--- who made the call of a number, where these threads made the calls from 1 on
+-- the thread that made the call with this number, if these threads made the calls from 1 on
 abbrev pub caller_of : List ℕ → ℕ → Option ℕ
 caller_of callers number = if number == 0 then None else slice_get callers (number - 1)
 
--- what a thread made goes from it to another thread
+-- the arrow of what a thread made, from it to another thread
 abbrev pub sent_by : Option ℕ → ℕ → ℕ → What → Option Arrow
 sent_by from number to what =
     option_map (λ t. record { number = number; from = t; to = to; what = what }) from
 
--- the arrow of a call's ending, of the call of this number and thread, in an event that a caller's call made:
--- what is received comes from the thread that sent it, and an answer from the caller
+-- the arrow of the ending of the call with this number and thread, in an event whose call `caller` made:
+-- something received comes from the thread that sent it, and an answer from the caller
 unfoldable pub arrow_by : List ℕ → ℕ → ℕ → ℕ → Mark → Option Arrow
 arrow_by callers caller call thread (mark.Message rcvid copied) =
     sent_by (caller_of callers rcvid) rcvid thread arrows.Message

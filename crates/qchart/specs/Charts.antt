@@ -16,7 +16,7 @@ use Rattle.qchart.specs.Rows.{IsDrawn}
 use Rattle.qchart.specs.View.{drawn_count}
 
 -- the chart of a run of these calls, which is lawful from the first call on: a line for each thread, and a
--- row for each event that tells of it
+-- row for each event, with what happened in it
 pub record IsChartOf (roster : List Member) (calls : List (ℕ × Call)) (chart : Chart) : Type 0 where
   pub run : Run
   pub left : List Blocked
@@ -24,7 +24,7 @@ pub record IsChartOf (roster : List Member) (calls : List (ℕ × Call)) (chart 
   pub lines : IsPermutation roster chart.lifelines.items
   pub drawn : IsDrawn (roster_with [] roster) run.events chart.rows.items
 
--- the chart of what a text says, of which a view draws at most 400 calls
+-- the chart of the script in a text, of which a view draws at most 400 calls
 pub record IsCharted (view : View) (text : List ℕ) (chart : Chart) : Type 0 where
   pub roster : List Member
   pub calls : List (ℕ × Call)
@@ -32,7 +32,7 @@ pub record IsCharted (view : View) (text : List ℕ) (chart : Chart) : Type 0 wh
   pub few : drawn_count view (length calls) ≤ 400
   pub charted : IsChartOf roster calls chart
 
--- a text says so many calls, of which a view draws over 400
+-- the script in a text has `count` calls, of which a view draws over 400
 pub record HasTooMany (view : View) (text : List ℕ) (count : ℕ) : Type 0 where
   pub roster : List Member
   pub calls : List (ℕ × Call)
@@ -40,7 +40,7 @@ pub record HasTooMany (view : View) (text : List ℕ) (count : ℕ) : Type 0 whe
   pub counted : length calls ≡ count
   pub many : 400 < drawn_count view count
 
--- why a text has no chart: its own fault, or want of memory; or else too many calls
+-- the reason why a text has no chart: its own fault, or memory that ran out, or else too many calls
 abbrev pub IsChartFault : View → List ℕ → ChartFault → Type 0
 IsChartFault view text (Script fault) = IsFaultOf fault (meaning text)
 IsChartFault view text (TooManyCalls count) = HasTooMany view text count

@@ -1,4 +1,4 @@
--- The rows of a chart: what each tells of its event.
+-- The rows of a chart: the content of each, by its event.
 use Rattle.std.specs.Prelude.{◌≡◌, ℕ, List, [], ◌∷◌, ◌++◌, map}
 use Rattle.std.specs.List.{filter_map}
 use Rattle.qtables.specs.declared.member.Member.{Member}
@@ -14,44 +14,44 @@ use Rattle.qchart.specs.declared.arrow.Arrow.{Arrow}
 use Rattle.qchart.specs.declared.row.Row.{Row}
 use Rattle.qchart.specs.Arrows.{arrow_of}
 
--- who made the call of an event
+-- the thread that made the call of an event
 abbrev pub event_thread : Event → ℕ
 event_thread e = e.thread
 
--- the arrows of an event after these callers' calls
+-- the arrows of an event, after the calls of `before`
 abbrev pub event_arrows : List ℕ → Event → List Arrow
 event_arrows before e = filter_map (arrow_of (before ++ e.thread ∷ []) e.thread) e.endings
 
--- the arrows of each event, after these callers' calls
+-- the arrows of each event, after the calls of `before`
 abbrev pub arrows_from : List ℕ → List Event → List (List Arrow)
 arrows_from before [] = []
 arrows_from before (e ∷ events) = event_arrows before e ∷ arrows_from (before ++ e.thread ∷ []) events
 
--- who is blocked after each event, in which state and on which channel
+-- the threads that are blocked after each event, with their states and channels
 abbrev pub blocked_from : List Member → Trace → List Event → List (List Blocked)
 blocked_from roster past [] = []
 blocked_from roster past (e ∷ events) =
     blocked_threads (facts_of roster (e ∷ past)) ∷ blocked_from roster (e ∷ past) events
 
--- what a row tells of its event
+-- the thread that made a row's call
 abbrev pub row_thread : Row → ℕ
 row_thread row = row.thread
 
--- its arrows
+-- the arrows of a row
 abbrev pub row_arrows : Row → List Arrow
 row_arrows row = row.arrows.items
 
--- the threads that are blocked after it
+-- the threads that are blocked after a row
 abbrev pub row_blocked : Row → List Blocked
 row_blocked row = row.blocked.items
 
--- this is who is blocked after each trace at which the kernel stands
+-- these threads are blocked after each trace that the kernel may have made
 abbrev pub TellsBlocked : State → List Blocked → Type 0
 TellsBlocked s blocked = (roster : List Member) (past : Trace) → StandsAt roster s past
     → blocked ≡ blocked_threads (facts_of roster past)
 
--- these calls were made by a kernel that was in the one state and is in the other, and the rows tell of their
--- events at every lawful trace at which it stood
+-- a kernel made these calls and thereby went from the old state to the new one, and the rows are those of
+-- their events at every lawful trace that it may have made before
 pub record HasRows (old : State) (calls : List (ℕ × Call)) (new : State) (rows : List Row) : Type 0 where
   pub events : List Event
   pub ran : RunsAtTraces old events new
@@ -61,8 +61,8 @@ pub record HasRows (old : State) (calls : List (ℕ × Call)) (new : State) (row
   pub blocked : (roster : List Member) (past : Trace) → IsLawful roster past → StandsAt roster old past
       → map row_blocked rows ≡ blocked_from roster past events
 
--- the rows tell of these events, the first of a kernel: who called, what was received and answered in the
--- order of the endings, and who is blocked after each
+-- the rows are those of these events, the first of a kernel: each with the thread that called, what was
+-- received and answered in the order of the endings, and the threads that are blocked after it
 pub record IsDrawn (roster : List Member) (events : List Event) (rows : List Row) : Type 0 where
   pub threads : map row_thread rows ≡ map event_thread events
   pub arrows : map row_arrows rows ≡ arrows_from [] events

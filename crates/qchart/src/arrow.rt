@@ -1,4 +1,4 @@
-//! The arrows of a chart: what went from one thread to another.
+//! The arrows of a chart: from thread to thread, for what is received and answered.
 
 ghost use Rattle.std.specs.Prelude.{◌≡◌, IfOk};
 ghost use Rattle.std.specs.List.{filter_map};
@@ -8,7 +8,7 @@ use qbase::ids::ThreadNo;
 use qkernel::call::{Completion, Mark};
 use std::alloc::{AllocError, Global};
 
-/// What an arrow stands for.
+/// The sort of an arrow.
 #[derive(Clone, Copy, Debug, PartialEq, Eq)]
 pub enum What {
     /// A message that is received.
@@ -21,17 +21,18 @@ pub enum What {
     Error(i32),
 }
 
-/// Something that went from one thread to another, or from a thread to itself.
+/// An arrow from one thread to another, or from a thread to itself.
 #[derive(Clone, Copy, Debug, PartialEq, Eq)]
 pub struct Arrow {
-    /// The number of the call that sent the message or made the pulse. An answer has its message's number.
+    /// The number of the call that sent the message or the pulse. An answer has its message's number.
     pub number: u64,
     pub from: ThreadNo,
     pub to: ThreadNo,
     pub what: What,
 }
 
-/// Who made the call of a number, where these threads made the calls from 1 on; `None` where it isn't among them.
+/// Returns the thread that made the call with this number; `callers` are the threads of the calls from 1 on. `None` if
+/// there is no such call.
 pub fn caller_of(callers: &[ThreadNo], number: u64) -> Option<ThreadNo>
     ensures { result ≡ caller_of callers.now number }
 {
@@ -41,8 +42,8 @@ pub fn caller_of(callers: &[ThreadNo], number: u64) -> Option<ThreadNo>
     callers.get((number - 1) as usize).copied()
 }
 
-/// The arrow of an ending of the newest call, which this thread made: from a sender to who receives, or from who
-/// answers to the sender.
+/// Returns the arrow of an ending in the event of the latest call, which `caller` made: from the sender to the thread
+/// that receives, or from the thread that answers to the sender.
 #[tactic(auto, unfolding(crate::specs::Arrows::arrow_by))]
 pub fn arrow_of(callers: &[ThreadNo], caller: ThreadNo, ending: &Completion) -> Option<Arrow>
     ensures { result ≡ arrow_of callers.now caller ending.now }
@@ -62,7 +63,7 @@ pub fn arrow_of(callers: &[ThreadNo], caller: ThreadNo, ending: &Completion) -> 
     })
 }
 
-/// The arrows of an event whose call this thread made, in the order of its endings.
+/// Returns the arrows of an event whose call `caller` made, in the order of its endings.
 pub fn arrows_of(
     alloc: Global,
     callers: &[ThreadNo],

@@ -8,19 +8,19 @@ use qkernel::open_call::Blocked;
 use qtables::member::Member;
 use std::alloc::{AllocError, Global};
 
-/// What is told of the end of a run.
+/// The end of a run: who waits for whom.
 #[derive(Debug, Drop)]
 pub struct Outcome {
     /// The threads whose messages aren't answered.
     pub waits: Vec<Wait>,
-    /// The circles among them.
+    /// The circles among these threads.
     pub deadlocks: Vec<Deadlock>,
 }
 
 /// The chart of a run: a line for each thread, and a row for each call.
 #[derive(Debug, Drop)]
 pub struct Chart {
-    /// The threads from left to right: those of a process stand together.
+    /// The threads from left to right; those of a process are neighbours.
     pub lifelines: Vec<Member>,
     /// The rows of the calls in order.
     pub rows: Vec<Row>,
@@ -31,7 +31,7 @@ pub struct Chart {
 }
 
 impl Chart {
-    /// Where a thread's line stands, from 0 at the left; 0 also where it has none.
+    /// Returns the column of a thread, from 0 at the left; 0 also if it has none.
     pub fn column(&self, thread: ThreadNo) -> usize {
         let place = self
             .lifelines
@@ -40,7 +40,7 @@ impl Chart {
         place.unwrap_or(0)
     }
 
-    /// How many bytes the longest words have that stand beside a line.
+    /// Returns the bytes of the longest words beside a line.
     pub fn longest_words(&self) -> usize {
         let mut most = 0usize;
         for row in &self.rows {
@@ -49,7 +49,7 @@ impl Chart {
         most
     }
 
-    /// The state of a thread before the first row.
+    /// Returns the state of a thread before the first row.
     pub fn first_state(&self, thread: ThreadNo) -> ThreadState {
         match self.blocked.iter().find(|blocked| blocked.thread == thread) {
             Some(blocked) => blocked.state,
@@ -57,7 +57,7 @@ impl Chart {
         }
     }
 
-    /// How many bytes the longest head has.
+    /// Returns the bytes of the longest head.
     pub fn longest_head(&self, alloc: Global) -> Result<usize, AllocError> {
         let mut most = 0usize;
         for member in &self.lifelines {
@@ -67,7 +67,7 @@ impl Chart {
     }
 }
 
-/// `thread THREAD (process PROCESS)`
+/// Returns `thread THREAD (process PROCESS)`.
 pub fn head(alloc: Global, member: &Member) -> Result<String, AllocError> {
     let thread = member.thread.0;
     let process = member.process.0;

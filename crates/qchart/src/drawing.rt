@@ -1,4 +1,4 @@
-//! A script's chart, from its text to the text of the drawing.
+//! Draws a script: from its text to the text of the drawing.
 
 ghost use Rattle.std.specs.Prelude.{IfOk, IfErr};
 ghost use Rattle.std.specs.List.Sorted.{IsPermutation};
@@ -18,11 +18,11 @@ use qscript::{Script, parse};
 use qtables::member::Member;
 use std::alloc::{AllocError, Global};
 
-/// How many calls a chart may have.
+/// The most calls of a chart.
 pub const MOST_CALLS: usize = 400;
 
-/// The drawing of a script's run: what the text says, run on a new kernel. No drawing where a script is faulty, or has
-/// over 400 calls of which over 400 are to be drawn.
+/// Runs a script on a new kernel, and returns the drawing of the run. Returns an error if the script is faulty, or if
+/// more than 400 calls would be drawn.
 pub fn drawing(alloc: Global, text: &[u8], view: &View) -> Result<String, ChartFault>
     ensures { IfErr result (IsChartFault view.now text.now) }
 {
@@ -36,7 +36,7 @@ pub fn drawing(alloc: Global, text: &[u8], view: &View) -> Result<String, ChartF
     Ok(drawn)
 }
 
-/// What is told of the end of a script's run.
+/// Returns who waits for whom at the end of a script's run.
 fn outcome_of(alloc: Global, text: &[u8]) -> Result<Outcome, AllocError> {
     match report_of(alloc, text) {
         Ok(report) => Ok(Outcome {
@@ -47,7 +47,8 @@ fn outcome_of(alloc: Global, text: &[u8]) -> Result<Outcome, AllocError> {
     }
 }
 
-/// The chart of a script's run on a new kernel, with all its rows. None where over 400 of them are to be drawn.
+/// Runs a script on a new kernel, and returns the chart of the run with all its rows; an error if more than 400 of them
+/// would be drawn.
 pub fn chart(alloc: Global, text: &[u8], view: &View) -> Result<Chart, ChartFault>
     ensures ok { IfOk result (IsCharted view.now text.now) }
     ensures err { IfErr result (IsChartFault view.now text.now) }
@@ -61,7 +62,7 @@ pub fn chart(alloc: Global, text: &[u8], view: &View) -> Result<Chart, ChartFaul
     Ok(chart)
 }
 
-/// The chart of what a script says.
+/// Returns the chart of a script.
 fn chart_of(alloc: Global, script: Script, bytes: bool) -> Result<Chart, AllocError>
     requires { CanRun script.roster.items script.calls.items }
     ensures { IfOk result (IsChartOf script.roster.items script.calls.items) }
@@ -82,7 +83,7 @@ fn chart_of(alloc: Global, script: Script, bytes: bool) -> Result<Chart, AllocEr
     })
 }
 
-/// The part of a chart that is to be drawn.
+/// Returns the part of a chart that is drawn.
 fn part_of(alloc: Global, whole: Chart, view: &View) -> Result<Chart, AllocError> {
     let Chart {
         lifelines,
@@ -112,7 +113,7 @@ fn part_of(alloc: Global, whole: Chart, view: &View) -> Result<Chart, AllocError
     })
 }
 
-/// The threads in the order of their processes, and those of a process in rising number.
+/// Sorts the threads by their processes, and those of a process by number.
 fn by_process(members: Vec<Member>) -> Result<Vec<Member>, AllocError>
     ensures { IfOk result (λ sorted. IsPermutation members.items sorted.items) }
 {

@@ -1,4 +1,4 @@
-//! Why there is no chart.
+//! The reasons why there is no chart.
 
 ghost use Rattle.std.specs.Prelude.{◌≡◌};
 ghost use Rattle.qreading.specs.declared.fault.ScriptFault.TheVariants.{NoMemory};
@@ -9,13 +9,13 @@ use qscript::fault::ScriptFault;
 use std::alloc::{AllocError, AllocFailed};
 use thiserror::Error;
 
-/// Why a script has no chart.
+/// The reason why a script has no chart.
 #[derive(Debug, Drop, Error)]
 pub enum ChartFault {
-    /// It is faulty, or there is no memory for its run or its chart.
+    /// The script is faulty, or there is no memory for its run or its chart.
     #[error("{0}")]
     Script(ScriptFault),
-    /// It has so many calls, over 400.
+    /// The script has this many calls, over 400.
     #[error("too many calls for a chart: {0}, and 400 at most can be drawn")]
     TooManyCalls(usize),
 }
@@ -45,8 +45,8 @@ impl<T: Drop> From<AllocFailed<T>> for ChartFault {
 }
 
 impl ChartFault {
-    /// The status that the program ends with: 1 where the script is at fault or has too many calls, 3 where
-    /// something else failed.
+    /// Returns the exit status of the program: 1 if the script is at fault or has too many calls, 3 if something else
+    /// failed.
     pub fn status(&self) -> u8
         ensures { result ≡ status_of self.now }
     {

@@ -1,4 +1,4 @@
-//! A call in a few words.
+//! Words a call briefly.
 
 use crate::arrow::{Arrow, arrow_of};
 use crate::row::Cut;
@@ -12,7 +12,8 @@ use qmodel::kind::CallKind;
 use qqueue::item::What;
 use std::alloc::{AllocError, Global};
 
-/// What a thread calls, as it stands beside its line. What a Send or a Pulse makes has the number of the call.
+/// Returns the call of a thread, as it stands beside the thread's line. The message or pulse of a Send or a Pulse has
+/// the number of the call.
 pub fn call_words(alloc: Global, number: u64, call: &Call) -> Result<String, AllocError> {
     let name = call.kind().word();
     match call {
@@ -26,7 +27,7 @@ pub fn call_words(alloc: Global, number: u64, call: &Call) -> Result<String, All
     }
 }
 
-/// A call and what it names.
+/// Returns a call and what it names.
 fn named_label(alloc: Global, kind: CallKind, operand: Option<u64>) -> Result<String, AllocError> {
     let name = kind.word();
     let Some(number) = operand else {
@@ -59,7 +60,7 @@ fn priority_label(alloc: Global, thread: u8, priority: Priority) -> Result<Strin
     format!(in alloc; "setprio of {thread} to {level}")
 }
 
-/// What the caller gets at once, behind its call; nothing where an arrow says it, or there is nothing to say.
+/// Adds what the caller gets at once, behind its call; nothing if an arrow shows it, or if there is nothing to say.
 pub fn push_result(words: &mut String, mark: Mark) -> Result<(), AllocError> {
     match mark {
         Mark::Failed(errno) => {
@@ -84,7 +85,7 @@ pub fn push_result(words: &mut String, mark: Mark) -> Result<(), AllocError> {
     }
 }
 
-/// The name of a state, in the words of the QNX Neutrino System Architecture.
+/// Returns the name of a state, in the words of the QNX Neutrino System Architecture.
 pub fn state_name(state: ThreadState) -> &'static str {
     match state {
         ThreadState::Ready => "ready",
@@ -94,10 +95,10 @@ pub fn state_name(state: ThreadState) -> &'static str {
     }
 }
 
-/// How many bytes are shown of a message or an answer at most.
+/// The most bytes of a message or an answer that are shown.
 const MOST_SHOWN: usize = 8;
 
-/// Adds bytes in hexadecimal digits behind a space: the first eight, and how many there are where these aren't all.
+/// Adds a space and the first eight bytes in hexadecimal digits, and the number of bytes if there are more.
 fn push_bytes(words: &mut String, bytes: &[u8]) -> Result<(), AllocError> {
     if bytes.is_empty() {
         return words.push_str(" -");
@@ -113,7 +114,7 @@ fn push_bytes(words: &mut String, bytes: &[u8]) -> Result<(), AllocError> {
     Ok(())
 }
 
-/// Adds the bytes that a call brings to another thread.
+/// Adds the bytes that a call sends to another thread.
 pub fn push_call_bytes(words: &mut String, call: &Call) -> Result<(), AllocError> {
     match call {
         Call::Send { message, .. } => push_bytes(words, message.as_slice()),
@@ -123,8 +124,8 @@ pub fn push_call_bytes(words: &mut String, call: &Call) -> Result<(), AllocError
     }
 }
 
-/// The words of the arrows of an event whose call this thread made, in the order of its endings; with bytes or
-/// without.
+/// Returns the words of the arrows of an event whose call `caller` made, in the order of its endings; with the bytes if
+/// `bytes` is set.
 pub fn arrow_labels(
     alloc: Global,
     callers: &[ThreadNo],
@@ -145,7 +146,7 @@ pub fn arrow_labels(
     Ok(labels)
 }
 
-/// Adds what was copied into the buffer of a receiver or of a sender.
+/// Adds the bytes that were copied into the buffer of a receiver or of a sender.
 fn push_copied(words: &mut String, mark: Mark, buffer: &Bytes) -> Result<(), AllocError> {
     let copied = match mark {
         Mark::Message { copied, .. } | Mark::Replied { copied, .. } => copied,
@@ -154,7 +155,7 @@ fn push_copied(words: &mut String, mark: Mark, buffer: &Bytes) -> Result<(), All
     push_bytes(words, buffer.as_slice().get(..copied).unwrap_or(&[]))
 }
 
-/// What an arrow stands for, which an ending with this mark brought. A message is named by the call that sent it.
+/// Returns the words of an arrow that an ending with this mark gave. A message has the number of the call that sent it.
 fn arrow_words(alloc: Global, arrow: &Arrow, mark: Mark) -> Result<String, AllocError> {
     let number = arrow.number;
     match mark {
@@ -165,7 +166,7 @@ fn arrow_words(alloc: Global, arrow: &Arrow, mark: Mark) -> Result<String, Alloc
     }
 }
 
-/// A pulse: the number of the call that made it, and what it brings.
+/// Returns the words of a pulse: the number of the call that made it, and its content.
 fn pulse_words(alloc: Global, number: u64, what: What) -> Result<String, AllocError> {
     match what {
         What::Message => number_label(alloc, "pulse", number),
@@ -181,12 +182,12 @@ fn pulse_words(alloc: Global, number: u64, what: What) -> Result<String, AllocEr
     }
 }
 
-/// A user's pulse.
+/// Returns the words of a pulse that a thread sent.
 fn user_words(alloc: Global, number: u64, code: i8, value: i32) -> Result<String, AllocError> {
     format!(in alloc; "pulse {number} code {code} value {value}")
 }
 
-/// A call that was ended by force: its number and the error.
+/// Returns the words of a call that was ended by force: its number and the error.
 pub fn cut_words(alloc: Global, cut: &Cut) -> Result<String, AllocError> {
     let number = cut.number;
     let error = word(cut.errno);

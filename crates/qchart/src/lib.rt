@@ -1,5 +1,5 @@
-//! A picture of a run: a script's calls on a new kernel, drawn as people draw message passing, with a line down for
-//! each thread and an arrow for each message, answer and pulse. As SVG, and in columns of text.
+//! Draws a run: a script's calls on a new kernel, as people draw message passing, with a vertical line for each thread
+//! and an arrow for each message, answer and pulse. It draws SVG or columns of text.
 #![tactic(auto)]
 
 pub mod arrow;

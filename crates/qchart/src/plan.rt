@@ -1,4 +1,4 @@
-//! Where the words of a row stand.
+//! Places the words of a row.
 
 use crate::arrow::Arrow;
 use crate::chart::Chart;
@@ -11,8 +11,7 @@ pub enum Side {
     Right,
 }
 
-/// The side of the line of an arrow's sender on which the arrow leaves it: to the right where it goes back to the same
-/// line.
+/// Returns the side of its sender's line on which an arrow leaves it: the right if it goes back to the same line.
 pub fn leaves_at(chart: &Chart, arrow: &Arrow) -> Side {
     if chart.column(arrow.to) < chart.column(arrow.from) {
         Side::Left
@@ -21,8 +20,8 @@ pub fn leaves_at(chart: &Chart, arrow: &Arrow) -> Side {
     }
 }
 
-/// The side of the caller's line on which a row's words stand: beside the arrow that the call sends, and away from the
-/// one that it receives.
+/// Returns the side of the caller's line on which a row's words are: beside the arrow that the call sends, and away
+/// from the one that it receives.
 pub fn words_side(chart: &Chart, row: &Row) -> Side {
     let Some(arrow) = row.arrows.first() else {
         return Side::Right;
@@ -36,8 +35,7 @@ pub fn words_side(chart: &Chart, row: &Row) -> Side {
     Side::Right
 }
 
-/// Whether the row's own call sends what the arrow stands for, to another thread: then the row's words are the
-/// arrow's.
+/// Returns whether an arrow is what the row's own call sends to another thread; then the row's words are the arrow's.
 pub fn is_sent(row: &Row, arrow: &Arrow) -> bool {
     arrow.from == row.thread && arrow.to != row.thread
 }

@@ -1,4 +1,4 @@
-//! The priorities of the threads, followed from call to call.
+//! Follows the priorities of the threads from call to call.
 
 use crate::arrow::caller_of;
 use qbase::ids::{ChannelId, ThreadNo};
@@ -7,21 +7,21 @@ use qkernel::call::{Call, Completion, Mark};
 use qtables::member::Member;
 use std::alloc::{AllocError, Global};
 
-/// What later priorities may depend on of a call.
+/// The effect of a call on later priorities.
 #[derive(Clone, Copy)]
 pub enum Bearing {
     /// It creates a channel that leaves its receivers' priorities as they are.
     Fixes,
-    /// It receives on this channel.
+    /// It receives on this channel, and takes the priority of what it receives.
     Receives(ChannelId),
     /// It gives a thread this priority.
     Sets(ThreadNo, Priority),
-    /// Nothing.
+    /// None.
     Nothing,
 }
 
 impl Bearing {
-    /// What later priorities may depend on of this call.
+    /// Returns the effect of this call on later priorities.
     pub fn of(call: &Call) -> Bearing {
         match call {
             Call::ChannelCreate(flags) if flags.fixes_priority() => Bearing::Fixes,
@@ -40,7 +40,8 @@ pub struct Level {
     pub priority: Priority,
 }
 
-/// Each thread's priority by now, and what is to be known of the past calls for that.
+/// The priority of each thread after the calls so far, and the facts about these calls on which later priorities
+/// depend.
 #[derive(Drop)]
 pub struct Priorities {
     levels: Vec<Level>,
@@ -48,7 +49,7 @@ pub struct Priorities {
 }
 
 impl Priorities {
-    /// The priorities that the threads begin with.
+    /// Returns the priorities that the threads begin with.
     pub fn new(alloc: Global, members: &[Member]) -> Result<Priorities, AllocError> {
         let mut levels = Vec::new(alloc);
         for member in members {
@@ -63,8 +64,8 @@ impl Priorities {
         })
     }
 
-    /// The changes that the next call brings, in the order of its endings. These threads made the calls so far, with
-    /// this one.
+    /// Returns the changes of the next call, in the order of its endings. `callers` are the threads of the calls so
+    /// far, including this one.
     pub fn follow(
         &mut self,
         alloc: Global,
@@ -82,7 +83,7 @@ impl Priorities {
         Ok(changes)
     }
 
-    /// The change that an ending brings, which is noted.
+    /// Applies the change of an ending, and returns it.
     fn applied(&mut self, callers: &[ThreadNo], ending: &Completion) -> Option<Level> {
         let level = self.given_by(callers, ending)?;
         if self.change(&level) {
@@ -92,8 +93,8 @@ impl Priorities {
         }
     }
 
-    /// The priority that an ending of the newest call gives a thread: an accepted PrioritySet sets it, and who
-    /// receives takes the item's, unless its channel leaves priorities as they are.
+    /// Returns the priority that an ending of the latest call gives a thread: an accepted PrioritySet sets it, and a
+    /// receiver takes that of the item, unless its channel leaves priorities as they are.
     fn given_by(&self, callers: &[ThreadNo], ending: &Completion) -> Option<Level> {
         match ending.mark {
             Mark::Ok => match self.bearing_of(ending.call) {
@@ -115,7 +116,7 @@ impl Priorities {
         }
     }
 
-    /// Whether the receive of a number is on a channel that leaves priorities as they are.
+    /// Returns whether the receive with this number is on a channel that leaves priorities as they are.
     fn is_fixed(&self, receive: u64) -> bool {
         match self.bearing_of(receive) {
             Bearing::Receives(chid) => matches!(self.bearing_of(chid.0), Bearing::Fixes),
@@ -136,7 +137,7 @@ impl Priorities {
         Some(level.priority)
     }
 
-    /// Gives a thread this priority, and answers whether it had another.
+    /// Gives a thread this priority, and returns whether it had another.
     fn change(&mut self, given: &Level) -> bool {
         let place = self
             .levels

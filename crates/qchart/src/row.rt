@@ -1,4 +1,4 @@
-//! A row of a chart: one call, and what came of it.
+//! A row of a chart: one call and its effects.
 
 use crate::arrow::Arrow;
 use crate::priorities::Level;
@@ -16,27 +16,27 @@ pub struct Cut {
     pub errno: Errno,
 }
 
-/// A call, and what came of it.
+/// A call and its effects.
 #[derive(Debug, Drop)]
 pub struct Row {
     /// The thread that made the call.
     pub thread: ThreadNo,
-    /// The call in a few words, and what its thread got at once.
+    /// The call briefly, and what its thread got at once.
     pub words: String,
-    /// What was received and answered, in the order of the endings.
+    /// The arrows of what was received and answered, in the order of the endings.
     pub arrows: Vec<Arrow>,
     /// The words of each of these arrows.
     pub labels: Vec<String>,
     /// The calls of other threads that ended by force, in rising thread number.
     pub cuts: Vec<Cut>,
-    /// The threads whose priority changed, with the new one.
+    /// The threads whose priority changed, with the new priority.
     pub changes: Vec<Level>,
-    /// The threads that are blocked after it, in rising number.
+    /// The threads that are blocked after the call, in rising number.
     pub blocked: Vec<Blocked>,
 }
 
 impl Row {
-    /// How many bytes its longest words have.
+    /// Returns the bytes of its longest words.
     pub fn longest_words(&self) -> usize {
         let mut most = self.words.len();
         for label in &self.labels {
@@ -45,7 +45,7 @@ impl Row {
         most
     }
 
-    /// The state of a thread after the call.
+    /// Returns the state of a thread after the call.
     pub fn state_of(&self, thread: ThreadNo) -> ThreadState {
         match self.blocked.iter().find(|blocked| blocked.thread == thread) {
             Some(blocked) => blocked.state,

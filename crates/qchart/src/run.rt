@@ -1,4 +1,4 @@
-//! The rows of a run.
+//! Makes the rows of a run.
 
 ghost use Rattle.std.specs.Prelude.{◌≡◌, ◌+◌, ◌<◌, ◌≤◌, ◌^◌, [], ◌∷◌, ◌++◌, length, is_some, true, IfOk, OnOk};
 ghost use Rattle.std.specs.List.{filter_map};
@@ -20,7 +20,7 @@ use qkernel::kernel::Kernel;
 use qtables::member::Member;
 use std::alloc::{AllocError, Global};
 
-/// What is known of the calls so far.
+/// The facts about the calls so far that later rows need.
 #[derive(Drop)]
 struct Course {
     callers: Vec<ThreadNo>,
@@ -28,7 +28,8 @@ struct Course {
     bytes: bool,
 }
 
-/// Makes the calls in order on a new kernel of these threads, with a row for each; its words have bytes or not.
+/// Makes the calls in order on a new kernel of these threads, and returns a row for each; its words have the bytes if
+/// `bytes` is set.
 pub fn rows_of(
     alloc: Global,
     kernel: &mut Kernel,
@@ -56,7 +57,7 @@ pub fn rows_of(
 }
 
 impl Course {
-    /// Makes a call, and answers its row. The list of endings is lent, and is left with the call's.
+    /// Makes a call, and returns its row. `endings` is reused: it has the endings of this call afterwards.
     fn next_row(
         &mut self,
         alloc: Global,
@@ -102,7 +103,7 @@ impl Course {
 }
 
 impl Course {
-    /// The words of a call, before it is answered.
+    /// Returns the words of a call, without its result.
     fn words_of(&self, alloc: Global, number: u64, call: &Call) -> Result<String, AllocError> {
         let mut words = call_words(alloc, number, call)?;
         if self.bytes {
@@ -112,7 +113,7 @@ impl Course {
     }
 }
 
-/// The words of the newest call, of this number, with what its thread got at once.
+/// Returns the words of the latest call, which has this number, with what its thread got at once.
 fn with_result(words: String, number: u64, endings: &[Completion]) -> Result<String, AllocError> {
     let mut words = words;
     if let Some(own) = endings.iter().find(|ending| ending.call == number) {
@@ -121,7 +122,7 @@ fn with_result(words: String, number: u64, endings: &[Completion]) -> Result<Str
     Ok(words)
 }
 
-/// The calls but the newest, of this number, that an event ended by force.
+/// Returns the calls that an event ended by force, except the latest call, which has this number.
 fn cuts_of(alloc: Global, number: u64, endings: &[Completion]) -> Result<Vec<Cut>, AllocError> {
     endings
         .iter()

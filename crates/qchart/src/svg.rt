@@ -1,4 +1,4 @@
-//! A chart as SVG.
+//! Draws a chart as SVG.
 
 mod bars;
 mod fixed;
@@ -15,7 +15,7 @@ use qbase::state::ThreadState;
 use sheet::Sheet;
 use std::alloc::{AllocError, Global};
 
-/// The drawing of a chart as SVG, which a browser shows by itself and within a page.
+/// Returns a chart as SVG, which a browser shows alone or within a page.
 pub fn svg_of(alloc: Global, chart: &Chart, outcome: &Outcome) -> Result<String, AllocError> {
     let sheet = Sheet::of(alloc, chart, outcome.deadlocks.len())?;
     let mut out = String::new(alloc);
@@ -46,7 +46,7 @@ fn push_start(out: &mut String, sheet: &Sheet) -> Result<(), AllocError> {
     out.push_str(START)
 }
 
-/// A ground for the threads of each process.
+/// Adds a background for the threads of each process.
 fn push_processes(out: &mut String, sheet: &Sheet) -> Result<(), AllocError> {
     let lifelines = &sheet.chart.lifelines;
     let mut column = 0usize;
@@ -86,7 +86,7 @@ fn push_process(
     )
 }
 
-/// The number of each call, and a faint line across for it.
+/// Adds the number of each call, and a faint horizontal line for it.
 fn push_guides(out: &mut String, sheet: &Sheet) -> Result<(), AllocError> {
     let right = sheet.width().saturating_sub(12);
     let mut number = 0usize;
@@ -107,7 +107,7 @@ fn push_guides(out: &mut String, sheet: &Sheet) -> Result<(), AllocError> {
     Ok(())
 }
 
-/// The head and the bars of each thread.
+/// Adds the head and the bars of each thread.
 fn push_lifelines(out: &mut String, alloc: Global, sheet: &Sheet) -> Result<(), AllocError> {
     let mut column = 0usize;
     for member in &sheet.chart.lifelines {
@@ -155,7 +155,7 @@ fn class_of(state: ThreadState) -> &'static str {
     }
 }
 
-/// A call: its words, its arrows, the calls that it cut and the priorities that it changed.
+/// Adds a call: its words, its arrows, the calls that it ended by force and the priorities that it changed.
 fn push_row(
     out: &mut String,
     alloc: Global,
@@ -183,7 +183,7 @@ fn push_row(
     Ok(())
 }
 
-/// The arrows of a row, with their words but for the one that the row's own words are of.
+/// Adds the arrows of a row, with their words, except the one whose words are the row's own.
 fn push_arrows(out: &mut String, sheet: &Sheet, y: usize, row: &Row) -> Result<(), AllocError> {
     for (arrow, words) in row.arrows.iter().zip(row.labels.iter()) {
         push_arrow(out, sheet, y, row, arrow)?;
@@ -198,7 +198,7 @@ fn push_arrows(out: &mut String, sheet: &Sheet, y: usize, row: &Row) -> Result<(
     Ok(())
 }
 
-/// An arrow that ends in the air for each message that nobody has received, in the row of its send.
+/// Adds a short arrow for each message that nobody has received, in the row of its send.
 fn push_pending(out: &mut String, sheet: &Sheet, outcome: &Outcome) -> Result<(), AllocError> {
     for wait in &outcome.waits {
         let number = (wait.message as usize).saturating_sub(sheet.chart.before);
@@ -211,7 +211,7 @@ fn push_pending(out: &mut String, sheet: &Sheet, outcome: &Outcome) -> Result<()
     Ok(())
 }
 
-/// An arrow from a column's line towards another, below the words and half as far as the next line.
+/// Adds an arrow from a column's line half the distance to the next one, below the words.
 fn push_short_arrow(
     out: &mut String,
     sheet: &Sheet,
@@ -233,7 +233,7 @@ fn push_short_arrow(
     )
 }
 
-/// A line for each circle in which threads wait, below the rows.
+/// Adds a line for each circle in which threads wait, below the rows.
 fn push_deadlocks(out: &mut String, sheet: &Sheet, outcome: &Outcome) -> Result<(), AllocError> {
     let mut y = sheet.foot().saturating_add(20);
     for deadlock in &outcome.deadlocks {
@@ -246,7 +246,7 @@ fn push_deadlocks(out: &mut String, sheet: &Sheet, outcome: &Outcome) -> Result<
     Ok(())
 }
 
-/// The caller's dot and words: above the arrow that the call sends, and else level with the dot.
+/// Adds the caller's dot and words: above the arrow that the call sends, or else level with the dot.
 fn push_call(out: &mut String, sheet: &Sheet, y: usize, row: &Row) -> Result<(), AllocError> {
     let x = sheet.x(sheet.chart.column(row.thread));
     write!(out, "<circle class=\"dot\" cx=\"{x}\" cy=\"{y}\" r=\"4\"/>")?;
@@ -260,7 +260,7 @@ fn push_call(out: &mut String, sheet: &Sheet, y: usize, row: &Row) -> Result<(),
     push_words(out, "words", x, base, side, 14, row.words.as_str())
 }
 
-/// Words beside a line, so far from it.
+/// Adds words beside a line, at this distance from it.
 fn push_words(
     out: &mut String,
     class: &str,
@@ -299,7 +299,8 @@ fn push_cross(out: &mut String, x: usize, y: usize) -> Result<(), AllocError> {
     )
 }
 
-/// An arrow between two lines, or back to its own; with a ring at its tail if what it stands for was sent before.
+/// Adds an arrow between two lines, or back to its own; with a ring at its tail if what it stands for was sent in an
+/// earlier row.
 fn push_arrow(
     out: &mut String,
     sheet: &Sheet,

@@ -1,4 +1,4 @@
-//! A chart in columns of text.
+//! Draws a chart in columns of text.
 
 mod line;
 
@@ -13,10 +13,10 @@ use qbase::state::ThreadState;
 use qexplain::waiting::Wait;
 use std::alloc::{AllocError, Global};
 
-/// Where the first thread's line stands in a line of text.
+/// The place of the first thread's line in a line of text.
 const MARGIN: usize = 6;
 
-/// The least columns of text from a thread's line to the next.
+/// The least distance between the lines of neighbouring threads, in characters.
 const LEAST_GAP: usize = 26;
 
 const LEGEND: &str = "
@@ -35,7 +35,7 @@ struct Page<'a> {
     gap: usize,
 }
 
-/// The drawing of a chart in columns of text.
+/// Returns a chart in columns of text.
 pub fn text_of(alloc: Global, chart: &Chart, outcome: &Outcome) -> Result<String, AllocError> {
     let page = Page {
         alloc,
@@ -60,7 +60,7 @@ pub fn text_of(alloc: Global, chart: &Chart, outcome: &Outcome) -> Result<String
 }
 
 impl Page<'_> {
-    /// Where a column's line stands.
+    /// Returns the place of a column's line.
     fn place(&self, column: usize) -> usize {
         MARGIN.saturating_add(self.gap.saturating_mul(column))
     }
@@ -69,7 +69,7 @@ impl Page<'_> {
         self.place(self.chart.column(thread))
     }
 
-    /// Two lines for the heads of the threads.
+    /// Adds two lines for the heads of the threads.
     fn push_heads(&self, out: &mut String) -> Result<(), AllocError> {
         let mut names = Line::new(self.alloc);
         let mut levels = Line::new(self.alloc);
@@ -86,7 +86,7 @@ impl Page<'_> {
         levels.end(out)
     }
 
-    /// Writes the states of the threads after a row, also where an arrow crosses them, and ends the line.
+    /// Writes the states of the threads after a row, over any arrow that crosses them, and ends the line.
     fn end_line(&self, out: &mut String, line: Line, row: &Row) -> Result<(), AllocError> {
         let mut line = line;
         let mut column = 0usize;
@@ -97,7 +97,7 @@ impl Page<'_> {
         line.end(out)
     }
 
-    /// The lines of a row: its call, the arrows that aren't the call's own, and the priorities that changed.
+    /// Adds the lines of a row: its call, the arrows that aren't the call's own, and the priorities that changed.
     fn push_row(&self, out: &mut String, number: usize, row: &Row) -> Result<(), AllocError> {
         let mut first = Line::new(self.alloc);
         first.put(0, format!(in self.alloc; "{number:>4}")?.as_str())?;
@@ -116,8 +116,8 @@ impl Page<'_> {
         self.push_changes(out, row)
     }
 
-    /// A call that no arrow stands for: its words beside the caller's line, or at an arrow that ends in the air where
-    /// nobody has received what it sent.
+    /// Writes a call that no arrow shows: its words beside the caller's line, or at a short arrow if nobody has
+    /// received what it sent.
     fn put_call(&self, line: &mut Line, number: usize, row: &Row) -> Result<(), AllocError> {
         let mut waits = self.outcome.waits.iter();
         let pending = waits.find(|wait| wait.message as usize == number && !wait.is_held);
@@ -132,7 +132,7 @@ impl Page<'_> {
         }
     }
 
-    /// An arrow that ends behind its words.
+    /// Writes a short arrow that ends behind its words.
     fn put_short_arrow(&self, line: &mut Line, wait: &Wait, words: &str) -> Result<(), AllocError> {
         let from = self.place_of(wait.thread);
         let len = words.len().saturating_add(5);
@@ -174,7 +174,7 @@ impl Page<'_> {
         self.end_line(out, line, row)
     }
 
-    /// An arrow with its words at its tail, and a sign there if what it stands for was sent before.
+    /// Writes an arrow with its words at its tail, and a sign there if what it stands for was sent in an earlier row.
     fn put_arrow(
         &self,
         line: &mut Line,
@@ -208,7 +208,7 @@ impl Page<'_> {
     }
 }
 
-/// What a thread's line is drawn with in a state.
+/// Returns the sign that draws a thread's line in a state.
 fn state_sign(state: ThreadState) -> &'static str {
     match state {
         ThreadState::Ready => "|",
@@ -218,7 +218,7 @@ fn state_sign(state: ThreadState) -> &'static str {
     }
 }
 
-/// What the shaft of an arrow is drawn with.
+/// Returns the sign that draws the shaft of an arrow.
 fn shaft(what: What) -> &'static str {
     match what {
         What::Message => "-",

@@ -1,4 +1,4 @@
-//! What of a run is drawn, and how.
+//! The part of a run that is drawn, and how.
 
 ghost use Rattle.std.specs.Prelude.{◌≡◌, ◌-◌, ◌^◌};
 
@@ -11,7 +11,7 @@ pub enum Style {
     Text,
 }
 
-/// What of a run is drawn, and how.
+/// The part of a run that is drawn, and how.
 #[derive(Clone, Copy, Debug, PartialEq, Eq)]
 pub struct View {
     pub style: Style,
@@ -19,14 +19,14 @@ pub struct View {
     pub bytes: bool,
     /// The number of the first call that is drawn, from 1.
     pub from: usize,
-    /// The number of the last call that is drawn; behind the last call is the last.
+    /// The number of the last call that is drawn; if there are fewer calls, all are drawn.
     pub to: usize,
 }
 
 impl View {
     ghost use Rattle.qchart.specs.View.{drawn_count};
 
-    /// The whole run, without bytes.
+    /// Returns the view of the whole run, without bytes.
     pub fn whole(style: Style) -> View
         ensures from { result.from ≡ 1 }
         ensures to { result.to ≡ 2 ^ 64 - 1 }
@@ -39,14 +39,14 @@ impl View {
         }
     }
 
-    /// How many calls come before the first that is drawn.
+    /// Returns the number of calls before the first that is drawn.
     pub fn before(&self) -> usize
         ensures { result ≡ self.now.from - 1 }
     {
         self.from.saturating_sub(1)
     }
 
-    /// How many of so many calls are drawn.
+    /// Returns the number of calls that are drawn, of a run of this many.
     pub fn span(&self, calls: usize) -> usize
         ensures { result ≡ drawn_count self.now calls }
     {

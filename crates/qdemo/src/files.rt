@@ -1,4 +1,4 @@
-//! The two files of a recording.
+//! Writes the two files of a recording.
 
 use qserve::fault::ServeFault;
 use qserve::recording::{Forget, Recording, Store};
@@ -6,9 +6,9 @@ use qtool::ending::tell_failed;
 use std::rt::Files;
 use std::{fs, io};
 
-/// What can say why it didn't store a recording.
+/// Reports why a recording wasn't stored.
 pub trait Why {
-    /// Tells which file can't be written, and why; answers whether there is one.
+    /// Prints which file can't be written, and why; returns whether there is one.
     fn tell(&self, rt: &impl Eprint) -> bool;
 }
 
@@ -18,17 +18,17 @@ impl Why for Forget {
     }
 }
 
-/// Stores a recording in the files NAME.txt and NAME.trace, and writes over what they had.
+/// Stores a recording in the files NAME.txt and NAME.trace, which it overwrites.
 #[derive(Drop)]
 pub struct RecordFiles<'a, R> {
     rt: &'a R,
     name: &'a str,
-    /// The file that can't be written, by its kind, and why.
+    /// The extension of the file that can't be written, and why.
     failure: Option<(&'static str, io::Error)>,
 }
 
 impl<'a, R: Files + AllocGlobal> RecordFiles<'a, R> {
-    /// The files of this name.
+    /// Returns the files with this name.
     pub fn new(rt: &'a R, name: &'a str) -> RecordFiles<'a, R> {
         RecordFiles {
             rt,
@@ -37,7 +37,7 @@ impl<'a, R: Files + AllocGlobal> RecordFiles<'a, R> {
         }
     }
 
-    /// Writes the text into the file of this kind.
+    /// Writes the text into the file NAME.KIND.
     fn put(&mut self, kind: &'static str, text: &str) -> Result<(), ServeFault> {
         let name = self.name;
         let path = format!(in self.rt.alloc(); "{name}.{kind}")?;

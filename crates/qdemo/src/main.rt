@@ -1,4 +1,4 @@
-//! A kernel of synchronous messages: run from a script, and by a server and its clients on threads.
+//! A kernel of synchronous messages, run from a script, or by a server and its clients on threads.
 #![tactic(auto)]
 
 mod files;
@@ -47,8 +47,8 @@ fn main(rt: HostRuntime) -> ExitCode {
     }
 }
 
-/// Ends a program whose words ask for no action: with the help text that they want, or with what is wrong
-/// with them. A fault of the command line has its status also where its text can't be written.
+/// Ends a program whose arguments ask for no action: prints the help text that they ask for, or what is wrong with
+/// them. A faulty command line has its status even if its text can't be written.
 fn end_without_action<R: Print + Eprint>(rt: &R, error: &Error) -> ExitCode {
     if error.kind() == ErrorKind::OutOfMemory {
         return end_failed(rt, "out of memory");

@@ -19,8 +19,8 @@ use std::sync::Wait;
 use std::thread::Threads;
 use std::{io, str};
 
-/// Runs a server and its clients, and records what the kernel did where there is a name for it. Progress is shown on a
-/// terminal alone.
+/// Runs a server and its clients, and records the kernel's calls if the recording has a name. Progress is shown only on
+/// a terminal.
 pub fn run_serve<R: Files + Print + Eprint + AllocGlobal + Threads + Wait + Clock + Sync>(
     rt: &R,
     run: ServeRun,
@@ -38,7 +38,7 @@ pub fn run_serve<R: Files + Print + Eprint + AllocGlobal + Threads + Wait + Cloc
         progress: terminal && !run.quiet,
         record: run.record.is_some(),
     };
-    // The command line allows no other settings than those that fit.
+    // The command line allows only settings that fit.
     if !settings.fit() {
         return end_with(rt, "worker failed", 3);
     }
@@ -50,7 +50,7 @@ pub fn run_serve<R: Files + Print + Eprint + AllocGlobal + Threads + Wait + Cloc
     serve_with(rt, settings, json, &mut files)
 }
 
-/// Runs a server and its clients, stores their recording, and prints what they did as it is wanted.
+/// Runs a server and its clients, stores their recording, and prints the results in the wanted form.
 fn serve_with<R: Print + Eprint + AllocGlobal + Threads + Wait + Clock + Sync, S: Store + Why>(
     rt: &R,
     settings: Settings,
@@ -79,7 +79,8 @@ fn end_served<R: Eprint, S: Why>(rt: &R, store: &S, fault: ServeFault) -> ExitCo
     end_with(rt, fault, status)
 }
 
-/// The same, with the units of the times or as JSON.
+/// Runs a server and its clients, stores their recording, and prints the results with the units of the times, or as
+/// JSON.
 fn serve_in_words<R: Print + Eprint + AllocGlobal + Threads + Wait + Clock + Sync, S: Store + Why>(
     rt: &R,
     settings: Settings,

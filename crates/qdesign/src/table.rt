@@ -6,13 +6,13 @@ use std::alloc::{AllocError, Global};
 #[derive(Clone, Copy, Debug)]
 pub struct Row {
     pub form: &'static str,
-    /// What it means.
+    /// Its meaning.
     pub meaning: &'static str,
-    /// Lines of a section with one such.
+    /// Lines of a section that have it.
     pub example: &'static str,
 }
 
-/// The lines of a program, but for the calls.
+/// The lines of a program, except the calls.
 pub static LINES: [Row; 17] = [
     Row {
         form: "thread NAME PROCESS PRIORITY [COPIES]",
@@ -101,15 +101,14 @@ pub static LINES: [Row; 17] = [
     },
 ];
 
-/// What stands in front of the first section.
+/// The line that may stand in front of the first section.
 pub static CHECK: Row = Row {
     form: "check inversion",
     meaning: "in front of the first section: inversions of priorities are findings",
     example: "",
 };
 
-/// The tests of a pattern, which has `or` between them. `*` stands for any number, and numbers may be left out from the
-/// last one on.
+/// The tests of a pattern, which has `or` between them. `*` stands for any number; the last numbers may be left out.
 pub static TESTS: [Row; 16] = [
     Row {
         form: "ok",
@@ -200,7 +199,7 @@ fn push_row(text: &mut String, row: &Row) -> Result<(), AllocError> {
     write!(text, "  {form}\n      {meaning}\n")
 }
 
-/// The table as text: each form, and below it what it means.
+/// Returns the table as text: each form, and below it its meaning.
 pub fn table(alloc: Global) -> Result<String, AllocError> {
     let mut text = String::from_str(alloc, "Lines of a design:\n")?;
     push_row(&mut text, &CHECK)?;

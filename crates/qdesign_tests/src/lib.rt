@@ -1,6 +1,7 @@
-//! Tests of designs: what is read, what is told of faults, and how threads go through their programs.
+//! Tests of designs: what is read, which faults are reported, and how threads go through their programs.
 #![tactic(auto)]
 
+pub mod designs;
 #[cfg(test)]
 mod faults;
 #[cfg(test)]
@@ -9,7 +10,5 @@ mod machine;
 mod outcome;
 #[cfg(test)]
 mod reading;
-#[cfg(test)]
-mod systems;
 #[cfg(test)]
 mod table;

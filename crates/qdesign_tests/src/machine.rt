@@ -1,7 +1,7 @@
 //! How threads go through their programs, with endings that are written here.
 
+use crate::designs::{LOCK_MENDED, TWO_SERVERS};
 use crate::outcome::good;
-use crate::systems;
 use qbase::bytes::Bytes;
 use qbase::errno::Errno;
 use qbase::ids::{ChannelId, ConnectionId, ReceiveId, ThreadNo};
@@ -121,7 +121,7 @@ fn replied() -> Mark {
 
 #[test]
 fn the_setup(rt: HostRuntime) {
-    let mut play = Play::new(&rt, rt.alloc(), systems::MUTUAL);
+    let mut play = Play::new(&rt, rt.alloc(), TWO_SERVERS);
     let marks = [
         (0usize, Mark::Channel(ChannelId(1))),
         (1, Mark::Channel(ChannelId(2))),
@@ -146,7 +146,7 @@ fn the_setup(rt: HostRuntime) {
 
 #[test]
 fn the_lock_is_handed_out_and_given_back(rt: HostRuntime) {
-    let mut play = Play::new(&rt, rt.alloc(), systems::LOCK);
+    let mut play = Play::new(&rt, rt.alloc(), LOCK_MENDED);
     play.set_up(&rt, rt.alloc());
     assert_eq!(rt; play.next(&rt, rt.alloc(), 0).as_str(), "receive 1");
     assert_eq!(rt; play.next(&rt, rt.alloc(), 1).as_str(), "send 2");
@@ -169,7 +169,7 @@ fn the_lock_is_handed_out_and_given_back(rt: HostRuntime) {
 
 #[test]
 fn the_timer_comes_while_a_client_waits(rt: HostRuntime) {
-    let mut play = Play::new(&rt, rt.alloc(), systems::LOCK);
+    let mut play = Play::new(&rt, rt.alloc(), LOCK_MENDED);
     play.set_up(&rt, rt.alloc());
     play.end(&rt, rt.alloc(), 1, message(4), &[1]);
     play.end(&rt, rt.alloc(), 1, Mark::Ok, &[]);
@@ -185,14 +185,14 @@ fn the_timer_comes_while_a_client_waits(rt: HostRuntime) {
 
 #[test]
 fn findings(rt: HostRuntime) {
-    let mut play = Play::new(&rt, rt.alloc(), systems::LOCK);
+    let mut play = Play::new(&rt, rt.alloc(), LOCK_MENDED);
     play.set_up(&rt, rt.alloc());
     play.end(&rt, rt.alloc(), 2, Mark::Errored(5), &[]);
-    assert_eq!(rt; play.world.finding(), Some((1, Finding::Unexpected(38))));
+    assert_eq!(rt; play.world.finding(), Some((1, Finding::Unexpected(34))));
     assert_eq!(rt; play.next(&rt, rt.alloc(), 1).as_str(), "none");
-    let mut play = Play::new(&rt, rt.alloc(), systems::LOCK);
+    let mut play = Play::new(&rt, rt.alloc(), LOCK_MENDED);
     play.end(&rt, rt.alloc(), 1, Mark::Failed(Errno::Again), &[]);
-    assert_eq!(rt; play.world.finding(), Some((0, Finding::Failed(6))));
+    assert_eq!(rt; play.world.finding(), Some((0, Finding::Failed(2))));
     let text = "thread t p 1\nif has m\nm = receive ch -\nelse\ninfo m\nend\nch = create 0\n";
     let play = Play::new(&rt, rt.alloc(), text);
     assert_eq!(rt; play.world.finding(), Some((0, Finding::Unset(5))));

@@ -1,27 +1,9 @@
-//! What is read: the eight designs, threads and processes, and sections in any order.
+//! What is read: threads and processes, and sections in any order.
 
-use crate::outcome::{faults, good};
-use crate::systems;
+use crate::designs::LOCK_MENDED;
+use crate::outcome::good;
 use qprograms::design::{Design, Step, Target};
 use std::alloc::{AllocError, Global};
-
-#[test]
-fn the_designs_of_the_trial(rt: HostRuntime) {
-    let texts = [
-        systems::MUTUAL,
-        systems::MUTUAL_FIXED,
-        systems::LOCK,
-        systems::LOCK_FIXED,
-        systems::INVERSION,
-        systems::INVERSION_FIXED,
-        systems::DETACH,
-        systems::DETACH_FIXED,
-    ];
-    for text in texts {
-        let found = faults(rt.alloc(), text).expect(&rt, "room");
-        assert_eq!(rt; found.as_str(), "");
-    }
-}
 
 /// The instructions of a thread's program, with names in place of seats.
 fn listing(alloc: Global, design: &Design, name: &str) -> Result<String, AllocError> {
@@ -80,7 +62,7 @@ fn sections_in_another_order(rt: HostRuntime) {
 
 #[test]
 fn threads_and_processes(rt: HostRuntime) {
-    let design = good(&rt, rt.alloc(), systems::LOCK);
+    let design = good(&rt, rt.alloc(), LOCK_MENDED);
     let wanted = [
         ("server", 1u8, "lockd"),
         ("client.1", 2, "app.1"),
@@ -94,6 +76,7 @@ fn threads_and_processes(rt: HostRuntime) {
         assert_eq!(rt; thread.process.0, *number);
         assert_eq!(rt; thread.process_name.as_str(), *process);
     }
-    assert!(rt; good(&rt, rt.alloc(), systems::INVERSION).checks_inversion);
     assert!(rt; !design.checks_inversion);
+    let text = "check inversion\nthread store disk 10\nrequests = create 1\n";
+    assert!(rt; good(&rt, rt.alloc(), text).checks_inversion);
 }

@@ -1,17 +1,17 @@
-//! A line as it is shown, with a mark below the part that is meant.
+//! Shows a line with a mark below the part that an explanation is about.
 
 use crate::parts::Place;
 use std::alloc::{AllocError, Global};
 use std::fmt;
 
-/// How many bytes of a line are shown at most.
+/// The most bytes of a line that are shown.
 const MOST_SHOWN: usize = 72;
 
-/// How many bytes are shown before a part that stands far behind.
+/// The number of bytes that are shown in front of a part that lies far from the front.
 const SHOWN_BEFORE: usize = 32;
 
-/// A line, and the marks below it. Of a long line only what stands around the part is there, with two dots
-/// where something is left out. A tab is shown as a space, and a byte that doesn't print as `?`.
+/// A line, and the marks below it. A long line is cut to what stands around the part, with two dots where something is
+/// left out. A tab is shown as a space, and a byte that isn't printable ASCII as `?`.
 #[derive(Debug, Drop)]
 pub struct Excerpt {
     line: String,
@@ -26,7 +26,7 @@ impl fmt::Display for Excerpt {
     }
 }
 
-/// How a byte of a line is shown.
+/// Returns the character that shows a byte of a line.
 fn shown_byte(byte: u8) -> char {
     match byte {
         b'\t' => ' ',
@@ -35,7 +35,7 @@ fn shown_byte(byte: u8) -> char {
     }
 }
 
-/// What is shown of a line, from this byte on.
+/// Returns the part of a line that is shown, from this byte on.
 fn shown_line(alloc: Global, line: &[u8], from: usize) -> Result<String, AllocError> {
     let mut text = String::new(alloc);
     if from > 0 {
@@ -50,7 +50,7 @@ fn shown_line(alloc: Global, line: &[u8], from: usize) -> Result<String, AllocEr
     Ok(text)
 }
 
-/// So many equal characters.
+/// Adds `count` equal characters.
 fn push_many(text: &mut String, mark: char, count: usize) -> Result<(), AllocError> {
     for _ in 0..count {
         text.push(mark)?;
@@ -58,7 +58,7 @@ fn push_many(text: &mut String, mark: char, count: usize) -> Result<(), AllocErr
     Ok(())
 }
 
-/// The excerpt of a line around this place.
+/// Returns the excerpt of a line around this place.
 pub fn excerpt_of(alloc: Global, line: &[u8], place: Place) -> Result<Excerpt, AllocError> {
     let from = if place.at < MOST_SHOWN / 2 || line.len() <= MOST_SHOWN {
         0

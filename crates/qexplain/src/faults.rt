@@ -1,4 +1,4 @@
-//! All faults of a text, and what is odd in it.
+//! Finds all faults of a text, and its oddities.
 
 use crate::explanation::{Explanation, explain_line, explanation_of};
 use crate::grammar::{Operand, call_form};
@@ -11,13 +11,13 @@ use qreading::reading::number::small;
 use qreading::reading::words::next_word;
 use std::alloc::{AllocError, Global};
 
-/// How many faults, or how many odd words, are told at most.
+/// The most faults, or oddities, that are reported.
 pub const MOST_FAULTS: usize = 20;
 
-/// How many threads a script may have.
+/// The most threads of a script.
 const MOST_THREADS: usize = 64;
 
-/// What is told of a line: its number, counted from 1, its fault if it has one, and the explanation.
+/// A remark on a line: its number, counted from 1, its fault if it has one, and the explanation.
 #[derive(Debug, Drop)]
 pub struct Remark {
     pub line: usize,
@@ -25,7 +25,7 @@ pub struct Remark {
     pub explanation: Explanation,
 }
 
-/// What the lines so far say to those behind.
+/// What the lines so far say that the lines behind them depend on.
 #[derive(Drop)]
 struct Reader {
     threads: Vec<u8>,
@@ -33,8 +33,9 @@ struct Reader {
     has_calls: bool,
 }
 
-/// The faults of the lines of a text in order, twenty at most. The first is that which a script is refused for. A line
-/// is read though lines before it are faulty; what follows from a fault before is left out where that can be told.
+/// Returns the faults of the lines of a text in order, at most `MOST_FAULTS`. The first is the one that a run reports.
+/// Each line is read although lines above it are faulty; a fault that follows from one above is left out if it can be
+/// recognized.
 pub fn faults(alloc: Global, text: &[u8]) -> Result<Vec<Remark>, AllocError> {
     let mut reader = Reader {
         threads: Vec::new(alloc),
@@ -61,7 +62,7 @@ pub fn faults(alloc: Global, text: &[u8]) -> Result<Vec<Remark>, AllocError> {
 }
 
 impl Reader {
-    /// What is wrong with the next line.
+    /// Returns the fault of the next line.
     fn fault_of(&mut self, alloc: Global, line: &[u8]) -> Result<Option<LineFault>, AllocError> {
         let said = line_said(alloc, self.has_calls, line);
         match &said {
@@ -76,7 +77,7 @@ impl Reader {
         }
     }
 
-    /// Adds a thread, unless that is a fault.
+    /// Adds a thread to the roster; returns the fault if it can't be added.
     fn enroll(&mut self, thread: ThreadNo) -> Result<Option<LineFault>, AllocError> {
         if self.threads.contains(&thread.0) {
             return Ok(Some(LineFault::DoubleThread));
@@ -88,7 +89,7 @@ impl Reader {
         Ok(None)
     }
 
-    /// Looks whether a call's thread has a line. A thread without one is told once.
+    /// Checks that a call's thread is in the roster. A thread that isn't is reported once.
     fn call(&mut self, thread: ThreadNo) -> Result<Option<LineFault>, AllocError> {
         self.has_calls = true;
         if self.threads.contains(&thread.0) || self.strangers.contains(&thread.0) {
@@ -98,7 +99,8 @@ impl Reader {
         Ok(Some(LineFault::UnknownThread))
     }
 
-    /// Takes a faulty line for a call's if it begins with a number, and else for that of the thread that it names.
+    /// Guesses what a faulty line was meant to be: a call if it begins with a number, else the roster line of the
+    /// thread that it names.
     fn guess(&mut self, line: &[u8]) -> Result<(), AllocError> {
         let Some((first, rest)) = next_word(line) else {
             return Ok(());
@@ -120,8 +122,8 @@ impl Reader {
     }
 }
 
-/// The words of a script without faults that may mean something else than was thought, twenty at most: buffers that
-/// look like lengths.
+/// Returns the words of a script without faults that may mean something else than they seem to, at most `MOST_FAULTS`:
+/// buffers that look like lengths.
 pub fn oddities(alloc: Global, text: &[u8]) -> Result<Vec<Remark>, AllocError> {
     let mut remarks = Vec::new(alloc);
     let mut number = 0usize;
@@ -142,7 +144,7 @@ pub fn oddities(alloc: Global, text: &[u8]) -> Result<Vec<Remark>, AllocError> {
     Ok(remarks)
 }
 
-/// What is odd in a line.
+/// Returns the oddity of a line.
 fn oddity(
     alloc: Global,
     line: &[u8],
@@ -157,7 +159,7 @@ fn oddity(
     }
 }
 
-/// The last word of a call's line, if it is a buffer's.
+/// Returns the last word of a call's line, if it is a buffer.
 fn buffer_word<'a>(words: &[Word<'a>]) -> Option<Word<'a>> {
     let first = words.first()?;
     if first.bytes.starts_with(b"#") {

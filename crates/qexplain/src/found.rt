@@ -1,37 +1,37 @@
-//! What a number names: a channel, a connection or a message, and what became of it.
+//! Finds what a number names: a channel, a connection or a message, and what became of it.
 
 use crate::history::{End, History, Past};
 use qbase::ids::ProcessNo;
 use qmodel::kind::CallKind;
 
-/// What became of a channel or a connection.
+/// The life of a channel or a connection.
 #[derive(Clone, Copy, Debug, PartialEq, Eq)]
 pub enum Life {
-    /// No call made one of this number.
+    /// No call made one with this number.
     Absent,
-    /// It is there.
+    /// It exists.
     Live,
-    /// The call of this number destroyed or detached it.
+    /// The call with this number destroyed or detached it.
     Gone(u64),
 }
 
-/// What became of a message.
+/// The delivery of a message.
 #[derive(Clone, Copy, Debug, PartialEq, Eq)]
 pub enum Delivery {
-    /// No call sent one of this number.
+    /// No call sent a message with this number.
     Absent,
     /// It waits to be received.
     Pending,
     /// It is received and not answered.
     Held,
-    /// The call of this number answered it.
+    /// The call with this number answered it.
     Answer(u64),
-    /// The call of this number ended its send by force.
+    /// The call with this number ended its send by force.
     Cut(u64),
 }
 
 impl Past {
-    /// The message that it received.
+    /// Returns the message that the call received.
     pub fn received(&self) -> Option<u64> {
         match self.end {
             End::Message(number) => Some(number),
@@ -39,18 +39,18 @@ impl Past {
         }
     }
 
-    /// Whether it destroyed this channel.
+    /// Returns whether the call destroyed this channel.
     fn destroys(&self, channel: u64) -> bool {
         self.kind == CallKind::ChannelDestroy && self.operand == channel && self.is_accepted()
     }
 
-    /// Whether it detached this connection.
+    /// Returns whether the call detached this connection.
     fn detaches(&self, connection: u64) -> bool {
         self.kind == CallKind::ConnectDetach && self.operand == connection && self.is_accepted()
     }
 }
 
-/// The life of what was made, and ended by the call at this place, which counts from 0.
+/// Returns the life of something that the call at this place, counted from 0, ended; it lives if there is no such call.
 fn life_until(place: Option<usize>) -> Life {
     match place {
         Some(place) => Life::Gone((place as u64).saturating_add(1)),
@@ -59,7 +59,7 @@ fn life_until(place: Option<usize>) -> Life {
 }
 
 impl History {
-    /// What became of a channel.
+    /// Returns the life of a channel.
     pub fn channel_life(&self, channel: u64) -> Life {
         match self.call(channel) {
             Some(past) if past.end == End::Channel => {
@@ -70,7 +70,7 @@ impl History {
         }
     }
 
-    /// What became of a connection.
+    /// Returns the life of a connection.
     pub fn connection_life(&self, connection: u64) -> Life {
         match self.call(connection) {
             Some(past) if past.end == End::Connection => {
@@ -81,7 +81,7 @@ impl History {
         }
     }
 
-    /// What became of a message, which has the number of its send.
+    /// Returns the delivery of a message, which has the number of its send.
     pub fn delivery(&self, message: u64) -> Delivery {
         let Some(send) = self.call(message) else {
             return Delivery::Absent;
@@ -97,7 +97,7 @@ impl History {
         }
     }
 
-    /// The channel that a connection leads to; 0 where there was no such connection.
+    /// Returns the channel that a connection leads to, or 0 if there was no such connection.
     pub fn channel_of(&self, connection: u64) -> u64 {
         match self.call(connection) {
             Some(past) if past.end == End::Connection => past.operand,
@@ -105,7 +105,7 @@ impl History {
         }
     }
 
-    /// The channel that a message was sent to; 0 where no call sent one of this number.
+    /// Returns the channel that a message was sent to, or 0 if no call sent a message with this number.
     pub fn channel_of_message(&self, message: u64) -> u64 {
         match self.call(message) {
             Some(past) if past.kind == CallKind::Send => self.channel_of(past.operand),
@@ -113,7 +113,7 @@ impl History {
         }
     }
 
-    /// The process of the thread that made the call of a number.
+    /// Returns the process of the thread that made the call with this number.
     pub fn maker_of(&self, number: u64) -> Option<ProcessNo> {
         match self.call(number) {
             Some(past) => self.process_of(past.thread),
@@ -121,7 +121,7 @@ impl History {
         }
     }
 
-    /// The connection that a process may have meant: its last one to this channel, or else to any.
+    /// Returns the connection that a process may have meant: its last one to this channel, or else its last one.
     pub fn likely_connection(&self, process: ProcessNo, channel: u64) -> Option<u64> {
         let mut likely = None;
         for connection in self.connections() {
@@ -135,7 +135,7 @@ impl History {
         likely
     }
 
-    /// The message that a process may have meant: of those that it may answer the last that was received.
+    /// Returns the message that a process may have meant: the last one received of those that it may answer.
     pub fn likely_message(&self, process: ProcessNo) -> Option<u64> {
         let mut likely = None;
         for message in self.held() {

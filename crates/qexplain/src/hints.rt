@@ -1,11 +1,11 @@
-//! What is often written in a script, and what to write in its place.
+//! Recognizes what is often written in a script by mistake, and says what to write in its place.
 
 use crate::grammar::{CALLS, Form, Operand};
 use qreading::reading::call::is;
 use std::alloc::{AllocError, Global};
 use std::str;
 
-/// The form of the call that QNX has under this name, in whichever case, also with underscores.
+/// Returns the form of the call that QNX has under this name, in any case, with or without underscores.
 pub fn qnx_form(alloc: Global, word: &[u8]) -> Result<Option<Form>, AllocError> {
     let mut plain = Vec::new(alloc);
     for byte in word {
@@ -21,7 +21,7 @@ pub fn qnx_form(alloc: Global, word: &[u8]) -> Result<Option<Form>, AllocError> 
     Ok(None)
 }
 
-/// Whether a word begins a comment in other languages.
+/// Returns whether a word begins a comment in other languages.
 pub fn is_comment(word: &[u8]) -> bool {
     word.starts_with(b"//")
         || word.starts_with(b"/*")
@@ -29,15 +29,15 @@ pub fn is_comment(word: &[u8]) -> bool {
         || word.starts_with(b";")
 }
 
-/// What to say of a line with names in a plain script.
+/// The hint for a line with names in a plain script.
 pub const NAMES_HINT: &str = "; a script with names is a file NAME.names";
 
-/// Whether a word is a sign that scripts with names have.
+/// Returns whether a word is a sign that only scripts with names have.
 pub fn is_names_sign(word: &[u8]) -> bool {
     is(word, "=") || is(word, "->")
 }
 
-/// What to say of a word that is too many; nothing where it is no comment.
+/// Returns the hint for a word that is too many; empty if it begins no comment.
 pub fn extra_hint(word: &[u8]) -> &'static str {
     if word.starts_with(b"#") {
         "; a comment has a line of its own"
@@ -48,7 +48,7 @@ pub fn extra_hint(word: &[u8]) -> &'static str {
     }
 }
 
-/// What to say of a byte at a place of a line that has none but tabs and what prints before it.
+/// Returns the hint for a byte of a line; all bytes in front of it are tabs or printable.
 pub fn byte_hint(line: &[u8], at: usize) -> &'static str {
     if line.starts_with(b"\xef\xbb\xbf") {
         "; this is a byte order mark: save the text without it"
@@ -63,7 +63,7 @@ pub fn byte_hint(line: &[u8], at: usize) -> &'static str {
     }
 }
 
-/// Whether a text is in UTF-16, of which no line can be read.
+/// Returns whether a text is in UTF-16, so that no line of it can be read.
 pub fn is_utf_16(text: &[u8]) -> bool {
     text.starts_with(b"\xff\xfe") || text.starts_with(b"\xfe\xff") || text.get(1) == Some(&0)
 }
@@ -83,7 +83,7 @@ pub fn push_operand_hint(
     }
 }
 
-/// The number of a flag that is written by its name, in whichever way QNX spells it, or by its number.
+/// Returns the number of a flag, given by its name in any of QNX's spellings or by its number.
 fn flag_number(word: &[u8]) -> Option<u8> {
     if word.ends_with(b"FIXED_PRIORITY") || is(word, "1") {
         Some(1)
@@ -96,7 +96,7 @@ fn flag_number(word: &[u8]) -> Option<u8> {
     }
 }
 
-/// The sum of the flags that a word has with `|` or `+` between; `None` where one of them isn't known.
+/// Returns the sum of the flags of a word, with `|` or `+` between, or `None` if one of them isn't known.
 fn flag_sum(word: &[u8]) -> Option<u8> {
     let mut sum = 0u8;
     for part in word.split(|byte| *byte == b'|' || *byte == b'+') {
@@ -105,7 +105,7 @@ fn flag_sum(word: &[u8]) -> Option<u8> {
     Some(sum)
 }
 
-/// Adds the number of flags that are written by their names.
+/// Adds the number of flags that are given by their names.
 fn push_flag_hint(wanted: &mut String, word: &[u8]) -> Result<(), AllocError> {
     match flag_sum(word) {
         Some(sum) => write!(wanted, ": write {sum}"),
@@ -113,12 +113,12 @@ fn push_flag_hint(wanted: &mut String, word: &[u8]) -> Result<(), AllocError> {
     }
 }
 
-/// Whether a word is of decimal digits alone.
+/// Returns whether a word has only decimal digits.
 fn is_decimal(word: &[u8]) -> bool {
     !word.is_empty() && word.iter().all(|byte| byte.is_ascii_digit())
 }
 
-/// Adds how bytes are written.
+/// Adds the right form of bytes.
 fn push_bytes_hint(wanted: &mut String, word: &[u8]) -> Result<(), AllocError> {
     match word {
         [b'0', b'x' | b'X', ..] => wanted.push_str("; they have no 0x before them"),
@@ -130,7 +130,7 @@ fn push_bytes_hint(wanted: &mut String, word: &[u8]) -> Result<(), AllocError> {
     }
 }
 
-/// Adds how so many bytes of zero are written, if there may be so many.
+/// Adds the form of `count` bytes of zero, if a buffer may have that many.
 fn push_count_hint(wanted: &mut String, count: &[u8]) -> Result<(), AllocError> {
     let Ok(shown) = str::from_utf8(count) else {
         return Ok(());
@@ -141,7 +141,7 @@ fn push_count_hint(wanted: &mut String, count: &[u8]) -> Result<(), AllocError> 
     write!(wanted, "; for {shown} bytes of zero write {shown}x00")
 }
 
-/// Adds what is wrong with so many equal bytes: their byte hasn't two digits, or they are too many.
+/// Adds what is wrong with equal bytes: the byte hasn't two digits, or they are too many.
 fn push_equal_hint(wanted: &mut String, word: &[u8]) -> Result<(), AllocError> {
     let digits = word.iter().position(|byte| *byte == b'x').unwrap_or(0);
     if !is_decimal(word.get(..digits).unwrap_or(&[])) {
@@ -154,17 +154,17 @@ fn push_equal_hint(wanted: &mut String, word: &[u8]) -> Result<(), AllocError> {
     }
 }
 
-/// How many letters of a word are written as bytes at most.
+/// The most letters of a word that are rewritten as bytes.
 const MOST_LETTERS: usize = 16;
 
-/// Whether a word is of letters alone, not all of which are hexadecimal digits.
+/// Returns whether a word has only letters, at least one of which isn't a hexadecimal digit.
 fn is_text(word: &[u8]) -> bool {
     word.len() <= MOST_LETTERS
         && word.iter().all(|byte| byte.is_ascii_alphabetic())
         && !word.iter().all(|byte| byte.is_ascii_hexdigit())
 }
 
-/// Adds the bytes of a word of letters, as they are to be written.
+/// Adds the bytes of a word of letters, in the form that a script has.
 fn push_text_hint(wanted: &mut String, word: &[u8]) -> Result<(), AllocError> {
     if !is_text(word) {
         return Ok(());
@@ -176,7 +176,7 @@ fn push_text_hint(wanted: &mut String, word: &[u8]) -> Result<(), AllocError> {
     Ok(())
 }
 
-/// What to say of a buffer that may be meant as a length; `None` where it can't be.
+/// Returns the hint for a buffer that may be meant as a length, or `None` if it can't be.
 pub fn buffer_hint(alloc: Global, word: &[u8]) -> Result<Option<String>, AllocError> {
     if !is_decimal(word) || word.first() == Some(&b'0') || word.len() > 4 {
         return Ok(None);

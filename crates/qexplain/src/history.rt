@@ -1,4 +1,4 @@
-//! What each past call did, as a run goes on.
+//! Keeps what each past call of a run did.
 
 use qbase::ids::{ProcessNo, ThreadNo};
 use qmodel::call::{Call, Completion, Mark};
@@ -6,14 +6,14 @@ use qmodel::kind::CallKind;
 use qtables::member::Member;
 use std::alloc::{AllocError, Global};
 
-/// How a call ended.
+/// The end of a call.
 #[derive(Clone, Copy, Debug, PartialEq, Eq)]
 pub enum End {
-    /// Not yet: its thread is blocked in it.
+    /// None yet: the call's thread is blocked in it.
     Open,
     /// It did what it says.
     Accepted,
-    /// It was refused, or was ended by force.
+    /// It was refused, or ended by force.
     Failed,
     /// It created a channel.
     Channel,
@@ -23,12 +23,12 @@ pub enum End {
     Message(u64),
     /// It received the pulse of this number.
     Pulse(u64),
-    /// With an answer, or with what it asked for.
+    /// It was answered, or returned what it asked for.
     Other,
 }
 
 impl End {
-    /// What is kept of a mark.
+    /// Returns what is kept of a mark.
     fn of(mark: Mark) -> End {
         match mark {
             Mark::Ok => End::Accepted,
@@ -42,21 +42,21 @@ impl End {
     }
 }
 
-/// A call that was made: who made it, what it names, and how it ended.
+/// A past call: its thread, what it names, and its end.
 #[derive(Clone, Copy)]
 pub struct Past {
     pub thread: ThreadNo,
     pub kind: CallKind,
     /// Its first operand: an id, a thread or flags; 0 for a Shutdown.
     pub operand: u64,
-    /// How it ended, if it did.
+    /// Its end; `Open` if it hasn't ended.
     pub end: End,
-    /// The number of the call in whose event it ended; 0 while it isn't ended.
+    /// The number of the call in whose event it ended; 0 if it hasn't ended.
     pub ended_by: u64,
 }
 
 impl Past {
-    /// A call as it is made, before it is answered.
+    /// Returns a call as it is made, before its end.
     pub fn of(thread: ThreadNo, call: &Call) -> Past {
         Past {
             thread,
@@ -67,19 +67,19 @@ impl Past {
         }
     }
 
-    /// Whether it was refused: it failed in its own event, which has this number.
+    /// Returns whether it was refused: it failed in its own event, which has this number.
     pub fn is_refused(&self, number: u64) -> bool {
         self.end == End::Failed && self.ended_by == number
     }
 
-    /// Whether it did what it says.
+    /// Returns whether it did what it says.
     pub fn is_accepted(&self) -> bool {
         self.end == End::Accepted
     }
 }
 
-/// The threads of a run, its calls so far in order, and what is there of what they made. Calls are numbered
-/// from 1.
+/// The threads of a run, its calls so far in order, and the channels, connections and messages that exist. Calls are
+/// numbered from 1.
 #[derive(Drop)]
 pub struct History {
     members: Vec<Member>,
@@ -90,7 +90,7 @@ pub struct History {
 }
 
 impl History {
-    /// No calls yet, of these threads.
+    /// Returns the history of these threads before any call.
     pub fn new(alloc: Global, members: &[Member]) -> Result<History, AllocError> {
         Ok(History {
             members: Vec::from_slice(alloc, members)?,
@@ -101,7 +101,7 @@ impl History {
         })
     }
 
-    /// Adds the next call with the endings that it brought.
+    /// Adds the next call and the endings of its event.
     pub fn add(&mut self, past: Past, endings: &[Completion]) -> Result<(), AllocError> {
         if self.calls.push(past).is_err() {
             return Err(AllocError);
@@ -113,7 +113,7 @@ impl History {
         Ok(())
     }
 
-    /// Notes the end of a call by the event of this number.
+    /// Sets the end of a call that ended in the event of this number.
     fn end(&mut self, number: u64, ending: &Completion) -> Result<(), AllocError> {
         let place = ending.call.saturating_sub(1) as usize;
         if let Some(past) = self.calls.get_mut(place) {
@@ -131,7 +131,7 @@ impl History {
         Ok(())
     }
 
-    /// Takes away what the accepted call of this number destroys or detaches.
+    /// Removes what the accepted call of this number destroys or detaches.
     fn take_away(&mut self, number: u64) {
         let Some(past) = self.call(number) else {
             return;
@@ -145,37 +145,37 @@ impl History {
         }
     }
 
-    /// How many calls were made, which is the number of the last.
+    /// Returns the number of calls made, which is also the number of the last.
     pub fn made(&self) -> u64 {
         self.calls.len() as u64
     }
 
-    /// The calls in order.
+    /// Returns the calls in order.
     pub fn calls(&self) -> &[Past] {
         self.calls.as_slice()
     }
 
-    /// The threads.
+    /// Returns the threads.
     pub fn members(&self) -> &[Member] {
         self.members.as_slice()
     }
 
-    /// The channels that are open, in rising number.
+    /// Returns the open channels, in rising number.
     pub fn channels(&self) -> &[u64] {
         self.channels.as_slice()
     }
 
-    /// The connections that are live, in rising number.
+    /// Returns the live connections, in rising number.
     pub fn connections(&self) -> &[u64] {
         self.connections.as_slice()
     }
 
-    /// The messages that are held, in the order of their receipts.
+    /// Returns the held messages, in the order of their receipts.
     pub fn held(&self) -> &[u64] {
         self.held.as_slice()
     }
 
-    /// The call of a number; `None` where none has it yet.
+    /// Returns the call with this number, or `None` if it isn't made yet.
     pub fn call(&self, number: u64) -> Option<Past> {
         if number == 0 {
             return None;
@@ -183,13 +183,13 @@ impl History {
         self.calls.get((number - 1) as usize).copied()
     }
 
-    /// The process of a thread; `None` where the thread isn't in the roster.
+    /// Returns the process of a thread, or `None` if the thread isn't in the roster.
     pub fn process_of(&self, thread: ThreadNo) -> Option<ProcessNo> {
         let member = self.members.iter().find(|member| member.thread == thread)?;
         Some(member.process)
     }
 
-    /// The number of the call that a thread is blocked in.
+    /// Returns the number of the call that a thread is blocked in.
     pub fn open_call(&self, thread: ThreadNo) -> Option<u64> {
         let is_open = |past: &Past| past.thread == thread && past.end == End::Open;
         let place = self.calls.iter().position(is_open)?;

@@ -1,4 +1,4 @@
-//! How the faults of scripts are explained, why calls fail, and who is blocked on whom.
+//! Explains the faults of scripts, why calls fail, and who is blocked on whom.
 #![tactic(auto)]
 
 pub mod excerpt;

@@ -1,14 +1,14 @@
-//! The name that was meant by a word that is none.
+//! Finds the name that a misspelt word was meant to be.
 
 use crate::grammar::{CALLS, ROSTER};
 use std::alloc::{AllocError, Global};
 use std::str;
 use strsim::osa_distance;
 
-/// How many letters at most are wrong, missing, too many or swapped in a word that is near.
+/// The most letters that may be wrong, missing, too many or swapped in a word that counts as near.
 const MOST_EDITS: usize = 2;
 
-/// How far a word is from a name, in whichever case it is written; `None` where it is another word.
+/// Returns the distance of a word from a name, in any case, or `None` if the word isn't near.
 fn distance(alloc: Global, word: &str, name: &str) -> Result<Option<usize>, AllocError> {
     if word.len() > name.len().saturating_add(MOST_EDITS) {
         return Ok(None);
@@ -21,8 +21,7 @@ fn distance(alloc: Global, word: &str, name: &str) -> Result<Option<usize>, Allo
     }
 }
 
-/// The name of a call that is nearest to a word: with the fewest letters that are wrong, of two such the
-/// first of the table.
+/// Returns the name of the call that is nearest to a word, the first of the table if several are.
 pub fn near_call(alloc: Global, word: &[u8]) -> Result<Option<&'static str>, AllocError> {
     let Ok(word) = str::from_utf8(word) else {
         return Ok(None);
@@ -42,7 +41,7 @@ pub fn near_call(alloc: Global, word: &[u8]) -> Result<Option<&'static str>, All
     Ok(nearest)
 }
 
-/// Whether a word is near to the one that a roster line begins with.
+/// Returns whether a word is near to `thread`, with which a roster line begins.
 pub fn is_near_roster(alloc: Global, word: &[u8]) -> Result<bool, AllocError> {
     let Ok(word) = str::from_utf8(word) else {
         return Ok(false);

@@ -1,4 +1,4 @@
-//! The lines of a text, and the words of a line with their places.
+//! Cuts a text into lines, and a line into words with their places.
 
 ghost use Rattle.std.specs.Prelude.{length};
 ghost use Rattle.std.specs.Iterator.{at_most};
@@ -9,7 +9,7 @@ use qreading::reading::number::small;
 use qreading::reading::words::next_word;
 use std::alloc::{AllocError, Global};
 
-/// The lines of a text that are left, without their ends.
+/// The lines of the rest of a text, without their ends.
 #[derive(Drop)]
 pub struct Lines<'a>(pub &'a [u8]);
 
@@ -25,7 +25,7 @@ impl<'a> Iterator for Lines<'a> {
     }
 }
 
-/// A part of a line: so many bytes from this one on, which is counted from 0.
+/// A part of a line: its first byte, counted from 0, and its length in bytes.
 #[derive(Clone, Copy, Debug, PartialEq, Eq)]
 pub struct Place {
     pub at: usize,
@@ -37,12 +37,12 @@ pub struct Place {
 pub struct Word<'a> {
     /// Its bytes.
     pub bytes: &'a [u8],
-    /// Where it stands.
+    /// Its place in the line.
     pub place: Place,
 }
 
 impl Word<'_> {
-    /// The place behind it, where the next word is missing.
+    /// Returns the place behind it, where the next word is missing.
     pub fn behind(&self) -> Place {
         let end = self.place.at.saturating_add(self.place.len);
         Place {
@@ -52,7 +52,7 @@ impl Word<'_> {
     }
 }
 
-/// The words of a line, in order.
+/// Returns the words of a line, in order.
 pub fn words<'a>(alloc: Global, line: &'a [u8]) -> Result<Vec<Word<'a>>, AllocError> {
     let mut words = Vec::new(alloc);
     let mut rest = line;
@@ -71,7 +71,7 @@ pub fn words<'a>(alloc: Global, line: &'a [u8]) -> Result<Vec<Word<'a>>, AllocEr
     Ok(words)
 }
 
-/// The number, counted from 1, of the first line that is a call's.
+/// Returns the number, counted from 1, of the first line that is a call.
 pub fn first_call(text: &[u8]) -> usize {
     let mut number = 0usize;
     for line in Lines(text) {
@@ -84,7 +84,7 @@ pub fn first_call(text: &[u8]) -> usize {
     number
 }
 
-/// Whether this is a line of the roster for this thread.
+/// Returns whether this is a roster line of this thread.
 fn enrolls(line: &[u8], thread: u8) -> bool {
     let Some((first, rest)) = next_word(line) else {
         return false;
@@ -95,7 +95,7 @@ fn enrolls(line: &[u8], thread: u8) -> bool {
     }
 }
 
-/// The number, counted from 1, of the first line of the roster for this thread.
+/// Returns the number, counted from 1, of the first roster line of this thread.
 pub fn first_enrolled(text: &[u8], thread: u8) -> usize {
     let mut number = 0usize;
     for line in Lines(text) {
@@ -107,7 +107,7 @@ pub fn first_enrolled(text: &[u8], thread: u8) -> usize {
     number
 }
 
-/// Whether a line of a script is a call's.
+/// Returns whether a line of a script is a call.
 fn is_call(line: &[u8]) -> bool {
     match next_word(line) {
         Some((word, _)) => word.first() != Some(&b'#') && !is(word, "thread"),
@@ -115,7 +115,7 @@ fn is_call(line: &[u8]) -> bool {
     }
 }
 
-/// The numbers, counted from 1, of the lines of a script that are calls', in order.
+/// Returns the numbers, counted from 1, of the lines of a script that are calls, in order.
 pub fn call_lines(alloc: Global, text: &[u8]) -> Result<Vec<usize>, AllocError> {
     let mut lines = Vec::new(alloc);
     let mut number = 0usize;

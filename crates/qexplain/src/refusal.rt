@@ -1,4 +1,4 @@
-//! Which rule refused a call, as the past calls tell.
+//! Finds the rule that refused a call, from the past calls.
 
 use crate::found::{Delivery, Life};
 use crate::history::{History, Past};
@@ -6,44 +6,44 @@ use qbase::errno::Errno;
 use qbase::ids::ProcessNo;
 use qmodel::kind::CallKind;
 
-/// What a call may name of another process.
+/// A thing that a call may name although another process has it.
 #[derive(Clone, Copy, Debug, PartialEq, Eq)]
 pub enum Thing {
     Channel,
     Connection,
     Thread,
-    /// A message, which is of the process that its channel is of.
+    /// A message, which belongs to the process of its channel.
     Message,
 }
 
-/// Which rule refused a call, of those in the table of `docs/MODEL.md`.
+/// The rule that refused a call, of those in the table of `docs/MODEL.md`.
 #[derive(Clone, Copy, Debug, PartialEq, Eq)]
 pub enum Reason {
-    /// The call of this number shut the kernel down.
+    /// The call with this number shut the kernel down.
     Down(u64),
-    /// Its thread is blocked in the call of this number.
+    /// Its thread is blocked in the call with this number.
     Busy(u64),
     /// An unknown flag is set.
     Flags(u64),
     /// The code of a pulse is below 0.
     Code,
-    /// It names a channel that isn't there.
+    /// It names a channel that doesn't exist.
     NoChannel(u64, Life),
-    /// It names a connection that isn't there.
+    /// It names a connection that doesn't exist.
     NoConnection(u64, Life),
-    /// Its connection leads to this channel, which the call of the second number destroyed.
+    /// Its connection leads to this channel, which the call with the second number destroyed.
     Nowhere(u64, u64),
-    /// It names a thread that the roster doesn't have.
+    /// It names a thread that isn't in the roster.
     NoThread(u64),
     /// It names a message that isn't held.
     NoMessage(u64, Delivery),
-    /// It names a thing of this process, which isn't its thread's.
+    /// It names a thing of this process, and its thread is of another.
     Others(Thing, u64, ProcessNo),
-    /// As many channels as there may be are open.
+    /// The limit on open channels is reached.
     Channels,
-    /// There are as many connections as there may be.
+    /// The limit on connections is reached.
     Connections,
-    /// As many pulses wait on a channel as may.
+    /// The limit on the pulses that wait on a channel is reached.
     Pulses,
     /// There was no memory.
     NoMemory,
@@ -52,7 +52,7 @@ pub enum Reason {
 }
 
 impl History {
-    /// Which rule refused a call with this error, which is none of the calls so far.
+    /// Returns the rule that refused a call with this error; the call isn't among the calls of the history.
     pub fn reason(&self, past: &Past, errno: Errno) -> Reason {
         match errno {
             Errno::Down => Reason::Down(self.shutdown()),
@@ -66,7 +66,7 @@ impl History {
         }
     }
 
-    /// The number of the call that shut the kernel down; 0 where none did.
+    /// Returns the number of the call that shut the kernel down, or 0 if none did.
     fn shutdown(&self) -> u64 {
         let is_last = |past: &Past| past.kind == CallKind::Shutdown && past.is_accepted();
         match self.calls().iter().position(is_last) {
@@ -75,7 +75,7 @@ impl History {
         }
     }
 
-    /// Why a call is refused with `Inval`.
+    /// Returns the reason why a call is refused with `Inval`.
     fn invalid(&self, past: &Past) -> Reason {
         match past.kind {
             CallKind::ChannelCreate => Reason::Flags(past.operand),
@@ -86,7 +86,7 @@ impl History {
         }
     }
 
-    /// Why a call is refused with `Srch`.
+    /// Returns the reason why a call is refused with `Srch`.
     fn nothing_found(&self, past: &Past) -> Reason {
         match past.kind {
             CallKind::ConnectAttach | CallKind::Receive | CallKind::ReceivePulse =>
@@ -98,7 +98,7 @@ impl History {
         }
     }
 
-    /// What is wrong with the channel that a call names.
+    /// Returns what is wrong with the channel that a call names.
     fn bad_channel(&self, past: &Past) -> Reason {
         let channel = past.operand;
         match self.channel_life(channel) {
@@ -110,7 +110,7 @@ impl History {
         }
     }
 
-    /// What is wrong with the connection that a call names.
+    /// Returns what is wrong with the connection that a call names.
     fn bad_connection(&self, past: &Past) -> Reason {
         let connection = past.operand;
         let life = self.connection_life(connection);
@@ -125,7 +125,7 @@ impl History {
         }
     }
 
-    /// What is wrong with the channel that a connection leads to.
+    /// Returns what is wrong with the channel that a connection leads to.
     fn bad_way(&self, connection: u64) -> Reason {
         let channel = self.channel_of(connection);
         match self.channel_life(channel) {
@@ -134,7 +134,7 @@ impl History {
         }
     }
 
-    /// What is wrong with the thread that a call names.
+    /// Returns what is wrong with the thread that a call names.
     fn bad_thread(&self, past: &Past) -> Reason {
         let thread = past.operand;
         let mut members = self.members().iter();
@@ -144,7 +144,7 @@ impl History {
         }
     }
 
-    /// What is wrong with the message that a call names.
+    /// Returns what is wrong with the message that a call names.
     fn bad_message(&self, past: &Past) -> Reason {
         let message = past.operand;
         match self.delivery(message) {
@@ -157,7 +157,7 @@ impl History {
     }
 }
 
-/// The limit that a call met.
+/// Returns the limit that a call of this kind reached.
 fn limit(kind: CallKind) -> Reason {
     match kind {
         CallKind::ChannelCreate => Reason::Channels,

@@ -1,4 +1,4 @@
-//! Who is blocked on whom, and which of them wait in a circle.
+//! Finds who is blocked on whom, and the circles in which threads wait.
 
 use crate::history::History;
 use qbase::ids::{ProcessNo, ThreadNo};
@@ -13,7 +13,7 @@ pub struct Wait {
     pub thread: ThreadNo,
     /// Its message.
     pub message: u64,
-    /// The process of the channel, of which any thread may receive and answer.
+    /// The process of the channel; each of its threads may receive and answer the message.
     pub server: ProcessNo,
     /// The thread that it waits for: the one that received the message, or else the first of the process.
     pub on: ThreadNo,
@@ -44,7 +44,7 @@ impl fmt::Display for Wait {
 }
 
 impl Wait {
-    /// Who else may receive the message.
+    /// Returns the words for the other threads that may receive the message.
     fn others(&self) -> &'static str {
         if self.has_others {
             " or another thread of its process"
@@ -54,7 +54,7 @@ impl Wait {
     }
 }
 
-/// Threads that wait for one another in a circle, in its order, the least first. Nobody else can answer any of
+/// Threads that wait for one another in a circle, in its order, the least first. No other thread can answer any of
 /// them.
 #[derive(Debug, Drop)]
 pub struct Deadlock {
@@ -76,13 +76,13 @@ impl fmt::Display for Deadlock {
 }
 
 impl Deadlock {
-    /// The threads of the circle, each with whom it waits for.
+    /// Returns the threads of the circle, each with the thread that it waits for.
     pub fn waits(&self) -> &[Wait] {
         self.waits.as_slice()
     }
 }
 
-/// What a thread is blocked in, which is the call of this number.
+/// Returns what a thread is blocked in, which is the call with this number, in words.
 pub fn wait_words(alloc: Global, history: &History, number: u64) -> Result<String, AllocError> {
     let Some(past) = history.call(number) else {
         return String::from_str(alloc, "its thread is blocked");
@@ -102,7 +102,7 @@ pub fn wait_words(alloc: Global, history: &History, number: u64) -> Result<Strin
     format!(in alloc; "thread {thread} is blocked in call {number} until its message is {lack}")
 }
 
-/// The threads whose messages aren't answered, in rising number.
+/// Returns the threads whose messages aren't answered, in rising number.
 pub fn waits(alloc: Global, history: &History) -> Result<Vec<Wait>, AllocError> {
     let mut waits = Vec::new(alloc);
     for member in history.members() {
@@ -114,7 +114,7 @@ pub fn waits(alloc: Global, history: &History) -> Result<Vec<Wait>, AllocError> 
     Ok(waits)
 }
 
-/// What a thread waits for, if it is blocked in a send.
+/// Returns the wait of a thread, if it is blocked in a send.
 fn wait_of(history: &History, thread: ThreadNo) -> Option<Wait> {
     let message = history.open_call(thread)?;
     let Some(send) = history.call(message) else {
@@ -139,33 +139,33 @@ fn wait_of(history: &History, thread: ThreadNo) -> Option<Wait> {
     })
 }
 
-/// How many threads a process has.
+/// Returns the number of threads of a process.
 fn count_of(members: &[Member], process: ProcessNo) -> usize {
     let of = members.iter().filter(|member| member.process == process);
     of.count()
 }
 
-/// The thread that received a message.
+/// Returns the thread that received a message.
 fn receiver_of(history: &History, message: u64) -> Option<ThreadNo> {
     let mut calls = history.calls().iter();
     let receipt = calls.find(|past| past.received() == Some(message))?;
     Some(receipt.thread)
 }
 
-/// The thread of least number in a process.
+/// Returns the thread of least number in a process.
 fn first_of(members: &[Member], process: ProcessNo) -> Option<ThreadNo> {
     let of = members.iter().filter(|member| member.process == process);
     let first = of.map(|member| member.thread.0).min()?;
     Some(ThreadNo(first))
 }
 
-/// Whether each thread of a process is among those that wait so.
+/// Returns whether each thread of a process is among these waits.
 fn is_blocked(members: &[Member], waits: &[Wait], process: ProcessNo) -> bool {
     let mut of = members.iter().filter(|member| member.process == process);
     of.all(|member| waits.iter().any(|wait| wait.thread == member.thread))
 }
 
-/// Those whom nobody can answer any more: each waits for a process whose threads all wait so.
+/// Returns the waits that nobody can end any more: each is for a process whose threads are all in such a wait.
 fn hopeless(alloc: Global, history: &History, waits: &[Wait]) -> Result<Vec<Wait>, AllocError> {
     let mut left = Vec::from_slice(alloc, waits)?;
     for _ in 0..waits.len() {
@@ -180,7 +180,7 @@ fn hopeless(alloc: Global, history: &History, waits: &[Wait]) -> Result<Vec<Wait
     Ok(left)
 }
 
-/// The circle in which a thread waits that is the least of it.
+/// Returns the circle of a thread's wait, if the thread is the least of a circle.
 fn circle_from(alloc: Global, waits: &[Wait], first: Wait) -> Result<Option<Deadlock>, AllocError> {
     let mut circle = Vec::new(alloc);
     let mut wait = first;
@@ -197,8 +197,8 @@ fn circle_from(alloc: Global, waits: &[Wait], first: Wait) -> Result<Option<Dead
     Ok(None)
 }
 
-/// The circles among these waits, in the order of their least threads. In none of them can anybody be answered, also
-/// where a process has several threads.
+/// Returns the circles among these waits, in the order of their least threads. No thread in them can be answered, even
+/// if a process has several threads.
 pub fn deadlocks(
     alloc: Global,
     history: &History,

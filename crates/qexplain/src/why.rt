@@ -1,4 +1,4 @@
-//! Why a call failed, in words.
+//! Says in words why a call failed.
 
 mod names;
 mod rules;
@@ -11,7 +11,7 @@ use rules::rule_words;
 use std::alloc::{AllocError, Global};
 use std::fmt;
 
-/// A call that failed: which one, with which error, and why.
+/// A call that failed: its number, its error, and the reason.
 #[derive(Debug, Drop)]
 pub struct Refusal {
     /// The number of the call.
@@ -29,8 +29,8 @@ impl fmt::Display for Refusal {
     }
 }
 
-/// The failures among the endings of the next call, each with its reason, in the order of the endings. The history is
-/// that before the call.
+/// Returns the failures among the endings of the next call, each with its reason, in the order of the endings. The
+/// history is the one before the call.
 pub fn refusals(
     alloc: Global,
     history: &History,
@@ -47,7 +47,7 @@ pub fn refusals(
     Ok(refusals)
 }
 
-/// Why the call of this number failed as the next call was made.
+/// Returns the failure of the call with this number in the event of the next call, with its reason.
 fn refusal_of(
     alloc: Global,
     history: &History,
@@ -80,7 +80,7 @@ fn head_words(alloc: Global, number: u64, past: &Past, errno: Errno) -> Result<S
     format!(in alloc; "{number} {name} {operand}: fail {error}")
 }
 
-/// Which call ended another by force, and how.
+/// Returns which call ended another by force, and how.
 fn cut_words(alloc: Global, number: u64, past: &Past) -> Result<String, AllocError> {
     let operand = past.operand;
     match past.kind {

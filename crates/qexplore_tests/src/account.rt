@@ -1,9 +1,9 @@
 //! Whether the account of what a kernel holds is what the kernel says itself.
 
-use crate::designs::{CLIENT_GOES_AWAY, LOCK_MENDED, TWO_SERVERS};
 use crate::search::design;
 use qbase::ids::ThreadNo;
 use qbase::state::ThreadState;
+use qdesign_tests::designs::{CLIENT_GOES_AWAY, LOCK_MENDED, TWO_SERVERS};
 use qexplore::content::Content;
 use qexplore::moment::{Moment, no_endings};
 use qkernel::kernel::Kernel;

@@ -4,6 +4,4 @@
 #[cfg(test)]
 mod account;
 #[cfg(test)]
-mod designs;
-#[cfg(test)]
 mod search;

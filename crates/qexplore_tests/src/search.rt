@@ -1,7 +1,7 @@
 //! What a search finds and counts.
 
-use crate::designs::{CLIENT_GOES_AWAY, LOCK_MENDED, ROUND, TWO_SERVERS};
 use qdesign::{Reading, read};
+use qdesign_tests::designs::{CLIENT_GOES_AWAY, LOCK_MENDED, ROUND, TWO_SERVERS};
 use qexplore::fault::Fault;
 use qexplore::random::try_some;
 use qexplore::search::{Verdict, Watch, explore};

@@ -10,8 +10,8 @@ use Rattle.qnames.specs.declared.line.Line.{Line}
 use Rattle.qnames.specs.Names.{none}
 use Rattle.qnames.specs.Plain.{plain_lines, plain_text}
 
--- what each line says in the plain script is what it says with its names replaced: the threads and the calls
--- are those of the plain lines, one by one
+-- each line of the plain script says what the line of the script says with its names replaced: the threads
+-- and the calls are those of the plain lines, one by one
 abbrev pub CallsAreReplaced : Type 0
 CallsAreReplaced = (all : List Line) (roster : List Member) (calls : List (ℕ × Call))
     → AllByRecursion IsOneLine (plain_lines none all)

@@ -1,4 +1,4 @@
--- What the names of a script stand for.
+-- The meaning of the names of a script.
 use Rattle.std.specs.Prelude.{ℕ, ◌+◌, ◌==◌, Bool, List, [], ◌∷◌, ◌++◌, reverse, find, Option, Some, None}
 use Rattle.std.specs.Prelude.{if◌then◌else◌}
 use Rattle.std.specs.Str.{bytes_eq}
@@ -14,52 +14,52 @@ use Rattle.qnames.specs.declared.line.Line.{Line}
 use Rattle.qnames.specs.declared.line.Line.TheVariants as lines
 use Rattle.qnames.specs.declared.label.Label.{Label}
 
--- what is known after some lines: how many threads and calls they have, the names of their processes, and
--- what their names stand for
+-- what some lines define: how many threads and calls they have, the names of their processes, and what their
+-- names stand for
 pub record Names : Type 0 where
   pub threads : ℕ
   pub calls : ℕ
   pub processes : List (List ℕ)
   pub labels : List Label
 
--- what is known before the first line
+-- what is defined above the first line
 abbrev pub none : Names
 none = record { threads = 0; calls = 0; processes = []; labels = [] }
 
--- the latest label of this name
+-- the last label with this name
 unfoldable pub latest : List ℕ → List Label → Option Label
 latest name labels = find (λ l. bytes_eq l.name name) (reverse labels)
 
--- the number that a name stands for; 0 for a name that stands for nothing, which is a fault
+-- the number that a name stands for, or 0 for a name that stands for nothing, which is a fault
 abbrev pub number_of : List ℕ → List Label → ℕ
 number_of name labels = option_map_or (λ l. l.number) (latest name labels) 0
 
--- a line's definition behind those above, with the number that its name stands for
+-- the labels above, with that of a line's definition, which has this number
 abbrev pub with_label : Option Definition → ℕ → List Label → List Label
 with_label None number labels = labels
 with_label (Some d) number labels =
     labels ++ record { name = d.name; kind = d.kind; number = number; line = d.place.line } ∷ []
 
--- the number of a thread: that of its line, or else its place among the threads, counted from 1
+-- the number of a thread: the one that its line gives, or else its place among the threads, counted from 1
 abbrev pub thread_number : Names → ThreadLine → ℕ
 thread_number names t = unwrap_or t.thread (names.threads + 1)
 
--- the number of a process: that of its line, or else the place of its name among those of the processes,
--- counted from 1
+-- the number of a process: the one that its line gives, or else the place of its name among those of the
+-- processes, counted from 1
 abbrev pub process_number : List (List ℕ) → Process → ℕ
 process_number names (processes.Number n) = n
 process_number names (processes.Name name) = position_or_len (λ p. bytes_eq p name) names + 1
 
--- a name among those of the processes, each once
+-- the names of the processes with one more, each once
 abbrev pub with_name : List (List ℕ) → List ℕ → List (List ℕ)
 with_name names name = if list_any (λ p. bytes_eq p name) names then names else names ++ name ∷ []
 
--- the names of the processes with that of a line
+-- the names of the processes with that of a line's process
 abbrev pub with_process : List (List ℕ) → Process → List (List ℕ)
 with_process names (processes.Number n) = names
 with_process names (processes.Name name) = with_name names name
 
--- what is known after one more line: the nth thread line is thread n, if it doesn't say another number, and
+-- what is defined after one more line: the nth thread line is thread n, unless it gives another number, and
 -- the nth call line is call n
 abbrev pub with_line : Names → Line → Names
 with_line names (lines.Aside text) = names
@@ -85,6 +85,6 @@ code_of kinds.Message = 3
 code_of kinds.Pulse = 4
 code_of kinds.Call = 5
 
--- whether two kinds are one
+-- whether two kinds are the same
 abbrev pub same_kind : Kind → Kind → Bool
 same_kind a b = code_of a == code_of b

@@ -20,15 +20,15 @@ use Rattle.qnames.specs.Names.{Names, latest, number_of, thread_number, process_
 
 -- ---- the text
 
--- bytes in hexadecimal digits, or `-` for none
+-- the bytes in hexadecimal digits, or `-` if there are none
 abbrev pub bytes_word : List ℕ → List ℕ
 bytes_word bytes = if length bytes == 0 then codes "-" else encode_lower bytes
 
--- so many bytes of zero, or `-` for none
+-- n bytes of zero, or `-` if n is 0
 abbrev pub zeros_word : ℕ → List ℕ
 zeros_word n = if n == 0 then codes "-" else decimal n ++ codes "x00"
 
--- the word of an operand: a name is replaced by the number that it stands for
+-- the word of an operand, in which a name is replaced by the number that it stands for
 abbrev pub word_of : List Label → Operand → List ℕ
 word_of labels (operands.Name m) = decimal (number_of m.name labels)
 word_of labels (operands.Number n) = decimal n
@@ -36,7 +36,7 @@ word_of labels (operands.Plain word) = word
 word_of labels (operands.Text bytes) = bytes_word bytes
 word_of labels (operands.Zeros n) = zeros_word n
 
--- the words of some operands, each with a space before it
+-- the words of these operands, each behind a space
 abbrev pub words_of : List Label → List Operand → List ℕ
 words_of labels all = flat_map (λ o. 32 ∷ word_of labels o) all
 
@@ -49,18 +49,18 @@ line_text names (lines.Thread t) =
 line_text names (lines.Call c) =
     word_of names.labels c.caller ++ 32 ∷ c.verb ++ words_of names.labels c.operands.items
 
--- the plain lines of some lines, after what the lines above say: each with its names replaced
+-- the plain lines of these lines, behind those that defined `names`: each with its names replaced
 unfoldable pub plain_lines : Names → List Line → List (List ℕ)
 plain_lines names [] = []
 plain_lines names (line ∷ rest) = line_text names line ∷ plain_lines (with_line names line) rest
 
--- the plain script: its lines, each with its end
+-- the plain script: the plain lines, each with its end
 abbrev pub plain_text : Names → List Line → List ℕ
 plain_text names all = flat_map (λ line. line ++ 10 ∷ []) (plain_lines names all)
 
 -- ---- the faults
 
--- what is wrong with a name that stands for this, where something else is wanted
+-- what is wrong with a name that has this label, where a name of the wanted kind has to stand
 abbrev pub error_of : Kind → Option Label → Option NameError
 error_of wanted None = Some Undefined
 error_of wanted (Some l) = if same_kind l.kind wanted then None else Some (OtherKind l.kind)
@@ -70,7 +70,7 @@ abbrev pub fault_at : Place → Option NameError → Option NameFault
 fault_at place None = None
 fault_at place (Some e) = Some (record { place = place; error = e })
 
--- the fault of an operand: its name isn't defined above, or stands for something else than what is wanted
+-- the fault of an operand: no line above defines its name, or the name stands for something of another kind
 abbrev pub operand_fault : List Label → Operand → Option NameFault
 operand_fault labels (operands.Name m) = fault_at m.place (error_of m.wanted (latest m.name labels))
 operand_fault labels (operands.Number n) = None
@@ -78,17 +78,17 @@ operand_fault labels (operands.Plain word) = None
 operand_fault labels (operands.Text bytes) = None
 operand_fault labels (operands.Zeros n) = None
 
--- the first fault of some operands
+-- the first fault of these operands
 abbrev pub operands_fault : List Label → List Operand → Option NameFault
 operands_fault labels [] = None
 operands_fault labels (o ∷ rest) = option_or (operand_fault labels o) (operands_fault labels rest)
 
--- what is wrong with a definition of a name that stands for this already
+-- what is wrong with a definition of a name that has this label already
 abbrev pub twice_of : Option Label → Option NameError
 twice_of None = None
 twice_of (Some l) = Some (Twice l.line)
 
--- the fault of a line's definition: a line above has defined the name
+-- the fault of a line's definition: a line above defines the name
 abbrev pub definition_fault : List Label → Option Definition → Option NameFault
 definition_fault labels None = None
 definition_fault labels (Some d) = fault_at d.place (twice_of (latest d.name labels))
@@ -101,12 +101,12 @@ line_fault labels (lines.Call c) =
     option_or (option_or (definition_fault labels c.definition) (operand_fault labels c.caller))
     (operands_fault labels c.operands.items)
 
--- a fault, if there is one
+-- a list of the fault, if there is one
 abbrev pub listed : Option NameFault → List NameFault
 listed None = []
 listed (Some f) = f ∷ []
 
--- the faults of some lines, after what the lines above say: the first of each line
+-- the faults of these lines, behind those that defined `names`: the first fault of each line
 unfoldable pub name_faults : Names → List Line → List NameFault
 name_faults names [] = []
 name_faults names (line ∷ rest) =

@@ -1,4 +1,4 @@
--- The plain script of one with names, and what it means.
+-- The translation of a script with names, and its meaning.
 use Rattle.std.specs.Prelude.{◌≡◌, ◌≢◌, ℕ, List, [], string_bytes}
 use Rattle.qreading.specs.Reading.Meaning.{Says, IsFaultOf, meaning}
 use Rattle.qnames.specs.declared.line.Line.{Line}
@@ -8,14 +8,14 @@ use Rattle.qnames.specs.declared.translation.Refusal.TheVariants as refusals
 use Rattle.qnames.specs.Names.{none}
 use Rattle.qnames.specs.Plain.{plain_text, name_faults}
 
--- the text is that of the lines with each name replaced by its number, no name is at fault, and the script is
--- what the text means
+-- the text has each line with its names replaced by their numbers, no name is at fault, and the script is the
+-- meaning of the text
 pub record IsTranslation (lines : List Line) (t : Translation) : Type 0 where
   pub text : string_bytes t.text ≡ plain_text none lines
   pub names : name_faults none lines ≡ []
   pub meant : meaning (plain_text none lines) ≡ Says t.script.roster.items t.script.calls.items
 
--- the names at fault are told, if there are any, and else the fault of the plain script
+-- the refusal has the faults of the names if there are any, and else the fault of the plain script
 abbrev pub IsRefusal : List Line → Refusal → Type 0
 IsRefusal lines refusals.Memory = Unit {0}
 IsRefusal lines (refusals.Names faults) = (faults.items ≡ name_faults none lines) × (faults.items ≢ [])

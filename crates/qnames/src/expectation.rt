@@ -4,66 +4,66 @@ use crate::line::{Mention, Operand, Place};
 use crate::word::Word;
 use qbase::bytes::Bytes;
 
-/// How much of a script is there.
+/// The part of a script that is read.
 #[derive(Clone, Copy, Debug, PartialEq, Eq)]
 pub enum Extent {
-    /// All its lines.
+    /// All lines.
     Whole,
-    /// The lines so far: others come, in which calls that haven't ended may end.
+    /// The lines so far. More will follow, and they may end calls that are open now.
     Front,
 }
 
-/// What a printed word has to be.
+/// A pattern of a printed word.
 #[derive(Debug, Drop)]
 pub enum Pattern {
-    /// This word.
+    /// This very word.
     Is(Word),
     /// The number that a name stands for.
     Named(Mention),
-    /// The number of a process.
+    /// The number of the process with this name.
     Process(Word),
-    /// Hexadecimal digits that begin with those of these bytes.
+    /// Hexadecimal digits that begin with the digits of these bytes.
     Front(Bytes),
     /// Any word.
     Any,
 }
 
-/// How a call has to end.
+/// The expected end of a call.
 #[derive(Debug, Drop)]
 pub enum Ending {
-    /// Not yet, in the call itself.
+    /// It doesn't end in its own event.
     Blocked,
-    /// With these words, and with others behind them.
+    /// Words that begin with these patterns.
     Words(Vec<Pattern>),
 }
 
-/// How a call has to end, where the script says so.
+/// The expected end of a call, as a line says it.
 #[derive(Debug, Drop)]
 pub struct Expectation {
     pub ending: Ending,
-    /// As it is written.
+    /// The ending as it is written.
     pub text: Word,
     pub place: Place,
 }
 
-/// What is expected of a call that another one ends.
+/// The expected end of a call that another call ends.
 #[derive(Debug, Drop)]
 pub struct Follower {
-    /// The call, by the name that its line defines.
+    /// The name of the ended call, which its own line defines.
     pub name: Word,
     pub place: Place,
     pub expectation: Expectation,
 }
 
-/// What is expected at the line of a call.
+/// The expectations of the line of a call.
 #[derive(Debug, Drop)]
 pub struct CallCheck {
     /// The word that names the call.
     pub verb: Word,
     pub place: Place,
-    /// How the call has to end, if the line says so.
+    /// The expected end of this call, if the line says it.
     pub own: Option<Expectation>,
-    /// What it has to do to other calls.
+    /// The expected ends of other calls that this call ends.
     pub followers: Vec<Follower>,
 }
 
@@ -74,14 +74,14 @@ pub enum Activity {
     Send,
     Receive,
     Reply,
-    /// One of the three before.
+    /// Any of the three blocked states.
     Blocked,
 }
 
-/// A line that says in which state a thread is.
+/// A line that says the state of a thread.
 #[derive(Debug, Drop)]
 pub struct StateCheck {
-    /// How many calls stand above it.
+    /// The number of calls above it.
     pub calls: u64,
     pub thread: Operand,
     pub activity: Activity,

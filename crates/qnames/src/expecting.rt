@@ -1,4 +1,4 @@
-//! Whether a run is as its script expects.
+//! Compares a run with what its script expects.
 
 pub mod check;
 pub mod facts;

@@ -1,4 +1,4 @@
-//! What can be wrong with a script with names.
+//! The faults of a script with names.
 
 ghost use Rattle.std.specs.Prelude.{◌≡◌};
 ghost use Rattle.qnames.specs.declared.fault.ReadError.TheVariants.{Memory};
@@ -16,7 +16,7 @@ impl fmt::Display for Place {
     }
 }
 
-/// What is wrong at a place, in words.
+/// A fault at a place, in words.
 #[derive(Debug, Drop, Error)]
 #[error("{place}: {what}")]
 pub struct Fault {
@@ -24,7 +24,7 @@ pub struct Fault {
     pub what: String,
 }
 
-/// Why a line can't be read.
+/// The reason why a line can't be read.
 #[derive(Debug, Drop)]
 pub enum ReadError {
     /// There is no memory for what it says.
@@ -49,7 +49,7 @@ impl<T: Drop> From<AllocFailed<T>> for ReadError {
     }
 }
 
-/// The fault of these words at a place, or want of memory for the words.
+/// Returns the fault of these words at a place, or the error of memory if there is none for the words.
 pub fn fault_at(place: Place, what: Result<String, AllocError>) -> ReadError {
     match what {
         Ok(what) => ReadError::Fault(Fault { place, what }),

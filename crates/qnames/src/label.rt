@@ -1,4 +1,4 @@
-//! What a name stands for once its line is read, and what can be wrong with names.
+//! What a name stands for once its line is read, and the faults of names.
 
 use crate::line::{Kind, Place};
 use crate::word::Word;
@@ -8,24 +8,24 @@ use crate::word::Word;
 pub struct Label {
     pub name: Word,
     pub kind: Kind,
-    /// The number of the thread, or that of the call.
+    /// The number of the thread or the call.
     pub number: u64,
     /// The line that defines it, counted from 1.
     pub line: u64,
 }
 
-/// What is wrong with a name.
+/// The fault of a name.
 #[derive(Clone, Copy, Debug, PartialEq, Eq)]
 pub enum NameError {
     /// No line above defines it.
     Undefined,
-    /// It stands for something of this kind, and another is wanted.
+    /// It stands for something of this kind, and a name of another kind has to stand here.
     OtherKind(Kind),
-    /// This line has defined it already.
+    /// This line defines it already.
     Twice(u64),
 }
 
-/// What is wrong with the name at a place.
+/// The fault of the name at a place.
 #[derive(Clone, Copy, Debug, PartialEq, Eq)]
 pub struct NameFault {
     pub place: Place,

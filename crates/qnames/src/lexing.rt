@@ -1,4 +1,4 @@
-//! The parts of a line: words, texts in quotes, sizes in brackets and signs, up to a comment.
+//! Cuts a line into words, texts in quotes, sizes in brackets and signs, up to a comment.
 
 pub mod name;
 pub mod quoted;

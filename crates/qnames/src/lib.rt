@@ -1,4 +1,4 @@
-//! Scripts with names: what their lines say, the plain scripts that they stand for, and whether a run is as they expect.
+//! Reads scripts with names, translates them into plain scripts, and compares runs with what they expect.
 #![tactic(auto)]
 
 pub mod expectation;

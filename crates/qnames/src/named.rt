@@ -1,4 +1,4 @@
-//! A script with names, read and translated.
+//! Reads and translates a script with names.
 
 use crate::expectation::{CallCheck, Extent, StateCheck};
 use crate::expecting::check::{Run, check_call, check_state};
@@ -17,7 +17,7 @@ use qreading::MOST_TEXT;
 use qreading::fault::{LineFault, ScriptFault};
 use std::alloc::{AllocError, Global};
 
-/// A script with names whose plain script can be run.
+/// A script with names whose plain script can run.
 #[derive(Debug, Drop)]
 pub struct Named {
     text: String,
@@ -27,26 +27,26 @@ pub struct Named {
     facts: Vec<Fact>,
 }
 
-/// What came of reading a script with names.
+/// The result of reading a script with names.
 #[derive(Debug, Drop)]
 pub enum Reading {
-    /// It can be run.
+    /// It can run.
     Good(Named),
-    /// What is wrong with it, in the order of its lines.
+    /// The faults, in the order of its lines.
     Faulty(Vec<Fault>),
 }
 
-/// The first line of a text, from its first byte on.
+/// The first byte of the first line of a text.
 const START: Place = Place { line: 1, column: 1 };
 
-/// One fault.
+/// Returns a list of one fault.
 fn single(alloc: Global, place: Place, what: String) -> Result<Vec<Fault>, AllocError> {
     let mut faults = Vec::new(alloc);
     faults.push(Fault { place, what })?;
     Ok(faults)
 }
 
-/// The use of a name at a place of a call's line.
+/// Returns the use of a name at a place of a call's line.
 fn use_in<'a>(call: &'a CallLine, place: Place) -> Option<Use<'a>> {
     if let Operand::Name(mention) = &call.caller {
         if mention.place == place {
@@ -71,7 +71,7 @@ fn use_in<'a>(call: &'a CallLine, place: Place) -> Option<Use<'a>> {
     None
 }
 
-/// The use of a name at a place, or its definition.
+/// Returns the use of a name at a place, or its definition.
 fn use_at<'a>(lines: &'a [Line], place: Place) -> Option<Use<'a>> {
     for line in lines {
         let definition = match line {
@@ -97,7 +97,7 @@ fn use_at<'a>(lines: &'a [Line], place: Place) -> Option<Use<'a>> {
     None
 }
 
-/// What is wrong with the names of the lines, in words.
+/// Returns the faults of the names of the lines, in words.
 fn name_faults(
     alloc: Global,
     lined: &Lined,
@@ -121,7 +121,7 @@ fn name_faults(
     Ok(told)
 }
 
-/// What is wrong with the names of the expectations, in words.
+/// Returns the faults of the names in the expectations, in words.
 fn expectation_faults(
     alloc: Global,
     lined: &Lined,
@@ -142,7 +142,7 @@ fn expectation_faults(
     Ok(check.into_faults())
 }
 
-/// The name of the process that a thread's line gives the number of.
+/// Returns the name of the process whose number a thread's line gives.
 fn shared_name<'a>(process: &Process, names: &'a [Word]) -> Option<&'a Word> {
     match process {
         Process::Number(number) if *number > 0 => names.get(number.saturating_sub(1) as usize),
@@ -150,7 +150,7 @@ fn shared_name<'a>(process: &Process, names: &'a [Word]) -> Option<&'a Word> {
     }
 }
 
-/// What is wrong with the numbers of processes: one is given to a name too.
+/// Returns the faults of the numbers of processes: a line gives a number that a named process has.
 fn process_faults(alloc: Global, lines: &[Line], scope: &Scope) -> Result<Vec<Fault>, AllocError> {
     let mut faults = Vec::new(alloc);
     for line in lines {
@@ -168,7 +168,7 @@ fn process_faults(alloc: Global, lines: &[Line], scope: &Scope) -> Result<Vec<Fa
     Ok(faults)
 }
 
-/// What is wrong with a line of the plain script, in words.
+/// Returns the fault of a line of the plain script, in words.
 fn line_words(alloc: Global, fault: LineFault) -> Result<String, AllocError> {
     match fault {
         LineFault::LongLine => {
@@ -181,7 +181,7 @@ fn line_words(alloc: Global, fault: LineFault) -> Result<String, AllocError> {
     }
 }
 
-/// What is wrong with the plain script, in words. Its lines have the numbers of those of the script with names.
+/// Returns the fault of the plain script, in words. Its lines are numbered like those of the script with names.
 pub fn script_faults(alloc: Global, fault: &ScriptFault) -> Result<Vec<Fault>, AllocError> {
     match fault {
         ScriptFault::Line { number, fault } => {
@@ -196,7 +196,7 @@ pub fn script_faults(alloc: Global, fault: &ScriptFault) -> Result<Vec<Fault>, A
     }
 }
 
-/// What is wrong with lines whose translation was refused, in words.
+/// Returns the faults of lines that can't be translated, in words.
 fn refusal_faults(
     alloc: Global,
     lined: &Lined,
@@ -210,7 +210,8 @@ fn refusal_faults(
     }
 }
 
-/// What is wrong with lines that are well formed, but for the names of the calls themselves.
+/// Returns the faults of lines that can be translated: those of the names in expectations and of the numbers of
+/// processes.
 fn other_faults(
     alloc: Global,
     lined: &Lined,
@@ -225,23 +226,23 @@ fn other_faults(
 }
 
 impl Named {
-    /// The plain script.
+    /// Returns the plain script.
     pub fn plain(&self) -> &str {
         self.text.as_str()
     }
 
-    /// What isn't as the script expects, in a run of its plain script that printed this.
+    /// Returns what differs from the script's expectations in a run of its plain script that printed this.
     pub fn faults_in(&self, alloc: Global, printed: &[u8]) -> Result<Vec<Fault>, AllocError> {
         self.faults_of(alloc, printed, Extent::Whole)
     }
 
-    /// What isn't as the script expects, in a run of its plain script that printed this and goes on: a call that hasn't
-    /// ended may still end.
+    /// Returns what differs from the script's expectations in a run of its plain script that printed this and goes on:
+    /// an open call may still end.
     pub fn faults_so_far(&self, alloc: Global, printed: &[u8]) -> Result<Vec<Fault>, AllocError> {
         self.faults_of(alloc, printed, Extent::Front)
     }
 
-    /// What isn't as the script expects, in a run that printed this.
+    /// Returns what differs from the script's expectations in a run that printed this.
     fn faults_of(
         &self,
         alloc: Global,
@@ -259,7 +260,7 @@ impl Named {
         self.checked(alloc, run)
     }
 
-    /// What isn't as the script expects, in this run.
+    /// Returns what differs from the script's expectations in this run.
     fn checked(&self, alloc: Global, run: Run<'_, '_>) -> Result<Vec<Fault>, AllocError> {
         let mut faults = Vec::new(alloc);
         let mut at = 0usize;
@@ -273,7 +274,8 @@ impl Named {
         Ok(faults)
     }
 
-    /// Checks the states that stand behind so many calls, from this one on, and returns the place of the next one.
+    /// Checks the state lines that stand behind the first `calls` calls, from index `at` on, and returns the index of
+    /// the next one.
     fn check_states(
         &self,
         alloc: Global,
@@ -294,18 +296,17 @@ impl Named {
     }
 }
 
-/// What the text of a script with names says.
+/// Reads the text of a script with names.
 pub fn read(alloc: Global, text: &[u8]) -> Result<Reading, AllocError> {
     read_lines(alloc, text, Extent::Whole)
 }
 
-/// What the text of a script with names says as far as it goes: a name in an ending may stand for what a line makes that
-/// comes later.
+/// Reads the first lines of a script with names; a name in an ending may stand for something that a later line makes.
 pub fn read_so_far(alloc: Global, text: &[u8]) -> Result<Reading, AllocError> {
     read_lines(alloc, text, Extent::Front)
 }
 
-/// What a text says that is so much of a script.
+/// Reads the lines of this part of a script.
 fn read_lines(alloc: Global, text: &[u8], extent: Extent) -> Result<Reading, AllocError> {
     if text.len() > MOST_TEXT {
         let what = String::from_str(alloc, "script too long")?;

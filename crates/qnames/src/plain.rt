@@ -1,4 +1,4 @@
-//! The plain script of one with names.
+//! Writes the plain script of one with names.
 
 ghost use Rattle.std.specs.Prelude.{◌≡◌, ℕ, ◌+◌, ◌<◌, ◌≤◌, ◌^◌, [], ◌∷◌, ◌++◌, length, OnOk, IfOk, decimal, string_bytes};
 ghost use Rattle.qnames.specs.Names.{none, latest, with_line};
@@ -10,7 +10,7 @@ use crate::line::{CallLine, Definition, Line, Mention, Operand, ThreadLine};
 use crate::scope::{Scope, is_same_kind};
 use std::alloc::{AllocError, Global};
 
-/// The plain script, and what is wrong with its names. Where something is, the plain script is of no use: it has 0 for a
+/// The plain script, and the faults of its names. If there are faults, the script must not be used: it has 0 for each
 /// name that stands for nothing.
 #[derive(Debug, Drop)]
 pub struct Plain {
@@ -19,7 +19,7 @@ pub struct Plain {
     scope: Scope,
 }
 
-/// The word of so many bytes.
+/// Adds the word of these bytes.
 fn push_bytes(alloc: Global, out: &mut String, bytes: &[u8]) -> Result<(), AllocError>
     ensures { OnOk result (string_bytes out.new ≡ string_bytes out.old ++ bytes_word bytes.now) }
 {
@@ -29,7 +29,7 @@ fn push_bytes(alloc: Global, out: &mut String, bytes: &[u8]) -> Result<(), Alloc
     out.push_str(hex::encode(alloc, bytes)?.as_str())
 }
 
-/// The word of so many bytes of zero.
+/// Adds the word of `count` bytes of zero.
 fn push_zeros(out: &mut String, count: u64) -> Result<(), AllocError>
     ensures { OnOk result (string_bytes out.new ≡ string_bytes out.old ++ zeros_word count) }
 {
@@ -39,7 +39,7 @@ fn push_zeros(out: &mut String, count: u64) -> Result<(), AllocError>
     write!(out, "{count}x00")
 }
 
-/// The word of an operand.
+/// Adds the word of an operand.
 fn push_operand(
     alloc: Global,
     out: &mut String,
@@ -63,7 +63,7 @@ fn push_operand(
     }
 }
 
-/// The words of some operands, each with a space before it.
+/// Adds the words of these operands, each behind a space.
 fn push_operands(
     alloc: Global,
     out: &mut String,
@@ -79,7 +79,7 @@ fn push_operands(
     Ok(())
 }
 
-/// The plain line of a call.
+/// Adds the plain line of a call.
 fn push_call(
     alloc: Global,
     out: &mut String,
@@ -94,7 +94,7 @@ fn push_call(
     push_operands(alloc, out, scope, call.operands.as_slice())
 }
 
-/// The plain line of a thread.
+/// Adds the plain line of a thread.
 fn push_thread(out: &mut String, scope: &Scope, line: &ThreadLine) -> Result<(), AllocError>
     requires threads { (names_of scope.now).threads < 2 ^ 63 }
     requires processes { length (names_of scope.now).processes < 2 ^ 63 }
@@ -106,7 +106,7 @@ fn push_thread(out: &mut String, scope: &Scope, line: &ThreadLine) -> Result<(),
     write!(out, "thread {thread} {process} {priority}")
 }
 
-/// The plain line of a line.
+/// Adds the plain line of a line.
 fn push_line(alloc: Global, out: &mut String, scope: &Scope, line: &Line) -> Result<(), AllocError>
     requires threads { (names_of scope.now).threads < 2 ^ 63 }
     requires processes { length (names_of scope.now).processes < 2 ^ 63 }
@@ -119,7 +119,7 @@ fn push_line(alloc: Global, out: &mut String, scope: &Scope, line: &Line) -> Res
     }
 }
 
-/// What is wrong with a name where a line uses it.
+/// Returns the fault of a name where a line uses it.
 fn error_in(scope: &Scope, mention: &Mention) -> Option<NameError>
     ensures { result ≡ error_of mention.now.wanted (latest mention.now.name (names_of scope.now).labels) }
 {
@@ -130,7 +130,7 @@ fn error_in(scope: &Scope, mention: &Mention) -> Option<NameError>
     }
 }
 
-/// The fault of an operand.
+/// Returns the fault of an operand.
 fn fault_of_operand(scope: &Scope, operand: &Operand) -> Option<NameFault>
     ensures { result ≡ operand_fault (names_of scope.now).labels operand.now }
 {
@@ -144,7 +144,7 @@ fn fault_of_operand(scope: &Scope, operand: &Operand) -> Option<NameFault>
     })
 }
 
-/// The first fault of some operands.
+/// Returns the first fault of these operands.
 fn fault_of_operands(scope: &Scope, operands: &[Operand]) -> Option<NameFault>
     ensures { result ≡ operands_fault (names_of scope.now).labels operands.now }
 {
@@ -156,7 +156,7 @@ fn fault_of_operands(scope: &Scope, operands: &[Operand]) -> Option<NameFault>
     None
 }
 
-/// The fault of a line's definition.
+/// Returns the fault of a line's definition.
 fn fault_of_definition(scope: &Scope, definition: &Option<Definition>) -> Option<NameFault>
     ensures { result ≡ definition_fault (names_of scope.now).labels definition.now }
 {
@@ -172,7 +172,7 @@ fn fault_of_definition(scope: &Scope, definition: &Option<Definition>) -> Option
     }
 }
 
-/// The first fault of a line.
+/// Returns the first fault of a line.
 fn fault_of_line(scope: &Scope, line: &Line) -> Option<NameFault>
     ensures { result ≡ line_fault (names_of scope.now).labels line.now }
 {
@@ -183,7 +183,7 @@ fn fault_of_line(scope: &Scope, line: &Line) -> Option<NameFault>
     }
 }
 
-/// The first fault of a call's line.
+/// Returns the first fault of a call's line.
 fn fault_of_call(scope: &Scope, call: &CallLine) -> Option<NameFault>
     ensures { result ≡ line_fault (names_of scope.now).labels (Line.Call call.now) }
 {
@@ -197,7 +197,7 @@ fn fault_of_call(scope: &Scope, call: &CallLine) -> Option<NameFault>
 }
 
 impl Plain {
-    /// That of no lines.
+    /// Returns the plain script of no lines.
     fn new(alloc: Global) -> Plain
         ensures text { string_bytes result.text ≡ [] }
         ensures faults { result.faults.items ≡ [] }
@@ -228,7 +228,7 @@ impl Plain {
     }
 }
 
-/// The plain script of some lines, and what is wrong with their names: the first fault of each line.
+/// Returns the plain script of these lines, and the first fault of the names of each line.
 pub fn plain_of(alloc: Global, lines: &[Line]) -> Result<Plain, AllocError>
     ensures text { IfOk result (λ plain. string_bytes plain.text ≡ plain_text none lines.now) }
     ensures faults { IfOk result (λ plain. plain.faults.items ≡ name_faults none lines.now) }

@@ -1,4 +1,4 @@
-//! What the text of a script with names says.
+//! Reads the text of a script with names.
 
 pub mod calls;
 pub mod endings;

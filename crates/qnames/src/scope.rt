@@ -1,4 +1,4 @@
-//! What is known at a line: what the names of the lines above stand for.
+//! What the lines above a line define.
 
 ghost use Rattle.std.specs.Prelude.{◌≡◌, ℕ, ◌+◌, ◌<◌, ◌≤◌, ◌^◌, length, position, reverse, find, OnOk, IfSome};
 ghost use Rattle.std.specs.List.{position_or_len, list_any};
@@ -12,7 +12,7 @@ use crate::line::{Definition, Kind, Line, Process, ThreadLine};
 use crate::word::Word;
 use std::alloc::{AllocError, Global};
 
-/// What is known after some lines.
+/// What some lines define: the numbers of threads, calls and processes, and what names stand for.
 #[derive(Debug, Drop)]
 pub struct Scope {
     threads: u64,
@@ -21,7 +21,7 @@ pub struct Scope {
     labels: Vec<Label>,
 }
 
-/// The number of a kind.
+/// Returns the number of a kind.
 fn code(kind: Kind) -> u8
     ensures { result ≡ code_of kind }
 {
@@ -35,21 +35,21 @@ fn code(kind: Kind) -> u8
     }
 }
 
-/// Whether two kinds are one.
+/// Returns whether two kinds are the same.
 pub fn is_same_kind(a: Kind, b: Kind) -> bool
     ensures { result ≡ same_kind a b }
 {
     code(a) == code(b)
 }
 
-/// Whether a word is this name.
+/// Returns whether a word is this name.
 fn is(word: &Word, name: &str) -> bool
     ensures { result ≡ bytes_eq word.now name.now }
 {
     word.as_str() == name
 }
 
-/// The latest label of a name.
+/// Returns the last label with this name.
 #[tactic(auto, unfolding(crate::specs::Names::latest))]
 fn latest_in<'a>(labels: &'a [Label], name: &Word) -> Option<&'a Label>
     ensures { option_map (λ l. l.now) result ≡ latest name.now labels.now }
@@ -60,7 +60,7 @@ fn latest_in<'a>(labels: &'a [Label], name: &Word) -> Option<&'a Label>
         .find(|label| is(&label.name, name.as_str()))
 }
 
-/// Where a name stands first among those of the processes.
+/// Returns the first index of a name among those of the processes.
 fn found_process(processes: &[Word], name: &Word) -> Option<usize>
     ensures place { result ≡ position (λ p. bytes_eq p name.now) processes.now }
     ensures within { IfSome result (λ at. at < length processes.now) }
@@ -68,14 +68,14 @@ fn found_process(processes: &[Word], name: &Word) -> Option<usize>
     processes.iter().position(|p| is(p, name.as_str()))
 }
 
-/// Whether a name stands among those of the processes.
+/// Returns whether a name is one of those of the processes.
 fn has_process(processes: &[Word], name: &Word) -> bool
     ensures { result ≡ list_any (λ p. bytes_eq p name.now) processes.now }
 {
     processes.iter().any(|p| is(p, name.as_str()))
 }
 
-/// The place of a name among those of the processes; their count where it is none of them.
+/// Returns the index of a name among those of the processes, or their number if it isn't one of them.
 #[tactic(auto, using(crate::proofs::Places::place_some, crate::proofs::Places::place_none))]
 fn process_place(processes: &[Word], name: &Word) -> usize
     ensures place { result ≡ position_or_len (λ p. bytes_eq p name.now) processes.now }
@@ -87,7 +87,7 @@ fn process_place(processes: &[Word], name: &Word) -> usize
     }
 }
 
-/// The number of a process.
+/// Returns the number of a process.
 fn number_of_process(processes: &[Word], process: &Process) -> u64
     requires { length processes.now < 2 ^ 63 }
     ensures { result ≡ process_number processes.now process.now }
@@ -98,7 +98,7 @@ fn number_of_process(processes: &[Word], process: &Process) -> u64
     }
 }
 
-/// Adds a name to those of the processes, if it is a new one.
+/// Adds a name to those of the processes, unless it is one of them.
 fn add_name(alloc: Global, processes: &mut Vec<Word>, name: &Word) -> Result<(), AllocError>
     ensures { OnOk result (processes.new.items ≡ with_name processes.old.items name.now) }
 {
@@ -109,7 +109,7 @@ fn add_name(alloc: Global, processes: &mut Vec<Word>, name: &Word) -> Result<(),
     Ok(())
 }
 
-/// Adds the name of a process, if it has one and it is a new one.
+/// Adds the name of a process, if it has one that is new.
 fn add_process(
     alloc: Global,
     processes: &mut Vec<Word>,
@@ -145,7 +145,7 @@ fn add_label(
 }
 
 impl Scope {
-    /// What is known before the first line.
+    /// Returns the scope above the first line.
     pub fn new(alloc: Global) -> Scope
         ensures { names_of result ≡ none }
     {
@@ -157,7 +157,7 @@ impl Scope {
         }
     }
 
-    /// What is known after some lines. The lines of a text are far fewer than can be counted.
+    /// Returns the scope below these lines. A text has far fewer lines than a number of 64 bits can count.
     pub fn after(alloc: Global, lines: &[Line]) -> Result<Scope, AllocError> {
         let mut scope = Scope::new(alloc);
         'lines: for line in lines {
@@ -166,21 +166,21 @@ impl Scope {
         Ok(scope)
     }
 
-    /// The labels of the lines so far, in order.
+    /// Returns the labels of the lines so far, in order.
     pub fn labels(&self) -> &[Label]
         ensures { result.now ≡ (names_of self.now).labels }
     {
         self.labels.as_slice()
     }
 
-    /// The names of the processes, each at the place of its number, counted from 1.
+    /// Returns the names of the processes; the first is that of process 1.
     pub fn process_names(&self) -> &[Word]
         ensures { result.now ≡ (names_of self.now).processes }
     {
         self.processes.as_slice()
     }
 
-    /// The number of the process of a name; 0 where no line names it.
+    /// Returns the number of the process with this name, or 0 if no line has it.
     pub fn process_named(&self, name: &Word) -> u64 {
         match found_process(self.processes.as_slice(), name) {
             Some(at) => (at as u64).saturating_add(1),
@@ -188,14 +188,14 @@ impl Scope {
         }
     }
 
-    /// The latest label of a name.
+    /// Returns the last label with this name.
     pub fn latest(&self, name: &Word) -> Option<&Label>
         ensures { option_map (λ l. l.now) result ≡ latest name.now (names_of self.now).labels }
     {
         latest_in(self.labels.as_slice(), name)
     }
 
-    /// The number that a name stands for; 0 for one that stands for nothing.
+    /// Returns the number that a name stands for, or 0 if it stands for nothing.
     pub fn number(&self, name: &Word) -> u64
         ensures { result ≡ number_of name.now (names_of self.now).labels }
     {
@@ -205,7 +205,7 @@ impl Scope {
         }
     }
 
-    /// The number of a thread's line that comes next.
+    /// Returns the number of the thread of the next line.
     pub fn thread(&self, line: &ThreadLine) -> u64
         requires { (names_of self.now).threads < 2 ^ 63 }
         ensures { result ≡ thread_number (names_of self.now) line.now }
@@ -213,7 +213,7 @@ impl Scope {
         line.thread.unwrap_or(self.threads + 1)
     }
 
-    /// The number of the process of a thread's line that comes next.
+    /// Returns the number of the process of the next thread line.
     pub fn process(&self, process: &Process) -> u64
         requires { length (names_of self.now).processes < 2 ^ 63 }
         ensures { result ≡ process_number (names_of self.now).processes process.now }

@@ -1,4 +1,4 @@
-//! The plain script of one with names, read as today's scripts are.
+//! Translates a script with names into a plain one, and reads that.
 
 ghost use Rattle.std.specs.Prelude.{IfOk, IfErr};
 ghost use Rattle.qnames.specs.Translation.{IsTranslation, IsRefusal};
@@ -10,25 +10,25 @@ use qreading::fault::ScriptFault;
 use qreading::{Script, parse};
 use std::alloc::Global;
 
-/// A plain script: its text, and what the text means.
+/// A plain script: its text, and the meaning of the text.
 #[derive(Drop)]
 pub struct Translation {
     pub text: String,
     pub script: Script,
 }
 
-/// Why lines have no plain script that can be run.
+/// The reason why lines have no plain script that can run.
 #[derive(Debug, Drop)]
 pub enum Refusal {
     /// There is no memory for it.
     Memory,
-    /// This is wrong with their names.
+    /// The faults of the names.
     Names(Vec<NameFault>),
-    /// This is wrong with the plain script.
+    /// The fault of the plain script.
     Script(ScriptFault),
 }
 
-/// The plain script of some lines.
+/// Returns the plain script of these lines.
 pub fn translate(alloc: Global, lines: &[Line]) -> Result<Translation, Refusal>
     ensures ok { IfOk result (λ t. IsTranslation lines.now t) }
     ensures err { IfErr result (λ e. IsRefusal lines.now e) }

@@ -6,7 +6,7 @@ use std::alloc::{AllocError, Global};
 use std::fmt;
 use std::marker::Model;
 
-/// A name, or a word that stands in the plain script as it is. Contracts see the list of its bytes.
+/// A name, or a word that goes into the plain script as it is. Contracts see the list of its bytes.
 #[derive(Debug, Drop)]
 pub struct Word {
     text: String,
@@ -26,7 +26,7 @@ impl fmt::Display for Word {
 }
 
 impl Word {
-    /// The word of this text.
+    /// Returns the word with this text.
     pub fn of(alloc: Global, text: &str) -> Result<Word, AllocError>
         ensures { IfOk result (λ word. word ≡ text.now) }
     {
@@ -35,14 +35,14 @@ impl Word {
         })
     }
 
-    /// The word as text.
+    /// Returns the word as text.
     pub fn as_str(&self) -> &str
         ensures { result.now ≡ self.now }
     {
         self.text.as_str()
     }
 
-    /// Another word with the same content.
+    /// Returns a copy of the word.
     pub fn copied(&self, alloc: Global) -> Result<Word, AllocError>
         ensures { IfOk result (λ word. word ≡ self.now) }
     {

@@ -1,4 +1,4 @@
-//! What is wrong with names, in words.
+//! Words the faults of names.
 
 use crate::expectation::CallCheck;
 use crate::label::{Label, NameError};
@@ -8,25 +8,25 @@ use crate::scope::Scope;
 use crate::word::Word;
 use std::alloc::{AllocError, Global};
 
-/// What is known where a fault is told: what the names stand for after the last line, and the calls.
+/// What the words of a fault need: what the names stand for after the last line, and the calls.
 #[derive(Clone, Copy)]
 pub struct Context<'a> {
     pub scope: &'a Scope,
     pub calls: &'a [CallCheck],
 }
 
-/// Where a name is used.
+/// The way in which a line uses a name.
 #[derive(Clone, Copy)]
 pub enum Usage<'a> {
-    /// In front of a call, which it makes.
+    /// As the caller, in front of a call.
     Caller,
     /// As an operand of this call.
     Operand(&'a str),
-    /// Where something is expected.
+    /// In an expectation.
     Expectation,
 }
 
-/// A use of a name, and what is wanted there.
+/// A use of a name, and the kind that it has to be of.
 #[derive(Clone, Copy)]
 pub struct Use<'a> {
     pub name: &'a Word,
@@ -34,7 +34,7 @@ pub struct Use<'a> {
     pub wanted: Kind,
 }
 
-/// A kind, with its article.
+/// Returns a kind, with its article.
 fn kind_words(kind: Kind) -> &'static str {
     match kind {
         Kind::Thread => "a thread",
@@ -47,7 +47,7 @@ fn kind_words(kind: Kind) -> &'static str {
 }
 
 impl Context<'_> {
-    /// The word that names the call of this number.
+    /// Returns the word that names the call with this number.
     fn verb(&self, number: u64) -> &str {
         let at = number.saturating_sub(1) as usize;
         match self.calls.get(at) {
@@ -56,7 +56,7 @@ impl Context<'_> {
         }
     }
 
-    /// What a label stands for, with its article.
+    /// Returns what a label stands for, with its article.
     fn label_words(&self, alloc: Global, label: &Label) -> Result<String, AllocError> {
         if !matches!(label.kind, Kind::Call) {
             return String::from_str(alloc, kind_words(label.kind));
@@ -65,7 +65,7 @@ impl Context<'_> {
         format!(in alloc; "a call of {verb}")
     }
 
-    /// A name that isn't defined above.
+    /// Returns the words for a name that no line above defines.
     fn undefined(&self, alloc: Global, name: &Word) -> Result<String, AllocError> {
         if let Some(label) = self.scope.latest(name) {
             let line = label.line;
@@ -85,7 +85,7 @@ impl Context<'_> {
         }
     }
 
-    /// A name that stands for something else than is wanted.
+    /// Returns the words for a name that stands for something of another kind.
     fn other_kind(&self, alloc: Global, used: Use<'_>) -> Result<String, AllocError> {
         let name = used.name;
         let Some(label) = self.scope.latest(name) else {
@@ -108,7 +108,7 @@ impl Context<'_> {
         Ok(text)
     }
 
-    /// What is wrong with a name, in words.
+    /// Returns the fault of a name, in words.
     pub fn words(
         &self,
         alloc: Global,

@@ -1,9 +1,9 @@
--- How the program ends.
+-- The exit status of the program.
 use Rattle.std.specs.Prelude.{ℕ}
 use Rattle.qreading.specs.declared.fault.ScriptFault.{ScriptFault}
 use Rattle.qreading.specs.declared.fault.ScriptFault.TheVariants.{Read, TooLong, Line, NoMemory, Write}
 
--- 1 where the script is at fault, 3 where something else failed
+-- 1 if the script is at fault, 3 if something else failed
 abbrev pub status_of : ScriptFault → ℕ
 status_of TooLong = 1
 status_of (Line number fault) = 1

@@ -1,6 +1,6 @@
--- How long a script's text may be.
+-- The limit on the length of a script's text.
 use Rattle.std.specs.Prelude.{ℕ}
 
--- the most bytes that it may have
+-- the most bytes of a script's text: 4 MiB
 abbrev pub most_text : ℕ
 most_text = 4194304

@@ -1,4 +1,4 @@
-//! What can be wrong with a script.
+//! The faults of a script.
 
 ghost use Rattle.std.specs.Prelude.{◌≡◌};
 ghost use Rattle.qreading.specs.declared.fault.ParseError.TheVariants.{Memory, Fault};
@@ -8,31 +8,31 @@ ghost use Rattle.qreading.specs.Status.{status_of};
 use std::alloc::{AllocError, AllocFailed};
 use thiserror::Error;
 
-/// What is wrong with a line.
+/// The fault of a line.
 #[derive(Clone, Copy, Debug, PartialEq, Eq, Error)]
 pub enum LineFault {
     /// It has over 4,096 bytes, not counting its line end.
     #[error("long line")]
     LongLine,
-    /// It has a byte that is neither a tab nor prints.
+    /// It has a byte that is neither a tab nor printable ASCII (32 to 126).
     #[error("bad byte")]
     BadByte,
     /// A roster line stands after a call line.
     #[error("late thread")]
     LateThread,
-    /// A word is no number of the range that is wanted there.
+    /// A word isn't a number of the range that its operand has.
     #[error("bad number")]
     BadNumber,
     /// It has too few or too many words.
     #[error("word count")]
     WordCount,
-    /// Its second word names no call.
+    /// Its second word isn't the name of a call.
     #[error("unknown word")]
     UnknownWord,
-    /// A number of a byte is no priority.
+    /// A number below 256 isn't a priority.
     #[error("bad priority")]
     BadPriority,
-    /// A word says no bytes in any of their three forms.
+    /// A word isn't bytes in any of their three forms.
     #[error("bad bytes")]
     BadBytes,
     /// A roster line repeats a thread.
@@ -46,7 +46,7 @@ pub enum LineFault {
     UnknownThread,
 }
 
-/// Why a line can't be read.
+/// The reason why a line can't be read.
 #[derive(Debug, Drop)]
 pub enum ParseError {
     /// There is no memory for what it says.
@@ -71,22 +71,22 @@ impl From<LineFault> for ParseError {
     }
 }
 
-/// Why a script has no run.
+/// The reason why a script has no run.
 #[derive(Debug, Drop, Error)]
 pub enum ScriptFault {
-    /// Its text could not be read.
+    /// Reading its text failed.
     #[error("read failed")]
     Read,
     /// Its text has over 4,194,304 bytes.
     #[error("script too long")]
     TooLong,
-    /// The first faulty line, counted from 1.
+    /// The first faulty line, counted from 1, and its fault.
     #[error("line {number}: {fault}")]
     Line { number: u64, fault: LineFault },
-    /// There is no memory for it or its run.
+    /// There is no memory for the script or for its run.
     #[error("out of memory")]
     NoMemory,
-    /// The text of its run could not be written.
+    /// Writing the text of its run failed.
     #[error("write failed")]
     Write,
 }
@@ -108,8 +108,7 @@ impl<T: Drop> From<AllocFailed<T>> for ScriptFault {
 }
 
 impl ScriptFault {
-    /// The status that the program ends with: 1 where the script is at fault, 3 where something else
-    /// failed.
+    /// Returns the exit status of the program: 1 if the script is at fault, 3 if something else failed.
     pub fn status(&self) -> u8
         ensures { result ≡ status_of self.now }
     {

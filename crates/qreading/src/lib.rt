@@ -1,4 +1,4 @@
-//! What the text of a script means: its lines, their words, the roster and the calls.
+//! Reads the text of a script: its lines, their words, the roster and the calls.
 #![tactic(auto)]
 
 pub mod fault;

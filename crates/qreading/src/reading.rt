@@ -1,4 +1,4 @@
-//! What the bytes of a script mean: its lines, their words, the roster and the calls.
+//! Reads the bytes of a script: its lines, their words, the roster and the calls.
 
 pub mod bytes;
 pub mod call;

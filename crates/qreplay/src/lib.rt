@@ -1,5 +1,4 @@
-//! Scripts that are run once more, to tell why calls failed and who is blocked on whom, and scripts that grow line by
-//! line.
+//! Runs scripts again to find why calls failed and who is blocked on whom, and keeps scripts that grow line by line.
 #![tactic(auto)]
 
 pub mod report;

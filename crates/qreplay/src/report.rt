@@ -1,4 +1,4 @@
-//! What is to be told of a run beside its trace.
+//! Reports what the trace of a run doesn't say.
 
 use qexplain::history::{History, Past};
 use qexplain::parts::call_lines;
@@ -12,28 +12,28 @@ use qtables::member::Member;
 use qtables::roster::Roster;
 use std::alloc::{AllocError, Global};
 
-/// How many failures are told at most.
+/// The most failures that are reported.
 pub const MOST_REFUSALS: usize = 100;
 
-/// What is to be told of a run beside its trace.
+/// A report of what the trace of a run doesn't say.
 #[derive(Debug, Drop)]
 pub struct Report {
-    /// The first failures, at most a hundred, each with the number of its line, which is counted from 1.
+    /// The first failures, at most `MOST_REFUSALS`, each with the number of its line, counted from 1.
     pub refusals: Vec<(usize, Refusal)>,
-    /// How many calls failed.
+    /// The number of calls that failed.
     pub failures: usize,
     /// The threads whose messages aren't answered at the end.
     pub waits: Vec<Wait>,
-    /// The circles among them.
+    /// The circles among these threads.
     pub deadlocks: Vec<Deadlock>,
 }
 
-/// The report of a script's run.
+/// Returns the report of a script's run.
 pub fn report_of(alloc: Global, text: &[u8]) -> Result<Report, ScriptFault> {
     report_from(alloc, text, 0)
 }
 
-/// The report of a script's run, with the failures in the events from this number on.
+/// Returns the report of a script's run, with the failures in the events from the one numbered `first` on.
 pub fn report_from(alloc: Global, text: &[u8], first: u64) -> Result<Report, ScriptFault> {
     let script = parse(alloc, text)?;
     let lines = call_lines(alloc, text)?;
@@ -49,7 +49,8 @@ pub fn report_from(alloc: Global, text: &[u8], first: u64) -> Result<Report, Scr
     Ok(report)
 }
 
-/// A kernel without calls, of these threads. One that comes twice, or behind 64, is left out.
+/// Returns a kernel of these threads, before any call. A thread that comes twice, and those behind the 64th, are left
+/// out.
 pub(crate) fn kernel_of(alloc: Global, members: &[Member]) -> Result<Kernel, ScriptFault> {
     let mut roster = Roster::new(alloc);
     for member in members {
@@ -62,7 +63,7 @@ pub(crate) fn kernel_of(alloc: Global, members: &[Member]) -> Result<Kernel, Scr
 }
 
 impl Report {
-    /// Makes the calls of a script, which stand in these lines, and notes those that fail.
+    /// Makes the calls of a script, which have these line numbers, and notes those that fail.
     fn follow(
         &mut self,
         alloc: Global,
@@ -84,7 +85,7 @@ impl Report {
         Ok(history)
     }
 
-    /// Counts the failures of an event, and notes them as long as there are few.
+    /// Counts the failures of an event, and notes them up to `MOST_REFUSALS`.
     fn note(
         &mut self,
         alloc: Global,
@@ -108,7 +109,7 @@ impl Report {
     }
 }
 
-/// How many of these endings are failures.
+/// Returns the number of failures among these endings.
 fn failures_in(endings: &[Completion]) -> usize {
     let failed = endings
         .iter()

@@ -1,4 +1,4 @@
-//! A script that grows line by line, with what each line adds to its trace.
+//! Keeps a script that grows line by line, and returns what each line adds to its trace.
 
 use crate::report::report_from;
 use qexplain::parts::Lines;
@@ -10,7 +10,7 @@ use qscript::script::script;
 use qscript::watched::Watched;
 use std::alloc::{AllocError, Global};
 
-/// The lines of a script so far, which has no fault. The script is run anew for each line, so its kernel is as after
+/// The lines of a script so far, which have no fault. The script is run anew for each line, so its kernel is as after
 /// `script` of these lines.
 #[derive(Drop)]
 pub struct Session {
@@ -19,7 +19,7 @@ pub struct Session {
     shown: usize,
 }
 
-/// Where the lines of blocked threads begin in what a script printed.
+/// Returns the index at which the lines of blocked threads begin in what a script printed.
 fn end_of_events(printed: &[u8]) -> usize {
     let mut end = 0usize;
     let mut at = 0usize;
@@ -32,7 +32,7 @@ fn end_of_events(printed: &[u8]) -> usize {
     end.min(printed.len())
 }
 
-/// What a script prints.
+/// Returns what a script prints.
 fn printed(alloc: Global, text: &[u8]) -> Result<Vec<u8>, ScriptFault> {
     let mut reader = Watched::new(text);
     let mut writer = Watched::new(Vec::new(alloc));
@@ -40,7 +40,7 @@ fn printed(alloc: Global, text: &[u8]) -> Result<Vec<u8>, ScriptFault> {
     Ok(writer.into_inner())
 }
 
-/// The bytes from a place on; none where the place is behind them.
+/// Returns the bytes from an index on, or none if there are fewer.
 fn behind(alloc: Global, bytes: &[u8], from: usize) -> Result<Vec<u8>, AllocError> {
     match bytes.get(from..) {
         Some(rest) => Vec::from_slice(alloc, rest),
@@ -49,7 +49,7 @@ fn behind(alloc: Global, bytes: &[u8], from: usize) -> Result<Vec<u8>, AllocErro
 }
 
 impl Session {
-    /// No lines yet.
+    /// Returns a session without lines.
     pub fn new(alloc: Global) -> Session {
         Session {
             alloc,
@@ -58,13 +58,13 @@ impl Session {
         }
     }
 
-    /// The lines so far.
+    /// Returns the lines so far.
     pub fn text(&self) -> &[u8] {
         self.text.as_slice()
     }
 
-    /// Adds lines, and answers what they add to the trace, without the lines of blocked threads. Faulty lines are
-    /// not added; the number of the fault counts all lines so far.
+    /// Adds lines, and returns what they add to the trace, without the lines of blocked threads. Faulty lines are not
+    /// added; the line number of the error counts all lines of the session.
     pub fn add(&mut self, lines: &[u8]) -> Result<Vec<u8>, ScriptFault> {
         let before = self.text.len();
         let added = self.try_add(lines);
@@ -74,7 +74,7 @@ impl Session {
         added
     }
 
-    /// Adds lines, and leaves them there where they are faulty.
+    /// Adds lines, and keeps them even if they are faulty.
     fn try_add(&mut self, lines: &[u8]) -> Result<Vec<u8>, ScriptFault> {
         self.text.extend_from_slice(lines)?;
         if lines.last() != Some(&b'\n') {
@@ -88,14 +88,14 @@ impl Session {
         Ok(new)
     }
 
-    /// The lines of the threads that are blocked by now.
+    /// Returns the lines of the threads that are blocked now.
     pub fn blocked(&self) -> Result<Vec<u8>, ScriptFault> {
         let printed = printed(self.alloc, self.text.as_slice())?;
         let end = end_of_events(printed.as_slice());
         Ok(behind(self.alloc, printed.as_slice(), end)?)
     }
 
-    /// Why the last call failed, or others failed by it.
+    /// Returns the failures in the event of the last call, with their reasons.
     pub fn failures(&self) -> Result<Vec<Refusal>, ScriptFault> {
         let calls = parse(self.alloc, self.text.as_slice())?.calls.len();
         let report = report_from(self.alloc, self.text.as_slice(), calls as u64)?;
@@ -106,7 +106,7 @@ impl Session {
         Ok(failures)
     }
 
-    /// Takes the last line away that isn't empty and no comment, and answers it.
+    /// Removes the last line that is neither empty nor a comment, and returns it.
     pub fn undo(&mut self) -> Result<Option<Vec<u8>>, ScriptFault> {
         let Some((start, line)) = last_line(self.text.as_slice()) else {
             return Ok(None);
@@ -119,7 +119,7 @@ impl Session {
     }
 }
 
-/// The last line of a text that isn't empty and no comment, and where it begins.
+/// Returns the last line of a text that is neither empty nor a comment, and the index at which it begins.
 fn last_line(text: &[u8]) -> Option<(usize, &[u8])> {
     let mut last = None;
     let mut rest = text;
@@ -135,7 +135,7 @@ fn last_line(text: &[u8]) -> Option<(usize, &[u8])> {
     last
 }
 
-/// What stands behind the first line feed.
+/// Returns the text behind the first line feed.
 fn rest_behind(text: &[u8]) -> &[u8] {
     match text.iter().position(|byte| *byte == b'\n') {
         Some(at) => text.get(at.saturating_add(1)..).unwrap_or(&[]),

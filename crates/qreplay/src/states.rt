@@ -1,4 +1,4 @@
-//! What each thread of a script does at its end.
+//! Finds the state of each thread at the end of a script.
 
 use crate::report::kernel_of;
 use qbase::ids::{ProcessNo, ThreadNo};
@@ -12,8 +12,8 @@ use qscript::{Script, parse};
 use qtables::member::Member;
 use std::alloc::{AllocError, Global};
 
-/// A line for each thread, `THREAD state STATE CHANNEL PRIORITY` or `THREAD state ready PRIORITY`, as `state` prints it.
-/// The priority is `-` after a shutdown, and where there are 64 threads.
+/// Returns a line for each thread, `THREAD state STATE CHANNEL PRIORITY` or `THREAD state ready PRIORITY`, as `state`
+/// prints it. The priority is `-` after a shutdown, and if there are 64 threads.
 pub fn states_of(alloc: Global, text: &[u8]) -> Result<String, ScriptFault> {
     let Script { roster, calls } = parse(alloc, text)?;
     let observer = observer_of(roster.as_slice());
@@ -26,7 +26,7 @@ pub fn states_of(alloc: Global, text: &[u8]) -> Result<String, ScriptFault> {
     Ok(lines)
 }
 
-/// The lines of these threads, of which an observer asks.
+/// Returns the lines of these threads, about which an observer asks the kernel.
 fn lines_of(
     alloc: Global,
     kernel: &mut Kernel,
@@ -43,7 +43,7 @@ fn lines_of(
     Ok(lines)
 }
 
-/// A kernel of these threads and of an observer, if there is room for it.
+/// Returns a kernel of these threads and of an observer, if there is room for it.
 fn watched_kernel(
     alloc: Global,
     members: &[Member],
@@ -54,7 +54,7 @@ fn watched_kernel(
     kernel_of(alloc, all.as_slice())
 }
 
-/// A thread that the roster doesn't have, of a process of its own where there is one left.
+/// Returns a thread that isn't in the roster, of a process of its own if there is one left.
 fn observer_of(members: &[Member]) -> Member {
     let mut thread = 0u8;
     let mut process = 0u8;
@@ -73,7 +73,7 @@ fn observer_of(members: &[Member]) -> Member {
     }
 }
 
-/// The state of a thread, where these are blocked.
+/// Returns the state of a thread, given the blocked threads.
 fn state_of(blocked: &[Blocked], thread: ThreadNo) -> ThreadState {
     match blocked.iter().find(|blocked| blocked.thread == thread) {
         Some(blocked) => blocked.state,
@@ -81,7 +81,7 @@ fn state_of(blocked: &[Blocked], thread: ThreadNo) -> ThreadState {
     }
 }
 
-/// The priority of a thread, as the kernel tells it to an observer.
+/// Returns the priority of a thread, by a State call of the observer.
 fn priority_of(kernel: &mut Kernel, observer: ThreadNo, thread: ThreadNo) -> Option<Priority> {
     let Ok(endings) = kernel.dispatch(observer, Call::State(thread)) else {
         return None;
@@ -117,7 +117,7 @@ fn push_state(
     }
 }
 
-/// The word of a state, and its channel.
+/// Returns the word of a state, and its channel.
 fn state_words(state: ThreadState) -> (&'static str, Option<u64>) {
     match state {
         ThreadState::Ready => ("ready", None),

@@ -1,8 +1,8 @@
-//! Runs worked scripts, whose output is written below their lines by hand, and compares.
+//! Runs worked scripts, whose output was written below their lines by hand, and compares.
 //!
 //! Standard input has the scripts one after another. `== NAME` begins a script, and `=? NAME` one whose fault is also
-//! explained. A line that begins with `> ` is output, each other line is one of the script. `@ FIRST LAST LINE` stands
-//! for LINE once for each number from FIRST to LAST, which takes the place of each N in it.
+//! explained. A line that begins with `> ` is output; every other line is one of the script. `@ FIRST LAST LINE` stands
+//! for LINE once for each number from FIRST to LAST, which replaces each N in it.
 #![tactic(auto)]
 
 mod row;
@@ -20,7 +20,8 @@ fn main(rt: HostRuntime) -> ExitCode {
     }
 }
 
-/// Runs the scripts of standard input, prints a line for each, and returns whether each printed what is written.
+/// Runs the scripts of standard input, prints a line for each, and returns whether each printed the output that was
+/// written for it.
 fn compare_all<R: Input + Print + AllocGlobal>(rt: &R) -> io::Result<bool> {
     let mut text = Vec::new(rt.alloc());
     rt.reader().read_to_end(&mut text)?;
@@ -40,7 +41,8 @@ fn compare_all<R: Input + Print + AllocGlobal>(rt: &R) -> io::Result<bool> {
     Ok(compare(rt, &row)? && all)
 }
 
-/// Runs the script of the row, if there is one, prints how it compares, and returns whether it printed what is written.
+/// Runs the script of the row, if there is one, prints whether it passed, and returns whether it printed the output
+/// that was written for it.
 fn compare<R: Print + AllocGlobal>(rt: &R, row: &Option<Row>) -> io::Result<bool> {
     let Some(row) = row else {
         return Ok(true);

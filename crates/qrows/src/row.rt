@@ -1,4 +1,4 @@
-//! One script, with what it has to print.
+//! A script with the output that it has to print.
 
 use qexplain::explain;
 use qscript::fault::ScriptFault;
@@ -7,7 +7,7 @@ use qscript::watched::Watched;
 use std::alloc::{AllocError, Global};
 use std::{io, str};
 
-/// A script with its name and what it has to print.
+/// A script, its name, and the output that it has to print.
 #[derive(Drop)]
 pub struct Row {
     name: String,
@@ -17,7 +17,7 @@ pub struct Row {
 }
 
 impl Row {
-    /// The row that this line begins, if it begins one.
+    /// Returns the row that this line begins, if it begins one.
     pub fn begun_by(alloc: Global, line: &str) -> Result<Option<Row>, AllocError> {
         if let Some(name) = line.strip_prefix("== ") {
             return Ok(Some(Row::new(alloc, name, false)?));
@@ -28,7 +28,7 @@ impl Row {
         }
     }
 
-    /// A row of no lines.
+    /// Returns a row without lines.
     fn new(alloc: Global, name: &str, explained: bool) -> Result<Row, AllocError> {
         Ok(Row {
             name: String::from_str(alloc, name)?,
@@ -38,12 +38,12 @@ impl Row {
         })
     }
 
-    /// The name.
+    /// Returns the name.
     pub fn name(&self) -> &str {
         self.name.as_str()
     }
 
-    /// Adds a line of the script, or of what it has to print.
+    /// Adds a line of the script or of the output.
     pub fn add(&mut self, line: &str) -> io::Result<()> {
         match line.strip_prefix("> ") {
             Some(output) => add_lines(&mut self.wanted, output),
@@ -51,12 +51,12 @@ impl Row {
         }
     }
 
-    /// Whether this is what the script has to print.
+    /// Returns whether this is the output that the script has to print.
     pub fn wants(&self, printed: &str) -> bool {
         self.wanted.as_str() == printed
     }
 
-    /// What the script prints, or what its fault is.
+    /// Returns what the script prints, or its fault.
     pub fn printed(&self, alloc: Global) -> io::Result<String> {
         let mut reader = Watched::new(self.script.as_bytes());
         let mut writer = Watched::new(Vec::new(alloc));
@@ -70,7 +70,7 @@ impl Row {
         }
     }
 
-    /// What a fault is, and where that is asked for how it is explained.
+    /// Returns a fault, with its explanation if the row has one.
     fn faulty(&self, alloc: Global, fault: ScriptFault) -> io::Result<String> {
         let mut text = format!(in alloc; "{fault}\n")?;
         let ScriptFault::Line { number, fault } = fault else {
@@ -95,7 +95,7 @@ struct Repeat<'a> {
 }
 
 impl<'a> Repeat<'a> {
-    /// The repeat that this line is, if it is one.
+    /// Returns the repeat that this line is, if it is one.
     fn of(line: &'a str) -> Option<Repeat<'a>> {
         let rest = line.strip_prefix("@ ")?;
         let (first, rest) = rest.split_once(" ")?;
@@ -121,7 +121,7 @@ fn add_lines(text: &mut String, line: &str) -> io::Result<()> {
     Ok(())
 }
 
-/// Adds the line with this number in the place of each N.
+/// Adds the line, with this number in place of each N.
 fn add_numbered(text: &mut String, line: &str, number: u64) -> io::Result<()> {
     for letter in line.chars() {
         if letter == 'N' {

@@ -1,4 +1,4 @@
--- A script, from a reader to a writer.
+-- The run of a script, from a reader to a writer.
 use Rattle.std.specs.Prelude.{◌≡◌, ℕ, ◌≤◌, ◌^◌, Bool, List, [], length, map, Option}
 use Rattle.std.specs.Io.KnownBytes.{Appends}
 use Rattle.qtables.specs.Members.{IsRoster}
@@ -17,15 +17,14 @@ use Rattle.qreading.specs.Reading.Meaning.{meaning, Says, Faulty}
 use Rattle.qscript.specs.Printing.Printed.{printed}
 use Rattle.qscript.specs.Transfer.{IsReading, FailsWithin, IsOverfull, StopsWithin}
 
--- the threads may join one roster, each call is of one of them, and there are no more calls than a kernel can
--- number
+-- the threads may join one roster, each call is made by one of them, and a kernel can number the calls
 pub record CanRun (roster : List Member) (calls : List (ℕ × Call)) : Type 0 where
   pub members : AllJoin [] roster
   pub callers : AllKnown (roster_with [] roster) calls
   pub few : length calls ≤ 2 ^ 40
 
--- a run of just these calls, lawful from the first call on, and who is blocked after it; the roster's threads
--- stand in rising number, which the laws of lawful traces ask
+-- a run of just these calls, lawful from the first call on, and the threads that are blocked after it; the
+-- roster's threads are in rising number, which the laws of lawful traces require
 pub record IsRunOf (roster : List Member) (calls : List (ℕ × Call)) (run : Run)
     (blocked : List Blocked) : Type 0 where
   pub rising : IsRoster (roster_with [] roster)
@@ -35,7 +34,7 @@ pub record IsRunOf (roster : List Member) (calls : List (ℕ × Call)) (run : Ru
   pub properties : HasProperties (roster_with [] roster) (followed_by [] run.events)
   pub left : blocked ≡ blocked_threads (facts_of (roster_with [] roster) (followed_by [] run.events))
 
--- the text of such a run; if no call was refused for want of memory, it is the text of each other such run
+-- the text of such a run; if no call was refused for lack of memory, it is the text of each other such run
 pub record IsTextOfRun (roster : List Member) (calls : List (ℕ × Call)) (text : List ℕ) : Type 0 where
   pub run : Run
   pub blocked : List Blocked
@@ -44,14 +43,14 @@ pub record IsTextOfRun (roster : List Member) (calls : List (ℕ × Call)) (text
   pub only : HadMemory run.events → (other : Run) (left : List Blocked) → IsRunOf roster calls other left
       → HadMemory other.events → printed other left ≡ text
 
--- the text of a run of the script that was read
+-- the text of a run of the script with this input
 pub record Runs (input : List ℕ) (text : List ℕ) : Type 0 where
   pub roster : List Member
   pub calls : List (ℕ × Call)
   pub meant : meaning input ≡ Says roster calls
   pub ran : IsTextOfRun roster calls text
 
--- all was read, and all of the run's text was written
+-- all of the input was read, and all of the run's text was written
 pub record IsRun (reader reader_after writer writer_after : Option (List ℕ)) : Type 0 where
   pub input : List ℕ
   pub text : List ℕ
@@ -59,21 +58,21 @@ pub record IsRun (reader reader_after writer writer_after : Option (List ℕ)) :
   pub runs : Runs input text
   pub written : Appends writer writer_after text
 
--- the reader failed before more was read than a script may have
+-- the reader failed before it gave more than the most bytes of a script
 abbrev pub IsUnread : Option (List ℕ) → Option (List ℕ) → Bool → Type 0
 IsUnread reader reader_after faulted = (input : List ℕ) × FailsWithin reader reader_after faulted input
 
--- more was read than a script may have, before the reader failed
+-- the reader gave more than the most bytes of a script before it failed
 abbrev pub IsTooLong : Option (List ℕ) → Option (List ℕ) → Bool → Type 0
 IsTooLong reader reader_after faulted = (input : List ℕ) × IsOverfull reader reader_after faulted input
 
--- all was read, and this is its fault
+-- all of the input was read, and this is the fault of the script
 pub record IsFaulty (reader reader_after : Option (List ℕ)) (n : ℕ) (f : LineFault) : Type 0 where
   pub input : List ℕ
   pub read : IsReading reader reader_after input
   pub meant : meaning input ≡ Faulty n f
 
--- all was read, and a front of the run's text was written before the writer failed
+-- all of the input was read, and a front of the run's text was written before the writer failed
 pub record IsCut (reader reader_after writer writer_after : Option (List ℕ)) (faulted : Bool) : Type 0 where
   pub input : List ℕ
   pub text : List ℕ

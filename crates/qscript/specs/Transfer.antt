@@ -1,4 +1,4 @@
--- All of a reader's bytes, and all bytes to a writer.
+-- Reading to the end, and writing all bytes.
 use Rattle.std.specs.Prelude.{◌≡◌, ℕ, ◌<◌, ◌≤◌, Bool, true, false, List, length, take, Option}
 use Rattle.std.specs.Io.KnownBytes.{Consumes, Appends, IsAtEnd}
 use Rattle.qreading.specs.declared.fault.ScriptFault.{ScriptFault}
@@ -11,7 +11,7 @@ pub record IsReading (before after : Option (List ℕ)) (bytes : List ℕ) : Typ
   pub ended : IsAtEnd after
   pub short : length bytes ≤ most_text
 
--- a reader gave these bytes, no more than a script may have, and then failed
+-- a reader gave these bytes, at most as many as a script may have, and then failed
 pub record FailsWithin (before after : Option (List ℕ)) (faulted : Bool) (bytes : List ℕ) : Type 0 where
   pub given : Consumes before after bytes
   pub short : length bytes ≤ most_text
@@ -23,7 +23,7 @@ pub record IsOverfull (before after : Option (List ℕ)) (faulted : Bool) (bytes
   pub long : most_text < length bytes
   pub no_fault : faulted ≡ false
 
--- why a reading stopped before the end
+-- the reason why reading stopped before the end
 abbrev pub IsReadFault : ScriptFault → Option (List ℕ) → Option (List ℕ) → Bool → Type 0
 IsReadFault faults.Read before after faulted = (bytes : List ℕ) × FailsWithin before after faulted bytes
 IsReadFault faults.TooLong before after faulted = (bytes : List ℕ) × IsOverfull before after faulted bytes
@@ -38,6 +38,6 @@ pub record StopsWithin (before after : Option (List ℕ)) (faulted : Bool) (byte
   pub taken : Appends before after (take count bytes)
   pub fault : faulted ≡ true
 
--- why a writing stopped
+-- the reason why writing stopped
 abbrev pub IsWriteFault : ScriptFault → Option (List ℕ) → Option (List ℕ) → Bool → List ℕ → Type 0
 IsWriteFault e before after faulted bytes = (e ≡ faults.Write) × StopsWithin before after faulted bytes

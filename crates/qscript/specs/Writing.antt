@@ -1,4 +1,4 @@
--- The text of a script, written.
+-- Writing scripts.
 pub mod Line
 pub mod Text
 pub mod Laws

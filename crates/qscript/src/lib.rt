@@ -1,5 +1,5 @@
-//! Scripts of kernel calls: what their text means, their run on a new kernel, what is printed of it, and the script of a
-//! run that was made elsewhere.
+//! Scripts of kernel calls: runs one on a new kernel and prints the run, and writes the script of a run that was made
+//! elsewhere.
 #![tactic(auto)]
 
 pub mod printing;

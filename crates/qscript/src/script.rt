@@ -1,4 +1,4 @@
-//! A script, from a reader to a writer.
+//! Runs a script, from a reader to a writer.
 
 ghost use Rattle.std.specs.Prelude.{◌≡◌, ℕ, ◌+◌, ◌≤◌, ◌^◌, [], length, IfOk, IfErr, OnOk, IsErrOf, false, string_bytes};
 ghost use Rattle.qkernel.specs.Run.{AllKnown};
@@ -24,7 +24,7 @@ use qtables::roster::Roster;
 use std::alloc::{AllocError, Global};
 use std::io::{Read, Write};
 
-/// The roster of these threads. Each comes once, and there are at most 64.
+/// Returns the roster of these threads. Each comes once, and there are at most 64.
 #[tactic(auto, using(crate::proofs::Joining::joins_at, crate::proofs::Joining::enrolled_next))]
 pub fn roster_with_all(alloc: Global, members: &[Member]) -> Roster
     requires { AllJoin [] members.now }
@@ -40,7 +40,7 @@ pub fn roster_with_all(alloc: Global, members: &[Member]) -> Roster
     roster
 }
 
-/// Makes the calls in order. What each of them ends is printed at once.
+/// Makes the calls in order, and prints the endings of each at once.
 fn run_calls(
     alloc: Global,
     kernel: &mut Kernel,
@@ -62,7 +62,7 @@ fn run_calls(
     Ok(())
 }
 
-/// The text of the run of a script on a new kernel.
+/// Returns the text of the run of a script on a new kernel.
 fn run_text(alloc: Global, script: Script) -> Result<String, ScriptFault>
     requires { CanRun script.roster.items script.calls.items }
     ensures ok { IfOk result (λ text. IsTextOfRun script.roster.items script.calls.items (string_bytes text)) }
@@ -80,9 +80,9 @@ fn run_text(alloc: Global, script: Script) -> Result<String, ScriptFault>
     Ok(text)
 }
 
-/// Reads a script to its end, makes its calls on a new kernel, and writes what each of them was answered
-/// and who is blocked at the end. Nothing is written before the whole text is made. Of a reader that fails
-/// and a text that is too long, the fault is what comes first.
+/// Reads a script to its end, makes its calls on a new kernel, and writes how each of them ended and who is blocked at
+/// the end. It writes nothing before the whole text is made. If the reader fails and the text is too long, the error is
+/// the one that came first.
 pub fn script<R: Read, W: Write>(
     alloc: Global,
     reader: &mut Watched<R>,

@@ -1,4 +1,4 @@
-//! All of a reader's bytes, and all bytes to a writer.
+//! Reads a reader to its end, and writes all bytes to a writer.
 
 ghost use Rattle.std.specs.Prelude.{◌≡◌, IfOk, IfErr, OnOk, false};
 ghost use Rattle.std.specs.Io.KnownBytes.{Appends};
@@ -10,11 +10,11 @@ use qreading::reading::script::MOST_TEXT;
 use std::alloc::Global;
 use std::io::{Read, Write};
 
-/// How many bytes are asked for at a time.
+/// The most bytes of one read.
 const CHUNK: usize = 4096;
 
-/// Reads all there is. The reading ends where the reader fails, or once there is more than a script may have,
-/// whichever comes first.
+/// Reads to the end. It stops with an error once the reader fails or gives more than a script may have, whichever comes
+/// first.
 pub fn read_all<R: Read>(alloc: Global, reader: &mut Watched<R>) -> Result<Vec<u8>, ScriptFault>
     requires { reader.old.faulted ≡ false }
     ensures ok { IfOk result (λ text. IsReading (R.remaining reader.old.inner) (R.remaining reader.new.inner) text.items) }
@@ -35,7 +35,7 @@ pub fn read_all<R: Read>(alloc: Global, reader: &mut Watched<R>) -> Result<Vec<u
     Err(ScriptFault::TooLong)
 }
 
-/// Writes all the bytes. A write that takes none of some is a fault, or it would be tried for ever.
+/// Writes all the bytes. A write that takes none of them is an error, since it would be tried for ever.
 pub fn write_all<W: Write>(writer: &mut Watched<W>, bytes: &[u8]) -> Result<(), ScriptFault>
     requires { writer.old.faulted ≡ false }
     ensures ok { OnOk result (Appends (W.contents writer.old.inner) (W.contents writer.new.inner) bytes.now) }

@@ -1,4 +1,4 @@
-//! Readers and writers that remember a fault.
+//! Wraps readers and writers, and remembers whether one failed.
 
 ghost use Rattle.std.specs.Prelude.{◌≡◌, ◌||◌, is_err, false};
 ghost use Rattle.std.specs.Io.{ReadsAtMost, WritesAtMost};
@@ -8,9 +8,9 @@ ghost use Rattle.qscript.specs.Watched.{inner_of, has_faulted, fails_to_write};
 use std::io;
 use std::io::{Read, Write};
 
-/// A reader or a writer that remembers whether one of its reads or writes failed. A write that takes none
-/// of some bytes failed too. All reads, writes and flushes are passed on as they are; a flush that fails is
-/// told and not remembered.
+/// A reader or a writer that remembers whether one of its reads or writes failed. A write that takes none of some bytes
+/// counts as failed. All reads, writes and flushes are passed on as they are; a flush that fails returns its error,
+/// which isn't remembered.
 #[derive(Drop)]
 pub struct Watched<T> {
     inner: T,
@@ -18,7 +18,7 @@ pub struct Watched<T> {
 }
 
 impl<T> Watched<T> {
-    /// Watches a reader or a writer from now on.
+    /// Wraps a reader or a writer that hasn't failed.
     pub fn new(inner: T) -> Self
         ensures inner { inner_of result ≡ inner }
         ensures faulted { has_faulted result ≡ false }
@@ -29,14 +29,14 @@ impl<T> Watched<T> {
         }
     }
 
-    /// Whether one of its reads or writes failed so far; what follows doesn't clear that.
+    /// Returns whether one of its reads or writes failed so far. A later success doesn't clear that.
     pub fn faulted(&self) -> bool
         ensures { result ≡ has_faulted self.now }
     {
         self.faulted
     }
 
-    /// The reader or writer that was watched.
+    /// Returns the reader or writer.
     pub fn into_inner(self) -> T
         ensures { result ≡ inner_of self }
     {

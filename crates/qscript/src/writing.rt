@@ -1,4 +1,4 @@
-//! The script of a run: its threads and its calls, in lines that mean just them.
+//! Writes the script of a run: its threads and its calls, in lines that mean just them.
 
 ghost use Rattle.std.specs.Prelude.{◌≡◌, ◌<◌, ◌++◌, length, IfOk, OnOk, Some, slice_get, string_bytes};
 ghost use Rattle.std.specs.List.{flat_map};
@@ -13,11 +13,11 @@ use qkernel::trace::Trace;
 use qtables::member::Member;
 use std::alloc::{AllocError, Global};
 
-/// How many bytes are reserved for a line: as many as most lines without bytes have, and some more.
+/// The number of bytes that are reserved for a line: a typical line without bytes, and some more.
 const LINE: usize = 32;
 
-/// The script whose roster has these threads, and whose calls are those of the run's events, each by the thread that
-/// made it. How long it gets isn't looked at.
+/// Returns the script whose roster has these threads, and whose calls are those of the run's events, each by the thread
+/// that made it. It may be longer than a script that is read may be.
 #[tactic(auto, unfolding(crate::specs::Writing::Text::script_text))]
 pub fn script_of(alloc: Global, roster: &[Member], run: &Trace) -> Result<String, AllocError>
     ensures { IfOk result (λ text. string_bytes text ≡ script_text roster.now run.now.events) }
@@ -37,7 +37,7 @@ fn push_roster(out: &mut String, roster: &[Member]) -> Result<(), AllocError>
     Ok(())
 }
 
-/// `thread THREAD PROCESS PRIORITY` and a newline.
+/// Adds `thread THREAD PROCESS PRIORITY` and a newline.
 fn push_member(out: &mut String, member: Member) -> Result<(), AllocError>
     ensures { OnOk result (string_bytes out.new ≡ string_bytes out.old ++ member_text member) }
 {
@@ -56,7 +56,7 @@ fn push_calls(out: &mut String, run: &Trace) -> Result<(), AllocError>
     Ok(())
 }
 
-/// The line of the call at a place of the run, which counts from 0.
+/// Adds the line of the call at index `k` of the run.
 fn push_call_at(out: &mut String, run: &Trace, k: usize) -> Result<(), AllocError>
     requires { k < length run.now.events }
     ensures { OnOk result (option_map (λ e. string_bytes out.old ++ call_text e) (slice_get run.now.events k) ≡ Some (string_bytes out.new)) }

@@ -1,4 +1,4 @@
--- Which settings a demonstration may have.
+-- The settings that a demonstration may have.
 use Rattle.std.specs.Prelude.{◌≤◌}
 use Rattle.qserve.specs.declared.settings.Settings.{Settings}
 

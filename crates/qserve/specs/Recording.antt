@@ -1,4 +1,4 @@
--- What a run's recording says.
+-- The contents of a recording.
 use Rattle.std.specs.Prelude.{◌≡◌, ℕ, ◌≤◌, List, [], length}
 use Rattle.qtables.specs.declared.member.Member.{Member}
 use Rattle.qrules.specs.Lawful.{IsLawful}
@@ -14,14 +14,14 @@ abbrev pub IsRun : List Member → Run → Type 0
 IsRun roster run = (run.first ≡ 1) × IsLawful roster (followed_by [] run.events)
     × HasProperties roster (followed_by [] run.events)
 
--- the script is that of the roster and the run's calls, and no longer than a script may be; the trace is what
--- is printed of the run, with nobody blocked after it
+-- the script is that of the roster and the run's calls, at most as long as a script may be; the trace is the
+-- printed run, with nobody blocked after it
 pub record Records (roster : List Member) (run : Run) (script trace : List ℕ) : Type 0 where
   pub script_is : script ≡ script_text roster run.events
   pub short : length script ≤ most_text
   pub trace_is : trace ≡ printed run []
 
--- it records some such run of some roster
+-- the script and the trace record some such run of some roster
 pub record IsRecording (script trace : List ℕ) : Type 0 where
   pub roster : List Member
   pub run : Run

@@ -1,10 +1,10 @@
--- The statuses that a demonstration's fault ends the program with.
+-- The exit statuses of a demonstration that failed.
 use Rattle.std.specs.Prelude.{ℕ}
 use Rattle.qserve.specs.declared.fault.ServeFault.{ServeFault}
 use Rattle.qserve.specs.declared.fault.ServeFault.TheVariants.{Hold, NoMemory, Worker, LongRecord, Record}
 use Rattle.qserve.specs.declared.fault.ServeFault.TheVariants.{Write}
 
--- 2 where what was asked for is at fault, 4 where a worker is, and else 3
+-- 2 if the settings are at fault, 4 if a worker is, and else 3
 abbrev pub status_of : ServeFault → ℕ
 status_of Hold = 2
 status_of NoMemory = 3

@@ -1,4 +1,4 @@
-//! A client: it attaches, sends its messages one after the other, and detaches.
+//! The work of a client: it attaches, sends its messages one after the other, and detaches.
 
 use crate::fault::WorkerFault;
 use crate::protocol::{CLIENT_LEVEL, COUNT, MESSAGE_LENGTH, REPLY_LENGTH, priority};
@@ -13,7 +13,7 @@ use std::sync::Wait;
 /// The last byte of each message.
 const LAST_BYTE: u8 = 7;
 
-/// A client's rounds. A fault ends the whole demonstration.
+/// Makes a client's rounds. If it fails, a Shutdown ends the whole demonstration.
 pub fn client<E: Endpoint, R: Wait>(
     caller: &mut Caller<E, R>,
     chid: ChannelId,
@@ -43,14 +43,14 @@ fn make_rounds<E: Endpoint, R: Wait>(
     Ok(tally)
 }
 
-/// The message of a client's round: now for the echo service, now for the sum service.
+/// Returns the message of a client's round: for the echo service and for the sum service in turn.
 fn message_of(number: u8, round: u16) -> [u8; MESSAGE_LENGTH] {
     let low = (round % 256) as u8;
     let service = if (number ^ low) & 1 == 0 { ECHO } else { SUM };
     [service, number, low, LAST_BYTE]
 }
 
-/// What an answer adds to the sums, which is 0 for an echo. An answer that isn't the message's is a fault.
+/// Returns what an answer adds to the sums, 0 for an echo; an error if the answer isn't that of the message.
 fn sum_in(message: &[u8; MESSAGE_LENGTH], answer: &Answer) -> Result<u64, WorkerFault> {
     let [service, number, low, last] = *message;
     let sum = if service == SUM {

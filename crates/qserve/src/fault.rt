@@ -1,4 +1,4 @@
-//! What can go wrong with a demonstration.
+//! The errors of a demonstration.
 
 ghost use Rattle.std.specs.Prelude.{◌≡◌};
 ghost use Rattle.qserve.specs.Status.{status_of};
@@ -8,12 +8,13 @@ use qcalls::error::CallError;
 use std::alloc::{AllocError, AllocFailed};
 use thiserror::Error;
 
-/// Why a worker ended before its work was done.
+/// The reason why a worker ended before its work was done.
 #[derive(Clone, Copy, Debug, PartialEq, Eq)]
 pub enum WorkerFault {
-    /// A call of it gave no result, or there was no memory for what it keeps.
+    /// One of its calls gave no result, or there was no memory for what it keeps.
     Call(CallError),
-    /// It met an answer or a pulse that its work doesn't know, or a thread or the clock wasn't to be had.
+    /// It met an answer or a pulse that its work doesn't have, or a thread couldn't be started, or the clock couldn't
+    /// be read.
     Unexpected,
 }
 
@@ -35,10 +36,10 @@ impl<T: Drop> From<AllocFailed<T>> for WorkerFault {
     }
 }
 
-/// Why a demonstration failed. Where several things went wrong, the first of these is told.
+/// The reason why a demonstration failed; the first of these if several things went wrong.
 #[derive(Clone, Copy, Debug, PartialEq, Eq, Error)]
 pub enum ServeFault {
-    /// It was to hold a message, with fewer than two clients or more than one server.
+    /// It had to hold a message, with fewer than two clients or more than one server.
     #[error("hold needs two clients and one server")]
     Hold,
     /// There was no memory, for the kernel or for a worker.
@@ -47,13 +48,13 @@ pub enum ServeFault {
     /// A worker couldn't be started, or met an answer that it didn't expect.
     #[error("worker failed")]
     Worker,
-    /// What the kernel did would be a script of over 4,194,304 bytes.
+    /// The script of the kernel's calls would have over 4,194,304 bytes.
     #[error("record too long")]
     LongRecord,
-    /// What the kernel did could not be stored.
+    /// Storing the recording failed.
     #[error("record failed")]
     Record,
-    /// The text could not be written.
+    /// Writing the text failed.
     #[error("write failed")]
     Write,
 }
@@ -76,8 +77,8 @@ impl From<WorkerFault> for ServeFault {
 }
 
 impl ServeFault {
-    /// The status that the program ends with: 2 where what was asked for is at fault, 4 where a worker is, and 3
-    /// where memory, storing or writing failed.
+    /// Returns the exit status of the program: 2 if the settings are at fault, 4 if a worker is, and 3 if memory,
+    /// storing or writing failed.
     pub fn status(&self) -> u8
         ensures { result ≡ status_of self.now }
     {

@@ -1,5 +1,5 @@
-//! A server that keeps the first message until it has received a second. So two clients have to be blocked at once:
-//! one after the other, each run to its end, can't be.
+//! The work of a server that keeps the first message until it has received a second. So two clients have to be blocked
+//! at once, which can't be if each runs to its end before the next begins.
 
 use crate::fault::WorkerFault;
 use crate::protocol::{COUNT, REQUEST_LENGTH};
@@ -13,10 +13,10 @@ use qcalls::results::{Pulse, Received, Request};
 use qqueue::item::What;
 use std::sync::Wait;
 
-/// How often a server that keeps a message polls in vain before it gives up: about a second.
+/// The number of polls in vain after which a server that keeps a message gives up: about a second.
 const MOST_POLLS: u32 = 1_000_000;
 
-/// A server's work that begins by holding a message. A fault ends the whole demonstration. `alarm` is another thread,
+/// Serves, but first holds a message. If it fails, a Shutdown ends the whole demonstration. `alarm` is another thread,
 /// for the Shutdown of a server whose own receive is still open.
 pub fn holding_server<E: Endpoint, R: Wait>(
     caller: &mut Caller<E, R>,
@@ -30,7 +30,7 @@ pub fn holding_server<E: Endpoint, R: Wait>(
     done
 }
 
-/// Holds the first message until there is a second, answers both in order, and goes on as any server.
+/// Holds the first message until there is a second, answers both in order, and goes on like any server.
 fn hold_and_serve<E: Endpoint, R: Wait>(
     caller: &mut Caller<E, R>,
     chid: ChannelId,
@@ -45,7 +45,7 @@ fn hold_and_serve<E: Endpoint, R: Wait>(
     Ok(tally.plus(serve_all(caller, chid)?))
 }
 
-/// The next message, which may be waited for.
+/// Returns the next message, and waits if there is none.
 fn next_request<E: Endpoint, R: Wait>(
     caller: &mut Caller<E, R>,
     chid: ChannelId,
@@ -60,7 +60,7 @@ fn next_request<E: Endpoint, R: Wait>(
     unreachable!()
 }
 
-/// The next message, for which the server polls.
+/// Returns the next message, and polls for it.
 fn poll_request<E: Endpoint, R: Wait>(
     caller: &mut Caller<E, R>,
     chid: ChannelId,
@@ -76,7 +76,7 @@ fn poll_request<E: Endpoint, R: Wait>(
     unreachable!()
 }
 
-/// The message that was received, or a pulse that is counted. Nobody is told to stop while a message is held.
+/// Returns a received message, or counts a pulse. A stop pulse is an error, since a message is held.
 fn request_in(item: Received, tally: &mut Tally) -> Result<Option<Request>, WorkerFault> {
     match item {
         Received::Message(request) => Ok(Some(request)),
@@ -93,7 +93,7 @@ fn request_in(item: Received, tally: &mut Tally) -> Result<Option<Request>, Work
     }
 }
 
-/// Takes a message or a pulse of a channel, and polls for one if there is none, at most so many times.
+/// Receives a message or a pulse of a channel, and polls while there is none, at most `polls` times.
 fn poll_receive<E: Endpoint, R: Wait>(
     caller: &mut Caller<E, R>,
     chid: ChannelId,

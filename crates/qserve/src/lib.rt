@@ -1,5 +1,5 @@
-//! A server with three services and its clients, each on a thread of its own, over the locked kernel. `client`,
-//! `server` and `services` are what a server of one's own begins from.
+//! Runs a server with three services and its clients, each on a thread of its own, over the locked kernel. Begin a
+//! server of your own from `client`, `server` and `services`.
 #![tactic(auto)]
 
 pub mod client;

@@ -1,4 +1,4 @@
-//! How far a run is, on a line that is written over twice a second.
+//! Shows the progress of a run on one line, which is rewritten twice a second.
 
 use qbase::ids::ThreadNo;
 use qcalls::endpoint::Endpoint;
@@ -10,10 +10,10 @@ use std::sync::atomic::{AtomicU64, Ordering};
 use std::sync::{Condvar, Mutex, Wait};
 use std::time::{Duration, Instant};
 
-/// After how many milliseconds the line is written again.
+/// The milliseconds between two lines.
 const PERIOD: u64 = 500;
 
-/// How far the clients are. They raise it, and main looks at it.
+/// The progress of the clients, who raise it; the main thread reads it.
 #[derive(Drop)]
 pub struct Progress {
     rounds: AtomicU64,
@@ -22,7 +22,7 @@ pub struct Progress {
 }
 
 impl Progress {
-    /// Nothing is done yet.
+    /// Returns the progress before the first round.
     pub fn new() -> Progress {
         Progress {
             rounds: AtomicU64::new(0),
@@ -31,12 +31,12 @@ impl Progress {
         }
     }
 
-    /// One more round is done.
+    /// Counts one more round.
     fn round(&self) {
         self.rounds.fetch_add(1, Ordering::SeqCst);
     }
 
-    /// One more client has ended.
+    /// Counts one more client that has ended, and wakes the main thread.
     pub fn end<R: Wait>(&self, rt: &R) {
         let mut ended = self.ended.lock(rt);
         *ended = ended.saturating_add(1);
@@ -44,12 +44,12 @@ impl Progress {
         self.changed.notify_one();
     }
 
-    /// How many rounds are done.
+    /// Returns the number of rounds that are done.
     pub fn rounds(&self) -> u64 {
         self.rounds.load(Ordering::SeqCst)
     }
 
-    /// Waits until a client ends, for so long at most, and says whether so many have.
+    /// Waits until a client ends, at most this long, and returns whether `clients` clients have ended.
     pub fn wait<R: Wait + Clock>(&self, rt: &R, clients: u64, most: Duration) -> bool {
         let ended = self.ended.lock(rt);
         if *ended >= clients {
@@ -69,7 +69,7 @@ pub struct Counted<'p, E> {
 }
 
 impl<'p, E> Counted<'p, E> {
-    /// An endpoint whose rounds are counted.
+    /// Returns an endpoint whose rounds are counted.
     pub fn new(inner: E, progress: &'p Progress) -> Counted<'p, E> {
         Counted {
             inner,
@@ -78,7 +78,7 @@ impl<'p, E> Counted<'p, E> {
         }
     }
 
-    /// The endpoint alone.
+    /// Returns the endpoint alone.
     pub fn into_inner(self) -> E {
         let Counted { inner, .. } = self;
         inner
@@ -135,8 +135,8 @@ impl<'p, E: Endpoint> Endpoint for Counted<'p, E> {
     }
 }
 
-/// Shows on standard error how far a run of so many rounds is, until so many clients have ended. What can't be shown
-/// is left out, and nothing stays there.
+/// Shows on standard error the progress of a run of `rounds` rounds, until `clients` clients have ended. A write that
+/// fails is ignored, and the line is removed at the end.
 pub fn show<R: Wait + Clock + Eprint>(
     rt: &R,
     alloc: Global,
@@ -173,7 +173,7 @@ fn show_line<R: Eprint>(rt: &R, alloc: Global, done: u64, rounds: u64, taken: Du
     }
 }
 
-/// The line of a run of so many rounds of which some are done.
+/// Returns the line of a run of `rounds` rounds of which `done` are done.
 pub fn line_of(
     alloc: Global,
     done: u64,

@@ -1,4 +1,4 @@
-//! What clients and servers agree on.
+//! The numbers that clients and servers agree on.
 
 ghost use Rattle.std.specs.Prelude.{◌≤◌};
 
@@ -25,16 +25,16 @@ pub const COUNT: i8 = 1;
 /// The code of the pulse that stops a server.
 pub const STOP: i8 = 127;
 
-/// How many bytes a client's message has.
+/// The bytes of a client's message.
 pub const MESSAGE_LENGTH: usize = 4;
 
-/// How many bytes a client's reply buffer has: as many as a sum.
+/// The bytes of a client's reply buffer: those of a sum.
 pub const REPLY_LENGTH: usize = 8;
 
-/// How many bytes a server's buffer has.
+/// The bytes of a server's buffer.
 pub const REQUEST_LENGTH: usize = 16;
 
-/// The priority of a level.
+/// Returns the priority of a level.
 pub fn priority(level: u8) -> Priority
     requires { 1 ≤ level }
 {

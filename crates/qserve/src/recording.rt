@@ -1,4 +1,4 @@
-//! What the kernel did, as a script that anyone can run again.
+//! Records the kernel's calls as a script that anyone can run again.
 
 ghost use Rattle.std.specs.Prelude.{◌≡◌, ◌<◌, ◌⊎◌, length, IfOk, IfErr, string_bytes};
 ghost use Rattle.qreading.specs.TextLimit.{most_text};
@@ -18,17 +18,17 @@ use std::alloc::Global;
 pub struct Recording {
     /// The script: the roster and the calls, in the order in which the kernel made them.
     pub script: String,
-    /// What each call was answered.
+    /// The printed run: how each call ended.
     pub trace: String,
 }
 
-/// Where a recording goes.
+/// A place for recordings.
 pub trait Store {
-    /// Takes a recording. It stays the caller's.
+    /// Stores a recording.
     fn store(&mut self, recording: &Recording) -> Result<(), ServeFault>;
 }
 
-/// For a run that isn't recorded: it takes a recording, and forgets it.
+/// A store that ignores recordings, for a run that isn't recorded.
 #[derive(Drop)]
 pub struct Forget;
 
@@ -38,7 +38,7 @@ impl Store for Forget {
     }
 }
 
-/// The recording of a run of these threads, after which nobody is blocked.
+/// Returns the recording of a run of these threads, after which nobody is blocked.
 pub fn recording_of(alloc: Global, roster: &[Member], run: &Trace) -> Result<Recording, ServeFault>
     requires { run.now.first ≡ 1 }
     ensures ok { IfOk result (λ r. Records roster.now run.now (string_bytes r.script) (string_bytes r.trace)) }

@@ -1,4 +1,4 @@
-//! The thread that starts the workers, waits for them and stops the servers.
+//! The main thread: it starts the workers, waits for them and stops the servers.
 
 ghost use Rattle.std.specs.Prelude.{IfOk, IfSome};
 ghost use Rattle.qshared.specs.Naming.{AreParts};
@@ -30,7 +30,7 @@ use std::sync::Wait;
 use std::thread::Threads;
 use std::{mem, thread};
 
-/// The ports of a kernel but main's, by what their threads are.
+/// The ports of a kernel except that of the main thread, by the work of their threads.
 #[derive(Drop)]
 struct Crew<K: Tie> {
     servers: Vec<Port<K>>,
@@ -38,7 +38,8 @@ struct Crew<K: Tie> {
     alarm: Port<K>,
 }
 
-/// What all workers did, what the clients' round trips took in nanoseconds, and all ports in rising thread number.
+/// The results of all workers, the nanoseconds of each of the clients' round trips, and all ports in rising thread
+/// number.
 #[derive(Drop)]
 struct Gathered<K: Tie> {
     tally: Tally,
@@ -46,11 +47,11 @@ struct Gathered<K: Tie> {
     ports: Vec<Port<K>>,
 }
 
-/// What a run came to.
+/// The results of a run.
 #[derive(Drop)]
 pub struct Finished {
     pub totals: Totals,
-    /// All events, if they were to be recorded.
+    /// All events, if they were recorded.
     pub trace: Option<Trace>,
 }
 
@@ -93,7 +94,7 @@ pub fn run<K: Tie + Send + Sync, R: Threads + Wait + Clock + Eprint + Sync>(
     Ok(Finished { totals, trace })
 }
 
-/// The ports but main's, which come in rising thread number: servers, clients, the alarm.
+/// Sorts the ports except that of the main thread, which come in rising thread number: servers, clients, the alarm.
 fn crew_of<K: Tie>(mut ports: Vec<Port<K>>, servers: u8) -> Result<Crew<K>, WorkerFault> {
     let servers = usize::from(servers);
     let Some(alarm) = ports.pop() else {
@@ -134,7 +135,7 @@ fn gather<K: Tie + Send + Sync, L: Log + Send, R: Threads + Wait + Clock + Eprin
     })
 }
 
-/// All that main does. Where any of it fails, a Shutdown ends the workers.
+/// Does the work of the main thread. If it fails, a Shutdown ends the workers.
 fn direct<'s, X, K: Tie + Send + Sync, L: Log + Send, R: Threads + Wait + Clock + Eprint + Sync>(
     stage: &Stage<'s, X, K, L, R>,
     main: Port<K>,
@@ -148,8 +149,8 @@ fn direct<'s, X, K: Tie + Send + Sync, L: Log + Send, R: Threads + Wait + Clock 
     Ok(gathered)
 }
 
-/// Creates the channel, starts all workers at once, waits for the clients, stops the servers, waits for them, and
-/// shuts down.
+/// Creates the channel, starts all workers at once, waits for the clients, stops the servers, waits for them, and shuts
+/// down.
 fn conduct<
     's,
     X,
@@ -197,7 +198,7 @@ fn conduct<
     })
 }
 
-/// Sends as many pulses as there are servers, each of which stops one. Where that fails, a Shutdown does.
+/// Sends one pulse for each server, which stops it. If that fails, a Shutdown does.
 fn stop_servers<E: Endpoint, R: Wait>(
     main: &mut Caller<E, R>,
     coid: ConnectionId,
@@ -210,7 +211,7 @@ fn stop_servers<E: Endpoint, R: Wait>(
     Ok(Tally::new())
 }
 
-/// The ports of all workers and of the alarm, which main kept or a server had.
+/// Returns the ports of all workers and of the alarm, which the main thread kept or a server had.
 fn ports_of<K: Tie>(
     servers: Joined<K>,
     mut clients: Joined<K>,

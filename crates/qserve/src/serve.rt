@@ -1,4 +1,4 @@
-//! The demonstration.
+//! Runs a demonstration.
 
 ghost use Rattle.std.specs.Prelude.{IfOk, IfSome, string_bytes};
 ghost use Rattle.qserve.specs.Fit.{Fit};
@@ -25,22 +25,22 @@ use std::rt::Clock;
 use std::sync::Wait;
 use std::thread::Threads;
 
-/// The process of the servers, of main and of its alarm.
+/// The process of the servers, the main thread and its alarm.
 const SERVERS: ProcessNo = ProcessNo(1);
 
 /// The process of the clients.
 const CLIENTS: ProcessNo = ProcessNo(2);
 
-/// The thread that shuts down for a server whose own receive is open.
+/// The thread that shuts down on behalf of a server whose own receive is open.
 const ALARM: ThreadNo = ThreadNo(63);
 
 /// The thread that starts and stops the others.
 const MAIN: ThreadNo = ThreadNo(64);
 
-/// How many events the kernel's trace may have.
+/// The most events of the kernel's trace.
 const TRACE_LIMIT: u32 = 1_048_576;
 
-/// The servers, the clients, the alarm and main.
+/// Returns the roster: the servers, the clients, the alarm and the main thread.
 fn roster_of(alloc: Global, settings: &Settings) -> Result<Roster, Errno>
     requires { Fit settings.now }
 {
@@ -58,18 +58,17 @@ fn roster_of(alloc: Global, settings: &Settings) -> Result<Roster, Errno>
     Ok(roster)
 }
 
-/// What a demonstration comes to.
+/// The results of a demonstration.
 #[derive(Drop)]
 pub struct Outcome {
     pub totals: Totals,
-    /// What the kernel did, if that was wanted.
+    /// The recording, if there is one.
     pub recording: Option<Recording>,
 }
 
-/// Starts clients and servers on threads of their own, has each client send its messages and check their answers,
-/// stops the servers, stores what the kernel did where that is wanted, and writes five lines of what was done, and five
-/// more of its times where they are wanted. Nothing is stored before all threads have ended, and nothing written before
-/// that. A fault of one worker ends them all.
+/// Starts clients and servers on threads of their own, has each client send its messages and check their answers, stops
+/// the servers, stores the recording if one is made, and writes five lines of results, and five more of times if they
+/// were taken. It stores and writes only after all threads have ended. A worker that fails ends them all.
 pub fn serve<R: Threads + Wait + Clock + Eprint + Sync, S: Store, W: Write>(
     rt: &R,
     alloc: Global,
@@ -86,7 +85,7 @@ pub fn serve<R: Threads + Wait + Clock + Eprint + Sync, S: Store, W: Write>(
     tell(alloc, &outcome.totals, writer)
 }
 
-/// Writes the five lines, and five more of the times where they were taken.
+/// Writes the five lines, and five more of the times if they were taken.
 fn tell<W: Write>(
     alloc: Global,
     totals: &Totals,
@@ -101,7 +100,7 @@ fn tell<W: Write>(
     write_all(writer, text.as_bytes())
 }
 
-/// What a demonstration with such stacks comes to. A thread whose stack is too large can't be started.
+/// Runs a demonstration whose threads have stacks of these sizes. A thread whose stack is too large can't be started.
 pub fn outcome_of<R: Threads + Wait + Clock + Eprint + Sync>(
     rt: &R,
     alloc: Global,

@@ -1,5 +1,5 @@
-//! A server: it receives, and replies, until it is told to stop. Main created the channel, on which several servers
-//! may receive.
+//! The work of a server: it receives and replies until a pulse stops it. The main thread created the channel, on which
+//! several servers may receive.
 
 use crate::fault::WorkerFault;
 use crate::protocol::{COUNT, REQUEST_LENGTH, STOP};
@@ -13,7 +13,7 @@ use qcalls::results::{Received, Request};
 use qqueue::item::What;
 use std::sync::Wait;
 
-/// A server's work, until the stop pulse comes. A fault ends the whole demonstration.
+/// Serves until the stop pulse comes. If it fails, a Shutdown ends the whole demonstration.
 pub fn server<E: Endpoint, R: Wait>(
     caller: &mut Caller<E, R>,
     chid: ChannelId,
@@ -22,7 +22,7 @@ pub fn server<E: Endpoint, R: Wait>(
     caller.or_shutdown(work)
 }
 
-/// Receives, and replies, until the stop pulse comes.
+/// Receives and replies until the stop pulse comes.
 pub fn serve_all<E: Endpoint, R: Wait>(
     caller: &mut Caller<E, R>,
     chid: ChannelId,

@@ -1,4 +1,4 @@
-//! The services of the server. The first byte of a message names the service that it is for.
+//! The services of the server. The first byte of a message names its service.
 
 /// Answers with the message itself.
 pub const ECHO: u8 = 1;
@@ -6,10 +6,10 @@ pub const ECHO: u8 = 1;
 /// Answers with the sum of the bytes after the first, as 8 bytes in big endian order.
 pub const SUM: u8 = 2;
 
-/// The code for a message whose service there isn't.
+/// The error code of a message that names no service.
 pub const NO_SERVICE: i32 = 1;
 
-/// What a service answers a message.
+/// The answer of a service.
 pub enum Outcome {
     /// The message itself.
     Same,
@@ -19,8 +19,8 @@ pub enum Outcome {
     Error(i32),
 }
 
-/// What the service that a message names answers it. The error service answers a message that names no other, and
-/// an empty one.
+/// Returns the answer of the service that a message names. A message that names none, or is empty, is answered with the
+/// error `NO_SERVICE`.
 pub fn serve_one(message: &[u8]) -> Outcome {
     match message.split_first() {
         Some((&ECHO, _)) => Outcome::Same,
@@ -29,7 +29,7 @@ pub fn serve_one(message: &[u8]) -> Outcome {
     }
 }
 
-/// The sum of bytes.
+/// Returns the sum of the bytes.
 pub fn sum_of(bytes: &[u8]) -> u64 {
     let mut sum: u64 = 0;
     for byte in bytes {

@@ -1,34 +1,34 @@
-//! How large a demonstration is.
+//! The settings of a demonstration.
 
-/// How many clients there may be.
+/// The most clients.
 pub const MOST_CLIENTS: u8 = 32;
 
-/// How many servers there may be.
+/// The most servers.
 pub const MOST_SERVERS: u8 = 16;
 
-/// How many rounds a client may make.
+/// The most rounds of a client.
 pub const MOST_ROUNDS: u16 = 1000;
 
 /// The stack of a worker, in bytes, with room to spare.
 const AMPLE_STACK: usize = 1 << 20;
 
-/// How large a demonstration is.
+/// The settings of a demonstration.
 #[derive(Clone, Copy, Debug, PartialEq, Eq)]
 pub struct Settings {
-    /// How many clients there are, 1 to 32.
+    /// The number of clients, 1 to 32.
     pub clients: u8,
-    /// How many servers receive on the one channel, 1 to 16.
+    /// The number of servers, which receive on one channel: 1 to 16.
     pub servers: u8,
-    /// How many rounds each client makes, 1 to 1,000. A round is a pulse and then a message.
+    /// The number of rounds of each client, 1 to 1,000. A round is a pulse and then a message.
     pub rounds: u16,
-    /// Whether the server keeps the first message until it has received a second. This wants two clients and just
-    /// one server.
+    /// Whether the server keeps the first message until it has received a second. This needs two clients or more and
+    /// just one server.
     pub hold: bool,
     /// Whether the run and its round trips are timed.
     pub time: bool,
-    /// Whether standard error shows how far a long run is.
+    /// Whether standard error shows the progress of a long run.
     pub progress: bool,
-    /// Whether what the kernel did is recorded, as a script and its trace.
+    /// Whether the kernel's calls are recorded, as a script and its trace.
     pub record: bool,
 }
 
@@ -36,12 +36,12 @@ impl Settings {
     ghost use Rattle.std.specs.Prelude.{IsTrue, ◌↔◌};
     ghost use Rattle.qserve.specs.Fit.{Fit};
 
-    /// How many rounds all clients make together.
+    /// Returns the number of rounds of all clients together.
     pub fn all_rounds(&self) -> u64 {
         u64::from(self.clients) * u64::from(self.rounds)
     }
 
-    /// Whether the numbers are in their ranges.
+    /// Returns whether the numbers are in their ranges.
     pub fn fit(&self) -> bool
         ensures { IsTrue result ↔ Fit self.now }
     {
@@ -54,17 +54,17 @@ impl Settings {
     }
 }
 
-/// How large the stacks of the threads are, in bytes; rounded up to a multiple of 128 KiB.
+/// The sizes of the threads' stacks, in bytes, each rounded up to a multiple of 128 KiB.
 #[derive(Clone, Copy, Debug, PartialEq, Eq)]
 pub struct Stacks {
-    /// A server's.
+    /// The stack of a server.
     pub server: usize,
-    /// A client's.
+    /// The stack of a client.
     pub client: usize,
 }
 
 impl Stacks {
-    /// Stacks with room to spare for a worker.
+    /// Returns stacks with room to spare for a worker.
     pub fn ample() -> Stacks {
         Stacks {
             server: AMPLE_STACK,

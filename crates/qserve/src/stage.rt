@@ -1,4 +1,4 @@
-//! Workers on threads of their own.
+//! Runs workers on threads of their own.
 
 use crate::client::client;
 use crate::fault::WorkerFault;
@@ -21,42 +21,42 @@ use std::rt::Clock;
 use std::sync::Wait;
 use std::thread::{Builder, JoinHandle, Scope, Threads};
 
-/// How a worker ended, with the ports that it gives back.
+/// The end of a worker, with the ports that it gives back.
 #[derive(Drop)]
 pub struct Ended<K: Tie> {
-    /// What it did, or its fault.
+    /// Its result, or its error.
     done: Result<Tally, WorkerFault>,
     /// Its own port.
     port: Port<K>,
     /// The port of its alarm, if it had one.
     alarm: Option<Port<K>>,
-    /// What its round trips took, in nanoseconds, if they were timed.
+    /// The nanoseconds of each of its round trips, if they were timed.
     trips: Vec<u64>,
 }
 
 /// The threads of all workers of a kind.
 #[derive(Drop)]
 pub struct Started<K: Tie> {
-    /// Those that were started.
+    /// The threads that were started.
     pub threads: Vec<JoinHandle<Ended<K>>>,
-    /// Whether all were.
+    /// An error if not all were started.
     pub all: Result<Tally, WorkerFault>,
 }
 
-/// How all workers of a kind ended.
+/// The ends of all workers of a kind.
 #[derive(Drop)]
 pub struct Joined<K: Tie> {
-    /// What they did together, or a fault.
+    /// Their results together, or an error.
     pub done: Result<Tally, WorkerFault>,
-    /// Their ports, in the order in which they were started.
+    /// Their ports, in the order in which their threads were started.
     pub ports: Vec<Port<K>>,
     /// The port of the alarm, if one of them had it.
     pub alarm: Option<Port<K>>,
-    /// What the round trips of all took, in nanoseconds, if they were timed.
+    /// The nanoseconds of all round trips, if they were timed.
     pub trips: Vec<u64>,
 }
 
-/// Where workers are started, and the kernel that they call.
+/// The place where workers are started, and the kernel that they call.
 #[derive(Drop)]
 pub struct Stage<'s, X, K: Tie, L: Log, R> {
     pub rt: &'s R,
@@ -74,7 +74,8 @@ impl<'s, X, K: Tie + Send + Sync, L: Log + Send, R: Threads + Wait + Clock + Epr
     L,
     R,
 > {
-    /// Starts a client for each of these ports. Want of memory for a list of threads is an error before the first.
+    /// Starts a client for each of these ports. If there is no memory for a list of threads, it returns an error before
+    /// it starts the first.
     pub fn start_clients(
         &self,
         ports: Vec<Port<K>>,
@@ -98,7 +99,7 @@ impl<'s, X, K: Tie + Send + Sync, L: Log + Send, R: Threads + Wait + Clock + Epr
         Ok(Started { threads, all })
     }
 
-    /// Starts a server for each of these ports. The first one that has an alarm holds a message.
+    /// Starts a server for each of these ports. If there is an alarm, the first server takes it and holds a message.
     pub fn start_servers(
         &self,
         ports: Vec<Port<K>>,
@@ -122,12 +123,13 @@ impl<'s, X, K: Tie + Send + Sync, L: Log + Send, R: Threads + Wait + Clock + Epr
         Ok(Started { threads, all })
     }
 
-    /// Shows how far a run of so many rounds is, until so many clients have ended.
+    /// Shows the progress of a run of `rounds` rounds, until `clients` clients have ended.
     pub fn show(&self, clients: u64, rounds: u64) {
         show(self.rt, self.alloc, self.progress, clients, rounds);
     }
 
-    /// Waits for all these threads to end. Where there is no memory for their ports, some may still run.
+    /// Waits for all these threads to end. If there is no memory for their ports, it returns an error, and some may
+    /// still run.
     pub fn join_all(&self, threads: Vec<JoinHandle<Ended<K>>>) -> Result<Joined<K>, WorkerFault> {
         let mut joined = Joined {
             done: Ok(Tally::new()),
@@ -153,7 +155,7 @@ impl<'s, X, K: Tie + Send + Sync, L: Log + Send, R: Threads + Wait + Clock + Epr
     }
 }
 
-/// What a client's thread runs.
+/// Does the work of a client's thread.
 fn client_thread<K: Tie, L: Log, R: Wait + Clock>(
     rt: &R,
     alloc: Global,
@@ -180,7 +182,7 @@ fn client_thread<K: Tie, L: Log, R: Wait + Clock>(
     }
 }
 
-/// What a server's thread runs, which holds a message where it has an alarm.
+/// Does the work of a server's thread, which holds a message if it has an alarm.
 fn server_thread<K: Tie, L: Log, R: Wait>(
     rt: &R,
     alloc: Global,

@@ -1,9 +1,9 @@
-//! What a worker did, in numbers.
+//! Counts the work of workers.
 
 use crate::fault::WorkerFault;
 use qcalls::error::CallError;
 
-/// What one worker did, or several together.
+/// The work of one worker, or of several together.
 #[derive(Clone, Copy, Debug, PartialEq, Eq)]
 pub struct Tally {
     /// Messages that a client sent and had answered.
@@ -12,12 +12,12 @@ pub struct Tally {
     pub answered: u64,
     /// Pulses that a server counted.
     pub pulses: u64,
-    /// What the sum service answered, added up by the clients.
+    /// The sum of the sum service's answers, added up by the clients.
     pub sum: u64,
 }
 
 impl Tally {
-    /// Nothing was done yet.
+    /// Returns the tally of no work.
     pub fn new() -> Tally {
         Tally {
             sent: 0,
@@ -27,7 +27,7 @@ impl Tally {
         }
     }
 
-    /// What two workers did together. A number over 2^64 - 1 stays there.
+    /// Returns the work of two workers together. A number that would exceed 2^64 - 1 is 2^64 - 1.
     pub fn plus(self, other: Tally) -> Tally {
         Tally {
             sent: self.sent.saturating_add(other.sent),
@@ -37,25 +37,25 @@ impl Tally {
         }
     }
 
-    /// One message was sent, and its answer adds this to the sums.
+    /// Counts one message that was sent and answered, and adds this to the sum of the answers.
     pub fn count_sent(&mut self, sum: u64) {
         self.sent = self.sent.saturating_add(1);
         self.sum = self.sum.saturating_add(sum);
     }
 
-    /// One message was answered.
+    /// Counts one message that was answered.
     pub fn count_answered(&mut self) {
         self.answered = self.answered.saturating_add(1);
     }
 
-    /// One pulse was counted.
+    /// Counts one pulse.
     pub fn count_pulse(&mut self) {
         self.pulses = self.pulses.saturating_add(1);
     }
 }
 
-/// Two endings together: what both did, or a fault. Want of memory goes before any other fault, and the first's fault
-/// before the second's.
+/// Returns the results of two workers together, or an error: no memory if either had none, else that of the first, else
+/// that of the second.
 pub fn both(
     first: Result<Tally, WorkerFault>,
     second: Result<Tally, WorkerFault>,

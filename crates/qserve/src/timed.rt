@@ -1,4 +1,4 @@
-//! An endpoint that times what a client waits for.
+//! An endpoint that times how long a client waits.
 
 use crate::fault::WorkerFault;
 use crate::tally::Tally;
@@ -12,22 +12,23 @@ use std::rt::Clock;
 use std::sync::Wait;
 use std::time::{Duration, Instant};
 
-/// What a thread's round trips took, by a clock. A round trip is from the call of a Send until its ending is collected.
+/// The times of a thread's round trips, by a clock. A round trip begins with the call of a Send and ends when its
+/// ending is collected.
 #[derive(Drop)]
 pub struct Stopwatch<'c, C> {
     clock: &'c C,
     /// Whether anything is timed.
     on: bool,
-    /// When the Send was called that isn't collected.
+    /// The time of the Send that isn't collected yet.
     start: Option<Instant>,
-    /// What each round trip took, in nanoseconds.
+    /// The nanoseconds of each round trip.
     trips: Vec<u64>,
-    /// Whether there was memory for each, and the clock could be read.
+    /// An error if there was no memory for one, or the clock couldn't be read.
     all: Result<Tally, WorkerFault>,
 }
 
 impl<'c, C: Clock> Stopwatch<'c, C> {
-    /// A stopwatch that times nothing yet, and never does unless it is on.
+    /// Returns a stopwatch without times so far; it takes times only if it is on.
     pub fn new(clock: &'c C, alloc: Global, on: bool) -> Stopwatch<'c, C> {
         Stopwatch {
             clock,
@@ -38,7 +39,7 @@ impl<'c, C: Clock> Stopwatch<'c, C> {
         }
     }
 
-    /// A call is about to be made.
+    /// Notes that a call is about to be made.
     fn called(&mut self, call: &Call) {
         self.start = None;
         if !self.on || !matches!(call, Call::Send { .. }) {
@@ -50,7 +51,7 @@ impl<'c, C: Clock> Stopwatch<'c, C> {
         }
     }
 
-    /// An ending was collected.
+    /// Notes that an ending was collected.
     fn note_ending(&mut self) {
         let Some(start) = self.start.take() else {
             return;
@@ -64,24 +65,25 @@ impl<'c, C: Clock> Stopwatch<'c, C> {
         }
     }
 
-    /// Whether each round trip was timed.
+    /// Returns an error if a round trip wasn't timed.
     pub fn all(&self) -> Result<Tally, WorkerFault> {
         self.all
     }
 
-    /// What each round trip took, in nanoseconds.
+    /// Returns the nanoseconds of each round trip.
     pub fn into_trips(self) -> Vec<u64> {
         let Stopwatch { trips, .. } = self;
         trips
     }
 }
 
-/// The nanoseconds of a duration, of which 2^64 - 1 stand for more.
+/// Returns the nanoseconds of a duration, at most 2^64 - 1.
 pub fn nanoseconds_of(duration: Duration) -> u64 {
     u64::try_from(duration.as_nanos()).unwrap_or(u64::MAX)
 }
 
-/// Passes calls on, and times each Send. Of two calls in turn it times the second alone.
+/// Passes calls on, and times each Send. If a call is made before the ending of the one before is collected, only the
+/// second is timed.
 #[derive(Drop)]
 pub struct Timed<'c, E, C> {
     pub inner: E,

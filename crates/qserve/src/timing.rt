@@ -1,4 +1,4 @@
-//! How long a demonstration took, and each of its round trips.
+//! The times of a demonstration and of its round trips.
 
 use crate::fault::WorkerFault;
 use crate::timed::nanoseconds_of;
@@ -6,23 +6,23 @@ use std::alloc::{AllocError, Global};
 use std::rt::Clock;
 use std::time::Instant;
 
-/// How long a demonstration took, in nanoseconds.
+/// The times of a demonstration, in nanoseconds.
 #[derive(Clone, Copy, Debug, PartialEq, Eq)]
 pub struct Timing {
     /// From before the first worker is started until all have ended.
     pub run: u64,
-    /// How many round trips were timed.
+    /// The number of timed round trips.
     pub trips: u64,
-    /// What the shortest round trip took.
+    /// The shortest round trip.
     pub least: u64,
-    /// What half of them took at most.
+    /// The time that half of them took at most.
     pub median: u64,
-    /// What 99 of a hundred took at most.
+    /// The time that 99 % of them took at most.
     pub ninety_ninth: u64,
 }
 
 impl Timing {
-    /// What a run comes to that took so long, with round trips that took so long.
+    /// Returns the times of a run that took `run` nanoseconds, with round trips of these nanoseconds.
     pub fn of(run: u64, mut trips: Vec<u64>) -> Timing {
         let trips = trips.as_mut_slice();
         trips.sort_unstable();
@@ -35,7 +35,7 @@ impl Timing {
         }
     }
 
-    /// How many round trips there were in a second.
+    /// Returns the number of round trips per second.
     pub fn rate(&self) -> u64 {
         let run = u128::from(self.run.max(1));
         let rate = u128::from(self.trips) * 1_000_000_000 / run;
@@ -43,7 +43,8 @@ impl Timing {
     }
 }
 
-/// What so many of a hundred took at most, and at least one of them; 0 where there is none. The times rise.
+/// Returns the time that this share, in %, of the round trips took at most, or 0 if there is none. The times have to
+/// rise.
 fn share(trips: &[u64], hundredths: usize) -> u64 {
     let many = trips.len().saturating_mul(hundredths).div_ceil(100);
     match trips.get(many.saturating_sub(1)) {
@@ -52,7 +53,7 @@ fn share(trips: &[u64], hundredths: usize) -> u64 {
     }
 }
 
-/// The time now, if the run is to be timed.
+/// Returns the time now, if the run is timed.
 pub fn start_of<C: Clock>(clock: &C, time: bool) -> Result<Option<Instant>, WorkerFault> {
     if !time {
         return Ok(None);
@@ -63,7 +64,7 @@ pub fn start_of<C: Clock>(clock: &C, time: bool) -> Result<Option<Instant>, Work
     }
 }
 
-/// How long a run took that has just ended, if it is timed.
+/// Returns the times of a run that has just ended, if it is timed.
 pub fn timing_of<C: Clock>(
     clock: &C,
     start: Option<Instant>,
@@ -78,7 +79,7 @@ pub fn timing_of<C: Clock>(
     }
 }
 
-/// The five lines of `--time`.
+/// Returns the five lines of `--time`.
 pub fn timing_text_of(alloc: Global, timing: &Timing) -> Result<String, AllocError> {
     let (seconds, rest) = (timing.run / 1_000_000_000, timing.run % 1_000_000_000);
     let micros = rest / 1_000;

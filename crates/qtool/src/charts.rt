@@ -10,7 +10,7 @@ use std::process::ExitCode;
 use std::rt::Files;
 use std::{fs, io};
 
-/// Draws the run of a file's script, or else of that on standard input. No drawing is written over its script.
+/// Draws the run of a script, from a file or from standard input. A drawing is never written over its script.
 pub fn run_chart<R: Files + Input + Print + Eprint + AllocGlobal>(
     rt: &R,
     run: &ChartRun,
@@ -40,7 +40,7 @@ pub fn run_chart<R: Files + Input + Print + Eprint + AllocGlobal>(
     }
 }
 
-/// Whether two paths lead to one file, which is there.
+/// Returns whether two paths lead to one existing file.
 fn is_same<R: Files + AllocGlobal>(rt: &R, one: &str, other: &str) -> bool {
     match (fs::canonicalize(rt, one), fs::canonicalize(rt, other)) {
         (Ok(one), Ok(other)) => one.as_path().as_str() == other.as_path().as_str(),
@@ -48,7 +48,7 @@ fn is_same<R: Files + AllocGlobal>(rt: &R, one: &str, other: &str) -> bool {
     }
 }
 
-/// What is to be drawn, and how: in text where that is asked for, or on a terminal.
+/// Returns the view to draw: as text if that is asked for, or if standard output is a terminal.
 fn view_of(run: &ChartRun) -> View {
     let is_shown = run.terminal && run.output.is_none();
     View {

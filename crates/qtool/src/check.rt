@@ -1,4 +1,4 @@
-//! Compares what scripts print with the traces that stand beside them.
+//! Compares what scripts print with the traces beside them.
 
 mod design;
 mod named;
@@ -24,12 +24,12 @@ use std::rt::Files;
 use std::{fs, io};
 use tally::Tally;
 
-/// Why a check can't go on.
+/// The reason why a check can't go on.
 #[derive(Debug, Drop)]
 enum CheckFault {
     /// There is no memory for it.
     NoMemory,
-    /// What came of it can't be written.
+    /// Writing the results failed.
     Unwritten(io::Error),
 }
 
@@ -45,8 +45,8 @@ impl<T: Drop> From<AllocFailed<T>> for CheckFault {
     }
 }
 
-/// Checks the scripts of these files and folders. The status is 0 where each printed its trace, 1 where one differs, is
-/// faulty or has no trace, and 3 where a file can't be read or written.
+/// Checks the scripts of these files and folders. The status is 0 if each printed its trace, 1 if one differs, is
+/// faulty or has no trace, and 3 if a file can't be read or written.
 pub fn run_check<R: Files + Print + Eprint + AllocGlobal + Clone + Drop>(
     rt: &R,
     run: &CheckRun,
@@ -58,7 +58,7 @@ pub fn run_check<R: Files + Print + Eprint + AllocGlobal + Clone + Drop>(
     }
 }
 
-/// Checks each script, and prints what came of them in all.
+/// Checks each script, and prints the counts.
 fn check_all<R: Files + Print + Eprint + AllocGlobal + Clone + Drop>(
     rt: &R,
     run: &CheckRun,
@@ -74,7 +74,7 @@ fn check_all<R: Files + Print + Eprint + AllocGlobal + Clone + Drop>(
     Ok(tally)
 }
 
-/// Checks a script, tells what came of it, and counts it.
+/// Checks a script, prints its outcome, and counts it.
 fn check_one<R: Files + Print + Eprint + AllocGlobal>(
     rt: &R,
     run: &CheckRun,
@@ -126,7 +126,7 @@ fn compare<R: Files + Print + Eprint + AllocGlobal>(
     }
 }
 
-/// Tells what came of a script, and from which of its lines a difference comes.
+/// Prints the outcome of a script, and the line from which a difference comes.
 fn tell<R: Print + AllocGlobal>(
     rt: &R,
     example: &Example,
@@ -145,7 +145,7 @@ fn tell<R: Print + AllocGlobal>(
     }
 }
 
-/// Looks at a script that has no trace, which may be faulty too.
+/// Checks a script that has no trace; it may also be faulty.
 fn check_without<R: Files + Print + Eprint + AllocGlobal>(
     rt: &R,
     run: &CheckRun,
@@ -182,7 +182,7 @@ fn write_trace<R: Files + Print + Eprint + AllocGlobal>(
     println!(rt; "{name}: trace written").map_err(CheckFault::Unwritten)
 }
 
-/// Tells why a script has no run, explains it where that is wanted, and counts it.
+/// Prints why a script has no run, explains it if explanations are asked for, and counts it.
 fn tell_fault<R: Print + AllocGlobal>(
     rt: &R,
     run: &CheckRun,

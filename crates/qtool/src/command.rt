@@ -1,332 +1,119 @@
 //! The command line.
 
-use crate::texts::{
-    ABOUT, CHART_ABOUT, CHART_EXAMPLE, CHART_LONG, CHECK_ABOUT, CHECK_EXAMPLE, CHECK_LONG, EXAMPLE,
-    EXPLORE_ABOUT, EXPLORE_EXAMPLE, EXPLORE_LONG, PLAY_ABOUT, PLAY_EXAMPLE, PLAY_LONG,
-    SCRIPT_ABOUT, SCRIPT_EXAMPLE, SCRIPT_LONG, SERVE_ABOUT, SERVE_EXAMPLE, SERVE_LONG, VERSION,
-};
-use clap::{Arg, ArgAction, ArgMatches, Command, Error, value_parser};
+mod options;
+
+use clap::{ArgMatches, Error};
+use options::command;
 use std::alloc::{AllocError, Global};
 
-/// A script that is to be run.
+/// A script to run.
 #[derive(Drop)]
 pub struct ScriptRun {
-    /// Its file; `None` where it is on standard input.
+    /// Its file; `None` for standard input.
     pub file: Option<String>,
-    /// Whether faults and failures are to be explained.
+    /// Whether faults and failures are explained.
     pub explain: bool,
-    /// Whether the plain script of one with names is to be printed, and not run.
+    /// Whether the plain script of one with names is printed instead of run.
     pub plain: bool,
-    /// Whether a call that fails is a failure of the program.
+    /// Whether a call that fails makes the exit status 1.
     pub strict: bool,
-    /// Whether standard error is a terminal, on which faults are explained unasked.
+    /// Whether standard error is a terminal, on which faults are always explained.
     pub terminal: bool,
 }
 
-/// Scripts that are to be checked.
+/// The scripts to check.
 #[derive(Drop)]
 pub struct CheckRun {
-    /// Their files and folders, one at least.
+    /// Their files and folders, at least one.
     pub paths: Vec<String>,
-    /// Whether traces are to be written.
+    /// Whether missing and differing traces are written.
     pub update: bool,
-    /// Whether a fault is to be explained.
+    /// Whether faults are explained.
     pub explain: bool,
 }
 
-/// A kernel that is to be played with.
+/// A kernel to play with.
 #[derive(Drop)]
 pub struct PlayRun {
-    /// The file of the script that it begins with; `None` for none.
+    /// The file of the script to begin with, if there is one.
     pub file: Option<String>,
 }
 
-/// A script whose run is to be drawn.
+/// A script whose run is drawn.
 #[derive(Drop)]
 pub struct ChartRun {
-    /// Its file; `None` where it is on standard input.
+    /// Its file; `None` for standard input.
     pub file: Option<String>,
-    /// The drawing's file; `None` where it is printed.
+    /// The drawing's file; `None` for standard output.
     pub output: Option<String>,
-    /// Whether text is asked for.
+    /// Whether the drawing is text.
     pub text: bool,
     /// Whether the words have the bytes of messages and answers.
     pub bytes: bool,
-    /// The number of the first call that is drawn, 1 at least.
+    /// The number of the first call that is drawn, at least 1.
     pub from: u32,
-    /// The number of the last call that is drawn; `None` for the last of all.
+    /// The number of the last call that is drawn; `None` for the last of the script.
     pub to: Option<u32>,
-    /// Whether standard output is a terminal, on which text is drawn unasked.
+    /// Whether standard output is a terminal, on which the drawing is always text.
     pub terminal: bool,
 }
 
-/// A design that is to be explored.
+/// A design to explore.
 #[derive(Drop)]
 pub struct ExploreRun {
-    /// Its file; `None` where it is on standard input.
+    /// Its file; `None` for standard input.
     pub file: Option<String>,
-    /// Whether the run that shows a fault is to be printed alone, as a script.
+    /// Whether only the run that shows a fault is printed, as a script.
     pub script: bool,
-    /// The most moments that are looked at, 1 at least.
+    /// The most moments of the search, at least 1.
     pub most: u32,
-    /// How many interleavings are made by chance; `None` where all are to be looked at.
+    /// The number of random interleavings; `None` to make all interleavings.
     pub random: Option<u32>,
-    /// What chance begins with.
+    /// The seed of the random interleavings.
     pub seed: u32,
     /// Whether standard error is a terminal, on which progress is shown.
     pub terminal: bool,
 }
 
-/// A server with its clients that is to be run.
+/// A server and its clients to run.
 #[derive(Drop)]
 pub struct ServeRun {
-    /// How many clients, 1 to 32.
+    /// The number of clients, 1 to 32.
     pub clients: u8,
-    /// How many servers, 1 to 16.
+    /// The number of servers, 1 to 16.
     pub servers: u8,
-    /// How many rounds each client makes, 1 to 1,000.
+    /// The number of rounds of each client, 1 to 1,000.
     pub rounds: u16,
     /// Whether the server keeps the first message until it has a second.
     pub hold: bool,
-    /// Whether the time that the run took is printed.
+    /// Whether the times of the run are printed.
     pub time: bool,
-    /// Whether what is printed is JSON.
+    /// Whether the output is JSON.
     pub json: bool,
     /// Whether no progress is shown.
     pub quiet: bool,
-    /// The name of the recording's files; `None` if there is to be none.
+    /// The name of the recording's files; `None` for no recording.
     pub record: Option<String>,
 }
 
-/// What the program is asked to do.
+/// The action that the command line asks for.
 #[derive(Drop)]
 pub enum Action {
-    /// To run a script.
+    /// Runs a script.
     Script(ScriptRun),
-    /// To compare what the scripts of a folder print with their traces.
+    /// Compares what scripts print with their traces.
     Check(CheckRun),
-    /// To play with a kernel.
+    /// Plays with a kernel.
     Play(PlayRun),
-    /// To draw the run of a script.
+    /// Draws the run of a script.
     Chart(ChartRun),
-    /// To explore a design.
+    /// Explores a design.
     Explore(ExploreRun),
-    /// To run a server with its clients.
+    /// Runs a server and its clients.
     Serve(ServeRun),
 }
 
-fn serve_command<'a>(alloc: Global) -> Result<Command<'a>, AllocError> {
-    let clients = Arg::new(alloc, "clients")
-        .long("clients")
-        .value_name("N")
-        .value_parser(value_parser!(u8).range(1..33))
-        .default_value("2")
-        .help("How many clients, 1 to 32");
-    let servers = Arg::new(alloc, "servers")
-        .long("servers")
-        .value_name("M")
-        .value_parser(value_parser!(u8).range(1..17))
-        .default_value("1")
-        .help("How many servers, 1 to 16");
-    let rounds = Arg::new(alloc, "rounds")
-        .long("rounds")
-        .value_name("K")
-        .value_parser(value_parser!(u16).range(1..1001))
-        .default_value("1")
-        .help("How many rounds each client makes, 1 to 1000");
-    let hold = Arg::new(alloc, "hold")
-        .long("hold")
-        .action(ArgAction::SetTrue)
-        .help("Keep the first message until there is a second");
-    let time = Arg::new(alloc, "time")
-        .long("time")
-        .action(ArgAction::SetTrue)
-        .help("Print how long the run and its round trips took");
-    let json = Arg::new(alloc, "json")
-        .long("json")
-        .action(ArgAction::SetTrue)
-        .help("Print an object of JSON in place of lines");
-    let quiet = Arg::new(alloc, "quiet")
-        .long("quiet")
-        .action(ArgAction::SetTrue)
-        .help("Show no progress");
-    let record = Arg::new(alloc, "record")
-        .long("record")
-        .value_name("NAME")
-        .help("Write NAME.txt, a script of the kernel's calls, and NAME.trace");
-    Command::new(alloc, "serve")
-        .about(SERVE_ABOUT)
-        .long_about(SERVE_LONG)
-        .after_help(SERVE_EXAMPLE)
-        .arg(clients)?
-        .arg(servers)?
-        .arg(rounds)?
-        .arg(hold)?
-        .arg(time)?
-        .arg(json)?
-        .arg(quiet)?
-        .arg(record)
-}
-
-/// The option to explain faults.
-fn explain_option<'a>(alloc: Global) -> Arg<'a> {
-    Arg::new(alloc, "explain")
-        .long("explain")
-        .action(ArgAction::SetTrue)
-        .help("Explain faulty lines, and of script also calls that fail and threads that wait")
-}
-
-/// The option to take a call that fails for a failure.
-fn strict_option<'a>(alloc: Global) -> Arg<'a> {
-    Arg::new(alloc, "strict")
-        .long("strict")
-        .action(ArgAction::SetTrue)
-        .help("End with status 1 if a call failed")
-}
-
-/// The option to write traces.
-fn update_option<'a>(alloc: Global) -> Arg<'a> {
-    Arg::new(alloc, "update")
-        .long("update")
-        .action(ArgAction::SetTrue)
-        .help("Write the traces that are missing or differ")
-}
-
-fn script_command<'a>(alloc: Global) -> Result<Command<'a>, AllocError> {
-    let file = Arg::new(alloc, "file")
-        .value_name("FILE")
-        .help("The script's file; none or - is standard input");
-    let plain = Arg::new(alloc, "plain")
-        .long("plain")
-        .action(ArgAction::SetTrue)
-        .help("Print the plain script of one with names, and don't run it");
-    Command::new(alloc, "script")
-        .about(SCRIPT_ABOUT)
-        .long_about(SCRIPT_LONG)
-        .after_help(SCRIPT_EXAMPLE)
-        .arg(file)?
-        .arg(explain_option(alloc))?
-        .arg(plain)?
-        .arg(strict_option(alloc))
-}
-
-fn check_command<'a>(alloc: Global) -> Result<Command<'a>, AllocError> {
-    let paths = Arg::new(alloc, "path")
-        .value_name("PATH")
-        .num_args(0..)
-        .action(ArgAction::Append)
-        .help("Scripts, and folders of scripts; none is the current folder");
-    Command::new(alloc, "check")
-        .about(CHECK_ABOUT)
-        .long_about(CHECK_LONG)
-        .after_help(CHECK_EXAMPLE)
-        .arg(paths)?
-        .arg(update_option(alloc))?
-        .arg(explain_option(alloc))
-}
-
-fn play_command<'a>(alloc: Global) -> Result<Command<'a>, AllocError> {
-    let file = Arg::new(alloc, "file")
-        .value_name("FILE")
-        .help("A script to begin with");
-    Command::new(alloc, "play")
-        .about(PLAY_ABOUT)
-        .long_about(PLAY_LONG)
-        .after_help(PLAY_EXAMPLE)
-        .arg(file)
-}
-
-fn chart_command<'a>(alloc: Global) -> Result<Command<'a>, AllocError> {
-    let file = Arg::new(alloc, "file")
-        .value_name("FILE")
-        .help("The script's file; none or - is standard input");
-    let output = Arg::new(alloc, "output")
-        .short('o')
-        .long("output")
-        .value_name("FILE")
-        .help("Write the drawing into this file; none or - is standard output");
-    let text = Arg::new(alloc, "text")
-        .long("text")
-        .action(ArgAction::SetTrue)
-        .help("Draw in columns of text, as is done on a terminal, and not as SVG");
-    let bytes = Arg::new(alloc, "bytes")
-        .long("bytes")
-        .action(ArgAction::SetTrue)
-        .help("Show the bytes of messages and answers, 8 at most");
-    let from = Arg::new(alloc, "from")
-        .long("from")
-        .value_name("N")
-        .value_parser(value_parser!(u32).range(1..4294967295))
-        .default_value("1")
-        .help("The number of the first call that is drawn");
-    let to = Arg::new(alloc, "to")
-        .long("to")
-        .value_name("M")
-        .value_parser(value_parser!(u32).range(1..4294967295))
-        .help("The number of the last call that is drawn");
-    Command::new(alloc, "chart")
-        .about(CHART_ABOUT)
-        .long_about(CHART_LONG)
-        .after_help(CHART_EXAMPLE)
-        .arg(file)?
-        .arg(output)?
-        .arg(text)?
-        .arg(bytes)?
-        .arg(from)?
-        .arg(to)
-}
-
-fn explore_command<'a>(alloc: Global) -> Result<Command<'a>, AllocError> {
-    let file = Arg::new(alloc, "file")
-        .value_name("FILE")
-        .help("The design's file; none or - is standard input");
-    let script = Arg::new(alloc, "script")
-        .long("script")
-        .action(ArgAction::SetTrue)
-        .help("Print the run that shows a fault alone, as a script");
-    let most = Arg::new(alloc, "most")
-        .long("most")
-        .value_name("N")
-        .value_parser(value_parser!(u32).range(1..4294967295))
-        .default_value("1000000")
-        .help("Give up once more than N moments are known");
-    let random = Arg::new(alloc, "random")
-        .long("random")
-        .value_name("N")
-        .value_parser(value_parser!(u32).range(1..4294967295))
-        .help("Make N interleavings by chance, and not all");
-    let seed = Arg::new(alloc, "seed")
-        .long("seed")
-        .value_name("S")
-        .value_parser(value_parser!(u32).range(0..4294967295))
-        .default_value("1")
-        .help("What chance begins with; the same seed makes the same interleavings");
-    Command::new(alloc, "explore")
-        .about(EXPLORE_ABOUT)
-        .long_about(EXPLORE_LONG)
-        .after_help(EXPLORE_EXAMPLE)
-        .arg(file)?
-        .arg(script)?
-        .arg(most)?
-        .arg(random)?
-        .arg(seed)
-}
-
-fn command<'a>(alloc: Global) -> Result<Command<'a>, AllocError> {
-    Command::new(alloc, "qdemo")
-        .version(VERSION)
-        .about(ABOUT)
-        .after_help(EXAMPLE)
-        .subcommand_required(true)
-        .subcommand(script_command(alloc)?)?
-        .subcommand(check_command(alloc)?)?
-        .subcommand(play_command(alloc)?)?
-        .subcommand(chart_command(alloc)?)?
-        .subcommand(explore_command(alloc)?)?
-        .subcommand(serve_command(alloc)?)
-}
-
-/// The file that these words name, if they name one; `-` is none.
+/// Returns the file of this argument, or `None` if it is missing or `-`.
 fn file_of(
     alloc: Global,
     matches: &ArgMatches<'_>,
@@ -338,7 +125,7 @@ fn file_of(
     }
 }
 
-/// Which script these words ask for.
+/// Returns the script that the arguments ask for.
 fn script_of(alloc: Global, matches: &ArgMatches<'_>) -> Result<ScriptRun, AllocError> {
     Ok(ScriptRun {
         file: file_of(alloc, matches, "file")?,
@@ -349,7 +136,7 @@ fn script_of(alloc: Global, matches: &ArgMatches<'_>) -> Result<ScriptRun, Alloc
     })
 }
 
-/// Which drawing these words ask for.
+/// Returns the drawing that the arguments ask for.
 fn chart_of(alloc: Global, matches: &ArgMatches<'_>) -> Result<ChartRun, AllocError> {
     Ok(ChartRun {
         file: file_of(alloc, matches, "file")?,
@@ -362,7 +149,7 @@ fn chart_of(alloc: Global, matches: &ArgMatches<'_>) -> Result<ChartRun, AllocEr
     })
 }
 
-/// Which design these words ask for.
+/// Returns the design that the arguments ask for.
 fn explore_of(alloc: Global, matches: &ArgMatches<'_>) -> Result<ExploreRun, AllocError> {
     Ok(ExploreRun {
         file: file_of(alloc, matches, "file")?,
@@ -374,7 +161,7 @@ fn explore_of(alloc: Global, matches: &ArgMatches<'_>) -> Result<ExploreRun, All
     })
 }
 
-/// The files and folders that these words name; the current folder where they name none.
+/// Returns the files and folders of the arguments, or the current folder if there are none.
 fn paths_of(alloc: Global, matches: &ArgMatches<'_>) -> Result<Vec<String>, AllocError> {
     let mut paths = Vec::new(alloc);
     for path in matches.get_strs("path").unwrap_or(&[]) {
@@ -386,7 +173,7 @@ fn paths_of(alloc: Global, matches: &ArgMatches<'_>) -> Result<Vec<String>, Allo
     Ok(paths)
 }
 
-/// Which check these words ask for.
+/// Returns the check that the arguments ask for.
 fn check_of(alloc: Global, matches: &ArgMatches<'_>) -> Result<CheckRun, AllocError> {
     Ok(CheckRun {
         paths: paths_of(alloc, matches)?,
@@ -395,7 +182,7 @@ fn check_of(alloc: Global, matches: &ArgMatches<'_>) -> Result<CheckRun, AllocEr
     })
 }
 
-/// The name of the files that these words ask for a recording in.
+/// Returns the name of the recording's files, if the arguments ask for a recording.
 fn record_of(alloc: Global, matches: &ArgMatches<'_>) -> Result<Option<String>, AllocError> {
     match matches.get_str("record") {
         Some(name) => Ok(Some(String::from_str(alloc, name)?)),
@@ -403,7 +190,7 @@ fn record_of(alloc: Global, matches: &ArgMatches<'_>) -> Result<Option<String>, 
     }
 }
 
-/// Which demonstration these words ask for. Each number has a default.
+/// Returns the demonstration that the arguments ask for. Each number has a default.
 fn serve_of(alloc: Global, matches: &ArgMatches<'_>) -> Result<ServeRun, AllocError> {
     Ok(ServeRun {
         clients: matches.get_one("clients").unwrap_or(0),
@@ -417,8 +204,8 @@ fn serve_of(alloc: Global, matches: &ArgMatches<'_>) -> Result<ServeRun, AllocEr
     })
 }
 
-/// What the words of the command line ask for, the first of which is the program's name. The error may
-/// be a wanted help text.
+/// Returns the action that a command line asks for; the first word is the program's name. The error may be a help text
+/// that was asked for.
 pub fn action_of(alloc: Global, words: &[String]) -> Result<Action, Error> {
     let command = command(alloc)?;
     let matches = command.try_get_matches_from(words)?;

@@ -18,28 +18,28 @@ use std::process::ExitCode;
 use std::rt::Files;
 use std::{fs, io};
 
-/// How the name of a file ends that has a design.
+/// The ending of the names of files with designs.
 const ENDING: &str = ".design";
 
-/// The most moments that are looked at where no number is given.
+/// The most moments of a search, if the command line doesn't say it.
 pub const MOST_MOMENTS: usize = 1_000_000;
 
-/// The status where not every interleaving was looked at.
+/// The exit status if not every interleaving was made.
 const NOT_ALL: u8 = 4;
 
-/// After how many steps of a search the line of its progress is written anew.
+/// The number of steps of a search between two lines of its progress.
 const STEPS: u32 = 1000;
 
-/// What is told of the text of a design.
+/// The outcome for the text of a design.
 #[derive(Debug, Drop)]
 pub enum Outcome {
-    /// What came of the search.
+    /// The words of the search.
     Told(String),
-    /// What is wrong with the text.
+    /// The faults of the text.
     Faulty(Vec<Fault>),
 }
 
-/// Nobody is told how far a search is.
+/// An observer that ignores the progress of a search.
 #[derive(Drop)]
 struct Nobody;
 
@@ -48,7 +48,7 @@ impl Watch for Nobody {
 }
 
 impl Outcome {
-    /// What is told of all interleavings of the design of this text, which is called so.
+    /// Explores all interleavings of the design in a text; `file` is its name in the output.
     pub fn of(alloc: Global, file: &str, text: &[u8]) -> Result<Outcome, AllocError> {
         let design = match read(alloc, text)? {
             Reading::Good(design) => design,
@@ -64,12 +64,12 @@ impl Outcome {
     }
 }
 
-/// Whether a file has a design.
+/// Returns whether a file has a design, by its name.
 pub fn is_design(file: &str) -> bool {
     file.ends_with(ENDING)
 }
 
-/// The line on standard error that shows how far a search is, on a terminal alone.
+/// The line on standard error that shows the progress of a search, only on a terminal.
 #[derive(Drop)]
 struct Progress<'a, R> {
     rt: &'a R,
@@ -90,7 +90,7 @@ impl<'a, R: Eprint> Watch for Progress<'a, R> {
 }
 
 impl<'a, R: Eprint> Progress<'a, R> {
-    /// With nothing shown yet.
+    /// Returns a progress that shows nothing so far.
     fn new(rt: &'a R, terminal: bool) -> Progress<'a, R> {
         Progress {
             rt,
@@ -100,7 +100,7 @@ impl<'a, R: Eprint> Progress<'a, R> {
         }
     }
 
-    /// Takes the line away.
+    /// Removes the line.
     fn clear(&self) {
         if self.shown {
             let _ = eprint!(self.rt; "\r{:40}\r", "");
@@ -108,14 +108,14 @@ impl<'a, R: Eprint> Progress<'a, R> {
     }
 }
 
-/// What is printed of a search, and the status with which the program ends.
+/// The output of a search, and the exit status of the program.
 #[derive(Drop)]
 struct Told {
     text: String,
     status: u8,
 }
 
-/// Explores the design of a file, or else that on standard input.
+/// Explores a design, from a file or from standard input.
 pub fn run_explore<R: Files + Input + Print + Eprint + AllocGlobal>(
     rt: &R,
     run: &ExploreRun,
@@ -133,7 +133,7 @@ pub fn run_explore<R: Files + Input + Print + Eprint + AllocGlobal>(
     }
 }
 
-/// Explores the design of this text.
+/// Explores the design in this text.
 fn explore_text<R: Print + Eprint + AllocGlobal>(
     rt: &R,
     run: &ExploreRun,
@@ -150,7 +150,7 @@ fn explore_text<R: Print + Eprint + AllocGlobal>(
     }
 }
 
-/// Tells the faults of a design, and shows their lines on a terminal.
+/// Prints the faults of a design, with their lines on a terminal.
 fn end_faulty<R: Eprint + AllocGlobal>(
     rt: &R,
     run: &ExploreRun,
@@ -167,7 +167,7 @@ fn end_faulty<R: Eprint + AllocGlobal>(
     ExitCode::FAILURE
 }
 
-/// Explores a design, and prints what came of it.
+/// Explores a design, and prints the words of the search.
 fn explore_design<R: Print + Eprint + AllocGlobal>(
     rt: &R,
     run: &ExploreRun,
@@ -188,7 +188,7 @@ fn explore_design<R: Print + Eprint + AllocGlobal>(
     }
 }
 
-/// What is told of a search through all interleavings.
+/// Returns the words of a search through all interleavings.
 fn told_of(
     alloc: Global,
     script: bool,
@@ -208,7 +208,7 @@ fn told_of(
     }
 }
 
-/// What is told of all interleavings.
+/// Explores all interleavings, and returns the output.
 fn told_of_all<W: Watch>(
     alloc: Global,
     run: &ExploreRun,
@@ -219,7 +219,7 @@ fn told_of_all<W: Watch>(
     told_of(alloc, run.script, source, verdict)
 }
 
-/// What is told of so many interleavings by chance.
+/// Makes random interleavings, and returns the output.
 fn told_of_some<W: Watch>(
     alloc: Global,
     run: &ExploreRun,
@@ -237,7 +237,7 @@ fn told_of_some<W: Watch>(
     }
 }
 
-/// What is told of a fault.
+/// Returns the output for a fault.
 fn told_of_fault(
     alloc: Global,
     script: bool,

@@ -1,9 +1,9 @@
-//! Where two texts differ.
+//! Finds the first difference between two texts.
 
 use std::alloc::{AllocError, Global};
 use std::fmt;
 
-/// The first line in which two texts differ, with what stands there in each.
+/// The first line in which two texts differ, as it is in each.
 #[derive(Debug, Drop)]
 pub struct Difference {
     line: usize,
@@ -12,12 +12,12 @@ pub struct Difference {
 }
 
 impl Difference {
-    /// The number of the line, counted from 1.
+    /// Returns the number of the line, counted from 1.
     pub fn line(&self) -> usize {
         self.line
     }
 
-    /// The number of the call that the line is about, of what was found or else of what was wanted.
+    /// Returns the number of the call that the line is about, in the text that was found, or else in the wanted one.
     pub fn call(&self) -> Option<u64> {
         match call_of(self.found.as_str()) {
             Some(number) => Some(number),
@@ -26,7 +26,7 @@ impl Difference {
     }
 }
 
-/// The number that a line of a trace begins with, or that stands behind `open`.
+/// Returns the number at the front of a line of a trace, or behind `open`.
 fn call_of(line: &str) -> Option<u64> {
     let mut words = line.split(' ');
     let first = words.next()?;
@@ -47,7 +47,7 @@ impl fmt::Display for Difference {
     }
 }
 
-/// The first line in which two texts differ.
+/// Returns the first line in which two texts differ.
 pub fn difference_of(alloc: Global, found: &[u8], wanted: &[u8]) -> Result<Difference, AllocError> {
     let line = first_difference(found, wanted);
     Ok(Difference {
@@ -57,7 +57,7 @@ pub fn difference_of(alloc: Global, found: &[u8], wanted: &[u8]) -> Result<Diffe
     })
 }
 
-/// The number of the first line in which two texts differ.
+/// Returns the number of the first line in which two texts differ.
 fn first_difference(found: &[u8], wanted: &[u8]) -> usize {
     let mut line = 1usize;
     for (a, b) in found.iter().zip(wanted) {
@@ -71,8 +71,8 @@ fn first_difference(found: &[u8], wanted: &[u8]) -> usize {
     line
 }
 
-/// The line of this number as it is shown: a byte that doesn't print as `?`, and the end of the text as
-/// such.
+/// Returns the line with this number as it is shown: `?` for a byte that isn't printable, and words for the end of the
+/// text.
 fn shown_line(alloc: Global, text: &[u8], number: usize) -> Result<String, AllocError> {
     let mut shown = String::new(alloc);
     let mut line = 1usize;

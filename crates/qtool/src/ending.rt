@@ -1,44 +1,44 @@
-//! How the program ends: its statuses, and its line on standard error.
+//! Ends the program: with its statuses, and a line on standard error.
 
 use std::fmt::Display;
 use std::io;
 use std::process::ExitCode;
 
-/// The status where nobody reads the output any more: that of a program that the system ends for it.
+/// The exit status if nobody reads the output any more: that of a program killed by SIGPIPE.
 const CLOSED: u8 = 141;
 
-/// Where nobody reads the output any more: without a word.
+/// Ends the program without a message, since nobody reads the output any more.
 pub fn end_quietly() -> ExitCode {
     ExitCode::from(CLOSED)
 }
 
-/// One line of why on standard error.
+/// Prints a line with the reason on standard error.
 pub fn tell_failed<D: Display + Drop>(rt: &impl Eprint, why: D) {
     let _ = eprintln!(rt; "qdemo: {why}");
 }
 
-/// That this file or folder can't be read or written.
+/// Reports a file or folder that can't be read or written.
 pub fn tell_unread(rt: &impl Eprint, path: &str, error: io::Error) {
     tell_failed(rt, format_args!("{path}: {error}"));
 }
 
-/// With one line of why, and this status.
+/// Prints a line with the reason, and returns this status.
 pub fn end_with<D: Display + Drop>(rt: &impl Eprint, why: D, status: u8) -> ExitCode {
     tell_failed(rt, why);
     ExitCode::from(status)
 }
 
-/// Where reading, writing or memory fails.
+/// Ends the program because reading, writing or memory failed.
 pub fn end_failed<D: Display + Drop>(rt: &impl Eprint, why: D) -> ExitCode {
     end_with(rt, why, 3)
 }
 
-/// Where this file or folder can't be read.
+/// Ends the program because this file or folder can't be read.
 pub fn end_unread(rt: &impl Eprint, path: &str, error: io::Error) -> ExitCode {
     end_failed(rt, format_args!("{path}: {error}"))
 }
 
-/// Where standard output can't be written.
+/// Ends the program because standard output can't be written.
 pub fn end_unwritten(rt: &impl Eprint, error: io::Error) -> ExitCode {
     match error.kind() {
         io::ErrorKind::BrokenPipe => end_quietly(),

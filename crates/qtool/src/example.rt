@@ -10,14 +10,14 @@ use qscript::watched::Watched;
 use std::alloc::Global;
 use std::fmt;
 
-/// What came of an example.
+/// The outcome of an example.
 #[derive(Debug, Drop)]
 pub enum Outcome {
     /// It printed its trace.
     Same,
-    /// It printed something else from this line on.
+    /// It printed something else, first in this line.
     Differs(Difference),
-    /// It printed nothing.
+    /// It has no run, because of this fault.
     Fault(ScriptFault),
 }
 
@@ -34,7 +34,7 @@ impl fmt::Display for Outcome {
     }
 }
 
-/// What a script prints: the text of a lawful run of it.
+/// Returns what a script prints: the text of a lawful run of it.
 pub fn printed(alloc: Global, input: &[u8]) -> Result<Vec<u8>, ScriptFault>
     ensures { IfOk result (λ text. Runs input.now text.items) }
 {
@@ -44,7 +44,7 @@ pub fn printed(alloc: Global, input: &[u8]) -> Result<Vec<u8>, ScriptFault>
     Ok(writer.into_inner())
 }
 
-/// Runs a script, and compares what it prints with its trace. A trace that is the same is the text of a lawful
+/// Runs a script, and compares what it prints with its trace. If they are the same, the trace is the text of a lawful
 /// run of the script.
 pub fn outcome_of(alloc: Global, input: &[u8], trace: &[u8]) -> Outcome
     ensures same { result ≡ Outcome.Same → Runs input.now trace.now }

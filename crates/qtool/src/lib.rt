@@ -1,4 +1,4 @@
-//! What the program does with scripts, and its command line: all of it but the server on threads.
+//! The program except the server on threads: its command line, and its work with scripts and designs.
 #![tactic(auto)]
 
 pub mod charts;

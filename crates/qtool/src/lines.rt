@@ -1,8 +1,8 @@
-//! The ends of lines.
+//! Line ends.
 
 use std::alloc::{AllocError, Global};
 
-/// A text without the carriage return before each line feed, as a script is read.
+/// Returns a text without the carriage return in front of each line feed, as a script is read.
 pub fn without_returns(alloc: Global, text: &[u8]) -> Result<Vec<u8>, AllocError> {
     let mut plain = Vec::with_capacity(alloc, text.len())?;
     let mut has_return = false;

@@ -18,16 +18,16 @@ use std::process::ExitCode;
 use std::rt::Files;
 use std::{fs, io};
 
-/// How the name of a file ends that has a script with names.
+/// The ending of the names of files with scripts with names.
 const ENDING: &str = ".names";
 
-/// Whether a file has a script with names.
+/// Returns whether a file has a script with names, by its name.
 pub fn is_named(file: &str) -> bool {
     file.ends_with(ENDING)
 }
 
-/// Where faults are told: the file, its text, whether the lines at fault are shown too, and whether it is told why calls
-/// failed.
+/// The source of faults: the file, its text, whether the faulty lines are shown too, and whether failures of calls are
+/// explained.
 #[derive(Clone, Copy)]
 struct Source<'a> {
     file: &'a str,
@@ -37,7 +37,7 @@ struct Source<'a> {
 }
 
 impl Source<'_> {
-    /// Tells faults on standard error, each in a line, and ends the program with status 1.
+    /// Prints faults on standard error, a line for each, and ends the program with status 1.
     fn end_faulty<R: Eprint + AllocGlobal>(self, rt: &R, faults: &[Fault]) -> ExitCode {
         let file = self.file;
         for fault in faults {
@@ -50,7 +50,7 @@ impl Source<'_> {
     }
 }
 
-/// Shows the line of a fault with a mark below its place. What there is no memory for is left out.
+/// Shows the line of a fault with a mark below its place. It shows nothing if memory runs out.
 pub fn show_fault<R: Eprint + AllocGlobal>(rt: &R, text: &[u8], fault: &Fault) {
     let number = fault.place.line.saturating_sub(1) as usize;
     let Some(line) = Lines(text).nth(number) else {
@@ -65,7 +65,7 @@ pub fn show_fault<R: Eprint + AllocGlobal>(rt: &R, text: &[u8], fault: &Fault) {
     }
 }
 
-/// Runs the script with names of a file, or prints its plain script.
+/// Runs the script with names in a file, or prints its plain script.
 pub fn run_named<R: Files + Print + Eprint + AllocGlobal>(
     rt: &R,
     run: &ScriptRun,
@@ -89,7 +89,7 @@ pub fn run_named<R: Files + Print + Eprint + AllocGlobal>(
     }
 }
 
-/// The plain script of a file with names, or how the program ends without one.
+/// Returns the script of a file with names, or the exit code if it can't be run.
 pub fn plain_of_file<R: Files + Eprint + AllocGlobal>(
     rt: &R,
     file: &str,
@@ -119,7 +119,7 @@ fn print_plain<R: Print + Eprint>(rt: &R, named: &Named) -> ExitCode {
     }
 }
 
-/// What the plain script prints.
+/// Returns what the plain script prints.
 fn printed(alloc: Global, named: &Named) -> Result<Vec<u8>, ScriptFault> {
     let mut reader = Watched::new(named.plain().as_bytes());
     let mut writer = Watched::new(Vec::new(alloc));
@@ -127,7 +127,7 @@ fn printed(alloc: Global, named: &Named) -> Result<Vec<u8>, ScriptFault> {
     Ok(writer.into_inner())
 }
 
-/// Runs the plain script, prints its trace, and tells what isn't as expected.
+/// Runs the plain script, prints its trace, and reports what differs from the expectations.
 fn run_good<R: Print + Eprint + AllocGlobal>(
     rt: &R,
     source: Source<'_>,
@@ -146,15 +146,15 @@ fn run_good<R: Print + Eprint + AllocGlobal>(
     end_told(rt, source, named.faults_in(rt.alloc(), printed.as_slice()))
 }
 
-/// Tells why calls failed, and who is blocked on whom at the end. A line of the plain script has the number of its line.
-/// What there is no memory for is left out.
+/// Prints why calls failed, and who is blocked on whom at the end. A line of the plain script has the number of the
+/// script's line. What there is no memory for is left out.
 fn tell_why<R: Eprint + AllocGlobal>(rt: &R, file: &str, named: &Named) {
     if let Ok(report) = report_of(rt.alloc(), named.plain().as_bytes()) {
         let _ = tell_run(rt, Some(file), &report);
     }
 }
 
-/// What is wrong with a script with names, or not as it expects in its run.
+/// Returns the faults of a script with names, or else what differs from its expectations in its run.
 pub fn faults_of(alloc: Global, text: &[u8]) -> Result<Vec<Fault>, AllocError> {
     match read(alloc, text)? {
         Reading::Good(named) => match printed(alloc, &named) {
@@ -165,7 +165,7 @@ pub fn faults_of(alloc: Global, text: &[u8]) -> Result<Vec<Fault>, AllocError> {
     }
 }
 
-/// Ends with these faults, if there are any.
+/// Ends the program with these faults, if there are any.
 fn end_told<R: Eprint + AllocGlobal>(
     rt: &R,
     source: Source<'_>,

@@ -1,4 +1,4 @@
-//! Plays with a kernel: each line that is read is a line of a script or a command, and is answered at once.
+//! Plays with a kernel: each line of the input is a line of a script or a command, and is answered at once.
 
 mod order;
 pub mod sheet;
@@ -19,10 +19,10 @@ use std::process::ExitCode;
 use std::rt::Files;
 use std::{fs, io, str};
 
-/// What stands before each line on a terminal.
+/// The prompt on a terminal.
 const PROMPT: &str = "> ";
 
-/// What `help` prints.
+/// The text of `help`.
 const HELP: &str = "\
 thread THREAD PROCESS PRIORITY         a thread of the roster
 THREAD CALL OPERANDS                   a call; 'qdemo help script' has them all
@@ -35,7 +35,7 @@ save FILE                              write the lines so far
 quit                                   end
 ";
 
-/// Why a play ends before its input does.
+/// The reason why a play ends before its input does.
 #[derive(Debug, Drop)]
 enum PlayFault {
     NoMemory,
@@ -67,22 +67,22 @@ impl From<io::Error> for PlayFault {
     }
 }
 
-/// A play: the script so far, and how it is played.
+/// A play: the script so far, and the state of the play.
 #[derive(Drop)]
 struct Play<'a, R> {
     rt: &'a R,
     sheet: Sheet,
-    /// Whether somebody sits at a terminal.
+    /// Whether the input is a terminal.
     terminal: bool,
-    /// How many lines were read.
+    /// The number of lines read.
     lines: u64,
-    /// Whether one of them was faulty.
+    /// Whether one of these lines was faulty.
     faulty: bool,
 }
 
-/// Plays with the script of a file, or without one from the begin. Lines come from standard input; at its end, if it is
-/// no terminal, the blocked threads are printed as at the end of a script. The status is 1 where a line was faulty and
-/// the input is no terminal.
+/// Plays with the script of a file, or without one. Lines come from standard input; at its end, if it isn't a terminal,
+/// the blocked threads are printed as at the end of a script. The status is 1 if a line was faulty and the input isn't
+/// a terminal.
 pub fn run_play<R: Files + Input + Print + Eprint + AllocGlobal>(
     rt: &R,
     run: &PlayRun,
@@ -128,7 +128,8 @@ impl<R: Files + Input + Print + Eprint + AllocGlobal> Play<'_, R> {
         Ok(io::writer(self.rt).write_all(bytes)?)
     }
 
-    /// Begins with the script of a file, and answers whether it has one. A faulty one is told as `script` tells it.
+    /// Begins with the script of a file, and returns whether it has no fault. A fault is reported as `script` reports
+    /// it.
     fn take_file(&mut self, text: &[u8], name: &str) -> Result<bool, PlayFault> {
         let taken = if is_named(name) {
             self.sheet.add_named(text)
@@ -157,7 +158,7 @@ impl<R: Files + Input + Print + Eprint + AllocGlobal> Play<'_, R> {
         }
     }
 
-    /// Tells faults of a script with names by their places in its text, which is that of a file or what was read.
+    /// Reports faults of a script with names by their places in its text, which is that of a file or the lines read.
     fn tell_faults(&mut self, faults: &[Fault], file: Option<&str>, text: &[u8]) {
         for fault in faults {
             self.faulty = true;
@@ -177,7 +178,7 @@ impl<R: Files + Input + Print + Eprint + AllocGlobal> Play<'_, R> {
         }
     }
 
-    /// Reads lines and answers them, to the end of the input or to the order to end.
+    /// Reads lines and answers them, up to the end of the input or to `quit`.
     fn go_on(&mut self) -> Result<(), PlayFault> {
         let mut input = BufReader::new(self.rt.alloc(), self.rt.reader())?;
         for _ in 0..u64::MAX {
@@ -197,7 +198,7 @@ impl<R: Files + Input + Print + Eprint + AllocGlobal> Play<'_, R> {
         self.finish()
     }
 
-    /// Does what a line asks for, and answers whether the play goes on.
+    /// Carries out the order of a line, and returns whether the play goes on.
     fn answer(&mut self, line: &[u8]) -> Result<bool, PlayFault> {
         self.lines = self.lines.saturating_add(1);
         match order_of(without_end(line)) {
@@ -211,13 +212,13 @@ impl<R: Files + Input + Print + Eprint + AllocGlobal> Play<'_, R> {
         Ok(true)
     }
 
-    /// Tells of all threads.
+    /// Prints the state of each thread.
     fn tell_states(&self) -> Result<(), PlayFault> {
         let states = states_of(self.rt.alloc(), self.sheet.session().text())?;
         self.print(states.as_str().as_bytes())
     }
 
-    /// Takes the last line back, and prints it.
+    /// Removes the last line, and prints it.
     fn undo(&mut self) -> Result<(), PlayFault> {
         match self.sheet.undo()? {
             Some(line) => {
@@ -232,7 +233,7 @@ impl<R: Files + Input + Print + Eprint + AllocGlobal> Play<'_, R> {
         }
     }
 
-    /// Tells that a line can't be followed.
+    /// Reports that a line can't be carried out.
     fn refuse(&mut self, why: &str) {
         self.faulty = true;
         if self.terminal {
@@ -285,21 +286,21 @@ impl<R: Files + Input + Print + Eprint + AllocGlobal> Play<'_, R> {
         }
     }
 
-    /// The lines so far with one behind them that isn't added.
+    /// Returns the lines so far with this one behind them, without adding it.
     fn text_with(&self, line: &[u8]) -> Result<Vec<u8>, PlayFault> {
         let mut text = Vec::from_slice(self.rt.alloc(), self.sheet.text())?;
         text.extend_from_slice(line)?;
         Ok(text)
     }
 
-    /// Tells faults of the lines so far with one behind them.
+    /// Reports faults of the lines so far with this one behind them.
     fn tell_typed(&mut self, faults: &[Fault], line: &[u8]) -> Result<(), PlayFault> {
         let text = self.text_with(line)?;
         self.tell_faults(faults, None, text.as_slice());
         Ok(())
     }
 
-    /// Tells what is wrong with a line of a plain script, and explains it on a terminal.
+    /// Reports the fault of a line of a plain script, and explains it on a terminal.
     fn tell_fault(&mut self, line: &[u8], number: u64, fault: LineFault) -> Result<(), PlayFault> {
         let why = format!(in self.rt.alloc(); "{fault}")?;
         self.refuse(why.as_str());
@@ -313,7 +314,7 @@ impl<R: Files + Input + Print + Eprint + AllocGlobal> Play<'_, R> {
         Ok(())
     }
 
-    /// Tells who is blocked by now, why calls failed, and which threads wait in a circle.
+    /// Prints who is blocked now, why calls failed, and which threads wait in a circle.
     fn tell_more(&self) -> Result<(), PlayFault> {
         let alloc = self.rt.alloc();
         for failure in &self.sheet.session().failures()? {
@@ -329,7 +330,8 @@ impl<R: Files + Input + Print + Eprint + AllocGlobal> Play<'_, R> {
         Ok(())
     }
 
-    /// Prints the blocked threads at the end, if nobody sits at a terminal, and tells what isn't as expected by then.
+    /// Prints the blocked threads at the end, if the input isn't a terminal, and what differs from the expectations
+    /// then.
     fn finish(&mut self) -> Result<(), PlayFault> {
         if !self.terminal {
             let blocked = self.sheet.session().blocked()?;
@@ -340,7 +342,7 @@ impl<R: Files + Input + Print + Eprint + AllocGlobal> Play<'_, R> {
     }
 }
 
-/// Why a line can't be read.
+/// Returns the reason why a line can't be read.
 fn read_fault(error: io::Error) -> PlayFault {
     match error.kind() {
         io::ErrorKind::OutOfMemory => PlayFault::NoMemory,
@@ -348,7 +350,7 @@ fn read_fault(error: io::Error) -> PlayFault {
     }
 }
 
-/// A line without its end.
+/// Returns a line without its end.
 fn without_end(line: &[u8]) -> &[u8] {
     match line {
         [front @ .., b'\r', b'\n'] => front,

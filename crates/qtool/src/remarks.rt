@@ -1,12 +1,12 @@
-//! What is told of a script on standard error: all its faults, what is odd in it, why its calls failed, and who is
-//! blocked on whom.
+//! Writes remarks on a script to standard error: all its faults, its oddities, why its calls failed, and who is blocked
+//! on whom.
 
 use qexplain::faults::{Remark, faults, oddities};
 use qreplay::report::Report;
 use std::alloc::{AllocError, Global};
 use std::io;
 
-/// `FILE:LINE:COLUMN` of a remark, or `line LINE` where a script has no file.
+/// Returns `FILE:LINE:COLUMN` of a remark, or `line LINE` if the script has no file.
 fn remark_place(alloc: Global, file: Option<&str>, remark: &Remark) -> Result<String, AllocError> {
     let line = remark.line;
     let column = remark.explanation.column();
@@ -16,7 +16,7 @@ fn remark_place(alloc: Global, file: Option<&str>, remark: &Remark) -> Result<St
     }
 }
 
-/// `FILE:LINE`, or `line LINE` where a script has no file.
+/// Returns `FILE:LINE`, or `line LINE` if the script has no file.
 fn line_place(alloc: Global, file: Option<&str>, line: usize) -> Result<String, AllocError> {
     match file {
         Some(name) => format!(in alloc; "{name}:{line}"),
@@ -24,7 +24,7 @@ fn line_place(alloc: Global, file: Option<&str>, line: usize) -> Result<String, 
     }
 }
 
-/// Tells the place of the first fault of a text in a file.
+/// Prints the place of the first fault of a text in a file.
 pub fn tell_first_fault<R: Eprint + AllocGlobal>(rt: &R, file: &str, text: &[u8]) {
     let Ok(remarks) = faults(rt.alloc(), text) else {
         return;
@@ -34,8 +34,8 @@ pub fn tell_first_fault<R: Eprint + AllocGlobal>(rt: &R, file: &str, text: &[u8]
     }
 }
 
-/// Explains the faults of a text, twenty at most. Where it has no file the first has no line of its own, since that was
-/// told before. What there is no memory for is left out.
+/// Explains the faults of a text, at most twenty. If the text has no file, the first fault has no line of its own,
+/// since it was printed before. What there is no memory for is left out.
 pub fn tell_faults<R: Eprint + AllocGlobal>(rt: &R, file: Option<&str>, text: &[u8]) {
     let Ok(remarks) = faults(rt.alloc(), text) else {
         return;
@@ -51,7 +51,7 @@ pub fn tell_faults<R: Eprint + AllocGlobal>(rt: &R, file: Option<&str>, text: &[
     }
 }
 
-/// `PLACE: FAULT`
+/// Prints `PLACE: FAULT`.
 fn tell_place<R: Eprint + AllocGlobal>(
     rt: &R,
     file: Option<&str>,
@@ -64,7 +64,7 @@ fn tell_place<R: Eprint + AllocGlobal>(
     }
 }
 
-/// Tells what is odd in a script, why its calls failed, and who is blocked on whom at its end.
+/// Prints the oddities of a script, why its calls failed, and who is blocked on whom at its end.
 pub fn tell_report<R: Eprint + AllocGlobal>(
     rt: &R,
     file: Option<&str>,
@@ -79,7 +79,7 @@ pub fn tell_report<R: Eprint + AllocGlobal>(
     tell_run(rt, file, report)
 }
 
-/// Tells why a script's calls failed, and who is blocked on whom at its end.
+/// Prints why a script's calls failed, and who is blocked on whom at its end.
 pub fn tell_run<R: Eprint + AllocGlobal>(
     rt: &R,
     file: Option<&str>,
@@ -95,7 +95,7 @@ pub fn tell_run<R: Eprint + AllocGlobal>(
     Ok(())
 }
 
-/// Tells why calls failed.
+/// Prints why calls failed.
 fn tell_refusals<R: Eprint + AllocGlobal>(
     rt: &R,
     file: Option<&str>,

@@ -14,8 +14,8 @@ use std::process::ExitCode;
 use std::rt::Files;
 use std::{fs, io};
 
-/// Runs the script of a file, or else that of standard input, as its file's name says. What is wrong with a faulty line
-/// is explained where it is wanted, and on a terminal.
+/// Runs a script, from a file or from standard input; the name of the file decides whether it is plain, or has names. A
+/// faulty line is explained on a terminal, or if explanations are asked for.
 pub fn run_script<R: Files + Input + Print + Eprint + AllocGlobal>(
     rt: &R,
     run: &ScriptRun,
@@ -27,7 +27,7 @@ pub fn run_script<R: Files + Input + Print + Eprint + AllocGlobal>(
     }
 }
 
-/// Runs the script of a file, or else that of standard input.
+/// Runs a plain script, from a file or from standard input.
 fn run_plain<R: Files + Input + Print + Eprint + AllocGlobal>(rt: &R, run: &ScriptRun) -> ExitCode {
     let Some(name) = &run.file else {
         return run_from(rt, run, rt.reader());
@@ -38,7 +38,7 @@ fn run_plain<R: Files + Input + Print + Eprint + AllocGlobal>(rt: &R, run: &Scri
     }
 }
 
-/// Runs the script that is read here.
+/// Runs the script that this reader gives.
 fn run_from<R: Print + Eprint + AllocGlobal, S: Read + Drop>(
     rt: &R,
     run: &ScriptRun,
@@ -54,7 +54,7 @@ fn run_from<R: Print + Eprint + AllocGlobal, S: Read + Drop>(
     }
 }
 
-/// Ends a run of a script that has no run, and says why.
+/// Ends the program for a script that has no run, and prints why.
 fn end_faulty<R: Eprint + AllocGlobal, S>(
     rt: &R,
     run: &ScriptRun,
@@ -73,7 +73,7 @@ fn end_faulty<R: Eprint + AllocGlobal, S>(
     code
 }
 
-/// Tells of the faults of a text: all of them with explanations where that is wanted, and else where the first is, if
+/// Reports the faults of a text: all of them with explanations if these are asked for, else the place of the first, if
 /// the text has a file.
 fn tell_of_faults<R: Eprint + AllocGlobal>(rt: &R, run: &ScriptRun, text: &[u8]) {
     let file = run.file.as_ref().map(|name| name.as_str());
@@ -84,8 +84,8 @@ fn tell_of_faults<R: Eprint + AllocGlobal>(rt: &R, run: &ScriptRun, text: &[u8])
     }
 }
 
-/// Ends a run whose trace is written: tells why calls failed where that is wanted, and takes a failure for one of the
-/// program where that is wanted.
+/// Ends the program after the trace is written: prints why calls failed if explanations are asked for, and returns
+/// status 1 for a failure if the run is strict.
 fn end_of_run<R: Eprint + AllocGlobal>(rt: &R, run: &ScriptRun, text: Option<&[u8]>) -> ExitCode {
     if !run.explain && !run.strict {
         return ExitCode::SUCCESS;

@@ -1,11 +1,11 @@
-//! A reader and a writer that remember what the system said.
+//! A reader and a writer that remember the system's errors.
 
 use std::alloc::Global;
 use std::io;
 use std::io::{Read, Write};
 
-/// A reader that remembers why a read failed. It also keeps what was read, where that is wanted; where
-/// there is no memory for it, nothing is kept.
+/// A reader that remembers why a read failed, and also keeps the bytes if `keeps` is set. If memory runs out, it keeps
+/// nothing.
 #[derive(Drop)]
 pub struct Source<R> {
     inner: R,
@@ -14,7 +14,7 @@ pub struct Source<R> {
 }
 
 impl<R> Source<R> {
-    /// Reads from here, and keeps what is read or doesn't.
+    /// Returns a reader over this one, which keeps the bytes if `keeps` is set.
     pub fn new(alloc: Global, inner: R, keeps: bool) -> Self {
         Source {
             inner,
@@ -23,12 +23,12 @@ impl<R> Source<R> {
         }
     }
 
-    /// Why the last failed read failed.
+    /// Returns why the last failed read failed.
     pub fn error(&self) -> Option<io::Error> {
         self.error
     }
 
-    /// What was read, if it is kept.
+    /// Returns the bytes so far, if they are kept.
     pub fn text(&self) -> Option<&[u8]> {
         match &self.kept {
             Some(kept) => Some(kept.as_slice()),
@@ -36,7 +36,7 @@ impl<R> Source<R> {
         }
     }
 
-    /// Keeps these bytes behind those that are kept.
+    /// Appends bytes to those that are kept.
     fn keep(&mut self, bytes: &[u8]) {
         let Some(kept) = &mut self.kept else {
             return;
@@ -58,7 +58,7 @@ impl<R: Read> Read for Source<R> {
     }
 }
 
-/// A writer that remembers whether a write failed since nobody reads any more what is written.
+/// A writer that remembers whether a write failed because nobody reads the output any more.
 #[derive(Drop)]
 pub struct Outlet<W> {
     inner: W,
@@ -66,7 +66,7 @@ pub struct Outlet<W> {
 }
 
 impl<W> Outlet<W> {
-    /// Writes here.
+    /// Returns a writer over this one.
     pub fn new(inner: W) -> Self {
         Outlet {
             inner,
@@ -74,7 +74,7 @@ impl<W> Outlet<W> {
         }
     }
 
-    /// Whether a write found that nobody reads.
+    /// Returns whether a write failed because nobody reads the output.
     pub fn is_closed(&self) -> bool {
         self.closed
     }

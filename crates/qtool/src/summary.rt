@@ -1,4 +1,4 @@
-//! The lines that a server's run prints, with units or as JSON.
+//! Prints the lines of a server's run, with units or as JSON.
 
 use std::alloc::{AllocError, Global};
 
@@ -38,7 +38,7 @@ static TIMES: [Entry; 5] = [
     },
 ];
 
-/// What is known of a line's name, if it is one of the times.
+/// Returns the entry of a line's name, if it is one of the times.
 fn entry_of(name: &str) -> Option<&'static Entry> {
     for entry in &TIMES {
         if entry.name == name {
@@ -48,7 +48,7 @@ fn entry_of(name: &str) -> Option<&'static Entry> {
     None
 }
 
-/// The same lines, each `NAME NUMBER`, with the units of the times behind.
+/// Returns the lines, each `NAME NUMBER`, with the units of the times behind.
 pub fn with_units(alloc: Global, lines: &str) -> Result<String, AllocError> {
     let mut text = String::new(alloc);
     for line in lines.lines() {
@@ -68,7 +68,7 @@ fn unit_of(name: &str) -> &'static str {
     }
 }
 
-/// The lines, each `NAME NUMBER`, as an object of JSON in a line.
+/// Returns the lines, each `NAME NUMBER`, as an object of JSON in one line.
 pub fn json_of(alloc: Global, lines: &str) -> Result<String, AllocError> {
     let mut text = String::from_str(alloc, "{")?;
     for line in lines.lines() {
@@ -83,7 +83,7 @@ pub fn json_of(alloc: Global, lines: &str) -> Result<String, AllocError> {
     Ok(text)
 }
 
-/// `"KEY": NUMBER`
+/// Adds `"KEY": NUMBER`.
 fn push_member(text: &mut String, name: &str, number: &str) -> Result<(), AllocError> {
     let key = match entry_of(name) {
         Some(entry) => entry.key,

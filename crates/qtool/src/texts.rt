@@ -1,12 +1,12 @@
-//! The texts of the help.
+//! The help texts.
 
 /// The version of the program.
 pub const VERSION: &str = "0.10.0";
 
-/// What the program is.
+/// The program, in a line.
 pub const ABOUT: &str = "A kernel of synchronous messages, after QNX Neutrino's";
 
-/// Below the help of the program.
+/// The text below the help of the program.
 pub const EXAMPLE: &str = "This is the program of Balsaeuchre, whose kernel is proved.
 
 Example:
@@ -22,10 +22,10 @@ fails; 4 where a worker fails, or a search didn't look at all. Where nobody read
 output any more, as behind '| head -1', the program ends without a message, with
 status 141.";
 
-/// What `script` does, in a line.
+/// The work of `script`, in a line.
 pub const SCRIPT_ABOUT: &str = "Runs a script and prints what its calls answer";
 
-/// What `script` does.
+/// The work of `script`.
 pub const SCRIPT_LONG: &str = "Runs a script and prints what its calls answer.
 
 A script is a line for each thread, with its process and its priority, and
@@ -128,7 +128,7 @@ It runs as its plain script, in which each name is replaced by its number; --pla
 prints that. All faults, and all that isn't as expected in the run, are told on
 standard error, as 'qdemo: FILE:4:27: expected ..'. docs/SCRIPTS.md has all forms.";
 
-/// Below the help of `script`.
+/// The text below the help of `script`.
 pub const SCRIPT_EXAMPLE: &str = "Example:
   input            output
   thread 1 1 10
@@ -144,10 +144,10 @@ Status: 0; 1 for a faulty script, a run that isn't as its script expects, or wit
 --strict where a call failed; 2 for a faulty command line; 3 where reading, writing
 or memory fails; 141 where nobody reads the output.";
 
-/// What `check` does, in a line.
+/// The work of `check`, in a line.
 pub const CHECK_ABOUT: &str = "Runs scripts and compares what they print with their traces";
 
-/// What `check` does.
+/// The work of `check`.
 pub const CHECK_LONG: &str = "Runs scripts and compares what they print with their traces.
 
 A PATH is a script, or a folder, of which each file NAME.txt is one. NAME.trace
@@ -161,7 +161,7 @@ design, and NAME.verdict what 'qdemo explore' has to tell of it.
 
 With --update a trace or a verdict that is missing or differs is written.";
 
-/// Below the help of `check`.
+/// The text below the help of `check`.
 pub const CHECK_EXAMPLE: &str = "Example:
   $ qdemo check data
   first-message: as its trace says
@@ -175,10 +175,10 @@ Status: 0 where all are the same or written; 1 where one differs, is faulty or h
 no trace; 2 for a faulty command line; 3 where a file can't be read or written, a
 folder has no script, or memory fails; 141 where nobody reads the output.";
 
-/// What `play` does, in a line.
+/// The work of `play`, in a line.
 pub const PLAY_ABOUT: &str = "Reads calls and commands, and answers each at once";
 
-/// What `play` does.
+/// The work of `play`.
 pub const PLAY_LONG: &str = "Reads calls and commands, and answers each at once.
 
 Each line is one of a script, as 'qdemo help script' describes them, and what it
@@ -205,7 +205,7 @@ is that of 'qdemo script' for the same lines.
 For each line the script is run anew, so that 'undo' can go back. It is meant for
 some thousand lines, or some hundred with names, not for more.";
 
-/// Below the help of `play`.
+/// The text below the help of `play`.
 pub const PLAY_EXAMPLE: &str = "Example:
   $ qdemo play
   > thread 1 1 10
@@ -226,11 +226,11 @@ Status: 0; 1 for a faulty FILE, or for a faulty line or a call that isn't as
 expected where the input is no terminal; 2 for a faulty command line; 3 where
 reading, writing or memory fails; 141 where nobody reads the output.";
 
-/// What `chart` does, in a line.
+/// The work of `chart`, in a line.
 pub const CHART_ABOUT: &str =
     "Draws the run of a script: its threads, messages, answers and pulses";
 
-/// What `chart` does.
+/// The work of `chart`.
 pub const CHART_LONG: &str = "Draws the run of a script: its threads, messages, answers and pulses.
 
 A line goes down for each thread, with its state as a bar, and an arrow for each
@@ -241,7 +241,7 @@ a terminal and with --text, and else SVG, which a browser shows. docs/CHARTS.md 
 how to read it. At most 400 calls can be drawn: of a longer script draw a part, by
 --from and --to. 'qdemo help script' describes scripts.";
 
-/// Below the help of `chart`.
+/// The text below the help of `chart`.
 pub const CHART_EXAMPLE: &str = "Example:
   $ qdemo chart first-message.txt -o run.svg
 
@@ -249,10 +249,10 @@ Status: 0; 1 for a faulty script, or one of too many calls; 2 for a faulty comma
 line, or a drawing that would be written over its script; 3 where reading, writing
 or memory fails; 141 where nobody reads the output.";
 
-/// What `explore` does, in a line.
+/// The work of `explore`, in a line.
 pub const EXPLORE_ABOUT: &str = "Makes every interleaving of a design, and tells what goes wrong";
 
-/// What `explore` does.
+/// The work of `explore`.
 pub const EXPLORE_LONG: &str = "Makes every interleaving of a design, and tells what goes wrong.
 
 A design is a small system of servers and clients. A line begins the section of a
@@ -321,7 +321,7 @@ What is wrong is told with the fewest calls that lead to it:
 
 docs/EXPLORE.md shows it by examples. 'qdemo help script' describes calls.";
 
-/// Below the help of `explore`.
+/// The text below the help of `explore`.
 pub const EXPLORE_EXAMPLE: &str = "Example:
   $ qdemo explore designs/two-servers-mended.design
   designs/two-servers-mended.design: nothing found in all 2,218 interleavings: \
@@ -333,10 +333,10 @@ faulty design; 2 for a faulty command line; 3 where reading, writing or memory f
 4 where nothing is wrong so far, but not all was looked at: it gave up, or made some
 interleavings by chance; 141 where nobody reads the output.";
 
-/// What `serve` does, in a line.
+/// The work of `serve`, in a line.
 pub const SERVE_ABOUT: &str = "Runs a server and its clients on threads, and prints what they did";
 
-/// What `serve` does.
+/// The work of `serve`.
 pub const SERVE_LONG: &str = "Runs a server and its clients on threads, and prints what they did.
 
 Each client makes its rounds: it sends a pulse, and then a message for the echo
@@ -378,7 +378,7 @@ run that would be longer no file is written.
 Where standard error is a terminal, a line on it shows how far a run is that takes
 more than half a second. It is gone at the end, and --quiet leaves it out.";
 
-/// Below the help of `serve`.
+/// The text below the help of `serve`.
 pub const SERVE_EXAMPLE: &str = "Example:
   $ qdemo serve --clients 2 --servers 1 --rounds 1
   sent 2

@@ -1,11 +1,11 @@
-//! How interleavings end that have nothing wrong, in words.
+//! Words how interleavings without a fault end.
 
 use crate::counts::push_names;
 use crate::story::Story;
 use qprograms::design::Design;
 use std::alloc::{AllocError, Global};
 
-/// The names of the threads that are at their end, or of those that wait to receive.
+/// Returns the names of the threads that are at their end, or, if `blocked`, of those that wait to receive.
 fn names<'a>(alloc: Global, story: &Story<'a>, blocked: bool) -> Result<Vec<&'a str>, AllocError> {
     let mut names = Vec::new(alloc);
     for seat in 0..story.design.threads.len() {
@@ -16,7 +16,7 @@ fn names<'a>(alloc: Global, story: &Story<'a>, blocked: bool) -> Result<Vec<&'a 
     Ok(names)
 }
 
-/// `ends with NAMES in receive, NAMES done`
+/// Returns `ends with NAMES in receive, NAMES done`.
 fn end_line(alloc: Global, story: &Story<'_>) -> Result<String, AllocError> {
     let mut line = String::from_str(alloc, "  ends with ")?;
     let servers = names(alloc, story, true)?;

@@ -1,8 +1,8 @@
 //! usage: bench CLIENTS SERVERS ROUNDS [BUFFER]
 //!
-//! Each client makes so many round trips: it sends 4 bytes with room for 8 in the reply, a server receives them into 16
-//! bytes, or into BUFFER, and replies with 4, and the client checks them. It prints the microseconds of a round trip: the
-//! time until all clients have ended, by the number of all round trips.
+//! Each client makes ROUNDS round trips: it sends 4 bytes with room for 8 in the reply, a server receives them into 16
+//! bytes, or into BUFFER, and replies with 4, and the client checks them. It prints the microseconds of a round trip:
+//! the time until all clients have ended, by the number of all round trips.
 
 use balsaeuchre::{ChannelFlags, ChannelId, Port, Received, Thread, open};
 use std::thread;

@@ -1,4 +1,4 @@
-//! A server and its clients, by the kernel alone: each of the calls, and what it brings.
+//! A server and its clients, by the kernel alone: each of the calls, and its endings.
 //! exchange          prints the endings of a run
 //! exchange --time N times N rounds of Send, Receive and Reply
 
@@ -60,7 +60,7 @@ fn mark_text(mark: Mark) -> String {
     }
 }
 
-/// Prints the endings of the event, or why there is none, and gives the mark of the first.
+/// Prints the endings of the event, or the error of the call, and returns the mark of the first ending.
 fn show(what: &str, event: Result<Endings<'_>, Errno>) -> Option<Mark> {
     let endings = match event {
         Ok(endings) => endings,

@@ -1,4 +1,4 @@
-//! The calls, under QNX Neutrino's names, each of which waits for its end and returns what it is for.
+//! The calls, under QNX Neutrino's names. Each waits until the call ends, and returns its result.
 
 use crate::errors::{CallError, Result};
 use crate::ids::{ChannelFlags, ChannelId, ConnectionId, ReceiveId};
@@ -7,7 +7,7 @@ use crate::port::Port;
 use crate::results::{Answer, Info, Pulse, Received, Request, State};
 use crate::shared::FRONT;
 
-/// The result that a mark is of.
+/// The result of a mark.
 macro_rules! result {
     ($mark:expr, $pattern:pat => $result:expr) => {
         if let $pattern = $mark { Ok($result) } else { Err(CallError::Unexpected) }
@@ -16,8 +16,8 @@ macro_rules! result {
 
 /// Channels and connections.
 impl Port {
-    /// Creates a channel that the thread's process owns (`ChannelCreate`). Refused with `Inval` if a flag is unknown, and
-    /// `Again` at 64 open channels.
+    /// Creates a channel that the thread's process owns (`ChannelCreate`). Refused with `Inval` if a flag is unknown,
+    /// and `Again` at 64 open channels.
     pub fn channel_create(&mut self, flags: ChannelFlags) -> Result<ChannelId> {
         result!(self.call(Call::ChannelCreate { flags })?, Mark::Channel(chid) => chid)
     }
@@ -34,8 +34,8 @@ impl Port {
         result!(self.call(Call::ConnectAttach { chid })?, Mark::Connection(coid) => coid)
     }
 
-    /// Detaches a connection of the thread's process, and cuts each send over it (`ConnectDetach`). Refused with `Inval`
-    /// if the connection isn't live or is another process's, and `Again` if a pulse is due at 1,024 of them.
+    /// Detaches a connection of the thread's process, and cuts each send over it (`ConnectDetach`). Refused with
+    /// `Inval` if the connection isn't live or is another process's, and `Again` if a pulse is due while 1,024 wait.
     pub fn connect_detach(&mut self, coid: ConnectionId) -> Result<()> {
         result!(self.call(Call::ConnectDetach { coid })?, Mark::Done => ())
     }
@@ -44,14 +44,15 @@ impl Port {
 /// Messages.
 impl Port {
     /// Sends a message over a connection, and sleeps until it is answered in the buffer (`MsgSend`). Message and buffer
-    /// are copied whole. Refused with `Badf` if the connection isn't live, is another process's, or its channel isn't open.
+    /// are copied whole. Refused with `Badf` if the connection isn't live, is another process's, or its channel isn't
+    /// open.
     pub fn msg_send<'b>(&mut self, coid: ConnectionId, message: &[u8], buffer: &'b mut [u8]) -> Result<Answer<'b>> {
         let mark = self.make(true, buffer, |reply_buffer| Call::Send { coid, message, reply_buffer })?;
         result!(mark, Mark::Replied { status, copied } => Answer { status, copied, buffer })
     }
 
-    /// Takes a message, into the buffer, or a pulse of a channel, and sleeps until there is one (`MsgReceive`). Refused
-    /// with `Srch` if the channel isn't open or is another process's.
+    /// Receives a message, into the buffer, or a pulse of a channel, and sleeps until there is one (`MsgReceive`).
+    /// Refused with `Srch` if the channel isn't open or is another process's.
     pub fn msg_receive<'b>(&mut self, chid: ChannelId, buffer: &'b mut [u8]) -> Result<Received<'b>> {
         match self.make(true, buffer, |buffer| Call::Receive { chid, buffer: &buffer[..buffer.len().min(FRONT)] })? {
             Mark::Message { rcvid, info } => {
@@ -61,7 +62,7 @@ impl Port {
         }
     }
 
-    /// Answers a held message with a status and bytes, of which the sender gets as many as its buffer has room for
+    /// Answers a held message with a status and bytes; the sender gets as many bytes as its buffer has room for
     /// (`MsgReply`). Refused with `Srch` if the message isn't held, or its channel is another process's.
     pub fn msg_reply(&mut self, rcvid: ReceiveId, status: i64, bytes: &[u8]) -> Result<()> {
         result!(self.call(Call::Reply { rcvid, status, bytes })?, Mark::Done => ())
@@ -80,13 +81,13 @@ impl Port {
         result!(mark, Mark::Count(count) => &buffer[..count])
     }
 
-    /// Writes bytes over the reply buffer of a held message's sender, from the offset on, and returns how many had room
+    /// Writes bytes over the reply buffer of a held message's sender, from the offset on, and returns how many fitted
     /// (`MsgWrite`). Refused as `msg_reply`.
     pub fn msg_write(&mut self, rcvid: ReceiveId, offset: usize, bytes: &[u8]) -> Result<usize> {
         result!(self.call(Call::Write { rcvid, offset, bytes })?, Mark::Count(count) => count)
     }
 
-    /// Tells of a held message: its sender, its connection, and its lengths in bytes (`MsgInfo`). Refused as
+    /// Returns the sender of a held message, its connection, and its lengths in bytes (`MsgInfo`). Refused as
     /// `msg_reply`.
     pub fn msg_info(&mut self, rcvid: ReceiveId) -> Result<Info> {
         result!(self.call(Call::Info { rcvid })?, Mark::Info(info) => info)
@@ -96,14 +97,14 @@ impl Port {
 /// Pulses.
 impl Port {
     /// Sends a pulse with a priority, 1 to 255, a code, 0 to 127, and a value over a connection, and goes on at once
-    /// (`MsgSendPulse`). Refused with `Badf` as `msg_send`, `Inval` if the code or the priority is outside its range, and
-    /// `Again` if 1,024 pulses wait on the channel.
+    /// (`MsgSendPulse`). Refused with `Badf` as `msg_send`, `Inval` if the code or the priority is outside its range,
+    /// and `Again` if 1,024 pulses wait on the channel.
     pub fn msg_send_pulse(&mut self, coid: ConnectionId, priority: u8, code: i8, value: i32) -> Result<()> {
         result!(self.call(Call::Pulse { coid, priority, code, value })?, Mark::Done => ())
     }
 
-    /// Takes a pulse of a channel, and sleeps until there is one; messages stay (`MsgReceivePulse`). Refused with `Srch`
-    /// if the channel isn't open or is another process's.
+    /// Receives a pulse of a channel, and sleeps until there is one; messages stay in the queue (`MsgReceivePulse`).
+    /// Refused with `Srch` if the channel isn't open or is another process's.
     pub fn msg_receive_pulse(&mut self, chid: ChannelId) -> Result<Pulse> {
         let mark = self.make(true, &mut [], |_| Call::ReceivePulse { chid })?;
         result!(mark, Mark::Pulse { pulse, .. } => pulse)
@@ -112,27 +113,27 @@ impl Port {
 
 /// Threads, and the kernel's end.
 impl Port {
-    /// Gives a thread of the own process, maybe the own, another priority, 1 to 255 (`SchedSet`). Refused with `Srch` if
-    /// the thread isn't in the roster or is another process's, and `Inval` if the priority is 0.
+    /// Sets the priority, 1 to 255, of a thread of the caller's process, which may be the caller (`SchedSet`). Refused
+    /// with `Srch` if the thread isn't in the roster or is another process's, and `Inval` if the priority is 0.
     pub fn sched_set(&mut self, thread: u8, priority: u8) -> Result<()> {
         result!(self.call(Call::PrioritySet { thread, priority })?, Mark::Done => ())
     }
 
-    /// Ends what a thread of the own process is blocked in, or tells its server by a pulse if the channel has the flag
-    /// `UNBLOCK`: own profile, for a signal. Refused with `Srch` as `sched_set`, and `Again` if a pulse is due at 1,024 of
-    /// them.
+    /// Ends the call that a thread of the caller's process is blocked in. If its message is held on a channel with the
+    /// flag `UNBLOCK`, the server gets a pulse instead. Not a call of QNX; it stands for a signal. Refused with `Srch`
+    /// as `sched_set`, and `Again` if a pulse is due while 1,024 wait.
     pub fn unblock(&mut self, thread: u8) -> Result<()> {
         result!(self.call(Call::Unblock { thread })?, Mark::Done => ())
     }
 
-    /// Tells what a thread of any process does, and its priority: own profile. Refused with `Srch` if the thread isn't in
-    /// the roster.
+    /// Returns the state and the priority of a thread of any process. Not a call of QNX. Refused with `Srch` if the
+    /// thread isn't in the roster.
     pub fn state(&mut self, thread: u8) -> Result<State> {
         result!(self.call(Call::State { thread })?, Mark::State(state) => state)
     }
 
-    /// Cuts every open call, and has every later one refused with `Down`: own profile. Another thread may have done so
-    /// before.
+    /// Cuts every open call; every later call is refused with `Down`. Not a call of QNX. Refused with `Down` if another
+    /// thread did so before.
     pub fn shutdown(&mut self) -> Result<()> {
         result!(self.call(Call::Shutdown)?, Mark::Done => ())
     }

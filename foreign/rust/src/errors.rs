@@ -1,11 +1,11 @@
-//! Why there is no kernel, and why a call gives no result.
+//! The errors of opening a kernel, and of calls.
 
 use crate::kernel::{Mark, VERSION};
 use std::error::Error;
 use std::fmt;
 
-/// Why the kernel refused a call, or ended it by force. The first six carry the letters of their POSIX names; which
-/// answers which case is the kernel's own profile.
+/// The reason why the kernel refused a call, or ended it by force. The first six have the letters of their POSIX names;
+/// which error is returned in which case is the kernel's own choice.
 #[derive(Clone, Copy, Debug, PartialEq, Eq, Hash)]
 pub enum Errno {
     /// No such thread, channel or held message; ended by a destroyed channel or a shutdown.
@@ -26,13 +26,13 @@ pub enum Errno {
     Down,
     /// The kernel has made all the 2^40 calls that it can number.
     Exhausted,
-    /// The kept trace is full; no function here answers it.
+    /// The kept trace is full; no function here returns it.
     TraceFull,
     /// The thread isn't in the roster.
     NoThread,
 }
 
-/// By its number in the library, less 1.
+/// The errors and their messages, by the number in the library less 1.
 const ERRNOS: [(Errno, &str); 11] = [
     (Errno::Srch, "no such thread, channel or held message"),
     (Errno::Badf, "no such connection"),
@@ -48,7 +48,7 @@ const ERRNOS: [(Errno, &str); 11] = [
 ];
 
 impl Errno {
-    /// The error of a number that isn't 0.
+    /// Returns the error with this number, which isn't 0.
     pub(crate) fn of(number: u32) -> Errno {
         ERRNOS[number as usize - 1].0
     }
@@ -62,13 +62,14 @@ impl fmt::Display for Errno {
 
 impl Error for Errno {}
 
-/// Why there is no kernel.
+/// The reason why a kernel can't be opened.
 #[derive(Clone, Copy, Debug, PartialEq, Eq)]
 pub enum OpenError {
-    /// `Inval` if a thread has the priority 0 or its number stands twice, `Again` if there are too many, `NoMemory` if the
-    /// allocator refused.
+    /// `Inval` if a thread has the priority 0 or its number comes twice, `Again` if there are too many, `NoMemory` if
+    /// the allocator refused.
     Refused(Errno),
-    /// The library that is linked is of another version: a hundred times the first number and then the second.
+    /// The linked library has another version than the package. Both are a hundred times the first number plus the
+    /// second.
     #[allow(missing_docs)] // a field is what its name says
     Version { library: u32, package: u32 },
 }
@@ -90,24 +91,24 @@ impl fmt::Display for OpenError {
 
 impl Error for OpenError {}
 
-/// What a call returns.
+/// The result of a call.
 pub type Result<T> = std::result::Result<T, CallError>;
 
-/// Why a call gives no result.
+/// The error of a call.
 #[derive(Clone, Copy, Debug, PartialEq, Eq)]
 pub enum CallError {
-    /// The kernel refused the call. It changed nothing.
+    /// The kernel refused the call, which changed nothing.
     Refused(Errno),
     /// The call was blocked, and was ended by force: `Srch` by `channel_destroy` or `shutdown`, `Badf` by
     /// `connect_detach`, `Intr` by `unblock`.
     Cut(Errno),
     /// The call was blocked for longer than its [`timeout`](crate::Port::timeout).
     TimedOut,
-    /// The server answered the message with this code, by `msg_error`. It isn't 0.
+    /// The server answered the message with this code, which isn't 0, by `msg_error`.
     Code(i32),
     /// The allocator refused.
     NoMemory,
-    /// The call ended with the result of another kind of call. A lawful kernel ends none so.
+    /// The call ended with the result of another kind of call, which a correct kernel never returns.
     Unexpected,
 }
 
@@ -133,7 +134,7 @@ impl From<Errno> for CallError {
     }
 }
 
-/// What a thread gets of its call's end, before which it may have waited.
+/// Returns the result of a call that ended with this mark; `waited` says whether the call was blocked.
 pub(crate) fn outcome(mark: Mark, waited: bool) -> Result<Mark> {
     match mark {
         Mark::Failed(errno) if waited && errno != Errno::NoMemory => Err(CallError::Cut(errno)),

@@ -1,31 +1,31 @@
-//! What names a channel, a connection and a held message.
+//! The ids of channels, connections and held messages.
 
 use std::ops::BitOr;
 
-/// A channel. Its number is never another channel's of the same kernel.
+/// The id of a channel. A kernel gives each number to only one channel.
 #[derive(Clone, Copy, Debug, PartialEq, Eq, PartialOrd, Ord, Hash)]
 pub struct ChannelId(pub u64);
 
-/// A connection of a process to a channel. Its number is never another connection's of the same kernel.
+/// The id of a connection of a process to a channel. A kernel gives each number to only one connection.
 #[derive(Clone, Copy, Debug, PartialEq, Eq, PartialOrd, Ord, Hash)]
 pub struct ConnectionId(pub u64);
 
-/// A message that was received and isn't answered. Its number is never another message's of the same kernel.
+/// The id of a message that is received and not answered. A kernel gives each number to only one message.
 #[derive(Clone, Copy, Debug, PartialEq, Eq, PartialOrd, Ord, Hash)]
 pub struct ReceiveId(pub u64);
 
-/// What a server asks of its channel as it creates it. The bits are the kernel's own, none of QNX's.
+/// The flags with which a server creates a channel. The bits are the kernel's own, not QNX's.
 #[derive(Clone, Copy, Debug, PartialEq, Eq, Hash, Default)]
 pub struct ChannelFlags(pub u8);
 
 impl ChannelFlags {
-    /// None.
+    /// No flags.
     pub const NONE: ChannelFlags = ChannelFlags(0);
     /// A receipt leaves the receiver's priority as it is.
     pub const FIXED_PRIORITY: ChannelFlags = ChannelFlags(1);
-    /// The server is told by a pulse of a client that wants to be unblocked.
+    /// The server gets a pulse when a client whose message it holds is to be unblocked.
     pub const UNBLOCK: ChannelFlags = ChannelFlags(2);
-    /// The server is told by a pulse of a process that detached its last connection.
+    /// The server gets a pulse when a process has detached its last connection.
     pub const DISCONNECT: ChannelFlags = ChannelFlags(4);
 }
 

@@ -1,4 +1,4 @@
-//! A thread's way to a kernel, and how its calls wait.
+//! The port of a thread, by which it calls the kernel, and the waiting of its calls.
 
 use crate::errors::{CallError, Errno, OpenError, Result, outcome};
 use crate::kernel::{Call, Mark, Thread};
@@ -10,14 +10,14 @@ use std::sync::Arc;
 use std::thread;
 use std::time::{Duration, Instant};
 
-/// When a timeout is tried again that the kernel refused, since a limit is reached or memory is out.
+/// The time until a timeout is tried again that the kernel refused, since a limit is reached or memory is out.
 const AGAIN: Duration = Duration::from_millis(1);
 
-/// A thread's way to a kernel. Its calls sleep where they have to wait.
+/// A thread's access to a kernel. Its calls sleep while they wait.
 ///
 /// A port may go to another thread of the program between two calls. If a thread panics while it has a port, the kernel
-/// is shut down, so that nobody waits for it for ever. A port that is dropped otherwise makes no more calls, and who
-/// waits for its answer goes on waiting.
+/// is shut down, so that nobody waits for it for ever. A port that is dropped otherwise makes no more calls, and a
+/// client that waits for its answer goes on waiting.
 pub struct Port {
     pub(crate) shared: Arc<Shared>,
     at: usize,
@@ -26,17 +26,18 @@ pub struct Port {
     looks: u32,
 }
 
-/// A kernel of these threads, without channels: a port for each thread, in the order given.
+/// Opens a kernel of these threads, and returns a port for each, in the order given.
 ///
-/// Refused with `Inval` if a thread has the priority 0 or its number stands twice, and `Again` if there are more than 64
-/// threads, of which each process takes one more for its timeouts: a number of no other thread, from 255 down.
+/// Fails with `Inval` if a thread has the priority 0 or its number comes twice, and with `Again` if the threads and the
+/// processes are more than 64 together: for the timeouts of each process the kernel has one more thread, whose number
+/// is the greatest free one up to 255.
 pub fn open(threads: &[Thread]) -> std::result::Result<Vec<Port>, OpenError> {
     let shared = Arc::new(Shared::new(threads)?);
     let ports = threads.iter().enumerate();
     Ok(ports.map(|(at, &thread)| Port { shared: shared.clone(), at, thread, timeout: None, looks: LOOKS }).collect())
 }
 
-/// The same for a number of threads that is known beforehand.
+/// Opens a kernel of these threads, like [`open`], and returns an array with a port for each.
 ///
 /// ```
 /// use balsaeuchre::{Thread, open_array};
@@ -50,16 +51,16 @@ pub fn open_array<const N: usize>(threads: [Thread; N]) -> std::result::Result<[
 }
 
 impl Port {
-    /// Whose port it is, with the priority that the thread began with.
+    /// Returns the thread of the port, with its initial priority.
     #[must_use]
     pub fn thread(&self) -> Thread {
         self.thread
     }
 
-    /// The next call that can block, `msg_send`, `msg_receive` or `msg_receive_pulse`, waits at most so long, counted
-    /// from when it is made (`TimerTimeout`). Then it is unblocked: it returns [`CallError::TimedOut`]. If its message
-    /// was received on a channel with the flag `UNBLOCK`, the server is told by a pulse, and the call goes on waiting for
-    /// the answer.
+    /// Sets the timeout of the next call that can block, `msg_send`, `msg_receive` or `msg_receive_pulse`, counted from
+    /// the time of the call (`TimerTimeout`). When it expires, the call is unblocked, and fails with
+    /// [`CallError::TimedOut`]. If its message is held on a channel with the flag `UNBLOCK`, the server gets a pulse
+    /// instead, and the call goes on waiting for the answer.
     ///
     /// ```
     /// # use balsaeuchre::{CallError, ChannelFlags, Thread, open_array};
@@ -82,7 +83,7 @@ impl Port {
         self.make(false, &mut [], |_| call)
     }
 
-    /// Makes a call with its buffer, and waits for its end. The timeout is for the next call that can block.
+    /// Makes a call with its buffer, and waits for its end. A call that can block takes the timeout.
     pub(crate) fn make<'a>(
         &mut self,
         can_block: bool,
@@ -107,7 +108,7 @@ impl Port {
         result
     }
 
-    /// Waits for the end of the open call. If that panics, the program is aborted: the call's buffer is lent.
+    /// Waits for the end of the open call. If it panics, the program is aborted, since the call's buffer is lent.
     fn wait(&mut self, mut end: Option<Instant>) -> Result<Mark> {
         let open = Open;
         let place = &self.shared.places[self.at];
@@ -126,8 +127,8 @@ impl Port {
         }
     }
 
-    /// Unblocks this port's thread in the name of its process's clock: whether that ended its call, and when to do so
-    /// again, if the kernel refused it.
+    /// Unblocks this port's thread, by a call of its process's clock. Returns whether that ended the thread's call, and
+    /// the time to try again if the kernel refused it.
     fn time_out(&self) -> (bool, Option<Instant>) {
         let mut locked = self.shared.lock();
         let place = &self.shared.places[self.at];
@@ -146,7 +147,7 @@ impl Port {
     }
 }
 
-/// A call that waits. It isn't dropped before it is ended.
+/// A call that waits. It must not be dropped before it has ended.
 struct Open;
 
 impl Drop for Open {

@@ -1,27 +1,27 @@
-//! What calls return.
+//! The results of calls.
 
 use crate::ids::{ChannelId, ConnectionId, ReceiveId};
 
-/// How a server answered a message.
+/// A server's answer to a message.
 #[derive(Clone, Copy, Debug, PartialEq, Eq)]
 pub struct Answer<'b> {
     /// The status of the server's reply.
     pub status: i64,
-    /// How many bytes the server copied to the front of the buffer.
+    /// The number of bytes that the server copied to the front of the buffer.
     pub copied: usize,
-    /// The reply buffer whole. Behind the reply it is as it was, and as `msg_write` wrote it.
+    /// The whole reply buffer. Behind the reply it is unchanged, except where `msg_write` wrote.
     pub buffer: &'b [u8],
 }
 
 impl<'b> Answer<'b> {
-    /// The bytes of the reply.
+    /// Returns the bytes of the reply.
     #[must_use]
     pub fn bytes(&self) -> &'b [u8] {
         &self.buffer[..self.copied]
     }
 }
 
-/// What a receive takes.
+/// A received message or pulse.
 #[must_use = "the sender of a message waits until it is answered"]
 #[derive(Clone, Copy, Debug, PartialEq, Eq)]
 pub enum Received<'b> {
@@ -35,18 +35,18 @@ pub enum Received<'b> {
 #[must_use = "the sender of a message waits until it is answered"]
 #[derive(Clone, Copy, Debug, PartialEq, Eq)]
 pub struct Request<'b> {
-    /// By which it is answered.
+    /// The id by which it is answered.
     pub rcvid: ReceiveId,
-    /// How many of its bytes were copied to the front of the buffer.
+    /// The number of its bytes that were copied to the front of the buffer.
     pub copied: usize,
-    /// The buffer whole. Behind the message it is as it was.
+    /// The whole buffer. Behind the message it is unchanged.
     pub buffer: &'b [u8],
     /// Its sender, its connection, and its lengths.
     pub info: Info,
 }
 
 impl<'b> Request<'b> {
-    /// The bytes of the message, as many as the buffer had room for.
+    /// Returns the bytes of the message, as many as the buffer had room for.
     #[must_use]
     pub fn bytes(&self) -> &'b [u8] {
         &self.buffer[..self.copied]
@@ -56,44 +56,44 @@ impl<'b> Request<'b> {
 /// A pulse that was received.
 #[derive(Clone, Copy, Debug, PartialEq, Eq)]
 pub struct Pulse {
-    /// The priority that it was sent with.
+    /// The priority with which it was sent.
     pub priority: u8,
-    /// A thread's pulse with its code and value, or one of the kernel.
+    /// Its content: the code and value of a thread's pulse, or a pulse of the kernel.
     pub what: What,
 }
 
-/// What a pulse says.
+/// The content of a pulse.
 #[derive(Clone, Copy, Debug, PartialEq, Eq)]
 pub enum What {
     /// A thread sent it, with [`msg_send_pulse`](crate::Port::msg_send_pulse).
     User {
-        /// 0 to 127.
+        /// The code, 0 to 127.
         code: i8,
-        /// Any number.
+        /// The value, any number.
         value: i32,
     },
-    /// The sender of this held message wants to be unblocked.
+    /// The sender of this held message is to be unblocked.
     Unblock(ReceiveId),
     /// This process detached its last connection to the channel.
     Disconnect(u8),
 }
 
-/// Of a held message.
+/// The sender, the connection and the lengths of a held message.
 #[derive(Clone, Copy, Debug, PartialEq, Eq)]
 pub struct Info {
     /// The sender's process.
     pub process: u8,
-    /// The sender.
+    /// The sender's thread.
     pub thread: u8,
-    /// The priority that the message was received with.
+    /// The priority with which the message was received.
     pub priority: u8,
-    /// The connection that it was sent over.
+    /// The connection over which it was sent.
     pub connection: ConnectionId,
-    /// How many bytes were copied as the message was received.
+    /// The number of bytes that were copied when the message was received.
     pub msglen: usize,
-    /// How many bytes the message has.
+    /// The length of the message, in bytes.
     pub srcmsglen: usize,
-    /// How many bytes the reply buffer has.
+    /// The length of the reply buffer, in bytes.
     pub dstmsglen: usize,
 }
 
@@ -110,7 +110,7 @@ pub enum ThreadState {
     ReplyBlocked(ChannelId),
 }
 
-/// What a thread does.
+/// A thread's state and priority.
 #[derive(Clone, Copy, Debug, PartialEq, Eq)]
 pub struct State {
     /// Whether it is blocked, and on which channel.

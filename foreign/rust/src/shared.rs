@@ -1,4 +1,4 @@
-//! The kernel under its lock, and how the endings of a call get to their threads.
+//! The kernel under its lock. It delivers the endings of a call to their threads.
 
 use crate::errors::{Errno, OpenError};
 use crate::ids::ReceiveId;
@@ -12,66 +12,66 @@ use std::process::abort;
 use std::sync::{Mutex, MutexGuard, TryLockError};
 use std::{hint, thread};
 
-/// How often a thread looks for the lock before it sleeps. ThreadSanitizer sees of a lock only what is inlined here, so
-/// under it no thread sleeps for one.
+/// The number of tries for the lock before a thread sleeps. ThreadSanitizer sees only the part of a lock that is
+/// inlined here, so under it no thread sleeps for one.
 const LOCK_LOOKS: u32 = if cfg!(tsan) { u32::MAX } else { 100 };
-/// How many pauses are between two looks for the lock.
+/// The number of pauses between two tries for the lock.
 const LOCK_PAUSES: u32 = 8;
 
-/// How many bytes of a receive's buffer the kernel sees, which copies all of them. What a longer message has behind is
-/// read, if the buffer has room for it.
+/// The bytes of a receive's buffer that the kernel gets, and copies. The rest of a longer message is read by a second
+/// call, if the buffer has room for it.
 pub(crate) const FRONT: usize = 1024;
 
 /// The buffer of a call, which its thread lends until the call is ended.
 #[derive(Clone, Copy)]
 pub(crate) struct Lent(*mut [u8]);
 
-// SAFETY: until the call is ended nobody uses the buffer but who has the kernel's lock, by the promise of `of`.
+// SAFETY: until the call has ended only the thread with the kernel's lock uses the buffer, by the promise of `of`.
 unsafe impl Send for Lent {}
 
 impl Lent {
     /// Lends a buffer.
     ///
     /// # Safety
-    /// The buffer lives, and nobody else uses it, until the call that it is for is ended. If the lock is poisoned
-    /// before, that is never.
+    /// The buffer lives, and nobody else uses it, until its call has ended. If the lock is poisoned before that, the
+    /// call never ends.
     pub(crate) unsafe fn of(buffer: *mut [u8]) -> Lent {
         Lent(buffer)
     }
 
-    /// What the buffer holds. No slice of it is used once it is written.
+    /// Returns the content of the buffer. No slice of it may be used after a `fill`.
     pub(crate) fn bytes<'a>(self) -> &'a [u8] {
         // SAFETY: the buffer is lent; the slices are read by the kernel's call alone, which is made under the lock.
         unsafe { &*self.0 }
     }
 
-    /// Puts bytes of the kernel to the buffer, from a place on. Under the lock.
+    /// Copies bytes of the kernel into the buffer, from `start` on. The caller has the lock.
     fn fill(self, start: usize, bytes: &[u8]) {
-        // SAFETY: the buffer is lent, and who has the lock is the only one to use it.
+        // SAFETY: the buffer is lent, and only the thread with the lock uses it.
         let buffer = unsafe { &mut *self.0 };
         buffer[start..start + bytes.len()].copy_from_slice(bytes);
     }
 }
 
-/// What only who has the lock uses.
+/// The state that only the thread with the lock uses.
 pub(crate) struct Locked {
     kernel: Kernel,
     /// The buffers of the ports whose calls wait.
     lent: Box<[Option<Lent>]>,
-    /// By the number of a thread, how many bytes of its message were copied as it was received.
+    /// By the number of a thread, the bytes of its message that were copied when it was received.
     msglens: [usize; 256],
 }
 
-/// How a call ended, if it did at once, and whom to wake, behind the lock.
+/// The mark of a call that ended at once, and the threads to wake after the lock is released.
 pub(crate) type Made = (Option<Mark>, Vec<thread::Thread>);
 
 /// A kernel with the places of its ports.
 pub(crate) struct Shared {
     lock: Mutex<Locked>,
     pub(crate) places: Box<[Place]>,
-    /// By the number of a thread, which of the places is its. A clock has none.
+    /// By the number of a thread, the index of its place. A clock has none.
     place_of: [Option<usize>; 256],
-    /// By the number of a process, the thread in whose name its calls time out.
+    /// By the number of a process, its clock: the thread that unblocks calls whose timeout expired.
     pub(crate) clock_of: [u8; 256],
     #[cfg(feature = "record")]
     pub(crate) record: Record,
@@ -101,7 +101,7 @@ impl Shared {
         })
     }
 
-    /// Takes the lock. If a thread broke off with it, the program is aborted: that thread's call would never end, nor
+    /// Takes the lock. If a thread panicked with it, the program is aborted: that thread's call would never end, nor
     /// those that it was about to end, and their buffers stay lent.
     pub(crate) fn lock(&self) -> MutexGuard<'_, Locked> {
         for _ in 0..LOCK_LOOKS {
@@ -116,7 +116,7 @@ impl Shared {
 }
 
 impl Locked {
-    /// Makes a call of a thread, whose buffer is lent, and brings the endings to their threads.
+    /// Makes a call of a thread, whose buffer is lent, and delivers the endings to their threads.
     pub(crate) fn make<'a>(
         &mut self,
         shared: &Shared,
@@ -142,7 +142,7 @@ impl Locked {
             let lent = at.map_or(lent, |at| self.lent[at].take().expect("a call that ends was open"));
             lent.fill(0, ending.buffer);
             match ending.mark {
-                // An event brings one message at most.
+                // At most one message is received in an event.
                 Mark::Message { rcvid, info } => message = Some((ending.thread, at, lent, rcvid, info)),
                 Mark::Info(info) => {
                     end(at, Mark::Info(Info { msglen: self.msglens[usize::from(info.thread)], ..info }))
@@ -163,8 +163,8 @@ impl Locked {
         (own, asleep)
     }
 
-    /// Reads in the receiver's name what a message has behind the front of the buffer, and returns how many bytes that is:
-    /// none, if the kernel is out of memory.
+    /// Reads the rest of a message, behind the front of the buffer, by a call of the receiver. Returns the number of
+    /// bytes read: 0 if the kernel is out of memory.
     fn read_on(&mut self, receiver: u8, rcvid: ReceiveId, lent: Lent, rest: Range<usize>) -> usize {
         let start = rest.start;
         let read = Call::Read { rcvid, offset: start, buffer: &lent.bytes()[rest] };
@@ -174,7 +174,7 @@ impl Locked {
         count
     }
 
-    /// A port's call waits, and lends its buffer until it is ended.
+    /// Notes that a port's call waits, and keeps its lent buffer until it has ended.
     pub(crate) fn open(&mut self, shared: &Shared, at: usize, lent: Lent) {
         self.lent[at] = Some(lent);
         shared.places[at].open();

@@ -1,4 +1,4 @@
-//! The word at which a port's thread waits for the end of its call, and who wakes it.
+//! The word at which a port's thread waits for the end of its call.
 
 use crate::kernel::Mark;
 use std::cell::UnsafeCell;
@@ -7,12 +7,11 @@ use std::sync::atomic::{AtomicU32, Ordering};
 use std::thread::{self, Thread};
 use std::time::Instant;
 
-/// How often a thread looks at its word at most before it sleeps, with a pause between: half as often where that was in
-/// vain.
+/// The most looks of a thread at its word before it sleeps, with a pause between them. Looks in vain halve the number
+/// for the next call.
 pub(crate) const LOOKS: u32 = 2000;
 
-/// How often at least: for some microseconds. With fewer looks two threads that slept once would never see an answer come
-/// again.
+/// The fewest looks, which take some microseconds. With fewer, two threads that slept once would always sleep.
 const LEAST_LOOKS: u32 = LOOKS / 5;
 
 /// The call is open, and its thread isn't asleep.
@@ -22,19 +21,20 @@ const ASLEEP: u32 = 1;
 /// The call is ended.
 const ENDED: u32 = 2;
 
-/// Where a port's thread waits. Its owner is the port. Who has the kernel's lock ends its call.
+/// The place where a port's thread waits. Its owner is the port. A thread with the kernel's lock ends its call.
 pub(crate) struct Place {
     word: AtomicU32,
     /// How the call ended.
     mark: UnsafeCell<Mark>,
-    /// Whom to wake.
+    /// The thread to wake.
     sleeper: UnsafeCell<Option<Thread>>,
 }
 
-// SAFETY: both are used under the rules of the functions below. A mark is written by `end`, of which there is one for each
-// `open`, before that releases ENDED; the owner reads it after it acquired ENDED, and opens its next call afterwards. A
-// sleeper is written by the owner, before it releases ASLEEP; `end` reads it after it acquired ASLEEP, under the kernel's
-// lock, and the owner writes another one in its next call at the earliest, for which it took that lock.
+// SAFETY: both are used under the rules of the functions below. A mark is written by `end`, of which there is one for
+// each `open`, before that releases ENDED; the owner reads it after it acquired ENDED, and opens its next call
+// afterwards. A sleeper is written by the owner, before it releases ASLEEP; `end` reads it after it acquired ASLEEP,
+// under the kernel's lock, and the owner writes another one in its next call at the earliest, for which it took that
+// lock.
 unsafe impl Sync for Place {}
 
 impl Place {
@@ -42,7 +42,7 @@ impl Place {
         Place { word: AtomicU32::new(ENDED), mark: UnsafeCell::new(Mark::Done), sleeper: UnsafeCell::new(None) }
     }
 
-    /// The owner's call begins. Under the kernel's lock, so that no `end` comes before it.
+    /// Begins a call of the owner, which has the kernel's lock, so that no `end` comes first.
     pub(crate) fn open(&self) {
         self.word.store(OPEN, Ordering::Relaxed);
     }
@@ -51,7 +51,7 @@ impl Place {
         self.word.load(Ordering::Acquire) == ENDED
     }
 
-    /// Ends the owner's call with this mark, and returns whom to wake.
+    /// Ends the owner's call with this mark, and returns the thread to wake, if it sleeps.
     ///
     /// # Safety
     /// The caller has the kernel's lock, and the call is open: this is the one `end` of its `open`.
@@ -64,16 +64,17 @@ impl Place {
         is_asleep.then(|| unsafe { (*self.sleeper.get()).clone() }).flatten()
     }
 
-    /// How the call ended.
+    /// Returns the mark of the call.
     ///
     /// # Safety
-    /// The caller is the owner, `is_ended` said so, and no call was opened since.
+    /// The caller is the owner, `is_ended` returned true, and no call was opened since.
     pub(crate) unsafe fn take(&self) -> Mark {
         // SAFETY: the call is ended, and the next isn't open.
         unsafe { *self.mark.get() }
     }
 
-    /// Looks for the end for a while, and returns whether it came. `looks` is how often, and learns from it.
+    /// Looks at the word up to `looks` times, and returns whether the call has ended. Doubles `looks` if it has, and
+    /// halves it if not.
     pub(crate) fn look(&self, looks: &mut u32) -> bool {
         for _ in 0..*looks {
             if self.is_ended() {
@@ -86,10 +87,10 @@ impl Place {
         self.is_ended()
     }
 
-    /// Sleeps until the call is ended, and returns true, or until the time is over, and returns false.
+    /// Sleeps until the call has ended, and returns true, or until the time `end`, and returns false.
     ///
     /// # Safety
-    /// The caller is the owner, with a call that it opened and didn't see ended.
+    /// The caller is the owner, has opened a call, and hasn't seen it ended.
     pub(crate) unsafe fn sleep(&self, end: Option<Instant>) -> bool {
         if self.word.load(Ordering::Relaxed) == OPEN {
             // SAFETY: the word isn't ASLEEP, so nobody else uses the sleeper.

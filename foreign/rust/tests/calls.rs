@@ -1,4 +1,4 @@
-//! Each call by itself, and each error that it is refused with.
+//! Each call alone, and each error with which it is refused.
 
 mod common;
 
@@ -101,7 +101,7 @@ fn a_message_that_is_not_held() {
         thread::scope(|scope| {
             scope.spawn(|| client.msg_send(to, b"a", &mut []).unwrap());
             let rcvid = message(server.msg_receive(channel, &mut []));
-            // Of another process's channel.
+            // The channel is another process's.
             assert_eq!(other.msg_reply(rcvid, 0, b""), refused(Errno::Srch));
             server.msg_reply(rcvid, 0, b"").unwrap();
             for stale in [rcvid, ReceiveId(rcvid.0 + 1), ReceiveId(0)] {
@@ -255,7 +255,7 @@ fn all_calls_are_refused_after_shutdown() {
     });
 }
 
-/// As many bytes as a message of this number has, or its receive buffer.
+/// Returns the length of the message with this number, or of its receive buffer: at most `most`, or about 8,000.
 fn spread(number: usize, most: usize) -> usize {
     match number % 5 {
         0 => number * 7919 % most,

@@ -11,7 +11,7 @@ use std::time::Duration;
 
 /// The pulse that ends a server.
 const STOP: i8 = 7;
-/// What a server answers a client that wants to be unblocked.
+/// The code with which a server answers a client that is to be unblocked.
 const LATE: i32 = -9;
 
 fn answer(port: &mut Port, to: ConnectionId, request: Request<'_>) {
@@ -44,7 +44,7 @@ fn serve(port: &mut Port, channel: ChannelId, to: ConnectionId) -> usize {
     }
 }
 
-/// Sends so often, each time with another timeout if it times, and returns how many sends were late.
+/// Sends `rounds` times, each time with another timeout if `times` is set. Returns the number of sends that timed out.
 fn send(port: &mut Port, to: ConnectionId, rounds: usize, times: bool) -> usize {
     let me = port.thread().thread;
     let mut late = 0;
@@ -93,7 +93,7 @@ fn echo(clients: usize, servers: usize, rounds: usize, times: bool) {
     made_again(&mut last);
 }
 
-/// How many round trips a test makes, of all clients.
+/// Returns the number of round trips of a test, of all clients together.
 fn rounds() -> usize {
     std::env::var("ROUNDS").map_or(4000, |word| word.parse().unwrap())
 }

@@ -1,4 +1,4 @@
-//! The rosters that are refused, and what errors say.
+//! The rosters that are refused, and the messages of errors.
 
 use balsaeuchre::kernel::{Call, Kernel};
 use balsaeuchre::{CallError, Errno, OpenError, Thread, open, open_array};

@@ -1,5 +1,5 @@
-//! Threads that make calls at random, of every kind, until one of them shuts the kernel down. With the feature `record` all
-//! of it is made again by one thread.
+//! Threads that make calls at random, of every kind, until one of them shuts the kernel down. With the feature `record`
+//! one thread makes all these calls again.
 
 mod common;
 
@@ -11,7 +11,7 @@ use std::sync::atomic::{AtomicU64, Ordering};
 use std::thread;
 use std::time::Duration;
 
-/// Ids that calls brought, for any thread to use.
+/// Ids that calls returned, for any thread to use.
 #[derive(Default)]
 struct Known {
     channels: [AtomicU64; 3],
@@ -19,7 +19,7 @@ struct Known {
     messages: [AtomicU64; 6],
 }
 
-/// Numbers at random, from a seed.
+/// Random numbers, from a seed.
 struct Random(u64);
 
 impl Random {
@@ -67,7 +67,7 @@ fn answer(port: &mut Port, random: &mut Random, rcvid: ReceiveId) -> Result<(), 
     }
 }
 
-/// Makes a call at random.
+/// Makes a random call.
 fn call(port: &mut Port, random: &mut Random, known: &Known) -> Result<(), CallError> {
     if random.below(3) > 0 {
         port.timeout(Duration::from_micros(random.below(300)));
@@ -103,8 +103,8 @@ fn call(port: &mut Port, random: &mut Random, known: &Known) -> Result<(), CallE
     Ok(())
 }
 
-/// Ends what threads of the port's process are blocked in, and answers messages that it holds, at random, so that the
-/// others go on.
+/// Ends calls that threads of the port's process are blocked in, and answers messages that it holds, at random, so that
+/// the others go on.
 fn help(port: &mut Port, random: &mut Random, known: &Known) {
     let _ = port.unblock(random.below(6) as u8);
     let _ = port.msg_error(ReceiveId(random.known(&known.messages)), 1);

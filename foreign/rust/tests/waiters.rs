@@ -1,4 +1,4 @@
-//! How calls that wait are ended by force, and ports whose threads change or panic.
+//! Calls that wait and are ended by force, and ports whose threads change or panic.
 
 mod common;
 
@@ -36,7 +36,7 @@ fn timed_out_while_receive_blocked() {
         let channel = server.channel_create(ChannelFlags::NONE).unwrap();
         assert_eq!(server.timeout(MILLI).msg_receive(channel, &mut []), Err(CallError::TimedOut));
         assert_eq!(server.timeout(MILLI).msg_receive_pulse(channel), Err(CallError::TimedOut));
-        // The timeout waits for a call that can block, and is that call's alone.
+        // Only the next call that can block takes the timeout.
         server.timeout(MILLI);
         server.state(1).unwrap();
         assert_eq!(server.msg_receive(channel, &mut []), Err(CallError::TimedOut));
@@ -96,7 +96,7 @@ fn the_server_is_told_of_a_timeout() {
     });
 }
 
-/// The pulse that a timeout brings has no room at first.
+/// The queue is full at first, so that the pulse of a timeout is refused.
 #[test]
 fn a_timeout_is_tried_again() {
     within(|| {
@@ -160,7 +160,7 @@ fn detached_under() {
     });
 }
 
-/// A port for each of so many servers and clients, and one of the servers' process beside.
+/// Returns the ports of this many servers and clients, and one more of the servers' process.
 fn many(servers: usize, clients: usize) -> (Vec<Port>, Vec<Port>, Port) {
     let thread = |at: usize| Thread::new(at as u8 + 1, if at <= servers { SERVER } else { CLIENT }, 9);
     let threads: Vec<Thread> = (0..=servers + clients).map(thread).collect();
@@ -170,7 +170,7 @@ fn many(servers: usize, clients: usize) -> (Vec<Port>, Vec<Port>, Port) {
     (ports, clients, last)
 }
 
-/// Ends calls in each of the states in which one waits, by this call.
+/// Ends calls in each state in which a call waits, by `end`.
 fn ends_all(end: impl FnOnce(&mut Port, balsaeuchre::ChannelId)) {
     let (servers, mut clients, mut last) = many(3, 6);
     let flags = ChannelFlags::UNBLOCK | ChannelFlags::DISCONNECT;
@@ -194,7 +194,7 @@ fn ends_all(end: impl FnOnce(&mut Port, balsaeuchre::ChannelId)) {
         for server in 1..=3 {
             until(&mut last, server, ThreadState::ReceiveBlocked(idle));
         }
-        // So that all are asleep.
+        // Waits until all are asleep.
         thread::sleep(20 * MILLI);
         end(&mut last, busy);
         senders.into_iter().for_each(|sender| assert_eq!(sender.join().unwrap(), Some(CallError::Cut(Errno::Srch))));
@@ -247,15 +247,16 @@ fn a_port_goes_to_another_thread() {
     });
 }
 
-/// A port that is passed on at once, while who ended its call may still be about to wake the thread that had it: those
-/// threads wake for no reason all the time.
+/// A port is passed on at once, while the thread that ended its call may still be about to wake the thread that had it.
+/// So these threads often wake for no reason.
 #[test]
 fn a_port_is_passed_on_while_it_is_woken() {
     within(|| {
         let [mut server, mut client, _] = few();
         let channel = server.channel_create(ChannelFlags::NONE).unwrap();
         let to = client.connect_attach(channel).unwrap();
-        // The two threads take turns. ThreadSanitizer sees of a lock only what is inlined here, so nobody sleeps for one.
+        // The two threads take turns. ThreadSanitizer sees only the part of a lock that is inlined here, so nobody
+        // sleeps for one.
         let (client, turn) = (Mutex::new(client), AtomicUsize::new(0));
         let send = |odd: usize| {
             for round in 0..150 {

@@ -1,4 +1,4 @@
-//! A handle's session, lent.
+//! Lends a handle's session.
 
 ghost use Rattle.std.specs.Prelude.{◌≡◌};
 ghost use Rattle.std.specs.Borrow.{sem};
@@ -8,7 +8,7 @@ use super::Handle;
 use crate::session::Session;
 
 impl Handle {
-    /// The session behind it.
+    /// Returns the session behind the handle.
     pub fn get_mut(&mut self) -> &mut Session
         ensures* writes_back { sem 𝓛 (LendsSession self.entry result) }
         ensures value { result.now ≡ self.old.session }

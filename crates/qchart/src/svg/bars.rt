@@ -1,21 +1,21 @@
-//! How long a thread is in each state.
+//! The bars of a thread, one for each stay in a state.
 
 use crate::chart::Chart;
 use qbase::ids::ThreadNo;
 use qbase::state::ThreadState;
 use std::alloc::{AllocError, Global};
 
-/// A state of a thread from a call to another.
+/// A state of a thread, from one call to another.
 #[derive(Clone, Copy, Debug)]
 pub struct Bar {
     pub state: ThreadState,
-    /// The number of the call after which it is in the state; 0 for the begin.
+    /// The number of the call after which the thread is in the state; 0 for the start.
     pub after: usize,
-    /// The number of the call that ends the state; `None` where it lasts to the end.
+    /// The number of the call that ends the state; `None` if it lasts to the end.
     pub until: Option<usize>,
 }
 
-/// The states of a thread one after another, from that before the first row on.
+/// Returns the states of a thread one after another, from the one before the first row on.
 pub fn bars_of(alloc: Global, chart: &Chart, thread: ThreadNo) -> Result<Vec<Bar>, AllocError> {
     let mut bars = Vec::new(alloc);
     let mut state = chart.first_state(thread);

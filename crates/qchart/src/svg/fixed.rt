@@ -1,6 +1,6 @@
-//! What is the same in each drawing.
+//! The parts that are the same in each drawing.
 
-/// The styles, the patterns of the states, the heads of the arrows, and the ground.
+/// The styles, the patterns of the states, the heads of the arrows, and the background.
 pub const START: &str = "<title>A run of kernel calls, drawn from top to bottom</title>
 <style>
 text { font: 11px Verdana, 'DejaVu Sans', sans-serif; fill: #111 }
@@ -41,7 +41,7 @@ text { font: 11px Verdana, 'DejaVu Sans', sans-serif; fill: #111 }
 <rect width=\"100%\" height=\"100%\" fill=\"#fff\"/>
 ";
 
-/// The signs of the states and of the arrows, in two lines.
+/// The legend of the states and the arrows, in two lines.
 pub const LEGEND: &str =
     "<rect class=\"ready\" x=\"0\" y=\"0\" width=\"14\" height=\"18\"/><text x=\"20\" y=\"13\">ready</text>
 <rect class=\"send\" x=\"90\" y=\"0\" width=\"14\" height=\"18\"/><text x=\"110\" y=\"13\">SEND-blocked</text>

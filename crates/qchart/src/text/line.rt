@@ -1,22 +1,22 @@
-//! A line of text whose places are written in any order.
+//! A line of text that is written at places in any order.
 
 use std::alloc::{AllocError, Global};
 
-/// The characters of a line so far, all of ASCII.
+/// The characters of a line so far, all ASCII.
 #[derive(Drop)]
 pub struct Line {
     places: Vec<u8>,
 }
 
 impl Line {
-    /// An empty line.
+    /// Returns an empty line.
     pub fn new(alloc: Global) -> Line {
         Line {
             places: Vec::new(alloc),
         }
     }
 
-    /// Writes at a place, which counts from 0; there are spaces up to it.
+    /// Writes words at a place, counted from 0; spaces fill the line up to it.
     pub fn put(&mut self, place: usize, words: &str) -> Result<(), AllocError> {
         let mut at = place;
         for byte in words.bytes() {
@@ -26,7 +26,7 @@ impl Line {
         Ok(())
     }
 
-    /// The same with a space on each side; the words begin at the place.
+    /// Writes words with a space on each side; the words begin at the place.
     pub fn put_spaced(&mut self, place: usize, words: &str) -> Result<(), AllocError> {
         self.put(place.saturating_sub(1), " ")?;
         self.put(place, words)?;
@@ -41,7 +41,7 @@ impl Line {
         Ok(())
     }
 
-    /// Adds the line to a text, without spaces at its end and with a newline.
+    /// Adds the line to a text, without trailing spaces and with a newline.
     pub fn end(&self, out: &mut String) -> Result<(), AllocError> {
         let mut spaces = 0usize;
         for byte in &self.places {

@@ -1,10 +1,10 @@
-//! What a number names, in words.
+//! Says in words what a number names.
 
 use crate::history::{End, History, Past};
 use qmodel::kind::CallKind;
 use std::alloc::{AllocError, Global};
 
-/// What the call of a number did, for one that names something else by that number.
+/// Returns what the call with this number did, for a call that names something else by that number.
 pub fn call_words(alloc: Global, history: &History, number: u64) -> Result<String, AllocError> {
     if number == 0 {
         return String::from_str(alloc, "calls are numbered from 1");
@@ -15,7 +15,7 @@ pub fn call_words(alloc: Global, history: &History, number: u64) -> Result<Strin
     }
 }
 
-/// Where no call before this one has a number.
+/// Returns the words for a number that no call so far has.
 fn no_call_words(alloc: Global, history: &History, number: u64) -> Result<String, AllocError> {
     if number == history.made().saturating_add(1) {
         return format!(in alloc; "call {number} is this one");
@@ -23,7 +23,7 @@ fn no_call_words(alloc: Global, history: &History, number: u64) -> Result<String
     format!(in alloc; "call {number} isn't made yet")
 }
 
-/// What a past call did.
+/// Returns what a past call did.
 fn past_words(alloc: Global, number: u64, past: &Past) -> Result<String, AllocError> {
     if past.is_refused(number) {
         return format!(in alloc; "call {number} was refused");
@@ -37,7 +37,7 @@ fn past_words(alloc: Global, number: u64, past: &Past) -> Result<String, AllocEr
     }
 }
 
-/// What a past call was, where its end says nothing of it.
+/// Returns what a past call was, if its end doesn't say it.
 fn kind_words(alloc: Global, number: u64, kind: CallKind) -> Result<String, AllocError> {
     if kind == CallKind::Send {
         return format!(in alloc; "call {number} sent message {number}");

@@ -1,4 +1,4 @@
-//! The rules by which calls are refused, in words.
+//! Says in words which rule refused a call.
 
 use crate::found::{Delivery, Life};
 use crate::history::{History, Past};
@@ -8,7 +8,7 @@ use crate::why::names::call_words;
 use qbase::ids::ProcessNo;
 use std::alloc::{AllocError, Global};
 
-/// The rule that refused a call, with what stands there.
+/// Returns the rule that refused a call, with what the call may have meant.
 pub fn rule_words(
     alloc: Global,
     history: &History,
@@ -31,7 +31,7 @@ pub fn rule_words(
     }
 }
 
-/// A rule that says all by itself.
+/// Returns the words of a rule that need no history.
 fn plain_words(alloc: Global, reason: Reason) -> Result<String, AllocError> {
     match reason {
         Reason::Down(by) => format!(in alloc; "call {by} shut the kernel down"),
@@ -46,7 +46,7 @@ fn plain_words(alloc: Global, reason: Reason) -> Result<String, AllocError> {
     }
 }
 
-/// A rule that has no number in it.
+/// Returns the words of a rule without numbers.
 fn limit_words(reason: Reason) -> &'static str {
     match reason {
         Reason::Code => "its code is below 0, and the codes of pulses are 0 to 127",
@@ -58,7 +58,7 @@ fn limit_words(reason: Reason) -> &'static str {
     }
 }
 
-/// A call that names what another process has.
+/// Returns the words for a call that names something of another process.
 fn others(
     alloc: Global,
     history: &History,
@@ -76,7 +76,7 @@ fn others(
     )
 }
 
-/// The number of the process of the thread that makes a call.
+/// Returns the number of the process of the thread that makes a call.
 fn process_number(history: &History, past: &Past) -> u8 {
     match history.process_of(past.thread) {
         Some(process) => process.0,
@@ -93,7 +93,7 @@ fn thing_name(thing: Thing) -> &'static str {
     }
 }
 
-/// A call that names a channel which isn't there.
+/// Returns the words for a call that names a channel that doesn't exist.
 fn no_channel(
     alloc: Global,
     history: &History,
@@ -109,7 +109,7 @@ fn no_channel(
     format!(in alloc; "{channel} is no channel: {found}; {other}")
 }
 
-/// The channel that may have been meant.
+/// Returns the channel that may have been meant.
 fn likely_channel(alloc: Global, history: &History, past: &Past) -> Result<String, AllocError> {
     let leads = history.channel_of(past.operand);
     if history.channels().contains(&leads) {
@@ -121,7 +121,7 @@ fn likely_channel(alloc: Global, history: &History, past: &Past) -> Result<Strin
     }
 }
 
-/// A call that names a connection which isn't there.
+/// Returns the words for a call that names a connection that doesn't exist.
 fn no_connection(
     alloc: Global,
     history: &History,
@@ -137,7 +137,7 @@ fn no_connection(
     format!(in alloc; "{connection} is no connection: {found}; {other}")
 }
 
-/// The connection that may have been meant.
+/// Returns the connection that may have been meant.
 fn likely_connection(alloc: Global, history: &History, past: &Past) -> Result<String, AllocError> {
     let Some(process) = history.process_of(past.thread) else {
         return Ok(String::new(alloc));
@@ -151,7 +151,7 @@ fn likely_connection(alloc: Global, history: &History, past: &Past) -> Result<St
     }
 }
 
-/// A call that names a message which isn't held.
+/// Returns the words for a call that names a message that isn't held.
 fn no_message(
     alloc: Global,
     history: &History,
@@ -173,7 +173,7 @@ fn no_message(
     }
 }
 
-/// The message that may have been meant.
+/// Returns the message that may have been meant.
 fn likely_message(alloc: Global, history: &History, past: &Past) -> Result<String, AllocError> {
     let Some(process) = history.process_of(past.thread) else {
         return Ok(String::new(alloc));

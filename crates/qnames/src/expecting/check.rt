@@ -1,4 +1,4 @@
-//! Compares a run with what its script expects.
+//! Compares a run with the expectations of its script.
 
 use crate::expectation::{Activity, CallCheck, Ending, Expectation, Extent, Follower, StateCheck};
 use crate::expecting::facts::{Fact, operand_number};
@@ -11,7 +11,7 @@ use crate::line::{Kind, Place};
 use crate::scope::Scope;
 use std::alloc::{AllocError, Global};
 
-/// A run that is compared: what its names stand for, its calls and how they ended.
+/// A run to compare: what the script's names stand for, its calls, and how they ended.
 #[derive(Clone, Copy)]
 pub struct Run<'a, 'p> {
     pub scope: &'a Scope,
@@ -21,12 +21,12 @@ pub struct Run<'a, 'p> {
     pub extent: Extent,
 }
 
-/// What is wrong at a place.
+/// Returns a fault at a place.
 fn fault(place: Place, what: String) -> Result<Option<Fault>, AllocError> {
     Ok(Some(Fault { place, what }))
 }
 
-/// Whether a thread is in a state.
+/// Returns whether a thread is in a state.
 fn is_in(now: Standing, wanted: Activity) -> bool {
     match wanted {
         Activity::Blocked => now.activity != Activity::Ready,
@@ -35,12 +35,12 @@ fn is_in(now: Standing, wanted: Activity) -> bool {
 }
 
 impl Run<'_, '_> {
-    /// How a call ended, in words.
+    /// Returns how a call ended, in words.
     fn told(self, alloc: Global, ended: &Ended<'_>) -> Result<String, AllocError> {
         told(alloc, self.scope, ended.words.as_slice())
     }
 
-    /// The line of the call of this number.
+    /// Returns the line of the call with this number.
     fn line_of(self, call: u64) -> u64 {
         let at = call.saturating_sub(1) as usize;
         match self.calls.get(at) {
@@ -49,7 +49,7 @@ impl Run<'_, '_> {
         }
     }
 
-    /// The thread that makes the call of this number.
+    /// Returns the thread that makes the call with this number.
     fn thread_of(self, call: u64) -> u64 {
         let at = call.saturating_sub(1) as usize;
         match self.facts.get(at) {
@@ -58,7 +58,7 @@ impl Run<'_, '_> {
         }
     }
 
-    /// A call that had to end, and didn't, unless it still may.
+    /// Returns the fault of a call that has to end and hasn't; none if more lines may end it.
     fn open_fault(
         self,
         alloc: Global,
@@ -78,7 +78,7 @@ impl Run<'_, '_> {
         fault(expected.place, what)
     }
 
-    /// A call that ended otherwise.
+    /// Returns the fault of a call that ended otherwise than expected.
     fn other_fault(
         self,
         alloc: Global,
@@ -96,7 +96,8 @@ impl Run<'_, '_> {
         fault(expected.place, what)
     }
 
-    /// A call that has to end so, or may not have ended once this many calls are made.
+    /// Returns the fault of a call that doesn't end as expected. `calls` is the number of calls made when a call that
+    /// is expected to block has to be open.
     fn expected(
         self,
         alloc: Global,
@@ -121,7 +122,7 @@ impl Run<'_, '_> {
         }
     }
 
-    /// Whether the line of the call that ends this one says how it ends.
+    /// Returns whether the line of the call that ended this one says how it ends.
     fn is_followed(self, call: u64, event: u64) -> bool {
         let at = event.saturating_sub(1) as usize;
         let Some(check) = self.calls.get(at) else {
@@ -135,7 +136,7 @@ impl Run<'_, '_> {
         false
     }
 
-    /// A call that fails, where no line says so.
+    /// Returns the fault of a call that failed although no line expects it to.
     fn silent_fault(
         self,
         alloc: Global,
@@ -159,7 +160,7 @@ impl Run<'_, '_> {
         fault(check.place, what)
     }
 
-    /// The call of this number, as its own line says.
+    /// Returns the fault of the call with this number, by the expectation of its own line.
     fn own_fault(
         self,
         alloc: Global,
@@ -178,7 +179,7 @@ impl Run<'_, '_> {
         }
     }
 
-    /// A call that the call of this number has to end.
+    /// Returns the fault of a call that the call numbered `event` is expected to end.
     fn follower_fault(
         self,
         alloc: Global,
@@ -194,7 +195,7 @@ impl Run<'_, '_> {
         }
     }
 
-    /// A call that another one ended.
+    /// Returns the fault of a call that another call ended than the expected one.
     fn elsewhere_fault(
         self,
         alloc: Global,
@@ -211,7 +212,7 @@ impl Run<'_, '_> {
         fault(follower.place, what)
     }
 
-    /// The state of a thread between two calls.
+    /// Returns the fault of a line that says the state of a thread.
     fn state_fault(self, alloc: Global, check: &StateCheck) -> Result<Option<Fault>, AllocError> {
         let thread = operand_number(self.scope, &check.thread);
         let now = standing_of(self.facts, self.endings, thread, check.calls);
@@ -228,7 +229,7 @@ impl Run<'_, '_> {
         fault(check.place, what)
     }
 
-    /// The state of a thread in words.
+    /// Returns the state of a thread in words.
     fn state_words(self, alloc: Global, now: Standing) -> Result<String, AllocError> {
         let state = now.name();
         if matches!(now.activity, Activity::Ready | Activity::Blocked) {
@@ -253,7 +254,7 @@ fn add(faults: &mut Vec<Fault>, fault: Option<Fault>) -> Result<(), AllocError> 
     Ok(())
 }
 
-/// Adds what isn't as expected at the call of this number.
+/// Adds what differs from the expectations of the line of the call with this number.
 pub fn check_call(
     alloc: Global,
     run: Run<'_, '_>,
@@ -268,7 +269,7 @@ pub fn check_call(
     Ok(())
 }
 
-/// Adds what isn't as expected in a line of a state.
+/// Adds what differs from a line that says the state of a thread.
 pub fn check_state(
     alloc: Global,
     run: Run<'_, '_>,

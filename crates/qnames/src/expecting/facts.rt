@@ -1,4 +1,4 @@
-//! What a script's calls are, as far as the states of threads depend on them.
+//! The facts about a script's calls on which the states of threads depend.
 
 use crate::expecting::trace::number_in;
 use crate::line::{CallLine, Line, Operand};
@@ -6,7 +6,7 @@ use crate::scope::Scope;
 use qmodel::kind::CallKind;
 use std::alloc::{AllocError, Global};
 
-/// What a call is.
+/// What a call does, as far as states depend on it.
 #[derive(Clone, Copy, Debug, PartialEq, Eq)]
 pub enum Deed {
     /// Attaches a connection to this channel.
@@ -19,14 +19,14 @@ pub enum Deed {
     Other,
 }
 
-/// A call: the thread that makes it, and what it is.
+/// A call: the thread that makes it, and what it does.
 #[derive(Clone, Copy, Debug, PartialEq, Eq)]
 pub struct Fact {
     pub thread: u64,
     pub deed: Deed,
 }
 
-/// The number that an operand stands for; 0 for one that says none.
+/// Returns the number that an operand stands for, or 0 if it isn't a number.
 pub fn operand_number(scope: &Scope, operand: &Operand) -> u64 {
     match operand {
         Operand::Name(mention) => scope.number(&mention.name),
@@ -36,7 +36,7 @@ pub fn operand_number(scope: &Scope, operand: &Operand) -> u64 {
     }
 }
 
-/// What the call of a line is.
+/// Returns what the call of a line does.
 fn deed_of(scope: &Scope, call: &CallLine) -> Deed {
     let Some(first) = call.operands.first() else {
         return Deed::Other;
@@ -50,7 +50,7 @@ fn deed_of(scope: &Scope, call: &CallLine) -> Deed {
     }
 }
 
-/// The calls of some lines, in order.
+/// Returns the facts of the calls of these lines, in order.
 pub fn facts(alloc: Global, scope: &Scope, lines: &[Line]) -> Result<Vec<Fact>, AllocError> {
     let mut facts = Vec::new(alloc);
     for line in lines {

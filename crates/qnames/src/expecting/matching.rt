@@ -1,4 +1,4 @@
-//! Whether a call ended as it was expected.
+//! Compares the end of a call with the expected one.
 
 use crate::expectation::Pattern;
 use crate::expecting::trace::number_in;
@@ -6,12 +6,12 @@ use crate::scope::Scope;
 use qbase::bytes::Bytes;
 use std::alloc::{AllocError, Global};
 
-/// Whether a word says this number.
+/// Returns whether a word is this number.
 fn is_number(word: &[u8], number: u64) -> bool {
     number_in(word) == Some(number)
 }
 
-/// Whether the digits of a word begin with those of these bytes. `-` has none.
+/// Returns whether a word begins with the hexadecimal digits of these bytes. Each word does if there are no bytes.
 fn begins_with(alloc: Global, word: &[u8], bytes: &Bytes) -> Result<bool, AllocError> {
     if bytes.is_empty() {
         return Ok(true);
@@ -20,7 +20,7 @@ fn begins_with(alloc: Global, word: &[u8], bytes: &Bytes) -> Result<bool, AllocE
     Ok(word.starts_with(digits.as_bytes()))
 }
 
-/// Whether a printed word is as its pattern says.
+/// Returns whether a printed word fits its pattern.
 fn fits(alloc: Global, scope: &Scope, pattern: &Pattern, word: &[u8]) -> Result<bool, AllocError> {
     match pattern {
         Pattern::Is(wanted) => Ok(word == wanted.as_str().as_bytes()),
@@ -31,7 +31,7 @@ fn fits(alloc: Global, scope: &Scope, pattern: &Pattern, word: &[u8]) -> Result<
     }
 }
 
-/// Whether printed words begin as these patterns say.
+/// Returns whether printed words begin with words that fit these patterns.
 pub fn all_fit(
     alloc: Global,
     scope: &Scope,

@@ -1,4 +1,4 @@
-//! The names that a script's expectations use.
+//! Checks the names in a script's expectations.
 
 use crate::expectation::{CallCheck, Ending, Expectation, Extent, Follower, Pattern, StateCheck};
 use crate::fault::Fault;
@@ -9,7 +9,7 @@ use crate::word::Word;
 use crate::wording::{Context, Usage, Use};
 use std::alloc::{AllocError, Global};
 
-/// Looks at the names of expectations, and gathers what is wrong with them.
+/// Checks the names in expectations, and collects their faults.
 #[derive(Drop)]
 pub struct NameCheck<'a> {
     alloc: Global,
@@ -19,7 +19,7 @@ pub struct NameCheck<'a> {
 }
 
 impl<'a> NameCheck<'a> {
-    /// Nothing is wrong yet.
+    /// Returns a check without faults so far.
     pub fn new(alloc: Global, context: Context<'a>, extent: Extent) -> NameCheck<'a> {
         NameCheck {
             alloc,
@@ -29,19 +29,19 @@ impl<'a> NameCheck<'a> {
         }
     }
 
-    /// What is wrong.
+    /// Returns the faults.
     pub fn into_faults(self) -> Vec<Fault> {
         self.faults
     }
 
-    /// Adds what is wrong with a name at a place.
+    /// Adds a fault of a name at a place.
     fn add(&mut self, place: Place, used: Use<'_>, error: NameError) -> Result<(), AllocError> {
         let what = self.context.words(self.alloc, used, error)?;
         self.faults.push(Fault { place, what })?;
         Ok(())
     }
 
-    /// A name that has to stand for something of a kind.
+    /// Checks a name that has to stand for something of a kind.
     fn mention(&mut self, mention: &Mention) -> Result<(), AllocError> {
         let used = Use {
             name: &mention.name,
@@ -55,7 +55,7 @@ impl<'a> NameCheck<'a> {
         }
     }
 
-    /// The name of a process.
+    /// Checks the name of a process.
     fn process(&mut self, place: Place, name: &Word) -> Result<(), AllocError> {
         if self.context.scope.process_named(name) != 0 {
             return Ok(());
@@ -65,7 +65,7 @@ impl<'a> NameCheck<'a> {
         Ok(())
     }
 
-    /// A name in an ending. It may stand for what a line further down makes.
+    /// Checks a name in an ending. It may stand for something that a later line makes.
     fn ending(&mut self, mention: &Mention) -> Result<(), AllocError> {
         let defined = self.context.scope.latest(&mention.name).is_some();
         if !defined && self.extent == Extent::Front {
@@ -74,7 +74,7 @@ impl<'a> NameCheck<'a> {
         self.mention(mention)
     }
 
-    /// What is expected of a call.
+    /// Checks the names in the expected end of a call.
     fn expectation(&mut self, expectation: &Expectation) -> Result<(), AllocError> {
         let Ending::Words(patterns) = &expectation.ending else {
             return Ok(());
@@ -89,7 +89,7 @@ impl<'a> NameCheck<'a> {
         Ok(())
     }
 
-    /// What is expected of a call that another one ends.
+    /// Checks the names in the expected end of a call that another call ends.
     fn follower(&mut self, follower: &Follower) -> Result<(), AllocError> {
         let used = Use {
             name: &follower.name,
@@ -106,7 +106,7 @@ impl<'a> NameCheck<'a> {
         self.expectation(&follower.expectation)
     }
 
-    /// What is expected at the line of a call.
+    /// Checks the names in the expectations of the line of a call.
     pub fn call(&mut self, check: &CallCheck) -> Result<(), AllocError> {
         if let Some(own) = &check.own {
             self.expectation(own)?;
@@ -117,7 +117,7 @@ impl<'a> NameCheck<'a> {
         Ok(())
     }
 
-    /// The state that is expected of a thread.
+    /// Checks the names in a line that says the state of a thread.
     pub fn state(&mut self, check: &StateCheck) -> Result<(), AllocError> {
         if let Operand::Name(mention) = &check.thread {
             self.mention(mention)?;

@@ -1,10 +1,10 @@
-//! The state of a thread between two calls.
+//! Computes the state of a thread between two calls.
 
 use crate::expectation::Activity;
 use crate::expecting::facts::{Deed, Fact};
 use crate::expecting::trace::Endings;
 
-/// In which state a thread is, and the channel that it is blocked on.
+/// The state of a thread, and the channel that it is blocked on; 0 if it is ready.
 #[derive(Clone, Copy, Debug, PartialEq, Eq)]
 pub struct Standing {
     pub activity: Activity,
@@ -12,7 +12,7 @@ pub struct Standing {
 }
 
 impl Standing {
-    /// The state's words, without the channel.
+    /// Returns the name of the state, without the channel.
     pub fn name(self) -> &'static str {
         match self.activity {
             Activity::Ready => "ready",
@@ -24,7 +24,7 @@ impl Standing {
     }
 }
 
-/// The channel that a connection leads to; 0 where there is no such connection.
+/// Returns the channel that a connection leads to, or 0 if there is no such connection.
 fn channel_of(facts: &[Fact], connection: u64) -> u64 {
     let at = connection.saturating_sub(1) as usize;
     match facts.get(at) {
@@ -38,7 +38,7 @@ fn channel_of(facts: &[Fact], connection: u64) -> u64 {
     }
 }
 
-/// The state of a thread whose call of this number is open once so many calls are made.
+/// Returns the state of a thread that is blocked in the call with this number after the first `calls` calls.
 fn blocked_in(
     facts: &[Fact],
     endings: &Endings<'_>,
@@ -66,7 +66,7 @@ fn blocked_in(
     }
 }
 
-/// The state of a thread once so many calls are made: it is blocked in its call that hasn't ended yet, if there is one.
+/// Returns the state of a thread after the first `calls` calls: blocked in its call that hasn't ended, or ready.
 pub fn standing_of(facts: &[Fact], endings: &Endings<'_>, thread: u64, calls: u64) -> Standing {
     let mut number = 0u64;
     let mut found = Standing {

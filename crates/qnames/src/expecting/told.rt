@@ -1,4 +1,4 @@
-//! How a call ended, in the words of a script with names.
+//! Words the end of a call as a script with names says it.
 
 use crate::expecting::trace::number_in;
 use crate::lexing::quoted::shown_bytes;
@@ -7,18 +7,19 @@ use crate::scope::Scope;
 use std::alloc::{AllocError, Global};
 use std::str;
 
-/// A printed word as text.
+/// Returns a printed word as text.
 fn text(word: &[u8]) -> &str {
     str::from_utf8(word).unwrap_or("?")
 }
 
-/// A word with a space before it.
+/// Adds a space and a word.
 fn push(out: &mut String, word: &str) -> Result<(), AllocError> {
     out.push(' ')?;
     out.push_str(word)
 }
 
-/// The number that a word says, by its name, if a line defines one for it.
+/// Adds the name that stands for a number, or the number if no line defines one. `of_thread` says whether it is a
+/// thread's.
 fn push_named(
     out: &mut String,
     scope: &Scope,
@@ -34,7 +35,7 @@ fn push_named(
     push(out, text(word))
 }
 
-/// The name of a process, if it has one.
+/// Adds the name of a process, or its number if it has no name.
 fn push_process(out: &mut String, scope: &Scope, word: &[u8]) -> Result<(), AllocError> {
     let at = number_in(word).unwrap_or(0).saturating_sub(1) as usize;
     match scope.process_names().get(at) {
@@ -43,7 +44,7 @@ fn push_process(out: &mut String, scope: &Scope, word: &[u8]) -> Result<(), Allo
     }
 }
 
-/// The first so many bytes of a buffer.
+/// Adds the first `count` bytes of a buffer.
 fn push_content(
     alloc: Global,
     out: &mut String,
@@ -60,7 +61,7 @@ fn push_content(
     push(out, shown_bytes(alloc, content)?.as_str())
 }
 
-/// What a pulse brings.
+/// Adds the content of a pulse.
 fn push_pulse(out: &mut String, scope: &Scope, words: &[&[u8]]) -> Result<(), AllocError> {
     let [item, priority, kind, rest @ ..] = words else {
         return Ok(());
@@ -79,7 +80,7 @@ fn push_pulse(out: &mut String, scope: &Scope, words: &[&[u8]]) -> Result<(), Al
     }
 }
 
-/// What is told of a message: its sender's process and thread, its connection and numbers.
+/// Adds the content of an Info: the sender's process and thread, its connection and the numbers.
 fn push_info(out: &mut String, scope: &Scope, words: &[&[u8]]) -> Result<(), AllocError> {
     let [process, thread, connection, rest @ ..] = words else {
         return Ok(());
@@ -90,7 +91,7 @@ fn push_info(out: &mut String, scope: &Scope, words: &[&[u8]]) -> Result<(), All
     push_plain(out, rest)
 }
 
-/// Words as they are.
+/// Adds words as they are.
 fn push_plain(out: &mut String, words: &[&[u8]]) -> Result<(), AllocError> {
     for word in words {
         push(out, text(word))?;
@@ -98,7 +99,7 @@ fn push_plain(out: &mut String, words: &[&[u8]]) -> Result<(), AllocError> {
     Ok(())
 }
 
-/// The words behind the first one.
+/// Adds the words behind the first one.
 fn push_rest(
     alloc: Global,
     out: &mut String,
@@ -140,7 +141,7 @@ fn push_rest(
     }
 }
 
-/// How a call ended: the printed words, with names in place of numbers, and bytes as they were copied.
+/// Returns the end of a call: the printed words, with names in place of numbers, and only the bytes that were copied.
 pub fn told(alloc: Global, scope: &Scope, words: &[&[u8]]) -> Result<String, AllocError> {
     let mut out = String::new(alloc);
     if let [first, rest @ ..] = words {

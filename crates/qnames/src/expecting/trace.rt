@@ -1,28 +1,28 @@
-//! A printed trace, by the calls that end in it.
+//! A printed trace, sorted by the calls that end in it.
 
 use qexplain::parts::{Lines, words};
 use qreading::reading::number::digits;
 use std::alloc::{AllocError, Global};
 use std::collections::BTreeMap;
 
-/// How a call ended.
+/// The end of a call.
 #[derive(Debug, Drop)]
 pub struct Ended<'a> {
-    /// The number of the call that ended it, which may be itself.
+    /// The number of the call that ended it, which may be its own.
     pub event: u64,
-    /// The words that tell how.
+    /// The printed words of its end.
     pub words: Vec<&'a [u8]>,
 }
 
-/// How the calls of a run ended, and which of their messages were received.
+/// The ends of the calls of a run, and which of their messages were received.
 #[derive(Drop)]
 pub struct Endings<'a> {
     ended: BTreeMap<u64, Ended<'a>>,
-    /// In which call each message was received.
+    /// The call that received each message, by the number of the message.
     received: BTreeMap<u64, u64>,
 }
 
-/// The number that a word says.
+/// Returns the number that a word says.
 pub fn number_in(word: &[u8]) -> Option<u64> {
     match digits(word) {
         Some(value) if value <= u64::MAX as u128 => Some(value as u64),
@@ -30,7 +30,7 @@ pub fn number_in(word: &[u8]) -> Option<u64> {
     }
 }
 
-/// The words of a line without their places.
+/// Returns the words of a line without their places.
 fn bytes_of<'a>(alloc: Global, line: &'a [u8]) -> Result<Vec<&'a [u8]>, AllocError> {
     let mut all = Vec::new(alloc);
     for word in &words(alloc, line)? {
@@ -40,7 +40,7 @@ fn bytes_of<'a>(alloc: Global, line: &'a [u8]) -> Result<Vec<&'a [u8]>, AllocErr
 }
 
 impl<'a> Endings<'a> {
-    /// The endings of a printed trace. Lines of calls that are open are passed over.
+    /// Returns the ends in a printed trace. Lines of open calls are skipped.
     pub fn of(alloc: Global, printed: &'a [u8]) -> Result<Endings<'a>, AllocError> {
         let mut endings = Endings {
             ended: BTreeMap::new(alloc),
@@ -52,7 +52,7 @@ impl<'a> Endings<'a> {
         Ok(endings)
     }
 
-    /// Adds a line of these words.
+    /// Adds a line with these words.
     fn add(&mut self, alloc: Global, line: Vec<&'a [u8]>) -> Result<(), AllocError> {
         let [event, call, _, words @ ..] = line.as_slice() else {
             return Ok(());
@@ -70,12 +70,12 @@ impl<'a> Endings<'a> {
         Ok(())
     }
 
-    /// How the call of this number ended, if it did.
+    /// Returns the end of the call with this number, if it has ended.
     pub fn of_call(&self, call: u64) -> Option<&Ended<'a>> {
         self.ended.get(&call)
     }
 
-    /// Whether a call has ended once this many calls are made.
+    /// Returns whether a call has ended after the first `calls` calls.
     pub fn has_ended(&self, call: u64, calls: u64) -> bool {
         match self.ended.get(&call) {
             Some(ended) => ended.event <= calls,
@@ -83,7 +83,7 @@ impl<'a> Endings<'a> {
         }
     }
 
-    /// Whether a message is received once this many calls are made.
+    /// Returns whether a message is received after the first `calls` calls.
     pub fn is_received(&self, message: u64, calls: u64) -> bool {
         match self.received.get(&message) {
             Some(event) => *event <= calls,

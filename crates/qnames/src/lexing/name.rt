@@ -1,11 +1,11 @@
-//! Names.
+//! Recognizes names.
 
-/// Whether a byte may stand in a name behind its first one.
+/// Returns whether a byte may stand in a name behind the first.
 fn goes_on(byte: u8) -> bool {
     byte.is_ascii_alphanumeric() || matches!(byte, b'_' | b'-' | b'.')
 }
 
-/// Whether a word is a name: a letter or `_`, and then letters, digits, `_`, `-` and `.`.
+/// Returns whether a word is a name: a letter or `_`, followed by letters, digits, `_`, `-` and `.`.
 pub fn is_name(word: &[u8]) -> bool {
     match word {
         [first, rest @ ..] => {

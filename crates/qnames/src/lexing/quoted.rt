@@ -1,10 +1,10 @@
-//! Texts in quotes.
+//! Reads and writes texts in quotes.
 
 use qbase::bytes::Bytes;
 use std::alloc::{AllocError, Global};
 
-/// How many bytes stand before the second quote of a text whose first quote stands before this; `None` where there is
-/// no second quote.
+/// Returns the number of bytes in front of the closing quote; `rest` begins behind the opening one. `None` if there is
+/// no closing quote.
 pub fn quoted_len(rest: &[u8]) -> Option<usize> {
     let mut escaped = false;
     for (at, byte) in rest.iter().enumerate() {
@@ -19,7 +19,7 @@ pub fn quoted_len(rest: &[u8]) -> Option<usize> {
     None
 }
 
-/// The byte that a sign behind a backslash stands for.
+/// Returns the byte of an escape, given the byte behind the backslash.
 fn escaped_byte(sign: u8) -> Option<u8> {
     match sign {
         b'n' => Some(b'\n'),
@@ -31,7 +31,7 @@ fn escaped_byte(sign: u8) -> Option<u8> {
     }
 }
 
-/// The value of a hexadecimal digit.
+/// Returns the value of a hexadecimal digit.
 fn digit_value(digit: u8) -> Option<u8> {
     match digit {
         b'0'..=b'9' => Some(digit - b'0'),
@@ -41,7 +41,7 @@ fn digit_value(digit: u8) -> Option<u8> {
     }
 }
 
-/// The byte of two hexadecimal digits.
+/// Returns the byte of two hexadecimal digits.
 fn byte_of(high: u8, low: u8) -> Option<u8> {
     match (digit_value(high), digit_value(low)) {
         (Some(high), Some(low)) => Some(high.wrapping_mul(16).wrapping_add(low)),
@@ -49,8 +49,8 @@ fn byte_of(high: u8, low: u8) -> Option<u8> {
     }
 }
 
-/// The first byte that a text says, and how many of its own bytes say it; `None` where what stands behind a backslash
-/// is no escape.
+/// Returns the first byte that a text stands for, and the number of bytes that write it; `None` for a backslash that
+/// begins no escape.
 fn first_byte(text: &[u8]) -> Option<(u8, usize)> {
     match text {
         [b'\\', b'x', high, low, ..] => byte_of(*high, *low).map(|byte| (byte, 4)),
@@ -60,8 +60,8 @@ fn first_byte(text: &[u8]) -> Option<(u8, usize)> {
     }
 }
 
-/// The bytes of a text as it is written in quotes: `\n`, `\t`, `\r`, `\0`, `\"`, `\\` and `\x` with two hexadecimal digits
-/// each say one byte. `Err` has the place of an escape that is none.
+/// Returns the bytes that a text in quotes stands for. The escapes `\n`, `\t`, `\r`, `\0`, `\"`, `\\` and `\x` with two
+/// hexadecimal digits are one byte each. The inner `Err` is the index of a backslash that begins no escape.
 pub fn quoted_bytes(alloc: Global, text: &[u8]) -> Result<Result<Bytes, usize>, AllocError> {
     let mut bytes = Vec::new(alloc);
     let mut rest = text;
@@ -78,12 +78,13 @@ pub fn quoted_bytes(alloc: Global, text: &[u8]) -> Result<Result<Bytes, usize>, 
     Ok(Ok(Bytes::from(bytes)))
 }
 
-/// Whether a byte is shown in quotes as it is.
+/// Returns whether a byte is shown in quotes as it is.
 fn is_shown(byte: u8) -> bool {
     byte >= 0x20 && byte <= 0x7e
 }
 
-/// Bytes as a script with names says them: a text in quotes where each prints, else hexadecimal digits, and `-` for none.
+/// Returns bytes as a script with names writes them: a text in quotes if each is printable, else hexadecimal digits, or
+/// `-` if there are none.
 pub fn shown_bytes(alloc: Global, bytes: &[u8]) -> Result<String, AllocError> {
     if bytes.is_empty() {
         return String::from_str(alloc, "-");

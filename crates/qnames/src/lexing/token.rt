@@ -1,18 +1,18 @@
-//! A line, cut into its parts.
+//! Cuts a line into its parts.
 
 use crate::fault::{ReadError, fault_at};
 use crate::lexing::quoted::quoted_len;
 use crate::line::Place;
 use std::alloc::Global;
 
-/// What a part of a line is.
+/// The sort of a part of a line.
 #[derive(Clone, Copy, Debug, PartialEq, Eq)]
 pub enum Sort {
     /// A name, a number, hexadecimal bytes, flags: anything without quotes and brackets.
     Word,
-    /// A text in quotes, as it is written, without them.
+    /// A text in quotes, as it is written, without the quotes.
     Text,
-    /// What stands in brackets, without them.
+    /// A size in brackets, without the brackets.
     Size,
     /// `=`
     Equals,
@@ -29,12 +29,12 @@ pub struct Token<'a> {
     pub bytes: &'a [u8],
     /// Its first byte.
     pub place: Place,
-    /// How many bytes of the line it takes.
+    /// The number of bytes of the line that it takes.
     pub len: u64,
 }
 
 impl Token<'_> {
-    /// The place behind it, where something is missing.
+    /// Returns the place behind it, where something is missing.
     pub fn behind(&self) -> Place {
         Place {
             line: self.place.line,
@@ -42,23 +42,23 @@ impl Token<'_> {
         }
     }
 
-    /// Whether it is this word.
+    /// Returns whether it is this word.
     pub fn is_word(&self, word: &str) -> bool {
         self.sort == Sort::Word && self.bytes == word.as_bytes()
     }
 }
 
-/// Whether a part of a line ends before this byte.
+/// Returns whether a part of a line ends in front of this byte.
 fn ends_word(byte: u8) -> bool {
     matches!(byte, b'#' | b';' | b'=' | b'"' | b'[') || !is_printing(byte)
 }
 
-/// Whether a byte prints; a space doesn't.
+/// Returns whether a byte is printable; a space isn't.
 fn is_printing(byte: u8) -> bool {
     byte > 0x20 && byte <= 0x7e
 }
 
-/// How many bytes the word has that begins here: at least one.
+/// Returns the length of the word that begins here, at least one byte.
 fn word_len(rest: &[u8]) -> usize {
     let mut len = 0usize;
     let mut before = b' ';
@@ -75,7 +75,7 @@ fn word_len(rest: &[u8]) -> usize {
     len
 }
 
-/// A part without its place: what it is, its bytes, and how many bytes of the line it takes.
+/// A part without its place: its sort, its bytes, and the number of bytes of the line that it takes.
 #[derive(Clone, Copy)]
 struct Part<'a> {
     sort: Sort,
@@ -83,7 +83,7 @@ struct Part<'a> {
     len: usize,
 }
 
-/// A sign of so many bytes.
+/// Returns a sign of `len` bytes.
 fn sign<'a>(sort: Sort, rest: &'a [u8], len: usize) -> Part<'a> {
     Part {
         sort,
@@ -92,7 +92,7 @@ fn sign<'a>(sort: Sort, rest: &'a [u8], len: usize) -> Part<'a> {
     }
 }
 
-/// The text in quotes whose first quote stands before this.
+/// Returns the text in quotes; `rest` begins behind the opening quote.
 fn text_part(alloc: Global, rest: &[u8], place: Place) -> Result<Part<'_>, ReadError> {
     let Some(len) = quoted_len(rest) else {
         let what = String::from_str(alloc, "the text has no second quote");
@@ -105,7 +105,7 @@ fn text_part(alloc: Global, rest: &[u8], place: Place) -> Result<Part<'_>, ReadE
     })
 }
 
-/// What stands in brackets, of which the first stands before this.
+/// Returns the size in brackets; `rest` begins behind the opening bracket.
 fn size_part(alloc: Global, rest: &[u8], place: Place) -> Result<Part<'_>, ReadError> {
     let Some(len) = rest.iter().position(|b| *b == b']') else {
         let what = String::from_str(alloc, "the size has no second bracket");
@@ -118,7 +118,7 @@ fn size_part(alloc: Global, rest: &[u8], place: Place) -> Result<Part<'_>, ReadE
     })
 }
 
-/// The word that begins here.
+/// Returns the word that begins here.
 fn word_part(alloc: Global, rest: &[u8], place: Place) -> Result<Part<'_>, ReadError> {
     let len = word_len(rest);
     if len == 0 {
@@ -131,7 +131,7 @@ fn word_part(alloc: Global, rest: &[u8], place: Place) -> Result<Part<'_>, ReadE
     Ok(sign(Sort::Word, rest, len))
 }
 
-/// The part of a line that begins here, at a byte that is no blank.
+/// Returns the part of a line that begins here, at a byte that isn't a blank.
 fn next_part(alloc: Global, rest: &[u8], place: Place) -> Result<Part<'_>, ReadError> {
     match rest {
         [b'=', ..] => Ok(sign(Sort::Equals, rest, 1)),
@@ -143,7 +143,7 @@ fn next_part(alloc: Global, rest: &[u8], place: Place) -> Result<Part<'_>, ReadE
     }
 }
 
-/// The rest of a line from its first byte on that is no blank.
+/// Returns the rest of a line without the blanks at its front.
 fn skip_blanks(rest: &[u8]) -> &[u8] {
     match rest.iter().position(|b| *b != b' ' && *b != b'\t') {
         Some(at) => rest.get(at..).unwrap_or(&[]),
@@ -151,7 +151,7 @@ fn skip_blanks(rest: &[u8]) -> &[u8] {
     }
 }
 
-/// The parts of the line of this number, up to a comment.
+/// Returns the parts of the line with this number, up to a comment.
 pub fn tokens(alloc: Global, line: &[u8], number: u64) -> Result<Vec<Token<'_>>, ReadError> {
     let mut tokens = Vec::new(alloc);
     let mut rest = line;

@@ -1,4 +1,4 @@
-//! What is expected at a line: how its call has to end, and those that it ends.
+//! Reads the expectations of a line: how its own call ends, and the calls that it ends.
 
 ghost use Rattle.std.specs.Prelude.{◌≤◌, length};
 
@@ -11,7 +11,7 @@ use crate::reading::operands::{wanted, word_of};
 use crate::word::Word;
 use std::alloc::{AllocError, Global};
 
-/// The part of a line that these tokens take.
+/// Returns the part of a line that these tokens take.
 pub fn text_of(alloc: Global, line: &[u8], tokens: &[Token<'_>]) -> Result<Word, AllocError> {
     let (from, to) = match tokens {
         [first, .., last] => (first, last),
@@ -24,7 +24,7 @@ pub fn text_of(alloc: Global, line: &[u8], tokens: &[Token<'_>]) -> Result<Word,
     word_of(alloc, bytes)
 }
 
-/// What is expected: the words behind an arrow.
+/// Reads an expected end: the words behind an arrow.
 fn expectation(
     alloc: Global,
     arrow: &Token<'_>,
@@ -42,7 +42,7 @@ fn expectation(
     })
 }
 
-/// What is expected of a call that another one ends: `NAME -> ENDING`.
+/// Reads the expected end of a call that another call ends: `NAME -> ENDING`.
 fn follower(
     alloc: Global,
     semicolon: &Token<'_>,
@@ -66,14 +66,14 @@ fn follower(
     })
 }
 
-/// What is expected at a line: of its call, and of those that it ends.
+/// The expectations of a line: the end of its own call, and those of the calls that it ends.
 #[derive(Drop)]
 pub struct Endings {
     pub own: Option<Expectation>,
     pub followers: Vec<Follower>,
 }
 
-/// Where the next semicolon is.
+/// Returns the index of the next semicolon, or the number of tokens if there is none.
 fn semicolon_at(tokens: &[Token<'_>]) -> usize
     ensures { result ≤ length tokens.now }
 {
@@ -83,7 +83,7 @@ fn semicolon_at(tokens: &[Token<'_>]) -> usize
     }
 }
 
-/// How the line's own call has to end, if its words are followed by an arrow.
+/// Reads the expected end of the line's own call, if an arrow follows the call.
 fn own_ending(
     alloc: Global,
     tokens: &[Token<'_>],
@@ -98,7 +98,7 @@ fn own_ending(
     }
 }
 
-/// What is expected of the calls that a line's call ends, from the first semicolon on.
+/// Reads the expected ends of the calls that a line's call ends, from the first semicolon on.
 fn followers(alloc: Global, tokens: &[Token<'_>], line: &[u8]) -> Result<Vec<Follower>, ReadError> {
     let mut followers = Vec::new(alloc);
     let mut at = 0usize;
@@ -114,7 +114,7 @@ fn followers(alloc: Global, tokens: &[Token<'_>], line: &[u8]) -> Result<Vec<Fol
     Ok(followers)
 }
 
-/// What is expected at a line, from behind its call on: nothing, or `-> ENDING`, and then any number of
+/// Reads the expectations of a line, which follow its call: nothing, or `-> ENDING`, and then any number of
 /// `; NAME -> ENDING`.
 pub fn endings_in(alloc: Global, tokens: &[Token<'_>], line: &[u8]) -> Result<Endings, ReadError> {
     let (_, behind) = tokens.split_at(semicolon_at(tokens));

@@ -1,4 +1,4 @@
-//! How a call has to end: the words of its ending, and what may stand behind each.
+//! Reads the expected end of a call: its first word, and what may follow each.
 
 use crate::expectation::{Ending, Pattern};
 use crate::fault::{ReadError, fault_at};
@@ -10,7 +10,7 @@ use crate::reading::values::{bytes, errno, named, number, process};
 use crate::word::Word;
 use std::alloc::{AllocError, Global};
 
-/// What stands at a place behind the first word of an ending.
+/// The sort of a place behind the first word of an ending.
 #[derive(Clone, Copy)]
 enum Part {
     /// The word of an error.
@@ -19,15 +19,15 @@ enum Part {
     Id(Kind),
     /// The name or the number of a process.
     Process,
-    /// A number, with a minus sign or without.
+    /// A number, with or without a minus sign.
     Number,
-    /// What was copied: how many bytes, and which.
+    /// The copied bytes: how many, and which.
     Content,
-    /// With which bytes the buffer begins.
+    /// The bytes that the buffer begins with.
     Buffer,
 }
 
-/// The endings: their first words, and what may stand behind these.
+/// The endings: the first word of each, and what may follow it.
 static FORMS: [(&str, &[Part]); 9] = [
     ("ok", &[]),
     ("fail", &[Part::Errno]),
@@ -51,14 +51,14 @@ static FORMS: [(&str, &[Part]); 9] = [
     ),
 ];
 
-/// What a pulse brings, by its word.
+/// The contents of a pulse, by word.
 static PULSES: [(&str, &[Part]); 3] = [
     ("user", &[Part::Number, Part::Number]),
     ("unblock", &[Part::Id(Kind::Message)]),
     ("disconnect", &[Part::Process]),
 ];
 
-/// The states of a thread, by their words.
+/// The states of a thread, by word.
 static STATES: [(&str, &[Part]); 4] = [
     ("ready", &[Part::Number]),
     ("send", &[Part::Id(Kind::Channel), Part::Number]),
@@ -82,7 +82,7 @@ static WORDS: [&str; 12] = [
     "info",
 ];
 
-/// What may stand behind a word in a table.
+/// Returns what may follow a word of a table.
 fn parts_of(
     table: &'static [(&'static str, &'static [Part])],
     token: &Token<'_>,
@@ -95,12 +95,12 @@ fn parts_of(
     None
 }
 
-/// Whether a part of a line stands for any word.
+/// Returns whether a part of a line stands for any word.
 fn is_any(token: &Token<'_>) -> bool {
     token.is_word("*")
 }
 
-/// How many bytes were copied, and which.
+/// Adds the patterns of copied bytes: how many, and which.
 fn push_content(
     alloc: Global,
     patterns: &mut Vec<Pattern>,
@@ -114,7 +114,7 @@ fn push_content(
     Ok(())
 }
 
-/// What a part of a line says of one or two printed words.
+/// Adds the patterns of a part of a line, which stands for one or two printed words.
 fn push_part(
     alloc: Global,
     patterns: &mut Vec<Pattern>,
@@ -134,7 +134,7 @@ fn push_part(
     Ok(())
 }
 
-/// A word that is printed as it stands here.
+/// Adds the pattern of a word that is printed as it stands here.
 fn push_word(
     alloc: Global,
     patterns: &mut Vec<Pattern>,
@@ -144,7 +144,7 @@ fn push_word(
     Ok(())
 }
 
-/// What the parts behind a word say; those at the end may be left out.
+/// Adds the patterns of the parts behind a word; the last ones may be left out.
 fn push_parts(
     alloc: Global,
     patterns: &mut Vec<Pattern>,
@@ -160,7 +160,7 @@ fn push_parts(
     Ok(())
 }
 
-/// A pulse: its call and its priority, which may be left out, and what it brings.
+/// Adds the patterns of a pulse: its call and its priority, which may be left out, and its content.
 fn push_pulse(
     alloc: Global,
     patterns: &mut Vec<Pattern>,
@@ -191,7 +191,7 @@ fn push_pulse(
     }
 }
 
-/// What a pulse brings.
+/// Adds the patterns of the content of a pulse.
 fn push_brought(
     alloc: Global,
     patterns: &mut Vec<Pattern>,
@@ -205,7 +205,7 @@ fn push_brought(
     push_parts(alloc, patterns, parts, rest)
 }
 
-/// The state of a thread.
+/// Adds the patterns of the state of a thread.
 fn push_state(
     alloc: Global,
     patterns: &mut Vec<Pattern>,
@@ -221,7 +221,7 @@ fn push_state(
     push_parts(alloc, patterns, parts, rest)
 }
 
-/// The fault of a first word that no ending has.
+/// Returns the fault of a first word that no ending has.
 fn unknown_ending(alloc: Global, token: &Token<'_>) -> Result<ReadError, AllocError> {
     let word = quotation(token.bytes);
     let what = match nearest(alloc, word, &WORDS)? {
@@ -233,7 +233,7 @@ fn unknown_ending(alloc: Global, token: &Token<'_>) -> Result<ReadError, AllocEr
     Ok(fault_at(token.place, what))
 }
 
-/// How a call has to end.
+/// Reads the expected end of a call.
 pub fn ending(alloc: Global, word: &Token<'_>, rest: &[Token<'_>]) -> Result<Ending, ReadError> {
     let mut patterns = Vec::new(alloc);
     if word.is_word("blocked") {

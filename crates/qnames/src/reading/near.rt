@@ -1,13 +1,13 @@
-//! The name that was meant by one that is none.
+//! Finds the name that a misspelt one was meant to be.
 
 use std::alloc::{AllocError, Global};
 use std::str;
 use strsim::osa_distance;
 
-/// How many letters at most are wrong, missing, too many or swapped in a word that is near.
+/// The most letters that may be wrong, missing, too many or swapped in a word that counts as near.
 const MOST_EDITS: usize = 2;
 
-/// How far a word is from a name; `None` where it is another word.
+/// Returns the distance of a word from a name, or `None` if the word isn't near.
 fn distance(alloc: Global, word: &str, name: &str) -> Result<Option<usize>, AllocError> {
     if word.len() > name.len().saturating_add(MOST_EDITS) {
         return Ok(None);
@@ -21,7 +21,7 @@ fn distance(alloc: Global, word: &str, name: &str) -> Result<Option<usize>, Allo
     })
 }
 
-/// The name among these that is nearest to a word: with the fewest letters that are wrong, of two such the first.
+/// Returns the name that is nearest to a word, the first if several are, or `None` if none is near.
 pub fn nearest<'a>(
     alloc: Global,
     word: &str,
@@ -41,7 +41,7 @@ pub fn nearest<'a>(
     Ok(found)
 }
 
-/// The front of a word, as text.
+/// Returns the front of a word, as text.
 pub fn quotation(bytes: &[u8]) -> &str {
     let front = bytes.get(..24).unwrap_or(bytes);
     str::from_utf8(front).unwrap_or("?")

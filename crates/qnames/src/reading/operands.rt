@@ -1,4 +1,4 @@
-//! The operands of a call.
+//! Reads the operands of a call.
 
 use crate::fault::{ReadError, fault_at};
 use crate::lexing::name::is_name;
@@ -12,21 +12,21 @@ use qexplain::grammar::Operand as Slot;
 use qreading::reading::number::digits;
 use std::alloc::{AllocError, Global};
 
-/// The most bytes that a buffer of zeros has.
+/// The most bytes of a buffer of zeros.
 const MOST_ZEROS: u128 = 4096;
 
-/// The flags by name.
+/// The flags, by name.
 static FLAGS: [(&str, u8); 3] = [("FIXED_PRIORITY", 1), ("UNBLOCK", 2), ("DISCONNECT", 4)];
 
-/// Their names.
+/// The names of the flags.
 static FLAG_NAMES: [&str; 3] = ["FIXED_PRIORITY", "UNBLOCK", "DISCONNECT"];
 
-/// A word of a script; bytes that aren't text are refused by what reads them.
+/// Returns the bytes of a script as a word. Bytes that aren't text are refused later, by what reads the word.
 pub fn word_of(alloc: Global, bytes: &[u8]) -> Result<Word, AllocError> {
     Word::of(alloc, std::str::from_utf8(bytes).unwrap_or("?"))
 }
 
-/// The fault that something of another sort stands where a word is wanted.
+/// Returns the fault of a part of another sort in place of a word.
 pub fn wanted(alloc: Global, token: &Token<'_>, what: &str) -> ReadError {
     let text = match token.sort {
         Sort::Word => {
@@ -42,7 +42,7 @@ pub fn wanted(alloc: Global, token: &Token<'_>, what: &str) -> ReadError {
     fault_at(token.place, text)
 }
 
-/// The bytes of a text in quotes.
+/// Returns the bytes that a text in quotes stands for.
 pub fn text_bytes(alloc: Global, token: &Token<'_>) -> Result<Bytes, ReadError> {
     match quoted_bytes(alloc, token.bytes)? {
         Ok(bytes) => Ok(bytes),
@@ -64,7 +64,7 @@ pub fn text_bytes(alloc: Global, token: &Token<'_>) -> Result<Bytes, ReadError> 
     }
 }
 
-/// How many bytes of zero a size says.
+/// Returns the number of zeros that a size stands for.
 pub fn size_of(alloc: Global, token: &Token<'_>) -> Result<u64, ReadError> {
     match digits(token.bytes) {
         Some(count) if count <= MOST_ZEROS => Ok(count as u64),
@@ -76,7 +76,7 @@ pub fn size_of(alloc: Global, token: &Token<'_>) -> Result<u64, ReadError> {
     }
 }
 
-/// A word as it stands in plain scripts.
+/// Reads a word as plain scripts have it.
 fn plain(alloc: Global, slot: Slot, token: &Token<'_>) -> Result<Operand, ReadError> {
     if token.sort != Sort::Word || slot.fault_of(alloc, token.bytes)?.is_some() {
         return Err(wanted(alloc, token, slot.wanted_words()));
@@ -84,7 +84,7 @@ fn plain(alloc: Global, slot: Slot, token: &Token<'_>) -> Result<Operand, ReadEr
     Ok(Operand::Plain(word_of(alloc, token.bytes)?))
 }
 
-/// Bytes: a text, so many zeros, or a word as in plain scripts.
+/// Reads bytes: a text, a number of zeros, or a word as plain scripts have it.
 fn bytes(alloc: Global, slot: Slot, token: &Token<'_>) -> Result<Operand, ReadError> {
     match token.sort {
         Sort::Text => Ok(Operand::Text(text_bytes(alloc, token)?)),
@@ -100,7 +100,7 @@ fn bytes(alloc: Global, slot: Slot, token: &Token<'_>) -> Result<Operand, ReadEr
     }
 }
 
-/// The bit of a flag's name.
+/// Returns the bit of a flag, by name.
 fn flag(alloc: Global, token: &Token<'_>, name: &[u8]) -> Result<u8, ReadError> {
     for (flag, bit) in &FLAGS {
         if name == flag.as_bytes() {
@@ -118,7 +118,7 @@ fn flag(alloc: Global, token: &Token<'_>, name: &[u8]) -> Result<u8, ReadError> 
     Err(fault_at(token.place, what))
 }
 
-/// Flags: their names with `|` between, or a number.
+/// Reads flags: their names with `|` between, or a number.
 fn flags(alloc: Global, token: &Token<'_>) -> Result<Operand, ReadError> {
     if token.sort != Sort::Word || token.bytes.first().is_some_and(|b| b.is_ascii_digit()) {
         return plain(alloc, Slot::Flags, token);
@@ -130,7 +130,7 @@ fn flags(alloc: Global, token: &Token<'_>) -> Result<Operand, ReadError> {
     Ok(Operand::Number(u64::from(bits)))
 }
 
-/// What is wanted where something else than a name stands.
+/// Returns the words for a name of this kind, for the fault of something else in its place.
 fn wanted_name(kind: Kind) -> &'static str {
     match kind {
         Kind::Thread => "a thread's name or number is wanted",
@@ -142,7 +142,7 @@ fn wanted_name(kind: Kind) -> &'static str {
     }
 }
 
-/// A name, or a number as in plain scripts.
+/// Reads a name, or a number as plain scripts have it.
 pub fn id(alloc: Global, kind: Kind, slot: Slot, token: &Token<'_>) -> Result<Operand, ReadError> {
     if token.sort == Sort::Word && token.bytes.first().is_some_and(|b| b.is_ascii_digit()) {
         return plain(alloc, slot, token);
@@ -157,7 +157,7 @@ pub fn id(alloc: Global, kind: Kind, slot: Slot, token: &Token<'_>) -> Result<Op
     }))
 }
 
-/// The operand that stands at a place of a call.
+/// Reads the operand at a place of a call.
 pub fn operand(alloc: Global, slot: Slot, token: &Token<'_>) -> Result<Operand, ReadError> {
     match slot {
         Slot::Thread => id(alloc, Kind::Thread, slot, token),

@@ -1,4 +1,4 @@
-//! A line that says in which state a thread is.
+//! Reads a line that says the state of a thread.
 
 use crate::expectation::{Activity, StateCheck};
 use crate::fault::{ReadError, fault_at};
@@ -9,7 +9,7 @@ use crate::word::Word;
 use qexplain::grammar::Operand as Slot;
 use std::alloc::Global;
 
-/// The states by name.
+/// The states, by name.
 static STATES: [(&str, Activity); 5] = [
     ("ready", Activity::Ready),
     ("SEND-blocked", Activity::Send),
@@ -18,7 +18,7 @@ static STATES: [(&str, Activity); 5] = [
     ("blocked", Activity::Blocked),
 ];
 
-/// The state that a word names.
+/// Returns the state with this name.
 fn activity(alloc: Global, token: &Token<'_>) -> Result<Activity, ReadError> {
     for (name, activity) in &STATES {
         if token.is_word(name) {
@@ -32,7 +32,7 @@ fn activity(alloc: Global, token: &Token<'_>) -> Result<Activity, ReadError> {
     ))
 }
 
-/// The channel behind `on`, if there is one.
+/// Reads the channel behind `on`, if there is one.
 fn channel(alloc: Global, tokens: &[Token<'_>]) -> Result<Option<Operand>, ReadError> {
     match tokens {
         [] => Ok(None),
@@ -47,8 +47,8 @@ fn channel(alloc: Global, tokens: &[Token<'_>]) -> Result<Option<Operand>, ReadE
     }
 }
 
-/// The line of a thread's state, behind so many calls: the thread, the word `is` and what stands behind it. `text` is
-/// the line from `is` on.
+/// Reads the state of a thread: the thread, the word `is` and what follows. `calls` is the number of calls above;
+/// `text` is the line from `is` on.
 pub fn state_line(
     alloc: Global,
     calls: u64,

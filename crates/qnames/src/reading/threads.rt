@@ -1,4 +1,4 @@
-//! The line of a thread.
+//! Reads the line of a thread.
 
 use crate::fault::{ReadError, fault_at};
 use crate::lexing::name::is_name;
@@ -10,7 +10,7 @@ use qexplain::grammar::Operand as Slot;
 use qreading::reading::number::small;
 use std::alloc::Global;
 
-/// The number of a thread, where its line gives one.
+/// Reads the number of a thread, if its line gives one.
 fn thread_number(alloc: Global, token: &Token<'_>) -> Result<u64, ReadError> {
     match small(token.bytes) {
         Ok(number) if token.sort == Sort::Word => Ok(u64::from(number)),
@@ -18,7 +18,7 @@ fn thread_number(alloc: Global, token: &Token<'_>) -> Result<u64, ReadError> {
     }
 }
 
-/// The process of a thread: a name, or a number.
+/// Reads the process of a thread: a name or a number.
 fn process(alloc: Global, token: &Token<'_>) -> Result<Process, ReadError> {
     if token.sort == Sort::Word {
         if let Ok(number) = small(token.bytes) {
@@ -35,7 +35,7 @@ fn process(alloc: Global, token: &Token<'_>) -> Result<Process, ReadError> {
     ))
 }
 
-/// The priority of a thread.
+/// Reads the priority of a thread.
 fn priority(alloc: Global, token: &Token<'_>) -> Result<Word, ReadError> {
     let slot = Slot::Priority;
     if token.sort != Sort::Word || slot.fault_of(alloc, token.bytes)?.is_some() {
@@ -44,7 +44,7 @@ fn priority(alloc: Global, token: &Token<'_>) -> Result<Word, ReadError> {
     Ok(word_of(alloc, token.bytes)?)
 }
 
-/// The fault that a thread's line has too few or too many words.
+/// Returns the fault of a thread's line with too few or too many words.
 fn word_count(alloc: Global, place: Place, found: usize) -> ReadError {
     fault_at(
         place,
@@ -54,7 +54,7 @@ fn word_count(alloc: Global, place: Place, found: usize) -> ReadError {
     )
 }
 
-/// The line of a thread from behind the word `thread` on, which stands at this place.
+/// Reads the line of a thread; `place` is that of the word `thread`, and the tokens are those behind it.
 pub fn thread_line(
     alloc: Global,
     definition: Option<Definition>,

@@ -1,4 +1,4 @@
-//! What stands at one place of an ending: a number, an error, a name, a process or bytes.
+//! Reads one value of an ending: a number, an error, a name, a process or bytes.
 
 use crate::expectation::Pattern;
 use crate::fault::{ReadError, fault_at};
@@ -14,24 +14,24 @@ use qreading::fault::ParseError;
 use qreading::reading::bytes::bytes_said;
 use std::alloc::Global;
 
-/// The words of the errors.
+/// The names of the errors.
 static ERRORS: [&str; 8] = [
     "srch", "badf", "inval", "again", "intr", "busy", "nomemory", "down",
 ];
 
-/// Digits without zeros in front.
+/// Returns digits without leading zeros.
 fn trimmed(digits: &[u8]) -> &[u8] {
     let last = digits.len().saturating_sub(1);
     let zeros = digits.iter().position(|b| *b != b'0').unwrap_or(last);
     digits.get(zeros.min(last)..).unwrap_or(digits)
 }
 
-/// Whether these are one to twenty digits.
+/// Returns whether these bytes are one to twenty digits.
 fn are_digits(bytes: &[u8]) -> bool {
     !bytes.is_empty() && bytes.len() <= 20 && bytes.iter().all(|b| b.is_ascii_digit())
 }
 
-/// A number as it is printed.
+/// Reads a number, in the form in which it is printed.
 pub fn number(alloc: Global, token: &Token<'_>) -> Result<Word, ReadError> {
     let (sign, digits) = match token.bytes {
         [b'-', digits @ ..] => ("-", digits),
@@ -46,7 +46,7 @@ pub fn number(alloc: Global, token: &Token<'_>) -> Result<Word, ReadError> {
     Ok(Word::of(alloc, text.as_str())?)
 }
 
-/// The word of an error.
+/// Reads the name of an error.
 pub fn errno(alloc: Global, token: &Token<'_>) -> Result<Word, ReadError> {
     for word in &ERRORS {
         if token.is_word(word) {
@@ -63,7 +63,7 @@ pub fn errno(alloc: Global, token: &Token<'_>) -> Result<Word, ReadError> {
     Err(fault_at(token.place, what))
 }
 
-/// The number that a name stands for, or a number.
+/// Reads a name, for the number that it stands for, or a number.
 pub fn named(alloc: Global, kind: Kind, token: &Token<'_>) -> Result<Pattern, ReadError> {
     if token.bytes.first().is_some_and(|b| b.is_ascii_digit()) {
         return Ok(Pattern::Is(number(alloc, token)?));
@@ -74,7 +74,7 @@ pub fn named(alloc: Global, kind: Kind, token: &Token<'_>) -> Result<Pattern, Re
     }
 }
 
-/// The name or the number of a process.
+/// Reads the name or the number of a process.
 pub fn process(alloc: Global, token: &Token<'_>) -> Result<Pattern, ReadError> {
     if token.sort == Sort::Word && is_name(token.bytes) {
         return Ok(Pattern::Process(word_of(alloc, token.bytes)?));
@@ -82,7 +82,7 @@ pub fn process(alloc: Global, token: &Token<'_>) -> Result<Pattern, ReadError> {
     Ok(Pattern::Is(number(alloc, token)?))
 }
 
-/// Some bytes.
+/// Reads bytes.
 pub fn bytes(alloc: Global, token: &Token<'_>) -> Result<Bytes, ReadError> {
     let said = match token.sort {
         Sort::Text => return text_bytes(alloc, token),

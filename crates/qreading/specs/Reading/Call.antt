@@ -11,7 +11,7 @@ use Rattle.qreading.specs.Reading.Steps.{◌>>=◌}
 use Rattle.qreading.specs.Reading.Forms.{id_of, small_of, nothing_of, setprio_of, error_of, pulse_of}
 use Rattle.qreading.specs.Reading.Forms.{receive_of, send_of, reply_of, read_of, write_of}
 
--- the call of a kind and its operands
+-- the call of this kind with these operands
 abbrev pub call_by : Option CallKind → List (List ℕ) → Result Call LineFault
 call_by (Some kind.ChannelCreate) operands =
     small_of operands >>= (λ flags. Ok (calls.ChannelCreate (record { 0 = flags })))

@@ -1,4 +1,4 @@
--- So many words.
+-- Exactly one, two, three or four words of a line.
 use Rattle.std.specs.Prelude.{ℕ, List, [], ◌∷◌, Result, Ok, Err}
 use Rattle.qreading.specs.declared.fault.LineFault.{LineFault}
 use Rattle.qreading.specs.declared.fault.LineFault.TheVariants.{WordCount}
@@ -23,7 +23,7 @@ abbrev pub four_of : List (List ℕ) → Result (List ℕ × List ℕ × List �
 four_of (a ∷ b ∷ c ∷ d ∷ []) = Ok (a, b, c, d)
 four_of words = Err WordCount
 
--- the first word and the others
+-- the first word, and the words behind it
 abbrev pub first_of : List (List ℕ) → Result (List ℕ × List (List ℕ)) LineFault
 first_of [] = Err WordCount
 first_of (word ∷ words) = Ok (word, words)

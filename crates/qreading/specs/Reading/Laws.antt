@@ -1,4 +1,4 @@
--- What the meaning of a script doesn't depend on.
+-- The changes of a text that keep its meaning.
 use Rattle.std.specs.Prelude.{◌≡◌, ◌≢◌, ℕ, ◌+◌, ◌-◌, ◌<◌, ◌≤◌, ◌==◌, ◌⊎◌, Bool, true, false, List, [], ◌∷◌}
 use Rattle.std.specs.Prelude.{◌++◌, length, nat_le, if◌then◌else◌, slice_index}
 use Rattle.std.specs.List.{All}
@@ -24,7 +24,7 @@ IsOneLine line = All (λ b. is_newline b ≡ false) line
 abbrev pub IsWhole : List ℕ → Type 0
 IsWhole text = (length text ≡ 0) ⊎ (slice_index text (length text - 1) ≡ 10)
 
--- the meaning in a text that has one more line behind its first k
+-- the meaning of a text after one more line is put behind its first k lines
 abbrev pub meaning_one_line_later : ℕ → Meaning → Meaning
 meaning_one_line_later k TooLong = TooLong
 meaning_one_line_later k (Faulty n f) = Faulty (if nat_le n k then n else n + 1) f

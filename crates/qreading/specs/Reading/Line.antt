@@ -14,7 +14,7 @@ use Rattle.qreading.specs.Reading.Forms.{member_of}
 use Rattle.qreading.specs.Reading.Call.{call_of}
 use Rattle.qreading.specs.Reading.Words.{words_of}
 
--- a call line: who calls, and what
+-- a call line: the thread that calls, and its call
 unfoldable pub call_line_of : List ℕ → List (List ℕ) → Result Line LineFault
 call_line_of caller rest = do
   thread ← number_of 256 caller
@@ -22,7 +22,7 @@ call_line_of caller rest = do
   call ← call_of words.0 words.1
   Ok (lines.Call thread call)
 
--- a roster line, which may not stand after a call line
+-- a roster line, which is refused behind a call line
 unfoldable pub roster_line_of : Bool → List (List ℕ) → Result Line LineFault
 roster_line_of is_late operands =
     if is_late then Err LateThread
@@ -30,11 +30,11 @@ roster_line_of is_late operands =
       member ← member_of operands
       Ok (lines.Roster member))
 
--- a tab, or a byte that prints
+-- a tab, or a byte from 32 to 126
 abbrev pub is_text : ℕ → Bool
 is_text b = (b == 9) || (nat_le 32 b && nat_le b 126)
 
--- a line of these words: one with none, or whose first begins with `#`, is passed over
+-- what a line of these words says: without words, or with a first word that begins with `#`, it says nothing
 unfoldable pub said_of : Bool → List ℕ → List (List ℕ) → Result Line LineFault
 said_of is_late line [] = Ok lines.Blank
 said_of is_late line (first ∷ rest) =
@@ -43,7 +43,7 @@ said_of is_late line (first ∷ rest) =
     else if bytes_eq first (codes "thread") then roster_line_of is_late rest
     else call_line_of first rest
 
--- a line, after call lines or before them
+-- what a line says; `is_late` says whether call lines are above it
 unfoldable pub line_of : Bool → List ℕ → Result Line LineFault
 line_of is_late line = if nat_lt 4096 (length line) then Err LongLine
     else said_of is_late line (words_of line)

@@ -7,11 +7,11 @@ use Rattle.qreading.specs.Reading.Words.{is_empty}
 abbrev pub is_newline : ℕ → Bool
 is_newline b = b == 10
 
--- what stands before the line end: one carriage return at the end is dropped
+-- the line without one carriage return at its end
 abbrev pub without_return : List ℕ → List ℕ
 without_return line = if slice_index line (length line - 1) == 13 then take (length line - 1) line else line
 
--- the text without a line end at its end, which ends the last line
+-- the text without its last byte, if that is a line end
 abbrev pub without_last_end : List ℕ → List ℕ
 without_last_end text = if slice_index text (length text - 1) == 10 then take (length text - 1) text else text
 

@@ -35,11 +35,11 @@ call_in (Ok lines.Blank) = None
 call_in (Ok (lines.Roster m)) = None
 call_in (Err f) = None
 
--- the roster that some lines give
+-- the roster that these lines give
 unfoldable pub roster_of : List (List ℕ) → List Member
 roster_of lines = filter_map (λ line. member_in (line_of false line)) lines
 
--- the calls that they make
+-- the calls that these lines make, in order
 unfoldable pub calls_of : List (List ℕ) → List (ℕ × Call)
 calls_of lines = filter_map (λ line. call_in (line_of false line)) lines
 
@@ -49,7 +49,7 @@ calls_of lines = filter_map (λ line. call_in (line_of false line)) lines
 abbrev pub is_in : ℕ → List Member → Bool
 is_in thread roster = list_any (λ m. m.thread == thread) roster
 
--- a line after a roster: no thread comes twice, and only those of the roster call
+-- a line behind a roster: no thread comes twice, there are at most 64, and each caller is in the roster
 abbrev pub line_after_roster : List Member → Line → Result Line LineFault
 line_after_roster roster lines.Blank = Ok lines.Blank
 line_after_roster roster (lines.Roster m) =
@@ -59,11 +59,11 @@ line_after_roster roster (lines.Roster m) =
 line_after_roster roster (lines.Call thread call) =
     if is_in thread roster then Ok (lines.Call thread call) else Err UnknownThread
 
--- what a line says after a roster and calls
+-- what a line says behind this roster and these calls
 unfoldable pub line_with : List Member → List (ℕ × Call) → List ℕ → Result Line LineFault
 line_with roster calls line = line_of (nat_lt 0 (length calls)) line >>= line_after_roster roster
 
--- what a line says that stands after some others
+-- what a line says behind these lines
 unfoldable pub line_after : List (List ℕ) → List ℕ → Result Line LineFault
 line_after before line = line_with (roster_of before) (calls_of before) line
 
@@ -74,27 +74,27 @@ abbrev pub fault_in : ℕ → Result Line LineFault → Option (ℕ × LineFault
 fault_in n (Ok line) = None
 fault_in n (Err fault) = Some (n, fault)
 
--- the fault of the line of this number, which counts from 0, after the lines before it
+-- the fault of line n, counted from 0, behind the lines above it
 abbrev pub fault_at : List (List ℕ) → ℕ → Option (ℕ × LineFault)
 fault_at lines n = fault_in n (line_after (take n lines) (slice_index_or lines n []))
 
--- the first faulty line among the first n, and its fault
+-- the number of the first faulty line among the first n, counted from 0, and its fault
 unfoldable pub first_fault : List (List ℕ) → ℕ → Option (ℕ × LineFault)
 first_fault lines zero = None
 first_fault lines (suc n) = option_or (first_fault lines n) (fault_at lines n)
 
--- a text is too long, or has a first faulty line, or says a roster and calls
+-- what a text means: it is too long, has a first faulty line, or says a roster and calls
 pub data Meaning : Type 0 where
   TooLong : Meaning
   Faulty : ℕ → LineFault → Meaning
   Says : List Member → List (ℕ × Call) → Meaning
 
--- the fault, where there is one; lines are numbered from 1
+-- the fault if there is one, its line counted from 1; else this meaning
 abbrev pub fault_or : Option (ℕ × LineFault) → Meaning → Meaning
 fault_or None m = m
 fault_or (Some f) m = Faulty (f.0 + 1) f.1
 
--- what some lines mean
+-- what these lines mean
 abbrev pub of_lines : List (List ℕ) → Meaning
 of_lines lines = fault_or (first_fault lines (length lines)) (Says (roster_of lines) (calls_of lines))
 
@@ -109,7 +109,7 @@ abbrev pub of_line : ℕ → ParseError → ScriptFault
 of_line n errors.Memory = faults.NoMemory
 of_line n (errors.Fault f) = faults.Line n f
 
--- the fault is the one that the text has, or want of memory
+-- the fault is that of the text, or memory ran out
 abbrev pub IsFaultOf : ScriptFault → Meaning → Type 0
 IsFaultOf faults.TooLong m = m ≡ TooLong
 IsFaultOf (faults.Line n f) m = m ≡ Faulty n f
@@ -117,7 +117,7 @@ IsFaultOf faults.NoMemory m = Unit {0}
 IsFaultOf faults.Read m = ⊥
 IsFaultOf faults.Write m = ⊥
 
--- the answer is what the text means, or want of memory
+-- the result is what the text means, or memory ran out
 abbrev pub Means : Result Script ScriptFault → Meaning → Type 0
 Means (Ok s) m = m ≡ Says s.roster.items s.calls.items
 Means (Err e) m = IsFaultOf e m

@@ -9,12 +9,12 @@ use Rattle.qreading.specs.declared.fault.LineFault.{LineFault}
 use Rattle.qreading.specs.declared.fault.LineFault.TheVariants.{BadNumber, BadPriority}
 use Rattle.qreading.specs.Reading.Steps.{◌>>=◌}
 
--- one to twenty decimal digits, leading zeros allowed
+-- the value of one to twenty decimal digits; leading zeros are allowed
 unfoldable pub digits_of : List ℕ → Option ℕ
 digits_of word = if nat_lt 0 (length word) && nat_le (length word) 20 && all_ascii_digits word
     then Some (digits_value 10 word) else None
 
--- the value, where it is below the limit
+-- the value if it is below the limit
 abbrev pub value_below : ℕ → Option ℕ → Result ℕ LineFault
 value_below limit None = Err BadNumber
 value_below limit (Some n) = if nat_lt n limit then Ok n else Err BadNumber
@@ -23,29 +23,29 @@ value_below limit (Some n) = if nat_lt n limit then Ok n else Err BadNumber
 unfoldable pub number_of : ℕ → List ℕ → Result ℕ LineFault
 number_of limit word = value_below limit (digits_of word)
 
--- the level, where there is one
+-- the priority of a level, if the level is one
 abbrev pub priority_at : Option ℕ → Result ℕ LineFault
 priority_at None = Err BadPriority
 priority_at (Some level) = Ok level
 
--- a priority: a number of a byte, and then one of the levels
+-- a priority: a number below 256 that is a level
 unfoldable pub priority_of : List ℕ → Result ℕ LineFault
 priority_of word = do
   level ← number_of 256 word
   priority_at (level_of level)
 
--- digits with a minus sign before them or without
+-- the value of digits, with or without a minus sign in front
 unfoldable pub signed_of : List ℕ → Option ℤ
 signed_of word =
     if slice_index word 0 == 45 then option_map (λ n. neg_ℤ (pos n)) (digits_of (drop 1 word))
     else option_map pos (digits_of word)
 
--- from minus the limit to one below it
+-- from minus the limit up to, but not with, the limit
 abbrev pub is_within : ℕ → ℤ → Bool
 is_within limit (pos n) = nat_lt n limit
 is_within limit (negsuc n) = nat_lt n limit
 
--- the value, where it is within the limit
+-- the value if it is within the limit
 abbrev pub value_within : ℕ → Option ℤ → Result ℤ LineFault
 value_within limit None = Err BadNumber
 value_within limit (Some z) = if is_within limit z then Ok z else Err BadNumber

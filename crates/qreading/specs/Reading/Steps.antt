@@ -1,16 +1,16 @@
--- Steps of reading that may find a fault.
+-- Steps of reading, each of which may find a fault.
 use Rattle.std.specs.Prelude.{◌≡◌, Result, Ok, Err}
 use Rattle.qreading.specs.declared.fault.LineFault.{LineFault}
 use Rattle.qreading.specs.declared.fault.ParseError.{ParseError}
 use Rattle.qreading.specs.declared.fault.ParseError.TheVariants as errors
 
 infixl 10 ◌>>=◌
--- a step, and then the next one, unless the first found a fault
+-- the next step with the value of the first, unless the first found a fault
 abbrev pub ◌>>=◌ : {A B : Type 0} → Result A LineFault → (A → Result B LineFault) → Result B LineFault
 (Ok x) >>= f = f x
 (Err e) >>= f = Err e
 
--- the error is the fault that reading gives, or want of memory
+-- the error is the fault that reading gives, or memory ran out
 abbrev pub Fails : {Y : Type 0} → ParseError → Result Y LineFault → Type 0
 Fails errors.Memory read = Unit {0}
 Fails (errors.Fault f) read = read ≡ Err f

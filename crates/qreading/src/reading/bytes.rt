@@ -1,4 +1,4 @@
-//! The bytes that a word of a script says.
+//! Reads the bytes that a word of a script says.
 
 ghost use Rattle.std.specs.Prelude.{◌≡◌, ◌<◌, length, position, IfSome};
 ghost use Rattle.qreading.specs.Reading.Operand.{plain_of, repeated_of, bytes_of, is_cross};
@@ -12,7 +12,7 @@ use std::alloc::Global;
 
 const MOST_REPEATS: u128 = 4096;
 
-/// No bytes, or an even number of hex digits.
+/// Returns no bytes for `-`, else the bytes of hexadecimal digits, two for each.
 #[tactic(auto, unfolding(crate::specs::Reading::Operand::plain_of))]
 fn plain(alloc: Global, word: &[u8]) -> Result<Bytes, ParseError>
     ensures { Gives result (plain_of word.now) }
@@ -27,7 +27,7 @@ fn plain(alloc: Global, word: &[u8]) -> Result<Bytes, ParseError>
     }
 }
 
-/// So many equal bytes.
+/// Returns the byte of two hexadecimal digits, repeated `count` times, 1 to 4,096.
 #[tactic(auto, unfolding(crate::specs::Reading::Operand::repeated_of))]
 fn repeated_bytes(alloc: Global, count: &[u8], pair: &[u8]) -> Result<Bytes, ParseError>
     ensures { Gives result (repeated_of count.now pair.now) }
@@ -44,7 +44,7 @@ fn repeated_bytes(alloc: Global, count: &[u8], pair: &[u8]) -> Result<Bytes, Par
     Ok(Bytes::filled(alloc, byte[0], count)?)
 }
 
-/// Where the first `x` is.
+/// Returns the index of the first `x`.
 fn cross(word: &[u8]) -> Option<usize>
     ensures place { result ≡ position is_cross word.now }
     ensures within { IfSome result (λ at. at < length word.now) }
@@ -52,7 +52,7 @@ fn cross(word: &[u8]) -> Option<usize>
     word.iter().position(|b| *b == b'x')
 }
 
-/// The bytes of a word: `-` for none, hex digits, or `NxHH` for N bytes HH.
+/// Returns the bytes of a word: none for `-`, those of hexadecimal digits, or N bytes HH for `NxHH`.
 #[tactic(auto, unfolding(crate::specs::Reading::Operand::bytes_of))]
 pub fn bytes_said(alloc: Global, word: &[u8]) -> Result<Bytes, ParseError>
     ensures { Gives result (bytes_of word.now) }

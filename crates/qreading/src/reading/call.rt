@@ -1,4 +1,4 @@
-//! The call that a word and its operands name.
+//! Reads a call from its word and its operands.
 
 ghost use Rattle.std.specs.Prelude.{◌≡◌};
 ghost use Rattle.std.specs.Str.{bytes_eq};
@@ -16,14 +16,14 @@ use qmodel::call::Call;
 use qmodel::kind::CallKind;
 use std::alloc::Global;
 
-/// Whether the word is this one.
+/// Returns whether the word is `name`.
 pub fn is(word: &[u8], name: &str) -> bool
     ensures { result ≡ bytes_eq word.now name.now }
 {
     word == name.as_bytes()
 }
 
-/// The call of a word and its operands.
+/// Returns the call of a word and its operands.
 #[tactic(auto, unfolding(crate::specs::Reading::Call::call_of))]
 pub fn call_named(alloc: Global, word: &[u8], operands: &[u8]) -> Result<Call, ParseError>
     ensures { Gives result (call_of word.now (words_of operands.now)) }

@@ -1,4 +1,4 @@
-//! The operands of a line, from the left.
+//! Reads the operands of a line, from left to right. Each function refuses operands that are too few or too many.
 
 ghost use Rattle.std.specs.Prelude.{◌≡◌};
 ghost use Rattle.qreading.specs.Reading.Forms.{id_of, small_of, nothing_of, member_of, setprio_of, error_of, pulse_of, receive_of, send_of, reply_of, read_of, write_of};
@@ -14,7 +14,7 @@ use qmodel::call::Call;
 use qtables::member::Member;
 use std::alloc::Global;
 
-/// One id: that of a channel, a connection or a message.
+/// Reads one id, of 64 bits: that of a channel, a connection or a message.
 #[tactic(auto, unfolding(crate::specs::Reading::Forms::id_of))]
 pub fn one_id(operands: &[u8]) -> Result<u64, LineFault>
     ensures { result ≡ id_of (words_of operands.now) }
@@ -23,7 +23,7 @@ pub fn one_id(operands: &[u8]) -> Result<u64, LineFault>
     number(word)
 }
 
-/// One number of a byte: a thread, or a channel's flags.
+/// Reads one number below 256: a thread, or the flags of a channel.
 #[tactic(auto, unfolding(crate::specs::Reading::Forms::small_of))]
 pub fn one_small(operands: &[u8]) -> Result<u8, LineFault>
     ensures { result ≡ small_of (words_of operands.now) }
@@ -32,7 +32,7 @@ pub fn one_small(operands: &[u8]) -> Result<u8, LineFault>
     small(word)
 }
 
-/// No operands.
+/// Checks that there are no operands.
 #[tactic(auto, unfolding(crate::specs::Reading::Forms::nothing_of))]
 pub fn nothing(operands: &[u8]) -> Result<(), LineFault>
     ensures { result ≡ nothing_of (words_of operands.now) }
@@ -43,7 +43,7 @@ pub fn nothing(operands: &[u8]) -> Result<(), LineFault>
     }
 }
 
-/// A thread, its process and its base priority.
+/// Reads a thread, its process and its base priority.
 #[tactic(auto, unfolding(crate::specs::Reading::Forms::member_of))]
 pub fn member(operands: &[u8]) -> Result<Member, LineFault>
     ensures { result ≡ member_of (words_of operands.now) }
@@ -59,7 +59,7 @@ pub fn member(operands: &[u8]) -> Result<Member, LineFault>
     })
 }
 
-/// A thread and its priority.
+/// Reads a thread and its priority.
 #[tactic(auto, unfolding(crate::specs::Reading::Forms::setprio_of))]
 pub fn setprio(operands: &[u8]) -> Result<Call, ParseError>
     ensures { Gives result (setprio_of (words_of operands.now)) }
@@ -73,7 +73,7 @@ pub fn setprio(operands: &[u8]) -> Result<Call, ParseError>
     })
 }
 
-/// A receive id and a code.
+/// Reads a receive id and a code.
 #[tactic(auto, unfolding(crate::specs::Reading::Forms::error_of))]
 pub fn error(operands: &[u8]) -> Result<Call, ParseError>
     ensures { Gives result (error_of (words_of operands.now)) }
@@ -87,7 +87,7 @@ pub fn error(operands: &[u8]) -> Result<Call, ParseError>
     })
 }
 
-/// A connection, a priority, a code and a value.
+/// Reads a connection, a priority, a code and a value.
 #[tactic(auto, unfolding(crate::specs::Reading::Forms::pulse_of))]
 pub fn pulse(operands: &[u8]) -> Result<Call, ParseError>
     ensures { Gives result (pulse_of (words_of operands.now)) }
@@ -105,7 +105,7 @@ pub fn pulse(operands: &[u8]) -> Result<Call, ParseError>
     })
 }
 
-/// A channel and a buffer.
+/// Reads a channel and a buffer.
 #[tactic(auto, unfolding(crate::specs::Reading::Forms::receive_of))]
 pub fn receive(alloc: Global, operands: &[u8]) -> Result<Call, ParseError>
     ensures { Gives result (receive_of (words_of operands.now)) }
@@ -119,7 +119,7 @@ pub fn receive(alloc: Global, operands: &[u8]) -> Result<Call, ParseError>
     })
 }
 
-/// A connection, a message and a reply buffer.
+/// Reads a connection, a message and a reply buffer.
 #[tactic(auto, unfolding(crate::specs::Reading::Forms::send_of))]
 pub fn send(alloc: Global, operands: &[u8]) -> Result<Call, ParseError>
     ensures { Gives result (send_of (words_of operands.now)) }
@@ -135,7 +135,7 @@ pub fn send(alloc: Global, operands: &[u8]) -> Result<Call, ParseError>
     })
 }
 
-/// A receive id, a status and data.
+/// Reads a receive id, a status and data.
 #[tactic(auto, unfolding(crate::specs::Reading::Forms::reply_of))]
 pub fn reply(alloc: Global, operands: &[u8]) -> Result<Call, ParseError>
     ensures { Gives result (reply_of (words_of operands.now)) }
@@ -151,7 +151,7 @@ pub fn reply(alloc: Global, operands: &[u8]) -> Result<Call, ParseError>
     })
 }
 
-/// A receive id, an offset and a buffer.
+/// Reads a receive id, an offset and a buffer.
 #[tactic(auto, unfolding(crate::specs::Reading::Forms::read_of))]
 pub fn read(alloc: Global, operands: &[u8]) -> Result<Call, ParseError>
     ensures { Gives result (read_of (words_of operands.now)) }
@@ -167,7 +167,7 @@ pub fn read(alloc: Global, operands: &[u8]) -> Result<Call, ParseError>
     })
 }
 
-/// A receive id, an offset and data.
+/// Reads a receive id, an offset and data.
 #[tactic(auto, unfolding(crate::specs::Reading::Forms::write_of))]
 pub fn write(alloc: Global, operands: &[u8]) -> Result<Call, ParseError>
     ensures { Gives result (write_of (words_of operands.now)) }

@@ -1,9 +1,8 @@
-//! What the meaning of a script doesn't depend on: laws of the definitions, each the contract of a function
-//! that does nothing.
+//! Laws about the changes of a text that keep its meaning; each is the contract of a function that does nothing.
 
 ghost use Rattle.qreading.specs.Reading.Laws.{PassesOver, DropsReturn, DropsLastEnd};
 
-/// A blank line or a comment changes nothing but the numbers of the lines behind it.
+/// A blank line or a comment changes only the numbers of the lines behind it.
 pub fn passes_over()
     ensures { PassesOver }
 {}

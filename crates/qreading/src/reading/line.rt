@@ -1,4 +1,4 @@
-//! What one line says.
+//! Reads one line.
 
 ghost use Rattle.std.specs.Prelude.{◌≡◌};
 ghost use Rattle.std.specs.List.{list_all};
@@ -18,10 +18,10 @@ use std::alloc::Global;
 
 const MOST_BYTES: usize = 4096;
 
-/// What one line says.
+/// The content of one line.
 #[derive(Drop)]
 pub enum Line {
-    /// Nothing: it has no words, or is a comment.
+    /// No words, or a comment.
     Blank,
     /// A thread of the roster.
     Roster(Member),
@@ -29,7 +29,7 @@ pub enum Line {
     Call(ThreadNo, Call),
 }
 
-/// A call line: who calls, and what.
+/// Reads a call line: the thread that calls, and its call.
 #[tactic(auto, unfolding(crate::specs::Reading::Line::call_line_of))]
 fn call_line(alloc: Global, caller: &[u8], rest: &[u8]) -> Result<Line, ParseError>
     ensures { Gives result (call_line_of caller.now (words_of rest.now)) }
@@ -40,7 +40,7 @@ fn call_line(alloc: Global, caller: &[u8], rest: &[u8]) -> Result<Line, ParseErr
     Ok(Line::Call(ThreadNo(thread), call))
 }
 
-/// A roster line, after call lines or before them.
+/// Reads a roster line, which is refused if `is_late`, that is, behind call lines.
 #[tactic(auto, unfolding(crate::specs::Reading::Line::roster_line_of))]
 fn roster_line(is_late: bool, operands: &[u8]) -> Result<Line, LineFault>
     ensures { result ≡ roster_line_of is_late (words_of operands.now) }
@@ -52,7 +52,7 @@ fn roster_line(is_late: bool, operands: &[u8]) -> Result<Line, LineFault>
     Ok(Line::Roster(member))
 }
 
-/// Whether a line has only tabs and bytes that print.
+/// Returns whether a line has only tabs and printable ASCII (32 to 126).
 fn is_plain_text(line: &[u8]) -> bool
     ensures { result ≡ list_all is_text line.now }
 {
@@ -60,7 +60,7 @@ fn is_plain_text(line: &[u8]) -> bool
         .all(|b| *b == b'\t' || (*b >= 0x20 && *b <= 0x7e))
 }
 
-/// What a line says, whatever its length.
+/// Reads a line of any length; `is_late` says whether call lines are above it.
 #[tactic(auto, unfolding(crate::specs::Reading::Line::said_of))]
 fn said(alloc: Global, is_late: bool, line: &[u8]) -> Result<Line, ParseError>
     ensures { Gives result (said_of is_late line.now (words_of line.now)) }
@@ -80,7 +80,7 @@ fn said(alloc: Global, is_late: bool, line: &[u8]) -> Result<Line, ParseError>
     call_line(alloc, first, rest)
 }
 
-/// What a line says, after call lines or before them.
+/// Reads a line, which may have at most 4,096 bytes; `is_late` says whether call lines are above it.
 #[tactic(auto, unfolding(crate::specs::Reading::Line::line_of))]
 pub fn line_said(alloc: Global, is_late: bool, line: &[u8]) -> Result<Line, ParseError>
     ensures { Gives result (line_of is_late line.now) }

@@ -1,10 +1,10 @@
-//! The lines of a text, taken one after another from what is left of it.
+//! Takes the lines of a text, one after another, from the front of the rest.
 
 ghost use Rattle.std.specs.Prelude.{◌≡◌, ◌+◌, ◌<◌, ◌≤◌, [], ◌∷◌, drop, length, position, MatchOption, IfSome};
 ghost use Rattle.std.specs.List.{position_or_len};
 ghost use Rattle.qreading.specs.Reading.Lines.{lines_of, is_newline, without_return};
 
-/// The line without one carriage return at its end.
+/// Returns the line without one carriage return at its end.
 fn trim_return(line: &[u8]) -> &[u8]
     ensures { result.now ≡ without_return line.now }
 {
@@ -14,7 +14,7 @@ fn trim_return(line: &[u8]) -> &[u8]
     }
 }
 
-/// Where the first line end is.
+/// Returns the index of the first line end.
 fn newline(text: &[u8]) -> Option<usize>
     ensures place { result ≡ position is_newline text.now }
     ensures within { IfSome result (λ at. at < length text.now) }
@@ -22,7 +22,7 @@ fn newline(text: &[u8]) -> Option<usize>
     text.iter().position(|b| *b == b'\n')
 }
 
-/// How many bytes come before the first line end.
+/// Returns the number of bytes in front of the first line end.
 #[tactic(auto, using(crate::proofs::Texts::Words::place_some, crate::proofs::Texts::Words::place_none))]
 fn line_len(text: &[u8]) -> usize
     ensures place { result ≡ position_or_len is_newline text.now }
@@ -34,7 +34,7 @@ fn line_len(text: &[u8]) -> usize
     }
 }
 
-/// What stands after the byte at this place; nothing where no byte is there.
+/// Returns the text behind the byte at this index, or nothing if the text is shorter.
 fn after(text: &[u8], at: usize) -> &[u8]
     ensures value { result.now ≡ drop (at + 1) text.now }
     ensures shorter { 0 < length text.now → length result.now < length text.now }
@@ -46,7 +46,7 @@ fn after(text: &[u8], at: usize) -> &[u8]
     }
 }
 
-/// The first line of a text and what stands after its end; `None` where no text is left.
+/// Returns the first line of a text and the text behind its end, or `None` if the text is empty.
 pub fn next_line(text: &[u8]) -> Option<(&[u8], &[u8])>
     ensures lines { MatchOption result (lines_of text.now ≡ []) (λ next. lines_of text.now ≡ next.0.now ∷ lines_of next.1.now) }
     ensures shorter { IfSome result (λ next. length next.1.now < length text.now) }

@@ -1,4 +1,4 @@
-//! The numbers of a script.
+//! Reads the numbers of a script.
 
 ghost use Rattle.std.specs.Prelude.{◌≡◌, ◌<◌, ◌^◌, ℤ, pos, negsuc, IfSome};
 ghost use Rattle.qreading.specs.Reading.Number.{digits_of, number_of, priority_of, signed_of, integer_of};
@@ -8,7 +8,7 @@ use qbase::priority::Priority;
 
 const MOST_DIGITS: usize = 20;
 
-/// The value of one to twenty digits.
+/// Returns the value of one to twenty digits.
 #[tactic(auto, unfolding(crate::specs::Reading::Number::digits_of))]
 pub fn digits(word: &[u8]) -> Option<u128>
     ensures value { result ≡ digits_of word.now }
@@ -27,7 +27,7 @@ pub fn digits(word: &[u8]) -> Option<u128>
     Some(value)
 }
 
-/// A number of a byte.
+/// Reads a number below 256.
 #[tactic(auto, unfolding(crate::specs::Reading::Number::number_of))]
 pub fn small(word: &[u8]) -> Result<u8, LineFault>
     ensures { result ≡ number_of 256 word.now }
@@ -38,7 +38,7 @@ pub fn small(word: &[u8]) -> Result<u8, LineFault>
     }
 }
 
-/// A number of 64 bits.
+/// Reads a number of 64 bits.
 #[tactic(auto, unfolding(crate::specs::Reading::Number::number_of))]
 pub fn number(word: &[u8]) -> Result<u64, LineFault>
     ensures { result ≡ number_of (2 ^ 64) word.now }
@@ -49,7 +49,7 @@ pub fn number(word: &[u8]) -> Result<u64, LineFault>
     }
 }
 
-/// A priority.
+/// Reads a priority.
 #[tactic(auto, unfolding(crate::specs::Reading::Number::priority_of))]
 pub fn priority(word: &[u8]) -> Result<Priority, LineFault>
     ensures { result ≡ priority_of word.now }
@@ -61,7 +61,7 @@ pub fn priority(word: &[u8]) -> Result<Priority, LineFault>
     }
 }
 
-/// The value of digits, with a minus sign or without.
+/// Returns the value of digits, with or without a minus sign in front.
 #[tactic(auto, unfolding(crate::specs::Reading::Number::signed_of))]
 fn signed_number(word: &[u8]) -> Option<i128>
     ensures { result ≡ signed_of word.now }
@@ -78,7 +78,7 @@ fn signed_number(word: &[u8]) -> Option<i128>
     }
 }
 
-/// A signed number of 64 bits.
+/// Reads a signed number of 64 bits.
 #[tactic(auto, unfolding(crate::specs::Reading::Number::integer_of))]
 pub fn wide(word: &[u8]) -> Result<i64, LineFault>
     ensures { result ≡ integer_of (2 ^ 63) word.now }
@@ -89,7 +89,7 @@ pub fn wide(word: &[u8]) -> Result<i64, LineFault>
     }
 }
 
-/// A signed number of 32 bits.
+/// Reads a signed number of 32 bits.
 #[tactic(auto, unfolding(crate::specs::Reading::Number::integer_of))]
 pub fn narrow(word: &[u8]) -> Result<i32, LineFault>
     ensures { result ≡ integer_of (2 ^ 31) word.now }
@@ -100,7 +100,7 @@ pub fn narrow(word: &[u8]) -> Result<i32, LineFault>
     }
 }
 
-/// A signed number of 8 bits.
+/// Reads a signed number of 8 bits.
 #[tactic(auto, unfolding(crate::specs::Reading::Number::integer_of))]
 pub fn byte(word: &[u8]) -> Result<i8, LineFault>
     ensures { result ≡ integer_of (2 ^ 7) word.now }

@@ -1,4 +1,4 @@
-//! What a script means.
+//! Reads the text of a script.
 
 ghost use Rattle.std.specs.Prelude.{◌≡◌, ◌++◌, [], OnOk};
 ghost use Rattle.std.specs.List.{cons_option};
@@ -26,7 +26,7 @@ pub struct Script {
 }
 
 impl Script {
-    /// Adds what a line says.
+    /// Adds the content of a line.
     fn add(&mut self, said: Line) -> Result<(), AllocError>
         ensures roster { OnOk result (self.new.roster.items ≡ self.old.roster.items ++ cons_option (member_in (Ok said)) []) }
         ensures calls { OnOk result (self.new.calls.items ≡ self.old.calls.items ++ cons_option (call_in (Ok said)) []) }
@@ -40,7 +40,7 @@ impl Script {
     }
 }
 
-/// The fault of the line of this number.
+/// Returns the error of the line of this number; memory that ran out has no line.
 fn at_line(number: u64, error: ParseError) -> ScriptFault
     ensures { result ≡ of_line number error }
 {
@@ -56,7 +56,8 @@ fn has_thread(roster: &[Member], thread: ThreadNo) -> bool
     roster.iter().any(|m| m.thread == thread)
 }
 
-/// A line after a roster.
+/// Checks a line against the roster above it: no thread comes twice, there are at most 64, and each caller is in the
+/// roster.
 fn place(roster: &[Member], said: Line) -> Result<Line, LineFault>
     ensures { result ≡ line_after_roster roster.now said }
 {
@@ -80,7 +81,7 @@ fn place(roster: &[Member], said: Line) -> Result<Line, LineFault>
     }
 }
 
-/// What a line says that stands after those of the script.
+/// Reads a line that follows those of the script.
 #[tactic(auto, unfolding(crate::specs::Reading::Meaning::line_with))]
 fn line_after(alloc: Global, script: &Script, line: &[u8]) -> Result<Line, ParseError>
     ensures { Gives result (line_with script.now.roster.items script.now.calls.items line.now) }
@@ -90,7 +91,7 @@ fn line_after(alloc: Global, script: &Script, line: &[u8]) -> Result<Line, Parse
     Ok(placed)
 }
 
-/// What the text of a script means: its roster and calls, or its first faulty line with its first fault.
+/// Reads the text of a script: returns its roster and its calls, or its first faulty line with its first fault.
 pub fn parse(alloc: Global, text: &[u8]) -> Result<Script, ScriptFault>
     ensures { Means result (meaning text.now) }
 {

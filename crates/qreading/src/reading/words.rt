@@ -1,4 +1,4 @@
-//! The words of a line, taken one after another from what is left of it.
+//! Takes the words of a line, one after another, from the front of the rest.
 
 ghost use Rattle.std.specs.Prelude.{◌≡◌, ◌<◌, ◌≤◌, [], ◌∷◌, drop, length, not, position, IfSome, MatchOption, MatchResult};
 ghost use Rattle.std.specs.List.{position_or_len};
@@ -7,14 +7,14 @@ ghost use Rattle.qreading.specs.Reading.Words.{words_of, is_blank};
 
 use crate::fault::LineFault;
 
-/// Whether words are cut at this byte.
+/// Returns whether a byte is a blank: a space or a tab.
 fn is_blank_byte(byte: u8) -> bool
     ensures { result ≡ is_blank byte }
 {
     byte == b' ' || byte == b'\t'
 }
 
-/// Where the first byte is that is no blank.
+/// Returns the index of the first byte that isn't a blank.
 fn word_start(text: &[u8]) -> Option<usize>
     ensures place { result ≡ position (λ b. not (is_blank b)) text.now }
     ensures within { IfSome result (λ at. at < length text.now) }
@@ -22,7 +22,7 @@ fn word_start(text: &[u8]) -> Option<usize>
     text.iter().position(|b| !is_blank_byte(*b))
 }
 
-/// Where the first blank is.
+/// Returns the index of the first blank.
 fn blank_start(text: &[u8]) -> Option<usize>
     ensures place { result ≡ position is_blank text.now }
     ensures within { IfSome result (λ at. at < length text.now) }
@@ -30,7 +30,7 @@ fn blank_start(text: &[u8]) -> Option<usize>
     text.iter().position(|b| is_blank_byte(*b))
 }
 
-/// The text from its first byte on that is no blank.
+/// Returns the text without the blanks at its front.
 #[tactic(auto, using(crate::proofs::Texts::Words::place_some, crate::proofs::Texts::Words::place_none))]
 fn skip_blanks(text: &[u8]) -> &[u8]
     ensures { result.now ≡ drop (position_or_len (λ b. not (is_blank b)) text.now) text.now }
@@ -41,7 +41,7 @@ fn skip_blanks(text: &[u8]) -> &[u8]
     }
 }
 
-/// How many bytes come before the first blank.
+/// Returns the number of bytes in front of the first blank.
 #[tactic(auto, using(crate::proofs::Texts::Words::place_some, crate::proofs::Texts::Words::place_none))]
 fn word_len(text: &[u8]) -> usize
     ensures place { result ≡ position_or_len is_blank text.now }
@@ -53,7 +53,7 @@ fn word_len(text: &[u8]) -> usize
     }
 }
 
-/// The first word of a text and what stands after it; `None` where there is none.
+/// Returns the first word of a text and the text behind it, or `None` if there is no word.
 pub fn next_word(text: &[u8]) -> Option<(&[u8], &[u8])>
     ensures { MatchOption result (words_of text.now ≡ []) (λ next. words_of text.now ≡ next.0.now ∷ words_of next.1.now) }
 {
@@ -64,7 +64,7 @@ pub fn next_word(text: &[u8]) -> Option<(&[u8], &[u8])>
     Some(from_word.split_at(word_len(from_word)))
 }
 
-/// The first word and what stands after it.
+/// Returns the first word and the text behind it.
 pub fn first(text: &[u8]) -> Result<(&[u8], &[u8]), LineFault>
     ensures { MatchResult result (λ w. first_of (words_of text.now) ≡ Ok (w.0.now, words_of w.1.now)) (λ e. first_of (words_of text.now) ≡ Err e) }
 {
@@ -74,7 +74,7 @@ pub fn first(text: &[u8]) -> Result<(&[u8], &[u8]), LineFault>
     }
 }
 
-/// The one word that there is.
+/// Returns the word if there is just one.
 pub fn one(operands: &[u8]) -> Result<&[u8], LineFault>
     ensures { MatchResult result (λ w. one_of (words_of operands.now) ≡ Ok w.now) (λ e. one_of (words_of operands.now) ≡ Err e) }
 {
@@ -87,7 +87,7 @@ pub fn one(operands: &[u8]) -> Result<&[u8], LineFault>
     }
 }
 
-/// The two words that there are.
+/// Returns the words if there are just two.
 pub fn two(operands: &[u8]) -> Result<(&[u8], &[u8]), LineFault>
     ensures { MatchResult result (λ w. two_of (words_of operands.now) ≡ Ok (w.0.now, w.1.now)) (λ e. two_of (words_of operands.now) ≡ Err e) }
 {
@@ -98,7 +98,7 @@ pub fn two(operands: &[u8]) -> Result<(&[u8], &[u8]), LineFault>
     Ok((first, second))
 }
 
-/// The three words that there are.
+/// Returns the words if there are just three.
 pub fn three(operands: &[u8]) -> Result<(&[u8], &[u8], &[u8]), LineFault>
     ensures { MatchResult result (λ w. three_of (words_of operands.now) ≡ Ok (w.0.now, w.1.now, w.2.now)) (λ e. three_of (words_of operands.now) ≡ Err e) }
 {
@@ -109,7 +109,7 @@ pub fn three(operands: &[u8]) -> Result<(&[u8], &[u8], &[u8]), LineFault>
     Ok((first, second, third))
 }
 
-/// The four words that there are.
+/// Returns the words if there are just four.
 pub fn four(operands: &[u8]) -> Result<(&[u8], &[u8], &[u8], &[u8]), LineFault>
     ensures { MatchResult result (λ w. four_of (words_of operands.now) ≡ Ok (w.0.now, w.1.now, w.2.now, w.3.now)) (λ e. four_of (words_of operands.now) ≡ Err e) }
 {

@@ -10,15 +10,15 @@ use Rattle.qscript.specs.Printing.Printed.{texts_from, printed}
 abbrev pub with_more : Run → List Event → Run
 with_more run more = record { first = run.first; events = run.events ++ more }
 
--- the text of a run that goes on is its own text up to the open lines, then the lines of the further events,
--- and then the open lines after those
+-- the text of a longer run begins with that of the run up to its open lines; then come the lines of the
+-- further events, and then the lines of the threads that are blocked after those
 abbrev pub GoesOn : Type 0
 GoesOn = (run : Run) (more : List Event) (blocked : List Blocked)
     → printed (with_more run more) blocked
     ≡ texts_from run run.first run.events
     ++ (texts_from (with_more run more) (run.first + length run.events) more ++ flat_map open_text blocked)
 
--- no newline stands in it
+-- the line has no newline
 abbrev pub IsOneLine : List ℕ → Type 0
 IsOneLine line = AllByRecursion (λ b. b ≢ 10) line
 
@@ -26,14 +26,14 @@ IsOneLine line = AllByRecursion (λ b. b ≢ 10) line
 abbrev pub with_newline : List ℕ → List ℕ
 with_newline line = line ++ 10 ∷ []
 
--- so many lines, each of which ends in a newline and has no other
+-- the text has `count` lines, each with one newline at its end
 pub record IsLines (text : List ℕ) (count : ℕ) : Type 0 where
   pub lines : List (List ℕ)
   pub as_many : length lines ≡ count
   pub each : AllByRecursion IsOneLine lines
   pub text_is : text ≡ flat_map with_newline lines
 
--- how many calls end in these events
+-- the number of calls that end in these events
 abbrev pub endings_in : List Event → ℕ
 endings_in [] = 0
 endings_in (e ∷ events) = length e.endings + endings_in events

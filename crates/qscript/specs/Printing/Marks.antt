@@ -1,4 +1,4 @@
--- How a call ended, in words.
+-- The words for how a call ended.
 use Rattle.std.specs.Prelude.{ℕ, List, [], ◌∷◌, ◌++◌, codes, decimal}
 use Rattle.std.specs.Fmt.{signed_decimal}
 use Rattle.qbase.specs.Errno.{word_of}
@@ -10,13 +10,13 @@ use Rattle.qmodel.specs.declared.call.Mark.{Mark}
 use Rattle.qmodel.specs.declared.call.Mark.TheVariants as marks
 use Rattle.qscript.specs.Printing.State.{state_words}
 
--- what is told of a held message: the sender's process and thread, the connection, the three lengths and the
+-- the facts of a held message: the sender's process and thread, the connection, the three lengths and the
 -- priority
 abbrev pub info_words : Info → List (List ℕ)
 info_words i = codes "info" ∷ decimal i.process ∷ decimal i.thread ∷ decimal i.connection ∷ decimal i.msglen
     ∷ decimal i.srcmsglen ∷ decimal i.dstmsglen ∷ decimal i.priority ∷ []
 
--- what a pulse brings: a code and a value, the message whose sender wants to be unblocked, or the process
+-- the content of a pulse: a code and a value, the message whose sender is to be unblocked, or the process
 -- that detached
 abbrev pub brought_words : What → List (List ℕ)
 brought_words Message = []
@@ -24,11 +24,11 @@ brought_words (User code value) = codes "user" ∷ signed_decimal code ∷ signe
 brought_words (Unblock message) = codes "unblock" ∷ decimal message ∷ []
 brought_words (Disconnect process) = codes "disconnect" ∷ decimal process ∷ []
 
--- a pulse that was received: the number of the call that made it, its priority, and what it brings
+-- a received pulse: the number of the call that made it, its priority, and its content
 abbrev pub pulse_words : ℕ → ℕ → What → List (List ℕ)
 pulse_words item priority what = codes "pulse" ∷ decimal item ∷ decimal priority ∷ brought_words what
 
--- what is told of a thread: the words of its state, and its priority
+-- a thread's state and priority, as State returns them
 abbrev pub told_words : ThreadState → ℕ → List (List ℕ)
 told_words state priority = codes "state" ∷ state_words state ++ decimal priority ∷ []
 

@@ -13,20 +13,21 @@ use Rattle.qscript.specs.Printing.Marks.{mark_words}
 use Rattle.qscript.specs.Printing.Buffer.{buffer_words}
 use Rattle.qscript.specs.Printing.OpenLine.{open_text}
 
--- whether a call's buffer is printed when it ends: that of each call that brings one, which are Send, Receive
--- and Read
+-- whether a call's buffer is printed when it ends: for Send, Receive and Read, which are the calls that bring
+-- one
 abbrev pub shows_buffer : Call → Bool
 shows_buffer (Send coid message reply_buffer) = true
 shows_buffer (Receive chid buffer) = true
 shows_buffer (Read rcvid offset buffer) = true
 shows_buffer other = false
 
--- the call of this number, which is that of the event of this number, among a run's events up to another
+-- the call with this number, which is that of its event, among a run's events up to the event numbered
+-- `event`
 abbrev pub call_by : Run → ℕ → ℕ → Option Call
 call_by run event number = if nat_le run.first number && nat_le number event
     then option_map (λ e. e.call) (slice_get run.events (number - run.first)) else None
 
--- whether an ended call's buffer is printed; that of a call made before the run isn't
+-- whether an ended call's buffer is printed; it isn't if the call was made before the run
 abbrev pub is_shown : Option Call → Bool
 is_shown None = false
 is_shown (Some call) = shows_buffer call
@@ -35,7 +36,7 @@ is_shown (Some call) = shows_buffer call
 abbrev pub ended_words : Completion → Bool → List (List ℕ)
 ended_words e shows = if shows then buffer_words e.buffer else []
 
--- one line: the event, the ended call, its thread, its mark, and its buffer if it is printed
+-- the line of an ending: the event, the ended call, its thread, its mark, and its buffer if it is printed
 abbrev pub ended_text : ℕ → Completion → Bool → List ℕ
 ended_text event e shows =
     decimal event ++ words_with_spaces (decimal e.call ∷ decimal e.thread ∷ [])
@@ -49,11 +50,11 @@ ending_text run event e = ended_text event e (is_shown (call_by run event e.call
 abbrev pub event_text : Run → ℕ → List Completion → List ℕ
 event_text run event endings = flat_map (ending_text run event) endings
 
--- the lines of some events of a run, which are numbered from this number on
+-- the lines of these events of a run, which are numbered from `event` on
 abbrev pub texts_from : Run → ℕ → List Event → List ℕ
 texts_from run event [] = []
 texts_from run event (e ∷ events) = event_text run event e.endings ++ texts_from run (event + 1) events
 
--- a run's events, and then a line for each thread that is blocked after it
+-- the lines of a run's events, and then a line for each thread that is blocked after it
 unfoldable pub printed : Run → List Blocked → List ℕ
 printed run blocked = texts_from run run.first run.events ++ flat_map open_text blocked

@@ -1,4 +1,4 @@
--- The text of a run, made as the run goes.
+-- The text of a run, made event by event.
 use Rattle.std.specs.Prelude.{◌≡◌, ℕ, ◌+◌, ◌-◌, ◌&&◌, nat_le, Bool, false, List, map, slice_index_or}
 use Rattle.std.specs.Prelude.{string_bytes}
 use Rattle.qrules.specs.Lawful.{event_call}
@@ -13,18 +13,20 @@ use Rattle.qscript.specs.declared.printing.printer.Printer.{Printer}
 abbrev pub shows_own : Event → Bool
 shows_own e = shows_buffer e.call
 
--- whether the buffer of the call of a number is printed, where it is told which are from the first number on
+-- whether the buffer of the call with this number is printed, by a list that begins with the call numbered
+-- `first`
 abbrev pub shows_at : ℕ → List Bool → ℕ → Bool
 shows_at first shown number = nat_le first number && slice_index_or shown (number - first) false
 
--- all lines of a run's events are printed, and of each of its calls it is known whether its buffer is printed
+-- the printer has the lines of all events of the run, and knows for each of its calls whether its buffer is
+-- printed
 pub record HasPrinted (run : Run) (p : Printer) : Type 0 where
   pub first : p.first ≡ run.first
   pub shown : p.shown.items ≡ map shows_own run.events
   pub text : string_bytes p.text ≡ texts_from run run.first run.events
 
--- these calls were made by a kernel that was in the one state and is in the other, and the lines of their
--- events are printed
+-- a kernel made these calls and thereby went from the old state to the new one, and the lines of their events
+-- are printed
 pub record HasRun (old : State) (calls : List (ℕ × Call)) (new : State) (p : Printer) : Type 0 where
   pub events : List Event
   pub ran : RunsAtTraces old events new

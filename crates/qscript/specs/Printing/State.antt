@@ -4,7 +4,7 @@ use Rattle.qbase.specs.declared.state.ThreadState.{ThreadState}
 use Rattle.qbase.specs.declared.state.ThreadState.TheVariants.{Ready, SendBlocked, ReceiveBlocked}
 use Rattle.qbase.specs.declared.state.ThreadState.TheVariants.{ReplyBlocked}
 
--- the state's word and its channel
+-- the word of the state, and its channel
 abbrev pub state_words : ThreadState → List (List ℕ)
 state_words Ready = codes "ready" ∷ []
 state_words (SendBlocked chid) = codes "send" ∷ decimal chid ∷ []

@@ -1,7 +1,7 @@
--- Words in a row.
+-- Words with spaces.
 use Rattle.std.specs.Prelude.{ℕ, List, [], ◌∷◌, ◌++◌}
 
--- each word with a space before it
+-- each word behind a space
 abbrev pub words_with_spaces : List (List ℕ) → List ℕ
 words_with_spaces [] = []
 words_with_spaces (word ∷ []) = 32 ∷ word

@@ -1,4 +1,4 @@
--- What is written means what it was written for.
+-- The meaning of a script that was written.
 use Rattle.std.specs.Prelude.{◌≡◌, ℕ, ◌<◌, ◌≤◌, ◌^◌, true, false, List, [], ◌∷◌, ◌++◌, length, map}
 use Rattle.std.specs.List.{AllByRecursion}
 use Rattle.hex.specs.Hex.{IsBytes}
@@ -13,7 +13,7 @@ use Rattle.qreading.specs.TextLimit.{most_text}
 use Rattle.qscript.specs.Writing.Line.{call_line}
 use Rattle.qscript.specs.Writing.Text.{script_text}
 
--- a number of a byte
+-- a number below 256
 abbrev pub IsSmall : ℕ → Type 0
 IsSmall n = n < 256
 
@@ -25,7 +25,8 @@ IsNumber n = n < 2 ^ 64
 abbrev pub IsLevel : ℕ → Type 0
 IsLevel n = (1 ≤ n) × (n ≤ 255)
 
--- a call whose numbers, priorities and bytes are those of their types, as each call's of a program are
+-- a call whose numbers, priorities and bytes are within the ranges of their types, as those of every call of
+-- a program are
 abbrev pub IsTyped : Call → Type 0
 IsTyped (calls.ChannelCreate flags) = IsSmall flags.0
 IsTyped (calls.ConnectAttach chid) = IsNumber chid
@@ -46,23 +47,23 @@ IsTyped calls.Shutdown = Unit {0}
 IsTyped (calls.Unblock thread) = IsSmall thread
 IsTyped (calls.ConnectDetach coid) = IsNumber coid
 
--- a thread of which the same is so
+-- a thread whose numbers are within the ranges of their types
 abbrev pub IsTypedMember : Member → Type 0
 IsTypedMember m = IsSmall m.thread × IsSmall m.process × IsLevel m.priority
 
--- an event's call can stand in a script of these threads: one of them made it, it is typed, and its line
--- isn't too long
+-- an event's call can stand in a script of these threads: one of them made it, its numbers are in range, and
+-- its line isn't too long
 abbrev pub IsWritable : List Member → Event → Type 0
 IsWritable roster e = (is_in e.thread roster ≡ true) × IsSmall e.thread × IsTyped e.call
     × (length (call_line e.thread e.call) ≤ 4096)
 
--- after some threads these may stand in a script: none comes twice, and there are at most 64
+-- these threads may stand in a script behind those before them: none comes twice, and there are at most 64
 abbrev pub MayStand : List Member → List Member → Type 0
 MayStand before [] = Unit {0}
 MayStand before (m ∷ members) =
     (is_in m.thread before ≡ false) × (length before < 64) × MayStand (before ++ m ∷ []) members
 
--- a script that was written means just the threads and the calls that it was written for
+-- a script that was written means just the threads and calls that it was written for
 abbrev pub ScriptsAreRead : Type 0
 ScriptsAreRead = (roster : List Member) (events : List Event) → MayStand [] roster
     → AllByRecursion IsTypedMember roster → AllByRecursion (IsWritable roster) events

@@ -1,4 +1,4 @@
--- The lines of a script as they are written.
+-- The lines of a written script.
 use Rattle.std.specs.Prelude.{ℕ, List, [], ◌∷◌, ◌++◌, codes, decimal}
 use Rattle.std.specs.Fmt.{signed_decimal}
 use Rattle.qtables.specs.declared.member.Member.{Member}

@@ -1,4 +1,4 @@
--- The text of a script as it is written.
+-- The text of a written script.
 use Rattle.std.specs.Prelude.{ℕ, List, [], ◌∷◌, ◌++◌}
 use Rattle.std.specs.List.{flat_map}
 use Rattle.qtables.specs.declared.member.Member.{Member}
@@ -13,6 +13,6 @@ member_text m = member_line m ++ 10 ∷ []
 abbrev pub call_text : Event → List ℕ
 call_text e = call_line e.thread e.call ++ 10 ∷ []
 
--- a line for each thread of a roster, and then one for the call of each event
+-- a line for each thread of the roster, and then one for the call of each event
 unfoldable pub script_text : List Member → List Event → List ℕ
 script_text roster events = flat_map member_text roster ++ flat_map call_text events

@@ -1,4 +1,4 @@
-//! A buffer in hexadecimal digits.
+//! Prints a buffer in hexadecimal digits.
 
 ghost use Rattle.std.specs.Prelude.{◌≡◌, ◌++◌, ◌∷◌, [], ◌<◌, OnOk, slice_index, string_bytes};
 ghost use Rattle.std.specs.Char.{encode_utf8};
@@ -10,7 +10,7 @@ use std::alloc::AllocError;
 
 const DIGITS: &[u8; 16] = b"0123456789abcdef";
 
-/// The small hexadecimal digit of a value.
+/// Returns the lowercase hexadecimal digit of a value.
 fn digit(value: u8) -> char
     requires { value < 16 }
     ensures { encode_utf8 result ≡ slice_index lower_digits value ∷ [] }
@@ -18,7 +18,7 @@ fn digit(value: u8) -> char
     char::from(DIGITS[value as usize])
 }
 
-/// Two small hexadecimal digits for each byte.
+/// Adds two lowercase hexadecimal digits for each byte.
 fn push_digits(out: &mut String, bytes: &[u8]) -> Result<(), AllocError>
     ensures { OnOk result (string_bytes out.new ≡ string_bytes out.old ++ encode_lower bytes.now) }
 {
@@ -29,7 +29,7 @@ fn push_digits(out: &mut String, bytes: &[u8]) -> Result<(), AllocError>
     Ok(())
 }
 
-/// The bytes in small hexadecimal digits, or `-` where there are none, with a space before them.
+/// Adds a space and the bytes in lowercase hexadecimal digits, or `-` if there are none.
 pub fn push_buffer(out: &mut String, bytes: &[u8]) -> Result<(), AllocError>
     ensures { OnOk result (string_bytes out.new ≡ string_bytes out.old ++ words_with_spaces (buffer_words bytes.now)) }
 {

@@ -1,4 +1,4 @@
-//! The lines of an event: one for each call that ended in it.
+//! Prints the lines of an event: one for each call that ended in it.
 
 ghost use Rattle.std.specs.Prelude.{◌≡◌, ◌++◌, OnOk, string_bytes};
 ghost use Rattle.std.specs.List.{flat_map};
@@ -11,7 +11,7 @@ use crate::printing::marks::push_mark;
 use qkernel::call::{Call, Completion};
 use std::alloc::AllocError;
 
-/// Whether the call's buffer is printed when it ends.
+/// Returns whether the call's buffer is printed when it ends: for Send, Receive and Read.
 pub fn shows(call: &Call) -> bool
     ensures { result ≡ shows_buffer call.now }
 {
@@ -21,7 +21,8 @@ pub fn shows(call: &Call) -> bool
     )
 }
 
-/// Whether the buffer of the call of this number is printed, where it is told which are from the first call on.
+/// Returns whether the buffer of the call with this number is printed. `shown` says it for the calls from the one
+/// numbered `first` on.
 fn is_shown(first: u64, shown: &[bool], number: u64) -> bool
     ensures { result ≡ shows_at first shown.now number }
 {
@@ -43,7 +44,7 @@ fn push_ended_buffer(out: &mut String, ending: &Completion, shows: bool) -> Resu
     Ok(())
 }
 
-/// `EVENT CALL THREAD MARK`, the call's buffer if it is printed, and a newline.
+/// Adds `EVENT CALL THREAD MARK`, the call's buffer if it is printed, and a newline.
 fn push_ending(
     out: &mut String,
     event: u64,
@@ -60,7 +61,8 @@ fn push_ending(
     write!(out, "\n")
 }
 
-/// The lines of the event of this number. Whether a buffer is printed is told for each call from the first one on.
+/// Adds the lines of the event with this number. `shown` says for each call, from the one numbered `first` on, whether
+/// its buffer is printed.
 pub fn push_endings(
     out: &mut String,
     first: u64,

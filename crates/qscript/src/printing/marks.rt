@@ -1,4 +1,4 @@
-//! How a call ended, in words.
+//! Prints how a call ended.
 
 ghost use Rattle.std.specs.Prelude.{◌≡◌, [], ◌∷◌, ◌++◌, OnOk, codes, decimal, string_bytes};
 ghost use Rattle.std.specs.Fmt.{signed_decimal};
@@ -14,7 +14,7 @@ use qkernel::call::{Info, Mark};
 use qqueue::item::What;
 use std::alloc::AllocError;
 
-/// The mark's words, each with a space before it.
+/// Adds the words of a mark, each behind a space.
 #[tactic(auto, unfolding(crate::specs::Printing::Marks::mark_words))]
 pub fn push_mark(out: &mut String, mark: Mark) -> Result<(), AllocError>
     ensures { OnOk result (string_bytes out.new ≡ string_bytes out.old ++ words_with_spaces (mark_words mark)) }
@@ -38,7 +38,7 @@ pub fn push_mark(out: &mut String, mark: Mark) -> Result<(), AllocError>
     }
 }
 
-/// `fail ERROR`
+/// Adds `fail ERROR`.
 fn push_failed(out: &mut String, errno: Errno) -> Result<(), AllocError>
     ensures { OnOk result (string_bytes out.new ≡ string_bytes out.old ++ words_with_spaces (codes "fail" ∷ word_of errno ∷ [])) }
 {
@@ -46,21 +46,21 @@ fn push_failed(out: &mut String, errno: Errno) -> Result<(), AllocError>
     write!(out, " fail {word}")
 }
 
-/// `reply STATUS COPIED`
+/// Adds `reply STATUS COPIED`.
 fn push_replied(out: &mut String, status: i64, copied: usize) -> Result<(), AllocError>
     ensures { OnOk result (string_bytes out.new ≡ string_bytes out.old ++ words_with_spaces (codes "reply" ∷ signed_decimal status ∷ decimal copied ∷ [])) }
 {
     write!(out, " reply {status} {copied}")
 }
 
-/// `error CODE`
+/// Adds `error CODE`.
 fn push_errored(out: &mut String, code: i32) -> Result<(), AllocError>
     ensures { OnOk result (string_bytes out.new ≡ string_bytes out.old ++ words_with_spaces (codes "error" ∷ signed_decimal code ∷ [])) }
 {
     write!(out, " error {code}")
 }
 
-/// `info PROCESS THREAD CONNECTION MSGLEN SRCMSGLEN DSTMSGLEN PRIORITY`
+/// Adds `info PROCESS THREAD CONNECTION MSGLEN SRCMSGLEN DSTMSGLEN PRIORITY`.
 fn push_info(out: &mut String, info: Info) -> Result<(), AllocError>
     ensures { OnOk result (string_bytes out.new ≡ string_bytes out.old ++ words_with_spaces (info_words info)) }
 {
@@ -77,7 +77,7 @@ fn push_info(out: &mut String, info: Info) -> Result<(), AllocError>
     )
 }
 
-/// `pulse ITEM PRIORITY` and what it brings.
+/// Adds `pulse ITEM PRIORITY` and the content of the pulse.
 fn push_pulse(out: &mut String, item: u64, priority: Priority, what: What) -> Result<(), AllocError>
     ensures { OnOk result (string_bytes out.new ≡ string_bytes out.old ++ words_with_spaces (pulse_words item priority what)) }
 {
@@ -86,7 +86,7 @@ fn push_pulse(out: &mut String, item: u64, priority: Priority, what: What) -> Re
     push_brought(out, what)
 }
 
-/// `user CODE VALUE`, `unblock RECEIVE_ID` or `disconnect PROCESS`. A message is none of these, and no
+/// Adds `user CODE VALUE`, `unblock RECEIVE_ID` or `disconnect PROCESS`. `What::Message` is never the content of a
 /// pulse.
 fn push_brought(out: &mut String, what: What) -> Result<(), AllocError>
     ensures { OnOk result (string_bytes out.new ≡ string_bytes out.old ++ words_with_spaces (brought_words what)) }
@@ -99,7 +99,7 @@ fn push_brought(out: &mut String, what: What) -> Result<(), AllocError>
     }
 }
 
-/// `state ready PRIORITY`, or `state STATE CHANNEL PRIORITY` where STATE is `send`, `receive` or `reply`.
+/// Adds `state ready PRIORITY`, or `state STATE CHANNEL PRIORITY` with `send`, `receive` or `reply` for STATE.
 fn push_told(out: &mut String, state: ThreadState, priority: Priority) -> Result<(), AllocError>
     ensures { OnOk result (string_bytes out.new ≡ string_bytes out.old ++ words_with_spaces (told_words state priority)) }
 {

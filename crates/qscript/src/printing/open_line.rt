@@ -1,4 +1,4 @@
-//! A thread that is blocked when the run is over.
+//! Prints the line of a thread that is blocked when the run is over.
 
 ghost use Rattle.std.specs.Prelude.{◌≡◌, ◌++◌, OnOk, string_bytes};
 ghost use Rattle.qscript.specs.Printing.Words.{words_with_spaces};
@@ -9,7 +9,7 @@ use qbase::state::ThreadState;
 use qkernel::open_call::Blocked;
 use std::alloc::AllocError;
 
-/// The state's word and its channel, each with a space before it.
+/// Adds the word of the state and its channel, each behind a space.
 fn push_state(out: &mut String, state: ThreadState) -> Result<(), AllocError>
     ensures { OnOk result (string_bytes out.new ≡ string_bytes out.old ++ words_with_spaces (state_words state)) }
 {
@@ -30,7 +30,7 @@ fn push_state(out: &mut String, state: ThreadState) -> Result<(), AllocError>
     }
 }
 
-/// `open NUMBER THREAD STATE CHANNEL` and a newline.
+/// Adds `open NUMBER THREAD STATE CHANNEL` and a newline.
 pub fn push_open(out: &mut String, blocked: Blocked) -> Result<(), AllocError>
     ensures { OnOk result (string_bytes out.new ≡ string_bytes out.old ++ open_text blocked) }
 {

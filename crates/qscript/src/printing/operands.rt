@@ -1,18 +1,18 @@
-//! A name and the numbers behind it, each with a space before it.
+//! Prints a name and the numbers that follow it, each behind a space.
 
 ghost use Rattle.std.specs.Prelude.{◌≡◌, [], ◌∷◌, ◌++◌, OnOk, decimal, string_bytes};
 ghost use Rattle.qscript.specs.Printing.Words.{words_with_spaces};
 
 use std::alloc::AllocError;
 
-/// `NAME NUMBER`
+/// Adds `NAME NUMBER`.
 pub fn number(out: &mut String, name: &str, number: u64) -> Result<(), AllocError>
     ensures { OnOk result (string_bytes out.new ≡ string_bytes out.old ++ words_with_spaces (name.now ∷ decimal number ∷ [])) }
 {
     write!(out, " {name} {number}")
 }
 
-/// `NAME NUMBER NUMBER`
+/// Adds `NAME NUMBER NUMBER`.
 pub fn numbers(out: &mut String, name: &str, first: u64, second: u64) -> Result<(), AllocError>
     ensures { OnOk result (string_bytes out.new ≡ string_bytes out.old ++ words_with_spaces (name.now ∷ decimal first ∷ decimal second ∷ [])) }
 {

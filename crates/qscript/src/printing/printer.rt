@@ -1,4 +1,4 @@
-//! The text of a run, made as the run goes.
+//! Prints the text of a run, event by event.
 
 ghost use Rattle.std.specs.Prelude.{◌≡◌, ◌+◌, ◌^◌, ◌<◌, [], ◌∷◌, ◌++◌, length, IfOk, OnOk, string_bytes};
 ghost use Rattle.std.specs.List.{flat_map};
@@ -14,10 +14,10 @@ use qkernel::call::Completion;
 use qkernel::open_call::Blocked;
 use std::alloc::{AllocError, Global};
 
-/// How many bytes are reserved for the lines of an event: as many as most have without bytes, and some more.
+/// The number of bytes that are reserved for the lines of an event: a typical line without a buffer, and some more.
 const LINE: usize = 32;
 
-/// The lines of the events so far, and of which of their calls the buffer is printed when it ends. The calls
+/// The lines of the events so far, and for each of their calls whether its buffer is printed when it ends. The calls
 /// themselves aren't kept.
 #[derive(Drop)]
 pub struct Printer {
@@ -27,7 +27,7 @@ pub struct Printer {
 }
 
 impl Printer {
-    /// A printer of a run whose first event has this number, with room for the lines of so many.
+    /// Returns the printer of a run whose first event has this number, with room for the lines of `events` events.
     pub fn new(alloc: Global, first: u64, events: usize) -> Result<Printer, AllocError>
         ensures { IfOk result (HasPrinted (record { first = first; events = [] })) }
     {
@@ -38,7 +38,7 @@ impl Printer {
         })
     }
 
-    /// The lines of the next event, and whether the buffer of its own call is printed when that ends.
+    /// Adds the lines of the next event. `shows` says whether the buffer of its own call is printed when that ends.
     pub fn push_event(&mut self, shows: bool, endings: &[Completion]) -> Result<(), AllocError>
         requires { self.old.first + length self.old.shown.items < 2 ^ 64 }
         ensures { OnOk result ((run : Run) (e : Event) → HasPrinted run self.old → shows_buffer e.call ≡ shows → e.endings ≡ endings.now → HasPrinted (with_more run (e ∷ [])) self.new) }
@@ -55,7 +55,7 @@ impl Printer {
         Ok(())
     }
 
-    /// The text of the whole run: its events' lines, and one for each thread that is blocked after it.
+    /// Returns the text of the whole run: the lines of its events, and one for each thread that is blocked after it.
     pub fn finish(self, blocked: &[Blocked]) -> Result<String, AllocError>
         ensures { IfOk result (λ text. (run : Run) → HasPrinted run self → string_bytes text ≡ printed run blocked.now) }
     {

@@ -1,8 +1,8 @@
-//! Laws of scripts that are written.
+//! Laws of written scripts.
 
 ghost use Rattle.qscript.specs.Writing.Laws.{ScriptsAreRead};
 
-/// A script that was written means just the threads and the calls that it was written for.
+/// A script that was written means just the threads and calls that it was written for.
 pub fn scripts_are_read()
     ensures { ScriptsAreRead }
 {}

@@ -1,4 +1,4 @@
-//! Checks a design against the verdict that stands beside it.
+//! Checks a design against the verdict beside it.
 
 use super::CheckFault;
 use super::places::{Example, count_unread};
@@ -10,7 +10,7 @@ use crate::lines::without_returns;
 use std::rt::Files;
 use std::{fs, io};
 
-/// Explores a design, compares what is told of it with its verdict, and counts it.
+/// Explores a design, compares the words of the search with its verdict, and counts the outcome.
 pub fn check_design<R: Files + Print + Eprint + AllocGlobal>(
     rt: &R,
     run: &CheckRun,
@@ -35,7 +35,7 @@ pub fn check_design<R: Files + Print + Eprint + AllocGlobal>(
     }
 }
 
-/// Compares what is told with a verdict.
+/// Compares the words of a search with a verdict.
 fn compare<R: Files + Print + Eprint + AllocGlobal>(
     rt: &R,
     run: &CheckRun,
@@ -62,7 +62,7 @@ fn compare<R: Files + Print + Eprint + AllocGlobal>(
     )
 }
 
-/// Writes the verdict of a design that has none, if that is wanted.
+/// Writes the verdict of a design that has none, if verdicts are to be written.
 fn check_without<R: Files + Print + Eprint + AllocGlobal>(
     rt: &R,
     run: &CheckRun,
@@ -78,7 +78,7 @@ fn check_without<R: Files + Print + Eprint + AllocGlobal>(
     println!(rt; "{name}: no verdict").map_err(CheckFault::Unwritten)
 }
 
-/// Writes what is told of a design into its verdict.
+/// Writes the words of a search into the verdict of a design.
 fn write_verdict<R: Files + Print + Eprint + AllocGlobal>(
     rt: &R,
     example: &Example,

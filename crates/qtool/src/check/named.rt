@@ -1,11 +1,11 @@
-//! Checks a script with names, which says itself what it expects.
+//! Checks a script with names, which has its expectations in it.
 
 use super::CheckFault;
 use super::places::Example;
 use super::tally::Tally;
 use crate::names::faults_of;
 
-/// Runs a script with names, tells what isn't as it expects, and counts it.
+/// Runs a script with names, prints what differs from its expectations, and counts the outcome.
 pub fn check_named<R: Print + AllocGlobal>(
     rt: &R,
     example: &Example,

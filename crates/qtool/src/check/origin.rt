@@ -1,13 +1,13 @@
-//! From which line of a script a line of its trace comes.
+//! Finds the line of a script from which a line of its trace comes.
 
 use crate::difference::Difference;
 use qexplain::parts::{Lines, call_lines};
 use std::alloc::{AllocError, Global};
 
-/// How many bytes of a line are shown at most.
+/// The most bytes of a line that are shown.
 const MOST_SHOWN: usize = 72;
 
-/// `line NUMBER: LINE` of the call that a difference is about; `None` where it is about none.
+/// Returns `line NUMBER: LINE` of the call that a difference is about, or `None` if it isn't about a call.
 pub fn origin_of(
     alloc: Global,
     script: &[u8],
@@ -27,7 +27,7 @@ pub fn origin_of(
     Ok(Some(shown))
 }
 
-/// Adds the front of a line, and two dots where something is left out.
+/// Adds the front of a line, with two dots if the rest is left out.
 fn push_front(shown: &mut String, line: &[u8]) -> Result<(), AllocError> {
     for byte in line.iter().take(MOST_SHOWN) {
         match *byte {

@@ -1,4 +1,4 @@
-//! Which scripts are to be checked, and where their traces stand.
+//! Finds the scripts to check, and their traces.
 
 use super::CheckFault;
 use super::tally::Tally;
@@ -9,7 +9,7 @@ use std::alloc::{AllocError, Global};
 use std::rt::Files;
 use std::{fs, io};
 
-/// A script and its trace: what it is called, and both files.
+/// A script and its trace: its name in the output, and both files.
 #[derive(Drop)]
 pub struct Example {
     pub name: String,
@@ -17,9 +17,9 @@ pub struct Example {
     pub trace: String,
 }
 
-/// The scripts of these files and folders, in order: those of a folder in the order of their names. What can't be read
-/// is told and counted. A script of the only
-/// folder or of the current one is called by its name alone, any other by its path.
+/// Returns the scripts of these files and folders, in order; those of a folder are sorted by name. A path that can't be
+/// read is reported and counted. A script of the only folder, or of the current one, is named by its file name alone,
+/// any other by its path.
 pub fn examples<R: Files + Eprint + AllocGlobal + Clone + Drop>(
     rt: &R,
     paths: &[String],
@@ -40,7 +40,7 @@ pub fn examples<R: Files + Eprint + AllocGlobal + Clone + Drop>(
     Ok(examples)
 }
 
-/// Tells of a file or folder that can't be read, or written, and counts it.
+/// Reports a file or folder that can't be read or written, and counts it.
 pub fn count_unread<R: Eprint>(
     rt: &R,
     path: &str,
@@ -55,7 +55,7 @@ pub fn count_unread<R: Eprint>(
     Ok(())
 }
 
-/// Adds the scripts of a folder, in the order of their names.
+/// Adds the scripts of a folder, sorted by name.
 fn push_folder<R: Files + Eprint + AllocGlobal + Clone + Drop>(
     rt: &R,
     folder: &str,
@@ -81,7 +81,7 @@ fn push_folder<R: Files + Eprint + AllocGlobal + Clone + Drop>(
     Ok(())
 }
 
-/// The names of the scripts in a folder: without `.txt`, and with `.names` or `.design`.
+/// Returns the names of the scripts in a folder: without `.txt`, and with `.names` or `.design`.
 fn names_read<R: Files + AllocGlobal + Clone + Drop>(
     rt: &R,
     folder: &str,
@@ -100,7 +100,7 @@ fn names_read<R: Files + AllocGlobal + Clone + Drop>(
     Ok(names)
 }
 
-/// The script of a name in a folder.
+/// Returns the script with this name in a folder.
 fn example_in(
     alloc: Global,
     folder: &str,
@@ -119,7 +119,7 @@ fn example_in(
     })
 }
 
-/// The file of a script of this name in a folder.
+/// Returns the file of the script with this name in a folder.
 fn script_in(alloc: Global, folder: &str, name: &str) -> Result<String, AllocError> {
     if is_named(name) || is_design(name) {
         format!(in alloc; "{folder}/{name}")
@@ -128,8 +128,7 @@ fn script_in(alloc: Global, folder: &str, name: &str) -> Result<String, AllocErr
     }
 }
 
-/// The file that has what a script's or a design's file is to be compared with: NAME.trace of NAME.txt, and NAME.verdict
-/// of NAME.design.
+/// Returns the file to compare with: NAME.trace for NAME.txt, and NAME.verdict for NAME.design.
 fn trace_of(alloc: Global, path: &str) -> Result<String, AllocError> {
     if let Some(name) = path.strip_suffix(".design") {
         return format!(in alloc; "{name}.verdict");
@@ -138,7 +137,7 @@ fn trace_of(alloc: Global, path: &str) -> Result<String, AllocError> {
     format!(in alloc; "{name}.trace")
 }
 
-/// The script of a file.
+/// Returns the script of a file.
 fn example_of(alloc: Global, path: &str) -> Result<Example, AllocError> {
     let name = path.strip_suffix(".txt").unwrap_or(path);
     Ok(Example {

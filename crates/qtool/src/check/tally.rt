@@ -1,26 +1,26 @@
-//! How many scripts came to what.
+//! Counts the outcomes of a check.
 
 use crate::example::Outcome;
 use std::fmt;
 
-/// How many scripts came to what.
+/// The number of scripts with each outcome.
 #[derive(Clone, Copy, Debug, Default, PartialEq, Eq)]
 pub struct Tally {
-    /// Those that printed their traces.
+    /// The scripts that printed their traces.
     pub same: usize,
-    /// Those that printed something else.
+    /// The scripts that printed something else.
     pub differ: usize,
-    /// Those without a trace.
+    /// The scripts without a trace.
     pub without: usize,
-    /// Those whose traces were written.
+    /// The scripts whose traces were written.
     pub written: usize,
-    /// Those that have no run.
+    /// The scripts that have no run.
     pub faulty: usize,
-    /// The files and folders that can't be read, or written.
+    /// The files and folders that can't be read or written.
     pub unread: usize,
 }
 
-/// `11 same, 1 differs, 3 without a trace`: what there is any of.
+/// `11 same, 1 differs, 3 without a trace`; zeros are left out.
 impl fmt::Display for Tally {
     fn fmt<W: fmt::Write>(&self, f: &mut fmt::Formatter<W>) -> fmt::Result {
         let first = put(f, true, self.same, "same")?;
@@ -33,7 +33,7 @@ impl fmt::Display for Tally {
     }
 }
 
-/// Writes a count that isn't 0, behind a comma if it isn't the first; answers whether none is written yet.
+/// Writes a count that isn't 0, behind a comma if it isn't the first; returns whether none is written so far.
 fn put<W: fmt::Write>(
     f: &mut fmt::Formatter<W>,
     first: bool,
@@ -64,12 +64,12 @@ impl Tally {
         }
     }
 
-    /// Whether a script was looked at.
+    /// Returns whether any script was checked.
     pub fn has_some(&self) -> bool {
         self.same > 0 || self.differ > 0 || self.without > 0 || self.written > 0 || self.faulty > 0
     }
 
-    /// The status that the check ends with.
+    /// Returns the exit status of the check.
     pub fn status(&self) -> u8 {
         if self.unread > 0 {
             3

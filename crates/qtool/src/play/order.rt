@@ -1,26 +1,26 @@
-//! What a line asks for.
+//! The order of a line.
 
 use qreading::reading::call::is;
 use qreading::reading::words::next_word;
 
-/// What a line asks for.
+/// The order of a line.
 #[derive(Clone, Copy, Debug, PartialEq, Eq)]
 pub enum Order<'a> {
-    /// To tell of all threads.
+    /// Print the state of each thread.
     State,
-    /// To take the last line back.
+    /// Remove the last line.
     Undo,
-    /// To write the lines so far into the file of this name, which may be missing.
+    /// Write the lines so far into the file with this name, which is empty if it is missing.
     Save(&'a [u8]),
-    /// To list the commands.
+    /// List the commands.
     Help,
-    /// To end.
+    /// End the play.
     Quit,
-    /// To add it to the script.
+    /// Add the line to the script.
     Line,
 }
 
-/// The word of a line that has just one.
+/// Returns the word of a line that has just one.
 fn only_word(line: &[u8]) -> Option<&[u8]> {
     let (word, rest) = next_word(line)?;
     match next_word(rest) {
@@ -29,7 +29,7 @@ fn only_word(line: &[u8]) -> Option<&[u8]> {
     }
 }
 
-/// What a line without its end asks for.
+/// Returns the order of a line without its end.
 pub fn order_of(line: &[u8]) -> Order<'_> {
     if let Some((word, rest)) = next_word(line)
         && is(word, "save")
@@ -45,7 +45,7 @@ pub fn order_of(line: &[u8]) -> Order<'_> {
     }
 }
 
-/// The order that a word is by itself.
+/// Returns the order that is a single word.
 fn order_named<'a>(word: &[u8]) -> Order<'a> {
     if is(word, "state") {
         Order::State

@@ -1,4 +1,4 @@
-//! The lines of a play: a plain script, or one with names from the first line on that only such a one has.
+//! The lines of a play: a plain script, which becomes one with names at the first line that only such a script has.
 
 use qnames::fault::Fault;
 use qnames::line::Place;
@@ -10,23 +10,23 @@ use qreplay::session::Session;
 use qscript::fault::{LineFault, ScriptFault};
 use std::alloc::{AllocError, Global};
 
-/// What came of lines.
+/// The outcome of adding lines.
 #[derive(Debug, Drop)]
 pub enum Taken {
     /// They are added.
     Added(Addition),
-    /// The line of this number, counted from the first of all, is no line of a plain script.
+    /// The line with this number, counted from the first of all, isn't one of a plain script.
     Plain(u64, LineFault),
-    /// They aren't lines of a script with names.
+    /// The lines aren't those of a script with names.
     Named(Vec<Fault>),
 }
 
-/// What added lines brought.
+/// The effects of added lines.
 #[derive(Debug, Drop)]
 pub struct Addition {
     /// What they add to the trace, without the lines of blocked threads.
     pub printed: Vec<u8>,
-    /// What isn't as expected by now, and was before.
+    /// What differs from the expectations now, and wasn't reported before.
     pub faults: Vec<Fault>,
 }
 
@@ -34,7 +34,7 @@ pub struct Addition {
 #[derive(Drop)]
 struct Names {
     text: Vec<u8>,
-    /// Where something wasn't as expected.
+    /// The places of the faults reported so far.
     told: Vec<Place>,
 }
 
@@ -46,7 +46,7 @@ pub struct Sheet {
     names: Option<Names>,
 }
 
-/// Whether a line has a sign that plain lines have only in comments: `=`, `->`, `;`, quotes or brackets.
+/// Returns whether a line has a sign that plain lines have only in comments: `=`, `->`, `;`, quotes or brackets.
 fn has_signs(line: &[u8]) -> bool {
     let mut before = b' ';
     for byte in line {
@@ -60,7 +60,7 @@ fn has_signs(line: &[u8]) -> bool {
     false
 }
 
-/// Lines behind others, each with its end.
+/// Returns these lines behind others, each with its end.
 fn joined(alloc: Global, front: &[u8], lines: &[u8]) -> Result<Vec<u8>, AllocError> {
     let mut text = Vec::from_slice(alloc, front)?;
     text.extend_from_slice(lines)?;
@@ -70,7 +70,7 @@ fn joined(alloc: Global, front: &[u8], lines: &[u8]) -> Result<Vec<u8>, AllocErr
     Ok(text)
 }
 
-/// Whether a line is neither empty nor a comment.
+/// Returns whether a line is neither empty nor a comment.
 fn has_words(line: &[u8]) -> bool {
     match next_word(line) {
         Some((word, _)) => !word.starts_with(b"#"),
@@ -78,7 +78,7 @@ fn has_words(line: &[u8]) -> bool {
     }
 }
 
-/// The last line of a text that has words, and where it begins.
+/// Returns the last line of a text that is neither empty nor a comment, and the index at which it begins.
 fn last_line(text: &[u8]) -> Option<(usize, &[u8])> {
     let mut last = None;
     let mut rest = text;
@@ -94,14 +94,14 @@ fn last_line(text: &[u8]) -> Option<(usize, &[u8])> {
     last
 }
 
-/// A plain script that is run, and what it prints without the lines of blocked threads.
+/// Runs a plain script; returns its session, and what it prints without the lines of blocked threads.
 fn run(alloc: Global, plain: &[u8]) -> Result<(Session, Vec<u8>), ScriptFault> {
     let mut session = Session::new(alloc);
     let printed = session.add(plain)?;
     Ok((session, printed))
 }
 
-/// The places of faults.
+/// Returns the places of faults.
 fn places(alloc: Global, faults: &[Fault]) -> Result<Vec<Place>, AllocError> {
     let mut places = Vec::new(alloc);
     for fault in faults {
@@ -111,7 +111,7 @@ fn places(alloc: Global, faults: &[Fault]) -> Result<Vec<Place>, AllocError> {
 }
 
 impl Names {
-    /// Those of the faults that weren't told before. They are told from now on.
+    /// Returns the faults that weren't reported before, and counts them as reported.
     fn untold(&mut self, alloc: Global, faults: Vec<Fault>) -> Result<Vec<Fault>, AllocError> {
         let mut new = Vec::new(alloc);
         for fault in faults {
@@ -125,7 +125,7 @@ impl Names {
 }
 
 impl Sheet {
-    /// No lines yet.
+    /// Returns a sheet without lines.
     pub fn new(alloc: Global) -> Sheet {
         Sheet {
             alloc,
@@ -134,17 +134,17 @@ impl Sheet {
         }
     }
 
-    /// The plain script of the lines so far.
+    /// Returns the plain script of the lines so far.
     pub fn session(&self) -> &Session {
         &self.session
     }
 
-    /// Whether the lines so far are a script with names.
+    /// Returns whether the lines so far are a script with names.
     pub fn has_names(&self) -> bool {
         self.names.is_some()
     }
 
-    /// The lines so far, as they were read.
+    /// Returns the lines so far, as they were read.
     pub fn text(&self) -> &[u8] {
         match &self.names {
             Some(names) => names.text.as_slice(),
@@ -152,7 +152,7 @@ impl Sheet {
         }
     }
 
-    /// Adds a line: of a plain script, or else of one with names, which the script is from then on.
+    /// Adds a line of a plain script, or else of one with names, which the script is from then on.
     pub fn add(&mut self, line: &[u8]) -> Result<Taken, ScriptFault> {
         if self.names.is_some() {
             return self.add_named(line);
@@ -200,7 +200,7 @@ impl Sheet {
         }))
     }
 
-    /// Keeps lines with names, and returns those of their faults that weren't told before.
+    /// Keeps lines with names, and returns their faults that weren't reported before.
     fn keep(&mut self, text: Vec<u8>, faults: Vec<Fault>) -> Result<Vec<Fault>, AllocError> {
         let told = match self.names.take() {
             Some(names) => names.told,
@@ -212,7 +212,7 @@ impl Sheet {
         new
     }
 
-    /// Takes the last line away that isn't empty and no comment, and returns it.
+    /// Removes the last line that is neither empty nor a comment, and returns it.
     pub fn undo(&mut self) -> Result<Option<Vec<u8>>, ScriptFault> {
         let Some(names) = &self.names else {
             return self.session.undo();
@@ -227,7 +227,7 @@ impl Sheet {
         Ok(Some(line))
     }
 
-    /// Goes back to lines with names that were read before.
+    /// Goes back to earlier lines with names.
     fn go_back(&mut self, text: Vec<u8>) -> Result<(), ScriptFault> {
         let Reading::Good(named) = read_so_far(self.alloc, text.as_slice())? else {
             return Ok(());
@@ -240,7 +240,7 @@ impl Sheet {
         Ok(())
     }
 
-    /// What isn't as expected at the end of the lines, and wasn't told before.
+    /// Returns what differs from the expectations at the end of the lines, and wasn't reported before.
     pub fn finish(&mut self) -> Result<Vec<Fault>, ScriptFault> {
         let Some(names) = &mut self.names else {
             return Ok(Vec::new(self.alloc));

@@ -1,4 +1,4 @@
-//! What the tests share.
+//! The parts that the tests share.
 #![allow(dead_code)] // no test needs all
 
 use balsaeuchre::{CallError, ChannelId, Port, ReceiveId, Received, Thread, ThreadState, open_array};
@@ -9,12 +9,12 @@ use std::time::{Duration, Instant};
 pub const SERVER: u8 = 1;
 pub const CLIENT: u8 = 2;
 
-/// After so long a test hangs.
+/// The time after which a test counts as hanging.
 fn patience() -> Duration {
     Duration::from_secs(std::env::var("PATIENCE").map_or(200, |word| word.parse().unwrap()))
 }
 
-/// A server's port, and two of the client's process.
+/// Returns a server's port, and two of the client's process.
 pub fn few() -> [Port; 3] {
     open_array([Thread::new(1, SERVER, 10), Thread::new(2, CLIENT, 20), Thread::new(3, CLIENT, 30)]).unwrap()
 }
@@ -30,7 +30,7 @@ pub fn within(test: impl FnOnce() + Send + 'static) {
     running.join().unwrap_or_else(|why| resume_unwind(why));
 }
 
-/// Makes all calls again by one thread, if they were kept. None may be open.
+/// Makes all calls again by one thread, if they were recorded. None may be open.
 pub fn made_again(port: &mut Port) {
     #[cfg(feature = "record")]
     println!("{} calls made again", port.made_again());
@@ -38,7 +38,7 @@ pub fn made_again(port: &mut Port) {
     let _ = port;
 }
 
-/// The message that was received.
+/// Returns the id of the message that was received.
 pub fn message(received: Result<Received<'_>, CallError>) -> ReceiveId {
     match received {
         Ok(Received::Message(request)) => request.rcvid,

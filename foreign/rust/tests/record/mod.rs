@@ -1,5 +1,5 @@
-//! For the package's own tests, with the feature `record`: every call in the order of the lock and what each thread got
-//! of it, to be made again by one thread.
+//! Records, for the package's own tests with the feature `record`, every call in the order of the lock and its result
+//! in each thread, and makes these calls again by one thread.
 
 use crate::errors::{CallError, Errno, Result, outcome};
 use crate::ids::ReceiveId;
@@ -10,24 +10,24 @@ use crate::shared::Lent;
 use std::mem::take;
 use std::sync::Mutex;
 
-/// A call as the kernel got it, with its thread's buffer, of which the kernel sees the front.
+/// A call as the kernel got it, with its thread's buffer; the kernel gets only the front of that.
 struct Kept {
     request: RawRequest,
     sent: Vec<u8>,
     room: Vec<u8>,
     seen: usize,
-    /// Whether it reads the rest of a message, in the receiver's name.
+    /// Whether it reads the rest of a message for its receiver.
     reads_on: bool,
 }
 
-/// What a thread got of a call: the result, and its buffer whole.
+/// The result of a call in its thread, and the whole buffer.
 #[derive(Debug, PartialEq)]
 struct Got {
     result: Result<Mark>,
     buffer: Vec<u8>,
 }
 
-/// Every call so far, in the order of the lock, and what each thread got.
+/// Every call so far, in the order of the lock, and the results in each thread.
 pub(crate) struct Record {
     roster: Vec<Thread>,
     calls: Mutex<Vec<Kept>>,
@@ -35,20 +35,20 @@ pub(crate) struct Record {
 }
 
 impl Record {
-    /// Of this roster, in which clocks follow so many threads.
+    /// Returns the record of this roster, in which the clocks follow `threads` threads.
     pub(crate) fn new(roster: &[Thread], threads: usize) -> Record {
         let got = (0..threads).map(|_| Mutex::default()).collect();
         Record { roster: roster.to_vec(), calls: Mutex::default(), got }
     }
 
-    /// A call is made. Under the kernel's lock.
+    /// Records a call. The caller has the kernel's lock.
     pub(crate) fn call(&self, thread: u8, call: Call<'_>, lent: Lent) {
         let (request, sent, seen) = call.raw(thread);
         let (sent, room) = (sent.to_vec(), lent.bytes().to_vec());
         self.keep(Kept { request, sent, room, seen: seen.len(), reads_on: false });
     }
 
-    /// The rest of a message is read. Under the kernel's lock.
+    /// Records that the rest of a message is read. The caller has the kernel's lock.
     pub(crate) fn read_on(&self, thread: u8, rcvid: ReceiveId, room: &[u8], offset: usize) {
         let (request, ..) = Call::Read { rcvid, offset, buffer: room }.raw(thread);
         self.keep(Kept { request, sent: Vec::new(), room: room.to_vec(), seen: room.len(), reads_on: true });
@@ -58,7 +58,7 @@ impl Record {
         self.calls.lock().unwrap().push(kept);
     }
 
-    /// The thread at a place got the end of its call.
+    /// Records the result of a call of the thread at this index.
     pub(crate) fn end(&self, at: usize, result: Result<Mark>, buffer: &[u8]) {
         self.got[at].lock().unwrap().push(Got { result, buffer: buffer.to_vec() });
     }
@@ -67,7 +67,7 @@ impl Record {
         self.roster[self.got.len()..].iter().any(|clock| clock.thread == thread)
     }
 
-    /// What each thread should have got, by its number.
+    /// Makes the calls again, and returns the right results of each thread, by its number.
     fn again(&self) -> Vec<Vec<Got>> {
         let mut kernel = Kernel::new(&self.roster).unwrap();
         let mut got: Vec<Vec<Got>> = (0..256).map(|_| Vec::new()).collect();
@@ -103,7 +103,7 @@ impl Record {
     }
 }
 
-/// The mark with how many bytes of the message were copied as it was received, with the rest that was read.
+/// Returns the mark with the number of copied bytes of the message, including the rest that was read.
 fn with_msglen(mark: Mark, msglens: &mut [usize; 256]) -> Mark {
     match mark {
         Mark::Message { info, .. } => msglens[usize::from(info.thread)] = info.msglen,
@@ -113,7 +113,7 @@ fn with_msglen(mark: Mark, msglens: &mut [usize; 256]) -> Mark {
     mark
 }
 
-/// Puts the rest of a message that was read to what its receiver got.
+/// Adds the rest of a message that was read to the result of its receiver.
 fn read_on(message: &mut Got, rest: Ending<'_>, msglens: &mut [usize; 256]) {
     let Got { result: Ok(Mark::Message { info, .. }), buffer } = message else { panic!("no message to read on") };
     if let Mark::Count(count) = rest.mark {
@@ -124,11 +124,11 @@ fn read_on(message: &mut Got, rest: Ending<'_>, msglens: &mut [usize; 256]) {
 }
 
 impl Port {
-    /// Makes all calls so far again by one thread on a new kernel, and panics where a thread got something else. No call
-    /// may be open. Returns how many there are.
+    /// Makes all calls so far again by one thread on a new kernel, and panics if a thread had another result. No call
+    /// may be open. Returns the number of calls.
     #[doc(hidden)]
     pub fn made_again(&mut self) -> usize {
-        // The lock is let go before a panic, which would else abort the program.
+        // The lock is released before a panic, which would otherwise abort the program.
         let compared = self.compare();
         compared.unwrap_or_else(|difference| panic!("{difference}"))
     }

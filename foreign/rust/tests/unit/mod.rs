@@ -1,4 +1,4 @@
-//! What no program can see from without.
+//! Tests of parts that no program can see from outside.
 
 use crate::errors::{CallError, Errno, OpenError, outcome};
 use crate::kernel::{Call, Kernel, Mark, Thread, VERSION};

@@ -1,4 +1,4 @@
-//! Designs to look at, each as in the examples.
+//! Designs that the tests of reading, of programs and of the search share.
 
 /// Two servers that use each other.
 pub const TWO_SERVERS: &str = "\
