@@ -1,0 +1,5 @@
+pub mod Changes
+pub mod Allowed
+pub mod Rests
+pub mod Starting
+pub mod Behind
