@@ -5,19 +5,16 @@ use Rattle.std.proofs.Common.{length-set, length-append}
 use mathlib.Core.Option.{some, some-injective, some-ne-none}
 use lib.ListN.{get_elem?, length-replicate}
 use Rattle.atomic_table.specs.Table.{Splits, opening}
-use Rattle.atomic_table.specs.Seated.{TableId}
 use Rattle.atomic_table.proofs.Lists.{at_set, set_here, at_longer}
-use Rattle.qtrays.specs.declared.seats.PosterSeat.{PosterSeat}
 use Rattle.qtrays.specs.declared.view.Desk.{Desk}
 use Rattle.qtrays.specs.declared.view.Hand.{Hand}
 use Rattle.qtrays.specs.declared.view.View.{View}
 use Rattle.qtrays.specs.declared.view.View.TheVariants.{Holder, Poster}
 use Rattle.qtrays.specs.Rule.{KeepsRule, TrayState, Slot, Fits, Knows, new_hand, word_of}
 use Rattle.qtrays.specs.Steps.{Held, first_view, seated_desk, seats_one_more, next_hand}
-use Rattle.qtrays.specs.Words.{asked, poster_id, tray_number, ArePosters}
 use Rattle.qtrays.proofs.Changes.{there}
 
-at_end : {A : Type 0} → (l : List A) (a b : A) (j : ℕ) → get_elem? (l ++ a ∷ []) j ≡ some b
+pub at_end : {A : Type 0} → (l : List A) (a b : A) (j : ℕ) → get_elem? (l ++ a ∷ []) j ≡ some b
     → (get_elem? l j ≡ some b) ⊎ ((j ≡ length l) × (a ≡ b))
 at_end [] a b zero e = inr (refl, some-injective a b e)
 at_end [] a b (suc j) e = absurd (some-ne-none b (sym e))
@@ -116,11 +113,3 @@ module _ {Q A : Type 0} (answers : Q → A → Type 0) where
   split_allowed key n id m d k e =
       subst (λ v. Splits (KeepsRule answers key) id v (seats_one_more v) (next_hand v))
       (ap (λ (z : Held Q A). z.0) (sym e)) (splits_here key id d)
-
-module _ {Q A : Type 0} where
-  pub posters_more : (z : TableId) (seats : List (PosterSeat Q A)) (s : PosterSeat Q A) → ArePosters z seats
-      → poster_id s ≡ z → tray_number s ≡ length seats → asked s ≡ None → ArePosters z (seats ++ s ∷ [])
-  posters_more z seats s row of is free k u e = ⊎_elim
-      (λ old. row k u old)
-      (λ new. subst (λ v. (poster_id v ≡ z) × (tray_number v ≡ k) × (asked v ≡ None)) new.1 (of, is ∙ sym new.0, free))
-      (at_end seats s u k e)

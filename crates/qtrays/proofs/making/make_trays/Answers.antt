@@ -1,7 +1,8 @@
 use Rattle.std.proofs.Common.{rules, arith, subst, sym}
 use Rattle.std.proofs.lemmas.Grind.{common_steps}
 use Rattle.qtrays.specs.Words.{ArePosters}
-use Rattle.qtrays.proofs.Starting.{starts, posters_more}
+use Rattle.qtrays.proofs.Starting.{starts}
+use Rattle.qtrays.proofs.Rows.{posters_more}
 use Rattle.qtrays.proofs.making.make_trays.Goals as goal
 
 pub vacant-requires : goal.vacant-requires
