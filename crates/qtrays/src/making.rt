@@ -1,8 +1,6 @@
 //! How the trays and their seats are made.
 
-ghost use Rattle.std.specs.Prelude.{◌≡◌, ◌<◌, ◌≤◌, ◌+◌, ◌*◌, ℕ, [], IfOk, IfErr, None, length};
-ghost use lib.ListN.{get_elem?};
-ghost use mathlib.Core.Option.{some};
+ghost use Rattle.std.specs.Prelude.{◌≡◌, ◌<◌, ◌≤◌, ◌+◌, ◌*◌, [], IfOk, IfErr, None, length};
 ghost use Rattle.qbase.specs.declared.errno.Errno.TheVariants.{Inval, NoMemory};
 ghost use Rattle.qtrays.specs.declared.view.View.TheVariants.{Holder};
 ghost use Rattle.qtrays.specs.Steps.{seated_desk};

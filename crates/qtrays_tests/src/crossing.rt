@@ -1,6 +1,6 @@
 //! Requests that cross to another thread, and answers that come back.
 
-ghost use Rattle.std.specs.Prelude.{◌≡◌, ◌<◌, is_some, true, None};
+ghost use Rattle.std.specs.Prelude.{◌≡◌, is_some, true, None};
 ghost use Rattle.qtrays.specs.Words.{trays_id, asked, serving, holder_id, poster_id, tray_number, IsHolderOf, IsPosterOf, ArePosters};
 
 use crate::making::{Holder, OrderTrays, Poster, completed, is_of, last_seat, order_of, trays};

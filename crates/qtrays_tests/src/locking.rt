@@ -1,8 +1,8 @@
 //! Whoever has the lock answers all trays: the seat that answers lies under a mutex.
 
-ghost use Rattle.std.specs.Prelude.{◌≡◌, ◌<◌, is_some, true, None, []};
+ghost use Rattle.std.specs.Prelude.{◌≡◌, is_some, true, None, []};
 ghost use Rattle.atomic_table.specs.Seated.{TableId};
-ghost use Rattle.qtrays.specs.Words.{trays_id, asked, serving, holder_id, poster_id, tray_number, IsPosterOf, ArePosters};
+ghost use Rattle.qtrays.specs.Words.{trays_id, asked, serving, holder_id, poster_id, tray_number, ArePosters};
 
 use crate::crossing::serve_round;
 use crate::making::{Holder, OrderTrays, Poster, is_of, order_of, trays};
