@@ -1,0 +1,5 @@
+pub mod Laws
+pub mod Rule
+pub mod Seated
+pub mod Steps
+pub mod Words

@@ -1,0 +1,8 @@
+//! What lies in a tray.
+
+/// What lies in a tray: a request, or the answer to one.
+#[derive(Drop)]
+pub enum Content<Q, A> {
+    Request(Q),
+    Answer(A),
+}

@@ -1,0 +1,23 @@
+//! The seats: the right to answer all trays, and the right to post in one. Neither has a copy.
+
+ghost use Rattle.std.specs.Prelude.{◌≡◌, ◌<◌};
+ghost use Rattle.qtrays.specs.Seated.{IsHolder, IsPoster};
+
+use crate::content::Content;
+use crate::view::View;
+use atomic_table::Seat;
+
+/// What answers the requests of all trays. Who holds the lock has it.
+#[derive(Drop)]
+pub struct HolderSeat<Q, A> {
+    pub(crate) seat: Seat<Option<Content<Q, A>>, View<Q>>,
+    ghost knows: { IsHolder seat },
+}
+
+/// What posts the requests of one thread.
+#[derive(Drop)]
+pub struct PosterSeat<Q, A> {
+    pub(crate) tray: usize,
+    pub(crate) seat: Seat<Option<Content<Q, A>>, View<Q>>,
+    ghost knows: { IsPoster seat tray },
+}
