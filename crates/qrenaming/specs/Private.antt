@@ -1,3 +1,3 @@
--- Words of the proofs: the same of the records of `qmodel`, by which a kernel's facts are functions.
+-- Words of the proofs: renaming of the facts and rows of `qmodel`.
 pub mod Renaming
 pub mod Laws

@@ -3,10 +3,10 @@
 ghost use Rattle.qrenaming.specs.Laws.{AlikeAgain, SameFollows};
 ghost use Rattle.qrenaming.specs.Private.Laws.{OutcomesAreAs, RowsAreAs, StepsAreAs};
 
-/// Numbers are only names. Two pasts after which the same is so but for numbers go on alike: what may follow the one may
-/// follow the other, with other numbers, and after it the same is so again but for numbers. They may have different
-/// lengths. The other clauses say the same by the words of the proofs, of any facts: of a call's row, of the endings that
-/// answer it and of the facts after it.
+/// If the facts after two lawful pasts are the same but for numbers, then each event that may follow the first may follow
+/// the second, with new numbers, and the facts after it are again the same but for numbers. The pasts may have different
+/// lengths. The clauses `rows`, `outcomes` and `steps` say so of any facts, in the words of the proofs: of a call's row, of
+/// the endings that answer it and of the facts after it.
 pub fn numbers_are_names()
     ensures follows { SameFollows }
     ensures again { AlikeAgain }
