@@ -3,6 +3,7 @@
 #![tactic(auto)]
 
 mod admitting;
+mod closing_room;
 mod handing;
 pub mod kept;
 pub mod laws;

@@ -1,5 +1,5 @@
 //! What lies under the lock.
-ghost use Rattle.std.specs.Prelude.{◌≡◌, ◌+◌, ◌++◌, ◌<◌, ◌≤◌, ◌^◌, ℕ, [], ◌∷◌, length, map, slice_index_or, vec_capacity, if◌then◌else◌, Some};
+ghost use Rattle.std.specs.Prelude.{◌≡◌, ◌+◌, ◌++◌, ◌<◌, ◌≤◌, ◌^◌, ℕ, [], ◌∷◌, length, map, slice_index_or, if◌then◌else◌, Some};
 ghost use lib.ListN.{get_elem?};
 ghost use Rattle.qrules.specs.Facts.{threads_of};
 ghost use Rattle.qhandoff.specs.Words.{cells_id};
@@ -8,13 +8,13 @@ ghost use Rattle.qshared.specs.Answered.{AtPast, Comes};
 ghost use Rattle.qshared.specs.Counting.{is_event, one_if};
 ghost use Rattle.qshared.specs.Due.{place};
 
+use crate::closing_room::ClosingRoom;
 use crate::log::Log;
 use crate::performed::Performed;
 use crate::tie::{Tie, Whole};
 use crate::traced::Traced;
 use qbase::ids::ThreadNo;
 use qhandoff::cells::Cells;
-use qhandoff::seats::ThreadSeat;
 use qmodel::call::{Call, Completion};
 use qpast::asking::{Asked, Heard};
 use std::snapshot::Snapshot;
@@ -27,14 +27,10 @@ pub(crate) struct Locked<K: Tie, L: Log> {
     pub(crate) traced: Traced<K, L>,
     pub(crate) book: Book<K>,
     pub(crate) spare: Share<K>,
-    pub(crate) seats: Vec<ThreadSeat<Completion>>,
-    pub(crate) calls: Vec<u64>,
-    pub(crate) left: Vec<Completion>,
-    pub(crate) asked: Vec<Asked>,
+    pub(crate) room: ClosingRoom<K>,
     // Of each thread the calls of its that are events, by the number of its cell.
     pub(crate) heard: Vec<Heard>,
     pub(crate) whole: Whole<K>,
-    ghost roomy: { (seats.items ≡ []) × (K.names.cells.slots ≤ vec_capacity seats) × (calls.items ≡ []) × (K.names.cells.slots ≤ vec_capacity calls) × (left.items ≡ []) × (K.names.cells.slots ≤ vec_capacity left) × (asked.items ≡ []) × (K.names.cells.slots ≤ vec_capacity asked) },
     ghost none_spare: { (spare.parts ≡ 0) × (spare.amount ≡ 0) },
     ghost counted: { length traced.past ≡ book.total },
     ghost named: { (map (λ h. h.name) heard.items ≡ K.names.lists) × (length heard.items ≡ K.names.cells.slots) },
@@ -67,14 +63,10 @@ impl<K: Tie, L: Log> Locked<K, L> {
         traced: Traced<K, L>,
         book: Book<K>,
         spare: Share<K>,
-        seats: Vec<ThreadSeat<Completion>>,
-        calls: Vec<u64>,
-        left: Vec<Completion>,
-        asked: Vec<Asked>,
+        room: ClosingRoom<K>,
         heard: Vec<Heard>,
     ) -> Locked<K, L>
         requires counted { (traced.past ≡ []) × (book.total ≡ 0) }
-        requires roomy { (seats.items ≡ []) × (K.names.cells.slots ≤ vec_capacity seats) × (calls.items ≡ []) × (K.names.cells.slots ≤ vec_capacity calls) × (left.items ≡ []) × (K.names.cells.slots ≤ vec_capacity left) × (asked.items ≡ []) × (K.names.cells.slots ≤ vec_capacity asked) }
         requires heard { (map (λ h. h.name) heard.items ≡ K.names.lists) × (length heard.items ≡ K.names.cells.slots) × ((k : ℕ) → heard_in (get_elem? heard.items k) ≡ []) }
         requires whole { K.parts ≡ K.names.cells.slots }
         requires none_spare { (spare.parts ≡ 0) × (spare.amount ≡ 0) }
@@ -83,10 +75,7 @@ impl<K: Tie, L: Log> Locked<K, L> {
             traced,
             book,
             spare,
-            seats,
-            calls,
-            left,
-            asked,
+            room,
             heard,
             whole: Whole::new(),
         }

@@ -14,6 +14,7 @@ ghost use Rattle.qshared.specs.Naming.{AreParts, AreAll};
 ghost use Rattle.qshared.specs.Past.{RiseByThread};
 ghost use Rattle.qshared.specs.Unkept.{HasPast};
 
+use crate::closing_room::ClosingRoom;
 use crate::kept::Kept;
 use crate::locked::Locked;
 use crate::log::Log;
@@ -165,14 +166,11 @@ impl<K: Tie, L: Log> Shared<K, L> {
         let _made = kernel.made();
         let alloc = kernel.alloc();
         let many = seats.len();
-        let room = Vec::with_capacity(alloc, many)?;
-        let calls = Vec::with_capacity(alloc, many)?;
-        let left = Vec::with_capacity(alloc, many)?;
-        let halves = Vec::with_capacity(alloc, many)?;
+        let room = ClosingRoom::new(alloc, many)?;
         let (book, mut spare) = blank.open::<K>();
         let (ports, unparkers) = ports_for(alloc, &threads, seats, asked, &mut spare)?;
         let traced = Traced::new(kernel, seat, log);
-        let lock = Mutex::new(Locked::new(traced, book, spare, room, calls, left, halves, heard));
+        let lock = Mutex::new(Locked::new(traced, book, spare, room, heard));
         let shared = Shared {
             cells,
             lock,
@@ -228,13 +226,17 @@ impl<K: Tie, L: Log> Shared<K, L> {
             traced,
             mut book,
             mut spare,
+            room,
+            heard,
+            ..
+        } = lock.into_inner();
+        let ClosingRoom {
             mut seats,
             mut calls,
             left: room,
             mut asked,
-            heard,
             ..
-        } = lock.into_inner();
+        } = room;
         let Traced { seat, log, .. } = traced;
         gather(ports, &mut seats, &mut calls, &mut asked, &mut spare);
         agree(asked, heard);

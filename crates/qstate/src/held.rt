@@ -62,6 +62,7 @@ impl Threads {
     }
 
     /// The seat of the thread whose message is held under this id, on a channel of this process.
+    #[inline(always)]
     pub fn holder(
         &self,
         connections: &Connections,

@@ -27,6 +27,7 @@ fn sender_index(threads: &[Thread], number: u64) -> Option<usize>
 
 impl Threads {
     /// The seat of the sender of a message, if it stands where it is looked for first.
+    #[inline(always)]
     fn guess_sender(&self, number: u64) -> Option<Seat>
         ensures seat { IfSome result (λ seat. IsSeatIn self.now seat) }
         ensures sender { IfSome result (λ seat. sender_in self.now number ≡ Some seat.thread) }
@@ -40,6 +41,7 @@ impl Threads {
     }
 
     /// The seat of the thread whose open call is the Send of this number.
+    #[inline(always)]
     pub fn sender(&self, number: u64) -> Option<Seat>
         ensures seat { IfSome result (λ seat. IsSeatIn self.now seat) }
         ensures sender { option_map (λ seat. seat.thread) result ≡ sender_in self.now number }

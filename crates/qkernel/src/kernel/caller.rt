@@ -44,6 +44,7 @@ impl Caller {
     }
 
     /// The completion of its call, with a buffer.
+    #[inline(always)]
     pub(crate) fn ending_with(&self, mark: Mark, buffer: Bytes) -> Completion
         ensures { result ≡ record { call = self.now.made + 1; thread = self.now.seat.thread; mark = mark; buffer = buffer } }
     {

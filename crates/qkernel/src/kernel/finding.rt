@@ -26,6 +26,7 @@ impl Kernel {
 
     /// The seat of the thread whose message is held under this id on a channel of the caller's process; `Srch`
     /// if there is none.
+    #[inline(always)]
     pub(super) fn holder(&self, caller: &Caller, rcvid: ReceiveId) -> Result<Seat, Errno>
         ensures held { IfOk result (λ seat. is_held_in self.now.threads self.now.connections self.now.channels caller.now.process rcvid ≡ true) }
         ensures seat { IfOk result (λ seat. IsSeatIn self.now.threads seat) }

@@ -24,7 +24,7 @@ close-left-requires-clause-threads g c =
 pub without_places-requires : goal.without_places-requires
 without_places-requires g c =
     let few = few_left (count c.args.self.cells) c.close-left.result.items c.close-left.ensures.rises c.close-left.ensures.within in
-    let roomy = c.into_inner-traced.result.roomy in
+    let roomy = c.into_inner-traced.result.room.roomy in
     record { room = (roomy.4, omega (arith, few, roomy.5, ap (λ y. y.slots) c.args.self.cells_are)) }
 
 pub agree-requires : goal.agree-requires
