@@ -21,5 +21,6 @@ pub use qkernel::trace::Trace;
 pub use qmodel::call::{Call, Completion, Info, Mark};
 pub use qqueue::item::What;
 pub use qstate::endings::Endings;
+pub use qstate::seat::Seat;
 pub use qtables::member::Member;
 pub use qtables::roster::{Roster, THREAD_LIMIT};
