@@ -33,7 +33,7 @@ impl Kernel {
     {
         let holder = self.holder(caller, rcvid)?;
         let Some(info) = self.threads.record(&holder).info() else {
-            unreachable!();
+            return Err(Errno::Srch);
         };
         put(endings, caller.ending(Mark::Info(info)));
         Ok(())

@@ -12,11 +12,11 @@ returns-in_err-holder c =
     let p = err_from_is_err_and c.from_residual.result c.from_residual.ensures.1 in
     rw (p.1, p.2) (c.requires.none, rw (← c.self.view_is, may.counted, c.in_err-holder.ensures.error) (step_unheld _ c.args.caller.now.seat.thread _ c.args.rcvid may.sound may.among.known (Info c.args.rcvid) _ refl may.up may.free none refl))
 
-pub unreachable-requires : goal.unreachable-requires
-unreachable-requires c =
+pub returns-in_default : goal.returns-in_default
+returns-in_default c =
     let held = rw (← c.self.view_is) at c.in_ok-holder.ensures.held in
     let sent = rw (← c.self.view_is) at c.in_ok-holder.ensures.sender in
-    told_there c.self.inside.connections c.self.inside.channels c.args.caller.now.process c.args.rcvid c.in_ok-holder.holder.thread c.self.inside.threads c.record.result.now sent c.record.ensures held (sym c.info.ensures ∙ c.in_default.is)
+    absurd (told_there c.self.inside.connections c.self.inside.channels c.args.caller.now.process c.args.rcvid c.in_ok-holder.holder.thread c.self.inside.threads c.record.result.now sent c.record.ensures held (sym c.info.ensures ∙ c.in_default.is))
 
 pub returns : goal.returns
 returns c =
