@@ -128,6 +128,7 @@ impl Kernel {
     }
 
     /// Makes a counted call that nothing refuses whichever call it is, by the call's own method.
+    #[inline(always)]
     fn make(&mut self, caller: &Caller, call: Call, endings: &mut Endings) -> Result<(), Errno>
         requires { MayCall self.old caller.now endings.old.items }
         ensures { MakesOrRefuses self.old caller.now call result endings.new.items self.new }

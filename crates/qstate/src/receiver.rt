@@ -52,7 +52,6 @@ fn newer(
 
 impl Threads {
     /// The seat of the last thread that began to receive, if it receives on the channel and may take the item.
-    #[inline(always)]
     fn last_receiver(&self, channel: ChannelId, item: &Item) -> Option<Seat>
         ensures seat { IfSome result (λ seat. IsSeatIn self.now seat) }
         ensures newest { IfSome result (λ seat. newest_in channel item.now self.now ≡ Some seat.thread) }
@@ -67,7 +66,6 @@ impl Threads {
     }
 
     /// The newest receiver of the channel that may take the item, by a look at each receiver.
-    #[inline(never)]
     fn search_receiver(&self, channel: ChannelId, item: &Item) -> Option<(u64, Seat)>
         ensures newest { option_map (λ b. b.1.thread) result ≡ newest_in channel item.now self.now }
         ensures seat { IfSome result (λ b. IsSeatIn self.now b.1) }
@@ -86,7 +84,6 @@ impl Threads {
     }
 
     /// The seat of the thread that receives on a channel, may take an item and began to wait last.
-    #[inline(always)]
     pub fn newest_receiver(&self, channel: ChannelId, item: &Item) -> Option<Seat>
         ensures seat { IfSome result (λ seat. IsSeatIn self.now seat) }
         ensures newest { option_map (λ seat. seat.thread) result ≡ newest_in channel item.now self.now }
