@@ -7,6 +7,7 @@ pub mod Names
 pub mod Naming
 pub mod Past
 pub mod Performing
+pub mod Posting
 pub mod Private
 pub mod Rooms
 pub mod TwoCalls

@@ -2,8 +2,10 @@
 //! through which the endings of calls leave the lock.
 #![tactic(auto)]
 
+mod account;
 mod admitting;
 mod handing;
+mod held;
 pub mod kept;
 pub mod laws;
 mod locked;
@@ -11,7 +13,9 @@ pub mod log;
 pub mod parts;
 pub mod performed;
 pub mod port;
+mod posting;
 pub mod report;
+mod request;
 mod room;
 pub mod shared;
 mod spinning;

@@ -76,7 +76,7 @@ pub struct Port<K: Tie> {
 }
 
 /// Whether a call did what it says, by the mark of its ending.
-fn is_ok(mark: Mark) -> bool
+pub(crate) fn is_ok(mark: Mark) -> bool
     ensures { result ≡ is_ok mark }
 {
     matches!(mark, Mark::Ok)
