@@ -10,6 +10,7 @@ pub mod Performing
 pub mod Posting
 pub mod Private
 pub mod Rooms
+pub mod Seats
 pub mod TwoCalls
 pub mod UnderLock
 pub mod Unkept

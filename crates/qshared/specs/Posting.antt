@@ -1,11 +1,11 @@
 -- What a port asks for in one turn at the lock, one call or two, and what comes of it.
-use Rattle.std.specs.Prelude.{ℕ, ◌+◌, List, [], ◌∷◌, if◌then◌else◌}
+use Rattle.std.specs.Prelude.{ℕ, Bool, ◌+◌, List, [], ◌∷◌, if◌then◌else◌}
 use Rattle.qtables.specs.declared.member.Member.{Member}
 use Rattle.qmodel.specs.declared.call.Call.{Call}
 use Rattle.qmodel.specs.declared.call.Completion.{Completion}
-use Rattle.qshared.specs.Counting.{is_call, gives}
+use Rattle.qshared.specs.Counting.{is_call, gives, pends}
 use Rattle.qshared.specs.Performing.{Admits, Refuses}
-use Rattle.qshared.specs.TwoCalls.{AnsweredAfter, AnsweredBoth, calls_in, asked_by, gives_both}
+use Rattle.qshared.specs.TwoCalls.{AnsweredAfter, AnsweredBoth, calls_in, asked_by, gives_both, pends_both}
 use Rattle.qshared.specs.declared.request.Calls.{Calls}
 use Rattle.qshared.specs.declared.request.Calls.TheVariants as calls
 use Rattle.qshared.specs.declared.request.Came.{Came}
@@ -27,6 +27,11 @@ asked_in_turn (calls.Both c d) (came.One called) = []
 abbrev pub gives_in_turn : Came → List Completion
 gives_in_turn (came.One called) = gives called
 gives_in_turn (came.Both both) = gives_both both
+
+-- whether the port has a call that was blocked and isn't collected, if it had one before or not
+abbrev pub pends_in_turn : Came → Bool → Bool
+pends_in_turn (came.One called) before = pends called before
+pends_in_turn (came.Both both) before = pends_both both before
 
 -- it comes to what one call of a port comes to, or to what two in one turn come to
 abbrev pub CameOf : List Member → Refuses → Admits → ℕ → List Call → Calls → Came → Type 0

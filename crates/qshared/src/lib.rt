@@ -4,6 +4,7 @@
 
 mod account;
 mod admitting;
+mod desk;
 mod handing;
 mod held;
 pub mod kept;
@@ -18,7 +19,6 @@ pub mod report;
 mod request;
 mod room;
 pub mod shared;
-mod spinning;
 pub mod tie;
 pub mod traced;
 pub mod unkept;

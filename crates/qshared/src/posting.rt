@@ -1,63 +1,24 @@
 //! How a port has its calls made: by itself where the lock is free, and else by whoever holds it.
 ghost use Rattle.std.specs.Prelude.{◌≡◌, ◌+◌, ◌++◌, ◌<◌, ◌^◌, None, Some};
-ghost use Rattle.std.specs.Arc.{arc_value};
-ghost use Rattle.qhandoff.specs.Words.{cells_id, thread_of, taken};
+ghost use Rattle.qhandoff.specs.Words.{thread_of, taken};
 ghost use Rattle.qtrays.specs.Words.{asked, poster_id, trays_id};
 ghost use Rattle.qshared.specs.Posting.{CameOf, events_in, asked_in_turn, gives_in_turn};
 
-use crate::held::{Held, Posts};
+use crate::held::Posts;
 use crate::log::Log;
 use crate::request::{Answer, Request};
+use crate::shared::Shared;
 use crate::tie::Tie;
 use crossbeam_utils::Backoff;
-use crossbeam_utils::CachePadded;
-use crossbeam_utils::sync::Unparker;
-use qhandoff::cells::Cells;
-use qmodel::call::Completion;
 use qtrays::seats::PosterSeat;
-use std::alloc::Global;
-use std::sync::atomic::{AtomicU64, Ordering};
 use std::snapshot::Snapshot;
-use std::sync::{Arc, Mutex, Wait};
+use std::sync::atomic::Ordering;
+use std::sync::Wait;
 
 /// How often a thread looks at its tray before it sleeps at the lock.
 const LOOKS: u32 = 40;
 
-/// The tray of one place.
-#[derive(Drop)]
-pub(crate) struct Desk<K: Tie, L: Log> {
-    pub(crate) poster: PosterSeat<Request<K>, Answer<K>>,
-    pub(crate) trays: Arc<Posts<K, L>, Global>,
-    ghost poster_is: { poster_id poster ≡ trays_id (arc_value trays) },
-    ghost free: { asked poster ≡ None },
-}
-
-/// The kernel under its lock, as ports see it.
-pub(crate) struct Hall<K: Tie, L: Log> {
-    pub(crate) cells: Cells<Completion>,
-    pub(crate) lock: Mutex<Box<Held<K, L>, Global>>,
-    pub(crate) desks: Vec<Mutex<Desk<K, L>>>,
-    pub(crate) posted: CachePadded<AtomicU64>,
-    pub(crate) unparkers: Vec<Unparker>,
-    ghost cells_are: { cells_id cells ≡ K.names.cells },
-}
-
-impl<K: Tie, L: Log> Hall<K, L> {
-    /// Wakes the threads whose bits are set.
-    fn wake(&self, woken: u64) {
-        let mut left = woken;
-        for _ in 0..self.unparkers.len() {
-            if left == 0 {
-                return;
-            }
-            let place = left.trailing_zeros() as usize;
-            if place < self.unparkers.len() {
-                self.unparkers[place].unpark();
-            }
-            left &= left - 1;
-        }
-    }
-
+impl<K: Tie, L: Log> Shared<K, L> {
     /// Makes all that is posted, if the lock is free.
     fn try_serving(&self) -> bool {
         let Some(mut guard) = self.lock.try_lock() else {

@@ -1,8 +1,9 @@
 //! What a port posts where it finds the lock taken, and what comes back.
-ghost use Rattle.std.specs.Prelude.{◌≡◌, ◌+◌, ◌++◌, ◌<◌, ◌^◌};
+ghost use Rattle.std.specs.Prelude.{◌≡◌, ◌+◌, ◌++◌, ◌<◌, ◌≤◌, ◌^◌};
+ghost use Rattle.qshared.specs.Counting.{is_call, pends};
 ghost use Rattle.qhandoff.specs.Words.{cells_id, thread_of, taken};
 ghost use Rattle.qshared.specs.TwoCalls.{AnsweredBoth, calls_in, asked_by, gives_both};
-ghost use Rattle.qshared.specs.Posting.{CameOf, events_in, asked_in_turn, gives_in_turn};
+ghost use Rattle.qshared.specs.Posting.{CameOf, events_in, asked_in_turn, gives_in_turn, pends_in_turn};
 
 use crate::account::Account;
 use crate::log::Log;
@@ -26,6 +27,45 @@ pub(crate) enum Calls {
 pub(crate) enum Came {
     One(Called),
     Both(CalledBoth),
+}
+
+/// Whether the call was an event, and whether it was blocked.
+fn is_call(called: &Called) -> bool
+    ensures { result ≡ is_call called.now }
+{
+    !matches!(called, Called::Refused(_, _))
+}
+
+/// Whether a port has a call that was blocked and isn't collected, if it had one before or not.
+fn pends(called: &Called, before: bool) -> bool
+    ensures { result ≡ pends called.now before }
+{
+    matches!(called, Called::Blocked) || before
+}
+
+impl Came {
+    /// How many events came of it.
+    pub(crate) fn events(&self) -> u64
+        ensures value { result ≡ events_in self.now }
+        ensures few { result ≤ 2 }
+    {
+        match self {
+            Came::One(called) => is_call(called) as u64,
+            Came::Both(CalledBoth::Both(_, second)) => 1 + is_call(second) as u64,
+            Came::Both(CalledBoth::First(first, _)) => is_call(first) as u64,
+        }
+    }
+
+    /// Whether the port has a call that was blocked and isn't collected, if it had one before or not.
+    pub(crate) fn pends(&self, before: bool) -> bool
+        ensures { result ≡ pends_in_turn self.now before }
+    {
+        match self {
+            Came::One(called) => pends(called, before),
+            Came::Both(CalledBoth::Both(_, second)) => pends(second, before),
+            Came::Both(CalledBoth::First(first, _)) => pends(first, before),
+        }
+    }
 }
 
 /// What a port posts.

@@ -1,6 +1,6 @@
 use Rattle.std.proofs.Common.{◌≡◌, Some}
 use Rattle.qtrays.specs.Words.{asked, poster_id}
-use Rattle.qshared.proofs.posting.Hall.answered.Given as goal
+use Rattle.qshared.proofs.shared.Shared.answered.Given as goal
 
 -- nothing was collected yet
 abbrev pub invariant-loop-2 : goal.invariant-loop-2
