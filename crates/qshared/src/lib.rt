@@ -2,9 +2,12 @@
 //! through which the endings of calls leave the lock.
 #![tactic(auto)]
 
+mod account;
 mod admitting;
 mod closing_room;
+mod desk;
 mod handing;
+mod held;
 pub mod kept;
 pub mod laws;
 mod locked;
@@ -12,10 +15,11 @@ pub mod log;
 pub mod parts;
 pub mod performed;
 pub mod port;
+mod posting;
 pub mod report;
+mod request;
 mod room;
 pub mod shared;
-mod spinning;
 pub mod tie;
 pub mod traced;
 pub mod unkept;

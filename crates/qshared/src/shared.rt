@@ -7,7 +7,9 @@ ghost use Rattle.qrules.specs.Facts.{threads_of};
 ghost use Rattle.qrules.specs.Lawful.{IsLawful};
 ghost use Rattle.qrules.specs.Trace.{followed_by};
 ghost use Rattle.qrules.specs.Properties.{HasProperties};
-ghost use Rattle.qhandoff.specs.Words.{cells_id, thread_of, taken, took, IsRow};
+ghost use Rattle.qhandoff.specs.Words.{cells_id, IsRow};
+ghost use Rattle.qhandoff.specs.Words.{took as seat_took};
+ghost use Rattle.qshared.specs.Seats.{taken, thread_of, took};
 ghost use Rattle.qshared.specs.Asking.{AreCallsOf, asked_in};
 ghost use Rattle.qshared.specs.Due.{place, endings_due, of_thread, AreKnown};
 ghost use Rattle.qshared.specs.Naming.{AreParts, AreAll};
@@ -15,6 +17,8 @@ ghost use Rattle.qshared.specs.Past.{RiseByThread};
 ghost use Rattle.qshared.specs.Unkept.{HasPast};
 
 use crate::closing_room::ClosingRoom;
+use crate::desk::{Desk, desks_for};
+use crate::held::{Held, Posts};
 use crate::kept::Kept;
 use crate::locked::Locked;
 use crate::log::Log;
@@ -24,6 +28,7 @@ use crate::report::{Report, Tally};
 use crate::tie::Tie;
 use crate::traced::Traced;
 use crate::unkept::Unkept;
+use crossbeam_utils::CachePadded;
 use crossbeam_utils::sync::{Parker, Unparker};
 use qbase::errno::Errno;
 use qbase::ids::ThreadNo;
@@ -32,14 +37,20 @@ use qhandoff::seats::ThreadSeat;
 use qmodel::call::Completion;
 use qpast::asking::{Asked, Heard};
 use std::alloc::{AllocError, Global};
-use std::sync::Mutex;
+use std::sync::atomic::AtomicU64;
+use std::sync::{Arc, Mutex};
 use std::sync::ledger::Share;
 
 /// The kernel under its lock, and the cells that it fills.
 #[derive(Drop)]
 pub struct Shared<K: Tie, L: Log> {
     pub(crate) cells: Cells<Completion>,
-    pub(crate) lock: Mutex<Locked<K, L>>,
+    // Of a box, so that the lock's word is on another line than the kernel.
+    pub(crate) lock: Mutex<Box<Held<K, L>, Global>>,
+    // One for each place, which its port alone takes.
+    pub(crate) desks: Vec<Mutex<Desk<K, L>>>,
+    // The bit of each tray in which a request may lie.
+    pub(crate) posted: CachePadded<AtomicU64>,
     pub(crate) unparkers: Vec<Unparker>,
     ghost cells_are: { cells_id cells ≡ K.names.cells },
 }
@@ -74,7 +85,7 @@ fn ports_for<K: Tie>(
     spare: &mut Share<K>,
 ) -> Result<(Vec<Port<K>>, Vec<Unparker>), AllocError>
     requires roster { IsRoster K.names.roster × (threads.now ≡ threads_of K.names.roster) }
-    requires seats { (length seats.items ≡ length threads.now) × IsRow K.names.cells seats.items × ((k : ℕ) → took (get_elem? seats.items k) ≡ []) }
+    requires seats { (length seats.items ≡ length threads.now) × IsRow K.names.cells seats.items × ((k : ℕ) → seat_took (get_elem? seats.items k) ≡ []) }
     requires asked { (map (λ a. a.name) asked.items ≡ K.names.lists) × (length asked.items ≡ K.names.cells.slots) × ((k : ℕ) → asked_in (get_elem? asked.items k) ≡ []) }
     requires sized { length threads.now ≡ K.names.cells.slots }
     requires spare { (spare.old.parts ≡ length seats.items) × (spare.old.amount ≡ 0) }
@@ -111,7 +122,7 @@ fn gather<K: Tie>(
     requires calls { (calls.old.items ≡ []) × (length ports.items ≤ vec_capacity calls.old) }
     requires asked { (asked.old.items ≡ []) × (length ports.items ≤ vec_capacity asked.old) }
     requires spare { (spare.old.parts ≡ 0) × (spare.old.amount ≡ 0) }
-    ensures seats { seats.new.items ≡ map (λ p. p.seat) ports.items }
+    ensures seats { map Some seats.new.items ≡ map (λ p. p.seat) ports.items }
     ensures calls { calls.new.items ≡ map (λ p. p.calls) ports.items }
     ensures asked { asked.new.items ≡ map (λ p. p.asked) ports.items }
     ensures spare { (spare.new.parts ≡ length ports.items) × (spare.new.amount ≡ sum calls.new.items) }
@@ -124,6 +135,9 @@ fn gather<K: Tie>(
             asked: own,
             ..
         } = port;
+        let Some(seat) = seat else {
+            unreachable!()
+        };
         seats.push_reserved(seat);
         calls.push_reserved(made);
         asked.push_reserved(own);
@@ -147,7 +161,7 @@ fn agree(mut asked: Vec<Asked>, mut heard: Vec<Heard>)
 impl<K: Tie, L: Log> Shared<K, L> {
     /// Opens a kernel of these parts whose past is kept by the log, with a port for each thread, in rising thread
     /// number.
-    fn with_log(parts: Parts, log: L) -> Result<(Shared<K, L>, Vec<Port<K>>), AllocError>
+    fn with_log(parts: Parts, log: L) -> Result<(Shared<K, L>, Vec<Port<K>>), Errno>
         requires named { AreParts K.names K.name K.parts parts }
         requires log { (L.roster log ≡ K.names.roster) × (L.past log ≡ []) }
         ensures ports { IfOk result (λ r. AreAll (λ p. thread_of p.seat) K.names.cells.slots r.1.items) }
@@ -171,10 +185,20 @@ impl<K: Tie, L: Log> Shared<K, L> {
         let (book, mut spare) = blank.open::<K>();
         let (ports, unparkers) = ports_for(alloc, &threads, seats, asked, &mut spare)?;
         let traced = Traced::new(kernel, seat, log);
-        let lock = Mutex::new(Locked::new(traced, book, spare, room, heard));
+        let locked = Locked::new(traced, book, spare, room, heard);
+        let (trays, holder, posters) = Posts::<K, L>::new(alloc, many)?;
+        let trays = Arc::new(alloc, trays)?;
+        let desks = desks_for(alloc, &trays, posters)?;
+        let held = Held {
+            locked,
+            holder,
+            trays,
+        };
         let shared = Shared {
             cells,
-            lock,
+            lock: Mutex::new(Box::new(alloc, held)?),
+            desks,
+            posted: CachePadded::new(AtomicU64::new(0)),
             unparkers,
         };
         Ok((shared, ports))
@@ -189,7 +213,7 @@ impl<K: Tie, L: Log> Shared<K, L> {
             return false;
         }
         for k in 0..ports.len() {
-            if ports[k].seat.thread() != k {
+            if ports[k].place() != k {
                 return false;
             }
         }
@@ -223,6 +247,7 @@ impl<K: Tie, L: Log> Shared<K, L> {
         ensures due { (t i : ℕ) → place (threads_of K.names.roster) t ≡ Some i → took (get_elem? (map (λ p. p.seat) ports.items) i) ++ of_thread t result.left.items ≡ endings_due (L.past result.log) t }
     {
         let Shared { cells, lock, .. } = self;
+        let Held { locked, .. } = Box::into_inner(lock.into_inner());
         let Locked {
             traced,
             mut book,

@@ -1,0 +1,38 @@
+//! The tray of one place, from the side of who posts in it.
+ghost use Rattle.std.specs.Prelude.{◌≡◌, None};
+ghost use Rattle.std.specs.Arc.{arc_value};
+ghost use Rattle.qtrays.specs.Words.{asked, poster_id, trays_id, ArePosters};
+
+use crate::held::Posts;
+use crate::log::Log;
+use crate::request::{Answer, Request};
+use crate::tie::Tie;
+use qtrays::seats::PosterSeat;
+use std::alloc::{AllocError, Global};
+use std::sync::{Arc, Mutex};
+
+/// The tray of one place.
+#[derive(Drop)]
+pub(crate) struct Desk<K: Tie, L: Log> {
+    pub(crate) poster: PosterSeat<Request<K>, Answer<K>>,
+    pub(crate) trays: Arc<Posts<K, L>, Global>,
+    ghost poster_is: { poster_id poster ≡ trays_id (arc_value trays) },
+    ghost free: { asked poster ≡ None },
+}
+
+/// A desk for each poster's seat.
+pub(crate) fn desks_for<K: Tie, L: Log>(
+    alloc: Global,
+    trays: &Arc<Posts<K, L>, Global>,
+    mut posters: Vec<PosterSeat<Request<K>, Answer<K>>>,
+) -> Result<Vec<Mutex<Desk<K, L>>>, AllocError>
+    requires { ArePosters (trays_id (arc_value trays.now)) posters.items }
+{
+    let mut desks = Vec::with_capacity(alloc, posters.len())?;
+    while let Some(poster) = posters.pop() {
+        let trays = Arc::try_clone(trays)?;
+        desks.push(Mutex::new(Desk { poster, trays }))?;
+    }
+    desks.reverse();
+    Ok(desks)
+}
