@@ -29,8 +29,8 @@ admits_unkept past c = (length past + 1 < 2 ^ 40) ⊎ (c ≡ Shutdown)
 -- there is a past, lawful and with the six properties, of as many events as these counts sum to; each
 -- thread's calls in it are exactly those of its list, and due to the thread is exactly what its seat took and
 -- what is left for it
-pub record HasPast (roster : List Member) (seats : List (Option (ThreadSeat Completion))) (asked : List (List Call))
-    (calls : List ℕ) (left : List Completion) : Type 0 where
+pub record HasPast (roster : List Member) (seats : List (Option (ThreadSeat Completion)))
+    (asked : List (List Call)) (calls : List ℕ) (left : List Completion) : Type 0 where
   pub past : Trace
   pub many : sum calls ≡ length past
   pub asked_is : AreCallsOf roster asked past

@@ -20,6 +20,17 @@ pub(crate) struct Desk<K: Tie, L: Log> {
     ghost free: { asked poster ≡ None },
 }
 
+/// The desk of a poster.
+fn desk_of<K: Tie, L: Log>(
+    trays: &Arc<Posts<K, L>, Global>,
+    poster: PosterSeat<Request<K>, Answer<K>>,
+) -> Result<Desk<K, L>, AllocError>
+    requires poster { (poster_id poster ≡ trays_id (arc_value trays.now)) × (asked poster ≡ None) }
+{
+    let trays = Arc::try_clone(trays)?;
+    Ok(Desk { poster, trays })
+}
+
 /// A desk for each poster's seat.
 pub(crate) fn desks_for<K: Tie, L: Log>(
     alloc: Global,
@@ -30,8 +41,7 @@ pub(crate) fn desks_for<K: Tie, L: Log>(
 {
     let mut desks = Vec::with_capacity(alloc, posters.len())?;
     while let Some(poster) = posters.pop() {
-        let trays = Arc::try_clone(trays)?;
-        desks.push(Mutex::new(Desk { poster, trays }))?;
+        desks.push(Mutex::new(desk_of(trays, poster)?))?;
     }
     desks.reverse();
     Ok(desks)

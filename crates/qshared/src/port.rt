@@ -99,9 +99,7 @@ fn take(
     ensures taken { MatchOption result (taken seat.new ≡ taken seat.old) (λ x. taken seat.new ≡ taken seat.old ++ x ∷ []) }
     ensures pending { MatchOption result (pending.new ≡ pending.old) (λ x. pending.new ≡ false) }
 {
-    let Some(seat) = seat else {
-        unreachable!()
-    };
+    let Some(seat) = seat else { unreachable!() };
     let completion = seat.poll(cells);
     if completion.is_some() {
         *pending = false;
@@ -227,7 +225,10 @@ impl<K: Tie> Port<K> {
         };
         let Answer { account, came } = shared.made(rt, place, Request { account, calls });
         let Account {
-            seat, share, asked, ..
+            seat,
+            share,
+            asked,
+            ..
         } = account;
         self.seat = Some(seat);
         self.share.merge(share);

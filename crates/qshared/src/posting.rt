@@ -12,8 +12,8 @@ use crate::tie::Tie;
 use crossbeam_utils::Backoff;
 use qtrays::seats::PosterSeat;
 use std::snapshot::Snapshot;
-use std::sync::atomic::Ordering;
 use std::sync::Wait;
+use std::sync::atomic::Ordering;
 
 /// How often a thread looks at its tray before it sleeps at the lock.
 const LOOKS: u32 = 40;

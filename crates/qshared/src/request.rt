@@ -6,8 +6,8 @@ ghost use Rattle.qshared.specs.TwoCalls.{AnsweredBoth, calls_in, asked_by, gives
 ghost use Rattle.qshared.specs.Posting.{CameOf, events_in, asked_in_turn, gives_in_turn, pends_in_turn};
 
 use crate::account::Account;
-use crate::log::Log;
 use crate::locked::Locked;
+use crate::log::Log;
 use crate::port::{Called, CalledBoth, is_ok};
 use crate::tie::Tie;
 use qhandoff::cells::Cells;

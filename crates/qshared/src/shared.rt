@@ -38,8 +38,8 @@ use qmodel::call::Completion;
 use qpast::asking::{Asked, Heard};
 use std::alloc::{AllocError, Global};
 use std::sync::atomic::AtomicU64;
-use std::sync::{Arc, Mutex};
 use std::sync::ledger::Share;
+use std::sync::{Arc, Mutex};
 
 /// The kernel under its lock, and the cells that it fills.
 #[derive(Drop)]
@@ -135,9 +135,7 @@ fn gather<K: Tie>(
             asked: own,
             ..
         } = port;
-        let Some(seat) = seat else {
-            unreachable!()
-        };
+        let Some(seat) = seat else { unreachable!() };
         seats.push_reserved(seat);
         calls.push_reserved(made);
         asked.push_reserved(own);
@@ -166,6 +164,7 @@ impl<K: Tie, L: Log> Shared<K, L> {
         requires log { (L.roster log ≡ K.names.roster) × (L.past log ≡ []) }
         ensures ports { IfOk result (λ r. AreAll (λ p. thread_of p.seat) K.names.cells.slots r.1.items) }
         ensures new { IfOk result (λ r. (k : ℕ) (p : _) → get_elem? r.1.items k ≡ some p → (p.calls ≡ 0) × (p.pending ≡ false) × (taken p.seat ≡ []) × (p.asked.calls ≡ [])) }
+        ensures error { IfErr result (λ e. e ≡ Errno.NoMemory) }
     {
         let Parts {
             cells,

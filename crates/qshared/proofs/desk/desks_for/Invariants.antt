@@ -1,4 +1,4 @@
-use Rattle.std.proofs.Common.{ℕ, length}
+use Rattle.std.proofs.Common.{length}
 use Rattle.std.specs.Arc.{arc_value}
 use Rattle.qtrays.specs.Words.{trays_id, ArePosters}
 use Rattle.qshared.proofs.desk.desks_for.Given as goal

@@ -10,12 +10,12 @@ use Rattle.qshared.proofs.shared.Shared.all.Goals as goal
 
 pub returns-then-place-k : goal.returns-then-place-k
 returns-then-place-k g c = let p = c.index-ports-k.result in let at = at_index c.args.ports.now c.loop-k.k p c.loop-k-test.true c.index-ports-k.is in
-    (search rules, λ all. absurd (c.if-place-k.true (c.place.ensures.number ∙ ap (λ q. thread_of q.seat) (sym c.index-ports-k.is) ∙ all.1 c.loop-k.k p at)))
+    (search rules, λ all. absurd (c.if-place-k.true (c.place.ensures ∙ all.1 c.loop-k.k p at)))
 
 pub loop-k-preserved : goal.loop-k-preserved
 loop-k-preserved g c = λ j q h e. let p = c.index-ports-k.result in let at = at_index c.args.ports.now c.loop-k.k p c.loop-k-test.true c.index-ports-k.is in
     dite (ℕ_discrete j c.loop-k.k)
-    (λ same. ap (λ r. thread_of r.seat) (some-injective q p (sym e ∙ ap (get_elem? c.args.ports.now) same ∙ at)) ∙ ap (λ r. thread_of r.seat) c.index-ports-k.is ∙ sym c.place.ensures.number ∙ c.if-place-k.false ∙ sym same)
+    (λ same. ap (λ r. thread_of r.seat) (some-injective q p (sym e ∙ ap (get_elem? c.args.ports.now) same ∙ at)) ∙ sym c.place.ensures ∙ c.if-place-k.false ∙ sym same)
     (λ other. c.loop-k.invariant j q (omega (arith, other)) e)
 
 pub returns : goal.returns
