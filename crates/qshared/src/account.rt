@@ -1,4 +1,4 @@
-//! What a port brings to the lock for a call.
+//! The account of a port.
 ghost use Rattle.std.specs.Prelude.{◌≡◌, ◌+◌, ◌++◌, ◌<◌, ◌^◌, [], ◌∷◌, if◌then◌else◌, slice_index_or, Some};
 ghost use Rattle.qrules.specs.Facts.{threads_of};
 ghost use Rattle.qhandoff.specs.Words.{cells_id, thread_id, thread_of, taken};
@@ -18,14 +18,14 @@ use qmodel::call::{Call, Completion};
 use qpast::asking::Asked;
 use std::sync::ledger::Share;
 
-/// What a port brings to the lock for a call.
+/// All of a port that a call under the lock reads and changes. It travels with a request.
 #[derive(Drop)]
 pub(crate) struct Account<K: Tie> {
     pub(crate) thread: ThreadNo,
     pub(crate) seat: ThreadSeat<Completion>,
-    // What it adds to the sum of all events.
+    // The port's share of the sum of all events.
     pub(crate) share: Share<K>,
-    // Its calls that are events, for clauses alone.
+    // The calls of the port that are events; only contracts read them.
     pub(crate) asked: Asked,
     ghost seat_is: { thread_id seat ≡ K.names.cells },
     ghost thread_is: { place (threads_of K.names.roster) thread ≡ Some (thread_of seat) },
@@ -34,7 +34,8 @@ pub(crate) struct Account<K: Tie> {
 }
 
 impl<K: Tie> Account<K> {
-    /// Makes a call of the thread, as whoever holds the lock, and takes its ending if it ends in its own event.
+    /// Makes a call of the thread under the lock, which the caller holds, and takes its ending if it ends in its own
+    /// event.
     pub(crate) fn make<L: Log>(
         &mut self,
         cells: &Cells<Completion>,

@@ -1,4 +1,4 @@
-//! The tray of one place, from the side of who posts in it.
+//! The poster's side of a tray.
 ghost use Rattle.std.specs.Prelude.{◌≡◌, None};
 ghost use Rattle.std.specs.Arc.{arc_value};
 ghost use Rattle.qtrays.specs.Words.{asked, poster_id, trays_id, ArePosters};
@@ -11,7 +11,7 @@ use qtrays::seats::PosterSeat;
 use std::alloc::{AllocError, Global};
 use std::sync::{Arc, Mutex};
 
-/// The tray of one place.
+/// The poster's side of the tray of one port.
 #[derive(Drop)]
 pub(crate) struct Desk<K: Tie, L: Log> {
     pub(crate) poster: PosterSeat<Request<K>, Answer<K>>,
@@ -20,7 +20,7 @@ pub(crate) struct Desk<K: Tie, L: Log> {
     ghost free: { asked poster ≡ None },
 }
 
-/// The desk of a poster.
+/// Makes the desk of a poster.
 fn desk_of<K: Tie, L: Log>(
     trays: &Arc<Posts<K, L>, Global>,
     poster: PosterSeat<Request<K>, Answer<K>>,
@@ -31,7 +31,7 @@ fn desk_of<K: Tie, L: Log>(
     Ok(Desk { poster, trays })
 }
 
-/// A desk for each poster's seat.
+/// Makes a desk for each poster's seat.
 pub(crate) fn desks_for<K: Tie, L: Log>(
     alloc: Global,
     trays: &Arc<Posts<K, L>, Global>,

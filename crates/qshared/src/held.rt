@@ -1,4 +1,4 @@
-//! What lies under the lock beside the kernel: the right to answer the requests that are posted.
+//! The value under the lock: the kernel, and the right to answer the requests that are posted.
 ghost use Rattle.std.specs.Prelude.{◌≡◌, None};
 ghost use Rattle.std.specs.Arc.{arc_value};
 ghost use Rattle.qhandoff.specs.Words.{cells_id};
@@ -19,7 +19,7 @@ use std::sync::atomic::{AtomicU64, Ordering};
 /// The trays of a shared kernel.
 pub(crate) type Posts<K, L> = Trays<Request<K>, Answer<K>, ByLock<K, L>>;
 
-/// What lies under the lock.
+/// The value under the lock.
 #[derive(Drop)]
 pub(crate) struct Held<K: Tie, L: Log> {
     pub(crate) locked: Locked<K, L>,
@@ -29,11 +29,11 @@ pub(crate) struct Held<K: Tie, L: Log> {
     ghost free: { serving holder ≡ None },
 }
 
-/// How often the holder goes over the bits before it lets the lock go.
+/// How many times the holder reads `posted` before it lets the lock go.
 const ROUNDS: u32 = 4;
 
 impl<K: Tie, L: Log> Held<K, L> {
-    /// Makes what lies in one tray, and says whom to wake.
+    /// Makes the calls of the request in one tray. Returns the bits of the threads to wake.
     fn serve_one(&mut self, cells: &Cells<Completion>, tray: usize) -> u64
         requires cells { cells_id cells.now ≡ K.names.cells }
     {
@@ -48,7 +48,7 @@ impl<K: Tie, L: Log> Held<K, L> {
         woken
     }
 
-    /// Makes what is posted in the trays whose bits are set, and says whom to wake.
+    /// Makes the calls of the requests in the trays whose bits are set. Returns the bits of the threads to wake.
     fn serve(&mut self, cells: &Cells<Completion>, posted: u64) -> u64
         requires cells { cells_id cells.now ≡ K.names.cells }
     {
@@ -64,7 +64,7 @@ impl<K: Tie, L: Log> Held<K, L> {
         woken
     }
 
-    /// Makes all that is posted, and says whom to wake.
+    /// Makes the calls of all requests that are posted. Returns the bits of the threads to wake.
     pub(crate) fn serve_posted(&mut self, cells: &Cells<Completion>, posted: &AtomicU64) -> u64
         requires cells { cells_id cells.now ≡ K.names.cells }
     {

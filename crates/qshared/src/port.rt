@@ -203,7 +203,7 @@ impl<K: Tie> Port<K> {
         both
     }
 
-    /// Has calls made in one turn at the lock, by this thread or by another that holds the lock.
+    /// Has calls made in one turn at the lock, by this thread or by the holder of the lock.
     fn turn<L: Log, R: Wait>(&mut self, shared: &Shared<K, L>, rt: &R, calls: Calls) -> Came
         ensures came { CameOf K.names.roster L.refuses L.admits self.old.thread self.old.asked.calls calls result }
         ensures calls { self.new.calls ≡ self.old.calls + events_in result }

@@ -1,4 +1,4 @@
-//! How a port has its calls made: by itself where the lock is free, and else by whoever holds it.
+//! A turn at the lock: a thread makes its calls itself if the lock is free; if not, the holder of the lock makes them.
 ghost use Rattle.std.specs.Prelude.{◌≡◌, ◌+◌, ◌++◌, ◌<◌, ◌^◌, None, Some};
 ghost use Rattle.qhandoff.specs.Words.{thread_of, taken};
 ghost use Rattle.qtrays.specs.Words.{asked, poster_id, trays_id};
@@ -15,11 +15,11 @@ use std::snapshot::Snapshot;
 use std::sync::Wait;
 use std::sync::atomic::Ordering;
 
-/// How often a thread looks at its tray before it sleeps at the lock.
+/// How many times a thread looks at its tray before it sleeps at the lock.
 const LOOKS: u32 = 40;
 
 impl<K: Tie, L: Log> Shared<K, L> {
-    /// Makes all that is posted, if the lock is free.
+    /// Makes the calls of all requests that are posted, if the lock is free. Returns whether it was.
     fn try_serving(&self) -> bool {
         let Some(mut guard) = self.lock.try_lock() else {
             return false;
@@ -30,7 +30,7 @@ impl<K: Tie, L: Log> Shared<K, L> {
         true
     }
 
-    /// Makes all that is posted, once the lock is free.
+    /// Waits for the lock, and makes the calls of all requests that are posted.
     fn serve_waiting<R: Wait>(&self, rt: &R) {
         let mut guard = self.lock.lock(rt);
         let woken = guard.serve_posted(&self.cells, &self.posted);
@@ -38,13 +38,15 @@ impl<K: Tie, L: Log> Shared<K, L> {
         self.wake(woken);
     }
 
-    /// Waits until the answer is in the tray, and makes what is posted where it finds the lock free.
+    /// Waits for the answer in the tray. If it finds the lock free meanwhile, it makes the calls of all requests itself,
+    /// its own among them; `bit` is that of the tray, and is set in `posted` until some holder is about to answer.
     fn answered<R: Wait>(
         &self,
         rt: &R,
         poster: &mut PosterSeat<Request<K>, Answer<K>>,
         trays: &Posts<K, L>,
         request: &Snapshot<Request<K>>,
+        bit: u64,
     ) -> Answer<K>
         requires poster { poster_id poster.old ≡ trays_id trays.now }
         requires asked { asked poster.old ≡ Some request.now.value }
@@ -63,7 +65,8 @@ impl<K: Tie, L: Log> Shared<K, L> {
                 if let Some(answer) = poster.collect(trays) {
                     return answer;
                 }
-                if !self.try_serving() {
+                let waits = self.posted.load(Ordering::SeqCst) & bit != 0;
+                if !waits || !self.try_serving() {
                     backoff.spin();
                 }
             }
@@ -88,8 +91,9 @@ impl<K: Tie, L: Log> Shared<K, L> {
                 if tray < 64 {
                     let asking = Snapshot::of(&request);
                     desk.poster.ask(&desk.trays, request);
-                    self.posted.fetch_add(1 << tray, Ordering::SeqCst);
-                    return self.answered(rt, &mut desk.poster, &desk.trays, &asking);
+                    let bit = 1 << tray;
+                    self.posted.fetch_add(bit, Ordering::SeqCst);
+                    return self.answered(rt, &mut desk.poster, &desk.trays, &asking, bit);
                 }
             }
         }
@@ -101,7 +105,7 @@ impl<K: Tie, L: Log> Shared<K, L> {
         answer
     }
 
-    /// Has the calls of a request made: by the thread itself where the lock is free, and else by whoever holds it.
+    /// Has the calls of a request made: by this thread if the lock is free, or else by the thread that holds it.
     pub(crate) fn made<R: Wait>(&self, rt: &R, place: usize, request: Request<K>) -> Answer<K>
         ensures came { CameOf K.names.roster L.refuses L.admits request.account.thread request.account.asked.calls request.calls result.came }
         ensures amount { result.account.share.amount ≡ request.account.share.amount + events_in result.came }

@@ -1,4 +1,4 @@
-//! What a port posts where it finds the lock taken, and what comes back.
+//! Requests for calls under the lock, and their answers.
 ghost use Rattle.std.specs.Prelude.{◌≡◌, ◌+◌, ◌++◌, ◌<◌, ◌≤◌, ◌^◌};
 ghost use Rattle.qshared.specs.Counting.{is_call, pends};
 ghost use Rattle.qhandoff.specs.Words.{cells_id, thread_of, taken};
@@ -15,28 +15,29 @@ use qmodel::call::{Call, Completion};
 use qtrays::service::Service;
 use std::marker::PhantomData;
 
-/// One call, or two that are made in one turn at the lock.
+/// The calls of a request: one, or two that are made in one turn at the lock.
 #[derive(Drop)]
 pub(crate) enum Calls {
     One(Call),
     Both(Call, Call),
 }
 
-/// What came of them.
+/// The results of the calls of a request.
 #[derive(Drop)]
 pub(crate) enum Came {
     One(Called),
     Both(CalledBoth),
 }
 
-/// Whether the call was an event, and whether it was blocked.
+/// Returns whether a call was an event: whether it wasn't refused.
 fn is_call(called: &Called) -> bool
     ensures { result ≡ is_call called.now }
 {
     !matches!(called, Called::Refused(_, _))
 }
 
-/// Whether a port has a call that was blocked and isn't collected, if it had one before or not.
+/// Returns whether a port has a blocked call whose ending isn't collected, after this result; `before` says whether it
+/// had one before.
 fn pends(called: &Called, before: bool) -> bool
     ensures { result ≡ pends called.now before }
 {
@@ -44,7 +45,7 @@ fn pends(called: &Called, before: bool) -> bool
 }
 
 impl Came {
-    /// How many events came of it.
+    /// Returns the number of calls that were events.
     pub(crate) fn events(&self) -> u64
         ensures value { result ≡ events_in self.now }
         ensures few { result ≤ 2 }
@@ -56,7 +57,8 @@ impl Came {
         }
     }
 
-    /// Whether the port has a call that was blocked and isn't collected, if it had one before or not.
+    /// Returns whether the port has a blocked call whose ending isn't collected, after these results; `before` says
+    /// whether it had one before.
     pub(crate) fn pends(&self, before: bool) -> bool
         ensures { result ≡ pends_in_turn self.now before }
     {
@@ -68,21 +70,21 @@ impl Came {
     }
 }
 
-/// What a port posts.
+/// A request: the calls, and the account of the port that makes them.
 #[derive(Drop)]
 pub(crate) struct Request<K: Tie> {
     pub(crate) account: Account<K>,
     pub(crate) calls: Calls,
 }
 
-/// What comes back, with the account.
+/// The answer to a request: the results, and the account back.
 #[derive(Drop)]
 pub(crate) struct Answer<K: Tie> {
     pub(crate) account: Account<K>,
     pub(crate) came: Came,
 }
 
-/// What may come of a request: what a port's own call under the lock comes to.
+/// The answers that a request may get: those of a port's own call under the lock.
 pub(crate) struct ByLock<K, L> {
     of: PhantomData<(K, L)>,
 }
@@ -91,7 +93,8 @@ impl<K: Tie, L: Log> Service<Request<K>, Answer<K>> for ByLock<K, L> {
     ghost answers = { λ q a. (CameOf K.names.roster L.refuses L.admits q.account.thread q.account.asked.calls q.calls a.came) × (a.account.share.amount ≡ q.account.share.amount + events_in a.came) × (a.account.asked.calls ≡ q.account.asked.calls ++ asked_in_turn q.calls a.came) × (taken a.account.seat ≡ taken q.account.seat ++ gives_in_turn a.came) × (a.account.thread ≡ q.account.thread) × (thread_of a.account.seat ≡ thread_of q.account.seat) × (q.account.share.amount < 2 ^ 63) };
 }
 
-/// Makes two calls of a thread in one turn, the second only if the first ended with `Ok`, and says whom to wake.
+/// Makes two calls of a thread in one turn, the second only if the first ended with `Ok`. Returns the results, and the
+/// bits of the threads to wake.
 fn make_both<K: Tie, L: Log>(
     account: &mut Account<K>,
     cells: &Cells<Completion>,
@@ -128,7 +131,7 @@ fn make_both<K: Tie, L: Log>(
 }
 
 impl<K: Tie> Request<K> {
-    /// Makes the calls, as whoever holds the lock, and says whom to wake.
+    /// Makes the calls under the lock, which the caller holds. Returns the answer, and the bits of the threads to wake.
     pub(crate) fn make<L: Log>(
         self,
         cells: &Cells<Completion>,

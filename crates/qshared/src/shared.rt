@@ -45,11 +45,11 @@ use std::sync::{Arc, Mutex};
 #[derive(Drop)]
 pub struct Shared<K: Tie, L: Log> {
     pub(crate) cells: Cells<Completion>,
-    // Of a box, so that the lock's word is on another line than the kernel.
+    // In a box, so that the lock's word is on another cache line than the kernel.
     pub(crate) lock: Mutex<Box<Held<K, L>, Global>>,
-    // One for each place, which its port alone takes.
+    // One for each port, which alone locks it.
     pub(crate) desks: Vec<Mutex<Desk<K, L>>>,
-    // The bit of each tray in which a request may lie.
+    // The bits of the trays in which a request may lie.
     pub(crate) posted: CachePadded<AtomicU64>,
     pub(crate) unparkers: Vec<Unparker>,
     ghost cells_are: { cells_id cells ≡ K.names.cells },
@@ -254,7 +254,7 @@ impl<K: Tie, L: Log> Shared<K, L> {
             room,
             heard,
             ..
-        } = lock.into_inner();
+        } = locked;
         let ClosingRoom {
             mut seats,
             mut calls,
