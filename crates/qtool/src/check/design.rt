@@ -7,6 +7,7 @@ use crate::command::CheckRun;
 use crate::designs::Outcome;
 use crate::difference::difference_of;
 use crate::lines::without_returns;
+use std::path::Path;
 use std::rt::Files;
 use std::{fs, io};
 
@@ -19,7 +20,9 @@ pub fn check_design<R: Files + Print + Eprint + AllocGlobal>(
     tally: &mut Tally,
 ) -> Result<(), CheckFault> {
     let name = example.name.as_str();
-    let told = match Outcome::of(rt.alloc(), name, text)? {
+    // A verdict names the file alone, so it holds wherever the folder is.
+    let file = Path::new(name).file_name().unwrap_or(name);
+    let told = match Outcome::of(rt.alloc(), file, text)? {
         Outcome::Told(told) => told,
         Outcome::Faulty(_) => {
             tally.faulty = tally.faulty.saturating_add(1);
