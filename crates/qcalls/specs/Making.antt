@@ -1,4 +1,5 @@
--- What becomes of a call that is made: what its port asked for and took, and what the result is read off.
+-- The outcome of a call that is made: the calls that the port asked for, the endings that it took, and the
+-- ending that the result is read off.
 use Rattle.std.specs.Prelude.{◌≡◌, ◌⊎◌, ⊤, Bool, true, false, [], ◌∷◌, ◌++◌, Result, Ok, Err}
 use Rattle.qmodel.specs.declared.call.Call.{Call}
 use Rattle.qmodel.specs.declared.call.Completion.{Completion}
@@ -13,13 +14,14 @@ use Rattle.qcalls.specs.declared.endpoint.Told.TheVariants.{Done, Blocked, Refus
 use Rattle.qcalls.specs.declared.error.CallError.{CallError}
 use Rattle.qcalls.specs.declared.error.CallError.TheVariants.{NoMemory}
 
--- just this call was asked for and just one ending was taken, and the result is what is read off that ending
+-- exactly this call was asked for and exactly one ending was taken, and the result is read off that ending
 abbrev pub Ends : {A : Type 0} → Reading A → Bool → Call → History → History → Result A CallError → Type 0
 Ends read waited call before after result =
     (after.asked ≡ before.asked ++ call ∷ [])
     × ((x : Completion) × (after.taken ≡ before.taken ++ x ∷ []) × (result ≡ read waited x.mark x.buffer))
 
--- a call that was answered so: refused, with nothing asked for or taken, or it ends, at once or after a wait
+-- the outcome of a call that was answered like this: it was refused, with nothing asked for or taken, or it
+-- ended, at once or after a wait
 abbrev pub Comes : {A : Type 0} → Reading A → Call → History → History → Result A CallError → Told → Type 0
 Comes read call before after result (Refused errno) =
     (after.asked ≡ before.asked) × (after.taken ≡ before.taken) × (result ≡ Err (refusal errno))
@@ -41,16 +43,16 @@ MakesOfBytes read call before after result =
 abbrev pub MakesSome : {A : Type 0} → Reading A → Call → History → History → Type 0
 MakesSome read call before after = (result : Result _ CallError) × Makes read call before after result
 
--- what is read off an ending, if there is one
+-- the result that is read off an ending; the error if there is no ending
 abbrev pub read_off : {A : Type 0} → Reading A → Result Ending CallError → Result A CallError
 read_off read (Ok e) = read e.waited e.mark e.buffer
 read_off read (Err e) = Err e
 
--- all of an ending that a result is read off
+-- the ending itself as the result
 abbrev pub ending_in : Reading Ending
 ending_in waited mark buffer = Ok (record { waited = waited; mark = mark; buffer = buffer })
 
--- what an answer leads to: a refusal, or an ending, which came with the answer or is taken after a wait
+-- the outcome of an answer: a refusal, or an ending, which came with the answer or is taken after a wait
 abbrev pub Leads : Called → History → History → Result Ending CallError → Type 0
 Leads (called.Refused errno given) before after result = (after ≡ before) × (result ≡ Err (refusal errno))
 Leads (called.Done x) before after result = (after ≡ before) × (result ≡ ending_in false x.mark x.buffer)
@@ -58,14 +60,13 @@ Leads called.Blocked before after result =
     (x : Completion) × (after.taken ≡ before.taken ++ x ∷ []) × (after.pending ≡ false)
     × (after.asked ≡ before.asked) × (after.told ≡ before.told) × (result ≡ ending_in true x.mark x.buffer)
 
--- a call is made after one that did what it says; after any other nothing is done, and its error is the
--- result
+-- a call is made after one that succeeded; after any other nothing is done, and its error is the result
 abbrev pub Follows : {A : Type 0} → Reading A → Call → Result ⊤ CallError → History → History
     → Result A CallError → Type 0
 Follows read call (Ok done) before after result = Makes read call before after result
 Follows read call (Err e) before after result = (after ≡ before) × (result ≡ Err e)
 
--- two calls are made in turn: the first, and the second where the first did what it says
+-- two calls are made in turn: the first, and the second if the first succeeded
 pub record MakesBoth {A : Type 0} (read : Reading A) (first second : Call) (before after : History)
     (result : Result A CallError) : Type 0 where
   pub between : History

@@ -1,4 +1,4 @@
--- What becomes of a call that is started, and polled for.
+-- The outcome of a call that is started, and then polled.
 use Rattle.std.specs.Prelude.{◌≡◌, ◌⊎◌, true, false, [], ◌∷◌, ◌++◌, Option, Some, None, Result, Ok, Err}
 use Rattle.qmodel.specs.declared.call.Call.{Call}
 use Rattle.qmodel.specs.declared.call.Completion.{Completion}
@@ -10,17 +10,17 @@ use Rattle.qcalls.specs.declared.endpoint.Told.TheVariants.{Done, Blocked, Refus
 use Rattle.qcalls.specs.declared.error.CallError.{CallError}
 use Rattle.qcalls.specs.declared.error.CallError.TheVariants.{NoMemory}
 
--- the result of a call that has ended
+-- the result of a call that has ended, as Some
 abbrev pub option_of : {A : Type 0} → Result A CallError → Result (Option A) CallError
 option_of (Ok a) = Ok (Some a)
 option_of (Err e) = Err e
 
--- the result of a call that has ended, read off its ending
+-- the result of a call that has ended, read off its ending, as Some
 abbrev pub option_in : {A : Type 0} → Reading A → Reading (Option A)
 option_in read waited mark buffer = option_of (read waited mark buffer)
 
--- a call that was started was answered so: it was refused or has ended, as any call, or it was asked for
--- and is pending, with nothing taken
+-- the outcome of a call that was started and answered like this: it was refused or has ended, as any call, or
+-- it was asked for and is pending, with nothing taken
 abbrev pub Begins : {A : Type 0} → Reading A → Call → History → History → Result (Option A) CallError → Told
     → Type 0
 Begins read call before after result Blocked =
@@ -35,13 +35,13 @@ abbrev pub StartsOfBytes : {A : Type 0} → Reading A → Call → History → H
 StartsOfBytes read call before after result =
     Begins read call before after result after.told ⊎ ((after ≡ before) × (result ≡ Err NoMemory))
 
--- just one ending was taken, no call is pending, and the result is what is read off that ending, after a wait
+-- exactly one ending was taken, no call is pending, and the result is read off that ending, after a wait
 abbrev pub Came : {A : Type 0} → Reading A → History → History → Result (Option A) CallError → Type 0
 Came read before after result =
     (x : Completion) × (after.taken ≡ before.taken ++ x ∷ []) × (after.pending ≡ false)
     × (result ≡ option_in read true x.mark x.buffer)
 
--- the pending call is polled for, and nothing is asked for: its ending came, or nothing has changed
+-- the pending call is polled, and nothing is asked for: its ending has arrived, or nothing has changed
 abbrev pub Polls : {A : Type 0} → Reading A → History → History → Result (Option A) CallError → Type 0
 Polls read before after result =
     (after.asked ≡ before.asked) × (after.told ≡ before.told)

@@ -1,4 +1,5 @@
--- What a call's result is, read off the mark and the buffer of its ending: after a wait or in its own event.
+-- The results of calls, read off the mark and the buffer of the ending: after a wait or in the call's own
+-- event.
 use Rattle.std.specs.Prelude.{ℕ, Bool, List, ⊤, Result, Ok, Err, take}
 use Rattle.qmodel.specs.declared.call.Mark.{Mark}
 use Rattle.qmodel.specs.declared.call.Mark.TheVariants as mark
@@ -11,11 +12,11 @@ use Rattle.qcalls.specs.declared.results.Received.{Received}
 use Rattle.qcalls.specs.declared.results.Received.TheVariants as received
 use Rattle.qcalls.specs.declared.results.State.{State}
 
--- how a result is read
+-- a function that reads a result off an ending
 abbrev pub Reading : Type 0 → Type 0
 Reading A = Bool → Mark → List ℕ → Result A CallError
 
--- nothing, of a call that only does what it says
+-- nothing, for a call that has no result
 abbrev pub done_in : Reading ⊤
 done_in waited mark.Ok buffer = Ok tt
 done_in waited other buffer = Err (error_in waited other)
@@ -30,7 +31,7 @@ abbrev pub connection_in : Reading ℕ
 connection_in waited (mark.Connection coid) buffer = Ok coid
 connection_in waited other buffer = Err (error_in waited other)
 
--- the server's status, and the reply buffer with how many bytes were copied to its front
+-- the server's status, and the reply buffer with the number of bytes that were copied to its front
 abbrev pub answer_in : Reading Answer
 answer_in waited (mark.Replied status copied) buffer =
     Ok (record { status = status; copied = copied; buffer = buffer })
@@ -49,17 +50,17 @@ abbrev pub pulse_in : Reading Pulse
 pulse_in waited (mark.Pulse item priority what) buffer = Ok (record { priority = priority; what = what })
 pulse_in waited other buffer = Err (error_in waited other)
 
--- the bytes that were read: as many of the buffer as were copied
+-- the bytes that were read: the part of the buffer that was copied to
 abbrev pub bytes_in : Reading (List ℕ)
 bytes_in waited (mark.Count copied) buffer = Ok (take copied buffer)
 bytes_in waited other buffer = Err (error_in waited other)
 
--- how many bytes were written
+-- the number of bytes that were written
 abbrev pub count_in : Reading ℕ
 count_in waited (mark.Count copied) buffer = Ok copied
 count_in waited other buffer = Err (error_in waited other)
 
--- what is told of a held message
+-- the data of a held message
 abbrev pub info_in : Reading Info
 info_in waited (mark.Info info) buffer = Ok info
 info_in waited other buffer = Err (error_in waited other)

@@ -1,5 +1,5 @@
--- Calls of many threads over a kernel that one caller holds: which event a call is, what its result is read
--- off, and what becomes of the event's other endings.
+-- Calls of many threads to a kernel that one caller holds: the event of a call, what its result is read off,
+-- and where the event's other endings are kept.
 use Rattle.std.specs.Prelude.{◌≡◌, ◌⊎◌, ℕ, ◌+◌, ◌^◌, ◌==◌, nat_lt, Bool, true, List, []}
 use Rattle.std.specs.Prelude.{◌∷◌, ◌++◌, find, is_some, Option, None}
 use Rattle.std.specs.Prelude.{Some, Result, Ok, Err, if◌then◌else◌, false}
@@ -25,7 +25,7 @@ pub record Simulation : Type 0 where
   pub kernel : State
   pub kept : List Completion
 
--- an ending is that of a call of thread t
+-- true if an ending is that of a call of thread t
 abbrev pub is_of : ℕ → Completion → Bool
 is_of t x = x.thread == t
 
@@ -38,8 +38,8 @@ abbrev pub without : ℕ → List Completion → List Completion
 without t [] = []
 without t (x ∷ endings) = if x.thread == t then endings else x ∷ without t endings
 
--- why a call of thread t isn't made: it isn't in the roster, or else the kernel has made all the calls that
--- it can number, or else the thread hasn't taken the ending of its last call
+-- the error with which a call of thread t isn't made: t isn't in the roster, or else the kernel has made all
+-- the calls that it can number, or else the thread hasn't taken the ending of its last call
 abbrev pub unmade : Simulation → ℕ → Option Errno
 unmade s t =
     if is_some (member_at (members_of s.kernel.threads) t)
@@ -48,8 +48,8 @@ unmade s t =
     else Some errno.Exhausted)
     else Some errno.NoThread
 
--- thread t made this call, and no other call was made: these are the endings of its event, of which all but
--- the caller's own are kept
+-- thread t made this call, and no other call was made: these are the endings of its event; all but the
+-- caller's own are kept
 pub record IsEvent (t : ℕ) (call : Call) (before after : Simulation)
     (endings : List Completion) : Type 0 where
   pub event : AnswersAtTraces before.kernel t call endings after.kernel
@@ -58,12 +58,12 @@ pub record IsEvent (t : ℕ) (call : Call) (before after : Simulation)
   pub made : after.kernel.made ≡ before.kernel.made + 1
   pub kept : after.kept ≡ before.kept ++ without t endings
 
--- how a result is read off the caller's own ending of the event, if it has one
+-- a function that reads a result off the caller's own ending of the event, if it has one
 abbrev pub OwnReading : Type 0 → Type 0
 OwnReading A = Option Completion → Result A CallError
 
--- what becomes of a call that isn't made with this errno, and of one that is made or for which there is no
--- memory; the result is read off the caller's own ending of the event, if it has one
+-- the outcome of a call that isn't made, with this errno, or that is made or has no memory for its bytes; the
+-- result is read off the caller's own ending of the event, if it has one
 abbrev pub Comes : {A : Type 0} → OwnReading A → ℕ → Call → Simulation → Simulation → Result A CallError
     → Option Errno → Type 0
 Comes read t call before after result (Some e) = (after ≡ before) × (result ≡ Err (refusal e))
@@ -72,12 +72,12 @@ Comes read t call before after result None =
     × (result ≡ read (ending_of t endings)))
     ⊎ ((after ≡ before) × (result ≡ Err NoMemory))
 
--- a call of thread t
+-- a call of thread t is made, or refused before it is made
 pub record Simulates {A : Type 0} (read : OwnReading A) (t : ℕ) (call : Call) (before after : Simulation)
     (result : Result A CallError) : Type 0 where
   pub comes : Comes read t call before after result (unmade before t)
 
--- a call with bytes of thread t, or there was no memory for them and nothing was done
+-- a call with bytes of thread t is made or refused, or there was no memory for the bytes and nothing was done
 abbrev pub SimulatesOfBytes : {A : Type 0} → OwnReading A → ℕ → Call → Simulation → Simulation
     → Result A CallError → Type 0
 SimulatesOfBytes read t call before after result =
@@ -88,7 +88,7 @@ abbrev pub at_once : {A : Type 0} → Reading A → OwnReading A
 at_once read None = Err Unexpected
 at_once read (Some x) = read false x.mark x.buffer
 
--- a call that is done, if it gave a result
+-- a result of a call as the outcome Done
 abbrev pub done : {A : Type 0} → Result A CallError → Result (Outcome A) CallError
 done (Ok x) = Ok (Done x)
 done (Err e) = Err e
@@ -98,7 +98,7 @@ abbrev pub unless_blocked : {A : Type 0} → Reading A → OwnReading (Outcome A
 unless_blocked read None = Ok Blocked
 unless_blocked read (Some x) = done (read false x.mark x.buffer)
 
--- how a blocked call ended
+-- the ending of a blocked call
 abbrev pub ending_after_wait : Completion → Ending
 ending_after_wait x = record { waited = true; mark = x.mark; buffer = x.buffer }
 

@@ -1,4 +1,4 @@
-//! Until when the calls of a process's threads may wait.
+//! Alarms: the times until which the calls of a process's threads may wait.
 
 use crate::error::CallError;
 use qbase::ids::ThreadNo;
@@ -6,12 +6,12 @@ use std::alloc::Global;
 use std::sync::{Condvar, Mutex, MutexGuard, Wait};
 use std::time::{Clock, Duration, Instant};
 
-/// When the call of a thread is to be ended.
+/// The time at which the call of a thread is to be ended.
 #[derive(Clone, Copy)]
 pub(crate) struct Alarm {
     pub thread: ThreadNo,
     pub at: Instant,
-    /// Whether the timekeeper has ended the call, or told its server.
+    /// Whether the timekeeper has ended the call, or sent its server a pulse.
     pub rang: bool,
 }
 
@@ -22,8 +22,8 @@ pub(crate) struct AlarmList {
     pub closed: bool,
 }
 
-/// The alarms of a process: at most one for each of its threads, which has it set while it makes a call that waits only
-/// so long. The process's timekeeper rings them.
+/// The alarms of a process: at most one for each of its threads, set while the thread makes a call with a time limit.
+/// The process's timekeeper rings them.
 #[derive(Drop)]
 pub struct Alarms {
     list: Mutex<AlarmList>,
@@ -31,7 +31,7 @@ pub struct Alarms {
 }
 
 impl Alarms {
-    /// No alarm is set.
+    /// Makes the alarms of a process; none is set.
     pub fn new(alloc: Global) -> Alarms {
         Alarms {
             list: Mutex::new(AlarmList {
@@ -42,13 +42,13 @@ impl Alarms {
         }
     }
 
-    /// Has the timekeeper end its work. No alarm rings any more.
+    /// Makes the timekeeper return. No alarm rings any more.
     pub fn close<R: Wait>(&self, rt: &R) {
         self.list.lock(rt).closed = true;
         self.changed.notify_all();
     }
 
-    /// Sets the alarm of a thread, to ring after this time.
+    /// Sets the alarm of a thread to ring after this time.
     pub(crate) fn set<R: Wait + Clock>(
         &self,
         rt: &R,
@@ -77,12 +77,12 @@ impl Alarms {
         }
     }
 
-    /// The list, which nobody else sees or changes until the guard is dropped.
+    /// Locks the list, which no other thread can read or change until the guard is dropped.
     pub(crate) fn lock<'a, R: Wait>(&'a self, rt: &R) -> MutexGuard<'a, AlarmList> {
         self.list.lock(rt)
     }
 
-    /// Waits until the list may have changed, at most for this time.
+    /// Waits until the list may have changed, at most for this time if one is given.
     pub(crate) fn wait<'a, R: Wait + Clock>(
         &self,
         rt: &R,

@@ -13,7 +13,7 @@ use qshared::port::{Called, CalledBoth};
 use std::alloc::Global;
 use std::sync::Wait;
 
-/// A thread that makes calls: its way to the kernel, with the runtime that it waits by and the allocator.
+/// A thread that makes calls: its endpoint, with the runtime that it waits by and the allocator.
 #[derive(Drop)]
 pub struct Caller<'a, E: Endpoint, R: Wait> {
     pub(crate) endpoint: E,
@@ -22,7 +22,7 @@ pub struct Caller<'a, E: Endpoint, R: Wait> {
 }
 
 impl<'a, E: Endpoint, R: Wait> Caller<'a, E, R> {
-    /// A caller over this way to the kernel.
+    /// Makes a caller with this endpoint.
     pub fn new(endpoint: E, rt: &'a R, alloc: Global) -> Caller<'a, E, R>
         ensures { result.endpoint ≡ endpoint }
     {
@@ -33,7 +33,7 @@ impl<'a, E: Endpoint, R: Wait> Caller<'a, E, R> {
         }
     }
 
-    /// The way to the kernel alone.
+    /// Returns the endpoint.
     pub fn into_endpoint(self) -> E
         ensures { result ≡ self.entry.endpoint }
     {
@@ -41,25 +41,25 @@ impl<'a, E: Endpoint, R: Wait> Caller<'a, E, R> {
         endpoint
     }
 
-    /// The runtime, as for a server's loop: `for _ in server.rt().forever()`.
+    /// Returns the runtime, for example for a server's loop: `for _ in server.rt().forever()`.
     pub fn rt(&self) -> &'a R
         ensures { result.now ≡ self.now.rt.now }
     {
         self.rt
     }
 
-    /// The allocator that its buffers come from.
+    /// Returns the allocator that the caller's buffers come from.
     pub fn alloc(&self) -> Global {
         self.alloc
     }
 
-    /// The thread that makes the calls.
+    /// Returns the thread that makes the calls.
     pub fn thread(&self) -> ThreadNo {
         self.endpoint.thread()
     }
 
-    /// Does a thread's work, and shuts the kernel down if it fails, so that no other thread is left blocked. Returns
-    /// what the work returned.
+    /// Does a thread's work, and returns the result. If the work fails, the kernel is shut down, so that no other
+    /// thread is left blocked.
     pub fn run<T, X, F: FnOnce(&mut Caller<'a, E, R>) -> Result<T, X>>(
         &mut self,
         work: F,
@@ -70,7 +70,7 @@ impl<'a, E: Endpoint, R: Wait> Caller<'a, E, R> {
         self.or_shutdown(done)
     }
 
-    /// The ending that an answer leads to, for which it waits if the call is blocked.
+    /// Returns the ending of a call that had this answer, and waits for it if the call is blocked.
     fn ending_of(&mut self, called: Called) -> Result<Ending, CallError>
         requires { pends called false ≡ true → (E.history self.old.endpoint).pending ≡ true }
         ensures { Leads called (E.history self.old.endpoint) (E.history self.new.endpoint) result }
@@ -96,8 +96,8 @@ impl<'a, E: Endpoint, R: Wait> Caller<'a, E, R> {
         self.ending_of(called)
     }
 
-    /// Makes two calls in turn, and waits for the ending of the second. The second is made only if the first did what
-    /// it says.
+    /// Makes two calls in turn, and waits for the ending of the second. The second is made only if the first succeeded;
+    /// else the first's error is returned.
     pub(crate) fn make_both(&mut self, first: Call, second: Call) -> Result<Ending, CallError>
         ensures { MakesBoth ending_in first second (E.history self.old.endpoint) (E.history self.new.endpoint) result }
     {

@@ -37,7 +37,8 @@ impl<'a, E: Endpoint, R: Wait> Caller<'a, E, R> {
     }
 
     /// Detaches a connection of the caller's process, and cuts each send over it (`ConnectDetach`). Refused with
-    /// `Inval` if the connection isn't live or is another process's, and `Again` if a pulse is due at 1,024 of them.
+    /// `Inval` if the connection isn't live or is another process's, and `Again` if a pulse is due and 1,024 pulses
+    /// wait on the channel.
     pub fn connect_detach(&mut self, coid: ConnectionId) -> Result<(), CallError>
         ensures { Makes done_in (Call.ConnectDetach coid) (E.history self.old.endpoint) (E.history self.new.endpoint) result }
     {

@@ -1,4 +1,4 @@
-//! How a call ended, and the results that are read off it.
+//! The ending of a call, and the results that are read off it.
 
 ghost use Rattle.std.specs.Prelude.{◌≡◌};
 ghost use Rattle.qcalls.specs.Results.{answer_in, bytes_in, channel_in, connection_in, count_in, done_in, info_in, pulse_in, received_in, state_in};
@@ -9,19 +9,20 @@ use qbase::bytes::Bytes;
 use qbase::ids::{ChannelId, ConnectionId};
 use qmodel::call::{Info, Mark};
 
-/// How a call ended.
+/// The ending of a call. Each method takes one kind of result off it: it returns the call's error if the call failed,
+/// and `Unexpected` if the call ended with another kind of result.
 #[derive(Debug, Drop)]
 pub struct Ending {
     /// Whether the call was blocked before.
     pub waited: bool,
-    /// What the ending says.
+    /// The mark of the ending: the call's result, or its error.
     pub mark: Mark,
     /// The buffer that the call got back.
     pub buffer: Bytes,
 }
 
 impl Ending {
-    /// Nothing, of a call that only does what it says.
+    /// Returns `Ok(())` if the call succeeded, for a call that has no result.
     pub fn done(self) -> Result<(), CallError>
         ensures { result ≡ done_in self.waited self.mark self.buffer }
     {
@@ -32,7 +33,7 @@ impl Ending {
         }
     }
 
-    /// The channel that was created.
+    /// Returns the channel that was created.
     pub fn channel(self) -> Result<ChannelId, CallError>
         ensures { result ≡ channel_in self.waited self.mark self.buffer }
     {
@@ -43,7 +44,7 @@ impl Ending {
         }
     }
 
-    /// The connection that was attached.
+    /// Returns the connection that was attached.
     pub fn connection(self) -> Result<ConnectionId, CallError>
         ensures { result ≡ connection_in self.waited self.mark self.buffer }
     {
@@ -54,7 +55,7 @@ impl Ending {
         }
     }
 
-    /// The answer to a message.
+    /// Returns the answer to a message.
     pub fn answer(self) -> Result<Answer, CallError>
         ensures { result ≡ answer_in self.waited self.mark self.buffer }
     {
@@ -73,7 +74,7 @@ impl Ending {
         }
     }
 
-    /// The message or the pulse that was received.
+    /// Returns the message or the pulse that was received.
     pub fn received(self) -> Result<Received, CallError>
         ensures { result ≡ received_in self.waited self.mark self.buffer }
     {
@@ -93,7 +94,7 @@ impl Ending {
         }
     }
 
-    /// The pulse that was received.
+    /// Returns the pulse that was received.
     pub fn pulse(self) -> Result<Pulse, CallError>
         ensures { result ≡ pulse_in self.waited self.mark self.buffer }
     {
@@ -104,7 +105,7 @@ impl Ending {
         }
     }
 
-    /// The bytes that were read.
+    /// Returns the bytes that were read.
     pub fn bytes(self) -> Result<Bytes, CallError>
         ensures { result ≡ bytes_in self.waited self.mark self.buffer }
     {
@@ -123,7 +124,7 @@ impl Ending {
         }
     }
 
-    /// How many bytes were written.
+    /// Returns the number of bytes that were written.
     pub fn count(self) -> Result<usize, CallError>
         ensures { result ≡ count_in self.waited self.mark self.buffer }
     {
@@ -134,7 +135,7 @@ impl Ending {
         }
     }
 
-    /// What is told of a held message.
+    /// Returns the data of a held message.
     pub fn info(self) -> Result<Info, CallError>
         ensures { result ≡ info_in self.waited self.mark self.buffer }
     {
@@ -145,7 +146,7 @@ impl Ending {
         }
     }
 
-    /// A thread's state and priority.
+    /// Returns a thread's state and priority.
     pub fn state(self) -> Result<State, CallError>
         ensures { result ≡ state_in self.waited self.mark self.buffer }
     {

@@ -1,4 +1,4 @@
-//! A thread's way to the kernel, as its calls see it.
+//! The trait through which a thread's calls reach the kernel.
 
 ghost use Rattle.std.specs.Prelude.{◌≡◌, ◌++◌, [], ◌∷◌, Bool, true, false, MatchOption, if◌then◌else◌};
 ghost use Rattle.qhandoff.specs.Words.{taken};
@@ -15,7 +15,7 @@ use qshared::shared::Shared;
 use qshared::tie::Tie;
 use std::sync::Wait;
 
-/// What a way to the kernel answered its last call.
+/// What an endpoint answered its last call.
 #[derive(Clone, Copy, Debug, PartialEq, Eq)]
 pub enum Told {
     /// The call ended in its own event.
@@ -26,15 +26,15 @@ pub enum Told {
     Refused(Errno),
 }
 
-/// A thread's way to the kernel. A port with its shared kernel is one; a test may have another.
+/// A thread's access to the kernel. A port with its shared kernel is one; a test may have another.
 pub trait Endpoint {
-    /// What it asked for and took, whether a call of it is pending, and what it answered last.
+    /// The calls that it asked for, the endings that it took, whether a call is pending, and what it answered last.
     ghost history: { Self → History };
 
-    /// Whose way it is.
+    /// Returns the thread that it belongs to.
     fn thread(&self) -> ThreadNo;
 
-    /// Makes a call, for which it may wait while other threads are in the kernel.
+    /// Makes a call, and may wait while other threads are in the kernel.
     fn call<R: Wait>(&mut self, rt: &R, call: Call) -> Called
         ensures asked { (history self.new).asked ≡ (history self.old).asked ++ (if is_call result then call ∷ [] else []) }
         ensures taken { (history self.new).taken ≡ (history self.old).taken ++ gives result }
@@ -50,13 +50,13 @@ pub trait Endpoint {
         ensures told { (history self.new).told ≡ told_by_both result }
         ensures turn { IsInTurn second result };
 
-    /// Takes the ending of the blocked call if it came. It waits for nobody.
+    /// Takes the ending of the blocked call if it has arrived. It never waits.
     fn poll(&mut self) -> Option<Completion>
         ensures taken { MatchOption result ((history self.new).taken ≡ (history self.old).taken) (λ x. (history self.new).taken ≡ (history self.old).taken ++ x ∷ []) }
         ensures pending { MatchOption result ((history self.new).pending ≡ (history self.old).pending) (λ x. (history self.new).pending ≡ false) }
         ensures same { ((history self.new).asked ≡ (history self.old).asked) × ((history self.new).told ≡ (history self.old).told) };
 
-    /// Takes the ending of the blocked call once it comes.
+    /// Waits for the ending of the blocked call, and takes it.
     fn wait<R: Wait>(&mut self, rt: &R) -> Completion
         requires { (history self.old).pending ≡ true }
         ensures taken { (history self.new).taken ≡ (history self.old).taken ++ result ∷ [] }
@@ -73,7 +73,7 @@ pub struct KernelPort<'a, K: Tie, L: Log> {
 }
 
 impl<'a, K: Tie, L: Log> KernelPort<'a, K, L> {
-    /// The port, with the kernel that it belongs to.
+    /// Makes an endpoint of the port and the kernel that it belongs to.
     pub fn new(port: Port<K>, shared: &'a Shared<K, L>) -> KernelPort<'a, K, L>
         ensures { result.port ≡ port }
     {
@@ -84,7 +84,7 @@ impl<'a, K: Tie, L: Log> KernelPort<'a, K, L> {
         }
     }
 
-    /// The port alone.
+    /// Returns the port.
     pub fn into_port(self) -> Port<K>
         ensures { result ≡ self.entry.port }
     {
@@ -92,7 +92,7 @@ impl<'a, K: Tie, L: Log> KernelPort<'a, K, L> {
         port
     }
 
-    /// What the port answered the last call. Before the first it is `Done`.
+    /// Returns what the port answered the last call; `Done` before the first call.
     pub fn told(&self) -> Told
         ensures { result ≡ self.now.told }
     {
@@ -100,7 +100,7 @@ impl<'a, K: Tie, L: Log> KernelPort<'a, K, L> {
     }
 }
 
-/// What a port's answer tells.
+/// Returns which kind of answer a port gave.
 pub fn told_by(called: &Called) -> Told
     ensures { result ≡ told_by called.now }
 {

@@ -1,4 +1,4 @@
-//! Why a call gives no result.
+//! The errors of calls.
 
 ghost use Rattle.std.specs.Prelude.{◌≡◌};
 ghost use Rattle.qcalls.specs.Errors.{refusal, error_in};
@@ -9,7 +9,7 @@ use qmodel::call::Mark;
 use std::alloc::{AllocError, AllocFailed};
 use thiserror::Error;
 
-/// Why a call gives no result.
+/// The error of a call, which then has no result.
 #[derive(Clone, Copy, Debug, PartialEq, Eq, Error)]
 pub enum CallError {
     /// The kernel refused the call. It changed nothing.
@@ -22,16 +22,16 @@ pub enum CallError {
     /// The server answered the message with this code, by `msg_error`. It isn't 0.
     #[error("message answered with the code {0}")]
     Code(i32),
-    /// The call was ended since its time was over, by the timekeeper.
+    /// The timekeeper ended the call since its time was over.
     #[error("call timed out")]
     TimedOut,
-    /// The clock could not be read, or the time lies beyond what it counts.
+    /// The clock could not be read, or the time limit is later than the clock can count.
     #[error("clock not read")]
     NoClock,
-    /// The allocator refused.
+    /// The allocator refused, to the caller or to the kernel.
     #[error("out of memory")]
     NoMemory,
-    /// The call ended with the result of another kind of call. A lawful kernel ends none so.
+    /// The call ended with the result of another kind of call. A lawful kernel never ends a call like this.
     #[error("call ended with the result of another kind of call")]
     Unexpected,
 }
@@ -60,7 +60,7 @@ impl From<Errno> for CallError {
     }
 }
 
-/// The error of a call that the kernel refused.
+/// Returns the error of a call that the kernel refused.
 pub(crate) fn refusal(errno: Errno) -> CallError
     ensures { result ≡ refusal errno }
 {
@@ -70,7 +70,7 @@ pub(crate) fn refusal(errno: Errno) -> CallError
     }
 }
 
-/// The error of a call that ended with a mark that isn't its result's.
+/// Returns the error of a call that ended with a mark that isn't a result of its kind of call.
 pub(crate) fn error_in(waited: bool, mark: Mark) -> CallError
     ensures { result ≡ error_in waited mark }
 {

@@ -1,4 +1,4 @@
-//! The kernel's calls under QNX Neutrino's names, each of which waits for its ending and returns what the call is for.
+//! The kernel's calls under QNX Neutrino's names. Each waits for its ending and returns the call's result.
 #![tactic(auto)]
 
 pub mod alarms;
@@ -18,5 +18,5 @@ mod threads;
 mod timekeeper;
 mod within;
 
-/// What a call returns.
+/// The result of a call.
 pub type Result<T> = std::result::Result<T, error::CallError>;

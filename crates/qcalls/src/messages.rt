@@ -14,8 +14,8 @@ use qmodel::call::{Call, Info};
 use std::sync::Wait;
 
 impl<'a, E: Endpoint, R: Wait> Caller<'a, E, R> {
-    /// Sends a message over a connection, and waits for its answer in a buffer of so many bytes (`MsgSend`). Refused
-    /// with `Badf` if the connection isn't live, is another process's, or its channel isn't open.
+    /// Sends a message over a connection, and waits for the answer in a reply buffer of `reply_len` bytes (`MsgSend`).
+    /// Refused with `Badf` if the connection isn't live, is another process's, or its channel isn't open.
     pub fn msg_send(
         &mut self,
         coid: ConnectionId,
@@ -34,7 +34,7 @@ impl<'a, E: Endpoint, R: Wait> Caller<'a, E, R> {
         self.make(send)?.answer()
     }
 
-    /// Takes a message, into a buffer of so many bytes, or a pulse of a channel, and waits for one if there is none
+    /// Takes a message, into a buffer of `len` bytes, or a pulse of a channel, and waits for one if there is none
     /// (`MsgReceive`). Refused with `Srch` if the channel isn't open or is another process's.
     pub fn msg_receive(&mut self, chid: ChannelId, len: usize) -> Result<Received, CallError>
         ensures { MakesOfBytes received_in (Call.Receive chid (replicate len 0)) (E.history self.old.endpoint) (E.history self.new.endpoint) result }
@@ -63,14 +63,14 @@ impl<'a, E: Endpoint, R: Wait> Caller<'a, E, R> {
     }
 
     /// Answers a held message with a code and no bytes; the code 0 is a reply of status 0 (`MsgError`). Refused as
-    /// `msg_reply`.
+    /// `msg_reply` is.
     pub fn msg_error(&mut self, rcvid: ReceiveId, code: i32) -> Result<(), CallError>
         ensures { Makes done_in (Call.Error rcvid code) (E.history self.old.endpoint) (E.history self.new.endpoint) result }
     {
         self.make(Call::Error { rcvid, code })?.done()
     }
 
-    /// Reads at most so many bytes of a held message, from the offset on (`MsgRead`). Refused as `msg_reply`.
+    /// Reads at most `len` bytes of a held message, from the offset on (`MsgRead`). Refused as `msg_reply` is.
     pub fn msg_read(
         &mut self,
         rcvid: ReceiveId,
@@ -88,8 +88,8 @@ impl<'a, E: Endpoint, R: Wait> Caller<'a, E, R> {
         self.make(read)?.bytes()
     }
 
-    /// Writes bytes over the reply buffer of a held message's sender, from the offset on, and returns how many had room
-    /// (`MsgWrite`). Refused as `msg_reply`.
+    /// Writes bytes into the reply buffer of a held message's sender, from the offset on, and returns the number of
+    /// bytes for which there was room (`MsgWrite`). Refused as `msg_reply` is.
     pub fn msg_write(
         &mut self,
         rcvid: ReceiveId,
@@ -107,8 +107,8 @@ impl<'a, E: Endpoint, R: Wait> Caller<'a, E, R> {
         self.make(write)?.count()
     }
 
-    /// Tells of a held message: its sender, its connection, and its lengths in bytes (`MsgInfo`). Refused as
-    /// `msg_reply`.
+    /// Returns the data of a held message: its sender, its connection, and its lengths in bytes (`MsgInfo`). Refused as
+    /// `msg_reply` is.
     pub fn msg_info(&mut self, rcvid: ReceiveId) -> Result<Info, CallError>
         ensures { Makes info_in (Call.Info rcvid) (E.history self.old.endpoint) (E.history self.new.endpoint) result }
     {

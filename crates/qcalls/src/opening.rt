@@ -1,4 +1,4 @@
-//! Callers over the ports of a shared kernel, and the kernel's closing.
+//! Making callers of the ports of a shared kernel, and closing the kernel.
 
 ghost use Rattle.std.specs.Prelude.{◌≡◌, IfOk};
 ghost use Rattle.qcalls.specs.Closing.{IsPast};
@@ -15,11 +15,11 @@ use qshared::tie::Tie;
 use std::alloc::Global;
 use std::sync::Wait;
 
-/// A thread that makes calls by its port of a shared kernel.
+/// A thread that makes calls through its port of a shared kernel.
 pub type PortCaller<'a, 'p, K, L, R> = Caller<'a, KernelPort<'p, K, L>, R>;
 
 impl<'a, 'p, K: Tie, L: Log, R: Wait> Caller<'a, KernelPort<'p, K, L>, R> {
-    /// A caller by this port of this kernel.
+    /// Makes a caller of this port of this kernel.
     pub fn of(
         port: Port<K>,
         shared: &'p Shared<K, L>,
@@ -31,7 +31,7 @@ impl<'a, 'p, K: Tie, L: Log, R: Wait> Caller<'a, KernelPort<'p, K, L>, R> {
         Caller::new(KernelPort::new(port, shared), rt, alloc)
     }
 
-    /// The port alone.
+    /// Returns the port.
     pub fn into_port(self) -> Port<K>
         ensures { result ≡ self.entry.endpoint.port }
     {
@@ -39,7 +39,7 @@ impl<'a, 'p, K: Tie, L: Log, R: Wait> Caller<'a, KernelPort<'p, K, L>, R> {
     }
 }
 
-/// The callers of a kernel of two threads, in rising thread number. `Unexpected` if there aren't two ports.
+/// Makes the callers of a kernel of two threads, in rising thread number. `Unexpected` if there aren't two ports.
 pub fn two_callers<'a, 'p, K: Tie, L: Log, R: Wait>(
     mut ports: Vec<Port<K>>,
     shared: &'p Shared<K, L>,
@@ -55,8 +55,8 @@ pub fn two_callers<'a, 'p, K: Tie, L: Log, R: Wait>(
     ))
 }
 
-/// Closes a kernel that keeps its past, and returns its past. `Unexpected` if these aren't all its ports in rising thread
-/// number.
+/// Closes a kernel that keeps its past, and returns its past. `Unexpected` if these aren't all its ports, in rising
+/// thread number.
 pub fn close<K: Tie>(shared: Shared<K, Kept<K>>, ports: Vec<Port<K>>) -> Result<Trace, CallError>
     ensures { IfOk result (λ trace. IsPast K.names.roster trace) }
 {

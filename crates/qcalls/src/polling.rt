@@ -1,4 +1,4 @@
-//! A receive that is polled for, by a thread that is not to wait.
+//! A receive that is polled, for a thread that must not wait.
 
 ghost use Rattle.std.specs.Prelude.{◌≡◌, replicate};
 ghost use Rattle.qcalls.specs.Polling.{Polls, StartsOfBytes, option_in};
@@ -16,9 +16,9 @@ use qshared::port::Called;
 use std::sync::Wait;
 
 impl<'a, E: Endpoint, R: Wait> Caller<'a, E, R> {
-    /// Takes a message, into a buffer of so many bytes, or a pulse of a channel, as `msg_receive`, but doesn't wait for
-    /// one. If there is none it returns `None`, and the caller is RECEIVE-blocked: each call but `msg_receive_poll` is
-    /// refused with `Busy` until that returns what came.
+    /// Takes a message, into a buffer of `len` bytes, or a pulse of a channel, as `msg_receive` does, but doesn't wait
+    /// for one. If there is none it returns `None`, and the caller is RECEIVE-blocked: each call but `msg_receive_poll`
+    /// is refused with `Busy` until `msg_receive_poll` has returned the message or pulse.
     pub fn msg_receive_start(
         &mut self,
         chid: ChannelId,
@@ -34,8 +34,8 @@ impl<'a, E: Endpoint, R: Wait> Caller<'a, E, R> {
         }
     }
 
-    /// Returns what a receive took that was started, if anything came. It waits for nobody, and returns `None` for ever
-    /// if no receive was started.
+    /// Returns the message or pulse of the receive that was started, if one has arrived. It never waits, and always
+    /// returns `None` if no receive was started.
     pub fn msg_receive_poll(&mut self) -> Result<Option<Received>, CallError>
         ensures { Polls received_in (E.history self.old.endpoint) (E.history self.new.endpoint) result }
     {
@@ -46,7 +46,7 @@ impl<'a, E: Endpoint, R: Wait> Caller<'a, E, R> {
     }
 }
 
-/// What a receive took that has ended.
+/// Returns the message or pulse of a receive that has ended.
 fn received_by(waited: bool, completion: Completion) -> Result<Option<Received>, CallError>
     ensures { result ≡ option_in received_in waited completion.mark completion.buffer }
 {

@@ -13,8 +13,8 @@ use qmodel::call::Call;
 use std::sync::Wait;
 
 impl<'a, E: Endpoint, R: Wait> Caller<'a, E, R> {
-    /// Sends a pulse with a code, 0 to 127, and a value over a connection, and goes on at once (`MsgSendPulse`). Refused
-    /// with `Badf` as `msg_send`, `Inval` if the code is below 0, and `Again` if 1,024 pulses wait on the channel.
+    /// Sends a pulse with a code, 0 to 127, and a value over a connection, and doesn't wait (`MsgSendPulse`). Refused
+    /// with `Badf` as `msg_send` is, `Inval` if the code is below 0, and `Again` if 1,024 pulses wait on the channel.
     pub fn msg_send_pulse(
         &mut self,
         coid: ConnectionId,
@@ -33,8 +33,8 @@ impl<'a, E: Endpoint, R: Wait> Caller<'a, E, R> {
         self.make(pulse)?.done()
     }
 
-    /// Takes a pulse of a channel, and waits for one if there is none; messages stay (`MsgReceivePulse`). Refused with
-    /// `Srch` if the channel isn't open or is another process's.
+    /// Takes a pulse of a channel, and waits for one if there is none; messages stay queued (`MsgReceivePulse`).
+    /// Refused with `Srch` if the channel isn't open or is another process's.
     pub fn msg_receive_pulse(&mut self, chid: ChannelId) -> Result<Pulse, CallError>
         ensures { Makes pulse_in (Call.ReceivePulse chid) (E.history self.old.endpoint) (E.history self.new.endpoint) result }
     {

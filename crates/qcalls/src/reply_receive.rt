@@ -1,4 +1,4 @@
-//! A reply and the next receive in one: what a server does all day.
+//! A reply and the next receive in one call, for a server's loop.
 
 ghost use Rattle.std.specs.Prelude.{replicate};
 ghost use Rattle.qcalls.specs.Making.{MakesBothOfBytes};
@@ -15,7 +15,7 @@ use std::sync::Wait;
 
 impl<'a, E: Endpoint, R: Wait> Caller<'a, E, R> {
     /// Answers a held message with a status and bytes, and then receives from a channel into a buffer of `len` bytes:
-    /// `msg_reply` and `msg_receive` one after the other, at one taking of the kernel's lock. If the reply is refused,
+    /// `msg_reply` followed by `msg_receive`, with the kernel's lock taken once for both. If the reply is refused,
     /// nothing is received and its error is returned. Own profile: QNX has no such call.
     pub fn msg_reply_receive(
         &mut self,

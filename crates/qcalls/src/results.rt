@@ -1,4 +1,4 @@
-//! What calls return.
+//! The results of calls.
 
 ghost use Rattle.std.specs.Prelude.{◌≡◌, take};
 
@@ -9,19 +9,20 @@ use qbase::state::ThreadState;
 use qqueue::item::What;
 use std::ops::DerefSlice;
 
-/// How a server answered a message (`MsgSend`).
+/// A server's answer to a message (`MsgSend`).
 #[derive(Debug, Drop)]
 pub struct Answer {
     /// The status of the server's reply.
     pub status: i64,
-    /// How many bytes the server copied to the front of the buffer.
+    /// The number of bytes that the server copied to the front of the buffer.
     pub copied: usize,
-    /// The reply buffer, as long as it was asked for, with zeros and what `msg_write` wrote behind the reply.
+    /// The reply buffer, of the length that the sender asked for. Behind the reply are zeros and what `msg_write`
+    /// wrote.
     pub buffer: Bytes,
 }
 
 impl Answer {
-    /// The bytes of the reply.
+    /// Returns the bytes of the reply, as many as the buffer had room for.
     pub fn bytes(&self) -> &[u8]
         ensures { result.now ≡ take self.now.copied self.now.buffer }
     {
@@ -29,28 +30,28 @@ impl Answer {
     }
 }
 
-/// What a receive takes (`MsgReceive`).
+/// The message or pulse that a receive took (`MsgReceive`).
 #[derive(Debug, Drop)]
 pub enum Received {
-    /// A message. Its sender waits until it is answered.
+    /// A message. Its sender waits for the answer.
     Message(Request),
-    /// A pulse. Nobody waits for an answer.
+    /// A pulse. No thread waits for an answer.
     Pulse(Pulse),
 }
 
 /// A message that was received.
 #[derive(Debug, Drop)]
 pub struct Request {
-    /// By which it is answered.
+    /// The receive id, by which the message is answered.
     pub rcvid: ReceiveId,
-    /// How many of its bytes were copied to the front of the buffer.
+    /// The number of its bytes that were copied to the front of the buffer.
     pub copied: usize,
-    /// The buffer that it was received into, as long as it was asked for, with zeros behind the message.
+    /// The buffer that it was received into, of the length that the receiver asked for, with zeros behind the message.
     pub buffer: Bytes,
 }
 
 impl Request {
-    /// The bytes of the message, as many as the buffer had room for.
+    /// Returns the bytes of the message, as many as the buffer had room for.
     pub fn bytes(&self) -> &[u8]
         ensures { result.now ≡ take self.now.copied self.now.buffer }
     {
@@ -68,7 +69,7 @@ impl DerefSlice for Request {
     }
 }
 
-/// So many bytes of a buffer, or all.
+/// Returns the first `count` bytes of a buffer, or all if it has fewer.
 fn front(buffer: &Bytes, count: usize) -> &[u8]
     ensures { result.now ≡ take count buffer.now }
 {
@@ -81,14 +82,14 @@ fn front(buffer: &Bytes, count: usize) -> &[u8]
 pub struct Pulse {
     /// The priority that it was sent with.
     pub priority: Priority,
-    /// A thread's pulse with its code and value, or one of the kernel: a client wants to be unblocked, or has detached.
+    /// A thread's pulse with its code and value, or one of the kernel: a client is to be unblocked, or has detached.
     pub what: What,
 }
 
-/// What a thread does.
+/// The state and priority of a thread.
 #[derive(Clone, Copy, Debug, PartialEq, Eq)]
 pub struct State {
-    /// Whether it is blocked, and on which channel.
+    /// Whether it is blocked, in which state and on which channel.
     pub state: ThreadState,
     /// Its priority.
     pub priority: Priority,

@@ -1,4 +1,4 @@
-//! The calls of many threads over a kernel that one caller holds.
+//! The calls of many threads to a kernel that one caller holds.
 
 ghost use Rattle.std.specs.Prelude.{◌≡◌, ◌≤◌, [], Some, is_some, length, option_map, IfOk, IfErr};
 ghost use Rattle.qkernel.specs.Stands.{StandsAt};
@@ -26,28 +26,28 @@ use qtables::roster::{Roster, THREAD_LIMIT};
 use std::alloc::Global;
 use std::marker::Model;
 
-/// What a call came to in which its thread may be blocked.
+/// The outcome of a call in which its thread may be blocked.
 #[derive(Debug, Drop)]
 pub enum Outcome<T> {
-    /// It ended in its own event, with this result.
+    /// The call ended in its own event, with this result.
     Done(T),
-    /// Its thread is blocked. Once the call ends, `Simulator::take` returns its ending.
+    /// The thread is blocked. Once the call ends, `Simulator::take` returns its ending.
     Blocked,
 }
 
-/// A kernel in the hands of one caller, who makes the calls of all its threads. Each call is an event, and may end
-/// blocked calls of other threads: their endings are kept until `take` asks for them. Contracts see the kernel's
-/// content, and the endings that are kept.
+/// A kernel that one caller holds, who makes the calls of all its threads. Each call is an event, and may end blocked
+/// calls of other threads: their endings are kept until `take` returns them. Contracts see the kernel's content, and
+/// the endings that are kept.
 ///
 /// Each method refuses a call before it is made, and then changes nothing: with `NoThread` if the thread isn't in the
 /// roster, `Exhausted` at 2^40 calls, and `Busy` if the ending of the thread's last call isn't taken yet. The kernel
-/// refuses a call with `Busy` if its thread is blocked, and with `Down` after `shutdown`; that is an event, which it
-/// counts.
+/// refuses a call with `Busy` if its thread is blocked, and with `Down` after `shutdown`; that is an event, which the
+/// kernel counts.
 #[derive(Drop)]
 pub struct Simulator {
     alloc: Global,
     kernel: Kernel,
-    // Lent to the kernel for the endings of one event. It is empty between calls.
+    // The kernel puts the endings of one event here. It is empty between calls.
     endings: Endings,
     kept: Vec<Completion>,
 }
@@ -63,7 +63,7 @@ impl Model for Simulator {
     ghost invariant = { λ s. s.endings.items ≡ [] };
 }
 
-/// A call that ended in its own event and came to this.
+/// Returns the outcome of a call that ended in its own event with this result.
 fn done<T>(came: Result<T, CallError>) -> Result<Outcome<T>, CallError>
     ensures { result ≡ done came }
 {
@@ -76,7 +76,7 @@ fn done<T>(came: Result<T, CallError>) -> Result<Outcome<T>, CallError>
 impl Simulator {
     ghost use Rattle.qcalls.specs.Simulating.{Simulates, at_once, unless_blocked, unmade, ending_of, without, ending_after_wait, oldest, later};
 
-    /// A simulator of a kernel without channels, in which all threads of the roster are ready. The room for the
+    /// Makes a simulator of a kernel without channels, in which all threads of the roster are ready. The room for the
     /// kernel and for endings is made here; `NoMemory` is the only error.
     pub fn new(alloc: Global, roster: &Roster) -> Result<Simulator, CallError>
         ensures stands { IfOk result (λ s. StandsAt roster.now s.kernel []) }
@@ -92,29 +92,30 @@ impl Simulator {
         })
     }
 
-    /// The kernel, to be read.
+    /// Returns the kernel, for reading.
     pub fn kernel(&self) -> &Kernel
         ensures { result.now ≡ self.now.kernel }
     {
         &self.kernel
     }
 
-    /// Whether a thread is blocked in a call.
+    /// Returns whether a thread is blocked in a call.
     pub fn is_blocked(&self, thread: ThreadNo) -> bool
         ensures { result ≡ is_some (open_in self.now.kernel.threads thread) }
     {
         self.kernel.is_blocked(thread)
     }
 
-    /// Whether an ending waits for a thread to take it.
+    /// Returns whether an ending is kept for a thread.
     pub fn has_ended(&self, thread: ThreadNo) -> bool
         ensures { result ≡ is_some (ending_of thread self.now.kept) }
     {
         kept::has(&self.kept, thread)
     }
 
-    /// How a thread's blocked call ended, if it ended and this isn't taken yet. `Ending::answer` returns the result
-    /// of a `msg_send`, `received` that of a `msg_receive`, and `pulse` that of a `msg_receive_pulse`.
+    /// Takes the ending of a thread's blocked call; `None` if the call hasn't ended or its ending was taken.
+    /// `Ending::answer` returns the result of a `msg_send`, `received` that of a `msg_receive`, and `pulse` that of a
+    /// `msg_receive_pulse`.
     pub fn take(&mut self, thread: ThreadNo) -> Option<Ending>
         ensures ending { result ≡ option_map ending_after_wait (ending_of thread self.old.kept) }
         ensures rest { self.new ≡ record self.old { kept = without thread self.old.kept } }
@@ -127,7 +128,8 @@ impl Simulator {
         })
     }
 
-    /// The ending that waits longest, with its thread. Those of one event come in rising thread number.
+    /// Takes the oldest ending that is kept, and returns it with its thread. Those of one event come in rising thread
+    /// number.
     pub fn take_next(&mut self) -> Option<(ThreadNo, Ending)>
         ensures ending { result ≡ oldest self.old.kept }
         ensures rest { self.new ≡ record self.old { kept = later self.old.kept } }
@@ -141,11 +143,11 @@ impl Simulator {
         Some((completion.thread, ending))
     }
 
-    /// Why no call of a thread is made.
+    /// Returns the error with which no call of a thread is made; `None` if it may make one.
     fn unmade(&self, thread: ThreadNo) -> Option<Errno>
         ensures why { result ≡ unmade self.now thread }
 
-        // What is so of every kernel.
+        // The invariant of every kernel.
         ensures few { length self.now.kernel.threads ≤ 64 }
     {
         let made = self.kernel.made();

@@ -9,13 +9,13 @@ use qbase::state::ThreadState;
 use std::sync::Wait;
 use std::time::{Clock, Duration, Instant};
 
-/// After how many milliseconds the timekeeper tries again, if a call whose time is over isn't blocked yet, or its server
-/// can't be told.
+/// The time in milliseconds after which the timekeeper tries again, if a call whose time is over isn't blocked yet, or
+/// no pulse can be sent to its server.
 const RETRY_MILLIS: u64 = 1;
 
 impl<'a, E: Endpoint, R: Wait + Clock> Caller<'a, E, R> {
-    /// Ends each call of the process whose time is over, by `unblock`, until the alarms are closed or the kernel is shut
-    /// down. The work of a thread of its own: its process's other threads make calls with a limit of time meanwhile.
+    /// Ends each call of the process whose time is over, by `unblock`, until the alarms are closed or the kernel is
+    /// shut down. It takes a thread of its own, while the process's other threads make calls with a time limit.
     pub fn keep_time(&mut self, alarms: &Alarms) -> Result<(), CallError> {
         let rt = self.rt;
         let mut list = alarms.lock(rt);
@@ -36,7 +36,8 @@ impl<'a, E: Endpoint, R: Wait + Clock> Caller<'a, E, R> {
         unreachable!()
     }
 
-    /// Rings an alarm if its time has come, and returns how long it has to be waited for else.
+    /// Rings an alarm if its time has come. Returns how long to wait before it is looked at again; `None` if it has
+    /// rung.
     fn ring(&mut self, alarm: &mut Alarm) -> Result<Option<Duration>, CallError> {
         if alarm.rang {
             return Ok(None);
@@ -61,7 +62,7 @@ impl<'a, E: Endpoint, R: Wait + Clock> Caller<'a, E, R> {
     }
 }
 
-/// The shorter of two times, of which either may be missing.
+/// Returns the shorter of two times, either of which may be missing.
 fn sooner(one: Option<Duration>, other: Option<Duration>) -> Option<Duration> {
     match (one, other) {
         (Some(one), Some(other)) => Some(one.min(other)),

@@ -1,4 +1,4 @@
-//! Calls that wait at most so long.
+//! Calls with a time limit.
 
 use crate::alarms::Alarms;
 use crate::caller::Caller;
@@ -11,9 +11,10 @@ use std::sync::Wait;
 use std::time::{Clock, Duration};
 
 impl<'a, E: Endpoint, R: Wait + Clock> Caller<'a, E, R> {
-    /// As `msg_send`, but for at most this time (`TimerTimeout`), of which the process's timekeeper has the alarms. It
-    /// ends in the answer, in any other error of `msg_send`, or in `TimedOut`. If the channel has the flag `UNBLOCK` and
-    /// the server holds the message, the server is told by a pulse, and the call ends as the server answers it.
+    /// Sends a message as `msg_send` does, but waits for at most this time (`TimerTimeout`). The alarms are those of
+    /// the process's timekeeper. Returns the answer, any other error of `msg_send`, or `TimedOut`. If the channel has
+    /// the flag `UNBLOCK` and the server holds the message, the server gets a pulse instead, and the call ends when the
+    /// server answers it.
     pub fn msg_send_within(
         &mut self,
         alarms: &Alarms,
@@ -27,8 +28,8 @@ impl<'a, E: Endpoint, R: Wait + Clock> Caller<'a, E, R> {
         self.timed(alarms, answer)
     }
 
-    /// As `msg_receive`, but for at most this time. It ends in what it takes, in any other error of `msg_receive`, or in
-    /// `TimedOut`.
+    /// Receives as `msg_receive` does, but waits for at most this time. Returns the message or pulse, any other error
+    /// of `msg_receive`, or `TimedOut`.
     pub fn msg_receive_within(
         &mut self,
         alarms: &Alarms,
@@ -41,8 +42,8 @@ impl<'a, E: Endpoint, R: Wait + Clock> Caller<'a, E, R> {
         self.timed(alarms, received)
     }
 
-    /// As `msg_receive_pulse`, but for at most this time. It ends in the pulse, in any other error of
-    /// `msg_receive_pulse`, or in `TimedOut`.
+    /// Receives as `msg_receive_pulse` does, but waits for at most this time. Returns the pulse, any other error of
+    /// `msg_receive_pulse`, or `TimedOut`.
     pub fn msg_receive_pulse_within(
         &mut self,
         alarms: &Alarms,
@@ -54,7 +55,7 @@ impl<'a, E: Endpoint, R: Wait + Clock> Caller<'a, E, R> {
         self.timed(alarms, pulse)
     }
 
-    /// The result of a call with an alarm, which is cleared: `TimedOut` if the timekeeper ended the call.
+    /// Clears the caller's alarm, and returns the result of its call: `TimedOut` if the timekeeper ended it.
     fn timed<T>(&mut self, alarms: &Alarms, done: Result<T, CallError>) -> Result<T, CallError> {
         let rang = alarms.clear(self.rt, self.thread());
         match done {

@@ -4,8 +4,9 @@ use Rattle.qmodel.specs.declared.call.Call.{Call}
 use Rattle.qmodel.specs.declared.call.Completion.{Completion}
 use Rattle.qmodel.specs.Trace.{Event}
 
--- the events, the oldest in front; who made which calls that are noted and no events yet, the next in front;
--- the endings of the next; and for how many more calls and how many more endings there is room
+-- the events, the oldest in front; the calls that are noted but not events yet, each with its thread, the
+-- next in front; the endings of the next call; and the numbers of further calls and endings for which there
+-- is room
 pub record Logged : Type 0 where
   pub events : List Event
   pub noted : List (ℕ × Call)
@@ -13,7 +14,7 @@ pub record Logged : Type 0 where
   pub call_room : ℕ
   pub ending_room : ℕ
 
--- what a log has once the first of these calls, which are noted, is an event
+-- the log after the first of its noted calls, which are these, became an event
 abbrev pub with_first : Logged → List (ℕ × Call) → Logged
 with_first l [] = l
 with_first l (q ∷ noted) =
@@ -25,6 +26,6 @@ with_first l (q ∷ noted) =
       ending_room = l.ending_room;
     }
 
--- the log once the call that is noted next is an event, with the endings that it has
+-- the log after the next of its noted calls became an event, with the endings that were added
 abbrev pub with_next : Logged → Logged
 with_next l = with_first l l.noted

@@ -7,7 +7,7 @@ use Rattle.qkernel.specs.declared.trace.Entry.{Entry}
 use Rattle.qkernel.specs.EventLog.{Logged}
 use Rattle.qmodel.specs.Trace.{Event}
 
--- the event of an entry, whose endings stand between two places of the list of all
+-- the event of an entry, whose endings are a range of the list of all
 abbrev pub event_of : List Completion → Entry → Event
 event_of endings e = record { thread = e.thread; call = e.call; endings = slice_range endings e.start e.end }
 
@@ -15,16 +15,16 @@ event_of endings e = record { thread = e.thread; call = e.call; endings = slice_
 abbrev pub events_of : List Completion → List Entry → List Event
 events_of endings entries = map (event_of endings) entries
 
--- each entry's endings stand within the list of all
+-- each entry's endings are a range within the list of all
 abbrev pub AllWithin : List Completion → List Entry → Type 0
 AllWithin endings entries = AllByRecursion (λ e. (e.start ≤ e.end) × (e.end ≤ length endings)) entries
 
--- who made the call of an entry, and which it is
+-- the thread and the call of an entry
 abbrev pub entry_call : Entry → ℕ × Call
 entry_call e = (e.thread, e.call)
 
--- what is logged by these entries, of which so many are events, and by these endings, of which those from a
--- place on are of the next call
+-- the log of these entries, the first made of which are events, and of these endings; those from start on are
+-- of the next call
 abbrev pub logged_by : List Entry → List Completion → ℕ → ℕ → ℕ → ℕ → Logged
 logged_by entries endings made start call_room ending_room =
     record {
@@ -35,7 +35,7 @@ logged_by entries endings made start call_room ending_room =
       ending_room = ending_room;
     }
 
--- what is so of them
+-- the invariant of an event log
 pub record IsKept (entries : List Entry) (endings : List Completion) (made start : ℕ) : Type 0 where
   pub within : AllWithin endings (take made entries)
   pub few : made ≤ length entries

@@ -1,4 +1,4 @@
--- What a kernel contains.
+-- The content of a kernel.
 use Rattle.std.specs.Prelude.{◌+◌, ◌≤◌, ◌<◌}
 use Rattle.std.specs.List.{AllByRecursion}
 use Rattle.qrules.specs.Words.{filter_map, length, Bool, Connection, List, ℕ}
@@ -12,7 +12,7 @@ use Rattle.qstate.specs.Kept.{thread_priority, members_of}
 use Rattle.qstate.specs.declared.channel.Channel.{Channel}
 use Rattle.qstate.specs.declared.thread.Thread.{Thread}
 
--- how many calls it made, whether it is shut down, its threads, its open channels and its live connections
+-- the number of calls made, whether it is shut down, the threads, the open channels and the live connections
 pub record State : Type 0 where
   pub made : ℕ
   pub down : Bool
@@ -36,8 +36,8 @@ facts_in s = record {
   priority = thread_priority s.threads;
 }
 
--- there are at most 64 threads, in rising number, connections stand in rising id from 1 on, and no channel,
--- connection or item has the number of a call to come
+-- there are at most 64 threads, in rising number; the ids of connections rise, from 1 on; and no channel,
+-- connection or item has the number of a later call
 pub record IsSound (s : State) : Type 0 where
   pub few : length s.threads ≤ 64
   pub roster : IsRoster (members_of s.threads)

@@ -1,4 +1,4 @@
--- What a call means whose bytes are lent.
+-- The call that a call with borrowed bytes stands for.
 use Rattle.qmodel.specs.declared.call.Call.{Call}
 use Rattle.qmodel.specs.declared.call.Call.TheVariants as call
 use Rattle.qkernel.specs.declared.lent_call.LentCall.{LentCall}

@@ -1,4 +1,4 @@
--- A kernel stands at a trace if its content is what is so after these events.
+-- A kernel stands at a trace if its content is what follows from the events of the trace.
 use Rattle.std.specs.Prelude.{◌+◌, ◌∷◌, ◌≡◌, ◌≤◌, ◌⊎◌, ◌^◌}
 use Rattle.qrules.specs.Words.{[], false, is_some, member_at, true}
 use Rattle.qrules.specs.Words.{Call, Completion, Errno, Info, List, Member, Option}
@@ -13,31 +13,31 @@ use Rattle.qrules.specs.Trace.{ReceiveId, ThreadNo, Trace}
 use Rattle.qstate.specs.Kept.{members_of}
 use Rattle.qkernel.specs.Kernel.{facts_in, State}
 
--- what a kernel contains is what is so after these events
+-- the kernel's content is what follows from these events
 abbrev pub StandsAt : List Member → State → Trace → Type 0
 StandsAt roster s past = facts_in s ≡ facts_of roster past
 
--- one call at every lawful trace at which the kernel stood: its endings answer the trace, and the kernel
--- stands at the trace with the event
+-- at every lawful trace at which the kernel stood, these endings answer the call, and the kernel now stands
+-- at the trace with the event
 abbrev pub AnswersAtTraces : State → ThreadNo → Call → List Completion → State → Type 0
 AnswersAtTraces old t c endings new =
     (roster : List Member) (past : Trace) → IsLawful roster past → StandsAt roster old past
     → Answers (facts_of roster past) t c endings
     × StandsAt roster new (record { thread = t; call = c; endings = endings } ∷ past)
 
--- what is told of message i at every trace at which the kernel stands: what an `Info` of it tells there
+-- at every trace at which the kernel stands, this is what an Info of message i would return
 abbrev pub InfoAtTraces : State → ReceiveId → Option Info → Type 0
 InfoAtTraces s i info =
     (roster : List Member) (past : Trace) → StandsAt roster s past → info ≡ info_of (facts_of roster past) i
 
--- a refused call, whose one ending is its own failure, leaves all as it was but how many calls were made
+-- a refused call, whose only ending is its own failure, changes nothing but the number of calls made
 abbrev pub LeavesIfRefused : State → ThreadNo → Call → List Completion → State → Type 0
 LeavesIfRefused old t c endings new = (e : Errno)
     → endings ≡ own_ending (facts_in old) t (mark.Failed e) (buffer_of (effect_of c)) ∷ []
     → facts_in new ≡ record (facts_in old) { number = (facts_in old).number + 1 }
 
--- why a call is no event: its thread isn't in the roster, or else the kernel has made all the calls that it
--- can number
+-- the error of a call that is no event: its thread isn't in the roster, or else the kernel has made all the
+-- calls that it can number
 abbrev pub DispatchError : State → ThreadNo → Errno → Type 0
 DispatchError s t e = ((is_some (member_at (members_of s.threads) t) ≡ false) × (e ≡ NoThread))
     ⊎ ((is_some (member_at (members_of s.threads) t) ≡ true) × (2 ^ 40 ≤ s.made) × (e ≡ Exhausted))

@@ -11,17 +11,17 @@ use qstate::endings::Endings;
 use std::alloc::{AllocError, Global};
 use std::marker::Model;
 
-/// The events of a kernel in order. A call is noted before it is made; its endings join, and then it is an
-/// event. Only `with_room` and `reserve` take memory. Contracts see the events, the calls that are noted, the
-/// endings of the next of them, and for how many more there is room.
+/// The events of a kernel in order. A call is noted before it is made; its endings are added; and `event` then makes an
+/// event of both. Only `with_room` and `reserve` take memory. Contracts see the events, the noted calls, the endings of
+/// the next call, and the numbers of further calls and endings for which there is room.
 #[derive(Debug, Drop)]
 pub struct EventLog {
-    // The events, and behind them the calls that are noted.
+    // The events, followed by the calls that are noted.
     entries: Vec<Entry>,
     endings: Vec<Completion>,
-    // How many of the entries are events.
+    // The number of entries that are events.
     made: usize,
-    // Where the endings of the next call begin.
+    // The index at which the endings of the next call begin.
     start: usize,
 }
 
@@ -39,7 +39,7 @@ impl Model for EventLog {
     ghost invariant = { λ l. IsKept l.entries.items l.endings.items l.made l.start };
 }
 
-/// Moves the endings of one event behind those of the events before it, for which there is room.
+/// Moves the endings of one event to the end of the list, which has room for them.
 fn append(all: &mut Vec<Completion>, endings: &mut Endings)
     requires { vec_len all.old + array_vec_len endings.old ≤ vec_capacity all.old }
     ensures items { all.new.items ≡ all.old.items ++ endings.old.items }
@@ -52,7 +52,7 @@ fn append(all: &mut Vec<Completion>, endings: &mut Endings)
     }
 }
 
-/// Says where the endings of an entry stand.
+/// Records the range of an entry's endings: from `start` up to, but not including, `end`.
 fn place(entry: &mut Entry, start: usize, end: usize)
     ensures { entry.new ≡ record entry.old { start = start; end = end } }
 {
@@ -61,7 +61,7 @@ fn place(entry: &mut Entry, start: usize, end: usize)
 }
 
 impl EventLog {
-    /// An empty log with room for so many calls and endings.
+    /// Makes an empty log with room for these numbers of calls and endings.
     pub fn with_room(alloc: Global, calls: usize, endings: usize) -> Result<EventLog, AllocError>
         ensures empty { IfOk result (λ log. (log.events ≡ []) × (log.noted ≡ []) × (log.endings ≡ [])) }
         ensures room { IfOk result (λ log. (log.call_room ≡ calls) × (log.ending_room ≡ endings)) }
@@ -76,7 +76,7 @@ impl EventLog {
         })
     }
 
-    /// Makes room for so many more calls and endings.
+    /// Makes room for these numbers of further calls and endings.
     pub fn reserve(&mut self, calls: usize, endings: usize) -> Result<(), AllocError>
         ensures same { self.new ≡ record self.old { call_room = self.new.call_room; ending_room = self.new.ending_room } }
         ensures kept { (self.old.call_room ≤ self.new.call_room) × (self.old.ending_room ≤ self.new.ending_room) }
@@ -87,7 +87,7 @@ impl EventLog {
         self.endings.reserve(endings)
     }
 
-    /// Notes a call, to be made after those that are noted.
+    /// Notes a call that is to be made after all calls noted before. There must be room for it.
     pub fn note(&mut self, thread: ThreadNo, call: Call)
         requires { 0 < self.old.call_room }
         ensures { self.new ≡ record self.old { noted = self.old.noted ++ (thread, call) ∷ []; call_room = self.old.call_room - 1 } }
@@ -100,7 +100,7 @@ impl EventLog {
         });
     }
 
-    /// Puts an ending of the next call behind those that it has.
+    /// Adds an ending to those of the next call. There must be room for it.
     pub fn push_ending(&mut self, ending: Completion)
         requires { 0 < self.old.ending_room }
         ensures { self.new ≡ record self.old { endings = self.old.endings ++ ending ∷ []; ending_room = self.old.ending_room - 1 } }
@@ -108,7 +108,7 @@ impl EventLog {
         self.endings.push_reserved(ending);
     }
 
-    /// Moves endings of the next call behind those that it has.
+    /// Adds endings to those of the next call, and empties the list that they are in. There must be room for them.
     pub fn append(&mut self, endings: &mut Endings)
         requires { length endings.old.items ≤ self.old.ending_room }
         ensures logged { self.new ≡ record self.old { endings = self.old.endings ++ endings.old.items; ending_room = self.old.ending_room - length endings.old.items } }
@@ -117,7 +117,7 @@ impl EventLog {
         append(&mut self.endings, endings);
     }
 
-    /// The next call was made, and is an event with the endings that it has.
+    /// Makes an event of the next call, once it was made, and of the endings that were added.
     pub fn event(&mut self)
         requires { 0 < length self.old.noted }
         ensures { self.new ≡ with_next self.old }
@@ -128,14 +128,14 @@ impl EventLog {
         self.start = end;
     }
 
-    /// How many events it has.
+    /// Returns the number of events.
     pub fn len(&self) -> usize
         ensures { result ≡ length self.now.events }
     {
         self.made
     }
 
-    /// The trace of its events, of which the first has this number.
+    /// Returns the trace of the events; the first event has the number `first`. No noted call may be left.
     pub fn into_trace(self, first: u64) -> Trace
         requires { self.noted ≡ [] }
         ensures { result ≡ record { first = first; events = self.events } }

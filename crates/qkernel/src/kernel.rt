@@ -44,11 +44,11 @@ use qtables::roster::Roster;
 use std::alloc::Global;
 use std::marker::Model;
 
-/// How many calls a kernel makes.
+/// The number of calls that a kernel can make.
 pub const CALL_LIMIT: u64 = 1 << 40;
 
-/// A kernel: its threads, its channels and its connections. Contracts see its content as a record of
-/// lists; what it answers is said of the list of all past calls.
+/// A kernel: its threads, its channels and its connections. Contracts see its content as a record of lists; they
+/// describe the answers to calls by the list of all past calls.
 /// `simulator.rt` of `crates/qcalls` shows how one is made and used.
 #[derive(Drop)]
 pub struct Kernel {
@@ -76,8 +76,8 @@ impl Kernel {
     ghost use Rattle.qkernel.specs.Kernel.{IsSound};
     ghost use Rattle.qkernel.specs.Private.Caller.{IsCallerIn, MayCall, MakesOrRefuses};
 
-    /// A kernel without channels, all threads of the roster ready at the priority that they begin with. The
-    /// room for thread records and open calls is made here; `NoMemory` is the only error.
+    /// Makes a kernel without channels, in which each thread of the roster is ready at its initial priority. The room
+    /// for thread records and open calls is made here; `NoMemory` is the only error.
     /// `first_message.rt` of `crates/balsaeuchre_uses` begins with it.
     pub fn new(alloc: Global, roster: &Roster) -> Result<Kernel, Errno>
         ensures stands { IfOk result (λ kernel. StandsAt roster.now kernel []) }
@@ -96,8 +96,8 @@ impl Kernel {
         })
     }
 
-    /// Why no call of the thread at a seat is made, whichever it is: the kernel is shut down, or the thread is
-    /// blocked.
+    /// Returns the error that refuses every call of the thread at a seat: `Down` if the kernel is shut down, else
+    /// `Busy` if the thread is blocked; `None` otherwise.
     fn refusal(&self, seat: &Seat) -> Option<Errno>
         requires { IsSeatIn self.now.threads seat.now }
         ensures { result ≡ (if self.now.down then Some Errno.Down else (if is_some (open_in self.now.threads seat.now.thread) then Some Errno.Busy else None)) }
@@ -111,7 +111,7 @@ impl Kernel {
         }
     }
 
-    /// The thread at a seat as the caller of the next call.
+    /// Returns the thread at a seat as the caller of the next call.
     fn caller_at(&self, seat: &Seat) -> Caller
         requires limit { self.now.made < 2 ^ 40 }
         requires seat { IsSeatIn self.now.threads seat.now }
@@ -127,7 +127,8 @@ impl Kernel {
         }
     }
 
-    /// Makes a counted call that nothing refuses whichever call it is, by the call's own method.
+    /// Makes a call by its own method, after it was counted and `refusal` found no error. An `Err` is the error of a
+    /// refusal.
     #[inline(always)]
     fn make(&mut self, caller: &Caller, call: Call, endings: &mut Endings) -> Result<(), Errno>
         requires { MayCall self.old caller.now endings.old.items }
@@ -193,7 +194,8 @@ impl Kernel {
         }
     }
 
-    /// Makes one call of the thread at a seat: it is counted, and then refused whichever call it is, or made.
+    /// Counts a call of the thread at a seat, and then makes it, or refuses it if the kernel is shut down or the thread
+    /// is blocked.
     fn perform(&mut self, seat: &Seat, call: Call, endings: &mut Endings)
         requires limit { self.old.made < 2 ^ 40 }
         requires seat { IsSeatIn self.old.threads seat.now }
@@ -212,8 +214,8 @@ impl Kernel {
         }
     }
 
-    /// The seat of a thread, by which `call_at` makes its calls without a search; `None` if the thread isn't in
-    /// the roster. It holds as long as the kernel.
+    /// Returns the seat of a thread, by which `call_at` makes its calls without a search; `None` if the thread isn't in
+    /// the roster. A seat is valid as long as the kernel.
     /// The locked kernel's ports keep theirs.
     pub fn seat(&self, thread: ThreadNo) -> Option<Seat>
         ensures seat { IfSome result (λ seat. IsSeatIn self.now.threads seat) }
@@ -223,7 +225,7 @@ impl Kernel {
         self.threads.seat(thread)
     }
 
-    /// The seat of a thread that is in the roster.
+    /// Returns the seat of a thread that is in the roster.
     fn known_seat(&self, thread: ThreadNo) -> Seat
         requires { is_some (member_at (members_of self.now.threads) thread) ≡ true }
         ensures seat { IsSeatIn self.now.threads result }
@@ -235,9 +237,9 @@ impl Kernel {
         }
     }
 
-    /// Makes one call of the thread at a seat, and puts its endings, in rising thread number, into a list that is
-    /// lent and may be used again once it is emptied. An `Err` is no event: it gives the call back and changes
-    /// nothing; `Exhausted`, after 2^40 calls, is the only one.
+    /// Makes one call of the thread at a seat, and puts its endings, in rising thread number, into the list that it is
+    /// given, which must be empty. An `Err` is no event: it gives the call back and changes nothing. `Exhausted`, after
+    /// 2^40 calls, is the only error.
     pub fn call_at(
         &mut self,
         seat: &Seat,
@@ -254,7 +256,7 @@ impl Kernel {
         // An event ends at most its own call and calls that were open.
         ensures room { OnOk result (length endings.new.items + blocked_count self.new.threads ≤ blocked_count self.old.threads + 1) }
 
-        // Which error, and that it changes nothing.
+        // The error, and that it changes nothing.
         ensures unchanged { IfErr result (λ refused. (self.new ≡ self.old) × (refused.1 ≡ call) × (endings.new.items ≡ [])) }
         ensures error { IfErr result (λ refused. (2 ^ 40 ≤ self.old.made) × (refused.0 ≡ Errno.Exhausted)) }
     {
@@ -265,9 +267,9 @@ impl Kernel {
         Ok(())
     }
 
-    /// Makes one call of a thread of the roster, and puts its endings, in rising thread number, into a list
-    /// that is lent and may be used again once it is emptied. For a loop over many calls; `dispatch` is the
-    /// same with a list of its own.
+    /// Makes one call of a thread of the roster, and puts its endings, in rising thread number, into the list that it
+    /// is given, which must be empty. It suits a loop over many calls, which can use one list again; `dispatch` returns
+    /// a list of its own.
     /// `run` uses it so.
     pub fn step(&mut self, thread: ThreadNo, call: Call, endings: &mut Endings)
         requires known { is_some (member_at (members_of self.old.threads) thread) ≡ true }
@@ -285,9 +287,9 @@ impl Kernel {
         self.perform(&seat, call, endings);
     }
 
-    /// Makes one call. Every `Ok` is an event, whose number is one more than the last, and holds the endings
-    /// that it brought, in rising thread number. An `Err` is no event: it gives the call back and changes
-    /// nothing.
+    /// Makes one call. An `Ok` is an event, whose number is one more than that of the last event, and holds its endings
+    /// in rising thread number. An `Err` is no event: it gives the call back and changes nothing. The errors are
+    /// `NoThread` if the thread isn't in the roster, and else `Exhausted` after 2^40 calls.
     /// `dispatching.rt` of `crates/qtests` uses it.
     pub fn dispatch(&mut self, thread: ThreadNo, call: Call) -> Result<Endings, (Errno, Call)>
         ensures event { IfOk result (λ endings. AnswersAtTraces self.old thread call endings.items self.new) }
@@ -295,7 +297,7 @@ impl Kernel {
         ensures roster { members_of self.new.threads ≡ members_of self.old.threads }
         ensures ok { OnOk result ((is_some (member_at (members_of self.old.threads) thread) ≡ true) × (self.old.made < 2 ^ 40) × (self.new.made ≡ self.old.made + 1)) }
 
-        // Which error, and that it changes nothing.
+        // The error, and that it changes nothing.
         ensures unchanged { IfErr result (λ refused. (self.new ≡ self.old) × (refused.1 ≡ call)) }
         ensures error { IfErr result (λ refused. DispatchError self.old thread refused.0) }
     {
@@ -307,7 +309,7 @@ impl Kernel {
         Ok(endings)
     }
 
-    /// Whether the thread is in the roster.
+    /// Returns whether the thread is in the roster.
     /// `run` asks it before it makes any call.
     pub fn knows(&self, thread: ThreadNo) -> bool
         ensures { result ≡ is_some (member_at (members_of self.now.threads) thread) }
@@ -315,18 +317,18 @@ impl Kernel {
         self.seat(thread).is_some()
     }
 
-    /// How many calls were made.
+    /// Returns the number of calls that were made.
     /// It is the number of the last event.
     pub fn made(&self) -> u64
         ensures value { result ≡ self.now.made }
 
-        // What is so of every kernel.
+        // The invariant of every kernel.
         ensures sound { IsSound self.now }
     {
         self.made
     }
 
-    /// Whether it is shut down: every further call is refused with `Down`.
+    /// Returns whether the kernel is shut down: every further call is refused with `Down`.
     /// `shutdown.rt` of `crates/balsaeuchre_uses` shows a call after it.
     pub fn is_down(&self) -> bool
         ensures { result ≡ self.now.down }
@@ -334,7 +336,7 @@ impl Kernel {
         self.down
     }
 
-    /// The allocator.
+    /// Returns the allocator.
     pub fn alloc(&self) -> Global {
         self.alloc
     }

@@ -1,9 +1,9 @@
-//! Calls whose bytes are lent.
+//! Calls that borrow their bytes.
 
 use qbase::ids::ReceiveId;
 
-/// A call that never blocks, so that its bytes need not be the kernel's own. `Kernel::step_lent` makes it, and copies them
-/// only into the sender's reply buffer.
+/// A call that never blocks, so that its bytes need not be the kernel's own: it borrows them. `Kernel::step_lent` makes
+/// it, and copies the bytes only into the sender's reply buffer.
 #[derive(Clone, Copy, Debug)]
 pub enum LentCall<'a> {
     /// `Call::Reply` with these bytes.

@@ -1,5 +1,5 @@
-//! The kernel of synchronous messages: one kernel that makes the calls, and what a run of them answers. The
-//! contracts speak of the list of all past calls.
+//! The kernel of synchronous messages: it makes calls one at a time, and `run` makes a list of them. The contracts
+//! describe each answer by the list of all past calls.
 #![tactic(auto)]
 
 pub mod event_log;

@@ -18,7 +18,7 @@ use qstate::endings::Endings;
 use qtables::roster::THREAD_LIMIT;
 use std::alloc::{AllocError, Global};
 
-/// A log in which each call is noted, by a copy of it, and in which there is room for all their endings.
+/// Makes a log in which a copy of each call is noted, with room for all their endings.
 fn log_for(alloc: Global, calls: &[(ThreadNo, Call)]) -> Result<EventLog, AllocError>
     requires { length calls.now ≤ 2 ^ 40 }
     ensures none { IfOk result (λ log. (log.events ≡ []) × (log.endings ≡ [])) }
@@ -32,7 +32,7 @@ fn log_for(alloc: Global, calls: &[(ThreadNo, Call)]) -> Result<EventLog, AllocE
     Ok(log)
 }
 
-/// Whether each call is of a thread of the roster.
+/// Returns whether each call is of a thread of the roster.
 fn all_known(kernel: &Kernel, calls: &[(ThreadNo, Call)]) -> bool
     ensures known { result ≡ true → AllKnown (members_of kernel.now.threads) calls.now }
     ensures unknown { AllKnown (members_of kernel.now.threads) calls.now → result ≡ true }
@@ -40,10 +40,10 @@ fn all_known(kernel: &Kernel, calls: &[(ThreadNo, Call)]) -> bool
     calls.iter().all(|(thread, _)| kernel.knows(*thread))
 }
 
-/// How many calls a list has room for at least, whose room is given back: some hundreds of kilobytes.
+/// A list with room for fewer calls than this keeps its room. This many calls take some hundreds of kilobytes.
 const WORTH_GIVING_BACK: usize = 4096;
 
-/// Gives back the room of calls that were made, once it is half of what the list has.
+/// Gives back the room of calls that were made, once they are at least half of what a large list has room for.
 fn give_back(calls: &mut Vec<(ThreadNo, Call)>)
     ensures items { calls.new.items ≡ calls.old.items }
     ensures len { vec_len calls.new ≡ vec_len calls.old }
@@ -53,7 +53,7 @@ fn give_back(calls: &mut Vec<(ThreadNo, Call)>)
     }
 }
 
-/// Makes the calls in order, which are those that the log has noted.
+/// Makes the calls in order, and logs the events. They must be the calls that the log has noted.
 fn run_all(kernel: &mut Kernel, log: &mut EventLog, mut calls: Vec<(ThreadNo, Call)>)
     requires noted { log.old.noted ≡ calls.items }
     requires none { (log.old.events ≡ []) × (log.old.endings ≡ []) }
@@ -75,16 +75,16 @@ fn run_all(kernel: &mut Kernel, log: &mut EventLog, mut calls: Vec<(ThreadNo, Ca
     }
 }
 
-/// Makes the calls in order. The trace and the copies of the calls that it keeps are made first, so that
-/// an `Err` leaves the kernel as it was: `NoThread` if a thread of the list isn't in the roster, else
-/// `Exhausted` if the list would pass 2^40 calls, else `NoMemory`. The list is then dropped.
+/// Makes the calls in order, and returns the trace of them. The room for the trace and the copies of the calls that it
+/// keeps are made first, so that an `Err` leaves the kernel as it was: `NoThread` if a thread of the list isn't in the
+/// roster, else `Exhausted` if the list would pass 2^40 calls, else `NoMemory`. The list is then dropped.
 /// `first_message.rt` of `crates/balsaeuchre_uses` is a whole use of it.
 pub fn run(kernel: &mut Kernel, calls: Vec<(ThreadNo, Call)>) -> Result<Trace, Errno>
     ensures headline { IfOk result (λ trace. Headline kernel.old trace kernel.new) }
     ensures ok { OnOk result (AllKnown (members_of kernel.old.threads) calls.items × (kernel.old.made + length calls.items ≤ 2 ^ 40)) }
     ensures told { IfOk result (λ trace. map event_call trace.events ≡ calls.items) }
 
-    // Which error, and that it changes nothing.
+    // The error, and that it changes nothing.
     ensures unchanged { OnErr result (kernel.new ≡ kernel.old) }
     ensures error { IfErr result (RunError kernel.old calls.items) }
 {

@@ -1,4 +1,4 @@
-//! What a run of calls answered.
+//! The trace of a run of calls.
 
 ghost use Rattle.std.specs.Prelude.{◌≡◌, ◌<◌, length, slice_get, Some};
 ghost use Rattle.std.specs.Option.{option_map};
@@ -8,7 +8,7 @@ use qbase::ids::ThreadNo;
 use qmodel::call::{Call, Completion};
 use std::marker::Model;
 
-/// A call, and where its endings stand.
+/// A call, and the range of its endings in the list of all.
 #[derive(Debug, Drop)]
 pub(crate) struct Entry {
     pub(crate) thread: ThreadNo,
@@ -17,8 +17,8 @@ pub(crate) struct Entry {
     pub(crate) end: usize,
 }
 
-/// The calls of a run in order, each with its endings. Contracts see the number of the first event and
-/// the list of the events.
+/// The calls of a run in order, each with its endings. Contracts see the number of the first event and the list of the
+/// events.
 /// `main.rt` of `crates/balsaeuchre_uses` prints one.
 #[derive(Debug, Drop)]
 pub struct Trace {
@@ -40,7 +40,7 @@ impl Model for Trace {
 }
 
 impl Trace {
-    /// The trace of these entries and endings.
+    /// Makes the trace of these entries and endings, whose first event has the number `first`.
     pub(crate) fn of(first: u64, entries: Vec<Entry>, endings: Vec<Completion>) -> Trace
         requires { AllWithin endings.items entries.items }
         ensures { result ≡ record { first = first; events = events_of endings.items entries.items } }
@@ -52,21 +52,22 @@ impl Trace {
         }
     }
 
-    /// The number of its first event; one more than the calls that the kernel had made before.
+    /// Returns the number of the first event, which is one more than the number of calls that the kernel had made
+    /// before.
     pub fn first(&self) -> u64
         ensures { result ≡ self.now.first }
     {
         self.first
     }
 
-    /// How many events it has.
+    /// Returns the number of events.
     pub fn len(&self) -> usize
         ensures { result ≡ length self.now.events }
     {
         self.entries.len()
     }
 
-    /// The thread that made the call at a place, which counts from 0.
+    /// Returns the thread that made the call at index `k`, from 0.
     pub fn thread(&self, k: usize) -> ThreadNo
         requires { k < length self.now.events }
         ensures { option_map (λ e. e.thread) (slice_get self.now.events k) ≡ Some result }
@@ -75,7 +76,7 @@ impl Trace {
         entry.thread
     }
 
-    /// The call at a place, which counts from 0.
+    /// Returns the call at index `k`, from 0.
     pub fn call(&self, k: usize) -> &Call
         requires { k < length self.now.events }
         ensures { option_map (λ e. e.call) (slice_get self.now.events k) ≡ Some result.now }
@@ -84,7 +85,7 @@ impl Trace {
         &entry.call
     }
 
-    /// The endings that the call at a place brought, in rising thread number; the place counts from 0.
+    /// Returns the endings of the event at index `k`, from 0, in rising thread number.
     pub fn endings(&self, k: usize) -> &[Completion]
         requires { k < length self.now.events }
         ensures { option_map (λ e. e.endings) (slice_get self.now.events k) ≡ Some result.now }

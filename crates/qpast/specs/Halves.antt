@@ -1,4 +1,4 @@
--- What the two halves of a list of calls own: one name that tracks the list.
+-- What the two halves of a list of calls own: one ghost name, under which the list is tracked.
 use Rattle.std.specs.Prelude.{ℕ, List}
 use base.Stored.{Coded, coded_list}
 use base.Fml.{Fml, fobs, fauth}
@@ -9,10 +9,10 @@ use Rattle.qmodel.specs.contracts.call.Call as row
 abbrev pub calls_coded : Coded (List Call)
 calls_coded = coded_list (row.the_row).coded
 
--- the thread's half
+-- the half that the thread's port keeps owns this
 abbrev pub asked_owns : ℕ → List Call → Fml
 asked_owns name calls = fobs name (calls_coded.code calls)
 
--- the half beside the past
+-- the half that is kept beside the past owns this
 abbrev pub heard_owns : ℕ → List Call → Fml
 heard_owns name calls = fauth name (calls_coded.code calls)

@@ -1,4 +1,4 @@
-//! What one thread asked for, in two halves, which proofs alone have.
+//! The calls of one thread that are events, in two halves that exist in proofs only.
 
 ghost use Rattle.std.specs.Prelude.{◌≡◌, ◌++◌, [], ◌∷◌, ℕ, List};
 ghost use Rattle.qmodel.specs.declared.call.Call.{Call as Asking};
@@ -8,7 +8,7 @@ use qmodel::call::Call;
 use std::marker::{Model, Send};
 use std::snapshot::Snapshot;
 
-/// The half that goes with the thread. It has no bytes, and its functions do nothing.
+/// The half that the thread's port keeps. It has no bytes, and its functions do nothing.
 #[derive(Drop)]
 pub struct Asked {
     pub ghost name: { ℕ },
@@ -21,7 +21,7 @@ impl Model for Asked {
 
 unsafe impl Send for Asked {}
 
-/// The half that lies beside the past. It has no bytes.
+/// The half that is kept beside the past. It has no bytes, and its functions do nothing.
 #[derive(Drop)]
 pub struct Heard {
     pub ghost name: { ℕ },
@@ -34,7 +34,7 @@ impl Model for Heard {
 
 unsafe impl Send for Heard {}
 
-/// The two halves of an empty list.
+/// Returns the two halves of an empty list.
 pub fn halves() -> (Asked, Heard)
     ensures name { result.0.name ≡ result.1.name }
     ensures asked { result.0.calls ≡ [] }
@@ -44,7 +44,7 @@ pub fn halves() -> (Asked, Heard)
 }
 
 impl Asked {
-    /// Both halves of a list get this call as their last.
+    /// Adds a call to the end of the list, in both halves. They must be halves of one list.
     pub fn ask(&mut self, heard: &mut Heard, _call: &Snapshot<Call>)
         requires { self.old.name ≡ heard.old.name }
         ensures name { self.new.name ≡ self.old.name }
@@ -54,7 +54,7 @@ impl Asked {
         ensures heard { heard.new.calls ≡ heard.old.calls ++ _call.now.value ∷ [] }
     {}
 
-    /// Both halves of a list are the same.
+    /// States that the two halves of one list are equal. They must be halves of one list.
     pub fn agree(&mut self, heard: &mut Heard)
         requires { self.old.name ≡ heard.old.name }
         ensures same { self.new ≡ self.old }

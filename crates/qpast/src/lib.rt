@@ -1,4 +1,4 @@
-//! A past that proofs alone have, and what was asked for by whom.
+//! A past that exists in proofs only, and the calls that each thread asked for.
 #![tactic(auto)]
 
 pub mod asking;

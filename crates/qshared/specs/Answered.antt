@@ -1,4 +1,4 @@
--- What a call comes to, and at which past.
+-- The outcome of a call, and the past at which it has that outcome.
 use Rattle.std.specs.Prelude.{◌≡◌, ℕ, ◌+◌, true, false, List, length}
 use Rattle.qtables.specs.declared.member.Member.{Member}
 use Rattle.qmodel.specs.declared.call.Call.{Call}
@@ -24,8 +24,8 @@ pub record AtPast (roster : List Member) (t : ℕ) (made : List Call) (Holds : T
   pub calls : calls_of past t ≡ made
   pub holds : Holds past
 
--- what a call under the lock comes to at a past: it is refused for a reason and given back, or it is an
--- event, which ended just where the endings hold one of the call itself
+-- the outcome of a call under the lock at a past: it is refused with an error and given back, or it is an
+-- event, which ended exactly if the endings hold one of the call itself
 abbrev pub Comes : List Member → Refuses → Admits → ℕ → Call → Performed → Trace → Type 0
 Comes roster refuses admits t c (Refused e given) past = (given ≡ c) × IsRefused roster refuses past t c e
 Comes roster refuses admits t c Ended past =
@@ -33,8 +33,8 @@ Comes roster refuses admits t c Ended past =
 Comes roster refuses admits t c Open past =
     (X : List Completion) × IsEvent roster admits past t c X × (has_ending_of X (length past + 1) ≡ false)
 
--- what a port answers at a past: the call is refused for a reason and given back, or it is an event, and
--- where the port has an ending the call ended in that event
+-- what a port answers at a past: the call is refused with an error and given back, or it is an event; if the
+-- answer has an ending, the call ended in that event
 abbrev pub Answered : List Member → Refuses → Admits → ℕ → Call → Called → Trace → Type 0
 Answered roster refuses admits t c (called.Refused e given) past =
     (given ≡ c) × IsRefused roster refuses past t c e

@@ -1,4 +1,4 @@
--- What each thread asked for, and what of it is in the past.
+-- The calls that each thread asked for, as they are in the past.
 use Rattle.std.specs.Prelude.{◌≡◌, ℕ, ◌==◌, if◌then◌else◌, List, [], ◌∷◌, ◌++◌, Some, slice_index_or}
 use mathlib.Core.Option.{none, some}
 use mathlib.Core.Option as maybe
@@ -15,17 +15,17 @@ abbrev pub calls_of : Trace → ℕ → List Call
 calls_of [] t = []
 calls_of (e ∷ past) t = calls_of past t ++ (if e.thread == t then e.call ∷ [] else [])
 
--- of these lists, one at the place of each thread of the roster, each is its thread's calls in the past
+-- the lists are, thread by thread of the roster, the calls of that thread in the past
 abbrev pub AreCallsOf : List Member → List (List Call) → Trace → Type 0
 AreCallsOf roster lists past =
     (t i : ℕ) → place (threads_of roster) t ≡ Some i → slice_index_or lists i [] ≡ calls_of past t
 
--- what the thread at a place asked for, and nothing where there is none
+-- the calls that the thread at a place asked for; none if there is no such place
 abbrev pub asked_in : maybe.Option Asked → List Call
 asked_in none = []
 asked_in (some a) = a.calls
 
--- what was heard of the thread at a place, and nothing where there is none
+-- the calls of the thread at a place that are kept beside the past; none if there is no such place
 abbrev pub heard_in : maybe.Option Heard → List Call
 heard_in none = []
 heard_in (some h) = h.calls

@@ -1,4 +1,4 @@
--- What a port's answer to a call says of its counts and of what it took.
+-- How a port's answer to a call changes its counts and the endings that it took.
 use Rattle.std.specs.Prelude.{ℕ, Bool, true, false, List, [], ◌∷◌}
 use Rattle.qmodel.specs.declared.call.Completion.{Completion}
 use Rattle.qshared.specs.declared.port.Called.{Called}
@@ -7,30 +7,30 @@ use Rattle.qshared.specs.declared.port.Called.TheVariants as called
 use Rattle.qshared.specs.declared.performed.Performed.{Performed}
 use Rattle.qshared.specs.declared.performed.Performed.TheVariants.{Ended, Open, Refused}
 
--- a call that was made under the lock is an event
+-- true if a call that was made under the lock is an event
 abbrev pub is_event : Performed → Bool
 is_event Ended = true
 is_event Open = true
 is_event (Refused errno call) = false
 
--- 1 where it is so, and else 0
+-- 1 for true, 0 for false
 abbrev pub one_if : Bool → ℕ
 one_if true = 1
 one_if false = 0
 
--- a port's call was an event
+-- true if a port's call is an event
 abbrev pub is_call : Called → Bool
 is_call (Done x) = true
 is_call Blocked = true
 is_call (called.Refused errno call) = false
 
--- what the port took by it
+-- the endings that the port took with this answer
 abbrev pub gives : Called → List Completion
 gives (Done x) = x ∷ []
 gives Blocked = []
 gives (called.Refused errno call) = []
 
--- whether the port has a call that was blocked and isn't collected, if it had one before or not
+-- true if the port has a call that was blocked and isn't collected, given whether it had one before
 abbrev pub pends : Called → Bool → Bool
 pends (Done x) before = before
 pends Blocked before = true

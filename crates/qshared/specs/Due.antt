@@ -1,4 +1,4 @@
--- What is due to each thread, and what the cells say of it.
+-- The endings that are due to each thread, and how they are tied to the cells.
 use Rattle.std.specs.Prelude.{◌≡◌, ℕ, ◌==◌, true, is_some, List}
 use Rattle.std.specs.Prelude.{[], ◌∷◌, ◌++◌, filter, position, Option, Some}
 use Rattle.std.specs.List.{AllByRecursion}
@@ -11,7 +11,7 @@ use Rattle.qrules.specs.Trace.{Trace}
 use Rattle.qhandoff.specs.declared.view.Desk.{Desk}
 use Rattle.qhandoff.specs.Rule.{line}
 
--- the endings that thread t gets
+-- those of these endings that are for thread t
 abbrev pub of_thread : ℕ → List Completion → List Completion
 of_thread t endings = filter (λ x. x.thread == t) endings
 
@@ -24,12 +24,12 @@ endings_due (e ∷ past) t = endings_due past t ++ of_thread t e.endings
 abbrev pub AreKnown : List Member → List Completion → Type 0
 AreKnown roster endings = AllByRecursion (λ x. is_some (member_at roster x.thread) ≡ true) endings
 
--- where thread t stands among these, which is the number of its cell
+-- the index of thread t among these, which is the number of its cell
 abbrev pub place : List ℕ → ℕ → Option ℕ
 place threads t = position (λ u. u == t) threads
 
--- of each thread of the roster, what was put into its cell is what is due to it, and its cell is opened
--- just where it is blocked
+-- for each thread of the roster, the endings put into its cell are those due to it, and its cell is opened
+-- exactly if the thread is blocked
 abbrev pub IsTied : List Member → Desk Completion → Trace → Type 0
 IsTied roster d past =
     (t i : ℕ) → place (threads_of roster) t ≡ Some i → ((line d i).put ≡ endings_due past t)

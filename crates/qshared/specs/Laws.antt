@@ -1,4 +1,4 @@
--- What the rule of the cells and the tie to the past come to together.
+-- What follows from the rule of the cells and their tie to the past.
 use Rattle.std.specs.Prelude.{◌≡◌, ℕ, ◌<◌, ◌≤◌, List, ◌++◌, length, Option, Some}
 use mathlib.Core.Option.{some}
 use lib.ListN.{get_elem?}
@@ -14,8 +14,8 @@ use Rattle.qhandoff.specs.declared.view.View.TheVariants.{Kernel, Thread}
 use Rattle.qhandoff.specs.Rule.{KeepsRule}
 use Rattle.qshared.specs.Due.{IsTied, endings_due, place}
 
--- between any two steps, what a thread took is a beginning of what is due to it by a past that the cells
--- are tied to, at most one ending shorter
+-- between any two steps, what a thread took is a prefix of what is due to it by a past that the cells are
+-- tied to, and lacks at most one ending
 abbrev pub TakenIsDue : Type 0
 TakenIsDue = (n : ℕ) (s : State (Option Completion) (View Completion)) (d : Desk Completion)
     (h : Hand Completion) (i j t : ℕ) (roster : List Member) (past : Trace)

@@ -1,9 +1,9 @@
--- What names one shared kernel.
+-- The names of one shared kernel.
 use Rattle.std.specs.Prelude.{ℕ, List}
 use Rattle.atomic_table.specs.Seated.{TableId}
 use Rattle.qtables.specs.declared.member.Member.{Member}
 
--- what no two shared kernels of a program have in common
+-- the names of a shared kernel, which differ from those of any other one in the program
 pub record Names : Type 0 where
   -- its threads
   pub roster : List Member

@@ -1,4 +1,4 @@
--- Which parts, and which ports, are those of one kernel.
+-- The parts, and the ports, that belong to one kernel.
 use Rattle.std.specs.Prelude.{◌≡◌, ℕ, List, length, map}
 use mathlib.Core.Option.{some}
 use lib.ListN.{get_elem?}
@@ -20,18 +20,18 @@ names_of p = record {
 abbrev pub ledger_of : Parts → ℕ
 ledger_of p = p.blank.name
 
--- into how many parts the ledger of these parts can be split
+-- the number of shares into which the ledger of these parts can be split
 abbrev pub shares_of : Parts → ℕ
 shares_of p = p.blank.parts
 
--- the parts have these names, and a ledger of this name with as many parts as there are cells
+-- the parts have these names, and the ledger of this name, which has as many shares as there are cells
 abbrev pub AreParts : Names → ℕ → ℕ → Parts → Type 0
 AreParts names ledger shares p =
     (cells_id p.cells ≡ names.cells) × (ledger_of p ≡ ledger) × (shares ≡ names.cells.slots)
     × (members_of p.kernel.threads ≡ names.roster)
     × (map (λ h. h.name) p.heard.items ≡ names.lists) × (p.limit ≡ names.limit)
 
--- of so many ports, whose numbers these are, each has the number of its place
+-- there are this many ports, and each has the index of its place as its number
 abbrev pub AreAll : {P : Type 0} → (P → ℕ) → ℕ → List P → Type 0
 AreAll {P} number many ports =
     (length ports ≡ many) × ((k : ℕ) (p : P) → get_elem? ports k ≡ some p → number p ≡ k)

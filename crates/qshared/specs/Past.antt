@@ -1,18 +1,18 @@
--- What is asked of the past and of an event's endings.
+-- What contracts ask of the past and of an event's endings.
 use Rattle.std.specs.Prelude.{◌<◌, ◌==◌, ◌∷◌}
 use Rattle.qrules.specs.Words.{[], list_any, AllByRecursion, Bool, Completion, List}
 use Rattle.qrules.specs.Past.{was_done}
 use Rattle.qrules.specs.Trace.{CallNo, Trace}
 
--- the kernel is shut down
+-- true if the kernel is shut down
 abbrev pub is_down : Trace → Bool
 is_down past = was_done (λ e. e.shuts_down) past
 
--- one of these endings is of call i
+-- true if one of these endings is that of call i
 abbrev pub has_ending_of : List Completion → CallNo → Bool
 has_ending_of endings i = list_any (λ x. x.call == i) endings
 
--- these endings rise in the number of their threads, so each goes to a thread of its own
+-- the thread numbers of these endings rise, so each ending is for another thread
 abbrev pub RiseByThread : List Completion → Type 0
 RiseByThread [] = Unit {0}
 RiseByThread (x ∷ endings) = AllByRecursion (λ y. x.thread < y.thread) endings × RiseByThread endings

@@ -1,4 +1,4 @@
--- What came of a call that was made under the lock.
+-- The outcome of a call that was made under the lock.
 use Rattle.std.specs.Prelude.{◌≡◌, ◌⊎◌, ℕ, ◌+◌, true, false, is_some, List, [], ◌∷◌, length}
 use Rattle.qbase.specs.declared.errno.Errno.{Errno}
 use Rattle.qbase.specs.declared.errno.Errno.TheVariants.{NoThread, Down, Busy}
@@ -16,26 +16,26 @@ use Rattle.qshared.specs.declared.performed.Performed.{Performed}
 use Rattle.qshared.specs.UnderLock.{UnderLock}
 use Rattle.qshared.specs.declared.performed.Performed.TheVariants.{Ended, Open, Refused}
 
--- why a call of such a kernel may not be noted: at a past, the call and the error
+-- the errors with which a log doesn't note a call: a relation of the past, the call and the error
 abbrev pub Refuses : Type 1
 Refuses = Trace → Call → Errno → Type 0
 
--- when a call of such a kernel is noted: at a past, the call
+-- the condition under which a log notes a call: a relation of the past and the call
 abbrev pub Admits : Type 1
 Admits = Trace → Call → Type 0
 
--- the thread is one of the roster, and the kernel isn't shut down
+-- the thread is in the roster, and the kernel isn't shut down
 pub record IsServed (roster : List Member) (past : Trace) (t : ℕ) : Type 0 where
   pub known : is_some (member_at roster t) ≡ true
   pub up : is_down past ≡ false
 
--- and the thread isn't blocked
+-- the thread is in the roster and not blocked, and the kernel isn't shut down
 pub record IsFree (roster : List Member) (past : Trace) (t : ℕ) : Type 0 where
   pub served : IsServed roster past t
   pub idle : is_blocked (facts_of roster past) t ≡ false
 
--- why no call of the thread is made, whichever it is: `Busy` where it is blocked, and else only where
--- an ending was put for it
+-- the error that refuses every call of the thread: NoThread if it isn't in the roster, Down after a Shutdown,
+-- Busy if it is blocked, or else only after an ending was put for it
 abbrev pub IsReason : List Member → Trace → ℕ → Errno → Type 0
 IsReason roster past t NoThread = is_some (member_at roster t) ≡ false
 IsReason roster past t Down = (is_some (member_at roster t) ≡ true) × (is_down past ≡ true)
@@ -43,20 +43,21 @@ IsReason roster past t Busy =
     IsServed roster past t × ((is_blocked (facts_of roster past) t ≡ true) ⊎ ¬ (endings_due past t ≡ []))
 IsReason roster past t e = ⊥
 
--- why a call is refused: for one of these reasons, or because a free thread's call may not be noted
+-- the error of a refused call: the one that refuses every call of the thread, or that of the log for a free
+-- thread
 abbrev pub IsRefused : List Member → Refuses → Trace → ℕ → Call → Errno → Type 0
 IsRefused roster refuses past t c e = IsReason roster past t e ⊎ (IsFree roster past t × refuses past c e)
 
--- a call of the thread is an event after this past: the thread is free, the call was noted, and these
--- endings answer the past
+-- a call of the thread is an event after this past: the thread is free, the call was noted, and these endings
+-- answer it
 pub record IsEvent (roster : List Member) (admits : Admits) (past : Trace) (t : ℕ) (c : Call)
     (X : List Completion) : Type 0 where
   pub free : IsFree roster past t
   pub admitted : admits past c
   pub answers : Answers (facts_of roster past) t c X
 
--- a call that is refused is given back and changes nothing; any other is an event, the past has one more,
--- and it ended just where the endings hold one of the call itself
+-- a call that is refused is given back and changes nothing; any other is an event, which the past then has,
+-- and ended in it exactly if the endings hold one of the call itself
 abbrev pub Performs : List Member → Refuses → Admits → UnderLock → ℕ → Call → Performed → UnderLock → Type 0
 Performs roster refuses admits old t c (Refused e given) new =
     (new ≡ old) × (given ≡ c) × IsRefused roster refuses old.past t c e

@@ -6,19 +6,20 @@ use Rattle.qmodel.specs.declared.call.Call.{Call}
 use Rattle.qmodel.specs.declared.call.Call.TheVariants.{Shutdown}
 use Rattle.qrules.specs.Trace.{Trace}
 
--- what contracts see of a kept past: the past, the call that was noted last, and whether it isn't made yet
+-- what contracts see of a kept past: the past, the call that was noted last, and whether that isn't an event
+-- yet
 pub record KeptPast : Type 0 where
   pub past : Trace
   pub noted : Call
   pub ready : Bool
 
--- why a call may not be noted: one event of the limit is left, or there was no memory; a Shutdown is never
--- refused
+-- the errors with which a call isn't noted: one event of the limit is left, or there was no memory; a
+-- Shutdown is never refused
 abbrev pub refuses_kept : ℕ → Trace → Call → Errno → Type 0
 refuses_kept limit past c TraceFull = (length past + 1 ≡ limit) × ¬ (c ≡ Shutdown)
 refuses_kept limit past c NoMemory = (length past + 1 < limit) × ¬ (c ≡ Shutdown)
 refuses_kept limit past c e = ⊥
 
--- when a call is noted: two events of the limit are left, or it is a Shutdown
+-- the condition under which a call is noted: two events of the limit are left, or it is a Shutdown
 abbrev pub admits_kept : ℕ → Trace → Call → Type 0
 admits_kept limit past c = (length past + 1 < limit) ⊎ (c ≡ Shutdown)

@@ -1,4 +1,4 @@
--- What lies under the lock: a kernel, the kernel's seat of the cells, and the past.
+-- The value under the lock: a kernel, the kernel's seat of the cells, and the past.
 use Rattle.std.specs.Prelude.{◌≡◌, ℕ, ◌≤◌, List, [], length, ◌^◌}
 use Rattle.qtables.specs.Members.{IsRoster}
 use Rattle.qtables.specs.declared.member.Member.{Member}
@@ -12,22 +12,22 @@ use Rattle.qkernel.specs.Kernel.{State}
 use Rattle.qhandoff.specs.declared.view.Desk.{Desk}
 use Rattle.qshared.specs.Due.{IsTied}
 
--- what contracts see of it: the kernel, what its seat knows of the cells, and the past
+-- what contracts see of the value under the lock: the kernel, what its seat knows of the cells, and the past
 pub record UnderLock : Type 0 where
   pub kernel : State
   pub desk : Desk Completion
   pub past : Trace
 
--- the past is lawful and has the six properties, the kernel stands at it, and the cells were given what is
--- due
+-- the past is lawful and has the six properties, the kernel stands at it, and the endings put into the cells
+-- are those due
 pub record Agrees (roster : List Member) (kernel : State) (d : Desk Completion) (past : Trace) : Type 0 where
   pub lawful : IsLawful roster past
   pub properties : HasProperties roster past
   pub stands : StandsAt roster kernel past
   pub tied : IsTied roster d past
 
--- what holds whenever the lock is free, for the kernel of this roster: beside that, there are as many cells
--- as threads, and no ending is left over
+-- what holds whenever the lock is free, for the kernel of this roster: all of the above, there are as many
+-- cells as threads, and no ending is left over
 pub record IsUnderLock (roster : List Member) (slots : ℕ) (kernel : State) (d : Desk Completion)
     (threads : List ℕ) (past : Trace) (endings : List Completion) : Type 0 where
   pub rises : IsRoster roster

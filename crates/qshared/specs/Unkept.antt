@@ -1,4 +1,4 @@
--- A past that is kept nowhere: why a call isn't noted, and that there is a past.
+-- A past that is kept nowhere: the errors of its log, and what holds of it.
 use Rattle.std.specs.Prelude.{◌≡◌, ℕ, ◌+◌, ◌<◌, ◌⊎◌, ◌++◌, ◌^◌, List, length, sum, Some}
 use lib.ListN.{get_elem?}
 use Rattle.qbase.specs.declared.errno.Errno.{Errno}
@@ -16,19 +16,19 @@ use Rattle.qhandoff.specs.Words.{took}
 use Rattle.qshared.specs.Asking.{AreCallsOf}
 use Rattle.qshared.specs.Due.{endings_due, of_thread, place}
 
--- why a call may not be noted: one event of the 2^40 that a kernel makes is left, and a Shutdown is never
--- refused
+-- the error with which a call isn't noted: one event of the 2^40 that a kernel makes is left; a Shutdown is
+-- never refused
 abbrev pub refuses_unkept : Trace → Call → Errno → Type 0
 refuses_unkept past c Exhausted = (length past + 1 ≡ 2 ^ 40) × ¬ (c ≡ Shutdown)
 refuses_unkept past c e = ⊥
 
--- when a call is noted: two events are left, or it is a Shutdown
+-- the condition under which a call is noted: two events are left, or it is a Shutdown
 abbrev pub admits_unkept : Trace → Call → Type 0
 admits_unkept past c = (length past + 1 < 2 ^ 40) ⊎ (c ≡ Shutdown)
 
 -- there is a past, lawful and with the six properties, of as many events as these counts sum to; each
--- thread's calls in it are just those of its list, and due to it is just what its seat took and what is
--- left for it
+-- thread's calls in it are exactly those of its list, and due to the thread is exactly what its seat took and
+-- what is left for it
 pub record HasPast (roster : List Member) (seats : List (ThreadSeat Completion)) (asked : List (List Call))
     (calls : List ℕ) (left : List Completion) : Type 0 where
   pub past : Trace

@@ -1,4 +1,4 @@
-//! What is needed to keep a call, before it is made.
+//! Reserving what is needed to keep a call, before it is made.
 ghost use Rattle.std.specs.Prelude.{◌≡◌, ◌<◌, ◌≤◌, ◌+◌, ◌⊎◌, length, IfOk, IfErr, OnOk, ◌^◌};
 ghost use Rattle.qmodel.specs.Private.Effects.{buffer_of};
 ghost use Rattle.qmodel.specs.declared.call.Call.TheVariants.{Shutdown};
@@ -10,18 +10,19 @@ use qkernel::event_log::EventLog;
 use qmodel::call::Call;
 use std::alloc::{AllocError, Global};
 
-/// How many endings an event has at most.
+/// The most endings that an event can have.
 const ENDINGS: usize = 64;
 
-/// A copy of the call, and room for a copy of its buffer.
+/// Returns a copy of the call, and room for a copy of its buffer.
 fn copies(alloc: Global, call: &Call) -> Result<(Call, Room), AllocError>
     ensures { IfOk result (λ r. (r.0 ≡ call.now) × (length (buffer_of call.now) ≤ r.1)) }
 {
     Ok((call.copied(alloc)?, Room::of(alloc, call.buffer_len())?))
 }
 
-/// A copy of the call, room for a copy of its buffer, and in the log room for its event and for one more. Where
-/// the limit leaves one event, or there is no memory, no call but a Shutdown is admitted: room for that is there.
+/// Returns a copy of the call and room for a copy of its buffer, and makes room in the log for the call's event and one
+/// more. `TraceFull` if one event of the limit is left, and `NoMemory` if the allocator refuses. A Shutdown is always
+/// admitted, as the room for it was made before.
 pub(crate) fn admit(
     alloc: Global,
     log: &mut EventLog,

@@ -15,7 +15,7 @@ use qkernel::endings::Endings;
 use qkernel::kernel::Kernel;
 use qmodel::call::Completion;
 
-/// The number of a thread's cell.
+/// Returns the number of a thread's cell; `None` if the thread isn't in the roster.
 pub(crate) fn place_of(kernel: &Kernel, thread: ThreadNo) -> Option<usize>
     ensures { result ≡ place (threads_of (members_of kernel.now.threads)) thread }
 {
@@ -23,7 +23,7 @@ pub(crate) fn place_of(kernel: &Kernel, thread: ThreadNo) -> Option<usize>
     Some(seat.index())
 }
 
-/// Puts one ending into its thread's cell.
+/// Puts one ending into its thread's cell, and returns the cell's number.
 fn hand_one(
     seat: &mut KernelSeat<Completion>,
     cells: &Cells<Completion>,
@@ -44,14 +44,14 @@ fn hand_one(
     place
 }
 
-/// Whether this was so, or the ending goes to the thread.
+/// Returns whether `before` is true or the ending is for the thread.
 fn is_for(before: bool, ending: &Completion, thread: ThreadNo) -> bool
     ensures { result ≡ (before || (ending.now.thread == thread)) }
 {
     before || ending.thread == thread
 }
 
-/// The bit of a cell whose thread is to be woken: none if that is the caller's own.
+/// Returns the bit of a cell whose thread is to be woken; 0 if the cell is the caller's own.
 fn bit_of(place: usize, is_own: bool) -> u64
     requires { place < 64 }
 {
@@ -61,8 +61,8 @@ fn bit_of(place: usize, is_own: bool) -> u64
     1u64 << place
 }
 
-/// Puts an event's endings into their threads' cells. Returns whether one goes to this thread, and sets the bit of
-/// each other cell that is filled.
+/// Puts an event's endings into their threads' cells. Returns whether one of them is for this thread, and sets the bit
+/// of every other cell that is filled.
 pub(crate) fn hand_out(
     seat: &mut KernelSeat<Completion>,
     cells: &Cells<Completion>,

@@ -24,7 +24,7 @@ use std::alloc::{AllocError, Global};
 use std::marker::{Model, PhantomData};
 use std::mem;
 
-/// A past in memory, with a copy of each call and of each ending, and at most so many events.
+/// A past in memory, with a copy of each call and of each ending. It has at most `limit` events.
 #[derive(Drop)]
 pub struct Kept<K: Tie> {
     alloc: Global,
@@ -32,7 +32,7 @@ pub struct Kept<K: Tie> {
     rooms: Vec<Room>,
     log: EventLog,
     limit: usize,
-    // The call that was noted, room for a copy of its buffer, and whether it isn't an event yet.
+    // The call that was noted last, room for a copy of its buffer, and whether the call isn't an event yet.
     noted: Call,
     room: Room,
     ready: bool,
@@ -53,7 +53,7 @@ impl<K: Tie> Model for Kept<K> {
     ghost invariant = { λ k. (k.limit ≡ K.names.limit) × IsKept K.names.roster k.limit (threads_of K.names.roster) k.rooms.items k.log k.noted k.room k.ready };
 }
 
-/// So many rooms, each for nothing.
+/// Returns `many` rooms, each with room for no bytes.
 fn no_rooms(alloc: Global, many: usize) -> Result<Vec<Room>, AllocError>
     ensures { IfOk result (λ rooms. length rooms.items ≡ many) }
 {
@@ -64,7 +64,7 @@ fn no_rooms(alloc: Global, many: usize) -> Result<Vec<Room>, AllocError>
     Ok(rooms)
 }
 
-/// Copies an ending into its thread's room, behind the others of its event.
+/// Copies an ending into its thread's room, and adds it to the endings of its event.
 fn copy_one(
     alloc: Global,
     kernel: &Kernel,
@@ -113,7 +113,7 @@ fn copy_all(
 }
 
 impl<K: Tie> Kept<K> {
-    /// An empty past of the kernel of so many threads, for at most `limit` events.
+    /// Makes an empty past for a kernel with `many` threads, of at most `limit` events.
     pub(crate) fn new(alloc: Global, many: usize, limit: usize) -> Result<Kept<K>, AllocError>
         requires roster { IsRoster K.names.roster × (many ≡ length (threads_of K.names.roster)) }
         requires limit { (2 ≤ limit) × (limit ≤ 2 ^ 20) × (limit ≡ K.names.limit) }
@@ -133,7 +133,7 @@ impl<K: Tie> Kept<K> {
         })
     }
 
-    /// The trace of the past, whose first event has number 1.
+    /// Returns the trace of the past. Its first event has the number 1.
     pub(crate) fn into_trace(self) -> Trace
         ensures first { result.first ≡ 1 }
         ensures events { followed_by [] result.events ≡ self.past }

@@ -1,10 +1,10 @@
-//! What the rule of the cells and the tie to the past come to together. The function does nothing: its contract is a
-//! law of every state of the cells between two steps.
+//! A law that follows from the rule of the cells and their tie to the past. The function does nothing: its contract is
+//! the law, for every state of the cells between two steps.
 
 ghost use Rattle.qshared.specs.Laws.{TakenIsDue};
 
-/// What a thread took is at each moment a beginning of what is due to it by the past of the moment when the lock was
-/// free last, at most one ending behind.
+/// States that at each moment, what a thread took is a prefix of what was due to it when the lock was last free, and
+/// lacks at most one ending.
 pub fn taken_is_due()
     ensures { TakenIsDue }
 {}

@@ -1,4 +1,4 @@
-//! What lies under the lock.
+//! The value under the lock.
 ghost use Rattle.std.specs.Prelude.{◌≡◌, ◌+◌, ◌++◌, ◌<◌, ◌≤◌, ◌^◌, ℕ, [], ◌∷◌, length, map, slice_index_or, if◌then◌else◌, Some};
 ghost use lib.ListN.{get_elem?};
 ghost use Rattle.qrules.specs.Facts.{threads_of};
@@ -20,7 +20,7 @@ use qpast::asking::{Asked, Heard};
 use std::snapshot::Snapshot;
 use std::sync::ledger::{Book, Share};
 
-/// What lies under the lock: the kernel with its past, the book of how many events that has, of which each port
+/// The value under the lock: the kernel with its past, the book that counts the past's events and of which each port
 /// holds a share, and the room that `finish` needs.
 #[derive(Drop)]
 pub(crate) struct Locked<K: Tie, L: Log> {
@@ -28,7 +28,7 @@ pub(crate) struct Locked<K: Tie, L: Log> {
     pub(crate) book: Book<K>,
     pub(crate) spare: Share<K>,
     pub(crate) room: ClosingRoom<K>,
-    // Of each thread the calls of its that are events, by the number of its cell.
+    // For each thread, by the number of its cell, its calls that are events.
     pub(crate) heard: Vec<Heard>,
     pub(crate) whole: Whole<K>,
     ghost none_spare: { (spare.parts ≡ 0) × (spare.amount ≡ 0) },
@@ -37,7 +37,7 @@ pub(crate) struct Locked<K: Tie, L: Log> {
     ghost heard_all: { AreCallsOf K.names.roster (map (λ h. h.calls) heard.items) traced.past },
 }
 
-/// Whether the call is an event.
+/// Returns whether the call is an event.
 fn is_event(performed: &Performed) -> bool
     ensures { result ≡ is_event performed.now }
 {
@@ -47,7 +47,7 @@ fn is_event(performed: &Performed) -> bool
     }
 }
 
-/// What a thread asked for is what was heard of it. It changes nothing.
+/// States that the calls that a thread asked for are those that are kept beside the past. Changes nothing.
 fn agree(asked: &mut Asked, heard: &mut Vec<Heard>, cell: usize)
     requires cell { cell < length heard.old.items }
     requires name { slice_index_or (map (λ h. h.name) heard.old.items) cell 0 ≡ asked.old.name }
@@ -81,7 +81,8 @@ impl<K: Tie, L: Log> Locked<K, L> {
         }
     }
 
-    /// Makes a call of a thread, and counts it in its share and adds it to its list if it is an event.
+    /// Makes a call of a thread. If the call is an event, counts it in the thread's share and adds it to the thread's
+    /// list.
     pub(crate) fn call(
         &mut self,
         cells: &Cells<Completion>,

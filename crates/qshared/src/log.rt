@@ -1,4 +1,4 @@
-//! How the past of a locked kernel is kept.
+//! How a locked kernel keeps its past.
 ghost use Rattle.std.specs.Prelude.{◌≡◌, ◌∷◌, ◌<◌, ◌^◌, Bool, List, length, IfErr, OnOk, is_some, true, false};
 ghost use Rattle.qtables.specs.Members.{member_at};
 ghost use Rattle.qtables.specs.declared.member.Member.{Member};
@@ -18,8 +18,8 @@ use qkernel::kernel::Kernel;
 use qkernel::seat::Seat;
 use qmodel::call::Call;
 
-/// How the past of a locked kernel is kept. A call is noted before it is made, which may be refused; then it is
-/// made, and is an event with its endings. `Kept` keeps the events in memory.
+/// How a locked kernel keeps its past. A call is noted before it is made, which may be refused; once it was made, it is
+/// an event with its endings. `Kept` keeps the events in memory, and `Unkept` keeps none.
 pub trait Log: Drop {
     /// The roster of the kernel.
     ghost roster: { Self → List Member };
@@ -32,13 +32,13 @@ pub trait Log: Drop {
     /// The call that was noted last.
     ghost noted: { Self → Call };
 
-    /// Why a call may not be noted.
+    /// The errors with which a call isn't noted.
     ghost refuses: { Refuses };
 
-    /// When a call is noted.
+    /// The condition under which a call is noted.
     ghost admits: { Admits };
 
-    /// Notes a call, before it is made, where so many were made. A refusal changes nothing.
+    /// Notes a call before it is made; `made` calls were made before it. A refusal changes nothing.
     fn note(&mut self, made: u64, call: &Call) -> Result<(), Errno>
         requires up { is_down (past self.old) ≡ false }
         requires made { made ≡ length (past self.old) }
@@ -48,8 +48,8 @@ pub trait Log: Drop {
         ensures few { OnOk result (length (past self.old) < 2 ^ 40) }
         ensures refused { IfErr result (λ e. refuses (past self.old) call.now e) };
 
-    /// The call that was noted was made by the thread at a seat of the kernel, which wasn't blocked, and is an event with
-    /// these endings.
+    /// Adds an event: the noted call, made by the thread at a seat of the kernel, which wasn't blocked, with these
+    /// endings.
     fn event(&mut self, kernel: &Kernel, seat: &Seat, endings: &Endings)
         requires roster { members_of kernel.now.threads ≡ roster self.old }
         requires seat { IsSeatIn kernel.now.threads seat.now }

@@ -1,4 +1,4 @@
-//! What a shared kernel is made of.
+//! The parts of a shared kernel.
 ghost use Rattle.std.specs.Prelude.{◌≡◌, ◌≤◌, ◌^◌, ◌⊎◌, ◌<◌, ℕ, [], length, map, IfOk, IfErr};
 ghost use lib.ListN.{get_elem?};
 ghost use Rattle.qrules.specs.Facts.{threads_of};
@@ -20,7 +20,8 @@ use qtables::roster::Roster;
 use std::alloc::{AllocError, Global};
 use std::sync::ledger::Blank;
 
-/// What a shared kernel is made of. A function over `K: Tie` takes them, whose condition is that K names them.
+/// The parts from which a shared kernel is made. A function over `K: Tie` takes them, on the condition that K names
+/// them.
 #[derive(Drop)]
 pub struct Parts {
     pub(crate) cells: Cells<Completion>,
@@ -41,7 +42,7 @@ pub struct Parts {
     ghost empty: { ((k : ℕ) → asked_in (get_elem? asked.items k) ≡ []) × ((k : ℕ) → heard_in (get_elem? heard.items k) ≡ []) },
 }
 
-/// The threads of these members.
+/// Returns the threads of these members.
 fn threads_in(alloc: Global, members: &[Member]) -> Result<Vec<ThreadNo>, AllocError>
     ensures { IfOk result (λ ts. ts.items ≡ threads_of members.now) }
 {
@@ -52,7 +53,7 @@ fn threads_in(alloc: Global, members: &[Member]) -> Result<Vec<ThreadNo>, AllocE
     Ok(threads)
 }
 
-/// So many lists of calls, each in two halves.
+/// Returns `many` empty lists of calls, each in two halves.
 fn lists(alloc: Global, many: usize) -> Result<(Vec<Asked>, Vec<Heard>), AllocError>
     ensures names { IfOk result (λ r. map (λ a. a.name) r.0.items ≡ map (λ h. h.name) r.1.items) }
     ensures many { IfOk result (λ r. (length r.0.items ≡ many) × (length r.1.items ≡ many)) }
@@ -68,12 +69,13 @@ fn lists(alloc: Global, many: usize) -> Result<(Vec<Asked>, Vec<Heard>), AllocEr
     Ok((asked, heard))
 }
 
-/// The most events that a past in memory may have.
+/// The most events that a past in memory may have: 1,048,576.
 const TRACE_LIMIT: u32 = 1 << 20;
 
 impl Parts {
-    /// The parts of a kernel for these threads, whose trace has at most `trace_limit` events. Returns `Inval` unless
-    /// that is 2 to 1,048,576, and `NoMemory` if the allocator refused. A kernel without a past ignores the limit.
+    /// Makes the parts of a kernel for these threads, whose trace has at most `trace_limit` events. Returns `Inval`
+    /// unless that is 2 to 1,048,576, and `NoMemory` if the allocator refuses. A kernel without a past ignores the
+    /// limit.
     /// `two_threads.rt` of `crates/balsaeuchre_uses` hands them to a function over `K: Tie`.
     pub fn new(alloc: Global, roster: &Roster, trace_limit: u32) -> Result<Parts, Errno>
         ensures roster { IfOk result (λ p. members_of p.kernel.threads ≡ roster.now) }

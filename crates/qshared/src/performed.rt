@@ -1,14 +1,14 @@
-//! What came of a call.
+//! The outcome of a call.
 use qbase::errno::Errno;
 use qmodel::call::Call;
 
-/// What came of a call that was made under the lock.
+/// The outcome of a call that was made under the lock.
 #[derive(Debug, Drop)]
 pub enum Performed {
-    /// It is an event, and ended in it: an ending was put for its own thread.
+    /// The call is an event and ended in it: an ending was put into its own thread's cell.
     Ended,
-    /// It is an event, and its thread is blocked.
+    /// The call is an event, and its thread is blocked.
     Open,
-    /// It is no event, and is given back whole.
+    /// The call was refused and is no event; it is given back whole.
     Refused(Errno, Call),
 }

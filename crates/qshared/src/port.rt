@@ -1,4 +1,4 @@
-//! One thread's way to a shared kernel.
+//! The port by which one thread calls a shared kernel.
 
 ghost use Rattle.std.specs.Prelude.{◌≡◌, ◌+◌, ◌++◌, [], ◌∷◌, true, false, MatchOption, if◌then◌else◌, slice_index_or, Some};
 ghost use Rattle.qrules.specs.Facts.{threads_of};
@@ -25,48 +25,50 @@ use qpast::asking::Asked;
 use std::sync::Wait;
 use std::sync::ledger::Share;
 
-/// How often `wait` looks at most before it sleeps. It pauses between two looks, twice as long each time up to 64 pauses,
-/// for some tens of microseconds in all. It never yields its core: on a busy machine a process that computes would keep
-/// it for milliseconds.
+/// The most times that `wait` looks for an ending before it sleeps. It pauses between two looks, twice as long each
+/// time up to 64 pauses, for some tens of microseconds in all. It never yields its core: on a busy machine a process
+/// that computes would keep it for milliseconds.
 const MOST_LOOKS: u32 = 30;
 
-/// How often it looks at least: for some microseconds, which is a round trip on a quiet machine.
+/// The fewest times that `wait` looks: for some microseconds, which is a round trip on a quiet machine.
 const LEAST_LOOKS: u32 = 8;
 
-/// What a port returns of a call. The calls of `crates/qcalls` read their results off it.
+/// What a port returns for a call. The calls of `crates/qcalls` read their results off it.
 #[derive(Debug, Drop)]
 pub enum Called {
-    /// It is an event and ended in it; the port took this ending.
+    /// The call is an event and ended in it; the port took this ending.
     Done(Completion),
-    /// It is an event, and its thread is blocked until an ending comes.
+    /// The call is an event, and its thread is blocked until an ending arrives.
     Blocked,
-    /// It is no event, and is given back whole.
+    /// The call was refused and is no event; it is given back whole.
     Refused(Errno, Call),
 }
 
-/// What a port returns of two calls that are made in one turn at the lock.
+/// What a port returns for two calls that are made in one turn at the lock.
 #[derive(Debug, Drop)]
 pub enum CalledBoth {
-    /// The first ended in its own event with this ending, whose mark is `Ok`, and this came of the second.
+    /// The first call ended in its own event with this ending, whose mark is `Ok`; the second call had this outcome.
     Both(Completion, Called),
-    /// This came of the first: it failed, is blocked, or was refused. The second isn't made, and is given back.
+    /// The first call had this outcome: it failed, is blocked, or was refused. The second isn't made, and is given
+    /// back.
     First(Called, Call),
 }
 
-/// One thread's way to the kernel. There is one for each thread, and it has no copy.
+/// The port by which one thread calls the kernel. There is one for each thread, and it can't be copied.
 /// `opening.rt` of `crates/qcalls` makes callers of two of them.
 #[derive(Drop)]
 pub struct Port<K: Tie> {
     pub(crate) thread: ThreadNo,
     pub(crate) seat: ThreadSeat<Completion>,
-    // What it adds to the sum of all events.
+    // The port's share of the sum of all events.
     pub(crate) share: Share<K>,
     pub(crate) calls: u64,
     pub(crate) pending: bool,
     pub(crate) parker: Parker,
-    // How often the next wait looks: half as often after one that was in vain, twice as often after one that wasn't.
+    // The number of looks of the next wait: half as many after a wait that looked in vain, twice as many after one that
+    // didn't.
     pub(crate) looks: u32,
-    // Its calls that are events, for clauses alone.
+    // Its calls that are events; only contracts read them.
     pub(crate) asked: Asked,
     ghost seat_is: { thread_id seat ≡ K.names.cells },
     ghost thread_is: { place (threads_of K.names.roster) thread ≡ Some (thread_of seat) },
@@ -75,15 +77,15 @@ pub struct Port<K: Tie> {
     ghost asked_is: { slice_index_or K.names.lists (thread_of seat) 0 ≡ asked.name },
 }
 
-/// Whether a call did what it says, by the mark of its ending.
+/// Returns whether a call succeeded, by the mark of its ending: whether the mark is `Ok`.
 fn is_ok(mark: Mark) -> bool
     ensures { result ≡ is_ok mark }
 {
     matches!(mark, Mark::Ok)
 }
 
-/// Takes what was put for a thread, if anything was. It has the thread's seat and the cells alone, so it can take no
-/// lock and no memory, and can wait for nobody.
+/// Takes the ending that was put for a thread, if there is one. It has only the thread's seat and the cells, so it can
+/// take no lock and no memory, and can't wait for another thread.
 fn take(
     seat: &mut ThreadSeat<Completion>,
     cells: &Cells<Completion>,
@@ -101,7 +103,8 @@ fn take(
     completion
 }
 
-/// The same, but looks some times, and pauses between.
+/// Takes the ending that was put for a thread, as `take` does, but looks up to `looks` times, with pauses between.
+/// Doubles `looks` if an ending was found and halves it if not, within the limits.
 fn look(
     seat: &mut ThreadSeat<Completion>,
     cells: &Cells<Completion>,
@@ -151,10 +154,10 @@ impl<K: Tie> Port<K> {
         }
     }
 
-    /// Makes a call, under the lock, for which it may wait. If the call ends in its own event the port takes that
+    /// Makes a call under the lock, and may wait for the lock. If the call ends in its own event, the port takes that
     /// ending. Refused, in this order: `Down` after Shutdown; `Busy` if the thread has an open call or an ending that
-    /// isn't collected; and then what the log refuses, which is never Shutdown. That is, of a kernel that keeps its
-    /// past, `TraceFull` if one event of the limit is left, and `NoMemory` if there was none for the trace; of one that
+    /// isn't collected; and then the errors of the log, which never refuses a Shutdown. These are, if the kernel keeps
+    /// its past, `TraceFull` if one event of the limit is left, and `NoMemory` if there was none for the trace; if it
     /// keeps no past, `Exhausted` if one of 2^40 events is left. A thread that the roster lacks would get `NoThread`
     /// before all these, but has no port.
     /// `endpoint.rt` of `crates/qcalls` calls it.
@@ -176,8 +179,9 @@ impl<K: Tie> Port<K> {
         called
     }
 
-    /// Makes two calls in one turn at the lock, so that no other thread's call comes between: the second only if the
-    /// first ends in its own event with `Ok`, as a Reply, an Error or a Pulse does. Each is refused as by `call`.
+    /// Makes two calls in one turn at the lock, so that no other thread's call comes between them. The second is made
+    /// only if the first ends in its own event with `Ok`, as a Reply, an Error or a Pulse does. Each is refused as by
+    /// `call`.
     /// `endpoint.rt` of `crates/qcalls` makes a reply and the next receive so.
     pub fn call_both<L: Log, R: Wait>(
         &mut self,
@@ -219,7 +223,8 @@ impl<K: Tie> Port<K> {
         called
     }
 
-    /// Makes a call of the thread, as whoever holds the lock, and takes its ending if it ends in its own event.
+    /// Makes a call of the thread under the lock, which the caller holds, and takes its ending if it ends in its own
+    /// event.
     fn make<L: Log>(
         &mut self,
         cells: &Cells<Completion>,
@@ -263,7 +268,7 @@ impl<K: Tie> Port<K> {
         }
     }
 
-    /// Takes what was put for the thread, if anything was. It takes no lock and no memory, and waits for nobody.
+    /// Takes the ending that was put for the thread, if there is one. It takes no lock and no memory, and never waits.
     /// `qroundtrips` polls the two ports of one thread.
     pub fn poll<L: Log>(&mut self, shared: &Shared<K, L>) -> Option<Completion>
         ensures taken { MatchOption result (taken self.new.seat ≡ taken self.old.seat) (λ x. taken self.new.seat ≡ taken self.old.seat ++ x ∷ []) }
@@ -273,7 +278,7 @@ impl<K: Tie> Port<K> {
         take(&mut self.seat, &shared.cells, &mut self.pending)
     }
 
-    /// Takes what was put for the thread once it is put: looks for some microseconds, and then sleeps until it is woken.
+    /// Waits for the thread's ending and takes it: looks for some microseconds, and then sleeps until it is woken.
     /// `endpoint.rt` of `crates/qcalls` waits so.
     pub fn wait<L: Log, R: Wait>(&mut self, shared: &Shared<K, L>, rt: &R) -> Completion
         requires { self.old.pending ≡ true }
@@ -296,21 +301,21 @@ impl<K: Tie> Port<K> {
         unreachable!()
     }
 
-    /// Whether a call was blocked and its ending isn't collected.
+    /// Returns whether a call was blocked and its ending isn't collected yet.
     pub fn pending(&self) -> bool
         ensures { result ≡ self.now.pending }
     {
         self.pending
     }
 
-    /// Whose port it is.
+    /// Returns the thread whose port it is.
     pub fn thread(&self) -> ThreadNo
         ensures { result ≡ self.now.thread }
     {
         self.thread
     }
 
-    /// How many of its calls are events.
+    /// Returns the number of the port's calls that are events.
     pub fn calls(&self) -> u64
         ensures { result ≡ self.now.calls }
     {

@@ -1,4 +1,4 @@
-//! The shared kernel: how it is opened and finished, and who is woken.
+//! The shared kernel: opening it, closing it, and waking threads.
 ghost use Rattle.std.specs.Prelude.{◌≡◌, ◌≤◌, ◌++◌, ℕ, [], length, map, sum, IfOk, IfErr, OnOk, IsTrue, ◌↔◌, Some, false, vec_capacity};
 ghost use mathlib.Core.Option.{some};
 ghost use lib.ListN.{get_elem?};
@@ -44,7 +44,7 @@ pub struct Shared<K: Tie, L: Log> {
     ghost cells_are: { cells_id cells ≡ K.names.cells },
 }
 
-/// What a shared kernel comes to.
+/// What a shared kernel leaves when it is closed.
 #[derive(Drop)]
 struct Closed<L> {
     log: L,
@@ -52,7 +52,7 @@ struct Closed<L> {
     left: Vec<Completion>,
 }
 
-/// The completions alone.
+/// Returns the completions without the numbers of their cells.
 fn without_places(mut left: Vec<(usize, Completion)>, mut room: Vec<Completion>) -> Vec<Completion>
     requires room { (room.items ≡ []) × (length left.items ≤ vec_capacity room) }
     ensures { result.items ≡ map (λ x. x.1) left.items }
@@ -65,7 +65,7 @@ fn without_places(mut left: Vec<(usize, Completion)>, mut room: Vec<Completion>)
     room
 }
 
-/// A port for each seat, with its part of the ledger, and what wakes its thread.
+/// Makes a port for each seat, with its share of the ledger, and the unparkers that wake the ports' threads.
 fn ports_for<K: Tie>(
     alloc: Global,
     threads: &[ThreadNo],
@@ -98,7 +98,8 @@ fn ports_for<K: Tie>(
     Ok((ports, unparkers))
 }
 
-/// Takes the ports apart: their seats, how many calls each counts, what each asked for, and all their shares in one.
+/// Takes the ports apart: collects their seats, the number of calls of each, the calls that each asked for, and the sum
+/// of all their shares.
 fn gather<K: Tie>(
     ports: Vec<Port<K>>,
     seats: &mut Vec<ThreadSeat<Completion>>,
@@ -130,7 +131,7 @@ fn gather<K: Tie>(
     }
 }
 
-/// Both halves of each of these lists are the same.
+/// States that the two halves of each of these lists are equal.
 fn agree(mut asked: Vec<Asked>, mut heard: Vec<Heard>)
     requires { map (λ a. a.name) asked.items ≡ map (λ h. h.name) heard.items }
     ensures { map (λ a. a.calls) asked.items ≡ map (λ h. h.calls) heard.items }
@@ -179,7 +180,7 @@ impl<K: Tie, L: Log> Shared<K, L> {
         Ok((shared, ports))
     }
 
-    /// Whether these are all ports of the kernel, in rising thread number.
+    /// Returns whether these are all ports of the kernel, in rising thread number.
     /// It is asked before `finish`, as in `opening.rt` of `crates/qcalls`.
     pub fn all(&self, ports: &[Port<K>]) -> bool
         ensures { IsTrue result ↔ AreAll (λ p. thread_of p.seat) K.names.cells.slots ports.now }
@@ -210,7 +211,7 @@ impl<K: Tie, L: Log> Shared<K, L> {
         }
     }
 
-    /// Takes the kernel apart, once all ports are handed in.
+    /// Takes the kernel and all its ports apart. The ports must be all, in rising thread number.
     fn close(self, ports: Vec<Port<K>>) -> Closed<L>
         requires all { AreAll (λ p. thread_of p.seat) K.names.cells.slots ports.items }
         ensures calls { result.calls.items ≡ map (λ p. p.calls) ports.items }
@@ -252,7 +253,8 @@ impl<K: Tie, L: Log> Shared<K, L> {
 
 impl<K: Tie> Shared<K, Kept<K>> {
     /// Opens a kernel of these parts that keeps its past in memory, with a port for each thread, in rising thread
-    /// number. `NoMemory` is the only error, and drops the parts. `two_threads.rt` of `crates/balsaeuchre_uses` opens one.
+    /// number. `NoMemory` is the only error, and drops the parts.
+    /// `two_threads.rt` of `crates/balsaeuchre_uses` opens one.
     pub fn open(parts: Parts) -> Result<(Shared<K, Kept<K>>, Vec<Port<K>>), Errno>
         requires named { AreParts K.names K.name K.parts parts }
         ensures ports { IfOk result (λ r. AreAll (λ p. thread_of p.seat) K.names.cells.slots r.1.items) }
@@ -265,8 +267,9 @@ impl<K: Tie> Shared<K, Kept<K>> {
         Ok(Shared::with_log(parts, log)?)
     }
 
-    /// Closes the kernel, once all ports are handed in: its trace, how many events each port made, and the endings
-    /// that weren't collected. What a port took, followed by what is left for its thread, is what is due to it.
+    /// Closes the kernel, which takes all its ports back, in rising thread number. Returns the trace, the number of
+    /// events of each port, and the endings that weren't collected. The endings that a port took, followed by the one
+    /// that is left for its thread, are those due to the thread.
     /// `opening.rt` of `crates/qcalls` closes one.
     pub fn finish(self, ports: Vec<Port<K>>) -> Report
         requires all { AreAll (λ p. thread_of p.seat) K.names.cells.slots ports.items }
@@ -290,8 +293,8 @@ impl<K: Tie> Shared<K, Kept<K>> {
 
 impl<K: Tie> Shared<K, Unkept<K>> {
     /// Opens a kernel of these parts that keeps no past, with a port for each thread, in rising thread number. The
-    /// limit of the parts has no meaning for it. `NoMemory` is the only error, and drops the parts. `course.rt` of
-    /// `crates/qroundtrips` opens and closes one.
+    /// limit of the parts is ignored. `NoMemory` is the only error, and drops the parts.
+    /// `course.rt` of `crates/qroundtrips` opens and closes one.
     pub fn open(parts: Parts) -> Result<(Shared<K, Unkept<K>>, Vec<Port<K>>), Errno>
         requires named { AreParts K.names K.name K.parts parts }
         ensures ports { IfOk result (λ r. AreAll (λ p. thread_of p.seat) K.names.cells.slots r.1.items) }
@@ -301,9 +304,9 @@ impl<K: Tie> Shared<K, Unkept<K>> {
         Ok(Shared::with_log(parts, Unkept::new())?)
     }
 
-    /// Closes the kernel, once all ports are handed in: how many events each port made, and the endings that weren't
-    /// collected. There is a past by which what a port took, followed by what is left for its thread, is what is due
-    /// to it.
+    /// Closes the kernel, which takes all its ports back, in rising thread number. Returns the number of events of each
+    /// port, and the endings that weren't collected. There is a past by which the endings that a port took, followed by
+    /// the one that is left for its thread, are those due to the thread.
     pub fn finish(self, ports: Vec<Port<K>>) -> Tally
         requires all { AreAll (λ p. thread_of p.seat) K.names.cells.slots ports.items }
         ensures calls { result.calls.items ≡ map (λ p. p.calls) ports.items }

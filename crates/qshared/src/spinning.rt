@@ -1,14 +1,14 @@
-//! How a lock is taken.
+//! Taking a lock.
 
 use crossbeam_utils::Backoff;
 use std::sync::{Mutex, MutexGuard, Wait};
 
-/// How often a thread looks whether the lock is free before it sleeps. It pauses between two looks, twice as long each
-/// time up to 64 pauses, for some tens of microseconds in all, which is many calls made under the lock. It never yields
-/// its core: on a busy machine a process that computes would keep it for milliseconds.
+/// The number of times that a thread looks whether the lock is free before it sleeps. It pauses between two looks,
+/// twice as long each time up to 64 pauses, for some tens of microseconds in all, in which many calls can be made under
+/// the lock. It never yields its core: on a busy machine a process that computes would keep it for milliseconds.
 const LOOKS: u32 = 40;
 
-/// Takes the lock.
+/// Takes the lock; waits for it if another thread holds it.
 pub(crate) fn lock<'a, T: Drop, R: Wait>(mutex: &'a Mutex<T>, rt: &R) -> MutexGuard<'a, T> {
     let backoff = Backoff::new();
     for _ in 0..LOOKS {

@@ -23,13 +23,13 @@ use qkernel::kernel::Kernel;
 use qmodel::call::{Call, Completion};
 use std::marker::{Model, PhantomData};
 
-/// A kernel with its past, and the kernel's seat of the cells: what lies under the lock, but for the count of the
+/// A kernel with its past, and the kernel's seat of the cells: the value under the lock, without the count of the
 /// ports' calls.
 #[derive(Drop)]
 pub struct Traced<K: Tie, L: Log> {
     pub(crate) kernel: Kernel,
     pub(crate) seat: KernelSeat<Completion>,
-    // Lent to each step; empty between two.
+    // The endings of one call; empty between two calls.
     pub(crate) endings: Endings,
     // The bit of each other thread whose cell the last call filled.
     pub(crate) woken: u64,
@@ -51,7 +51,7 @@ impl<K: Tie, L: Log> Model for Traced<K, L> {
     ghost invariant = { λ t. (kernel_id t.seat ≡ K.names.cells) × (L.roster t.log ≡ K.names.roster) × IsUnderLock K.names.roster K.names.cells.slots t.kernel (desk t.seat) (threads_of (members_of t.kernel.threads)) (L.past t.log) t.endings.items };
 }
 
-// What a call came to that is an event.
+// Returns the outcome of a call that is an event: `Ended` if its own ending was put, else `Open`.
 fn ended_or_open(own: bool) -> Performed
     ensures { result ≡ (if own then Performed.Ended else Performed.Open) }
 {
@@ -63,7 +63,7 @@ fn ended_or_open(own: bool) -> Performed
 }
 
 impl<K: Tie, L: Log> Traced<K, L> {
-    /// A kernel that made no call, with an empty past.
+    /// Makes the value for a kernel that made no call, with an empty past.
     pub(crate) fn new(kernel: Kernel, seat: KernelSeat<Completion>, log: L) -> Traced<K, L>
         requires log { (L.roster log ≡ K.names.roster) × (L.past log ≡ []) }
         requires seat { (kernel_id seat ≡ K.names.cells) × (desk seat ≡ seated_desk K.names.cells.slots K.names.cells.slots) }
@@ -83,7 +83,7 @@ impl<K: Tie, L: Log> Traced<K, L> {
         }
     }
 
-    /// How many events the past has, which is lawful.
+    /// Returns the number of events of the past, which is lawful.
     pub fn len(&self) -> u64
         ensures value { result ≡ length self.now.past }
         ensures lawful { IsLawful K.names.roster self.now.past × HasProperties K.names.roster self.now.past }
@@ -92,10 +92,10 @@ impl<K: Tie, L: Log> Traced<K, L> {
         self.kernel.made()
     }
 
-    /// Makes a call of a thread, as `Port::call` does while it holds the lock: opens the thread's cell, makes the
-    /// call, and puts every ending into its thread's cell. Refused, in this order: `NoThread` where the thread isn't
-    /// in the roster, `Down` after Shutdown, `Busy` where the thread has an open call or an ending that it didn't
-    /// take, and then what the log refuses.
+    /// Makes a call of a thread, for `Port::call`, which holds the lock: opens the thread's cell, makes the call, and
+    /// puts every ending into its thread's cell. Refused, in this order: `NoThread` if the thread isn't in the roster,
+    /// `Down` after Shutdown, `Busy` if the thread has an open call or an ending that it didn't take, and then the
+    /// errors of the log.
     pub fn perform(&mut self, cells: &Cells<Completion>, thread: ThreadNo, call: Call) -> Performed
         requires { cells_id cells.now ≡ K.names.cells }
         ensures { Performs K.names.roster L.refuses L.admits self.old thread call result self.new }

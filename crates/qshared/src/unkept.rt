@@ -15,12 +15,12 @@ use qpast::past::Past;
 use std::marker::PhantomData;
 use std::snapshot::Snapshot;
 
-/// A past that proofs alone have: nothing is kept, nothing is copied, and there is no limit but the kernel's own of
-/// 2^40 calls, of which the last is left to Shutdown. It has no bytes.
+/// A past that exists in proofs only: nothing is kept, nothing is copied, and the only limit is the kernel's own of
+/// 2^40 calls, the last of which is left to Shutdown. It has no bytes.
 #[derive(Drop)]
 pub struct Unkept<K: Tie> {
     past: Past,
-    // The call that was noted and isn't an event yet, or else Shutdown.
+    // The call that was noted and isn't an event yet; Shutdown if there is none.
     call: Snapshot<Call>,
     of: PhantomData<K>,
     ghost spare: { is_down past.trace ≡ false → length past.trace < 2 ^ 40 },
@@ -28,7 +28,7 @@ pub struct Unkept<K: Tie> {
 }
 
 impl<K: Tie> Unkept<K> {
-    /// The past of a kernel that made no call.
+    /// Returns the past of a kernel that made no call.
     pub(crate) fn new() -> Unkept<K>
         ensures { result.past.trace ≡ [] }
     {

@@ -1,10 +1,9 @@
 -- The receivers of a channel, by the records of their threads.
-use Rattle.std.proofs.Common.{◌≡◌, ◌<◌, ◌≤◌, ℕ, List, [], ◌∷◌, drop, length, refl, ap, sym, ◌∙◌, arith, cond, true, false, eqb}
+use Rattle.std.proofs.Common.{◌≡◌, ◌<◌, ℕ, List, [], ◌∷◌, refl, ap, sym, ◌∙◌, arith, cond, true, false, eqb}
 use Rattle.std.specs.Prelude.{Option, None, Some, is_some, not, nat_lt, Bool, ◌||◌}
 use Rattle.std.specs.List.{AllByRecursion}
 use Rattle.std.specs.Option.{option_map, option_map_or}
-use Rattle.std.proofs.lemmas.Bool.{le-ltb, ltb-false, ltb-true, true≢false}
-use Rattle.std.proofs.lemmas.List.{drop_all}
+use Rattle.std.proofs.lemmas.Bool.{le-ltb, ltb-false, ltb-true}
 use Rattle.std.proofs.lemmas.Option.{none-some, same_Some}
 use Rattle.qqueue.specs.declared.item.Item.{Item}
 use Rattle.qtables.specs.Members.{IsRoster}
@@ -94,12 +93,6 @@ pub newest_found : (h : ℕ) (item : Item) (threads : List Thread) → IsRoster 
 newest_found h item threads roster =
     ap (option_map (λ (b : ℕ × ℕ). b.1)) (newest_same (open_in threads) h item None threads (own_open threads roster)) ∙ top_is (λ u. wait_on h item (open_in threads u)) (threads_of (members_of threads))
 
--- so where the search has looked at all threads, with this best
-pub search_found : (h : ℕ) (item : Item) (threads : List Thread) (best : Option (ℕ × ℕ)) (k : ℕ) → length threads ≤ k → newest_by h item best (drop k threads) ≡ newest_by h item None threads → IsRoster (members_of threads)
-    → option_map (λ b. b.1) best ≡ newest_in h item threads
-search_found h item threads best k all same roster =
-    ap (option_map (λ (b : ℕ × ℕ). b.1)) (ap (newest_by h item best) (sym (drop_all k threads all)) ∙ same) ∙ newest_found h item threads roster
-
 -- the newest receiver waits for such an item of the channel
 pub newest_receives : (threads : List Thread) (h : ℕ) (item : Item) (r : ℕ) → newest_in h item threads ≡ Some r → (m : ℕ) × (wait_on h item (open_in threads r) ≡ Some m)
 newest_receives threads h item r e = let k = newest_parts (open_in threads) h item (threads_of (members_of threads)) r e in (k.0, k.1.waits)
@@ -129,20 +122,6 @@ ended_thread item message r (Some o) y e = by_wait o.wait e where
   by_wait (Answer coid sent reply_buffer receipt) e = absurd (none-some y e)
   by_wait (ForItem chid kind buffer) e = sym (ap (λ x. x.thread) (same_Some _ y e))
 
--- what waits has an open call
-pub waits_open : (h m : ℕ) (item : Item) (o : Option OpenCall) → wait_on h item o ≡ Some m → is_some o ≡ true
-waits_open h m item None e = absurd (none-some m e)
-waits_open h m item (Some o) e = refl
-
--- so an ending is given, and with it what was copied
-pub met_there : (h m : ℕ) (item : Item) (message : List ℕ) (u : ℕ) (o call : Option OpenCall) (r : Option Completion) → wait_on h item o ≡ Some m → call ≡ o → r ≡ takes item message u call → r ≡ None → ⊥
-met_there h m item message u o call r waits same ended none =
-    true≢false (sym (waits_takes h m item message u o waits) ∙ ap (λ x. is_some (takes item message u x)) (sym same) ∙ ap is_some (sym ended) ∙ ap is_some none)
-
-pub taken_there : {R : Type 0} (h m : ℕ) (item : Item) (message : List ℕ) (u : ℕ) (o call : Option OpenCall) (r : Option (Completion × R)) → wait_on h item o ≡ Some m → call ≡ o → option_map (λ x. x.0) r ≡ takes item message u call → r ≡ None → ⊥
-taken_there h m item message u o call r waits same ended none =
-    true≢false (sym (waits_takes h m item message u o waits) ∙ ap (λ x. is_some (takes item message u x)) (sym same) ∙ ap is_some (sym ended) ∙ ap (λ x. is_some (option_map (λ y. y.0) x)) none)
-
 -- what waits is a receive
 pub waits_receive : (h m : ℕ) (item : Item) (u : ℕ) (o : Option OpenCall) → wait_on h item o ≡ Some m → is_some (receive_in u o) ≡ true
 waits_receive h m item u None e = absurd (none-some m e)
@@ -158,10 +137,3 @@ taken_by item message u (Some o) r e = by_wait o.wait e where
   by_wait : (w : Wait) → receive_in u (Some (record { number = o.number; wait = w })) ≡ Some r → takes item message u (Some (record { number = o.number; wait = w })) ≡ Some (receipt_ending item message r.thread r.number r.buffer)
   by_wait (Answer coid sent reply_buffer receipt) e = absurd (none-some r e)
   by_wait (ForItem chid kind buffer) e = ap (λ x. Some (receipt_ending item message x.thread x.number x.buffer)) (same_Some _ r e)
-
-pub receives_thread : (u : ℕ) (o : Option OpenCall) (r : OpenReceive) → receive_in u o ≡ Some r → r.thread ≡ u
-receives_thread u None r e = absurd (none-some r e)
-receives_thread u (Some o) r e = by_wait o.wait e where
-  by_wait : (w : Wait) → receive_in u (Some (record { number = o.number; wait = w })) ≡ Some r → r.thread ≡ u
-  by_wait (Answer coid sent reply_buffer receipt) e = absurd (none-some r e)
-  by_wait (ForItem chid kind buffer) e = sym (ap (λ x. x.thread) (same_Some _ r e))

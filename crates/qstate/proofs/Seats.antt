@@ -6,8 +6,6 @@ use Rattle.std.proofs.lemmas.Bool.{eqb-true, eqb-false, eq-eqb, ne_eqb, true≢f
 use Rattle.std.proofs.lemmas.Iterator.Adapters.{position_from-zero}
 use Rattle.std.proofs.lemmas.Option.{same_Some, none-some}
 use Rattle.qtables.specs.Members.{member_at}
-use Rattle.qtables.specs.declared.member.Member.{Member}
-use Rattle.qmodel.specs.Private.Facts.{is_in_process}
 use Rattle.qstate.specs.declared.thread.Thread.{Thread}
 use Rattle.qstate.specs.Thread.{open_in, seat_in, ChangesOpen, SetsOpen, SetsPriority, Wakes}
 use Rattle.qstate.specs.Kept.{members_of, thread_priority}
@@ -174,16 +172,6 @@ record_there u threads k d e =
 pub nowhere_open : (u : ℕ) (threads : List Thread) → seat_in threads u ≡ None → open_in threads u ≡ None
 nowhere_open u threads e = nowhere_from u threads 0 (sym (position_from-zero (λ t. eqb t.member.thread u) threads) ∙ e)
 
-pub sets_nowhere : (u : ℕ) (threads : List Thread) → seat_in threads u ≡ None → SetsOpen u None threads threads
-sets_nowhere u threads e = record {
-  members = refl;
-  open_call = λ v. elim (eqb v u) as (λ b. eqb v u ≡ b → open_in threads v ≡ cond b None (open_in threads v)) [
-    | true ↦ λ s. ap (open_in threads) (eqb-true v u s) ∙ nowhere_open u threads e
-    | false ↦ λ s. refl
-  ] refl;
-  priority = λ v. refl;
-}
-
 -- ---- seats go by the members
 
 seat_from : (u : ℕ) (threads : List Thread) (i : ℕ) → position_from (λ t. eqb t.member.thread u) i threads ≡ position_from (λ m. eqb m.thread u) i (members_of threads)
@@ -208,13 +196,6 @@ found_some u (t ∷ threads) i =
 
 pub is_there : (u : ℕ) (threads : List Thread) → is_some (seat_in threads u) ≡ is_some (member_at (members_of threads) u)
 is_there u threads = ap is_some (position_from-zero (λ t. eqb t.member.thread u) threads) ∙ found_some u threads 0
-
--- a thread that stands nowhere is in no process
-pub not_there : (p u : ℕ) (threads : List Thread) → seat_in threads u ≡ None → is_in_process p (member_at (members_of threads) u) ≡ false
-not_there p u threads e = nobody (member_at (members_of threads) u) (sym (is_there u threads) ∙ ap is_some e) where
-  nobody : (o : Option Member) → is_some o ≡ false → is_in_process p o ≡ false
-  nobody None none = refl
-  nobody (Some m) none = absurd (true≢false none)
 
 -- the open call of the thread at a place
 pub call_here : (threads : List Thread) (k : ℕ) (d : Thread) → k < length threads → open_at threads k ≡ (get_or threads k d).open_call

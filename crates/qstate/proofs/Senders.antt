@@ -1,5 +1,5 @@
 -- The thread whose open call is a Send, by its place and by its number.
-use Rattle.std.proofs.Common.{◌≡◌, ℕ, suc, zero, ◌+◌, ◌<◌, List, [], ◌∷◌, length, set, get_or, refl, ap, sym, subst, ◌∙◌, cond, arith, true, false, eqb}
+use Rattle.std.proofs.Common.{◌≡◌, ℕ, suc, zero, ◌+◌, ◌<◌, List, [], ◌∷◌, length, get_or, refl, ap, sym, subst, ◌∙◌, cond, arith, true, false, eqb}
 use Rattle.std.specs.Prelude.{Option, None, Some, is_some, position}
 use Rattle.std.specs.List.{position_from, AllByRecursion}
 use Rattle.std.specs.Option.{option_map}
@@ -21,7 +21,7 @@ use Rattle.qstate.specs.Held.{is_held_in, is_held_over}
 use Rattle.qstate.specs.Thread.{held_over_in, open_in, seat_in, sender_in, sent_call, message_from, ChangesOpen, ChangesSender}
 use Rattle.qstate.specs.Kept.{members_of}
 use Rattle.qstate.specs.Threads.{number_at}
-use Rattle.qstate.proofs.Seats.{call_here, first_at, first_number, IsFirstAt, first_open, set_members, set_open, set_priority}
+use Rattle.qstate.proofs.Seats.{call_here, first_at, first_number, IsFirstAt, first_open}
 
 -- ---- each thread waits for what its own record says
 
@@ -106,15 +106,6 @@ roster_first (t ∷ threads) (suc k) d r l =
 
 -- ---- the open call of the sender is changed
 
-pub changes_nowhere : (i : ℕ) (change : OpenCall → OpenCall) (threads : List Thread) → IsRoster (members_of threads) → position (λ t. is_send i t.open_call) threads ≡ None → ChangesSender i change threads threads
-changes_nowhere i change threads r e =
-    let none : sender_in threads i ≡ None = sender_in-by i threads r ∙ no_sender i threads e in
-    record { members = refl; open_call = λ v. rw none refl; priority = λ v. refl }
-
-pub message_nowhere : (i : ℕ) (threads : List Thread) → IsRoster (members_of threads) → position (λ t. is_send i t.open_call) threads ≡ None → message_from threads i ≡ []
-message_nowhere i threads r e =
-    let none : sender_in threads i ≡ None = sender_in-by i threads r ∙ no_sender i threads e in rw none refl
-
 module _ (i : ℕ) (threads : List Thread) (k : ℕ) (d : Thread) (r : IsRoster (members_of threads)) (at : position (λ t. is_send i t.open_call) threads ≡ Some k) where
   there : IsSenderAt threads i k
   there = sender_at i threads k at
@@ -131,24 +122,7 @@ module _ (i : ℕ) (threads : List Thread) (k : ℕ) (d : Thread) (r : IsRoster 
   pub message_there : message_from threads i ≡ message_in (get_or threads k d).open_call
   message_there = ap message_in call_there
 
-  pub changes_there : (change : OpenCall → OpenCall) (x : Thread) → x.member ≡ (get_or threads k d).member → x.priority ≡ (get_or threads k d).priority
-      → x.open_call ≡ option_map change (get_or threads k d).open_call → ChangesSender i change threads (set threads k x)
-  changes_there change x m p o = record {
-    members = set_members _ threads k d x first_there m;
-    open_call = λ v. set_open _ threads k d x v first_there m
-        ∙ rw sender_there (elim (eqb v (get_or threads k d).member.thread) as (λ b. eqb v (get_or threads k d).member.thread ≡ b → cond b x.open_call (open_in threads v) ≡ cond b (option_map change (open_in threads v)) (open_in threads v)) [
-          | true ↦ λ e. o ∙ ap (option_map change) (sym (ap (open_in threads) (eqb-true v _ e) ∙ first_open _ threads k d first_there))
-          | false ↦ λ e. refl
-        ] refl);
-    priority = λ v. set_priority _ threads k d x v first_there m p;
-  }
-
 -- ---- whether its message is held
-
-pub held_nowhere : (connections : List (ℕ × Connection)) (channels : List (ℕ × Channel)) (p i : ℕ) (threads : List Thread) → IsRoster (members_of threads) → position (λ t. is_send i t.open_call) threads ≡ None
-    → is_held_in threads connections channels p i ≡ false
-held_nowhere connections channels p i threads r e =
-    let none : sender_in threads i ≡ None = sender_in-by i threads r ∙ no_sender i threads e in rw none refl
 
 pub held_there : (connections : List (ℕ × Connection)) (channels : List (ℕ × Channel)) (p i : ℕ) (threads : List Thread) (k : ℕ) (d : Thread) → IsRoster (members_of threads) → position (λ t. is_send i t.open_call) threads ≡ Some k
     → is_held_in threads connections channels p i ≡ is_held_over connections channels p (held_over_in (get_or threads k d).open_call)

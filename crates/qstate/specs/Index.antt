@@ -1,4 +1,4 @@
--- What is kept of where the threads stand.
+-- How the index of the threads changes.
 use Rattle.std.specs.Prelude.{◌≡◌, ◌≢◌, ◌==◌, ℕ, true, false, Bool, ◌&&◌, nat_lt, if◌then◌else◌}
 use Rattle.qbase.specs.ByteSet.{has}
 use Rattle.qmodel.specs.declared.open_call.OpenCall.{OpenCall}
@@ -6,13 +6,13 @@ use Rattle.qmodel.specs.declared.open_call.Wait.{Wait}
 use Rattle.qmodel.specs.declared.open_call.Wait.TheVariants.{Answer, Item as ForItem}
 use Rattle.qstate.specs.declared.index.Index.{Index}
 
--- the wait is for an item
+-- true if the wait is for an item
 abbrev pub is_receive : Wait → Bool
 is_receive (Answer coid message reply_buffer receipt) = false
 is_receive (ForItem chid kind buffer) = true
 
--- this call blocks the thread at a place: the numbers rise if it is later than all before, and a receive
--- makes that thread a receiver and the last one
+-- a call blocks the thread at a place: rising stays true only if the call has a greater number than all
+-- before, and a receive makes the thread a receiver and the last one
 pub record Notes (place : ℕ) (call : OpenCall) (old new : Index) : Type 0 where
   pub rising : new.rising ≡ (old.rising && nat_lt old.latest call.number)
   pub latest : new.latest ≡ call.number
@@ -21,7 +21,7 @@ pub record Notes (place : ℕ) (call : OpenCall) (old new : Index) : Type 0 wher
   pub receivers : (k : ℕ) → has new.receivers k
       ≡ (if is_receive call.wait && (k == place) then true else has old.receivers k)
 
--- the thread at a place is no receiver any more
+-- the thread at a place isn't blocked any more, so it may leave the receivers; nothing else changes
 pub record Forgets (place : ℕ) (old new : Index) : Type 0 where
   pub rising : new.rising ≡ old.rising
   pub latest : new.latest ≡ old.latest

@@ -1,4 +1,4 @@
--- What becomes of a pulse that is sent to a channel.
+-- How a pulse that is sent to a channel changes the kernel.
 use Rattle.std.specs.Prelude.{◌≡◌, ◌⊎◌, ℕ, nat_lt, Bool, true, false, List, [], ◌∷◌, ◌++◌, Option, None, Some}
 use Rattle.std.specs.Prelude.{if◌then◌else◌}
 use Rattle.qbase.specs.declared.errno.Errno.{Errno}
@@ -14,11 +14,12 @@ use Rattle.qstate.specs.Channel.{SetsItems}
 use Rattle.qstate.specs.Kept.{channel_in, pending_in}
 use Rattle.qstate.specs.Thread.{newest_in, open_in, Wakes}
 
--- fewer than 1,024 pulses wait on channel h
+-- true if fewer than 1,024 pulses wait on channel h
 abbrev pub has_room : List (ℕ × Channel) → ℕ → Bool
 has_room channels h = nat_lt (pulses_among (pending_in channels h)) 1024
 
--- the priority that a receiver on channel h takes of an item of this priority
+-- the priority that a receiver on channel h takes with an item of this priority; None if the channel has the
+-- fixed-priority flag
 abbrev pub level_on : List (ℕ × Channel) → ℕ → ℕ → Option ℕ
 level_on channels h priority = if is_fixed (channel_in channels h) then None else Some priority
 
@@ -30,7 +31,7 @@ pub record IsLeft (h : ℕ) (item : Item) (threads : List Thread) (channels : Li
   pub threads_are : after ≡ threads
   pub sets : SetsItems h (pending_in channels h ++ item ∷ []) channels now
 
--- the receiver that may take the pulse and began last takes it, and its call ends so
+-- of the receivers that may take the pulse, the one that began last takes it, and y completes its call
 pub record IsMet (h : ℕ) (item : Item) (threads : List Thread) (channels : List (ℕ × Channel))
     (after : List Thread) (now : List (ℕ × Channel)) (y : Completion) : Type 0 where
   pub room : has_room channels h ≡ true
@@ -40,26 +41,26 @@ pub record IsMet (h : ℕ) (item : Item) (threads : List Thread) (channels : Lis
   pub wakes : Wakes receiver (level_on channels h item.priority) threads after
   pub channels_are : now ≡ channels
 
--- one or the other
+-- the pulse is sent: into the queue if no call ends, or to the receiver whose call ends
 abbrev pub IsSent : ℕ → Item → List Thread → List (ℕ × Channel) → List Thread → List (ℕ × Channel)
     → Option Completion → Type 0
 IsSent h item threads channels after now None = IsLeft h item threads channels after now
 IsSent h item threads channels after now (Some y) = IsMet h item threads channels after now y
 
--- a pulse is sent, if one is due; where none is, all is as it was
+-- a pulse is sent, if one is due; else nothing changes
 abbrev pub IsSentIfDue : ℕ → Option Item → List Thread → List (ℕ × Channel) → List Thread → List (ℕ × Channel)
     → Option Completion → Type 0
 IsSentIfDue h None threads channels after now met = (after ≡ threads) × (now ≡ channels) × (met ≡ None)
 IsSentIfDue h (Some item) threads channels after now met = IsSent h item threads channels after now met
 
--- the channel is full: nothing is changed
+-- the channel is full: nothing changes
 pub record IsFull (h : ℕ) (channels now : List (ℕ × Channel)) (e : Errno) : Type 0 where
   pub room : has_room channels h ≡ false
   pub channels_are : now ≡ channels
   pub error : e ≡ Again
 
--- no receiver may take the pulse, and no memory was found for it to wait in: nothing is changed but the room
--- of the channel's queue
+-- no receiver may take the pulse, and there is no memory to queue it: nothing changes but the room of the
+-- channel's queue
 pub record IsUnstored (h : ℕ) (item : Item) (threads : List Thread) (channels now : List (ℕ × Channel))
     (e : Errno) : Type 0 where
   pub room : has_room channels h ≡ true
@@ -67,13 +68,13 @@ pub record IsUnstored (h : ℕ) (item : Item) (threads : List Thread) (channels 
   pub sets : SetsItems h (pending_in channels h) channels now
   pub error : e ≡ NoMemory
 
--- why a pulse isn't sent; no thread is changed
+-- the error with which a pulse isn't sent; no thread changes
 abbrev pub IsTurnedAway : ℕ → Item → List Thread → List (ℕ × Channel) → List Thread → List (ℕ × Channel)
     → Errno → Type 0
 IsTurnedAway h item threads channels after now e =
     (after ≡ threads) × (IsFull h channels now e ⊎ IsUnstored h item threads channels now e)
 
--- a pulse is due, and isn't sent
+-- a pulse is due, and isn't sent because of an error
 pub record IsUnsent (h : ℕ) (due : Option Item) (threads : List Thread) (channels : List (ℕ × Channel))
     (after : List Thread) (now : List (ℕ × Channel)) (e : Errno) : Type 0 where
   pub item : Item

@@ -14,72 +14,72 @@ use Rattle.qmodel.specs.Private.Facts.{threads_of, sender_among, message_in}
 use Rattle.qmodel.specs.Private.Receivers.{newest_receiver_among}
 use Rattle.qmodel.specs.Private.Step.{held_call, is_thread}
 
--- the open call of a thread
+-- the open call of thread u; None if it isn't blocked
 abbrev pub open_in : List Thread → ℕ → Option OpenCall
 open_in [] u = None
 open_in (t ∷ threads) u = if t.member.thread == u then t.open_call else open_in threads u
 
--- how many threads are blocked
+-- the number of threads that are blocked
 abbrev pub blocked_count : List Thread → ℕ
 blocked_count [] = 0
 blocked_count (t ∷ threads) = (if is_some t.open_call then 1 else 0) + blocked_count threads
 
--- where a thread stands
+-- the index of thread u
 abbrev pub seat_in : List Thread → ℕ → Option ℕ
 seat_in threads u = position (λ t. t.member.thread == u) threads
 
--- a thread that isn't blocked and has the priority that it begins with
+-- the record of a thread that isn't blocked and has its initial priority
 abbrev pub ready_thread : Member → Thread
 ready_thread m = record { member = m; priority = m.priority; open_call = None; key = 0 }
 
--- the receiver on channel h that may take the item and began last
+-- of the receivers on channel h that may take the item, the thread of the one that began last
 abbrev pub newest_in : ℕ → Item → List Thread → Option ℕ
 newest_in h item threads = newest_receiver_among (open_in threads) h item (threads_of (members_of threads))
 
--- call m is later than the best so far, which is the number of a call and its thread
+-- true if call m is later than the best so far, which is a pair of a call's number and its thread
 abbrev pub is_later : ℕ → Option (ℕ × ℕ) → Bool
 is_later m None = true
 is_later m (Some best) = nat_lt best.0 m
 
--- the later of the best so far and call m of thread u, if there is one
+-- the later of the best so far and call m of thread u; the best so far if there is no call m
 abbrev pub later_of_two : Option (ℕ × ℕ) → ℕ → Option ℕ → Option (ℕ × ℕ)
 later_of_two best u None = best
 later_of_two best u (Some m) = if is_later m best then Some (m, u) else best
 
--- thread u has this open call, and all else is as it was
+-- thread u has this open call, and nothing else changes
 pub record SetsOpen (u : ℕ) (o : Option OpenCall) (old new : List Thread) : Type 0 where
   pub members : members_of new ≡ members_of old
   pub open_call : (v : ℕ) → open_in new v ≡ (if v == u then o else open_in old v)
   pub priority : (v : ℕ) → thread_priority new v ≡ thread_priority old v
 
--- thread u has this priority, if one is given, and all else is as it was
+-- thread u has this priority, if one is given, and nothing else changes
 pub record SetsPriority (u : ℕ) (p : Option ℕ) (old new : List Thread) : Type 0 where
   pub members : members_of new ≡ members_of old
   pub open_call : (v : ℕ) → open_in new v ≡ open_in old v
   pub priority : (v : ℕ) → thread_priority new v
       ≡ unwrap_or (if u == v then p else None) (thread_priority old v)
 
--- thread u has no open call and has this priority, if one is given, and all else is as it was
+-- thread u has no open call and has this priority, if one is given, and nothing else changes
 pub record Wakes (u : ℕ) (p : Option ℕ) (old new : List Thread) : Type 0 where
   pub members : members_of new ≡ members_of old
   pub open_call : (v : ℕ) → open_in new v ≡ (if v == u then None else open_in old v)
   pub priority : (v : ℕ) → thread_priority new v
       ≡ unwrap_or (if u == v then p else None) (thread_priority old v)
 
--- the open call of thread u is changed so, and all else is as it was
+-- the open call of thread u is changed by change, and nothing else changes
 pub record ChangesOpen (u : ℕ) (change : OpenCall → OpenCall) (old new : List Thread) : Type 0 where
   pub members : members_of new ≡ members_of old
   pub open_call : (v : ℕ) → open_in new v
       ≡ (if v == u then option_map change (open_in old v) else open_in old v)
   pub priority : (v : ℕ) → thread_priority new v ≡ thread_priority old v
 
--- the connection over which a message was sent that is held
+-- the connection over which a Send's message was sent, if the message is held
 abbrev pub held_over_by : Wait → Option ℕ
 held_over_by (Answer coid message reply_buffer (Some receipt)) = Some coid
 held_over_by (Answer coid message reply_buffer None) = None
 held_over_by (ForItem chid kind buffer) = None
 
--- the connection over which a thread's message was sent, if that is held
+-- the connection over which the message of an open call was sent, if the message is held
 abbrev pub held_over_in : Option OpenCall → Option ℕ
 held_over_in None = None
 held_over_in (Some o) = held_over_by o.wait
@@ -96,14 +96,14 @@ sent_call threads i = option_and_then (open_in threads) (sender_in threads i)
 abbrev pub message_from : List Thread → ℕ → List ℕ
 message_from threads i = message_in (sent_call threads i)
 
--- the open call of the thread that sent message i is changed so, and all else is as it was
+-- the open call of the thread that sent message i is changed by change, and nothing else changes
 pub record ChangesSender (i : ℕ) (change : OpenCall → OpenCall) (old new : List Thread) : Type 0 where
   pub members : members_of new ≡ members_of old
   pub open_call : (v : ℕ) → open_in new v
       ≡ (if is_thread (sender_in old i) v then option_map change (open_in old v) else open_in old v)
   pub priority : (v : ℕ) → thread_priority new v ≡ thread_priority old v
 
--- the sender of a message that is received keeps its receipt, and a pulse changes nothing
+-- if the item is a message, its sender records the receipt; a pulse changes nothing
 abbrev pub HandsOver : Bool → ℕ → Receipt → List Thread → List Thread → Type 0
 HandsOver true i kept old new = new ≡ old
 HandsOver false i kept old new = ChangesSender i (held_call kept) old new

@@ -1,4 +1,4 @@
--- The seats of threads, and what is kept beside their records.
+-- The seats of threads, and the index that is kept beside their records.
 use Rattle.std.specs.Prelude.{◌≡◌, ◌≢◌, ◌≤◌, ◌<◌, ℕ, zero, suc, true, List, [], ◌∷◌, length, nat_lt}
 use Rattle.std.specs.Prelude.{Option, None, Some, if◌then◌else◌}
 use Rattle.std.specs.Option.{option_map}
@@ -14,11 +14,11 @@ use Rattle.qstate.specs.Kept.{members_of, thread_priority}
 use Rattle.qstate.specs.Open.{receive_in}
 use Rattle.qstate.specs.Thread.{open_in, seat_in}
 
--- the seat is that of its thread
+-- the seat has the index of its thread
 abbrev pub IsSeatIn : List Thread → Seat → Type 0
 IsSeatIn threads seat = seat_in threads seat.thread ≡ Some seat.index
 
--- this is what is kept of thread u
+-- t is the record of thread u
 pub record IsRecordOf (u : ℕ) (threads : List Thread) (t : Thread) : Type 0 where
   pub member : member_at (members_of threads) u ≡ Some t.member
   pub open_call : open_in threads u ≡ t.open_call
@@ -30,17 +30,17 @@ open_at [] k = None
 open_at (t ∷ threads) zero = t.open_call
 open_at (t ∷ threads) (suc k) = open_at threads k
 
--- its number
+-- the number of the open call of the thread at an index
 abbrev pub number_at : List Thread → ℕ → Option ℕ
 number_at threads k = option_map (λ o. o.number) (open_at threads k)
 
--- its number, if it is a receive
+-- the number of the open call of the thread at an index, if that is a receive
 abbrev pub receive_at : List Thread → ℕ → Option ℕ
 receive_at threads k = option_map (λ r. r.number) (receive_in 0 (open_at threads k))
 
--- there are at most 64 threads; each that is blocked in a receive is a receiver; and while the numbers of
--- calls that block rise, no two open calls have the same, none is above the latest, and all receives but that
--- of the last receiver are below the newest
+-- there are at most 64 threads, and each thread that is blocked in a receive is among the receivers; while
+-- rising is true, no two open calls have the same number, none is above latest, and each receive but that of
+-- the last receiver is below newest
 pub record IsIndexed (threads : List Thread) (index : Index) : Type 0 where
   pub few : length threads ≤ 64
   pub roster : IsRoster (members_of threads)
@@ -51,18 +51,18 @@ pub record IsIndexed (threads : List Thread) (index : Index) : Type 0 where
   pub others : index.rising ≡ true → (k n : ℕ) → receive_at threads k ≡ Some n → k ≢ index.last
       → n < index.newest
 
--- the newer of a receive of thread u, if there is one, and the newest behind it, each a number and a thread
+-- the newer of a receive of thread u, if there is one, and best; each is a pair of a number and a thread
 abbrev pub newer_of : ℕ → Option ℕ → Option (ℕ × ℕ) → Option (ℕ × ℕ)
 newer_of u None best = best
 newer_of u (Some m) None = Some (m, u)
 newer_of u (Some m) (Some best) = if nat_lt m best.0 then Some best else Some (m, u)
 
--- the newest receive on channel h that may take the item: its number and its thread
+-- the newest receive on channel h that may take the item: a pair of its number and its thread
 abbrev pub newest_of : ℕ → Item → List Thread → Option (ℕ × ℕ)
 newest_of h item [] = None
 newest_of h item (t ∷ threads) =
     newer_of t.member.thread (wait_on h item t.open_call) (newest_of h item threads)
 
--- a receive's number and its thread's seat, as a number and a thread
+-- a pair of a number and a seat, as a pair of the number and the seat's thread
 abbrev pub number_and_thread : Option (ℕ × Seat) → Option (ℕ × ℕ)
 number_and_thread found = option_map (λ b. (b.0, b.1.thread)) found

@@ -1,4 +1,4 @@
--- Messages that are not received, by the kernel's content.
+-- The messages that are not received, by the kernel's content.
 use Rattle.std.specs.Prelude.{◌≡◌, ℕ, List, map, Option, None, Some, if◌then◌else◌}
 use Rattle.qqueue.specs.Best.{with_priority}
 use Rattle.qtables.specs.Entries.{entry_at}
@@ -12,18 +12,19 @@ use Rattle.qstate.specs.declared.unread.Unread.{Unread}
 use Rattle.qstate.specs.Channel.{ids_of}
 use Rattle.qstate.specs.Kept.{channel_in, pending_in}
 
--- the message of call n whose receipt is waited for
+-- the message of call n, if it isn't received yet
 abbrev pub unread_of : ℕ → Wait → Option Unread
 unread_of n (Answer coid message reply_buffer None) = Some (record { number = n; coid = coid })
 unread_of n (Answer coid message reply_buffer (Some receipt)) = None
 unread_of n (ForItem chid kind buffer) = None
 
--- the message of a thread's open call, if its receipt is waited for
+-- the message of an open call, if it isn't received yet
 abbrev pub unread_in : Option OpenCall → Option Unread
 unread_in None = None
 unread_in (Some o) = unread_of o.number o.wait
 
--- the message of this open call has this priority where it waits to be received, and all else is as it was
+-- if the message of this open call isn't received, it has this priority in its channel's queue; nothing else
+-- changes
 pub record MovesUnread (o : Option OpenCall) (connections : List (ℕ × Connection)) (priority : ℕ)
     (old new : List (ℕ × Channel)) : Type 0 where
   pub ids : ids_of new ≡ ids_of old

@@ -22,27 +22,27 @@ use qmodel::open_call::{OpenCall, Wait};
 use qtables::channels::Channels;
 use qtables::connections::Connections;
 
-/// Whose calls are cancelled.
+/// The calls that are cancelled.
 #[derive(Clone, Copy, Debug, PartialEq, Eq)]
 pub enum CancelSet {
-    /// Those that are blocked on a channel.
+    /// All calls that are blocked on this channel.
     On(ChannelId),
-    /// Those of all threads.
+    /// All open calls.
     All,
-    /// That of a thread.
+    /// The open call of this thread.
     Of(ThreadNo),
-    /// The Sends over a connection.
+    /// All Sends over this connection, received or not.
     Over(ConnectionId),
 }
 
-/// Whose calls are cancelled, and the error with which they end.
+/// The calls that are cancelled, and the error with which each ends.
 #[derive(Clone, Copy, Debug, PartialEq, Eq)]
 pub struct Cancel {
     pub set: CancelSet,
     pub errno: Errno,
 }
 
-/// Whether a wait is on the channel.
+/// Returns whether a call that waits in this way is blocked on the channel.
 fn waits_on(connections: &Connections, chid: ChannelId, wait: &Wait) -> bool
     ensures { result ≡ is_on (entry_at connections.now) chid wait.now }
 {
@@ -55,7 +55,7 @@ fn waits_on(connections: &Connections, chid: ChannelId, wait: &Wait) -> bool
     }
 }
 
-/// Whether a wait is for the answer to a message that was sent over the connection.
+/// Returns whether a wait is for the answer to a message that was sent over the connection.
 fn is_sent_over(coid: ConnectionId, wait: &Wait) -> bool
     ensures { result ≡ is_over coid wait.now }
 {
@@ -65,7 +65,7 @@ fn is_sent_over(coid: ConnectionId, wait: &Wait) -> bool
     }
 }
 
-/// Whether a thread's wait is cancelled.
+/// Returns whether a thread's wait is cancelled.
 fn is_cancelled(
     connections: &Connections,
     cancel: &CancelSet,
@@ -82,7 +82,7 @@ fn is_cancelled(
     }
 }
 
-/// The connection over which a message was sent that isn't received.
+/// Returns the connection over which a Send's message was sent, if the message isn't received yet.
 fn unread_over(wait: &Wait) -> Option<ConnectionId>
     ensures { result ≡ unread_over_by wait.now }
 {
@@ -96,7 +96,7 @@ fn unread_over(wait: &Wait) -> Option<ConnectionId>
     }
 }
 
-/// The channel that a message waits on that isn't received.
+/// Returns the channel on which a Send's message waits, if the message isn't received yet.
 fn unread_on(connections: &Connections, wait: &Wait) -> Option<ChannelId>
     ensures { result ≡ unread_on_by (entry_at connections.now) wait.now }
 {
@@ -105,7 +105,8 @@ fn unread_on(connections: &Connections, wait: &Wait) -> Option<ChannelId>
     Some(connection.channel)
 }
 
-/// Takes the message of a Send that isn't received out of its channel's queue, where it has this key.
+/// Takes the message of a Send out of its channel's queue, where it has this key. Does nothing if the message is
+/// received already, or the call isn't a Send.
 fn take_message(
     channels: &mut Channels<Channel>,
     connections: &Connections,
@@ -123,7 +124,7 @@ fn take_message(
     let _ = channel.queue.remove(call.number, key);
 }
 
-/// The buffer that a wait gives back.
+/// Returns the buffer that a cancelled call gets back.
 fn into_buffer(wait: Wait) -> Bytes
     ensures { result ≡ buffer_of_wait wait }
 {
@@ -133,7 +134,8 @@ fn into_buffer(wait: Wait) -> Bytes
     }
 }
 
-/// How a thread's open call ends that is cancelled.
+/// Returns the completion of a thread's open call that is cancelled: it failed with the error, and gets its buffer
+/// back.
 fn cancel_ending(call: OpenCall, thread: ThreadNo, errno: Errno) -> Completion
     ensures { result ≡ cancel_call errno thread call }
 {
@@ -145,7 +147,7 @@ fn cancel_ending(call: OpenCall, thread: ThreadNo, errno: Errno) -> Completion
     }
 }
 
-/// Takes the open call of a thread, if it is cancelled.
+/// Takes the open call of a thread, and returns it, if it is cancelled.
 fn take_cancelled(
     thread: &mut Thread,
     connections: &Connections,
@@ -162,7 +164,7 @@ fn take_cancelled(
     }
 }
 
-/// Ends the open call of a thread, if it is cancelled.
+/// Ends the open call of a thread, and returns its completion, if it is cancelled.
 fn cancel_thread(
     thread: &mut Thread,
     channels: &mut Channels<Channel>,
@@ -178,7 +180,8 @@ fn cancel_thread(
     Some(cancel_ending(call, thread.member.thread, cancel.errno))
 }
 
-/// Ends the call of a thread: the caller's own so, as it was handed in, and another's if it is cancelled.
+/// Ends the call of a thread: returns `own`, the caller's completion, if the thread is the caller; else ends the
+/// thread's open call, if it is cancelled.
 fn end_thread(
     thread: &mut Thread,
     channels: &mut Channels<Channel>,
@@ -200,7 +203,7 @@ fn end_thread(
     }
 }
 
-/// Puts an ending, if there is one, behind all others.
+/// Appends an ending to the list, if there is one.
 fn push_ending(endings: &mut Endings, ending: Option<Completion>)
     requires { length endings.old.items < 64 }
     ensures { endings.new.items ≡ with_ending endings.old.items ending }
@@ -210,14 +213,14 @@ fn push_ending(endings: &mut Endings, ending: Option<Completion>)
     }
 }
 
-/// The thread whose call ends so.
+/// Returns the thread of a completion.
 fn caller_of(own: &Completion) -> ThreadNo
     ensures { result ≡ own.now.thread }
 {
     own.thread
 }
 
-/// Ends each call that is cancelled, in rising thread number and the caller's own ending in its place among them.
+/// Ends each call that is cancelled. The endings are in rising thread number, with the caller's own at its place.
 fn cancel_each(
     threads: &mut Vec<Thread>,
     channels: &mut Channels<Channel>,
@@ -243,8 +246,8 @@ fn cancel_each(
 }
 
 impl Threads {
-    /// Ends each call of a set with an error, in rising thread number and the caller's own ending in its place
-    /// among them. A message that is cancelled before it is received leaves its channel's queue.
+    /// Ends each call of a set with an error. The endings are in rising thread number, with the caller's own at its
+    /// place. A message that is cancelled before it is received leaves its channel's queue.
     pub fn cancel(
         &mut self,
         channels: &mut Channels<Channel>,

@@ -1,4 +1,4 @@
-//! What the kernel keeps of an open channel.
+//! The record of an open channel.
 
 ghost use Rattle.std.specs.Prelude.{◌≡◌, ◌==◌, ◌+◌, ◌≤◌, ◌<◌, ◌++◌, ◌∷◌, ◌&&◌, [], count_by, is_some, true, None, Some, if◌then◌else◌, IsOk, OnOk, OnErr, IfErr};
 ghost use Rattle.std.specs.List.{AllByRecursion};
@@ -23,7 +23,7 @@ pub struct Channel {
     /// The process that created it, any thread of which may receive on it and answer.
     pub owner: ProcessNo,
     pub flags: ChannelFlags,
-    /// What was sent to it and isn't received.
+    /// The messages and pulses that were sent to it and aren't received yet.
     pub queue: Queue,
 }
 
@@ -40,8 +40,8 @@ impl Channel {
         }
     }
 
-    /// Puts an item behind all that wait, after room was made for it, and returns its key in the queue; takes no
-    /// memory if there is room already.
+    /// Makes room for an item, adds it behind all others in the queue, and returns its key there. `NoMemory` if the
+    /// allocator refuses; takes no memory if there is room already.
     #[inline]
     pub fn enqueue(&mut self, item: Item) -> Result<usize, Errno>
         requires newest { AllByRecursion (λ x. x.number < item.number) self.old.queue.items }
@@ -57,14 +57,14 @@ impl Channel {
     }
 }
 
-/// Whether the channel is open.
+/// Returns whether the channel is open.
 pub fn is_open(channels: &Channels<Channel>, chid: ChannelId) -> bool
     ensures { result ≡ is_some (channel_in channels.now chid) }
 {
     channels.get(chid).is_some()
 }
 
-/// Whether the channel is open and of this process.
+/// Returns whether the channel is open and owned by this process.
 pub fn owns(channels: &Channels<Channel>, process: ProcessNo, chid: ChannelId) -> bool
     ensures { result ≡ is_of process (channel_in channels.now chid) }
 {
@@ -74,7 +74,8 @@ pub fn owns(channels: &Channels<Channel>, process: ProcessNo, chid: ChannelId) -
     }
 }
 
-/// The channel that a process may send to over a connection: its own, to a channel that is open.
+/// Returns the channel to which the process may send over a connection; `None` unless the connection is the process's
+/// own and its channel is open.
 pub fn route(
     connections: &Connections,
     channels: &Channels<Channel>,
@@ -91,7 +92,7 @@ pub fn route(
     }
 }
 
-/// The channel of a connection that is live and of this process.
+/// Returns the channel of a connection; `None` unless the connection is live and the process's own.
 pub fn own_connection(
     connections: &Connections,
     process: ProcessNo,
@@ -107,7 +108,7 @@ pub fn own_connection(
     }
 }
 
-/// Whether a channel has the disconnect flag, and the process has just one live connection to it.
+/// Returns whether a channel has the disconnect flag, and the process has exactly one live connection to it.
 pub fn tells_detached(
     connections: &Connections,
     channels: &Channels<Channel>,
@@ -124,7 +125,7 @@ pub fn tells_detached(
     }
 }
 
-/// Whether a channel has the unblock flag.
+/// Returns whether a channel is open and has the unblock flag.
 pub fn tells_unblock(channels: &Channels<Channel>, chid: ChannelId) -> bool
     ensures { result ≡ tells_unblock (channel_in channels.now chid) }
 {
@@ -134,8 +135,7 @@ pub fn tells_unblock(channels: &Channels<Channel>, chid: ChannelId) -> bool
     }
 }
 
-/// Gives the item of this number on a channel another priority, if it waits there, where it has this key; takes
-/// no memory.
+/// Gives the item of this number and key another priority, if it waits on the channel; takes no memory.
 pub fn requeue(
     channels: &mut Channels<Channel>,
     chid: ChannelId,
@@ -150,7 +150,7 @@ pub fn requeue(
     }
 }
 
-/// Removes an open channel with all that waits on it.
+/// Removes an open channel, with all messages and pulses that wait on it.
 pub fn close(channels: &mut Channels<Channel>, chid: ChannelId)
     requires { is_some (channel_in channels.old chid) ≡ true }
     ensures { ClosesIn chid channels.old channels.new }

@@ -11,21 +11,21 @@ use std::alloc::Global;
 /// The endings of one event, in rising thread number: each thread of the roster gets at most one.
 pub type Endings = ArrayVec<Completion, 64, Global>;
 
-/// Whether a thread comes before another, by their numbers.
+/// Returns whether a thread has a lower number than another.
 fn is_before(thread: ThreadNo, other: ThreadNo) -> bool
     ensures { result ≡ nat_lt thread other }
 {
     thread.0 < other.0
 }
 
-/// The place of the first ending of a later thread.
+/// Returns the index of the first ending whose thread has a greater number; `None` if there is none.
 fn first_later(endings: &Endings, thread: ThreadNo) -> Option<usize>
     ensures { result ≡ position (λ e. nat_lt thread e.thread) endings.now.items }
 {
     endings.iter().position(|e| is_before(thread, e.thread))
 }
 
-/// Puts an ending in its place among others.
+/// Inserts an ending before the first one of a later thread, or at the end if there is none.
 fn put_among(endings: &mut Endings, ending: Completion)
     requires { length endings.old.items < 64 }
     ensures { endings.new.items ≡ with_ending_in_place ending endings.old.items }
@@ -36,7 +36,7 @@ fn put_among(endings: &mut Endings, ending: Completion)
     }
 }
 
-/// Puts an ending in its place among the endings.
+/// Inserts an ending at its place, by thread number.
 #[inline(always)]
 pub fn put(endings: &mut Endings, ending: Completion)
     requires { length endings.old.items < 64 }
@@ -49,7 +49,7 @@ pub fn put(endings: &mut Endings, ending: Completion)
     }
 }
 
-/// Puts an ending, if there is one, in its place among the endings.
+/// Inserts an ending at its place, by thread number, if there is one.
 pub fn put_if(endings: &mut Endings, ending: Option<Completion>)
     requires { is_some ending ≡ true → length endings.old.items < 64 }
     ensures { endings.new.items ≡ with_ending_if ending endings.old.items }

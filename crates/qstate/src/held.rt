@@ -21,19 +21,19 @@ use qmodel::open_call::{Receipt, Wait};
 use qtables::channels::Channels;
 use qtables::connections::Connections;
 
-/// A message that is held.
+/// A message that is held: received, and not yet answered.
 #[derive(Clone, Copy, Debug, PartialEq, Eq)]
 pub struct Held {
     pub rcvid: ReceiveId,
     /// The connection over which it was sent.
     pub coid: ConnectionId,
-    /// What is kept of its receipt.
+    /// The record of its receipt.
     pub receipt: Receipt,
 }
 
 impl Threads {
-    /// The message that the thread at a seat is REPLY-blocked with, if it is held on a channel with the unblock
-    /// flag, and that channel.
+    /// Returns the message with which the thread at a seat is REPLY-blocked, and its channel; `None` unless there is
+    /// such a message and the channel has the unblock flag.
     pub fn guarded_message(
         &self,
         connections: &Connections,
@@ -52,7 +52,7 @@ impl Threads {
         }
     }
 
-    /// Keeps that an unblock pulse was made for the message of the thread at a seat.
+    /// Records that an unblock pulse was made for the message of the thread at a seat.
     pub fn mark_unblocked(&mut self, seat: &Seat)
         requires { IsSeatIn self.old seat.now }
         ensures { ChangesOpen seat.now.thread unblocked_call self.old self.new }
@@ -61,7 +61,8 @@ impl Threads {
         there.mark_unblocked();
     }
 
-    /// The seat of the thread whose message is held under this id, on a channel of this process.
+    /// Returns the seat of the thread whose message is held under this receive id on a channel of this process; `None`
+    /// if there is none.
     #[inline(always)]
     pub fn holder(
         &self,
@@ -84,8 +85,8 @@ impl Threads {
         }
     }
 
-    /// Copies bytes over the reply buffer of the Send that the thread at a seat is blocked in, and returns how
-    /// many.
+    /// Copies bytes into the reply buffer of the Send that the thread at a seat is blocked in, from the offset on, and
+    /// returns the number of bytes copied.
     pub fn write_sent(&mut self, seat: &Seat, offset: usize, bytes: &[u8]) -> usize
         requires { IsSeatIn self.old seat.now }
         ensures after { ChangesOpen seat.now.thread (written_call offset bytes.now) self.old self.new }
@@ -96,7 +97,8 @@ impl Threads {
     }
 }
 
-/// Copies bytes over the reply buffer of a wait for an answer, and answers how many.
+/// Copies bytes into the reply buffer of a wait for an answer, from the offset on, and returns the number of bytes
+/// copied.
 fn write_over(wait: &mut Wait, offset: usize, bytes: &[u8]) -> usize
     ensures after { wait.new ≡ with_buffer (λ b. lay_over b offset bytes.now) wait.old }
     ensures count { result ≡ laid_count (reply_buffer_of wait.old) offset bytes.now }
@@ -107,7 +109,7 @@ fn write_over(wait: &mut Wait, offset: usize, bytes: &[u8]) -> usize
     }
 }
 
-/// Keeps that an unblock pulse was made for the message whose answer is waited for, if that is received.
+/// Records that an unblock pulse was made for the message whose answer is waited for, if the message is received.
 fn mark_wait(wait: &mut Wait)
     ensures { wait.new ≡ unblocked_wait wait.old }
 {
@@ -121,7 +123,7 @@ fn mark_wait(wait: &mut Wait)
 }
 
 impl Thread {
-    /// The message that it waits for the answer to, where that is held.
+    /// Returns the message whose answer the thread waits for, if the message is held.
     pub fn held_message(&self) -> Option<Held>
         ensures { result ≡ held_message_in self.now.open_call }
     {
@@ -140,7 +142,7 @@ impl Thread {
         }
     }
 
-    /// Keeps that an unblock pulse was made for its message, if that is held.
+    /// Records that an unblock pulse was made for the thread's message, if the message is held.
     fn mark_unblocked(&mut self)
         ensures member { self.new.member ≡ self.old.member }
         ensures priority { self.new.priority ≡ self.old.priority }
@@ -151,7 +153,7 @@ impl Thread {
         }
     }
 
-    /// The message of the Send that it is blocked in.
+    /// Returns the message of the Send that the thread is blocked in; no bytes if it is blocked in no Send.
     pub fn message(&self) -> &[u8]
         ensures { result.now ≡ message_in self.now.open_call }
     {
@@ -164,7 +166,8 @@ impl Thread {
         }
     }
 
-    /// Copies bytes over the reply buffer of the Send that it is blocked in, and answers how many.
+    /// Copies bytes into the reply buffer of the Send that the thread is blocked in, from the offset on, and returns
+    /// the number of bytes copied.
     fn write(&mut self, offset: usize, bytes: &[u8]) -> usize
         ensures member { self.new.member ≡ self.old.member }
         ensures priority { self.new.priority ≡ self.old.priority }
@@ -177,7 +180,7 @@ impl Thread {
         }
     }
 
-    /// What `Info` returns of the message that it sent, if that is held.
+    /// Returns what `Info` returns for the thread's message, if the message is held.
     pub fn info(&self) -> Option<Info>
         ensures { result ≡ info_of_open self.now.member self.now.open_call }
     {

@@ -1,4 +1,4 @@
-//! Where to look first for a thread: guesses, each of which is tried before it is believed.
+//! The index at which to look first for a thread: a guess, which is checked before it is used.
 
 ghost use Rattle.std.specs.Prelude.{◌≡◌, ◌<◌, true};
 ghost use Rattle.qbase.specs.ByteSet.{has};
@@ -9,26 +9,26 @@ use qbase::ids::ThreadNo;
 use qmodel::open_call::{OpenCall, Wait};
 use qtables::member::Member;
 
-/// Where the threads of a roster stand, by what they are looked for.
+/// Guesses of a thread's index in the roster: by thread number, by the number of its Send, and as the newest receiver.
 #[derive(Debug, Drop)]
 pub struct Index {
-    // For each thread number: the index of that thread, if it is in the roster.
+    // For each thread number, the index of that thread, if it is in the roster.
     threads: [u8; 256],
-    // For the last byte of a Send's number: the index of the thread that sent last with such a number.
+    // For each last byte of a Send's number, the index of the thread that made the last Send with such a number.
     senders: [u8; 256],
-    // The indices of all threads that are RECEIVE-blocked, and perhaps of others.
+    // The indices of all threads that are RECEIVE-blocked, and possibly of others.
     pub(crate) receivers: ByteSet,
     // The number of the last call that blocked its thread.
     pub(crate) latest: u64,
     // The number of the last receive that blocked its thread, and the index of that thread.
     pub(crate) newest: u64,
     pub(crate) last: usize,
-    // Whether the numbers of the calls that blocked their threads have risen so far, as a kernel's do.
+    // Whether the numbers of the calls that blocked their threads have risen so far, as they do in a kernel.
     pub(crate) rising: bool,
 }
 
 impl Index {
-    /// The index of a roster's threads, none of them blocked.
+    /// Makes the index of a roster's threads, none of them blocked.
     pub fn new(members: &[Member]) -> Index {
         let mut threads = [0; 256];
         let mut place: u8 = 0;
@@ -47,17 +47,17 @@ impl Index {
         }
     }
 
-    /// Where the thread of this number may stand.
+    /// Returns the index at which to look first for the thread of this number.
     pub fn thread(&self, thread: ThreadNo) -> usize {
         self.threads[thread.0 as usize] as usize
     }
 
-    /// Where the sender of the message of this number may stand.
+    /// Returns the index at which to look first for the sender of the message of this number.
     pub fn sender(&self, number: u64) -> usize {
         self.senders[number as usize % 256] as usize
     }
 
-    /// Keeps that a call blocks the thread at a place.
+    /// Records that a call blocks the thread at this index.
     #[inline(always)]
     pub fn note(&mut self, place: usize, call: &OpenCall)
         requires { place < 64 }
@@ -77,7 +77,7 @@ impl Index {
         }
     }
 
-    /// Keeps that the thread at a place isn't blocked.
+    /// Records that the thread at this index isn't blocked any more.
     pub fn forget(&mut self, place: usize)
         requires { place < 64 }
         ensures { Forgets place self.old self.new }

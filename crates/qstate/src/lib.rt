@@ -1,5 +1,5 @@
-//! The records of which a kernel is made: its threads, its channels, messages that are held, and the endings of
-//! one event.
+//! The records that make up a kernel: its threads, its channels, the messages that are held, and the endings of one
+//! event.
 #![tactic(auto)]
 
 pub mod cancelling;

@@ -15,7 +15,7 @@ pub struct OpenReceive {
     pub number: u64,
     /// The thread that waited.
     pub thread: ThreadNo,
-    /// What a message is copied into.
+    /// The buffer that a message is copied into.
     pub buffer: Bytes,
 }
 
@@ -26,12 +26,12 @@ pub struct OpenSend {
     pub number: u64,
     /// The thread that sent it.
     pub thread: ThreadNo,
-    /// What an answer is copied into, with all that was written there.
+    /// The buffer that an answer is copied into, with what was written to it before.
     pub reply_buffer: Bytes,
 }
 
 impl OpenReceive {
-    /// The receive that a thread was blocked in; `None` if it was blocked in no receive.
+    /// Returns the receive that a thread was blocked in; `None` if the call isn't a receive.
     pub fn of(thread: ThreadNo, call: Option<OpenCall>) -> Option<OpenReceive>
         ensures { result ≡ receive_in thread call }
     {
@@ -46,7 +46,7 @@ impl OpenReceive {
         }
     }
 
-    /// The completion of the receive, with its buffer.
+    /// Returns the completion of the receive, with its buffer.
     pub fn ending(self, mark: Mark) -> Completion
         ensures { result ≡ record { call = self.number; thread = self.thread; mark = mark; buffer = self.buffer } }
     {
@@ -60,7 +60,7 @@ impl OpenReceive {
 }
 
 impl OpenSend {
-    /// The Send that a thread was blocked in; `None` if it was blocked in no Send.
+    /// Returns the Send that a thread was blocked in; `None` if the call isn't a Send.
     pub fn of(thread: ThreadNo, call: Option<OpenCall>) -> Option<OpenSend>
         ensures { result ≡ send_in thread call }
     {
@@ -75,7 +75,7 @@ impl OpenSend {
         }
     }
 
-    /// The completion of the Send, with its reply buffer.
+    /// Returns the completion of the Send, with its reply buffer.
     pub fn ending(self, mark: Mark) -> Completion
         ensures { result ≡ record { call = self.number; thread = self.thread; mark = mark; buffer = self.reply_buffer } }
     {

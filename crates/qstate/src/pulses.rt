@@ -1,4 +1,4 @@
-//! Pulses: to a receiver that waits, or into the queue of a channel.
+//! Sending a pulse: to a receiver that waits, or into the queue of a channel.
 
 ghost use Rattle.std.specs.Prelude.{◌≡◌, ◌<◌, true, is_some, IfOk, IfErr, IfSome};
 ghost use Rattle.std.specs.List.{AllByRecursion};
@@ -14,10 +14,10 @@ use qmodel::call::{Completion, Mark};
 use qqueue::item::Item;
 use qtables::channels::Channels;
 
-/// How many pulses wait on a channel at most: our own profile.
+/// The most pulses that may wait on a channel: our own profile.
 pub const PULSE_LIMIT: usize = 1024;
 
-/// The mark of a receive that takes this pulse.
+/// Returns the mark of a receive that takes this pulse.
 fn pulse_mark(item: &Item) -> Mark
     ensures { result ≡ Mark.Pulse item.now.number item.now.priority item.now.what }
 {
@@ -28,9 +28,9 @@ fn pulse_mark(item: &Item) -> Mark
     }
 }
 
-/// Sends a pulse: to the receiver that may take it and began to wait last, whose call then ends as it is
-/// answered here, or into the channel's queue, whose room is all that takes memory. `Again` where 1,024
-/// pulses wait there, and `NoMemory` where no receiver may take it and the allocator refused.
+/// Sends a pulse. If receivers of the channel may take it, the one that began to wait last does, and the completion of
+/// its call is returned. Else the pulse joins the channel's queue, whose room is all that takes memory. `Again` if
+/// 1,024 pulses wait there, and `NoMemory` if no receiver may take it and the allocator refuses.
 pub fn send_pulse(
     threads: &mut Threads,
     channels: &mut Channels<Channel>,
@@ -59,7 +59,7 @@ pub fn send_pulse(
     Ok(Some(receive.ending(pulse_mark(&item))))
 }
 
-/// Sends a pulse, as `send_pulse` does, where one is due.
+/// Sends a pulse as `send_pulse` does, if there is one to send.
 pub fn send_due(
     threads: &mut Threads,
     channels: &mut Channels<Channel>,

@@ -12,7 +12,7 @@ use crate::threads::Threads;
 use qbase::ids::ChannelId;
 use qqueue::item::Item;
 
-/// The seat of a thread at an index.
+/// Returns the seat of a thread that has this index.
 fn seat_of(there: &Thread, index: usize) -> Seat
     ensures thread { result.thread ≡ there.now.member.thread }
     ensures index { result.index ≡ index }
@@ -23,8 +23,8 @@ fn seat_of(there: &Thread, index: usize) -> Seat
     }
 }
 
-/// The thread at an index, if it receives on the channel, may take the item and is newer than the best of
-/// those behind it; else that best. Each with the number of its receive.
+/// Returns the thread at an index, if it receives on the channel, may take the item and is newer than `best`; else
+/// `best`. Each is paired with the number of its receive.
 fn newer(
     threads: &[Thread],
     best: Option<(u64, Seat)>,
@@ -51,7 +51,7 @@ fn newer(
 }
 
 impl Threads {
-    /// The seat of the last thread that began to receive, if it receives on the channel and may take the item.
+    /// Returns the seat of the last thread that began to receive, if it receives on the channel and may take the item.
     fn last_receiver(&self, channel: ChannelId, item: &Item) -> Option<Seat>
         ensures seat { IfSome result (λ seat. IsSeatIn self.now seat) }
         ensures newest { IfSome result (λ seat. newest_in channel item.now self.now ≡ Some seat.thread) }
@@ -65,7 +65,7 @@ impl Threads {
         }
     }
 
-    /// The newest receiver of the channel that may take the item, by a look at each receiver.
+    /// Returns the newest receiver of the channel that may take the item, found by a search of all receivers.
     fn search_receiver(&self, channel: ChannelId, item: &Item) -> Option<(u64, Seat)>
         ensures newest { option_map (λ b. b.1.thread) result ≡ newest_in channel item.now self.now }
         ensures seat { IfSome result (λ b. IsSeatIn self.now b.1) }
@@ -83,7 +83,8 @@ impl Threads {
         best
     }
 
-    /// The seat of the thread that receives on a channel, may take an item and began to wait last.
+    /// Returns the seat of the thread that receives on the channel, may take the item and began to wait last; `None` if
+    /// there is none.
     pub fn newest_receiver(&self, channel: ChannelId, item: &Item) -> Option<Seat>
         ensures seat { IfSome result (λ seat. IsSeatIn self.now seat) }
         ensures newest { option_map (λ seat. seat.thread) result ≡ newest_in channel item.now self.now }

@@ -1,10 +1,11 @@
-//! A thread that was found.
+//! The place of a thread in the roster.
 
 ghost use Rattle.std.specs.Prelude.{◌≡◌};
 
 use qbase::ids::ThreadNo;
 
-/// A thread of a roster that was found, so that no call searches for it again. `Threads::seat` makes it.
+/// A thread of a roster with its index there, kept so that no call searches for the thread again. `Threads::seat` makes
+/// it.
 #[derive(Clone, Copy, Debug)]
 pub struct Seat {
     pub(crate) thread: ThreadNo,
@@ -12,14 +13,15 @@ pub struct Seat {
 }
 
 impl Seat {
-    /// The thread's number.
+    /// Returns the thread's number.
     pub fn thread(&self) -> ThreadNo
         ensures { result ≡ self.now.thread }
     {
         self.thread
     }
 
-    /// The thread's index among those of the roster, in rising number and from 0 on; its cell has the same.
+    /// Returns the thread's index in the roster, where threads are in rising number, from 0. The thread's cell has the
+    /// same index.
     pub fn index(&self) -> usize
         ensures { result ≡ self.now.index }
     {

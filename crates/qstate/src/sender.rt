@@ -18,7 +18,7 @@ use qbase::priority::Priority;
 use qmodel::call::Mark;
 use qqueue::item::Item;
 
-/// The index of the thread whose open call is the Send of this number, by a look at each.
+/// Returns the index of the thread whose open call is the Send of this number, found by a search of all threads.
 fn sender_index(threads: &[Thread], number: u64) -> Option<usize>
     ensures { result ≡ position (λ t. is_send number t.open_call) threads.now }
 {
@@ -26,7 +26,7 @@ fn sender_index(threads: &[Thread], number: u64) -> Option<usize>
 }
 
 impl Threads {
-    /// The seat of the sender of a message, if it stands where it is looked for first.
+    /// Returns the seat of the sender of a message, if it is at the index that is looked at first.
     #[inline(always)]
     fn guess_sender(&self, number: u64) -> Option<Seat>
         ensures seat { IfSome result (λ seat. IsSeatIn self.now seat) }
@@ -40,7 +40,7 @@ impl Threads {
         }
     }
 
-    /// The seat of the thread whose open call is the Send of this number.
+    /// Returns the seat of the thread whose open call is the Send of this number; `None` if there is none.
     #[inline(always)]
     pub fn sender(&self, number: u64) -> Option<Seat>
         ensures seat { IfSome result (λ seat. IsSeatIn self.now seat) }
@@ -52,8 +52,8 @@ impl Threads {
         }
     }
 
-    /// Hands the message of this number over: lays it over the front of a buffer, keeps its receipt with its
-    /// sender, and returns how many bytes were copied; 0 if there is no such message.
+    /// Copies the message of this number to the front of a buffer, records the receipt with its sender, and returns the
+    /// number of bytes copied; 0 if there is no such message.
     fn hand_over(&mut self, number: u64, priority: Priority, buffer: &mut Bytes) -> usize
         ensures kept { ChangesSender number (held_call (record { priority = priority; copied = result; unblocked = false })) self.old self.new }
         ensures buffer { buffer.new ≡ lay_over buffer.old 0 (message_from self.old number) }
@@ -68,8 +68,8 @@ impl Threads {
         }
     }
 
-    /// Hands an item over to a receive: lays a message over the front of its buffer and keeps the receipt with
-    /// the sender; a pulse changes neither. Returns the mark of the receive's completion.
+    /// Hands an item to a receive: copies a message to the front of the buffer and records the receipt with the sender;
+    /// a pulse changes neither. Returns the mark of the receive's completion.
     pub fn hand_item(&mut self, item: Item, buffer: &mut Bytes) -> Mark
         ensures kept { HandsOver (is_pulse item.what) item.number (record { priority = item.priority; copied = laid_count buffer.old 0 (message_from self.old item.number); unblocked = false }) self.old self.new }
         ensures mark { result ≡ (delivery_of item (message_from self.old item.number) buffer.old).0 }

@@ -1,4 +1,4 @@
-//! What is kept of a thread.
+//! The record of a thread.
 
 ghost use Rattle.std.specs.Prelude.{◌≡◌, false, option_map};
 ghost use Rattle.qbase.specs.Laying.{laid_count, lay_over};
@@ -28,7 +28,7 @@ pub struct Thread {
 }
 
 impl Thread {
-    /// Whether its open call is the Send of this number.
+    /// Returns whether the thread's open call is the Send of this number.
     pub fn sends(&self, number: u64) -> bool
         ensures { result ≡ is_send number self.now.open_call }
     {
@@ -41,7 +41,7 @@ impl Thread {
         }
     }
 
-    /// The number of its open call, if that is a receive on this channel that may take the item.
+    /// Returns the number of the thread's open call, if that is a receive on this channel that may take the item.
     pub fn receives(&self, channel: ChannelId, item: &Item) -> Option<u64>
         ensures { result ≡ wait_on channel item.now self.now.open_call }
     {
@@ -54,7 +54,7 @@ impl Thread {
         }
     }
 
-    /// The connection over which it sent a message that is held.
+    /// Returns the connection over which the thread sent its message, if the message is held.
     pub fn held_over(&self) -> Option<ConnectionId>
         ensures { result ≡ held_over_in self.now.open_call }
     {
@@ -69,8 +69,8 @@ impl Thread {
         }
     }
 
-    /// Lays the message that it sent over the front of a buffer, keeps the receipt, and returns how many
-    /// bytes were copied; 0 if it is blocked in no Send.
+    /// Copies the thread's message to the front of a buffer, records the receipt, and returns the number of bytes
+    /// copied; 0 if the thread is blocked in no Send.
     pub fn hand_over(&mut self, priority: Priority, buffer: &mut Bytes) -> usize
         ensures member { self.new.member ≡ self.old.member }
         ensures priority { self.new.priority ≡ self.old.priority }

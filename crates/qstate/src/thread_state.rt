@@ -13,7 +13,7 @@ use qbase::state::ThreadState;
 use qmodel::open_call::Wait;
 use qtables::connections::Connections;
 
-/// The channel of a connection, 0 where there is none.
+/// Returns the channel of a connection; 0 if there is no such connection.
 fn channel_of(connections: &Connections, coid: ConnectionId) -> ChannelId
     ensures { result ≡ channel_over (entry_at connections.now coid) }
 {
@@ -23,7 +23,7 @@ fn channel_of(connections: &Connections, coid: ConnectionId) -> ChannelId
     }
 }
 
-/// The state of a thread that waits so.
+/// Returns the state of a thread with this wait.
 pub fn state_of_wait(connections: &Connections, wait: &Wait) -> ThreadState
     ensures { result ≡ state_of (entry_at connections.now) wait.now }
 {
@@ -43,7 +43,7 @@ pub fn state_of_wait(connections: &Connections, wait: &Wait) -> ThreadState
 }
 
 impl Threads {
-    /// The state of the thread at a seat.
+    /// Returns the state of the thread at a seat.
     pub fn state(&self, connections: &Connections, seat: &Seat) -> ThreadState
         requires { IsSeatIn self.now seat.now }
         ensures { result ≡ state_in (entry_at connections.now) (open_in self.now seat.now.thread) }

@@ -21,14 +21,14 @@ use std::alloc::{AllocError, Global};
 use std::marker::Model;
 use std::mem;
 
-/// The threads of a roster, with what each is blocked in. Contracts see the records, in rising thread number.
+/// The threads of a roster, with the call that each is blocked in. Contracts see the records, in rising thread number.
 ///
-/// A thread, the sender of a message and the newest receiver of a channel are found by what is kept beside the
-/// records: each is a guess that is tried first, so that a wrong guess costs a search and nothing else.
+/// A thread, the sender of a message and the newest receiver of a channel are looked up first at an index that is kept
+/// beside the records. Each index is a guess: a wrong one costs a search and nothing else.
 #[derive(Drop)]
 pub struct Threads {
     pub(crate) records: Vec<Thread>,
-    // Where to look first for a thread.
+    // The index at which to look first for a thread.
     pub(crate) index: Index,
 }
 
@@ -44,7 +44,7 @@ impl Model for Threads {
     ghost invariant = { λ t. IsIndexed t.records.items t.index };
 }
 
-/// The record of a thread that isn't blocked and has the priority that it begins with.
+/// Returns the record of a thread that isn't blocked and has its initial priority.
 fn ready(member: Member) -> Thread
     ensures { result ≡ ready_thread member }
 {
@@ -56,7 +56,7 @@ fn ready(member: Member) -> Thread
     }
 }
 
-/// The index of a thread, by a look at each.
+/// Returns the index of a thread, found by a search of all threads.
 fn index_of(threads: &[Thread], thread: ThreadNo) -> Option<usize>
     ensures { result ≡ seat_in threads.now thread }
 {
@@ -64,7 +64,7 @@ fn index_of(threads: &[Thread], thread: ThreadNo) -> Option<usize>
 }
 
 impl Threads {
-    /// The threads of a roster, none of them blocked. The records are all that takes memory.
+    /// Makes the threads of a roster, none of them blocked. The records are all that takes memory.
     pub fn new(alloc: Global, roster: &Roster) -> Result<Threads, AllocError>
         ensures threads { IfOk result (λ threads. threads ≡ map ready_thread roster.now) }
 
@@ -83,14 +83,14 @@ impl Threads {
         })
     }
 
-    /// The records of the threads, in rising thread number.
+    /// Returns the records of the threads, in rising thread number.
     pub fn records(&self) -> &[Thread]
         ensures { result.now ≡ self.now }
     {
         &self.records
     }
 
-    /// The seat at an index.
+    /// Returns the seat of the thread at an index.
     pub(crate) fn seat_at(&self, index: usize) -> Seat
         requires { index < length self.now }
         ensures seat { IsSeatIn self.now result }
@@ -102,7 +102,7 @@ impl Threads {
         }
     }
 
-    /// The index of a thread, if it stands where it is looked for first.
+    /// Returns the index of a thread, if it is the index that is looked at first.
     fn guess(&self, thread: ThreadNo) -> Option<usize>
         ensures { IfSome result (λ index. seat_in self.now thread ≡ Some index) }
     {
@@ -114,7 +114,7 @@ impl Threads {
         }
     }
 
-    /// The seat of a thread; `None` if it isn't in the roster.
+    /// Returns the seat of a thread; `None` if the thread isn't in the roster.
     pub fn seat(&self, thread: ThreadNo) -> Option<Seat>
         ensures seat { IfSome result (λ seat. IsSeatIn self.now seat) }
         ensures thread { IfSome result (λ seat. seat.thread ≡ thread) }
@@ -127,7 +127,7 @@ impl Threads {
         Some(Seat { thread, index })
     }
 
-    /// The seat of a thread of this process; `None` if it isn't one.
+    /// Returns the seat of a thread of this process; `None` if the thread isn't in the roster or is another process's.
     pub fn fellow(&self, process: ProcessNo, thread: ThreadNo) -> Option<Seat>
         ensures seat { IfSome result (λ seat. IsSeatIn self.now seat) }
         ensures thread { IfSome result (λ seat. seat.thread ≡ thread) }
@@ -141,7 +141,7 @@ impl Threads {
         }
     }
 
-    /// What is kept of the thread at a seat.
+    /// Returns the record of the thread at a seat.
     pub fn record(&self, seat: &Seat) -> &Thread
         requires { IsSeatIn self.now seat.now }
         ensures { IsRecordOf seat.now.thread self.now result.now }
@@ -149,7 +149,7 @@ impl Threads {
         &self.records[seat.index]
     }
 
-    /// Gives the thread at a seat this priority, or leaves it its own.
+    /// Gives the thread at a seat this priority; `None` leaves it as it is.
     pub fn set_priority(&mut self, seat: &Seat, priority: Option<Priority>)
         requires { IsSeatIn self.old seat.now }
         ensures { SetsPriority seat.now.thread priority self.old self.new }
@@ -158,7 +158,7 @@ impl Threads {
         there.priority = priority.unwrap_or(there.priority);
     }
 
-    /// Takes the open call of the thread at a seat, which then isn't blocked.
+    /// Takes the open call of the thread at a seat and returns it. The thread then isn't blocked.
     #[inline(always)]
     fn take_open(&mut self, seat: &Seat) -> Option<OpenCall>
         requires { IsSeatIn self.old seat.now }
@@ -170,8 +170,8 @@ impl Threads {
         mem::replace(&mut there.open_call, None)
     }
 
-    /// Blocks the thread at a seat in a call. The key is that of its message in the queue of the channel, if
-    /// the call waits there.
+    /// Blocks the thread at a seat in a call. `key` is the key of the call's message in the channel's queue, if the
+    /// message waits there.
     #[inline(always)]
     pub fn block(&mut self, seat: &Seat, call: OpenCall, key: usize)
         requires { IsSeatIn self.old seat.now }
@@ -183,8 +183,8 @@ impl Threads {
         there.key = key;
     }
 
-    /// Ends the receive that the thread at a seat is blocked in, and gives it this priority, or leaves it its
-    /// own.
+    /// Ends the receive that the thread at a seat is blocked in, returns it, and gives the thread this priority; `None`
+    /// leaves the priority as it is.
     pub fn wake(&mut self, seat: &Seat, priority: Option<Priority>) -> OpenReceive
         requires seat { IsSeatIn self.old seat.now }
         requires receives { is_some (receive_in seat.now.thread (open_in self.old seat.now.thread)) ≡ true }
@@ -198,7 +198,7 @@ impl Threads {
         }
     }
 
-    /// Ends the Send that the thread at a seat is blocked in.
+    /// Ends the Send that the thread at a seat is blocked in, and returns it.
     pub fn take_sent(&mut self, seat: &Seat) -> OpenSend
         requires seat { IsSeatIn self.old seat.now }
         requires sends { is_some (send_in seat.now.thread (open_in self.old seat.now.thread)) ≡ true }

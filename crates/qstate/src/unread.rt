@@ -1,4 +1,4 @@
-//! Messages that are sent and not yet received: with such a message its thread is SEND-blocked.
+//! Messages that are sent and not yet received: the sender of each is SEND-blocked.
 
 ghost use Rattle.std.specs.Prelude.{◌≡◌};
 ghost use Rattle.qstate.specs.Thread.{open_in};
@@ -25,7 +25,7 @@ pub struct Unread {
 }
 
 impl Thread {
-    /// The message that it waits for the receipt of.
+    /// Returns the thread's message, if the message isn't received yet.
     pub fn unread(&self) -> Option<Unread>
         ensures { result ≡ unread_in self.now.open_call }
     {
@@ -45,8 +45,8 @@ impl Thread {
 }
 
 impl Threads {
-    /// Gives the message with which the thread at a seat is SEND-blocked another priority, on the channel on
-    /// which it waits; if the thread isn't SEND-blocked nothing moves. Takes no memory.
+    /// Gives the message with which the thread at a seat is SEND-blocked another priority in its channel's queue. Does
+    /// nothing if the thread isn't SEND-blocked. Takes no memory.
     pub fn requeue_unread(
         &self,
         connections: &Connections,

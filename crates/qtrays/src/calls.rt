@@ -1,5 +1,5 @@
-//! What the seats do. Every load, store and exchange of a word is sequentially consistent in `atomic_table`; beside
-//! each stands what is needed of it.
+//! The steps of the seats. Every load, store and exchange of a word is sequentially consistent in `atomic_table`; a
+//! comment beside each says which ordering would be enough.
 
 ghost use Rattle.std.specs.Prelude.{◌≡◌, ◌<◌, is_some, true, Some, None, MatchOption};
 ghost use Rattle.qtrays.specs.Words.{tray_count, asked, serving, holder_id, poster_id, tray_number, IsHolderOf, IsPosterOf};
@@ -23,7 +23,7 @@ const SERVING: u64 = 2;
 const ANSWERED: u64 = 3;
 
 impl<Q: Drop, A: Drop> HolderSeat<Q, A> {
-    /// Takes the request out of a tray, if one lies in it. It tries once and waits for nobody.
+    /// Takes the request out of a tray; `None` if there is none. It tries once and doesn't wait.
     pub fn take<S: Service<Q, A>>(&mut self, trays: &Trays<Q, A, S>, tray: usize) -> Option<Q>
         requires trays { IsHolderOf trays.now self.old }
         requires tray { tray < tray_count trays.now }
@@ -65,7 +65,7 @@ impl<Q: Drop, A: Drop> HolderSeat<Q, A> {
 }
 
 impl<Q: Drop, A: Drop> PosterSeat<Q, A> {
-    /// The number of the poster's tray.
+    /// Returns the number of the poster's tray.
     pub fn tray(&self) -> usize
         ensures number { result ≡ tray_number self.now }
         ensures within { result < (poster_id self.now).slots }
@@ -89,7 +89,7 @@ impl<Q: Drop, A: Drop> PosterSeat<Q, A> {
         shared.store::<Ask>(&mut self.seat, word_of(tray), ASKED);
     }
 
-    /// Takes the answer, if it came. It tries once and waits for nobody.
+    /// Takes the answer; `None` if there is none yet. It tries once and doesn't wait.
     pub fn collect<S: Service<Q, A>>(&mut self, trays: &Trays<Q, A, S>) -> Option<A>
         requires trays { IsPosterOf trays.now self.old }
         requires asked { is_some (asked self.old) ≡ true }

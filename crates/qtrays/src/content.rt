@@ -1,6 +1,6 @@
-//! What lies in a tray.
+//! The content of a tray.
 
-/// What lies in a tray: a request, or the answer to one.
+/// The content of a tray: a request, or the answer to one.
 #[derive(Drop)]
 pub enum Content<Q, A> {
     Request(Q),

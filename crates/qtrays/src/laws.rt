@@ -1,5 +1,5 @@
-//! What the rule of the trays comes to. The function does nothing: its contract is a law that is proved of every
-//! state that keeps the rule, and so of every state between two steps.
+//! The law of the trays. The function does nothing: its contract is a law that is proved of every state that keeps the
+//! rule, and so of every state between two steps.
 
 ghost use Rattle.qtrays.specs.Laws.{ServedWasAsked, AnswersTheRequest};
 

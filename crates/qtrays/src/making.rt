@@ -16,7 +16,7 @@ use atomic_table::{Seat, Shared, Table};
 use qbase::errno::Errno;
 use std::alloc::{AllocError, Global};
 
-/// The most trays that there may be.
+/// The greatest number of trays.
 const LIMIT: usize = 64;
 
 /// The poster has the slot.
@@ -25,10 +25,10 @@ const IDLE: u64 = 0;
 /// The poster didn't take the tray over.
 const FRESH: u64 = 4;
 
-/// Trays with the seat that answers them, and for each the seat that posts in it.
+/// Trays, the seat that answers them, and for each tray the seat that posts in it.
 type Made<Q, A, S> = (Trays<Q, A, S>, HolderSeat<Q, A>, Vec<PosterSeat<Q, A>>);
 
-/// The seat of the next poster, which takes its tray over.
+/// Makes the seat of the next poster, which takes its tray over.
 fn next_seat<Q: Drop, A: Drop, S: Service<Q, A>>(
     shared: &Shared<Option<Content<Q, A>>, View<Q>, usize, TrayRule<Q, A, S>>,
     seat: &mut Seat<Option<Content<Q, A>>, View<Q>>,
@@ -45,7 +45,7 @@ fn next_seat<Q: Drop, A: Drop, S: Service<Q, A>>(
     PosterSeat { tray, seat: poster }
 }
 
-/// So many idle trays.
+/// Makes `count` idle trays.
 fn make_trays<Q: Drop, A: Drop, S: Service<Q, A>>(
     alloc: Global,
     count: usize,
@@ -64,14 +64,15 @@ fn make_trays<Q: Drop, A: Drop, S: Service<Q, A>>(
 }
 
 impl<Q: Drop, A: Drop, S: Service<Q, A>> Trays<Q, A, S> {
-    /// How many trays there are.
+    /// Returns the number of trays.
     pub fn count(&self) -> usize
         ensures { result ≡ tray_count self.now }
     {
         self.table.slot_count()
     }
 
-    /// So many trays, at most 64, the seat that answers them, and for each the seat that posts in it.
+    /// Makes `count` trays, the seat that answers them, and for each tray the seat that posts in it. `Inval` if there
+    /// would be more than 64, and `NoMemory` if the allocator refuses.
     pub fn new(
         alloc: Global,
         count: usize,

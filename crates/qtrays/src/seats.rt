@@ -7,14 +7,14 @@ use crate::content::Content;
 use crate::view::View;
 use atomic_table::Seat;
 
-/// What answers the requests of all trays. Who holds the lock has it.
+/// The right to answer the requests of all trays. The holder of the lock has it.
 #[derive(Drop)]
 pub struct HolderSeat<Q, A> {
     pub(crate) seat: Seat<Option<Content<Q, A>>, View<Q>>,
     ghost knows: { IsHolder seat },
 }
 
-/// What posts the requests of one thread.
+/// The right to post the requests of one thread.
 #[derive(Drop)]
 pub struct PosterSeat<Q, A> {
     pub(crate) tray: usize,

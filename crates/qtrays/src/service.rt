@@ -1,6 +1,6 @@
-//! Which answers a request may get.
+//! The answers that a request may get.
 
-/// Which answers a request may get. It is chosen by the user of the trays, and is all that the trays know of requests.
+/// The answers that a request may get. The user of the trays chooses them; the trays know nothing else of requests.
 pub trait Service<Q, A> {
     ghost answers: { Q → A → Type 0 };
 }

@@ -10,12 +10,11 @@ use crate::view::View;
 use atomic_table::Table;
 use std::alloc::Global;
 
-/// How far the words of two trays are from each other: so far that each has a cache line of its own, and a thread that
-/// looks at its own word doesn't pay for what is done to its neighbours'. The words between aren't used.
+/// The distance between the words of two trays. Each word has a cache line of its own, so that a thread that looks at
+/// its word doesn't pay for changes of its neighbours'. The words between aren't used.
 pub(crate) const STRIDE: usize = 8;
 
-/// Which of the table's words is that of a tray. Other words would be as safe, and at worst slower, as long as no two
-/// trays have the same one.
+/// Returns the index of a tray's word in the table. Any other choice is as safe as long as no two trays share a word.
 pub(crate) fn word_of(tray: usize) -> usize
     requires { tray < 64 }
     ensures word { result ≡ tray * 8 }

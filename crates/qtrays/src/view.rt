@@ -1,14 +1,14 @@
-//! What a seat knows. Contracts and the rule speak of these types; no value of them is made.
+//! The knowledge of a seat. Contracts and the rule use these types; the code makes no value of them.
 
-/// What the holder's seat knows.
+/// The knowledge of the holder's seat.
 pub struct Desk<Q> {
-    /// How many posters' seats were made.
+    /// The number of posters' seats that were made.
     pub seats: u64,
     /// The request that was taken and isn't answered yet, with the number of its tray.
     pub serving: Option<(u64, Q)>,
 }
 
-/// What the seat of a poster knows.
+/// The knowledge of a poster's seat.
 pub struct Hand<Q> {
     /// The number of the poster's tray.
     pub tray: u64,
@@ -18,7 +18,7 @@ pub struct Hand<Q> {
     pub asked: Option<Q>,
 }
 
-/// What a seat at the table knows.
+/// The knowledge of a seat at the table.
 pub enum View<Q> {
     /// The holder's seat.
     Holder(Desk<Q>),

@@ -44,7 +44,8 @@ impl Simulator {
     }
 
     /// Detaches a connection of the thread's process, and cuts each send over it (`ConnectDetach`). Refused with
-    /// `Inval` if the connection isn't live or is another process's, and `Again` if a pulse is due at 1,024 of them.
+    /// `Inval` if the connection isn't live or is another process's, and `Again` if a pulse is due and 1,024 pulses
+    /// wait on the channel.
     pub fn connect_detach(&mut self, thread: ThreadNo, coid: ConnectionId) -> Result<(), CallError>
         ensures { Simulates (at_once done_in) thread (Call.ConnectDetach coid) self.old self.new result }
     {

@@ -1,4 +1,4 @@
-//! Endings that wait for their threads.
+//! Endings that are kept for their threads.
 
 ghost use Rattle.std.specs.Prelude.{◌≡◌, ◌+◌, ◌≤◌, ◌++◌, [], is_some, position, slice_get, vec_len, vec_capacity};
 ghost use Rattle.arrayvec.specs.ArrayVec.{array_vec_len};
@@ -8,7 +8,7 @@ use qbase::ids::ThreadNo;
 use qmodel::call::Completion;
 use qstate::endings::Endings;
 
-/// Moves the endings of one event behind those that are kept, for which there is room.
+/// Moves the endings of one event to the end of those that are kept, for which there is room.
 pub(super) fn append(kept: &mut Vec<Completion>, endings: &mut Endings)
     requires { vec_len kept.old + array_vec_len endings.old ≤ vec_capacity kept.old }
     ensures items { kept.new.items ≡ kept.old.items ++ endings.old.items }
@@ -20,14 +20,14 @@ pub(super) fn append(kept: &mut Vec<Completion>, endings: &mut Endings)
     }
 }
 
-/// The place of the first ending of a thread.
+/// Returns the index of the first ending of a thread.
 fn place_of(kept: &[Completion], thread: ThreadNo) -> Option<usize>
     ensures { result ≡ position (is_of thread) kept.now }
 {
     kept.iter().position(|ending| ending.thread == thread)
 }
 
-/// Whether there is an ending of a thread.
+/// Returns whether there is an ending of a thread.
 pub(super) fn has(kept: &[Completion], thread: ThreadNo) -> bool
     ensures { result ≡ is_some (ending_of thread kept.now) }
 {

@@ -12,9 +12,9 @@ use qbase::ids::{ChannelId, ConnectionId, ReceiveId, ThreadNo};
 use qmodel::call::{Call, Info};
 
 impl Simulator {
-    /// Sends a message over a connection, to be answered in a buffer of so many bytes (`MsgSend`). The thread is
-    /// blocked until the answer, which `Ending::answer` returns. Refused with `Badf` if the connection isn't live, is
-    /// another process's, or its channel isn't open.
+    /// Sends a message over a connection, to be answered in a reply buffer of `reply_len` bytes (`MsgSend`). The thread
+    /// is blocked until the answer, which `Ending::answer` returns. Refused with `Badf` if the connection isn't live,
+    /// is another process's, or its channel isn't open.
     pub fn msg_send(
         &mut self,
         thread: ThreadNo,
@@ -37,8 +37,8 @@ impl Simulator {
         }
     }
 
-    /// Takes a message, into a buffer of so many bytes, or a pulse of a channel (`MsgReceive`). If there is none, the
-    /// thread is blocked until one comes, which `Ending::received` returns. Refused with `Srch` if the channel isn't
+    /// Takes a message, into a buffer of `len` bytes, or a pulse of a channel (`MsgReceive`). If there is none, the
+    /// thread is blocked until one arrives, which `Ending::received` returns. Refused with `Srch` if the channel isn't
     /// open or is another process's.
     pub fn msg_receive(
         &mut self,
@@ -76,7 +76,7 @@ impl Simulator {
     }
 
     /// Answers a held message with a code and no bytes; the code 0 is a reply of status 0 (`MsgError`). Refused as
-    /// `msg_reply`.
+    /// `msg_reply` is.
     pub fn msg_error(
         &mut self,
         thread: ThreadNo,
@@ -88,7 +88,7 @@ impl Simulator {
         self.complete(thread, Call::Error { rcvid, code })?.done()
     }
 
-    /// Reads at most so many bytes of a held message, from the offset on (`MsgRead`). Refused as `msg_reply`.
+    /// Reads at most `len` bytes of a held message, from the offset on (`MsgRead`). Refused as `msg_reply` is.
     pub fn msg_read(
         &mut self,
         thread: ThreadNo,
@@ -107,8 +107,8 @@ impl Simulator {
         self.complete(thread, read)?.bytes()
     }
 
-    /// Writes bytes over the reply buffer of a held message's sender, from the offset on, and returns how many had
-    /// room (`MsgWrite`). Refused as `msg_reply`.
+    /// Writes bytes into the reply buffer of a held message's sender, from the offset on, and returns the number of
+    /// bytes for which there was room (`MsgWrite`). Refused as `msg_reply` is.
     pub fn msg_write(
         &mut self,
         thread: ThreadNo,
@@ -127,8 +127,8 @@ impl Simulator {
         self.complete(thread, write)?.count()
     }
 
-    /// Tells of a held message: its sender, its connection, and its lengths in bytes (`MsgInfo`). Refused as
-    /// `msg_reply`.
+    /// Returns the data of a held message: its sender, its connection, and its lengths in bytes (`MsgInfo`). Refused as
+    /// `msg_reply` is.
     pub fn msg_info(&mut self, thread: ThreadNo, rcvid: ReceiveId) -> Result<Info, CallError>
         ensures { Simulates (at_once info_in) thread (Call.Info rcvid) self.old self.new result }
     {

@@ -12,7 +12,7 @@ use qmodel::call::Call;
 
 impl Simulator {
     /// Sends a pulse with a code, 0 to 127, and a value over a connection; the thread isn't blocked (`MsgSendPulse`).
-    /// Refused with `Badf` as `msg_send`, `Inval` if the code is below 0, and `Again` if 1,024 pulses wait on the
+    /// Refused with `Badf` as `msg_send` is, `Inval` if the code is below 0, and `Again` if 1,024 pulses wait on the
     /// channel.
     pub fn msg_send_pulse(
         &mut self,
@@ -33,8 +33,8 @@ impl Simulator {
         self.complete(thread, pulse)?.done()
     }
 
-    /// Takes a pulse of a channel; messages stay (`MsgReceivePulse`). If there is none, the thread is blocked until
-    /// one comes, which `Ending::pulse` returns. Refused with `Srch` if the channel isn't open or is another
+    /// Takes a pulse of a channel; messages stay queued (`MsgReceivePulse`). If there is none, the thread is blocked
+    /// until one arrives, which `Ending::pulse` returns. Refused with `Srch` if the channel isn't open or is another
     /// process's.
     pub fn msg_receive_pulse(
         &mut self,

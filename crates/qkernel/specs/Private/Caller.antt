@@ -1,4 +1,4 @@
--- The caller, and what its call's own method makes of the kernel.
+-- The caller, and how its call's own method changes the kernel.
 use Rattle.std.specs.Prelude.{◌≡◌, ℕ, ◌+◌, false, List, [], ◌∷◌, None, Some, Result, Ok, Err}
 use Rattle.qbase.specs.declared.errno.Errno.{Errno}
 use Rattle.qtables.specs.Members.{member_at}
@@ -23,14 +23,14 @@ state_before caller s = record {
   connections = s.connections;
 }
 
--- the caller is the thread at its seat among these, and of its process
+-- the caller is the thread at its seat in the roster, and its process is that thread's
 pub record IsCallerIn (threads : List Thread) (caller : Caller) : Type 0 where
   pub seat : IsSeatIn threads caller.seat
   pub began : ℕ
   pub known : member_at (members_of threads) caller.seat.thread
       ≡ Some (record { thread = caller.seat.thread; process = caller.process; priority = began })
 
--- the call of this caller may be made: it is counted and nothing else is done yet, no call has ended, the
+-- the call of this caller may be made: it is counted and nothing else was done yet, no call has ended, the
 -- kernel isn't shut down, and the caller isn't blocked
 pub record MayCall (s : State) (caller : Caller) (endings : List Completion) : Type 0 where
   pub counted : s.made ≡ caller.made + 1
@@ -40,16 +40,16 @@ pub record MayCall (s : State) (caller : Caller) (endings : List Completion) : T
   pub free : open_in s.threads caller.seat.thread ≡ None
   pub none : endings ≡ []
 
--- the call of this caller, from the content before it was counted
+-- the call of this caller is made, with the content before it was counted as its start
 abbrev pub Makes : State → Caller → Call → List Completion → State → Type 0
 Makes old caller c endings new = Steps (state_before caller old) caller.seat.thread c endings new
 
--- how the call of this caller ends that is refused and gives no buffer back
+-- the completion of this caller's call if it is refused and gives no buffer back
 abbrev pub refusal_of_caller : Caller → Errno → Completion
 refusal_of_caller caller e =
     record { call = caller.made + 1; thread = caller.seat.thread; mark = mark.Failed e; buffer = [] }
 
--- the call is made with these endings; or it is refused with an error, and none is put yet
+-- the call is made with these endings; or it is refused with an error, and there are no endings yet
 abbrev pub MakesOrRefuses : {T : Type 0} → State → Caller → Call → Result T Errno → List Completion → State
     → Type 0
 MakesOrRefuses old caller c (Ok done) endings new = Makes old caller c endings new

@@ -26,7 +26,7 @@ facts_in s = record {
   priority = λ t. thread_priority s.threads t;
 }
 
--- the call is answered so, accepted or refused, and its content follows
+-- the call is accepted or refused with these endings, and the kernel's content changes as the call says
 pub record Step (old : State) (t : ℕ) (c : Call) (accepted : Bool) (endings : List Completion)
     (new : State) : Type 0 where
   pub answer : Outcome accepted (facts_in old) t c endings

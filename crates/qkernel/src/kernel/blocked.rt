@@ -1,4 +1,4 @@
-//! Who is blocked.
+//! The threads that are blocked.
 
 ghost use Rattle.std.specs.Prelude.{◌≡◌, ◌++◌, List, Some, is_some, IfOk, OnOk};
 ghost use Rattle.qstate.specs.Thread.{open_in};
@@ -19,7 +19,7 @@ use qstate::thread_state::state_of_wait;
 use qtables::connections::Connections;
 use std::alloc::{AllocError, Global};
 
-/// Adds what is known of a thread, if it is blocked.
+/// Adds the record of a thread to the list, if the thread is blocked.
 fn push_blocked(
     list: &mut Vec<Blocked>,
     connections: &Connections,
@@ -41,7 +41,7 @@ fn push_blocked(
 impl Kernel {
     ghost use Rattle.qkernel.specs.Stands.{StandsAt};
 
-    /// Whether the thread is blocked. One that isn't in the roster isn't.
+    /// Returns whether the thread is blocked; false if it isn't in the roster.
     pub fn is_blocked(&self, thread: ThreadNo) -> bool
         ensures { result ≡ is_some (open_in self.now.threads thread) }
     {
@@ -51,7 +51,7 @@ impl Kernel {
         }
     }
 
-    /// The threads that are blocked, in rising number, for a text of what a run left. The list is all that
+    /// Returns the threads that are blocked, in rising number, for a report of how a run ended. The list is all that
     /// takes memory.
     pub fn blocked(&self, alloc: Global) -> Result<Vec<Blocked>, AllocError>
         ensures { (roster : List Member) (past : Trace) → StandsAt roster self.now past → IfOk result (λ list. list.items ≡ blocked_threads (facts_of roster past)) }

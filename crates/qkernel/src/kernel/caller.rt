@@ -1,4 +1,4 @@
-//! Who makes a call, and how the call ends.
+//! The caller of a call, and the completion of its call.
 
 ghost use Rattle.std.specs.Prelude.{◌≡◌, ◌+◌, ◌<◌, ◌^◌, [], ◌∷◌, Some};
 ghost use Rattle.qstate.specs.Thread.{SetsOpen};
@@ -17,7 +17,7 @@ use std::alloc::Global;
 /// The caller of a call.
 #[derive(Clone, Copy, Debug)]
 pub(crate) struct Caller {
-    /// How many calls were made before its call, whose number is one more.
+    /// The number of calls that were made before its call. The call's own number is one more.
     pub(crate) made: u64,
     /// Its seat.
     pub(crate) seat: Seat,
@@ -29,21 +29,21 @@ pub(crate) struct Caller {
 }
 
 impl Caller {
-    /// The number of its call.
+    /// Returns the number of the caller's call.
     pub(crate) fn number(&self) -> u64
         ensures { result ≡ self.now.made + 1 }
     {
         self.made + 1
     }
 
-    /// Its thread.
+    /// Returns the caller's thread.
     pub(crate) fn thread(&self) -> ThreadNo
         ensures { result ≡ self.now.seat.thread }
     {
         self.seat.thread()
     }
 
-    /// The completion of its call, with a buffer.
+    /// Returns the completion of the caller's call, with a buffer.
     #[inline(always)]
     pub(crate) fn ending_with(&self, mark: Mark, buffer: Bytes) -> Completion
         ensures { result ≡ record { call = self.now.made + 1; thread = self.now.seat.thread; mark = mark; buffer = buffer } }
@@ -56,14 +56,14 @@ impl Caller {
         }
     }
 
-    /// The completion of its call, with no buffer.
+    /// Returns the completion of the caller's call, with an empty buffer.
     pub(crate) fn ending(&self, mark: Mark) -> Completion
         ensures { result ≡ record { call = self.now.made + 1; thread = self.now.seat.thread; mark = mark; buffer = [] } }
     {
         self.ending_with(mark, Bytes::new(self.alloc))
     }
 
-    /// Refuses its call, which gets its buffer back.
+    /// Refuses the caller's call with an error; the call gets its buffer back.
     pub(crate) fn refuse(&self, endings: &mut Endings, errno: Errno, buffer: Bytes)
         requires { endings.old.items ≡ [] }
         ensures { endings.new.items ≡ record { call = self.now.made + 1; thread = self.now.seat.thread; mark = Mark.Failed errno; buffer = buffer } ∷ [] }
@@ -71,7 +71,8 @@ impl Caller {
         put(endings, self.ending_with(Mark::Failed(errno), buffer));
     }
 
-    /// Blocks it in its call. The key is that of its message in the queue of the channel, if the call waits there.
+    /// Blocks the caller in its call. `key` is the key of its message in the channel's queue, if the message waits
+    /// there.
     #[inline(always)]
     pub(crate) fn block(&self, threads: &mut Threads, wait: Wait, key: usize)
         requires { IsSeatIn threads.old self.now.seat }

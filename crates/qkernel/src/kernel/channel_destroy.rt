@@ -12,9 +12,9 @@ use qstate::endings::Endings;
 impl Kernel {
     ghost use Rattle.qkernel.specs.Private.Caller.{MayCall, MakesOrRefuses};
 
-    /// Destroys a channel of the caller's process, after each call that is blocked on it has ended with
-    /// `Srch`. What waits there is gone, and the connections to it stay: our own profile. Never blocks, and
-    /// takes no memory.
+    /// Destroys a channel of the caller's process, after each call that is blocked on it has ended with `Srch`. The
+    /// messages and pulses that wait there are dropped, and the connections to it stay: our own profile. Never blocks,
+    /// and takes no memory.
     pub(super) fn channel_destroy(
         &mut self,
         caller: &Caller,

@@ -15,7 +15,7 @@ use qstate::channel::{own_connection, tells_detached};
 use qstate::endings::{Endings, put_if};
 use qstate::pulses::send_due;
 
-/// The pulse that tells of a process's last connection, if it is that.
+/// Returns the pulse that tells a server that a process has detached its last connection; `None` if it isn't the last.
 fn pulse_for(last: bool, number: u64, priority: Priority, process: ProcessNo) -> Option<Item>
     ensures { result ≡ (if last then Some (disconnect_item number priority process) else None) }
 {
@@ -33,9 +33,9 @@ fn pulse_for(last: bool, number: u64, priority: Priority, process: ProcessNo) ->
 impl Kernel {
     ghost use Rattle.qkernel.specs.Private.Caller.{MayCall, MakesOrRefuses};
 
-    /// Detaches a connection of the caller's process, after each Send over it has ended with `Badf`. Where it
-    /// was the last one of the process to a channel with the disconnect flag, the channel's server gets a
-    /// pulse of the caller's priority. Never blocks, and takes memory for a pulse that waits alone.
+    /// Detaches a connection of the caller's process, after each Send over it has ended with `Badf`. If it was the
+    /// process's last connection to a channel with the disconnect flag, the channel's server gets a pulse of the
+    /// caller's priority. Never blocks, and takes memory only if that pulse is queued.
     pub(super) fn connect_detach(
         &mut self,
         caller: &Caller,

@@ -10,7 +10,7 @@ use qbase::ids::ReceiveId;
 use qmodel::call::{Call, Mark};
 use qstate::endings::{Endings, put};
 
-/// The mark of the sender's call: the code 0 is a reply of status 0 with no bytes, our own profile.
+/// Returns the mark of the sender's call: the code 0 is a reply of status 0 with no bytes, our own profile.
 fn mark(code: i32) -> Mark
     ensures { result ≡ mark_of code }
 {
@@ -27,7 +27,7 @@ fn mark(code: i32) -> Mark
 impl Kernel {
     ghost use Rattle.qkernel.specs.Private.Caller.{MayCall, MakesOrRefuses};
 
-    /// Answers a held message with a code and no bytes: its sender's call ends. Never blocks, and takes no
+    /// Answers a held message with a code and no bytes, which ends its sender's call. Never blocks, and takes no
     /// memory.
     pub(super) fn error(
         &mut self,

@@ -1,4 +1,4 @@
-//! What a call looks up for its caller, and the error that refuses it if that isn't there.
+//! What a call looks up for its caller, and the error that refuses the call if it isn't found.
 
 ghost use Rattle.std.specs.Prelude.{◌≡◌, Some, true, false, IfOk, IfErr};
 ghost use Rattle.qstate.specs.Held.{is_held_in};
@@ -16,7 +16,7 @@ use qbase::priority::Priority;
 use qstate::seat::Seat;
 
 impl Kernel {
-    /// The caller's priority.
+    /// Returns the caller's priority.
     pub(super) fn priority(&self, caller: &Caller) -> Priority
         requires { IsSeatIn self.now.threads caller.now.seat }
         ensures { result ≡ thread_priority self.now.threads caller.now.seat.thread }
@@ -24,8 +24,8 @@ impl Kernel {
         self.threads.record(&caller.seat).priority
     }
 
-    /// The seat of the thread whose message is held under this id on a channel of the caller's process; `Srch`
-    /// if there is none.
+    /// Returns the seat of the thread whose message is held under this receive id on a channel of the caller's process;
+    /// `Srch` if there is none.
     #[inline(always)]
     pub(super) fn holder(&self, caller: &Caller, rcvid: ReceiveId) -> Result<Seat, Errno>
         ensures held { IfOk result (λ seat. is_held_in self.now.threads self.now.connections self.now.channels caller.now.process rcvid ≡ true) }
@@ -40,7 +40,8 @@ impl Kernel {
         seat.ok_or(Errno::Srch)
     }
 
-    /// The seat of a thread of the caller's process; `Srch` if it is none.
+    /// Returns the seat of a thread of the caller's process; `Srch` if the thread isn't in the roster or is another
+    /// process's.
     pub(super) fn fellow(&self, caller: &Caller, target: ThreadNo) -> Result<Seat, Errno>
         ensures seat { IfOk result (λ seat. IsSeatIn self.now.threads seat) }
         ensures thread { IfOk result (λ seat. seat.thread ≡ target) }

@@ -11,9 +11,9 @@ impl Kernel {
     ghost use Rattle.qkernel.specs.Stands.{InfoAtTraces};
     ghost use Rattle.qkernel.specs.Private.Caller.{MayCall, MakesOrRefuses};
 
-    /// What `Info` tells of a message, without a call: it takes no number, and no thread asks for it. `None`
-    /// where no message is held under this id; whose process owns its channel isn't looked at. For who tells
-    /// a receiver, with the message that it took, who sent it.
+    /// Returns what `Info` returns of a message, but makes no call: nothing is counted, and no thread asks. `None` if
+    /// no message is held under this receive id. The process that owns the message's channel isn't checked. It serves
+    /// to hand a receiver the sender's data along with the message.
     pub fn message_info(&self, rcvid: ReceiveId) -> Option<Info>
         ensures { InfoAtTraces self.now rcvid result }
     {
@@ -21,7 +21,7 @@ impl Kernel {
         self.threads.record(&sender).info()
     }
 
-    /// Tells of a held message. Changes nothing, never blocks, and takes no memory.
+    /// Answers with the data of a held message. Changes nothing, never blocks, and takes no memory.
     pub(super) fn info(
         &mut self,
         caller: &Caller,

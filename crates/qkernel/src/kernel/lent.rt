@@ -1,4 +1,4 @@
-//! A call whose bytes are lent.
+//! Making a call that borrows its bytes.
 
 ghost use Rattle.std.specs.Prelude.{◌≡◌, ◌+◌, ◌<◌, ◌≤◌, ◌^◌, [], length, is_some, true};
 ghost use Rattle.qtables.specs.Members.{member_at};
@@ -22,7 +22,8 @@ impl Kernel {
     ghost use Rattle.qkernel.specs.Stands.{AnswersAtTraces, LeavesIfRefused};
     ghost use Rattle.qkernel.specs.Private.Caller.{MayCall, MakesOrRefuses};
 
-    /// Makes a counted call that nothing refuses whichever call it is, by the call's own method.
+    /// Makes a call by its own method, after it was counted and `refusal` found no error. An `Err` is the error of a
+    /// refusal.
     fn make_lent(
         &mut self,
         caller: &Caller,
@@ -46,7 +47,8 @@ impl Kernel {
         }
     }
 
-    /// Makes one call of the thread at a seat: it is counted, and then refused whichever call it is, or made.
+    /// Counts a call of the thread at a seat, and then makes it, or refuses it if the kernel is shut down or the thread
+    /// is blocked.
     fn perform_lent(&mut self, seat: &Seat, call: &LentCall, endings: &mut Endings)
         requires limit { self.old.made < 2 ^ 40 }
         requires seat { IsSeatIn self.old.threads seat.now }
@@ -65,7 +67,8 @@ impl Kernel {
         }
     }
 
-    /// `step` of a call whose bytes are lent: they are copied once, into the reply buffer.
+    /// Makes one call as `step` does, but of a call that borrows its bytes: they are copied once, into the reply
+    /// buffer.
     pub fn step_lent(&mut self, thread: ThreadNo, call: &LentCall, endings: &mut Endings)
         requires known { is_some (member_at (members_of self.old.threads) thread) ≡ true }
         requires limit { self.old.made < 2 ^ 40 }

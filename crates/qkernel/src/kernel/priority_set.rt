@@ -11,8 +11,8 @@ use qstate::endings::{Endings, put};
 impl Kernel {
     ghost use Rattle.qkernel.specs.Private.Caller.{MayCall, MakesOrRefuses};
 
-    /// Gives a thread of the caller's process another priority, and with it the message that it is SEND-blocked
-    /// with. Never blocks, and takes no memory.
+    /// Gives a thread of the caller's process another priority, and with it the message with which it is SEND-blocked.
+    /// Never blocks, and takes no memory.
     pub(super) fn priority_set(
         &mut self,
         caller: &Caller,

@@ -14,8 +14,8 @@ use qstate::pulses::send_pulse;
 impl Kernel {
     ghost use Rattle.qkernel.specs.Private.Caller.{MayCall, MakesOrRefuses};
 
-    /// Sends a pulse: to the receiver that may take it and began to wait last, or into the channel's queue,
-    /// whose room is all that takes memory. Never blocks. That a code below 0 is refused is our own profile.
+    /// Sends a pulse: to the receiver that may take it and began to wait last, or into the channel's queue, whose room
+    /// is all that takes memory. Never blocks. A code below 0 is refused: our own profile.
     pub(super) fn pulse(
         &mut self,
         caller: &Caller,

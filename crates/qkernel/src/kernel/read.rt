@@ -10,8 +10,8 @@ use qstate::endings::{Endings, put};
 impl Kernel {
     ghost use Rattle.qkernel.specs.Private.Caller.{MayCall, Makes};
 
-    /// Copies from a held message to the front of the buffer; an offset at or past its end copies nothing.
-    /// Changes nothing, never blocks, and takes no memory.
+    /// Copies bytes of a held message, from an offset on, to the front of the buffer. An offset at or past the
+    /// message's end copies nothing. Changes nothing, never blocks, and takes no memory.
     pub(super) fn read(
         &mut self,
         caller: &Caller,

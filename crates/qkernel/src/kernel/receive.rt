@@ -16,7 +16,7 @@ use qstate::endings::{Endings, put};
 impl Kernel {
     ghost use Rattle.qkernel.specs.Private.Caller.{MayCall, Makes};
 
-    /// Takes the best message or pulse of a channel, or blocks until one comes; takes no memory.
+    /// Takes the best message or pulse of a channel, or blocks until one arrives; takes no memory.
     pub(super) fn receive(
         &mut self,
         caller: &Caller,
@@ -30,7 +30,7 @@ impl Kernel {
         self.receive_kind(caller, chid, Kind::Any, buffer, endings);
     }
 
-    /// Takes the best item that a kind may take, or blocks until one comes; takes no memory.
+    /// Takes the best item that a receive of this kind may take, or blocks until one arrives; takes no memory.
     pub(super) fn receive_kind(
         &mut self,
         caller: &Caller,

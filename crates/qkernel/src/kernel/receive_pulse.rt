@@ -11,7 +11,7 @@ use qstate::endings::Endings;
 impl Kernel {
     ghost use Rattle.qkernel.specs.Private.Caller.{MayCall, Makes};
 
-    /// Takes the best pulse of a channel, or blocks until one comes; takes no memory, and never a message.
+    /// Takes the best pulse of a channel, and never a message, or blocks until a pulse arrives; takes no memory.
     pub(super) fn receive_pulse(&mut self, caller: &Caller, chid: ChannelId, endings: &mut Endings)
         requires { MayCall self.old caller.now endings.old.items }
         ensures { Makes self.old caller.now (Call.ReceivePulse chid) endings.new.items self.new }

@@ -11,7 +11,7 @@ use qmodel::call::{Call, Completion, Mark};
 use qstate::endings::{Endings, put};
 use qstate::open::OpenSend;
 
-/// The completion of a Send that is answered: the bytes lie over the front of its reply buffer.
+/// Returns the completion of a Send that is answered: the bytes are copied to the front of its reply buffer.
 fn reply_ending(sent: OpenSend, status: i64, bytes: &[u8]) -> Completion
     ensures { result ≡ record { call = sent.number; thread = sent.thread; mark = Mark.Replied status (laid_count sent.reply_buffer 0 bytes.now); buffer = lay_over sent.reply_buffer 0 bytes.now } }
 {
@@ -23,7 +23,7 @@ fn reply_ending(sent: OpenSend, status: i64, bytes: &[u8]) -> Completion
 impl Kernel {
     ghost use Rattle.qkernel.specs.Private.Caller.{MayCall, MakesOrRefuses};
 
-    /// Answers a held message: its sender's call ends. Never blocks, and takes no memory.
+    /// Answers a held message, which ends its sender's call. Never blocks, and takes no memory.
     pub(super) fn reply(
         &mut self,
         caller: &Caller,

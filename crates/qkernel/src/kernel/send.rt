@@ -21,7 +21,7 @@ use qstate::endings::{Endings, put};
 use qstate::seat::Seat;
 use qstate::threads::Threads;
 
-/// The message that the caller sends, whose number is its call's.
+/// Returns the message that the caller sends. Its number is that of the call.
 fn message_item(caller: &Caller, priority: Priority) -> Item
     ensures { result ≡ record { number = caller.now.made + 1; priority = priority; what = What.Message } }
 {
@@ -32,8 +32,8 @@ fn message_item(caller: &Caller, priority: Priority) -> Item
     }
 }
 
-/// Ends the receive that the thread at a seat is blocked in, which takes the message: its completion, and what is
-/// kept of the receipt.
+/// Ends the receive that the thread at a seat is blocked in, which takes the message. Returns the receive's completion,
+/// and the receipt for the sender's record.
 fn deliver(
     threads: &mut Threads,
     receiver: &Seat,

@@ -10,7 +10,7 @@ use qstate::endings::{Endings, put};
 impl Kernel {
     ghost use Rattle.qkernel.specs.Private.Caller.{MayCall, MakesOrRefuses};
 
-    /// Tells the state and the priority of any thread. Changes nothing, never blocks, and takes no memory.
+    /// Answers with the state and the priority of any thread. Changes nothing, never blocks, and takes no memory.
     pub(super) fn state(
         &mut self,
         caller: &Caller,

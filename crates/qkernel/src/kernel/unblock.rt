@@ -14,7 +14,7 @@ use qstate::endings::{Endings, put, put_if};
 use qstate::held::Held;
 use qstate::pulses::send_pulse;
 
-/// The pulse that tells of a held message whose sender is to be unblocked.
+/// Returns the pulse that tells a server that the sender of a held message is to be unblocked.
 fn pulse_for(number: u64, held: &Held) -> Item
     ensures { result ≡ unblock_item number held.now.receipt.priority held.now.rcvid }
 {
@@ -28,10 +28,10 @@ fn pulse_for(number: u64, held: &Held) -> Item
 impl Kernel {
     ghost use Rattle.qkernel.specs.Private.Caller.{MayCall, MakesOrRefuses};
 
-    /// Ends what a thread of the caller's process is blocked in, with `Intr`; but a message that is held on a
-    /// channel with the unblock flag stays, and its server gets a pulse, once. Of a thread that isn't blocked
-    /// nothing changes. It stands for a signal or a timeout: our own profile. Never blocks, and takes memory
-    /// for a pulse that waits alone.
+    /// Ends the call in which a thread of the caller's process is blocked, with `Intr`; but if its message is held on a
+    /// channel with the unblock flag, the call stays and the server gets a pulse, once. If the thread isn't blocked,
+    /// nothing changes. It stands for a signal or a timeout: our own profile. Never blocks, and takes memory only if
+    /// that pulse is queued.
     pub(super) fn unblock(
         &mut self,
         caller: &Caller,

@@ -10,8 +10,8 @@ use qstate::endings::{Endings, put};
 impl Kernel {
     ghost use Rattle.qkernel.specs.Private.Caller.{MayCall, MakesOrRefuses};
 
-    /// Copies bytes over the reply buffer of a held message's sender, which stays blocked; an offset at or
-    /// past the buffer's end copies nothing. Never blocks, and takes no memory.
+    /// Copies bytes into the reply buffer of a held message's sender, from an offset on; the sender stays blocked. An
+    /// offset at or past the buffer's end copies nothing. Never blocks, and takes no memory.
     pub(super) fn write(
         &mut self,
         caller: &Caller,

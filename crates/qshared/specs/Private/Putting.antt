@@ -10,7 +10,7 @@ use Rattle.qshared.specs.Due.{of_thread, place}
 abbrev pub MayPut : List ℕ → Desk Completion → Completion → Type 0
 MayPut threads d x = (i : ℕ) × (place threads x.thread ≡ Some i) × ((line d i).opened ≡ true)
 
--- these endings were put, each into its thread's cell, and all else is as it was
+-- these endings were put, each into its thread's cell, and nothing else changes
 pub record Handed (threads : List ℕ) (X : List Completion) (d d' : Desk Completion) : Type 0 where
   pub put : (t i : ℕ) → place threads t ≡ Some i → (line d' i).put ≡ (line d i).put ++ of_thread t X
   pub opened : (t i : ℕ) → place threads t ≡ Some i

@@ -27,7 +27,7 @@ abbrev pub MayCopy : List ℕ → List ℕ → Completion → Type 0
 MayCopy threads rooms x =
     (i : ℕ) × (place threads x.thread ≡ Some i) × (length x.buffer ≤ slice_index_or rooms i 0)
 
--- these endings were copied, each into its thread's room, and the rooms of the others are as they were
+-- these endings were copied, each into its thread's room, and the other threads' rooms are as they were
 pub record Copied (threads : List ℕ) (X : List Completion) (rooms rooms' : List ℕ) : Type 0 where
   pub room : (t i : ℕ) → place threads t ≡ Some i → gets X t ≡ false
       → slice_index_or rooms' i 0 ≡ slice_index_or rooms i 0
@@ -40,8 +40,8 @@ pub record HasRoomFor (limit : ℕ) (log : Logged) (noted : Call) (room : ℕ) :
   pub event : (noted ≡ Shutdown)
       ⊎ ((length log.events + 1 < limit) × (2 ≤ log.call_room) × (128 ≤ log.ending_room))
 
--- what is so of a kept past: it is within its limit, and until the kernel is shut down there is room for
--- one event more, and one of the limit is left
+-- the invariant of a kept past: it is within its limit, and until the kernel is shut down there is room for
+-- one more event, and one event of the limit is left
 pub record IsKept (roster : List Member) (limit : ℕ) (threads rooms : List ℕ) (log : Logged) (noted : Call)
     (room : ℕ) (ready : Bool) : Type 0 where
   pub rises : IsRoster roster

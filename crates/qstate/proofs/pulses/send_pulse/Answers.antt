@@ -25,11 +25,13 @@ returns-in-Ok-clause-ok c =
 
 pub returns-in-Err-clause-err : goal.returns-in-Err-clause-err
 returns-in-Err-clause-err c =
-    let there = sym c.in-Some.ensures.value in
-    (refl, inr (record {
-      room = rw (there, ← c.pulses.ensures) (lt-ltb c.pulses.result 1024 c.if-pulses-ge-PULSE_LIMIT.false);
-      nobody = sym c.newest_receiver.ensures.newest ∙ ap (option_map (λ s. s.thread)) c.in_default-newest_receiver.is;
-      sets = sets_items c.args.channels.now c.args.chid c.in-Some.channel.now c.enqueue.new.self _ there c.enqueue.ensures.owner c.enqueue.ensures.flags
-          (c.in-Err.ensures.err ∙ sym (ap items_waiting_on there));
-      error = c.in-Err.ensures.error;
-    }))
+    let there = sym c.in-Some.ensures.value in (
+      refl,
+      inr (record {
+        room = rw (there, ← c.pulses.ensures) (lt-ltb c.pulses.result 1024 c.if-pulses-ge-PULSE_LIMIT.false);
+        nobody = sym c.newest_receiver.ensures.newest ∙ ap (option_map (λ s. s.thread)) c.in_default-newest_receiver.is;
+        sets = sets_items c.args.channels.now c.args.chid c.in-Some.channel.now c.enqueue.new.self _ there c.enqueue.ensures.owner c.enqueue.ensures.flags
+            (c.in-Err.ensures.err ∙ sym (ap items_waiting_on there));
+        error = c.in-Err.ensures.error;
+      }),
+    )
