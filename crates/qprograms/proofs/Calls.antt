@@ -1,0 +1,19 @@
+-- The next call of a thread.
+use Rattle.std.proofs.Common.{◌≡◌, ℕ, List, refl}
+use Rattle.std.specs.Prelude.{is_some, not, option_map, None, Option, Some}
+use Rattle.qmodel.specs.declared.call.Call.{Call}
+use Rattle.qprograms.specs.declared.design.Design.{Design}
+use Rattle.qprograms.specs.declared.design.Target.{Target}
+use Rattle.qprograms.specs.declared.design.Target.TheVariants as target
+use Rattle.qprograms.specs.declared.machine.standing.Standing.{Standing}
+use Rattle.qprograms.specs.Machine.{call_naming, lacks_target, number_named, with_id}
+
+mapped : {A B : Type 0} (f : A → B) (o : Option A) → not (not (is_some o)) ≡ is_some (option_map f o)
+mapped f None = refl
+mapped f (Some x) = refl
+
+-- it makes its call unless the call lacks what it names
+pub naming_is : (d : Design) (w : List Standing) (seat : ℕ) (c : Call) (t : Target) → not (lacks_target d w seat t) ≡ is_some (call_naming d w seat c t)
+naming_is d w seat c target.Nothing = refl
+naming_is d w seat c (target.Name m) = mapped (with_id c) (number_named d w seat m)
+naming_is d w seat c (target.Thread who) = refl

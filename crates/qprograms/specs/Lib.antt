@@ -1,0 +1,5 @@
+pub mod Values
+pub mod Programs
+pub mod Endings
+pub mod Standing
+pub mod Machine
