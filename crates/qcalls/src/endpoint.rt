@@ -1,7 +1,7 @@
 //! The trait through which a thread's calls reach the kernel.
 
 ghost use Rattle.std.specs.Prelude.{◌≡◌, ◌++◌, [], ◌∷◌, Bool, true, false, MatchOption, if◌then◌else◌};
-ghost use Rattle.qshared.specs.Seats.{taken};
+ghost use Rattle.qhandoff.specs.Words.{taken};
 ghost use Rattle.qshared.specs.Counting.{is_call, gives, pends};
 ghost use Rattle.qshared.specs.TwoCalls.{asked_by, gives_both, pends_both};
 ghost use Rattle.qcalls.specs.History.{History, IsInTurn, told_by, told_by_both};

@@ -6,22 +6,7 @@ use Rattle.atomic_table.specs.Seated.{TableId}
 use Rattle.atomic_table.proofs.Lists.{at_map}
 use Rattle.qhandoff.specs.declared.seats.ThreadSeat.{ThreadSeat}
 use Rattle.qmodel.specs.declared.call.Completion.{Completion}
-use Rattle.qhandoff.specs.Words.{IsRow, thread_id}
-use Rattle.qhandoff.specs.Words as seat
-use Rattle.qshared.specs.Seats.{seat_id, thread_of, taken, took}
-use Rattle.std.specs.Prelude.{Option, Some}
-
-origin_seat : (seats : List (ThreadSeat Completion)) (k : ℕ) (v : Option (ThreadSeat Completion)) → get_elem? (map Some seats) k ≡ some v
-    → (s : ThreadSeat Completion) × (get_elem? seats k ≡ some s) × (Some s ≡ v)
-origin_seat [] k v e = absurd (some-ne-none v (sym e))
-origin_seat (x ∷ xs) zero v e = (x, refl, some-injective (Some x) v e)
-origin_seat (x ∷ xs) (suc k) v e = origin_seat xs k v e
-
--- what was taken by a seat, and by the port that has it
-pub took_same : (seats : List (ThreadSeat Completion)) (i : ℕ) → took (get_elem? (map Some seats) i) ≡ seat.took (get_elem? seats i)
-took_same [] i = refl
-took_same (x ∷ xs) zero = refl
-took_same (x ∷ xs) (suc i) = took_same xs i
+use Rattle.qhandoff.specs.Words.{IsRow, thread_id, thread_of, taken, took}
 
 module _ {P : Type 0} where
   pub map_same : (xs : List P) → map (λ x. x) xs ≡ xs
@@ -33,17 +18,14 @@ module _ {P : Type 0} where
   origin f (x ∷ xs) zero a e = (x, refl, some-injective (f x) a e)
   origin f (x ∷ xs) (suc k) a e = origin f xs k a e
 
-  pub seats_row : (f : P → Option (ThreadSeat Completion)) (z : TableId) (seats : List (ThreadSeat Completion)) (xs : List P) → map Some seats ≡ map f xs
-      → ((p : P) → seat_id (f p) ≡ z) → ((k : ℕ) (p : P) → get_elem? xs k ≡ some p → thread_of (f p) ≡ k) → IsRow z seats
-  seats_row f z seats xs same of at k s e = let o = origin f xs k (Some s) (ap (λ ys. get_elem? ys k) (sym same) ∙ at_map Some seats k s e) in
-      subst (λ v. (seat_id v ≡ z) × (thread_of v ≡ k)) o.2 (of o.0, at k o.0 o.1)
+  pub seats_row : (f : P → ThreadSeat Completion) (z : TableId) (xs : List P) → ((p : P) → thread_id (f p) ≡ z) → ((k : ℕ) (p : P) → get_elem? xs k ≡ some p → thread_of (f p) ≡ k) → IsRow z (map f xs)
+  seats_row f z xs of at k s e = let o = origin f xs k s e in subst (λ v. (thread_id v ≡ z) × (thread_of v ≡ k)) o.2 (of o.0, at k o.0 o.1)
 
   -- what the ports of fresh seats are
-  pub ports_fresh : (f : P → Option (ThreadSeat Completion)) (z : TableId) (seats : List (ThreadSeat Completion)) (xs : List P) → map f xs ≡ map Some seats → IsRow z seats → ((k : ℕ) → seat.took (get_elem? seats k) ≡ [])
+  pub ports_fresh : (f : P → ThreadSeat Completion) (z : TableId) (seats : List (ThreadSeat Completion)) (xs : List P) → map f xs ≡ seats → IsRow z seats → ((k : ℕ) → took (get_elem? seats k) ≡ [])
       → (k : ℕ) (p : P) → get_elem? xs k ≡ some p → (thread_of (f p) ≡ k) × (taken (f p) ≡ [])
-  ports_fresh f z seats xs e row none_took k p at =
-      let o = origin_seat seats k (f p) (ap (λ ys. get_elem? ys k) (sym e) ∙ at_map f xs k p at) in
-      subst (λ v. (thread_of v ≡ k) × (taken v ≡ [])) o.2 ((row k o.0 o.1).1, ap seat.took (sym o.1) ∙ none_took k)
+  ports_fresh f z seats xs e row none_took k p at = let there : get_elem? seats k ≡ some (f p) = ap (λ ys. get_elem? ys k) (sym e) ∙ at_map f xs k p at in
+      ((row k (f p) there).1, ap took (sym there) ∙ none_took k)
 
   -- what is so of each, and of one more
   pub each_pushed : (Q : P → Type 0) (xs : List P) (x : P) → ((k : ℕ) (p : P) → get_elem? xs k ≡ some p → Q p) → Q x → (k : ℕ) (p : P) → get_elem? (xs ++ x ∷ []) k ≡ some p → Q p

@@ -7,10 +7,8 @@ pub mod Names
 pub mod Naming
 pub mod Past
 pub mod Performing
-pub mod Posting
 pub mod Private
 pub mod Rooms
-pub mod Seats
 pub mod TwoCalls
 pub mod UnderLock
 pub mod Unkept

@@ -1,5 +1,5 @@
 -- A past that is kept nowhere: the errors of its log, and what holds of it.
-use Rattle.std.specs.Prelude.{Option, ◌≡◌, ℕ, ◌+◌, ◌<◌, ◌⊎◌, ◌++◌, ◌^◌, List, length, sum, Some}
+use Rattle.std.specs.Prelude.{◌≡◌, ℕ, ◌+◌, ◌<◌, ◌⊎◌, ◌++◌, ◌^◌, List, length, sum, Some}
 use lib.ListN.{get_elem?}
 use Rattle.qbase.specs.declared.errno.Errno.{Errno}
 use Rattle.qbase.specs.declared.errno.Errno.TheVariants.{Exhausted}
@@ -12,7 +12,7 @@ use Rattle.qrules.specs.Lawful.{IsLawful}
 use Rattle.qrules.specs.Properties.{HasProperties}
 use Rattle.qrules.specs.Trace.{Trace}
 use Rattle.qhandoff.specs.declared.seats.ThreadSeat.{ThreadSeat}
-use Rattle.qshared.specs.Seats.{took}
+use Rattle.qhandoff.specs.Words.{took}
 use Rattle.qshared.specs.Asking.{AreCallsOf}
 use Rattle.qshared.specs.Due.{endings_due, of_thread, place}
 
@@ -29,8 +29,8 @@ admits_unkept past c = (length past + 1 < 2 ^ 40) ⊎ (c ≡ Shutdown)
 -- there is a past, lawful and with the six properties, of as many events as these counts sum to; each
 -- thread's calls in it are exactly those of its list, and due to the thread is exactly what its seat took and
 -- what is left for it
-pub record HasPast (roster : List Member) (seats : List (Option (ThreadSeat Completion)))
-    (asked : List (List Call)) (calls : List ℕ) (left : List Completion) : Type 0 where
+pub record HasPast (roster : List Member) (seats : List (ThreadSeat Completion)) (asked : List (List Call))
+    (calls : List ℕ) (left : List Completion) : Type 0 where
   pub past : Trace
   pub many : sum calls ≡ length past
   pub asked_is : AreCallsOf roster asked past

@@ -2,12 +2,9 @@
 //! through which the endings of calls leave the lock.
 #![tactic(auto)]
 
-mod account;
 mod admitting;
 mod closing_room;
-mod desk;
 mod handing;
-mod held;
 pub mod kept;
 pub mod laws;
 mod locked;
@@ -15,11 +12,10 @@ pub mod log;
 pub mod parts;
 pub mod performed;
 pub mod port;
-mod posting;
 pub mod report;
-mod request;
 mod room;
 pub mod shared;
+mod spinning;
 pub mod tie;
 pub mod traced;
 pub mod unkept;

@@ -2,18 +2,17 @@
 
 ghost use Rattle.std.specs.Prelude.{◌≡◌, ◌+◌, ◌++◌, [], ◌∷◌, true, false, MatchOption, if◌then◌else◌, slice_index_or, Some};
 ghost use Rattle.qrules.specs.Facts.{threads_of};
-ghost use Rattle.qhandoff.specs.Words.{cells_id};
+ghost use Rattle.qhandoff.specs.Words.{cells_id, thread_id, thread_of, taken, IsThreadOf};
 ghost use Rattle.qshared.specs.Due.{place};
-ghost use Rattle.qshared.specs.Seats.{IsSeatOf, taken, thread_of};
-ghost use Rattle.qshared.specs.Posting.{CameOf, events_in, asked_in_turn, gives_in_turn, pends_in_turn};
 ghost use Rattle.qshared.specs.Answered.{AtPast, Answered};
 ghost use Rattle.qshared.specs.Counting.{is_call, gives, pends};
 ghost use Rattle.qshared.specs.TwoCalls.{AnsweredBoth, is_ok, calls_in, asked_by, gives_both, pends_both};
 
-use crate::account::Account;
+use crate::locked::Locked;
 use crate::log::Log;
-use crate::request::{Answer, Calls, Came, Request};
+use crate::performed::Performed;
 use crate::shared::Shared;
+use crate::spinning;
 use crate::tie::Tie;
 use crossbeam_utils::Backoff;
 use crossbeam_utils::sync::Parker;
@@ -22,8 +21,7 @@ use qbase::ids::ThreadNo;
 use qhandoff::cells::Cells;
 use qhandoff::seats::ThreadSeat;
 use qmodel::call::{Call, Completion, Mark};
-use qpast::asking::{Asked, halves};
-use std::mem;
+use qpast::asking::Asked;
 use std::sync::Wait;
 use std::sync::ledger::Share;
 
@@ -61,8 +59,7 @@ pub enum CalledBoth {
 #[derive(Drop)]
 pub struct Port<K: Tie> {
     pub(crate) thread: ThreadNo,
-    // `None` while a call lies in the tray.
-    pub(crate) seat: Option<ThreadSeat<Completion>>,
+    pub(crate) seat: ThreadSeat<Completion>,
     // The port's share of the sum of all events.
     pub(crate) share: Share<K>,
     pub(crate) calls: u64,
@@ -73,7 +70,7 @@ pub struct Port<K: Tie> {
     pub(crate) looks: u32,
     // Its calls that are events; only contracts read them.
     pub(crate) asked: Asked,
-    ghost seat_is: { IsSeatOf K.names.cells seat },
+    ghost seat_is: { thread_id seat ≡ K.names.cells },
     ghost thread_is: { place (threads_of K.names.roster) thread ≡ Some (thread_of seat) },
     ghost counted: { share.amount ≡ calls },
     ghost part: { share.parts ≡ 1 },
@@ -81,7 +78,7 @@ pub struct Port<K: Tie> {
 }
 
 /// Returns whether a call succeeded, by the mark of its ending: whether the mark is `Ok`.
-pub(crate) fn is_ok(mark: Mark) -> bool
+fn is_ok(mark: Mark) -> bool
     ensures { result ≡ is_ok mark }
 {
     matches!(mark, Mark::Ok)
@@ -90,16 +87,15 @@ pub(crate) fn is_ok(mark: Mark) -> bool
 /// Takes the ending that was put for a thread, if there is one. It has only the thread's seat and the cells, so it can
 /// take no lock and no memory, and can't wait for another thread.
 fn take(
-    seat: &mut Option<ThreadSeat<Completion>>,
+    seat: &mut ThreadSeat<Completion>,
     cells: &Cells<Completion>,
     pending: &mut bool,
 ) -> Option<Completion>
-    requires { IsSeatOf (cells_id cells.now) seat.old }
-    ensures seat { IsSeatOf (cells_id cells.now) seat.new × (thread_of seat.new ≡ thread_of seat.old) }
+    requires { IsThreadOf cells.now seat.old }
+    ensures seat { (thread_id seat.new ≡ thread_id seat.old) × (thread_of seat.new ≡ thread_of seat.old) }
     ensures taken { MatchOption result (taken seat.new ≡ taken seat.old) (λ x. taken seat.new ≡ taken seat.old ++ x ∷ []) }
     ensures pending { MatchOption result (pending.new ≡ pending.old) (λ x. pending.new ≡ false) }
 {
-    let Some(seat) = seat else { unreachable!() };
     let completion = seat.poll(cells);
     if completion.is_some() {
         *pending = false;
@@ -110,13 +106,13 @@ fn take(
 /// Takes the ending that was put for a thread, as `take` does, but looks up to `looks` times, with pauses between.
 /// Doubles `looks` if an ending was found and halves it if not, within the limits.
 fn look(
-    seat: &mut Option<ThreadSeat<Completion>>,
+    seat: &mut ThreadSeat<Completion>,
     cells: &Cells<Completion>,
     pending: &mut bool,
     looks: &mut u32,
 ) -> Option<Completion>
-    requires { IsSeatOf (cells_id cells.now) seat.old }
-    ensures seat { IsSeatOf (cells_id cells.now) seat.new × (thread_of seat.new ≡ thread_of seat.old) }
+    requires { IsThreadOf cells.now seat.old }
+    ensures seat { (thread_id seat.new ≡ thread_id seat.old) × (thread_of seat.new ≡ thread_of seat.old) }
     ensures taken { MatchOption result (taken seat.new ≡ taken seat.old) (λ x. taken seat.new ≡ taken seat.old ++ x ∷ []) }
     ensures pending { MatchOption result (pending.new ≡ pending.old) (λ x. pending.new ≡ false) }
 {
@@ -141,14 +137,14 @@ impl<K: Tie> Port<K> {
         parker: Parker,
         asked: Asked,
     ) -> Port<K>
-        requires seat { IsSeatOf K.names.cells (Some seat) × (place (threads_of K.names.roster) thread ≡ Some (thread_of (Some seat))) }
+        requires seat { (thread_id seat ≡ K.names.cells) × (place (threads_of K.names.roster) thread ≡ Some (thread_of seat)) }
         requires share { (share.amount ≡ 0) × (share.parts ≡ 1) }
-        requires asked { slice_index_or K.names.lists (thread_of (Some seat)) 0 ≡ asked.name }
-        ensures { (result.seat ≡ Some seat) × (result.calls ≡ 0) × (result.pending ≡ false) × (result.thread ≡ thread) × (result.asked ≡ asked) }
+        requires asked { slice_index_or K.names.lists (thread_of seat) 0 ≡ asked.name }
+        ensures { (result.seat ≡ seat) × (result.calls ≡ 0) × (result.pending ≡ false) × (result.thread ≡ thread) × (result.asked ≡ asked) }
     {
         Port {
             thread,
-            seat: Some(seat),
+            seat,
             share,
             calls: 0,
             pending: false,
@@ -173,9 +169,13 @@ impl<K: Tie> Port<K> {
         ensures taken { taken self.new.seat ≡ taken self.old.seat ++ gives result }
         ensures same { (self.new.thread ≡ self.old.thread) × (thread_of self.new.seat ≡ thread_of self.old.seat) }
     {
-        let Came::One(called) = self.turn(shared, rt, Calls::One(call)) else {
-            unreachable!()
+        let (called, woken) = {
+            let mut guard = spinning::lock(&shared.lock, rt);
+            let locked = &mut *guard;
+            let called = self.make(&shared.cells, locked, call);
+            (called, locked.traced.woken)
         };
+        shared.wake(woken);
         called
     }
 
@@ -197,45 +197,75 @@ impl<K: Tie> Port<K> {
         ensures taken { taken self.new.seat ≡ taken self.old.seat ++ gives_both result }
         ensures same { (self.new.thread ≡ self.old.thread) × (thread_of self.new.seat ≡ thread_of self.old.seat) }
     {
-        let Came::Both(both) = self.turn(shared, rt, Calls::Both(first, second)) else {
-            unreachable!()
+        let (called, woken) = {
+            let mut guard = spinning::lock(&shared.lock, rt);
+            let locked = &mut *guard;
+            let first = self.make(&shared.cells, locked, first);
+            let woken = locked.traced.woken;
+            match first {
+                Called::Done(completion) => {
+                    if is_ok(completion.mark) {
+                        let second = self.make(&shared.cells, locked, second);
+                        let both = CalledBoth::Both(completion, second);
+                        (both, woken | locked.traced.woken)
+                    } else {
+                        (CalledBoth::First(Called::Done(completion), second), woken)
+                    }
+                }
+                Called::Blocked => (CalledBoth::First(Called::Blocked, second), woken),
+                Called::Refused(errno, call) => {
+                    let first = Called::Refused(errno, call);
+                    (CalledBoth::First(first, second), woken)
+                }
+            }
         };
-        both
+        shared.wake(woken);
+        called
     }
 
-    /// Has calls made in one turn at the lock, by this thread or by the holder of the lock.
-    fn turn<L: Log, R: Wait>(&mut self, shared: &Shared<K, L>, rt: &R, calls: Calls) -> Came
-        ensures came { CameOf K.names.roster L.refuses L.admits self.old.thread self.old.asked.calls calls result }
-        ensures calls { self.new.calls ≡ self.old.calls + events_in result }
-        ensures asked { self.new.asked.calls ≡ self.old.asked.calls ++ asked_in_turn calls result }
-        ensures pending { self.new.pending ≡ pends_in_turn result self.old.pending }
-        ensures taken { taken self.new.seat ≡ taken self.old.seat ++ gives_in_turn result }
+    /// Makes a call of the thread under the lock, which the caller holds, and takes its ending if it ends in its own
+    /// event.
+    fn make<L: Log>(
+        &mut self,
+        cells: &Cells<Completion>,
+        locked: &mut Locked<K, L>,
+        call: Call,
+    ) -> Called
+        requires cells { cells_id cells.now ≡ K.names.cells }
+        ensures came { AtPast K.names.roster self.old.thread self.old.asked.calls (Answered K.names.roster L.refuses L.admits self.old.thread call result) }
+        ensures calls { self.new.calls ≡ self.old.calls + (if is_call result then 1 else 0) }
+        ensures asked { self.new.asked.calls ≡ self.old.asked.calls ++ (if is_call result then call ∷ [] else []) }
+        ensures pending { self.new.pending ≡ pends result self.old.pending }
+        ensures taken { taken self.new.seat ≡ taken self.old.seat ++ gives result }
         ensures same { (self.new.thread ≡ self.old.thread) × (thread_of self.new.seat ≡ thread_of self.old.seat) }
     {
-        let Some(seat) = self.seat.take() else {
-            unreachable!()
-        };
-        let place = seat.thread();
-        let (stand_in, _) = halves();
-        let account = Account {
-            thread: self.thread,
-            seat,
-            share: self.share.split_off(1, self.calls),
-            asked: mem::replace(&mut self.asked, stand_in),
-        };
-        let Answer { account, came } = shared.made(rt, place, Request { account, calls });
-        let Account {
-            seat,
-            share,
-            asked,
-            ..
-        } = account;
-        self.seat = Some(seat);
-        self.share.merge(share);
-        self.asked = asked;
-        self.calls += came.events();
-        self.pending = came.pends(self.pending);
-        came
+        let place = self.seat.thread();
+        let performed = locked.call(
+            cells,
+            self.thread,
+            place,
+            &mut self.share,
+            &mut self.asked,
+            call,
+        );
+        match performed {
+            Performed::Refused(errno, call) => Called::Refused(errno, call),
+            Performed::Open => {
+                self.calls += 1;
+                self.pending = true;
+                Called::Blocked
+            }
+            Performed::Ended => {
+                self.calls += 1;
+                match self.seat.poll(cells) {
+                    Some(completion) => Called::Done(completion),
+                    None => {
+                        self.pending = true;
+                        Called::Blocked
+                    }
+                }
+            }
+        }
     }
 
     /// Takes the ending that was put for the thread, if there is one. It takes no lock and no memory, and never waits.
@@ -276,16 +306,6 @@ impl<K: Tie> Port<K> {
         ensures { result ≡ self.now.pending }
     {
         self.pending
-    }
-
-    /// Returns the number of the thread's cell.
-    pub(crate) fn place(&self) -> usize
-        ensures { result ≡ thread_of self.now.seat }
-    {
-        let Some(seat) = &self.seat else {
-            unreachable!()
-        };
-        seat.thread()
     }
 
     /// Returns the thread whose port it is.

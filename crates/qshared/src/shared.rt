@@ -7,9 +7,7 @@ ghost use Rattle.qrules.specs.Facts.{threads_of};
 ghost use Rattle.qrules.specs.Lawful.{IsLawful};
 ghost use Rattle.qrules.specs.Trace.{followed_by};
 ghost use Rattle.qrules.specs.Properties.{HasProperties};
-ghost use Rattle.qhandoff.specs.Words.{cells_id, IsRow};
-ghost use Rattle.qhandoff.specs.Words.{took as seat_took};
-ghost use Rattle.qshared.specs.Seats.{taken, thread_of, took};
+ghost use Rattle.qhandoff.specs.Words.{cells_id, thread_of, taken, took, IsRow};
 ghost use Rattle.qshared.specs.Asking.{AreCallsOf, asked_in};
 ghost use Rattle.qshared.specs.Due.{place, endings_due, of_thread, AreKnown};
 ghost use Rattle.qshared.specs.Naming.{AreParts, AreAll};
@@ -17,8 +15,6 @@ ghost use Rattle.qshared.specs.Past.{RiseByThread};
 ghost use Rattle.qshared.specs.Unkept.{HasPast};
 
 use crate::closing_room::ClosingRoom;
-use crate::desk::{Desk, desks_for};
-use crate::held::{Held, Posts};
 use crate::kept::Kept;
 use crate::locked::Locked;
 use crate::log::Log;
@@ -28,7 +24,6 @@ use crate::report::{Report, Tally};
 use crate::tie::Tie;
 use crate::traced::Traced;
 use crate::unkept::Unkept;
-use crossbeam_utils::CachePadded;
 use crossbeam_utils::sync::{Parker, Unparker};
 use qbase::errno::Errno;
 use qbase::ids::ThreadNo;
@@ -37,20 +32,14 @@ use qhandoff::seats::ThreadSeat;
 use qmodel::call::Completion;
 use qpast::asking::{Asked, Heard};
 use std::alloc::{AllocError, Global};
-use std::sync::atomic::AtomicU64;
+use std::sync::Mutex;
 use std::sync::ledger::Share;
-use std::sync::{Arc, Mutex};
 
 /// The kernel under its lock, and the cells that it fills.
 #[derive(Drop)]
 pub struct Shared<K: Tie, L: Log> {
     pub(crate) cells: Cells<Completion>,
-    // In a box, so that the lock's word is on another cache line than the kernel.
-    pub(crate) lock: Mutex<Box<Held<K, L>, Global>>,
-    // One for each port, which alone locks it.
-    pub(crate) desks: Vec<Mutex<Desk<K, L>>>,
-    // The bits of the trays in which a request may lie.
-    pub(crate) posted: CachePadded<AtomicU64>,
+    pub(crate) lock: Mutex<Locked<K, L>>,
     pub(crate) unparkers: Vec<Unparker>,
     ghost cells_are: { cells_id cells ≡ K.names.cells },
 }
@@ -85,7 +74,7 @@ fn ports_for<K: Tie>(
     spare: &mut Share<K>,
 ) -> Result<(Vec<Port<K>>, Vec<Unparker>), AllocError>
     requires roster { IsRoster K.names.roster × (threads.now ≡ threads_of K.names.roster) }
-    requires seats { (length seats.items ≡ length threads.now) × IsRow K.names.cells seats.items × ((k : ℕ) → seat_took (get_elem? seats.items k) ≡ []) }
+    requires seats { (length seats.items ≡ length threads.now) × IsRow K.names.cells seats.items × ((k : ℕ) → took (get_elem? seats.items k) ≡ []) }
     requires asked { (map (λ a. a.name) asked.items ≡ K.names.lists) × (length asked.items ≡ K.names.cells.slots) × ((k : ℕ) → asked_in (get_elem? asked.items k) ≡ []) }
     requires sized { length threads.now ≡ K.names.cells.slots }
     requires spare { (spare.old.parts ≡ length seats.items) × (spare.old.amount ≡ 0) }
@@ -122,7 +111,7 @@ fn gather<K: Tie>(
     requires calls { (calls.old.items ≡ []) × (length ports.items ≤ vec_capacity calls.old) }
     requires asked { (asked.old.items ≡ []) × (length ports.items ≤ vec_capacity asked.old) }
     requires spare { (spare.old.parts ≡ 0) × (spare.old.amount ≡ 0) }
-    ensures seats { map Some seats.new.items ≡ map (λ p. p.seat) ports.items }
+    ensures seats { seats.new.items ≡ map (λ p. p.seat) ports.items }
     ensures calls { calls.new.items ≡ map (λ p. p.calls) ports.items }
     ensures asked { asked.new.items ≡ map (λ p. p.asked) ports.items }
     ensures spare { (spare.new.parts ≡ length ports.items) × (spare.new.amount ≡ sum calls.new.items) }
@@ -135,7 +124,6 @@ fn gather<K: Tie>(
             asked: own,
             ..
         } = port;
-        let Some(seat) = seat else { unreachable!() };
         seats.push_reserved(seat);
         calls.push_reserved(made);
         asked.push_reserved(own);
@@ -159,12 +147,11 @@ fn agree(mut asked: Vec<Asked>, mut heard: Vec<Heard>)
 impl<K: Tie, L: Log> Shared<K, L> {
     /// Opens a kernel of these parts whose past is kept by the log, with a port for each thread, in rising thread
     /// number.
-    fn with_log(parts: Parts, log: L) -> Result<(Shared<K, L>, Vec<Port<K>>), Errno>
+    fn with_log(parts: Parts, log: L) -> Result<(Shared<K, L>, Vec<Port<K>>), AllocError>
         requires named { AreParts K.names K.name K.parts parts }
         requires log { (L.roster log ≡ K.names.roster) × (L.past log ≡ []) }
         ensures ports { IfOk result (λ r. AreAll (λ p. thread_of p.seat) K.names.cells.slots r.1.items) }
         ensures new { IfOk result (λ r. (k : ℕ) (p : _) → get_elem? r.1.items k ≡ some p → (p.calls ≡ 0) × (p.pending ≡ false) × (taken p.seat ≡ []) × (p.asked.calls ≡ [])) }
-        ensures error { IfErr result (λ e. e ≡ Errno.NoMemory) }
     {
         let Parts {
             cells,
@@ -184,20 +171,10 @@ impl<K: Tie, L: Log> Shared<K, L> {
         let (book, mut spare) = blank.open::<K>();
         let (ports, unparkers) = ports_for(alloc, &threads, seats, asked, &mut spare)?;
         let traced = Traced::new(kernel, seat, log);
-        let locked = Locked::new(traced, book, spare, room, heard);
-        let (trays, holder, posters) = Posts::<K, L>::new(alloc, many)?;
-        let trays = Arc::new(alloc, trays)?;
-        let desks = desks_for(alloc, &trays, posters)?;
-        let held = Held {
-            locked,
-            holder,
-            trays,
-        };
+        let lock = Mutex::new(Locked::new(traced, book, spare, room, heard));
         let shared = Shared {
             cells,
-            lock: Mutex::new(Box::new(alloc, held)?),
-            desks,
-            posted: CachePadded::new(AtomicU64::new(0)),
+            lock,
             unparkers,
         };
         Ok((shared, ports))
@@ -212,7 +189,7 @@ impl<K: Tie, L: Log> Shared<K, L> {
             return false;
         }
         for k in 0..ports.len() {
-            if ports[k].place() != k {
+            if ports[k].seat.thread() != k {
                 return false;
             }
         }
@@ -246,7 +223,6 @@ impl<K: Tie, L: Log> Shared<K, L> {
         ensures due { (t i : ℕ) → place (threads_of K.names.roster) t ≡ Some i → took (get_elem? (map (λ p. p.seat) ports.items) i) ++ of_thread t result.left.items ≡ endings_due (L.past result.log) t }
     {
         let Shared { cells, lock, .. } = self;
-        let Held { locked, .. } = Box::into_inner(lock.into_inner());
         let Locked {
             traced,
             mut book,
@@ -254,7 +230,7 @@ impl<K: Tie, L: Log> Shared<K, L> {
             room,
             heard,
             ..
-        } = locked;
+        } = lock.into_inner();
         let ClosingRoom {
             mut seats,
             mut calls,

@@ -1,5 +1,5 @@
 use Rattle.std.proofs.Common.{refl, subst}
-use Rattle.qshared.specs.Seats.{thread_of}
+use Rattle.qhandoff.specs.Words.{thread_of}
 use Rattle.qshared.specs.Naming.{AreAll}
 use Rattle.qserve_tests.proofs.crossing.finished.Goals as goal
 

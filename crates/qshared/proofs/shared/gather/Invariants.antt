@@ -1,9 +1,9 @@
-use Rattle.std.proofs.Common.{◌≡◌, ◌≤◌, Some, length, map, sum, vec_capacity}
+use Rattle.std.proofs.Common.{◌≡◌, ◌≤◌, length, map, sum, vec_capacity}
 use Rattle.qshared.proofs.shared.gather.Given as goal
 
 abbrev pub invariant-loop-port : goal.invariant-loop-port
 invariant-loop-port g l = record {
-  seats : map Some l.seats.items ≡ map (λ p. p.seat) l.yielded;
+  seats : l.seats.items ≡ map (λ p. p.seat) l.yielded;
   calls : l.calls.items ≡ map (λ p. p.calls) l.yielded;
   asked : l.asked.items ≡ map (λ p. p.asked) l.yielded;
   parts : l.spare.parts ≡ length l.yielded;

@@ -1,4 +1,4 @@
-use Rattle.std.proofs.Common.{◌≡◌, false, ◌+◌, ◌++◌, ◌∷◌, [], suc, arith, refl, sym, ap, subst, ◌∙◌, map, reverse, length, length-append, append_assoc, get_or, ◌<◌}
+use Rattle.std.proofs.Common.{◌≡◌, false, ◌+◌, ◌++◌, ◌∷◌, [], suc, arith, sym, ap, subst, ◌∙◌, map, reverse, length, length-append, append_assoc, get_or, ◌<◌}
 use Rattle.std.proofs.lemmas.Grind.{common_steps}
 use Rattle.std.proofs.lemmas.Iterator.Adapters.{YieldsList-from_vec}
 use Rattle.std.proofs.lemmas.Iterator.Consumers.{YieldsList-turn, YieldsList-end}
@@ -31,7 +31,7 @@ new-port-requires-clause-seat g c =
     let same : c.args.threads.now ≡ ts = c.requires.roster.1 in
     let below : c.thread.result < length ts = omega (arith, c.thread.ensures.within, ap (λ z. z.slots) row.0, c.requires.sized, ap length same) in
     let d = c.index-threads-thread.result in
-    ((refl, row.0), ap (place ts) (c.index-threads-thread.is ∙ ap (λ xs. get_or xs c.thread.result d) same) ∙ place_at ts c.thread.result d (rises g.K.Tie.names.roster c.requires.roster.0) below ∙ ap Some c.thread.ensures.number)
+    (row.0, ap (place ts) (c.index-threads-thread.is ∙ ap (λ xs. get_or xs c.thread.result d) same) ∙ place_at ts c.thread.result d (rises g.K.Tie.names.roster c.requires.roster.0) below ∙ ap Some c.thread.ensures.number)
 
 pub new-port-requires-clause-asked : goal.new-port-requires-clause-asked
 new-port-requires-clause-asked g c =
@@ -53,7 +53,7 @@ loop-seat-preserved g c =
     let N = map (λ q. q.asked.name) c.loop-seat.ports.items in
     let more : length c.push_reserved.new.self.items ≡ length c.loop-seat.ports.items + 1 = ap length e ∙ length-append c.loop-seat.ports.items (p ∷ []) in
     let less : length c.loop-seat.asked.items ≡ length c.pop.new.self.items + 1 = ap length c.in-Some-pop.ensures.items ∙ length-append c.pop.new.self.items (own ∷ []) in (
-      ap (map (λ q. q.seat)) e ∙ map_snoc (λ q. q.seat) c.loop-seat.ports.items p ∙ ap (λ ys. ys ++ p.seat ∷ []) v.0 ∙ ap (λ s. map Some c.loop-seat.yielded ++ s ∷ []) c.new-port.ensures.0 ∙ sym (map_snoc Some c.loop-seat.yielded c.in-Some.seat),
+      ap (map (λ q. q.seat)) e ∙ map_snoc (λ q. q.seat) c.loop-seat.ports.items p ∙ ap (λ ys. ys ++ p.seat ∷ []) v.0 ∙ ap (λ s. c.loop-seat.yielded ++ s ∷ []) c.new-port.ensures.0,
       (λ k q at. each_pushed (λ r. (r.calls ≡ 0) × (r.pending ≡ false) × (r.asked.calls ≡ [])) c.loop-seat.ports.items p v.1 (c.new-port.ensures.1, c.new-port.ensures.2, ap (λ a. a.calls) c.new-port.ensures.4 ∙ subst (λ xs. asked_in (get_elem? xs 0) ≡ []) turn (v.7 0)) k q (ap (λ ys. get_elem? ys k) (sym e) ∙ at)),
       grind (arith, common_steps),
       grind (arith, common_steps),
@@ -69,11 +69,11 @@ returns-clause-ports g c =
     let t = YieldsList-end (YieldsList-from_vec {s = c.into_iter-seat-iterator.result} c.args.seats.items c.into_iter-seat-iterator.ensures.into_iter_gives.0 (c.into_iter-seat-iterator.ensures.into_iter_gives.1 ∙ c.args.seats.ok.0)) c.loop-seat.yielded c.loop-seat.seat-iterator c.loop-seat.yielded_by c.next.result c.next.new.self c.in-None.is c.next.ensures.steps in
     let v = c.loop-seat.invariant in let seats = c.requires.seats in (
       v.4 ∙ t.1 ∙ seats.0 ∙ c.requires.sized,
-      λ k p at. (ports_fresh (λ q. q.seat) g.K.Tie.names.cells c.args.seats.items c.loop-seat.ports.items (v.0 ∙ ap (map Some) (sym (map_same c.loop-seat.yielded) ∙ t.0)) seats.1 seats.2 k p at).0,
+      λ k p at. (ports_fresh (λ q. q.seat) g.K.Tie.names.cells c.args.seats.items c.loop-seat.ports.items (v.0 ∙ sym (map_same c.loop-seat.yielded) ∙ t.0) seats.1 seats.2 k p at).0,
     )
 
 pub returns-clause-new : goal.returns-clause-new
 returns-clause-new g c =
     let t = YieldsList-end (YieldsList-from_vec {s = c.into_iter-seat-iterator.result} c.args.seats.items c.into_iter-seat-iterator.ensures.into_iter_gives.0 (c.into_iter-seat-iterator.ensures.into_iter_gives.1 ∙ c.args.seats.ok.0)) c.loop-seat.yielded c.loop-seat.seat-iterator c.loop-seat.yielded_by c.next.result c.next.new.self c.in-None.is c.next.ensures.steps in
     let v = c.loop-seat.invariant in let seats = c.requires.seats in
-    λ k p at. ((v.1 k p at).0, (v.1 k p at).1, (ports_fresh (λ q. q.seat) g.K.Tie.names.cells c.args.seats.items c.loop-seat.ports.items (v.0 ∙ ap (map Some) (sym (map_same c.loop-seat.yielded) ∙ t.0)) seats.1 seats.2 k p at).1, (v.1 k p at).2)
+    λ k p at. ((v.1 k p at).0, (v.1 k p at).1, (ports_fresh (λ q. q.seat) g.K.Tie.names.cells c.args.seats.items c.loop-seat.ports.items (v.0 ∙ sym (map_same c.loop-seat.yielded) ∙ t.0) seats.1 seats.2 k p at).1, (v.1 k p at).2)

@@ -1,5 +1,5 @@
 use Rattle.std.proofs.Common.{◌≡◌}
-use Rattle.qshared.specs.Seats.{thread_of, taken}
+use Rattle.qhandoff.specs.Words.{thread_of, taken}
 use Rattle.qshared.proofs.port.Port.wait.Given as goal
 
 -- nothing was taken yet

@@ -4,33 +4,32 @@ use Rattle.std.proofs.lemmas.List.{length-map}
 use lib.ListN.{get_elem?}
 use Rattle.qmodel.specs.Private.Facts.{threads_of}
 use Rattle.qmodel.proofs.Rosters.{rises}
-use Rattle.qhandoff.specs.Words.{cells_id, count, left_for, AreBelow}
-use Rattle.qshared.specs.Seats.{took}
+use Rattle.qhandoff.specs.Words.{cells_id, count, took, left_for, AreBelow, IsRow}
 use Rattle.qshared.specs.Asking.{calls_of}
 use Rattle.qshared.specs.Due.{AreKnown, endings_due, of_thread, place}
 use Rattle.qshared.specs.Past.{RiseByThread}
 use Rattle.qshared.proofs.Leftover.{few_left, left_by_thread, left_due, left_known}
 use Rattle.qshared.proofs.Lists.{map_both, names_of}
 use Rattle.qshared.proofs.Places.{place_below}
-use Rattle.qshared.proofs.Rows.{seats_row, took_same}
+use Rattle.qshared.proofs.Rows.{seats_row}
 use Rattle.qshared.proofs.shared.Shared.close.Goals as goal
 
 pub close-left-requires-clause-threads : goal.close-left-requires-clause-threads
 close-left-requires-clause-threads g c =
     let z = cells_id c.args.self.cells in (
-      sym (length-map c.gather.new.seats.items Some) ∙ ap length c.gather.ensures.seats ∙ length-map c.args.ports.items (λ p. p.seat) ∙ c.requires.all.0 ∙ ap (λ y. y.slots) (sym c.args.self.cells_are),
-      seats_row (λ p. p.seat) z c.gather.new.seats.items c.args.ports.items c.gather.ensures.seats (λ p. p.seat_is.1 ∙ sym c.args.self.cells_are) c.requires.all.1,
+      ap length c.gather.ensures.seats ∙ length-map c.args.ports.items (λ p. p.seat) ∙ c.requires.all.0 ∙ ap (λ y. y.slots) (sym c.args.self.cells_are),
+      subst (IsRow z) (sym c.gather.ensures.seats) (seats_row (λ p. p.seat) z c.args.ports.items (λ p. p.seat_is ∙ sym c.args.self.cells_are) c.requires.all.1),
     )
 
 pub without_places-requires : goal.without_places-requires
 without_places-requires g c =
     let few = few_left (count c.args.self.cells) c.close-left.result.items c.close-left.ensures.rises c.close-left.ensures.within in
-    let roomy = c.into_inner-locked.result.locked.room.roomy in
+    let roomy = c.into_inner-traced.result.room.roomy in
     record { room = (roomy.4, omega (arith, few, roomy.5, ap (λ y. y.slots) c.args.self.cells_are)) }
 
 pub agree-requires : goal.agree-requires
 agree-requires g c =
-    let under = c.into_inner-locked.result.locked in
+    let under = c.into_inner-traced.result in
     let ports = c.args.ports.items in
     let named = names_of (λ p. p.asked.name) ports g.K.Tie.names.lists (c.requires.all.0 ∙ sym under.named.1 ∙ sym (length-map under.heard.items (λ h. h.name)) ∙ ap length under.named.0)
     (λ k p at. ap (λ j. get_or g.K.Tie.names.lists j 0) (sym (c.requires.all.1 k p at)) ∙ p.asked_is) in
@@ -39,12 +38,12 @@ agree-requires g c =
 pub returns-clause-asked : goal.returns-clause-asked
 returns-clause-asked g c = λ t i at.
     ap (λ ls. get_or ls i []) (sym (map_both (λ a. a.calls) (λ p. p.asked) c.args.ports.items) ∙ ap (map (λ a. a.calls)) (sym c.gather.ensures.asked) ∙ c.agree.ensures)
-    ∙ c.into_inner-locked.result.locked.heard_all t i at ∙ ap (λ z. calls_of z.past t) (sym c.traced.view_is)
+    ∙ c.into_inner-traced.result.heard_all t i at ∙ ap (λ z. calls_of z.past t) (sym c.traced.view_is)
 
 pub returns-clause-sum : goal.returns-clause-sum
 returns-clause-sum g c =
-    let whole : c.gather.new.spare.parts ≡ g.K.Ledger.parts = c.gather.ensures.spare.0 ∙ c.requires.all.0 ∙ sym c.into_inner-locked.result.locked.whole.is in
-    sym c.gather.ensures.spare.1 ∙ c.audit.ensures.whole whole ∙ sym c.into_inner-locked.result.locked.counted ∙ ap (λ z. length z.past) (sym c.traced.view_is)
+    let whole : c.gather.new.spare.parts ≡ g.K.Ledger.parts = c.gather.ensures.spare.0 ∙ c.requires.all.0 ∙ sym c.into_inner-traced.result.whole.is in
+    sym c.gather.ensures.spare.1 ∙ c.audit.ensures.whole whole ∙ sym c.into_inner-traced.result.counted ∙ ap (λ z. length z.past) (sym c.traced.view_is)
 
 pub returns-clause-rises : goal.returns-clause-rises
 returns-clause-rises g c =
@@ -53,7 +52,7 @@ returns-clause-rises g c =
     let long : count c.args.self.cells ≡ length ts = ap (λ y. y.slots) c.args.self.cells_are ∙ sym h.sized ∙ sym (length-map g.K.Tie.names.roster (λ m. m.thread)) in
     let below : AreBelow (length ts) c.close-left.result.items = subst (λ n. AreBelow n c.close-left.result.items) long c.close-left.ensures.within in
     let told : (t i : ℕ) → place ts t ≡ Some i → took (get_elem? (map (λ p. p.seat) c.args.ports.items) i) ++ left_for i c.close-left.result.items ≡ endings_due (g.L.Log.past c.traced.inside.log) t =
-    λ t i at. ap (λ ss. took (get_elem? ss i) ++ left_for i c.close-left.result.items) (sym c.gather.ensures.seats) ∙ ap (λ ts. ts ++ left_for i c.close-left.result.items) (took_same c.gather.new.seats.items i) ∙ c.close-left.ensures.told i (subst (λ n. i < n) (sym long) (place_below ts t i at)) ∙ (h.told.tied t i at).0 in
+    λ t i at. ap (λ ss. took (get_elem? ss i) ++ left_for i c.close-left.result.items) (sym c.gather.ensures.seats) ∙ c.close-left.ensures.told i (subst (λ n. i < n) (sym long) (place_below ts t i at)) ∙ (h.told.tied t i at).0 in
     subst RiseByThread (sym c.without_places.ensures) (left_by_thread ts (g.L.Log.past c.traced.inside.log) c.close-left.result.items (rises g.K.Tie.names.roster h.rises) c.close-left.ensures.rises below (λ i. took (get_elem? (map (λ p. p.seat) c.args.ports.items) i)) told)
 
 pub returns-clause-known : goal.returns-clause-known
@@ -63,7 +62,7 @@ returns-clause-known g c =
     let long : count c.args.self.cells ≡ length ts = ap (λ y. y.slots) c.args.self.cells_are ∙ sym h.sized ∙ sym (length-map g.K.Tie.names.roster (λ m. m.thread)) in
     let below : AreBelow (length ts) c.close-left.result.items = subst (λ n. AreBelow n c.close-left.result.items) long c.close-left.ensures.within in
     let told : (t i : ℕ) → place ts t ≡ Some i → took (get_elem? (map (λ p. p.seat) c.args.ports.items) i) ++ left_for i c.close-left.result.items ≡ endings_due (g.L.Log.past c.traced.inside.log) t =
-    λ t i at. ap (λ ss. took (get_elem? ss i) ++ left_for i c.close-left.result.items) (sym c.gather.ensures.seats) ∙ ap (λ ts. ts ++ left_for i c.close-left.result.items) (took_same c.gather.new.seats.items i) ∙ c.close-left.ensures.told i (subst (λ n. i < n) (sym long) (place_below ts t i at)) ∙ (h.told.tied t i at).0 in
+    λ t i at. ap (λ ss. took (get_elem? ss i) ++ left_for i c.close-left.result.items) (sym c.gather.ensures.seats) ∙ c.close-left.ensures.told i (subst (λ n. i < n) (sym long) (place_below ts t i at)) ∙ (h.told.tied t i at).0 in
     subst (AreKnown g.K.Tie.names.roster) (sym c.without_places.ensures) (left_known ts (g.L.Log.past c.traced.inside.log) c.close-left.result.items (rises g.K.Tie.names.roster h.rises) c.close-left.ensures.rises below (λ i. took (get_elem? (map (λ p. p.seat) c.args.ports.items) i)) told g.K.Tie.names.roster refl)
 
 pub returns-clause-due : goal.returns-clause-due
@@ -73,6 +72,6 @@ returns-clause-due g c =
     let long : count c.args.self.cells ≡ length ts = ap (λ y. y.slots) c.args.self.cells_are ∙ sym h.sized ∙ sym (length-map g.K.Tie.names.roster (λ m. m.thread)) in
     let below : AreBelow (length ts) c.close-left.result.items = subst (λ n. AreBelow n c.close-left.result.items) long c.close-left.ensures.within in
     let told : (t i : ℕ) → place ts t ≡ Some i → took (get_elem? (map (λ p. p.seat) c.args.ports.items) i) ++ left_for i c.close-left.result.items ≡ endings_due (g.L.Log.past c.traced.inside.log) t =
-    λ t i at. ap (λ ss. took (get_elem? ss i) ++ left_for i c.close-left.result.items) (sym c.gather.ensures.seats) ∙ ap (λ ts. ts ++ left_for i c.close-left.result.items) (took_same c.gather.new.seats.items i) ∙ c.close-left.ensures.told i (subst (λ n. i < n) (sym long) (place_below ts t i at)) ∙ (h.told.tied t i at).0 in
+    λ t i at. ap (λ ss. took (get_elem? ss i) ++ left_for i c.close-left.result.items) (sym c.gather.ensures.seats) ∙ c.close-left.ensures.told i (subst (λ n. i < n) (sym long) (place_below ts t i at)) ∙ (h.told.tied t i at).0 in
     subst (λ left. (t i : ℕ) → place ts t ≡ Some i → took (get_elem? (map (λ p. p.seat) c.args.ports.items) i) ++ of_thread t left ≡ endings_due (g.L.Log.past c.traced.inside.log) t) (sym c.without_places.ensures)
     (left_due ts (g.L.Log.past c.traced.inside.log) c.close-left.result.items (rises g.K.Tie.names.roster h.rises) c.close-left.ensures.rises below (λ i. took (get_elem? (map (λ p. p.seat) c.args.ports.items) i)) told)
