@@ -1,7 +1,9 @@
 -- Each step is allowed.
 use Rattle.std.proofs.Common.{◌≡◌, ◌≢◌, ℕ, zero, suc, ◌+◌, ◌<◌, ◌≤◌, eqb, Bool, true, false, List, [], ◌∷◌, ◌++◌, length, replicate, map, get_or, set, sym, refl, ap, ◌∙◌, subst, ⊎_elim, ◌⊎◌, inl, inr, arith, Option, Some, None, length-set, length-append, get_or-set_other, get_or-set_same}
 use Rattle.std.proofs.lemmas.List.{set-get_or}
+use mathlib.Core.Logic.{dite}
 use mathlib.Core.Option.{none, some}
+use native.Mathlib.Decide.{ℕ_discrete}
 use lib.ListN.{get_elem?}
 use prog.Atomic.{either}
 use Rattle.atomic_table.specs.Table.{Me, Act, keeps, takes, gives, Valid, stepped, step, carried_after, Allows}
@@ -36,13 +38,13 @@ module _ {T : Type 0} where
   cancels_here n id t d h a b s k long at small = let l = line d t in let fit = kernel_sees n id t s k d at h in
       (Kernel (cancelled_desk d t), keeps, tt, kernel_changes n id t s k d at h 0 (record l { opened = false }) s.homes k.slots (λ u ne. refl) refl (fits_cancel _ l (k.hand t) _ fit a b), ap (λ u. (Kernel (cancelled_desk d u), [])) (sym (cell_of_word t)))
 
-  begins_here : (n id t : ℕ) (d : Desk T) → t < n → (line d t).opened ≡ true → (line d t).putting ≡ false → Allows (KeepsRule n) n id (Kernel d, []) (word_of t) (λ _. 2) (λ _. BeginPutTells (step n (word_of t) 2 0 none) (Kernel d, []) 2)
-  begins_here n id t d h a b s k long at small = let l = line d t in let fit = kernel_sees n id t s k d at h in let r = fits_begin _ l (k.hand t) _ fit a b in (
+  begins_here : (n id t : ℕ) (d : Desk T) → t < n → (line d t).opened ≡ true → (line d t).putting ≡ false → Allows (KeepsRule n) n id (Kernel d, []) (word_of t) (λ m. m) (BeginPutTells (step n (word_of t) 0 0 none) (Kernel d, []))
+  begins_here n id t d h a b s k long at small = let m : ℕ = get_or s.words (word_of t) 0 in let l = line d t in let fit = kernel_sees n id t s k d at h in let r = fits_begin m l (k.hand t) _ fit a b in (
     Kernel (putting_desk d t),
     takes t None,
     r.0,
-    kernel_changes n id t s k d at h 2 (record l { putting = true }) (set s.homes t none) (length-set s.homes t none ∙ k.slots) (λ u ne. set_else s.homes t u none ne) refl
-        (subst (Fits 2 (record l { putting = true }) (k.hand t)) (sym (set_here s.homes t none (omega (arith, k.slots)))) r.1),
+    kernel_changes n id t s k d at h m (record l { putting = true }) (set s.homes t none) (length-set s.homes t none ∙ k.slots) (λ u ne. set_else s.homes t u none ne) refl
+        (subst (Fits m (record l { putting = true }) (k.hand t)) (sym (set_here s.homes t none (omega (arith, k.slots)))) r.1),
     ap (λ u. (Kernel (putting_desk d u), (u, None) ∷ [])) (sym (cell_of_word t)),
   )
 
@@ -55,25 +57,25 @@ module _ {T : Type 0} where
   unfolding held
   one t u x y e = ap (held x) e
 
-  ends_here : (n id t : ℕ) (d : Desk T) (x : T) → t < n → (line d t).putting ≡ true → Allows (KeepsRule n) n id (Kernel d, (t, Some x) ∷ []) (word_of t) (λ _. 3) (λ _. EndPutTells (step n (word_of t) 3 0 none) (Kernel d, (t, Some x) ∷ []) 3)
+  ends_here : (n id t : ℕ) (d : Desk T) (x : T) → t < n → (line d t).putting ≡ true → Allows (KeepsRule n) n id (Kernel d, (t, Some x) ∷ []) (word_of t) (λ _. 2) (λ _. EndPutTells (step n (word_of t) 2 0 none) (Kernel d, (t, Some x) ∷ []) 2)
   ends_here n id t d x h a s k long at small = let l = line d t in let fit = kernel_sees n id t s k d at h in let l' : Line T = record l { opened = false; putting = false; put = l.put ++ x ∷ [] } in (
     Kernel (put_desk d t x),
     gives,
     tt,
-    kernel_changes n id t s k d at h 3 l' (set s.homes t (some (Some x))) (length-set s.homes t (some (Some x)) ∙ k.slots) (λ u ne. set_else s.homes t u (some (Some x)) ne) refl
-        (subst (Fits 3 l' (k.hand t)) (sym (set_here s.homes t (some (Some x)) (omega (arith, k.slots)))) (fits_end _ l (k.hand t) _ x fit a)),
+    kernel_changes n id t s k d at h 2 l' (set s.homes t (some (Some x))) (length-set s.homes t (some (Some x)) ∙ k.slots) (λ u ne. set_else s.homes t u (some (Some x)) ne) refl
+        (subst (Fits 2 l' (k.hand t)) (sym (set_here s.homes t (some (Some x)) (omega (arith, k.slots)))) (fits_end _ l (k.hand t) _ x fit a)),
     (λ y e. ap (λ z. (Kernel (put_desk d t z), [])) (one t _ x y e) ∙ ap (λ u. (Kernel (put_desk d u y), [])) (sym (cell_of_word t))),
   )
 
-  takes_here : (n id t : ℕ) (h : Hand T) → h.thread ≡ t → t < n → Allows (KeepsRule n) n id (Thread h, []) (word_of t) (λ m. either (eqb m 3) 4 m) (TakeTells (step n (word_of t) 3 4 none) (Thread h, []))
-  takes_here n id t h is near s k long at small = let m : ℕ = get_or s.words (word_of t) 0 in let l = line k.desk t in let fit = thread_sees n id t s k h at is near in
-      exchanged m 3 4 (Ends n id (word_of t) [] s (TakeTells (step n (word_of t) 3 4 none) (Thread h, [])) m)
-      (λ e. let r = fits_take m l h _ fit e in let x : T = r.0 in let h' : Hand T = record h { taking = Some x } in (
+  takes_here : (n id t : ℕ) (h : Hand T) → h.thread ≡ t → t < n → h.taking ≡ None → Allows (KeepsRule n) n id (Thread h, []) (word_of t) (λ m. m) (TakeTells (step n (word_of t) 0 0 none) (Thread h, []))
+  takes_here n id t h is near idle s k long at small = let m : ℕ = get_or s.words (word_of t) 0 in let l = line k.desk t in let fit = thread_sees n id t s k h at is near in
+      dite (ℕ_discrete m 2)
+      (λ e. let r = fits_take m l h _ fit e idle in let x : T = r.0 in let h' : Hand T = record h { taking = Some x } in (
         Thread h',
         takes t (Some x),
         r.1,
-        thread_changes n id t s k h at is near 4 h' (set s.homes t none) (length-set s.homes t none ∙ k.slots) (λ u ne. set_else s.homes t u none ne) is
-            (subst (Fits 4 l h') (sym (set_here s.homes t none (omega (arith, k.slots)))) r.2),
+        thread_changes n id t s k h at is near m h' (set s.homes t none) (length-set s.homes t none ∙ k.slots) (λ u ne. set_else s.homes t u none ne) is
+            (subst (Fits m l h') (sym (set_here s.homes t none (omega (arith, k.slots)))) r.2),
         ((λ z. (x, ap (λ u. (Thread h', (u, Some x) ∷ [])) (sym (cell_of_word t)))), (λ ne. absurd (ne e))),
       ))
       (λ ne. (Thread h, keeps, tt, same n id (word_of t) s (Thread h) k at, ((λ z. absurd (ne z)), (λ z. refl))))
@@ -109,14 +111,14 @@ module _ {T : Type 0} where
   pub cancel_allowed : (key n id t w : ℕ) (m : Sat T) (d : Desk T) → key ≡ n → w ≡ word_of t → m ≡ (Kernel d, []) → t < n → (line d t).opened ≡ true → (line d t).putting ≡ false → Allows (KeepsRule key) n id m w (λ _. 0) (λ _. CancelTells (step n w 0 0 none) m 0)
   cancel_allowed key n id t w m d e at is h a b = along key n id t w (λ _. 0) (λ v q _. CancelTells (step n v 0 0 none) q 0) m (Kernel d, []) e is at (cancels_here n id t d h a b)
 
-  pub begin_allowed : (key n id t w : ℕ) (m : Sat T) (d : Desk T) → key ≡ n → w ≡ word_of t → m ≡ (Kernel d, []) → t < n → (line d t).opened ≡ true → (line d t).putting ≡ false → Allows (KeepsRule key) n id m w (λ _. 2) (λ _. BeginPutTells (step n w 2 0 none) m 2)
-  begin_allowed key n id t w m d e at is h a b = along key n id t w (λ _. 2) (λ v q _. BeginPutTells (step n v 2 0 none) q 2) m (Kernel d, []) e is at (begins_here n id t d h a b)
+  pub begin_allowed : (key n id t w : ℕ) (m : Sat T) (d : Desk T) → key ≡ n → w ≡ word_of t → m ≡ (Kernel d, []) → t < n → (line d t).opened ≡ true → (line d t).putting ≡ false → Allows (KeepsRule key) n id m w (λ r. r) (BeginPutTells (step n w 0 0 none) m)
+  begin_allowed key n id t w m d e at is h a b = along key n id t w (λ r. r) (λ v. BeginPutTells (step n v 0 0 none)) m (Kernel d, []) e is at (begins_here n id t d h a b)
 
-  pub end_allowed : (key n id t w : ℕ) (m : Sat T) (d : Desk T) (x : T) → key ≡ n → w ≡ word_of t → m ≡ (Kernel d, (t, Some x) ∷ []) → t < n → (line d t).putting ≡ true → Allows (KeepsRule key) n id m w (λ _. 3) (λ _. EndPutTells (step n w 3 0 none) m 3)
-  end_allowed key n id t w m d x e at is h a = along key n id t w (λ _. 3) (λ v q _. EndPutTells (step n v 3 0 none) q 3) m (Kernel d, (t, Some x) ∷ []) e is at (ends_here n id t d x h a)
+  pub end_allowed : (key n id t w : ℕ) (m : Sat T) (d : Desk T) (x : T) → key ≡ n → w ≡ word_of t → m ≡ (Kernel d, (t, Some x) ∷ []) → t < n → (line d t).putting ≡ true → Allows (KeepsRule key) n id m w (λ _. 2) (λ _. EndPutTells (step n w 2 0 none) m 2)
+  end_allowed key n id t w m d x e at is h a = along key n id t w (λ _. 2) (λ v q _. EndPutTells (step n v 2 0 none) q 2) m (Kernel d, (t, Some x) ∷ []) e is at (ends_here n id t d x h a)
 
-  pub take_allowed : (key n id t w : ℕ) (m : Sat T) (h : Hand T) → key ≡ n → w ≡ word_of t → m ≡ (Thread h, []) → h.thread ≡ t → t < n → Allows (KeepsRule key) n id m w (λ r. either (eqb r 3) 4 r) (TakeTells (step n w 3 4 none) m)
-  take_allowed key n id t w m h e at is a near = along key n id t w (λ r. either (eqb r 3) 4 r) (λ v. TakeTells (step n v 3 4 none)) m (Thread h, []) e is at (takes_here n id t h a near)
+  pub take_allowed : (key n id t w : ℕ) (m : Sat T) (h : Hand T) → key ≡ n → w ≡ word_of t → m ≡ (Thread h, []) → h.thread ≡ t → t < n → h.taking ≡ None → Allows (KeepsRule key) n id m w (λ r. r) (TakeTells (step n w 0 0 none) m)
+  take_allowed key n id t w m h e at is a near b = along key n id t w (λ r. r) (λ v. TakeTells (step n v 0 0 none)) m (Thread h, []) e is at (takes_here n id t h a near b)
 
   pub give_allowed : (key n id t w : ℕ) (m : Sat T) (h : Hand T) (x : T) → key ≡ n → w ≡ word_of t → m ≡ (Thread h, (t, None) ∷ []) → h.thread ≡ t → t < n → h.taking ≡ Some x → Allows (KeepsRule key) n id m w (λ _. 0) (λ _. GiveBackTells (step n w 0 0 none) m 0)
   give_allowed key n id t w m h x e at is a near b = along key n id t w (λ _. 0) (λ v q _. GiveBackTells (step n v 0 0 none) q 0) m (Thread h, (t, None) ∷ []) e is at (gives_here n id t h x a near b)

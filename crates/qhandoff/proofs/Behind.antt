@@ -22,11 +22,9 @@ module _ {T : Type 0} where
 
   fits_near : (w : ℕ) (l : Line T) (h : Hand T) (o : Slot T) → Fits w l h o → Near h.taken l.put
   fits_near zero l h o f = level h.taken l.put f.3
-  fits_near (suc zero) l h o f = level h.taken l.put f.3
-  fits_near (suc (suc zero)) l h o f = level h.taken l.put f.3
-  fits_near (suc (suc (suc zero))) l h o f = ahead h.taken l.put f.3.0 f.3.1
-  fits_near (suc (suc (suc (suc zero)))) l h o f = ahead h.taken l.put f.2.0 f.2.2
-  fits_near (suc (suc (suc (suc (suc w))))) l h o f = absurd f
+  fits_near (suc zero) l h o f = level h.taken l.put f.2
+  fits_near (suc (suc zero)) l h o f = ahead h.taken l.put f.2.0 f.2.1
+  fits_near (suc (suc (suc w))) l h o f = absurd f
 
   pub taken_is_near : (n : ℕ) (s : St T) (d : Desk T) (h : Hand T) (i j : ℕ) → KeepsRule n s → get_elem? s.views i ≡ some (Kernel d) → get_elem? s.views j ≡ some (Thread h) → h.thread < n → Near h.taken (line d h.thread).put
   taken_is_near n s d h i j k at at' near = let near' = fits_near (get_or s.words (word_of h.thread) 0) (line k.desk h.thread) (k.hand h.thread) (get_elem? s.homes h.thread) (k.each_cell h.thread near).0 in

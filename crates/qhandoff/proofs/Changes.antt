@@ -14,7 +14,7 @@ use Rattle.qhandoff.specs.declared.view.Desk.{Desk}
 use Rattle.qhandoff.specs.declared.view.Hand.{Hand}
 use Rattle.qhandoff.specs.declared.view.View.{View}
 use Rattle.qhandoff.specs.declared.view.View.TheVariants.{Kernel, Thread, Joined}
-use Rattle.qhandoff.specs.Rule.{KeepsRule, Fits, Settled, Knows, line, with_line, idle_line, word_of, cell_of}
+use Rattle.qhandoff.specs.Rule.{KeepsRule, Fits, FitsPut, FitsTake, Settled, Knows, line, with_line, idle_line, word_of, cell_of}
 use Rattle.qhandoff.specs.Steps.{IsBusy}
 
 pub hand_at : {H : Type 0} → (ℕ → H) → ℕ → H → ℕ → H
@@ -142,9 +142,22 @@ module _ {T : Type 0} where
   pub thread_sees : (n id t : ℕ) (s : St T) (k : KeepsRule n s) (h : Hand T) → get_elem? s.views id ≡ some (Thread h) → h.thread ≡ t → t < n → Fits (get_or s.words (word_of t) 0) (line k.desk t) h (get_elem? s.homes t)
   thread_sees n id t s k h at is near = subst (λ z. Fits (get_or s.words (word_of t) 0) (line k.desk t) z (get_elem? s.homes t)) (ap k.hand (sym is) ∙ sym (k.each_seat id (Thread h) at).1) (k.each_cell t near).0
 
+  nothing : (x : T) (o : Option T) → o ≡ None → o ≡ Some x → ⊥
+  nothing x o e g = let P : Option T → Type 0 = elim [ None ↦ Unit {0} | Some y ↦ ⊥ ] in subst P (sym e ∙ g) tt
+
+  -- the slot of an opened cell that isn't being put
+  pub still_empty : (l : Line T) (o : maybe.Option (maybe.Option (Option T))) → FitsPut l o → l.putting ≡ false → o ≡ some (some None)
+  still_empty l o (inl p) b = p.1
+  still_empty l o (inr p) b = absurd (clash l.putting b p.0)
+
+  -- the slot of a full cell that isn't being taken
+  pub still_has : (h : Hand T) (x : T) (o : maybe.Option (maybe.Option (Option T))) → FitsTake h x o → h.taking ≡ None → o ≡ some (some (Some x))
+  still_has h x o (inl p) b = p.1
+  still_has h x o (inr p) b = absurd (nothing x h.taking b p.0)
+
   -- what each step makes of a cell
   pub fits_open : (w : ℕ) (l : Line T) (h : Hand T) (o : maybe.Option (maybe.Option (Option T))) → Fits w l h o → w ≡ 0 → Fits 1 (record l { opened = true }) h o
-  fits_open zero l h o f e = (refl, f.1, f.2, f.3, f.4)
+  fits_open zero l h o f e = (refl, f.2, f.3, inl (f.1, f.4))
   fits_open (suc w) l h o f e = absurd (omega arith)
 
   pub fits_idle : (w : ℕ) (l : Line T) (h : Hand T) (o : maybe.Option (maybe.Option (Option T))) → Fits w l h o → w ≡ 0 → l.opened ≡ false
@@ -157,49 +170,45 @@ module _ {T : Type 0} where
   pub fits_busy : (w : ℕ) (l : Line T) (h : Hand T) (o : maybe.Option (maybe.Option (Option T))) → Fits w l h o → w ≢ 0 → IsBusy l
   fits_busy zero l h o f n = absurd (n refl)
   fits_busy (suc zero) l h o f n = inl f.0
-  fits_busy (suc (suc zero)) l h o f n = inl f.0
-  fits_busy (suc (suc (suc zero))) l h o f n = inr (longer l.put h.taken f.3.0 f.3.1)
-  fits_busy (suc (suc (suc (suc zero)))) l h o f n = inr (longer l.put h.taken f.2.0 f.2.2)
-  fits_busy (suc (suc (suc (suc (suc w))))) l h o f n = absurd f
+  fits_busy (suc (suc zero)) l h o f n = inr (longer l.put h.taken f.2.0 f.2.1)
+  fits_busy (suc (suc (suc w))) l h o f n = absurd f
 
   pub fits_cancel : (w : ℕ) (l : Line T) (h : Hand T) (o : maybe.Option (maybe.Option (Option T))) → Fits w l h o → l.opened ≡ true → l.putting ≡ false → Fits 0 (record l { opened = false }) h o
   fits_cancel zero l h o f a b = absurd (clash l.opened f.0 a)
-  fits_cancel (suc zero) l h o f a b = (refl, f.1, f.2, f.3, f.4)
-  fits_cancel (suc (suc zero)) l h o f a b = absurd (clash l.putting b f.1)
-  fits_cancel (suc (suc (suc zero))) l h o f a b = absurd (clash l.opened f.0 a)
-  fits_cancel (suc (suc (suc (suc zero)))) l h o f a b = absurd (clash l.opened f.0 a)
-  fits_cancel (suc (suc (suc (suc (suc w))))) l h o f a b = absurd f
+  fits_cancel (suc zero) l h o f a b = (refl, b, f.1, f.2, still_empty l o f.3 b)
+  fits_cancel (suc (suc zero)) l h o f a b = absurd (clash l.opened f.0 a)
+  fits_cancel (suc (suc (suc w))) l h o f a b = absurd f
 
-  pub fits_begin : (w : ℕ) (l : Line T) (h : Hand T) (o : maybe.Option (maybe.Option (Option T))) → Fits w l h o → l.opened ≡ true → l.putting ≡ false → (o ≡ some (some None)) × Fits 2 (record l { putting = true }) h (some none)
+  pub fits_begin : (w : ℕ) (l : Line T) (h : Hand T) (o : maybe.Option (maybe.Option (Option T))) → Fits w l h o → l.opened ≡ true → l.putting ≡ false → (o ≡ some (some None)) × Fits w (record l { putting = true }) h (some none)
   fits_begin zero l h o f a b = absurd (clash l.opened f.0 a)
-  fits_begin (suc zero) l h o f a b = (f.4, (a, refl, f.2, f.3, refl))
-  fits_begin (suc (suc zero)) l h o f a b = absurd (clash l.putting b f.1)
-  fits_begin (suc (suc (suc zero))) l h o f a b = absurd (clash l.opened f.0 a)
-  fits_begin (suc (suc (suc (suc zero)))) l h o f a b = absurd (clash l.opened f.0 a)
-  fits_begin (suc (suc (suc (suc (suc w))))) l h o f a b = absurd f
+  fits_begin (suc zero) l h o f a b = (still_empty l o f.3 b, (f.0, f.1, f.2, inr (refl, refl)))
+  fits_begin (suc (suc zero)) l h o f a b = absurd (clash l.opened f.0 a)
+  fits_begin (suc (suc (suc w))) l h o f a b = absurd f
 
-  pub fits_end : (w : ℕ) (l : Line T) (h : Hand T) (o : maybe.Option (maybe.Option (Option T))) (x : T) → Fits w l h o → l.putting ≡ true → Fits 3 (record l { opened = false; putting = false; put = l.put ++ x ∷ [] }) h (some (some (Some x)))
+  pub fits_end : (w : ℕ) (l : Line T) (h : Hand T) (o : maybe.Option (maybe.Option (Option T))) (x : T) → Fits w l h o → l.putting ≡ true → Fits 2 (record l { opened = false; putting = false; put = l.put ++ x ∷ [] }) h (some (some (Some x)))
   fits_end zero l h o x f a = absurd (clash l.putting f.1 a)
-  fits_end (suc zero) l h o x f a = absurd (clash l.putting f.1 a)
-  fits_end (suc (suc zero)) l h o x f a = (refl, refl, f.2, (x, ap (λ ys. ys ++ x ∷ []) f.3, refl))
-  fits_end (suc (suc (suc zero))) l h o x f a = absurd (clash l.putting f.1 a)
-  fits_end (suc (suc (suc (suc zero)))) l h o x f a = absurd (clash l.putting f.1 a)
-  fits_end (suc (suc (suc (suc (suc w))))) l h o x f a = absurd f
+  fits_end (suc zero) l h o x f a = (refl, refl, (x, ap (λ ys. ys ++ x ∷ []) f.2, inl (f.1, refl)))
+  fits_end (suc (suc zero)) l h o x f a = absurd (clash l.putting f.1 a)
+  fits_end (suc (suc (suc w))) l h o x f a = absurd f
 
-  pub fits_take : (w : ℕ) (l : Line T) (h : Hand T) (o : maybe.Option (maybe.Option (Option T))) → Fits w l h o → w ≡ 3 → (x : T) × (o ≡ some (some (Some x))) × Fits 4 l (record h { taking = Some x }) (some none)
-  fits_take w l h o f e = let g : Fits 3 l h o = subst (λ z. Fits z l h o) e f in (g.3.0, g.3.2, (g.0, g.1, (g.3.0, refl, g.3.1, refl)))
+  pub fits_take : (w : ℕ) (l : Line T) (h : Hand T) (o : maybe.Option (maybe.Option (Option T))) → Fits w l h o → w ≡ 2 → h.taking ≡ None → (x : T) × (o ≡ some (some (Some x))) × Fits w l (record h { taking = Some x }) (some none)
+  fits_take zero l h o f e b = absurd (omega arith)
+  fits_take (suc zero) l h o f e b = absurd (omega arith)
+  fits_take (suc (suc zero)) l h o f e b = (f.2.0, still_has h f.2.0 o f.2.2 b, (f.0, f.1, (f.2.0, f.2.1, inr (refl, refl))))
+  fits_take (suc (suc (suc w))) l h o f e b = absurd f
 
-  nothing : (x : T) (o : Option T) → o ≡ None → o ≡ Some x → ⊥
-  nothing x o e g = let P : Option T → Type 0 = elim [ None ↦ Unit {0} | Some y ↦ ⊥ ] in subst P (sym e ∙ g) tt
+  inside : T → Option T → T
+  inside d None = d
+  inside d (Some y) = y
+
+  -- what the thread is taking out of a full cell
+  in_hand : (h : Hand T) (y x : T) (o : maybe.Option (maybe.Option (Option T))) → FitsTake h y o → h.taking ≡ Some x → y ≡ x
+  unfolding inside
+  in_hand h y x o (inl p) a = absurd (nothing x h.taking p.0 a)
+  in_hand h y x o (inr p) a = ap (inside x) (sym p.0 ∙ a)
 
   pub fits_give : (w : ℕ) (l : Line T) (h : Hand T) (o : maybe.Option (maybe.Option (Option T))) (x : T) → Fits w l h o → h.taking ≡ Some x → Fits 0 l (record h { taken = h.taken ++ x ∷ []; taking = None }) (some (some None))
   fits_give zero l h o x f a = absurd (nothing x h.taking f.2 a)
-  fits_give (suc zero) l h o x f a = absurd (nothing x h.taking f.2 a)
-  fits_give (suc (suc zero)) l h o x f a = absurd (nothing x h.taking f.2 a)
-  fits_give (suc (suc (suc zero))) l h o x f a = absurd (nothing x h.taking f.2 a)
-  fits_give (suc (suc (suc (suc zero)))) l h o x f a = let same : f.2.0 ≡ x = ap (unwrap_or' x) (sym f.2.1 ∙ a) in (f.0, f.1, refl, f.2.2 ∙ ap (λ y. h.taken ++ y ∷ []) same, refl)
-    where
-      unwrap_or' : T → Option T → T
-      unwrap_or' d None = d
-      unwrap_or' d (Some y) = y
-  fits_give (suc (suc (suc (suc (suc w))))) l h o x f a = absurd f
+  fits_give (suc zero) l h o x f a = absurd (nothing x h.taking f.1 a)
+  fits_give (suc (suc zero)) l h o x f a = (f.0, f.1, refl, f.2.1 ∙ ap (λ y. h.taken ++ y ∷ []) (in_hand h f.2.0 x o f.2.2 a), refl)
+  fits_give (suc (suc (suc w))) l h o x f a = absurd f

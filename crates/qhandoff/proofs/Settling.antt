@@ -1,6 +1,5 @@
 -- The seats are joined, and the cells are closed.
 use Rattle.std.proofs.Common.{◌≡◌, ◌≢◌, ℕ, zero, suc, ◌<◌, false, List, [], ◌∷◌, ◌++◌, length, get_or, set, sym, refl, ap, ◌∙◌, subst, ⊎_elim, arith, Option, Some, None, length-set, append-nil}
-use Rattle.std.proofs.lemmas.Bool.{false≢true}
 use mathlib.Core.Option.{none, some, some-injective, some-ne-none}
 use mathlib.Core.Option as maybe
 use lib.ListN.{get_elem?}
@@ -14,7 +13,7 @@ use Rattle.qhandoff.specs.declared.view.View.TheVariants.{Kernel, Thread, Joined
 use Rattle.qhandoff.specs.Rule.{KeepsRule, Fits, Settled, Knows, line, with_line, word_of}
 use Rattle.qhandoff.specs.Steps.{joined_views, joined_desk}
 use Rattle.qhandoff.specs.Words.{one}
-use Rattle.qhandoff.proofs.Changes.{St, there, line_else, line_here, cells_stay, CellOk}
+use Rattle.qhandoff.proofs.Changes.{St, there, line_else, line_here, cells_stay, CellOk, still_empty, still_has}
 use Rattle.qhandoff.proofs.Allowed.{Sat}
 
 module _ {T : Type 0} where
@@ -22,9 +21,7 @@ module _ {T : Type 0} where
   refits zero l h o x f = f
   refits (suc zero) l h o x f = f
   refits (suc (suc zero)) l h o x f = f
-  refits (suc (suc (suc zero))) l h o x f = f
-  refits (suc (suc (suc (suc zero)))) l h o x f = f
-  refits (suc (suc (suc (suc (suc w))))) l h o x f = f
+  refits (suc (suc (suc w))) l h o x f = f
 
   knows_joined : (d : Desk T) (t : ℕ) (l : Line T) (hand : ℕ → Hand T) (j : ℕ) (v : View T) → j ≢ 0 → j ≢ suc t → Knows d hand j v → Knows (with_line d t l) hand j v
   knows_joined d t l hand j (Kernel e) n m q = absurd (n q.0)
@@ -66,17 +63,12 @@ module _ {T : Type 0} where
   none_left : (l : Line T) (h : Hand T) (ts : List T) → l.put ≡ h.taken → ts ≡ h.taken → ts ++ one None ≡ l.put
   none_left l h ts e f = append-nil ts ∙ f ∙ sym e
 
-  nothing : (x : T) (o : Option T) → o ≡ None → o ≡ Some x → ⊥
-  nothing x o e g = let P : Option T → Type 0 = elim [ None ↦ Unit {0} | Some y ↦ ⊥ ] in subst P (sym e ∙ g) tt
-
   closes : (w : ℕ) (l : Line T) (h : Hand T) (o : maybe.Option (maybe.Option (Option T))) (x : maybe.Option (Option T)) (ts : List T) → Fits w l h o → l.putting ≡ false → ts ≡ h.taken → h.taking ≡ None
       → ((y : Option T) → o ≡ some (some y) → x ≡ some y) → Closes w l ts x
   closes zero l h o x ts f quiet e idle get = (None, get None f.4, none_left l h ts f.3 e)
-  closes (suc zero) l h o x ts f quiet e idle get = (None, get None f.4, none_left l h ts f.3 e)
-  closes (suc (suc zero)) l h o x ts f quiet e idle get = absurd (false≢true (sym quiet ∙ f.1))
-  closes (suc (suc (suc zero))) l h o x ts f quiet e idle get = let z : T = f.3.0 in (Some z, get (Some z) f.3.2, ap (λ ys. ys ++ z ∷ []) e ∙ sym f.3.1)
-  closes (suc (suc (suc (suc zero)))) l h o x ts f quiet e idle get = absurd (nothing f.2.0 h.taking idle f.2.1)
-  closes (suc (suc (suc (suc (suc w))))) l h o x ts f quiet e idle get = absurd f
+  closes (suc zero) l h o x ts f quiet e idle get = (None, get None (still_empty l o f.3 quiet), none_left l h ts f.2 e)
+  closes (suc (suc zero)) l h o x ts f quiet e idle get = let z : T = f.2.0 in (Some z, get (Some z) (still_has h z o f.2.2 idle), ap (λ ys. ys ++ z ∷ []) e ∙ sym f.2.1)
+  closes (suc (suc (suc w))) l h o x ts f quiet e idle get = absurd f
 
   settled : (o : Option (List T)) (h : Hand T) (ts : List T) → o ≡ Some ts → Settled o h → (ts ≡ h.taken) × (h.taking ≡ None)
   settled o h ts e s = let r : Settled (Some ts) h = subst (λ z. Settled z h) e s in r

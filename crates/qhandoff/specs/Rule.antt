@@ -1,6 +1,7 @@
 -- The rule of the cells: what holds between any two steps of any seats.
--- A cell is a word and a slot. The word is 0 idle, 1 opened, 2 putting, 3 full or 4 taking.
-use Rattle.std.specs.Prelude.{◌≡◌, ℕ, zero, suc, ◌*◌, ◌/◌, ◌<◌, ◌≤◌, true, false, List, [], ◌∷◌, ◌++◌, length}
+-- A cell is a word and a slot. The word is 0 idle, 1 opened or 2 full.
+use Rattle.std.specs.Prelude.{◌≡◌, ◌⊎◌, ℕ, zero, suc, ◌*◌, ◌/◌, ◌<◌, ◌≤◌, true, false, List, [], ◌∷◌}
+use Rattle.std.specs.Prelude.{◌++◌, length}
 use Rattle.std.specs.Prelude.{Option, Some, None, slice_index, slice_index_or, slice_set}
 use mathlib.Core.Option.{some, none}
 use mathlib.Core.Option as maybe
@@ -61,20 +62,22 @@ module _ {T : Type 0} where
   abbrev pub AllTakenBut : Line T → Hand T → T → Type 0
   AllTakenBut l h x = l.put ≡ h.taken ++ x ∷ []
 
+  -- an opened cell's slot is empty, or the kernel's seat holds it, which is putting a completion
+  abbrev pub FitsPut : Line T → Slot T → Type 0
+  FitsPut l o = ((l.putting ≡ false) × IsEmpty o) ⊎ ((l.putting ≡ true) × IsHeld o)
+
+  -- a full cell's slot has x, or the thread's seat holds it, which is taking x
+  abbrev pub FitsTake : Hand T → T → Slot T → Type 0
+  FitsTake h x o = ((h.taking ≡ None) × Has o x) ⊎ ((h.taking ≡ Some x) × IsHeld o)
+
   -- for each value of a cell's word: whether the cell is opened, whether a completion is being put, whether
   -- the thread is taking one, whether all that was put was taken, and where the slot is
   abbrev pub Fits : ℕ → Line T → Hand T → Slot T → Type 0
   Fits zero l h o = (l.opened ≡ false) × (l.putting ≡ false) × (h.taking ≡ None) × AllTaken l h × IsEmpty o
-  Fits (suc zero) l h o = (l.opened ≡ true) × (l.putting ≡ false) × (h.taking ≡ None) × AllTaken l h
-      × IsEmpty o
+  Fits (suc zero) l h o = (l.opened ≡ true) × (h.taking ≡ None) × AllTaken l h × FitsPut l o
   Fits (suc (suc zero)) l h o =
-      (l.opened ≡ true) × (l.putting ≡ true) × (h.taking ≡ None) × AllTaken l h × IsHeld o
-  Fits (suc (suc (suc zero))) l h o =
-      (l.opened ≡ false) × (l.putting ≡ false) × (h.taking ≡ None) × ((x : T) × AllTakenBut l h x × Has o x)
-  Fits (suc (suc (suc (suc zero)))) l h o =
-      (l.opened ≡ false) × (l.putting ≡ false)
-      × ((x : T) × (h.taking ≡ Some x) × AllTakenBut l h x × IsHeld o)
-  Fits (suc (suc (suc (suc (suc n))))) l h o = ⊥
+      (l.opened ≡ false) × (l.putting ≡ false) × ((x : T) × AllTakenBut l h x × FitsTake h x o)
+  Fits (suc (suc (suc n))) l h o = ⊥
 
   -- a joined seat took what its line says, and isn't taking
   abbrev pub Settled : Option (List T) → Hand T → Type 0

@@ -93,25 +93,25 @@ module _ {T : Type 0} where
   abbrev pub CancelTells : Tells T
   CancelTells st m r m' = m' ≡ (Kernel (cancelled_desk (desk_in m.0) (cell_of st.word)), m.1)
 
-  -- begin put, by the kernel's seat, 2 over 1: it holds the slot, which is empty
+  -- begin put, by the kernel's seat, at 1: it holds the slot, which is empty
   abbrev pub BeginPutTells : Tells T
   BeginPutTells st m r m' = m'
       ≡ (Kernel (putting_desk (desk_in m.0) (cell_of st.word)), (cell_of st.word, None) ∷ m.1)
 
-  -- end put, by the kernel's seat, 3 over 2: the value that is in the slot by then was put, and the slot is
+  -- end put, by the kernel's seat, 2 over 1: the value that is in the slot by then was put, and the slot is
   -- released
   abbrev pub EndPutTells : Tells T
   EndPutTells st m r m' = (x : T) → m.1 ≡ (cell_of st.word, Some x) ∷ []
       → m' ≡ (Kernel (put_desk (desk_in m.0) (cell_of st.word) x), [])
 
-  -- take, by the thread's seat, 3 to 4: if it found 3, it holds the slot and the value in it; otherwise
+  -- take, by the thread's seat: if it found 2, it holds the slot and the value in it; otherwise
   -- nothing changes
   abbrev pub TakeTells : Tells T
-  TakeTells st m r m' = (r ≡ 3
+  TakeTells st m r m' = (r ≡ 2
       → (x : T) × (m' ≡ (Thread (taking_hand (hand_in m.0) x), (cell_of st.word, Some x) ∷ m.1)))
-      × (¬ (r ≡ 3) → m' ≡ m)
+      × (¬ (r ≡ 2) → m' ≡ m)
 
-  -- give back, by the thread's seat, 0 over 4: it has taken the value that it was taking, and the slot is
+  -- give back, by the thread's seat, 0 over 2: it has taken the value that it was taking, and the slot is
   -- released
   abbrev pub GiveBackTells : Tells T
   GiveBackTells st m r m' = (x : T) → (hand_in m.0).taking ≡ Some x

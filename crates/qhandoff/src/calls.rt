@@ -17,14 +17,8 @@ const IDLE: u64 = 0;
 /// The cell is opened for a completion that is still to come.
 const OPENED: u64 = 1;
 
-/// The kernel's seat is putting a completion, and holds the slot.
-const PUTTING: u64 = 2;
-
-/// The slot has a completion that isn't taken.
-const FULL: u64 = 3;
-
-/// The thread's seat is taking the completion, and holds the slot.
-const TAKING: u64 = 4;
+/// A completion was put that isn't taken.
+const FULL: u64 = 2;
 
 impl<T: Drop> KernelSeat<T> {
     /// Opens the cell of a thread and returns true. Returns false and changes nothing if the cell isn't idle: it is
@@ -69,11 +63,11 @@ impl<T: Drop> KernelSeat<T> {
     {
         let shared = &cells.table.shared;
         let word = word_of(thread);
-        // SeqCst. Relaxed is enough: it marks what only this seat does, and the thread does the same at 2 as at 1.
-        shared.store::<BeginPut>(&mut self.seat, word, PUTTING);
-        // No atomic step: this seat holds the slot, so this is a plain read and a plain write.
+        // SeqCst. No load is needed but by the proof: no other seat touches the slot of an opened cell.
+        shared.load::<BeginPut>(&mut self.seat, word);
+        // No atomic step: this seat holds the slot from then on, so this is a plain read and a plain write.
         drop(shared.exchange(&mut self.seat, thread, Some(completion)));
-        // SeqCst. Release is enough: a thread that finds 3 by an acquire sees the whole completion in the slot.
+        // SeqCst. Release is enough: a thread that finds 2 by an acquire sees the whole completion in the slot.
         shared.store::<EndPut>(&mut self.seat, word, FULL);
     }
 }
@@ -97,16 +91,11 @@ impl<T: Drop> ThreadSeat<T> {
         let shared = &cells.table.shared;
         let thread = self.thread;
         let word = word_of(thread);
-        // SeqCst. Relaxed is enough: the load only saves an exchange that would fail, and the exchange tests the word
-        // again.
-        if shared.peek(word) != FULL {
-            return None;
-        }
         // SeqCst. Acquire is enough: it meets the release of end put, so the whole completion is seen.
-        if shared.compare_exchange::<Take>(&mut self.seat, word, FULL, TAKING) != FULL {
+        if shared.load::<Take>(&mut self.seat, word) != FULL {
             return None;
         }
-        // No atomic step: this seat holds the slot, so this is a plain read and a plain write.
+        // No atomic step: no other seat touches the slot of a full cell, so this is a plain read and a plain write.
         let completion = shared.exchange(&mut self.seat, thread, None);
         // SeqCst. Release is enough: a seat that finds 0 by an acquire sees the slot as it was left.
         shared.store::<GiveBack>(&mut self.seat, word, IDLE);
