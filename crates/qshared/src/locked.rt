@@ -37,6 +37,13 @@ pub(crate) struct Locked<K: Tie, L: Log> {
     ghost heard_all: { AreCallsOf K.names.roster (map (λ h. h.calls) heard.items) traced.past },
 }
 
+/// A thread, and the number of its cell.
+#[derive(Clone, Copy)]
+pub(crate) struct ThreadCell {
+    pub(crate) thread: ThreadNo,
+    pub(crate) cell: usize,
+}
+
 /// Returns whether the call is an event.
 fn is_event(performed: &Performed) -> bool
     ensures { result ≡ is_event performed.now }
@@ -86,17 +93,16 @@ impl<K: Tie, L: Log> Locked<K, L> {
     pub(crate) fn call(
         &mut self,
         cells: &Cells<Completion>,
-        thread: ThreadNo,
-        cell: usize,
+        own: ThreadCell,
         share: &mut Share<K>,
         asked: &mut Asked,
         call: Call,
     ) -> Performed
         requires cells { cells_id cells.now ≡ K.names.cells }
         requires part { 0 < share.old.parts }
-        requires thread { (place (threads_of K.names.roster) thread ≡ Some cell) × (cell < K.names.cells.slots) }
-        requires asked { slice_index_or K.names.lists cell 0 ≡ asked.old.name }
-        ensures came { AtPast K.names.roster thread asked.old.calls (Comes K.names.roster L.refuses L.admits thread call result) }
+        requires thread { (place (threads_of K.names.roster) own.thread ≡ Some own.cell) × (own.cell < K.names.cells.slots) }
+        requires asked { slice_index_or K.names.lists own.cell 0 ≡ asked.old.name }
+        ensures came { AtPast K.names.roster own.thread asked.old.calls (Comes K.names.roster L.refuses L.admits own.thread call result) }
         ensures parts { share.new.parts ≡ share.old.parts }
         ensures amount { share.new.amount ≡ share.old.amount + one_if (is_event result) }
         ensures name { asked.new.name ≡ asked.old.name }
@@ -105,11 +111,11 @@ impl<K: Tie, L: Log> Locked<K, L> {
     {
         let _events = self.traced.len();
         self.book.audit(share);
-        agree(asked, &mut self.heard, cell);
+        agree(asked, &mut self.heard, own.cell);
         let asking = Snapshot::of(&call);
-        let performed = self.traced.perform(cells, thread, call);
+        let performed = self.traced.perform(cells, own.thread, call);
         if is_event(&performed) {
-            asked.ask(&mut self.heard[cell], &asking);
+            asked.ask(&mut self.heard[own.cell], &asking);
             self.book.add(share, 1);
         }
         performed

@@ -8,8 +8,9 @@ ghost use Rattle.qshared.specs.Answered.{AtPast, Answered};
 ghost use Rattle.qshared.specs.Counting.{is_call, gives, pends};
 ghost use Rattle.qshared.specs.TwoCalls.{AnsweredBoth, is_ok, calls_in, asked_by, gives_both, pends_both};
 
-use crate::locked::Locked;
+use crate::locked::{Locked, ThreadCell};
 use crate::log::Log;
+use crate::patience::Patience;
 use crate::performed::Performed;
 use crate::shared::Shared;
 use crate::spinning;
@@ -24,14 +25,6 @@ use qmodel::call::{Call, Completion, Mark};
 use qpast::asking::Asked;
 use std::sync::Wait;
 use std::sync::ledger::Share;
-
-/// The most times that `wait` looks for an ending before it sleeps. It pauses between two looks, twice as long each
-/// time up to 64 pauses, for some tens of microseconds in all. It never yields its core: on a busy machine a process
-/// that computes would keep it for milliseconds.
-const MOST_LOOKS: u32 = 30;
-
-/// The fewest times that `wait` looks: for some microseconds, which is a round trip on a quiet machine.
-const LEAST_LOOKS: u32 = 8;
 
 /// What a port returns for a call. The calls of `crates/qcalls` read their results off it.
 #[derive(Debug, Drop)]
@@ -65,9 +58,7 @@ pub struct Port<K: Tie> {
     pub(crate) calls: u64,
     pub(crate) pending: bool,
     pub(crate) parker: Parker,
-    // The number of looks of the next wait: half as many after a wait that looked in vain, twice as many after one that
-    // didn't.
-    pub(crate) looks: u32,
+    pub(crate) patience: Patience,
     // Its calls that are events; only contracts read them.
     pub(crate) asked: Asked,
     ghost seat_is: { thread_id seat ≡ K.names.cells },
@@ -103,13 +94,13 @@ fn take(
     completion
 }
 
-/// Takes the ending that was put for a thread, as `take` does, but looks up to `looks` times, with pauses between.
-/// Doubles `looks` if an ending was found and halves it if not, within the limits.
+/// Takes the ending that was put for a thread, as `take` does, but looks as many times as the thread has patience, with
+/// pauses between.
 fn look(
     seat: &mut ThreadSeat<Completion>,
     cells: &Cells<Completion>,
     pending: &mut bool,
-    looks: &mut u32,
+    patience: &mut Patience,
 ) -> Option<Completion>
     requires { IsThreadOf cells.now seat.old }
     ensures seat { (thread_id seat.new ≡ thread_id seat.old) × (thread_of seat.new ≡ thread_of seat.old) }
@@ -117,15 +108,15 @@ fn look(
     ensures pending { MatchOption result (pending.new ≡ pending.old) (λ x. pending.new ≡ false) }
 {
     let backoff = Backoff::new();
-    for _ in 0..*looks {
+    for _ in 0..patience.looks() {
         let completion = take(seat, cells, pending);
         if completion.is_some() {
-            *looks = MOST_LOOKS.min(looks.saturating_mul(2));
+            patience.note(true);
             return completion;
         }
         backoff.spin();
     }
-    *looks = LEAST_LOOKS.max(*looks / 2);
+    patience.note(false);
     None
 }
 
@@ -149,7 +140,7 @@ impl<K: Tie> Port<K> {
             calls: 0,
             pending: false,
             parker,
-            looks: MOST_LOOKS,
+            patience: Patience::new(),
             asked,
         }
     }
@@ -171,7 +162,7 @@ impl<K: Tie> Port<K> {
     {
         let (called, woken) = {
             let mut guard = spinning::lock(&shared.lock, rt);
-            let locked = &mut *guard;
+            let locked = &mut **guard;
             let called = self.make(&shared.cells, locked, call);
             (called, locked.traced.woken)
         };
@@ -199,7 +190,7 @@ impl<K: Tie> Port<K> {
     {
         let (called, woken) = {
             let mut guard = spinning::lock(&shared.lock, rt);
-            let locked = &mut *guard;
+            let locked = &mut **guard;
             let first = self.make(&shared.cells, locked, first);
             let woken = locked.traced.woken;
             match first {
@@ -240,14 +231,11 @@ impl<K: Tie> Port<K> {
         ensures same { (self.new.thread ≡ self.old.thread) × (thread_of self.new.seat ≡ thread_of self.old.seat) }
     {
         let place = self.seat.thread();
-        let performed = locked.call(
-            cells,
-            self.thread,
-            place,
-            &mut self.share,
-            &mut self.asked,
-            call,
-        );
+        let own = ThreadCell {
+            thread: self.thread,
+            cell: place,
+        };
+        let performed = locked.call(cells, own, &mut self.share, &mut self.asked, call);
         match performed {
             Performed::Refused(errno, call) => Called::Refused(errno, call),
             Performed::Open => {
@@ -286,19 +274,39 @@ impl<K: Tie> Port<K> {
         ensures pending { self.new.pending ≡ false }
         ensures same { (self.new.thread ≡ self.old.thread) × (thread_of self.new.seat ≡ thread_of self.old.seat) × (self.new.calls ≡ self.old.calls) × (self.new.asked ≡ self.old.asked) }
     {
+        let found = look(
+            &mut self.seat,
+            &shared.cells,
+            &mut self.pending,
+            &mut self.patience,
+        );
+        if let Some(completion) = found {
+            return completion;
+        }
         for _ in rt.forever() {
-            let completion = look(
-                &mut self.seat,
-                &shared.cells,
-                &mut self.pending,
-                &mut self.looks,
-            );
-            if let Some(completion) = completion {
+            if let Some(completion) = self.sleep(shared, rt) {
                 return completion;
             }
-            self.parker.park(rt);
         }
         unreachable!()
+    }
+
+    /// Sleeps until the thread is woken, unless its ending is there already, and takes the ending. `None` if it was woken
+    /// for no reason.
+    fn sleep<L: Log, R: Wait>(&mut self, shared: &Shared<K, L>, rt: &R) -> Option<Completion>
+        ensures taken { MatchOption result (taken self.new.seat ≡ taken self.old.seat) (λ x. taken self.new.seat ≡ taken self.old.seat ++ x ∷ []) }
+        ensures pending { MatchOption result (self.new.pending ≡ self.old.pending) (λ x. self.new.pending ≡ false) }
+        ensures same { (self.new.thread ≡ self.old.thread) × (thread_of self.new.seat ≡ thread_of self.old.seat) × (self.new.calls ≡ self.old.calls) × (self.new.asked ≡ self.old.asked) }
+    {
+        let cell = self.seat.thread();
+        shared.set_asleep(cell, true);
+        let mut completion = take(&mut self.seat, &shared.cells, &mut self.pending);
+        if completion.is_none() {
+            self.parker.park(rt);
+            completion = take(&mut self.seat, &shared.cells, &mut self.pending);
+        }
+        shared.set_asleep(cell, false);
+        completion
     }
 
     /// Returns whether a call was blocked and its ending isn't collected yet.

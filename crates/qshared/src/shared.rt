@@ -24,7 +24,8 @@ use crate::report::{Report, Tally};
 use crate::tie::Tie;
 use crate::traced::Traced;
 use crate::unkept::Unkept;
-use crossbeam_utils::sync::{Parker, Unparker};
+use crate::waker::Waker;
+use crossbeam_utils::sync::Parker;
 use qbase::errno::Errno;
 use qbase::ids::ThreadNo;
 use qhandoff::cells::Cells;
@@ -39,8 +40,10 @@ use std::sync::ledger::Share;
 #[derive(Drop)]
 pub struct Shared<K: Tie, L: Log> {
     pub(crate) cells: Cells<Completion>,
-    pub(crate) lock: Mutex<Locked<K, L>>,
-    pub(crate) unparkers: Vec<Unparker>,
+    // In a box, so that a thread that waits for the lock doesn't take a line of the kernel from the holder when it looks.
+    pub(crate) lock: Mutex<Box<Locked<K, L>>>,
+    // One for each port, by the number of its cell.
+    wakers: Vec<Waker>,
     ghost cells_are: { cells_id cells ≡ K.names.cells },
 }
 
@@ -65,14 +68,14 @@ fn without_places(mut left: Vec<(usize, Completion)>, mut room: Vec<Completion>)
     room
 }
 
-/// Makes a port for each seat, with its share of the ledger, and the unparkers that wake the ports' threads.
+/// Makes a port for each seat, with its share of the ledger, and what wakes the ports' threads.
 fn ports_for<K: Tie>(
     alloc: Global,
     threads: &[ThreadNo],
     seats: Vec<ThreadSeat<Completion>>,
     mut asked: Vec<Asked>,
     spare: &mut Share<K>,
-) -> Result<(Vec<Port<K>>, Vec<Unparker>), AllocError>
+) -> Result<(Vec<Port<K>>, Vec<Waker>), AllocError>
     requires roster { IsRoster K.names.roster × (threads.now ≡ threads_of K.names.roster) }
     requires seats { (length seats.items ≡ length threads.now) × IsRow K.names.cells seats.items × ((k : ℕ) → took (get_elem? seats.items k) ≡ []) }
     requires asked { (map (λ a. a.name) asked.items ≡ K.names.lists) × (length asked.items ≡ K.names.cells.slots) × ((k : ℕ) → asked_in (get_elem? asked.items k) ≡ []) }
@@ -83,11 +86,11 @@ fn ports_for<K: Tie>(
     ensures new { IfOk result (λ r. (k : ℕ) (p : _) → get_elem? r.0.items k ≡ some p → (p.calls ≡ 0) × (p.pending ≡ false) × (taken p.seat ≡ []) × (p.asked.calls ≡ [])) }
 {
     let mut ports = Vec::with_capacity(alloc, seats.len())?;
-    let mut unparkers = Vec::with_capacity(alloc, seats.len())?;
+    let mut wakers = Vec::with_capacity(alloc, seats.len())?;
     asked.reverse();
     for seat in seats {
         let parker = Parker::new(alloc)?;
-        unparkers.push(parker.unparker().clone()?)?;
+        wakers.push(Waker::new(parker.unparker().clone()?))?;
         let thread = threads[seat.thread()];
         let Some(own) = asked.pop() else {
             unreachable!()
@@ -95,7 +98,7 @@ fn ports_for<K: Tie>(
         let port = Port::new(thread, seat, spare.split_off(1, 0), parker, own);
         ports.push_reserved(port);
     }
-    Ok((ports, unparkers))
+    Ok((ports, wakers))
 }
 
 /// Takes the ports apart: collects their seats, the number of calls of each, the calls that each asked for, and the sum
@@ -169,13 +172,14 @@ impl<K: Tie, L: Log> Shared<K, L> {
         let many = seats.len();
         let room = ClosingRoom::new(alloc, many)?;
         let (book, mut spare) = blank.open::<K>();
-        let (ports, unparkers) = ports_for(alloc, &threads, seats, asked, &mut spare)?;
+        let (ports, wakers) = ports_for(alloc, &threads, seats, asked, &mut spare)?;
         let traced = Traced::new(kernel, seat, log);
-        let lock = Mutex::new(Locked::new(traced, book, spare, room, heard));
+        let locked = Locked::new(traced, book, spare, room, heard);
+        let lock = Mutex::new(Box::new(alloc, locked)?);
         let shared = Shared {
             cells,
             lock,
-            unparkers,
+            wakers,
         };
         Ok((shared, ports))
     }
@@ -196,16 +200,23 @@ impl<K: Tie, L: Log> Shared<K, L> {
         true
     }
 
-    /// Wakes the threads whose bits are set.
+    /// Sets whether the thread of a cell sleeps or is about to, so that others wake it only then.
+    pub(crate) fn set_asleep(&self, place: usize, asleep: bool) {
+        if place < self.wakers.len() {
+            self.wakers[place].set_asleep(asleep);
+        }
+    }
+
+    /// Wakes the threads whose bits are set, if they sleep.
     pub(crate) fn wake(&self, woken: u64) {
         let mut left = woken;
-        for _ in 0..self.unparkers.len() {
+        for _ in 0..self.wakers.len() {
             if left == 0 {
                 return;
             }
             let place = left.trailing_zeros() as usize;
-            if place < self.unparkers.len() {
-                self.unparkers[place].unpark();
+            if place < self.wakers.len() {
+                self.wakers[place].wake();
             }
             left &= left - 1;
         }
@@ -230,7 +241,7 @@ impl<K: Tie, L: Log> Shared<K, L> {
             room,
             heard,
             ..
-        } = lock.into_inner();
+        } = Box::into_inner(lock.into_inner());
         let ClosingRoom {
             mut seats,
             mut calls,

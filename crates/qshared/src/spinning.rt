@@ -6,7 +6,7 @@ use std::sync::{Mutex, MutexGuard, Wait};
 /// The number of times that a thread looks whether the lock is free before it sleeps. It pauses between two looks,
 /// twice as long each time up to 64 pauses, for some tens of microseconds in all, in which many calls can be made under
 /// the lock. It never yields its core: on a busy machine a process that computes would keep it for milliseconds.
-const LOOKS: u32 = 40;
+const LOOKS: u32 = 80;
 
 /// Takes the lock; waits for it if another thread holds it.
 pub(crate) fn lock<'a, T: Drop, R: Wait>(mutex: &'a Mutex<T>, rt: &R) -> MutexGuard<'a, T> {
