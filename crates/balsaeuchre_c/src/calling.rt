@@ -9,31 +9,27 @@ use crate::row::Row;
 use crate::session::Session;
 use crate::telling::{Done, tell};
 use qbase::errno::Errno;
-use std::alloc::Global;
 
 /// The rows that a call needs: an event has at most this many endings.
 const ROW_LIMIT: usize = 64;
 
-/// Makes the call of a request, and writes the endings of its event.
+/// Makes the call of a request, writes the endings of its event, and returns how many there are.
 pub fn make_call(
-    alloc: Global,
     session: &mut Session,
     request: &Request,
     sent: &[u8],
     room: &[u8],
     rows: &mut [Row],
     bytes: &mut [u8],
-    done: &mut Done,
-) -> Result<(), Errno>
-    ensures event { IfOk result (λ _. IsEvent session.old request.now sent.now room.now session.new rows.new bytes.old bytes.new done.new) }
+) -> Result<Done, Errno>
+    ensures event { IfOk result (λ done. IsEvent session.old request.now sent.now room.now session.new rows.new bytes.old bytes.new done) }
     ensures roster { members_of session.new.kernel.threads ≡ members_of session.old.kernel.threads }
     ensures error { IfErr result (λ errno. CallError session.old request.now sent.now room.now (length rows.old) errno) }
-    ensures unchanged { IfErr result (λ _. (session.new ≡ session.old) × (rows.new ≡ rows.old) × (bytes.new ≡ bytes.old) × (done.new ≡ done.old)) }
+    ensures unchanged { IfErr result (λ _. (session.new ≡ session.old) × (rows.new ≡ rows.old) × (bytes.new ≡ bytes.old)) }
 {
     if rows.len() < ROW_LIMIT {
         return Err(Errno::Inval);
     }
-    session.make(alloc, request, sent, room)?;
-    *done = tell(&session.kernel, session.endings.as_slice(), rows, bytes);
-    Ok(())
+    session.make(request, sent, room)?;
+    Ok(tell(&session.kernel, session.endings.as_slice(), rows, bytes))
 }

@@ -69,7 +69,6 @@ pub extern "C" fn balsaeuchre_free(kernel: Handle) {
 /// error, and changes and writes nothing.
 #[unsafe(no_mangle)]
 pub extern "C" fn balsaeuchre_make_call(
-    alloc: Global,
     kernel: &mut Handle,
     request: &Request,
     sent: &[u8],
@@ -86,8 +85,11 @@ pub extern "C" fn balsaeuchre_make_call(
     ensures roster { members_of kernel.new.session.kernel.threads ≡ members_of kernel.old.session.kernel.threads }
 {
     let session = kernel.get_mut();
-    match calling::make_call(alloc, session, request, sent, room, rows, bytes, done) {
-        Ok(()) => 0,
+    match calling::make_call(session, request, sent, room, rows, bytes) {
+        Ok(made) => {
+            *done = made;
+            0
+        }
         Err(errno) => u32::from(errno_number(errno)),
     }
 }

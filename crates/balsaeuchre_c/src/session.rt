@@ -5,6 +5,7 @@ ghost use Rattle.qkernel.specs.Kernel.{IsSound};
 ghost use Rattle.qkernel.specs.LentCall.{call_lent};
 ghost use Rattle.qkernel.specs.Stands.{AnswersAtTraces, DispatchError};
 ghost use Rattle.qstate.specs.Kept.{members_of};
+ghost use Rattle.qstate.specs.Threads.{IsSeatIn};
 ghost use Rattle.qtables.specs.Members.{member_at};
 ghost use Rattle.balsaeuchre_c.specs.Calling.{IsMade};
 ghost use Rattle.balsaeuchre_c.specs.Requests.{IsRefusedAs, call_of};
@@ -17,7 +18,7 @@ use qkernel::call::Call;
 use qkernel::endings::Endings;
 use qkernel::kernel::{CALL_LIMIT, Kernel};
 use qkernel::lent_call::LentCall;
-use std::alloc::Global;
+use qkernel::seat::Seat;
 
 /// A kernel, and the endings of its last event.
 #[derive(Drop)]
@@ -27,24 +28,24 @@ pub struct Session {
 }
 
 impl Session {
-    /// Empties the list for the next call of a thread. Fails if the thread is not in the roster, or if no more calls
-    /// can be numbered.
-    fn begin(&mut self, thread: ThreadNo) -> Result<(), Errno>
-        ensures known { IfOk result (λ _. is_some (member_at (members_of self.old.kernel.threads) thread) ≡ true) }
-        ensures limit { IfOk result (λ _. self.old.kernel.made < 2 ^ 40) }
-        ensures sound { IfOk result (λ _. IsSound self.old.kernel) }
-        ensures empty { IfOk result (λ _. (self.new.kernel ≡ self.old.kernel) × (self.new.endings.items ≡ [])) }
+    /// Empties the list for the next call of a thread, and returns the thread's seat. Fails if the thread is not in the
+    /// roster, or if no more calls can be numbered.
+    fn begin(&mut self, thread: ThreadNo) -> Result<Seat, Errno>
+        ensures seat { IfOk result (λ seat. IsSeatIn self.old.kernel.threads seat) }
+        ensures thread { IfOk result (λ seat. seat.thread ≡ thread) }
+        ensures known { IfOk result (λ seat. is_some (member_at (members_of self.old.kernel.threads) thread) ≡ true) }
+        ensures limit { IfOk result (λ seat. self.old.kernel.made < 2 ^ 40) }
+        ensures sound { IfOk result (λ seat. IsSound self.old.kernel) }
+        ensures empty { IfOk result (λ seat. (self.new.kernel ≡ self.old.kernel) × (self.new.endings.items ≡ [])) }
         ensures error { IfErr result (λ errno. DispatchError self.old.kernel thread errno) }
         ensures unchanged { IfErr result (λ _. self.new ≡ self.old) }
     {
-        if !self.kernel.knows(thread) {
-            return Err(Errno::NoThread);
-        }
+        let seat = self.kernel.seat(thread).ok_or(Errno::NoThread)?;
         if self.kernel.made() >= CALL_LIMIT {
             return Err(Errno::Exhausted);
         }
         self.endings.clear();
-        Ok(())
+        Ok(seat)
     }
 
     /// Makes a call. `Ok` is an event, whose endings are in the list in rising thread number; on an error nothing is
@@ -57,9 +58,10 @@ impl Session {
         ensures error { IfErr result (λ errno. DispatchError self.old.kernel thread errno) }
         ensures unchanged { IfErr result (λ _. self.new ≡ self.old) }
     {
-        self.begin(thread)?;
-        self.kernel.step(thread, call, &mut self.endings);
-        Ok(())
+        let seat = self.begin(thread)?;
+        self.kernel
+            .call_at(&seat, call, &mut self.endings)
+            .map_err(|refused| refused.0)
     }
 
     /// Makes a call with bytes that are lent.
@@ -71,21 +73,14 @@ impl Session {
         ensures error { IfErr result (λ errno. DispatchError self.old.kernel thread errno) }
         ensures unchanged { IfErr result (λ _. self.new ≡ self.old) }
     {
-        self.begin(thread)?;
-        self.kernel.step_lent(thread, call, &mut self.endings);
-        Ok(())
+        let seat = self.begin(thread)?;
+        self.kernel.call_lent_at(&seat, call, &mut self.endings)
     }
 
     /// Makes the call of a request. A Reply and a Write borrow their bytes; the other kinds get copies of the bytes and
     /// the buffer that they need. Fails with `Inval` if the request means no call, since its kind or its priority is
     /// none.
-    pub fn make(
-        &mut self,
-        alloc: Global,
-        request: &Request,
-        sent: &[u8],
-        room: &[u8],
-    ) -> Result<(), Errno>
+    pub fn make(&mut self, request: &Request, sent: &[u8], room: &[u8]) -> Result<(), Errno>
         ensures made { IfOk result (λ _. IsMade self.old request.now sent.now room.now self.new) }
         ensures roster { members_of self.new.kernel.threads ≡ members_of self.old.kernel.threads }
         ensures error { IfErr result (λ errno. IsRefusedAs (call_of request.now sent.now room.now) errno ⊎ DispatchError self.old.kernel request.now.thread errno) }
@@ -98,7 +93,7 @@ impl Session {
         match request.lent(kind, sent) {
             Some(call) => self.call_lent(thread, &call),
             None => {
-                let call = request.call_as(kind, alloc, sent, room)?;
+                let call = request.call_as(kind, self.kernel.alloc(), sent, room)?;
                 self.call(thread, call)
             }
         }

@@ -37,6 +37,7 @@ use qmodel::call::Call;
 use qstate::channel::Channel;
 use qstate::endings::Endings;
 use qstate::seat::Seat;
+use qstate::thread::Thread;
 use qstate::threads::Threads;
 use qtables::channels::Channels;
 use qtables::connections::Connections;
@@ -334,6 +335,27 @@ impl Kernel {
         ensures { result ≡ self.now.down }
     {
         self.down
+    }
+
+    /// Returns the records of the threads, in rising thread number, each with the call that the thread is blocked in.
+    pub fn threads(&self) -> &[Thread]
+        ensures { result.now ≡ self.now.threads }
+    {
+        self.threads.records()
+    }
+
+    /// Returns the open channels, with the messages and pulses that wait on each.
+    pub fn channels(&self) -> &Channels<Channel>
+        ensures { result.now ≡ self.now.channels }
+    {
+        &self.channels
+    }
+
+    /// Returns the live connections.
+    pub fn connections(&self) -> &Connections
+        ensures { result.now ≡ self.now.connections }
+    {
+        &self.connections
     }
 
     /// Returns the allocator.

@@ -2,8 +2,8 @@
 
 use qbase::ids::ReceiveId;
 
-/// A call that never blocks, so that its bytes need not be the kernel's own: it borrows them. `Kernel::step_lent` makes
-/// it, and copies the bytes only into the sender's reply buffer.
+/// A call that never blocks, so that its bytes need not be the kernel's own: it borrows them. `Kernel::call_lent_at`
+/// makes it, and copies the bytes only into the sender's reply buffer.
 #[derive(Clone, Copy, Debug)]
 pub enum LentCall<'a> {
     /// `Call::Reply` with these bytes.

@@ -9,3 +9,4 @@ pub mod PutLaws
 pub mod RingLaws
 pub mod RisingLaws
 pub mod TakenLaws
+pub mod CopyLaws

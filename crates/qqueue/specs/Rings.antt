@@ -33,6 +33,22 @@ places_of nodes = places_from 0 nodes.slots
 abbrev pub items_at : List (Item × ℕ) → List Item
 items_at places = map (λ place. place.0) places
 
+-- how many items stand in front of the first one with a greater number
+abbrev pub place_in : ℕ → List Item → ℕ
+place_in number [] = 0
+place_in number (first ∷ items) = if nat_lt number first.number then 0 else 1 + place_in number items
+
+-- the items with one more, inserted by number
+abbrev pub put_item : Item → List Item → List Item
+put_item item [] = item ∷ []
+put_item item (first ∷ items) =
+    if nat_lt item.number first.number then item ∷ first ∷ items else first ∷ put_item item items
+
+-- the items with more, each inserted by number, the last one first
+abbrev pub put_items : List Item → List Item → List Item
+put_items [] items = items
+put_items (item ∷ more) items = put_item item (put_items more items)
+
 -- the number of items that are pulses
 abbrev pub pulses_of : List Item → ℕ
 pulses_of items = count_by (λ item. is_pulse item.what) items

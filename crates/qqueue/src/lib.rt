@@ -7,4 +7,5 @@ pub mod laws;
 mod links;
 mod lists;
 mod node;
+mod order;
 pub mod queue;

@@ -1,6 +1,6 @@
 //! The queue of one channel.
 
-ghost use Rattle.std.specs.Prelude.{◌≡◌, ◌==◌, ◌+◌, ◌<◌, ◌≤◌, [], ◌∷◌, ◌++◌, length, count_by, IsOk, OnOk, OnErr, IfErr, IfSome, IfNone, IsSome, IsFalse, is_some, option_copied};
+ghost use Rattle.std.specs.Prelude.{◌≡◌, ◌==◌, ◌+◌, ◌<◌, ◌≤◌, [], ◌∷◌, ◌++◌, length, count_by, IsOk, OnOk, OnErr, IfErr, IfSome, IfNone, IsSome, IsFalse, is_some, option_copied, IfOk};
 ghost use Rattle.std.specs.List.{AllByRecursion};
 ghost use Rattle.qbase.specs.declared.errno.Errno.TheVariants.{NoMemory};
 ghost use Rattle.qqueue.specs.Best.{best_of, without_item, with_item_priority, item_of_number, is_pulse};
@@ -11,9 +11,10 @@ ghost use Rattle.qqueue.specs.Rings.{places_of, items_at, item_of, pulses_of};
 use crate::item::{Item, Kind};
 use crate::links::key_of;
 use crate::lists::Lists;
+use crate::order::in_order;
 use qbase::errno::Errno;
 use qbase::priority::Priority;
-use std::alloc::Global;
+use std::alloc::{AllocError, Global};
 use std::marker::Model;
 
 /// The messages and pulses that were sent to one channel and not yet received, in the order in which they were sent.
@@ -148,6 +149,14 @@ impl Queue {
             }
             None => false,
         }
+    }
+
+    /// Returns a copy of all items, in the order in which they were sent. The time grows with the square of their
+    /// number, so it suits a look at a small queue, and no call of the kernel makes one.
+    pub fn items(&self, alloc: Global) -> Result<Vec<Item>, AllocError>
+        ensures { IfOk result (λ items. items.items ≡ self.now.items) }
+    {
+        in_order(alloc, &self.lists.nodes)
     }
 
     /// Returns the number of items.

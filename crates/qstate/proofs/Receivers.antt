@@ -2,7 +2,7 @@
 use Rattle.std.proofs.Common.{◌≡◌, ◌<◌, ℕ, List, [], ◌∷◌, refl, ap, sym, ◌∙◌, arith, cond, true, false, eqb}
 use Rattle.std.specs.Prelude.{Option, None, Some, is_some, not, nat_lt, Bool, ◌||◌}
 use Rattle.std.specs.List.{AllByRecursion}
-use Rattle.std.specs.Option.{option_map, option_map_or}
+use Rattle.std.specs.Option.{option_map, option_map_or, IfSome}
 use Rattle.std.proofs.lemmas.Bool.{le-ltb, ltb-false, ltb-true}
 use Rattle.std.proofs.lemmas.Option.{none-some, same_Some}
 use Rattle.qqueue.specs.declared.item.Item.{Item}
@@ -129,6 +129,17 @@ waits_receive h m item u (Some o) e = by_wait o.wait e where
   by_wait : (w : Wait) → wait_on h item (Some (record { number = o.number; wait = w })) ≡ Some m → is_some (receive_in u (Some (record { number = o.number; wait = w }))) ≡ true
   by_wait (Answer coid sent reply_buffer receipt) e = absurd (none-some m e)
   by_wait (ForItem chid kind buffer) e = refl
+
+-- the receive that a thread is blocked in, if it is in one, is that thread's own
+pub receive_own : (u : ℕ) (o : Option OpenCall) (r : Option OpenReceive) (P : OpenReceive → Type 0) → r ≡ receive_in u o → ((x : OpenReceive) → x.thread ≡ u → receive_in u o ≡ Some x → P x) → IfSome r P
+receive_own u o None P had each = tt
+receive_own u o (Some r) P had each = each r (thread_of o had) (sym had) where
+  thread_of : (o : Option OpenCall) → Some r ≡ receive_in u o → r.thread ≡ u
+  thread_of None had = absurd (none-some r (sym had))
+  thread_of (Some o) had = by_wait o.wait had where
+    by_wait : (w : Wait) → Some r ≡ receive_in u (Some (record { number = o.number; wait = w })) → r.thread ≡ u
+    by_wait (Answer coid sent reply_buffer receipt) had = absurd (none-some r (sym had))
+    by_wait (ForItem chid kind buffer) had = sym (ap (λ x. x.thread) (same_Some _ r (sym had)))
 
 -- how it ends that takes an item
 pub taken_by : (item : Item) (message : List ℕ) (u : ℕ) (o : Option OpenCall) (r : OpenReceive) → receive_in u o ≡ Some r → takes item message u o ≡ Some (receipt_ending item message r.thread r.number r.buffer)

@@ -2,7 +2,7 @@
 use Rattle.std.proofs.Common.{◌≡◌, ℕ, suc, zero, ◌+◌, ◌<◌, List, [], ◌∷◌, length, get_or, refl, ap, sym, subst, ◌∙◌, cond, arith, true, false, eqb}
 use Rattle.std.specs.Prelude.{Option, None, Some, is_some, position}
 use Rattle.std.specs.List.{position_from, AllByRecursion}
-use Rattle.std.specs.Option.{option_map}
+use Rattle.std.specs.Option.{option_map, IfNone, IfSome}
 use Rattle.std.proofs.lemmas.Bool.{eqb-true, eq-eqb, ne_eqb, true≢false, and_parts}
 use Rattle.std.proofs.lemmas.Iterator.Adapters.{position_from-zero}
 use Rattle.std.proofs.lemmas.Option.{same_Some, none-some}
@@ -200,6 +200,22 @@ send_there i u (Some o) e = by_wait o.wait e where
 
 pub send_of_sender : (threads : List Thread) (i u : ℕ) → sender_in threads i ≡ Some u → is_some (send_in u (open_in threads u)) ≡ true
 send_of_sender threads i u sent = send_there i u (open_in threads u) (sends_it threads i u sent)
+
+-- the Send that a thread is blocked in, if it is in one, is that thread's own
+pub send_own : (u : ℕ) (o : Option OpenCall) (s : Option OpenSend) (P : OpenSend → Type 0) → s ≡ send_in u o → ((x : OpenSend) → x.thread ≡ u → send_in u o ≡ Some x → P x) → IfSome s P
+send_own u o None P had each = tt
+send_own u o (Some s) P had each = each s (thread_of o had) (sym had) where
+  thread_of : (o : Option OpenCall) → Some s ≡ send_in u o → s.thread ≡ u
+  thread_of None had = absurd (none-some s (sym had))
+  thread_of (Some o) had = by_wait o.wait had where
+    by_wait : (w : Wait) → Some s ≡ send_in u (Some (record { number = o.number; wait = w })) → s.thread ≡ u
+    by_wait (Answer coid message reply_buffer receipt) had = sym (ap (λ x. x.thread) (same_Some _ s (sym had)))
+    by_wait (ForItem chid kind buffer) had = absurd (none-some s (sym had))
+
+-- what is there isn't missing
+pub there_not_none : {A : Type 0} (o : Option A) (P : Type 0) → is_some o ≡ true → IfNone o P
+there_not_none None P some = absurd (true≢false (sym some))
+there_not_none (Some x) P some = tt
 
 -- how it ends that is answered
 pub answered_by : (finish : Finish) (u : ℕ) (o : Option OpenCall) (s : OpenSend) → send_in u o ≡ Some s → answer_ending finish u o ≡ Some (record { call = s.number; thread = s.thread; mark = (finish s.reply_buffer).0; buffer = (finish s.reply_buffer).1 })

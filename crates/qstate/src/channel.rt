@@ -42,7 +42,7 @@ impl Channel {
 
     /// Makes room for an item, adds it behind all others in the queue, and returns its key there. `NoMemory` if the
     /// allocator refuses; takes no memory if there is room already.
-    #[inline]
+    #[inline(always)]
     pub fn enqueue(&mut self, item: Item) -> Result<usize, Errno>
         requires newest { AllByRecursion (λ x. x.number < item.number) self.old.queue.items }
         ensures owner { self.new.owner ≡ self.old.owner }

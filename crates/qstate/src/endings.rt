@@ -1,6 +1,6 @@
 //! The endings of one event.
 
-ghost use Rattle.std.specs.Prelude.{◌≡◌, ◌<◌, true, is_some, length, nat_lt, position};
+ghost use Rattle.std.specs.Prelude.{◌≡◌, ◌<◌, ◌≤◌, true, insert, is_some, length, nat_lt, position};
 ghost use Rattle.qstate.specs.Endings.{with_ending_in_place, with_ending_if};
 
 use arrayvec::ArrayVec;
@@ -25,27 +25,27 @@ fn first_later(endings: &Endings, thread: ThreadNo) -> Option<usize>
     endings.iter().position(|e| is_before(thread, e.thread))
 }
 
-/// Inserts an ending before the first one of a later thread, or at the end if there is none.
-fn put_among(endings: &mut Endings, ending: Completion)
-    requires { length endings.old.items < 64 }
-    ensures { endings.new.items ≡ with_ending_in_place ending endings.old.items }
+/// Inserts an ending before the one at an index.
+#[cold]
+#[inline(never)]
+fn put_before(endings: &mut Endings, place: usize, ending: Completion)
+    requires place { place ≤ length endings.old.items }
+    requires room { length endings.old.items < 64 }
+    ensures { endings.new.items ≡ insert endings.old.items place ending }
 {
-    match first_later(endings, ending.thread) {
-        None => endings.push(ending),
-        Some(place) => endings.insert(place, ending),
-    }
+    endings.insert(place, ending);
 }
 
-/// Inserts an ending at its place, by thread number.
+/// Inserts an ending at its place, by thread number: before the first one of a later thread, or at the end if there is
+/// none.
 #[inline(always)]
 pub fn put(endings: &mut Endings, ending: Completion)
     requires { length endings.old.items < 64 }
     ensures { endings.new.items ≡ with_ending_in_place ending endings.old.items }
 {
-    if endings.is_empty() {
-        endings.push(ending);
-    } else {
-        put_among(endings, ending);
+    match first_later(endings, ending.thread) {
+        None => endings.push(ending),
+        Some(place) => put_before(endings, place, ending),
     }
 }
 

@@ -1,6 +1,6 @@
 //! Messages that are held: received, and not yet answered.
 
-ghost use Rattle.std.specs.Prelude.{◌≡◌, Some, is_some, option_map, IfSome};
+ghost use Rattle.std.specs.Prelude.{◌≡◌, None, Some, is_some, option_map, IfNone, IfSome};
 ghost use Rattle.qbase.specs.Laying.{laid_count, lay_over};
 ghost use Rattle.qmodel.specs.Private.Calls.Info.{info_of_open};
 ghost use Rattle.qmodel.specs.Private.Facts.{message_in};
@@ -8,10 +8,12 @@ ghost use Rattle.qmodel.specs.Private.Held.{reply_buffer_in, reply_buffer_of};
 ghost use Rattle.qmodel.specs.Private.Rows.{with_buffer};
 ghost use Rattle.qmodel.specs.Private.Step.{unblocked_call, unblocked_wait, written_call};
 ghost use Rattle.qstate.specs.Held.{guarded_message_in, held_message_in, is_held_in};
-ghost use Rattle.qstate.specs.Thread.{open_in, sender_in, ChangesOpen};
+ghost use Rattle.qstate.specs.Open.{send_in};
+ghost use Rattle.qstate.specs.Thread.{open_in, sender_in, ChangesOpen, SetsOpen};
 ghost use Rattle.qstate.specs.Threads.{IsSeatIn};
 
 use crate::channel::{Channel, owns, tells_unblock};
+use crate::open::OpenSend;
 use crate::seat::Seat;
 use crate::thread::Thread;
 use crate::threads::Threads;
@@ -83,6 +85,26 @@ impl Threads {
         } else {
             None
         }
+    }
+
+    /// Ends the Send of the thread that `holder` finds, and returns it. `None` if there is no such thread; then nothing
+    /// changes.
+    #[inline(always)]
+    pub fn take_held(
+        &mut self,
+        connections: &Connections,
+        channels: &Channels<Channel>,
+        process: ProcessNo,
+        rcvid: ReceiveId,
+    ) -> Option<OpenSend>
+        ensures held { is_some result ≡ is_held_in self.old connections.now channels.now process rcvid }
+        ensures unchanged { IfNone result (self.new ≡ self.old) }
+        ensures sender { IfSome result (λ sent. sender_in self.old rcvid ≡ Some sent.thread) }
+        ensures had { IfSome result (λ sent. send_in sent.thread (open_in self.old sent.thread) ≡ Some sent) }
+        ensures after { IfSome result (λ sent. SetsOpen sent.thread None self.old self.new) }
+    {
+        let holder = self.holder(connections, channels, process, rcvid)?;
+        self.take_sent(&holder)
     }
 
     /// Copies bytes into the reply buffer of the Send that the thread at a seat is blocked in, from the offset on, and

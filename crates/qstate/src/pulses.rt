@@ -49,14 +49,13 @@ pub fn send_pulse(
     if channel.queue.pulses() >= PULSE_LIMIT {
         return Err(Errno::Again);
     }
-    let Some(receiver) = threads.newest_receiver(chid, &item) else {
-        return match channel.enqueue(item) {
-            Ok(_) => Ok(None),
-            Err(errno) => Err(errno),
-        };
-    };
-    let receive = threads.wake(&receiver, channel.carried(item.priority));
-    Ok(Some(receive.ending(pulse_mark(&item))))
+    match threads.wake_newest(chid, &item, channel.carried(item.priority)) {
+        Some(receive) => Ok(Some(receive.ending(pulse_mark(&item)))),
+        None => {
+            let _ = channel.enqueue(item)?;
+            Ok(None)
+        }
+    }
 }
 
 /// Sends a pulse as `send_pulse` does, if there is one to send.

@@ -1,15 +1,19 @@
 //! The receivers of a channel.
 
-ghost use Rattle.std.specs.Prelude.{◌≡◌, ◌+◌, Some, drop, option_map, IfSome};
+ghost use Rattle.std.specs.Prelude.{◌≡◌, ◌+◌, ℕ, true, None, Some, drop, option_map, IfNone, IfSome};
+ghost use Rattle.qqueue.specs.declared.item.Item.{Item};
 ghost use Rattle.qtables.specs.Members.{IsRoster};
 ghost use Rattle.qstate.specs.Kept.{members_of};
-ghost use Rattle.qstate.specs.Thread.{newest_in};
+ghost use Rattle.qstate.specs.Open.{receive_in};
+ghost use Rattle.qstate.specs.Thread.{newest_in, open_in, Wakes};
 ghost use Rattle.qstate.specs.Threads.{IsSeatIn, newest_of, number_and_thread};
 
+use crate::open::OpenReceive;
 use crate::seat::Seat;
 use crate::thread::Thread;
 use crate::threads::Threads;
 use qbase::ids::ChannelId;
+use qbase::priority::Priority;
 use qqueue::item::Item;
 
 /// Returns the seat of a thread that has this index.
@@ -93,5 +97,35 @@ impl Threads {
             Some(seat) => Some(seat),
             None => Some(self.search_receiver(channel, item)?.1),
         }
+    }
+
+    /// Returns whether it is known without a search that no thread is blocked in a receive.
+    #[inline(always)]
+    fn has_no_receiver(&self) -> bool
+        ensures { result ≡ true → (channel : ℕ) → (item : Item) → newest_in channel item self.now ≡ None }
+    {
+        self.index.receivers.is_empty()
+    }
+
+    /// Ends the receive of the thread that `newest_receiver` finds, returns it, and gives that thread this priority, or
+    /// leaves its priority as it is. `None` if there is no such thread; then nothing changes.
+    #[inline(always)]
+    pub fn wake_newest(
+        &mut self,
+        channel: ChannelId,
+        item: &Item,
+        priority: Option<Priority>,
+    ) -> Option<OpenReceive>
+        ensures nobody { IfNone result (newest_in channel item.now self.old ≡ None) }
+        ensures unchanged { IfNone result (self.new ≡ self.old) }
+        ensures newest { IfSome result (λ receive. newest_in channel item.now self.old ≡ Some receive.thread) }
+        ensures had { IfSome result (λ receive. receive_in receive.thread (open_in self.old receive.thread) ≡ Some receive) }
+        ensures after { IfSome result (λ receive. Wakes receive.thread priority self.old self.new) }
+    {
+        if self.has_no_receiver() {
+            return None;
+        }
+        let receiver = self.newest_receiver(channel, item)?;
+        self.wake(&receiver, priority)
     }
 }

@@ -183,31 +183,25 @@ impl Threads {
         there.key = key;
     }
 
-    /// Ends the receive that the thread at a seat is blocked in, returns it, and gives the thread this priority; `None`
-    /// leaves the priority as it is.
-    pub fn wake(&mut self, seat: &Seat, priority: Option<Priority>) -> OpenReceive
-        requires seat { IsSeatIn self.old seat.now }
-        requires receives { is_some (receive_in seat.now.thread (open_in self.old seat.now.thread)) ≡ true }
-        ensures had { receive_in seat.now.thread (open_in self.old seat.now.thread) ≡ Some result }
+    /// Ends the call that the thread at a seat is blocked in, and gives the thread this priority; `None` leaves the
+    /// priority as it is. Returns the call if it is a receive.
+    #[inline(always)]
+    pub(crate) fn wake(&mut self, seat: &Seat, priority: Option<Priority>) -> Option<OpenReceive>
+        requires { IsSeatIn self.old seat.now }
+        ensures had { result ≡ receive_in seat.now.thread (open_in self.old seat.now.thread) }
         ensures after { Wakes seat.now.thread priority self.old self.new }
     {
         self.set_priority(seat, priority);
-        match OpenReceive::of(seat.thread, self.take_open(seat)) {
-            Some(receive) => receive,
-            None => unreachable!(),
-        }
+        OpenReceive::of(seat.thread, self.take_open(seat))
     }
 
-    /// Ends the Send that the thread at a seat is blocked in, and returns it.
-    pub fn take_sent(&mut self, seat: &Seat) -> OpenSend
-        requires seat { IsSeatIn self.old seat.now }
-        requires sends { is_some (send_in seat.now.thread (open_in self.old seat.now.thread)) ≡ true }
-        ensures had { send_in seat.now.thread (open_in self.old seat.now.thread) ≡ Some result }
+    /// Ends the call that the thread at a seat is blocked in, and returns it if it is a Send.
+    #[inline(always)]
+    pub(crate) fn take_sent(&mut self, seat: &Seat) -> Option<OpenSend>
+        requires { IsSeatIn self.old seat.now }
+        ensures had { result ≡ send_in seat.now.thread (open_in self.old seat.now.thread) }
         ensures after { SetsOpen seat.now.thread None self.old self.new }
     {
-        match OpenSend::of(seat.thread, self.take_open(seat)) {
-            Some(send) => send,
-            None => unreachable!(),
-        }
+        OpenSend::of(seat.thread, self.take_open(seat))
     }
 }

@@ -1,8 +1,8 @@
 //! The open channels.
 
-ghost use Rattle.std.specs.Prelude.{◌≡◌, ◌<◌, ◌≤◌, ◌==◌, nat_lt, ◌+◌, [], ◌∷◌, ◌++◌, length, option_copied, if◌then◌else◌, IfErr, IfSome, OnOk, OnErr, OnSome};
+ghost use Rattle.std.specs.Prelude.{◌≡◌, ◌<◌, ◌≤◌, ◌==◌, nat_lt, ◌+◌, [], ◌∷◌, ◌++◌, length, option_copied, slice_get, if◌then◌else◌, Some, IfErr, IfSome, OnOk, OnErr, OnSome};
 ghost use Rattle.std.specs.List.{AllByRecursion};
-ghost use Rattle.std.specs.Option.{option_copied_mut};
+ghost use Rattle.std.specs.Option.{option_copied_mut, option_map};
 ghost use Rattle.std.specs.Borrow.{sem};
 
 use crate::entries::Entries;
@@ -93,6 +93,22 @@ impl<Record: Drop> Channels<Record> {
         ensures rising { IsRising self.now }
     {
         self.entries.len()
+    }
+
+    /// Returns the id of the channel at a place, from 0, of the open channels, which are in rising id.
+    pub fn id_at(&self, place: usize) -> ChannelId
+        requires { place < length self.now }
+        ensures { option_map (λ e. e.0) (slice_get self.now place) ≡ Some result }
+    {
+        ChannelId(self.entries.number_at(place))
+    }
+
+    /// Returns the record of the channel at a place of the open channels.
+    pub fn at(&self, place: usize) -> &Record
+        requires { place < length self.now }
+        ensures { option_map (λ e. e.1) (slice_get self.now place) ≡ Some result.now }
+    {
+        self.entries.at(place)
     }
 
     /// Returns whether no channel is open.

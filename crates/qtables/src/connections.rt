@@ -1,8 +1,8 @@
 //! The live connections.
 
-ghost use Rattle.std.specs.Prelude.{◌≡◌, ◌<◌, ◌≤◌, ◌==◌, nat_lt, ◌+◌, ◌&&◌, [], ◌∷◌, ◌++◌, length, count_by, option_copied, if◌then◌else◌, IfErr, OnOk, OnErr, OnSome};
+ghost use Rattle.std.specs.Prelude.{◌≡◌, ◌<◌, ◌≤◌, ◌==◌, nat_lt, ◌+◌, ◌&&◌, [], ◌∷◌, ◌++◌, length, count_by, option_copied, slice_get, if◌then◌else◌, Some, IfErr, OnOk, OnErr, OnSome};
 ghost use Rattle.std.specs.List.{AllByRecursion};
-ghost use Rattle.std.specs.Option.{option_copied_mut};
+ghost use Rattle.std.specs.Option.{option_copied_mut, option_map};
 ghost use Rattle.std.specs.Borrow.{sem};
 
 use crate::connection::Connection;
@@ -93,6 +93,22 @@ impl Connections {
         ensures rising { IsRising self.now }
     {
         self.entries.len()
+    }
+
+    /// Returns the id of the connection at a place, from 0, of the live connections, which are in rising id.
+    pub fn id_at(&self, place: usize) -> ConnectionId
+        requires { place < length self.now }
+        ensures { option_map (λ e. e.0) (slice_get self.now place) ≡ Some result }
+    {
+        ConnectionId(self.entries.number_at(place))
+    }
+
+    /// Returns the connection at a place of the live connections.
+    pub fn at(&self, place: usize) -> &Connection
+        requires { place < length self.now }
+        ensures { option_map (λ e. e.1) (slice_get self.now place) ≡ Some result.now }
+    {
+        self.entries.at(place)
     }
 
     /// Returns whether no connection is live.

@@ -132,6 +132,14 @@ impl<Record: Drop> Entries<Record> {
         self.index.len()
     }
 
+    /// Returns the number at a place of the entries, which are in rising number.
+    pub fn number_at(&self, place: usize) -> u64
+        requires { place < length self.now }
+        ensures { option_map (λ e. e.0) (slice_get self.now place) ≡ Some result }
+    {
+        self.index[place].0
+    }
+
     /// Returns the record at a place of the entries, which are in rising number.
     pub fn at(&self, place: usize) -> &Record
         requires { place < length self.now }

@@ -7,9 +7,11 @@ ghost use Rattle.qstate.specs.Threads.{IsSeatIn};
 use qbase::bytes::Bytes;
 use qbase::errno::Errno;
 use qbase::ids::{ProcessNo, ThreadNo};
+use qbase::priority::Priority;
 use qmodel::call::{Completion, Mark};
 use qmodel::open_call::{OpenCall, Wait};
-use qstate::endings::{Endings, put};
+use qqueue::item::{Item, What};
+use qstate::endings::Endings;
 use qstate::seat::Seat;
 use qstate::threads::Threads;
 use std::alloc::Global;
@@ -63,12 +65,23 @@ impl Caller {
         self.ending_with(mark, Bytes::new(self.alloc))
     }
 
+    /// Returns the message or pulse that the caller's call sends. Its number is that of the call.
+    pub(crate) fn item(&self, priority: Priority, what: What) -> Item
+        ensures { result ≡ record { number = self.now.made + 1; priority = priority; what = what } }
+    {
+        Item {
+            number: self.number(),
+            priority,
+            what,
+        }
+    }
+
     /// Refuses the caller's call with an error; the call gets its buffer back.
     pub(crate) fn refuse(&self, endings: &mut Endings, errno: Errno, buffer: Bytes)
         requires { endings.old.items ≡ [] }
         ensures { endings.new.items ≡ record { call = self.now.made + 1; thread = self.now.seat.thread; mark = Mark.Failed errno; buffer = buffer } ∷ [] }
     {
-        put(endings, self.ending_with(Mark::Failed(errno), buffer));
+        endings.push(self.ending_with(Mark::Failed(errno), buffer));
     }
 
     /// Blocks the caller in its call. `key` is the key of its message in the channel's queue, if the message waits

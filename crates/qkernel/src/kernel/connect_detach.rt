@@ -1,12 +1,12 @@
 //! ConnectDetach.
 
-ghost use Rattle.std.specs.Prelude.{◌≡◌, None, Some, if◌then◌else◌};
+ghost use Rattle.std.specs.Prelude.{◌≡◌, ◌+◌, None, Some, if◌then◌else◌};
 ghost use Rattle.qmodel.specs.Private.Rows.{disconnect_item};
 
 use super::Kernel;
 use super::caller::Caller;
 use qbase::errno::Errno;
-use qbase::ids::{ConnectionId, ProcessNo};
+use qbase::ids::ConnectionId;
 use qbase::priority::Priority;
 use qmodel::call::{Call, Mark};
 use qqueue::item::{Item, What};
@@ -15,16 +15,13 @@ use qstate::channel::{own_connection, tells_detached};
 use qstate::endings::{Endings, put_if};
 use qstate::pulses::send_due;
 
-/// Returns the pulse that tells a server that a process has detached its last connection; `None` if it isn't the last.
-fn pulse_for(last: bool, number: u64, priority: Priority, process: ProcessNo) -> Option<Item>
-    ensures { result ≡ (if last then Some (disconnect_item number priority process) else None) }
+/// Returns the pulse that tells a server that the caller's process has detached its last connection; `None` if it isn't
+/// the last.
+fn pulse_for(caller: &Caller, last: bool, priority: Priority) -> Option<Item>
+    ensures { result ≡ (if last then Some (disconnect_item (caller.now.made + 1) priority caller.now.process) else None) }
 {
     if last {
-        Some(Item {
-            number,
-            priority,
-            what: What::Disconnect(process),
-        })
+        Some(caller.item(priority, What::Disconnect(caller.process)))
     } else {
         None
     }
@@ -50,7 +47,7 @@ impl Kernel {
         };
         let last = tells_detached(&self.connections, &self.channels, caller.process, chid);
         let priority = self.priority(caller);
-        let due = pulse_for(last, caller.number(), priority, caller.process);
+        let due = pulse_for(caller, last, priority);
         let met = send_due(&mut self.threads, &mut self.channels, chid, due)?;
         self.threads.cancel(
             &mut self.channels,

@@ -39,8 +39,10 @@ impl Kernel {
         requires { MayCall self.old caller.now endings.old.items }
         ensures { MakesOrRefuses self.old caller.now (Call.Error rcvid code) result endings.new.items self.new }
     {
-        let holder = self.holder(caller, rcvid)?;
-        let sent = self.threads.take_sent(&holder);
+        let held = self
+            .threads
+            .take_held(&self.connections, &self.channels, caller.process, rcvid);
+        let sent = held.ok_or(Errno::Srch)?;
         put(endings, caller.ending(Mark::Ok));
         put(endings, sent.ending(mark(code)));
         Ok(())

@@ -1,14 +1,14 @@
 //! Making a call that borrows its bytes.
 
-ghost use Rattle.std.specs.Prelude.{◌≡◌, ◌+◌, ◌<◌, ◌≤◌, ◌^◌, [], length, is_some, true};
+ghost use Rattle.std.specs.Prelude.{◌≡◌, ◌+◌, ◌<◌, ◌≤◌, ◌^◌, [], length, is_some, true, IfErr, OnErr, OnOk};
 ghost use Rattle.qtables.specs.Members.{member_at};
 ghost use Rattle.qstate.specs.Thread.{blocked_count};
 ghost use Rattle.qstate.specs.Threads.{IsSeatIn};
 ghost use Rattle.qstate.specs.Kept.{members_of};
 ghost use Rattle.qkernel.specs.LentCall.{call_lent};
 
-use super::Kernel;
 use super::caller::Caller;
+use super::{CALL_LIMIT, Kernel};
 use crate::lent_call::LentCall;
 use qbase::bytes::Bytes;
 use qbase::errno::Errno;
@@ -65,6 +65,35 @@ impl Kernel {
         if let Err(errno) = self.make_lent(&caller, call, endings) {
             caller.refuse(endings, errno, Bytes::new(self.alloc));
         }
+    }
+
+    /// Makes one call as `call_at` does, but of a call that borrows its bytes: they are copied once, into the reply
+    /// buffer.
+    pub fn call_lent_at(
+        &mut self,
+        seat: &Seat,
+        call: &LentCall,
+        endings: &mut Endings,
+    ) -> Result<(), Errno>
+        requires seat { IsSeatIn self.old.threads seat.now }
+        requires none { endings.old.items ≡ [] }
+        ensures event { OnOk result (AnswersAtTraces self.old seat.now.thread (call_lent call.now) endings.new.items self.new) }
+        ensures refused { OnOk result (LeavesIfRefused self.old seat.now.thread (call_lent call.now) endings.new.items self.new) }
+        ensures roster { members_of self.new.threads ≡ members_of self.old.threads }
+        ensures ok { OnOk result ((self.old.made < 2 ^ 40) × (self.new.made ≡ self.old.made + 1)) }
+
+        // An event ends at most its own call and calls that were open.
+        ensures room { OnOk result (length endings.new.items + blocked_count self.new.threads ≤ blocked_count self.old.threads + 1) }
+
+        // The error, and that it changes nothing.
+        ensures unchanged { OnErr result ((self.new ≡ self.old) × (endings.new.items ≡ [])) }
+        ensures error { IfErr result (λ e. (2 ^ 40 ≤ self.old.made) × (e ≡ Errno.Exhausted)) }
+    {
+        if self.made >= CALL_LIMIT {
+            return Err(Errno::Exhausted);
+        }
+        self.perform_lent(seat, call, endings);
+        Ok(())
     }
 
     /// Makes one call as `step` does, but of a call that borrows its bytes: they are copied once, into the reply

@@ -6,7 +6,7 @@ use qbase::errno::Errno;
 use qbase::ids::ConnectionId;
 use qbase::priority::Priority;
 use qmodel::call::{Call, Mark};
-use qqueue::item::{Item, What};
+use qqueue::item::What;
 use qstate::channel::route;
 use qstate::endings::{Endings, put, put_if};
 use qstate::pulses::send_pulse;
@@ -34,11 +34,7 @@ impl Kernel {
         if code < 0 {
             return Err(Errno::Inval);
         }
-        let item = Item {
-            number: caller.number(),
-            priority,
-            what: What::User { code, value },
-        };
+        let item = caller.item(priority, What::User { code, value });
         let met = send_pulse(&mut self.threads, &mut self.channels, chid, item)?;
         put(endings, caller.ending(Mark::Ok));
         put_if(endings, met);

@@ -1,55 +1,29 @@
 //! Send.
 
-ghost use Rattle.std.specs.Prelude.{◌≡◌, ◌+◌, ◌<◌, ◌^◌, Some, false, true, is_some};
+ghost use Rattle.std.specs.Prelude.{◌≡◌, Some, false};
 ghost use Rattle.qqueue.specs.Best.{is_pulse};
-ghost use Rattle.qmodel.specs.Private.Rows.{takes, item_in_mark};
-ghost use Rattle.qstate.specs.Open.{receive_in};
-ghost use Rattle.qstate.specs.Thread.{open_in, Wakes};
-ghost use Rattle.qstate.specs.Threads.{IsSeatIn};
+ghost use Rattle.qmodel.specs.Private.Rows.{item_in_mark, receipt_ending};
 
 use super::Kernel;
 use super::caller::Caller;
 use qbase::bytes::Bytes;
 use qbase::errno::Errno;
 use qbase::ids::{ConnectionId, ReceiveId};
-use qbase::priority::Priority;
 use qmodel::call::{Call, Completion, Mark};
 use qmodel::open_call::{Receipt, Wait};
 use qqueue::item::{Item, What};
 use qstate::channel::own_connection;
 use qstate::endings::{Endings, put};
-use qstate::seat::Seat;
-use qstate::threads::Threads;
+use qstate::open::OpenReceive;
 
-/// Returns the message that the caller sends. Its number is that of the call.
-fn message_item(caller: &Caller, priority: Priority) -> Item
-    ensures { result ≡ record { number = caller.now.made + 1; priority = priority; what = What.Message } }
-{
-    Item {
-        number: caller.number(),
-        priority,
-        what: What::Message,
-    }
-}
-
-/// Ends the receive that the thread at a seat is blocked in, which takes the message. Returns the receive's completion,
-/// and the receipt for the sender's record.
-fn deliver(
-    threads: &mut Threads,
-    receiver: &Seat,
-    priority: Option<Priority>,
-    item: &Item,
-    message: &Bytes,
-) -> (Completion, Receipt)
-    requires seat { IsSeatIn threads.old receiver.now }
-    requires message { is_pulse item.now.what ≡ false }
-    requires waits { is_some (receive_in receiver.now.thread (open_in threads.old receiver.now.thread)) ≡ true }
-    ensures ended { takes item.now message.now receiver.now.thread (open_in threads.old receiver.now.thread) ≡ Some result.0 }
+/// Hands the message to a receive that ended. Returns the receive's completion, and the receipt for the sender's record.
+fn deliver(receive: OpenReceive, item: &Item, message: &Bytes) -> (Completion, Receipt)
+    requires { is_pulse item.now.what ≡ false }
+    ensures ended { result.0 ≡ receipt_ending item.now message.now receive.thread receive.number receive.buffer }
     ensures copied { item_in_mark result.0.mark ≡ Some (item.now.number, result.1.copied) }
     ensures receipt { result.1 ≡ record { priority = item.now.priority; copied = result.1.copied; unblocked = false } }
-    ensures after { Wakes receiver.now.thread priority threads.old threads.new }
 {
-    let mut receive = threads.wake(receiver, priority);
+    let mut receive = receive;
     let copied = receive.buffer.lay(0, message.as_slice());
     let rcvid = ReceiveId(item.number);
     let receipt = Receipt {
@@ -76,7 +50,7 @@ impl Kernel {
         requires { MayCall self.old caller.now endings.old.items }
         ensures { Makes self.old caller.now (Call.Send coid message reply_buffer) endings.new.items self.new }
     {
-        let item = message_item(caller, self.priority(caller));
+        let item = caller.item(self.priority(caller), What::Message);
         let Some(chid) = own_connection(&self.connections, caller.process, coid) else {
             return caller.refuse(endings, Errno::Badf, reply_buffer);
         };
@@ -84,7 +58,8 @@ impl Kernel {
             return caller.refuse(endings, Errno::Badf, reply_buffer);
         };
         let mut key = 0;
-        let receipt = match self.threads.newest_receiver(chid, &item) {
+        let priority = channel.carried(item.priority);
+        let receipt = match self.threads.wake_newest(chid, &item, priority) {
             None => {
                 match channel.enqueue(item) {
                     Ok(place) => key = place,
@@ -92,15 +67,8 @@ impl Kernel {
                 }
                 None
             }
-            Some(receiver) => {
-                let priority = channel.carried(item.priority);
-                let (ended, receipt) = deliver(
-                    &mut self.threads,
-                    &receiver,
-                    priority,
-                    &item,
-                    &message,
-                );
+            Some(receive) => {
+                let (ended, receipt) = deliver(receive, &item, &message);
                 put(endings, ended);
                 Some(receipt)
             }

@@ -1,29 +1,14 @@
 //! Unblock.
 
-ghost use Rattle.std.specs.Prelude.{◌≡◌};
-ghost use Rattle.qmodel.specs.Private.Rows.{unblock_item};
-
 use super::Kernel;
 use super::caller::Caller;
 use qbase::errno::Errno;
 use qbase::ids::ThreadNo;
 use qmodel::call::{Call, Mark};
-use qqueue::item::{Item, What};
+use qqueue::item::What;
 use qstate::cancelling::{Cancel, CancelSet};
 use qstate::endings::{Endings, put, put_if};
-use qstate::held::Held;
 use qstate::pulses::send_pulse;
-
-/// Returns the pulse that tells a server that the sender of a held message is to be unblocked.
-fn pulse_for(number: u64, held: &Held) -> Item
-    ensures { result ≡ unblock_item number held.now.receipt.priority held.now.rcvid }
-{
-    Item {
-        number,
-        priority: held.receipt.priority,
-        what: What::Unblock(held.rcvid),
-    }
-}
 
 impl Kernel {
     ghost use Rattle.qkernel.specs.Private.Caller.{MayCall, MakesOrRefuses};
@@ -63,7 +48,7 @@ impl Kernel {
             put(endings, caller.ending(Mark::Ok));
             return Ok(());
         }
-        let pulse = pulse_for(caller.number(), &held);
+        let pulse = caller.item(held.receipt.priority, What::Unblock(held.rcvid));
         let met = send_pulse(&mut self.threads, &mut self.channels, chid, pulse)?;
         self.threads.mark_unblocked(&fellow);
         put(endings, caller.ending(Mark::Ok));

@@ -16,9 +16,9 @@ put_if-requires c =
     let prio = rw (← c.self.view_is) at c.priority-priority.ensures in
     let of = own_parts c.args.caller.now.process c.in-Some.chid _ (sym c.own_connection.ensures ∙ c.in-Some.is) in
     let d = c.pulse_for-due.result in
-    let pulsed = (rw c.number.ensures at c.pulse_for-due.ensures) ∙ ap (λ p. cond c.tells_detached-last.result (Some (disconnect_item (c.args.caller.now.made + 1) p c.args.caller.now.process)) None) prio in
+    let pulsed = c.pulse_for-due.ensures ∙ ap (λ p. cond c.tells_detached-last.result (Some (disconnect_item (c.args.caller.now.made + 1) p c.args.caller.now.process)) None) prio in
     let due = due_is _ c.args.caller.now.seat.thread c.args.coid _ may.among.known may.up may.free c.in-Some.chid of c.tells_detached-last.result may.sound c.tells_detached-last.ensures ∙ ap (made_for c.in-Some.chid) (sym pulsed) in
-    let new = new_pulse (c.args.caller.now.made + 1) c.priority-priority.result c.args.caller.now.process c.tells_detached-last.result d (rw c.number.ensures at c.pulse_for-due.ensures) in
+    let new = new_pulse (c.args.caller.now.made + 1) c.priority-priority.result c.args.caller.now.process c.tells_detached-last.result d c.pulse_for-due.ensures in
     let told = is_told _ c.args.caller.now.seat.thread c.in-Some.chid d _ _ c.in_ok-met.met may.sound may.free new c.in_ok-met.ensures.ok in
     rw (rw c.ending.ensures at c.cancel.ensures.endings) (room_for_one _ c.args.caller.now.seat.thread c.args.coid _ may.among.known may.up may.free c.in-Some.chid of d due may.sound _ _ c.in_ok-met.met told may.sound.few)
 
@@ -28,9 +28,9 @@ invariant_of-self-2 c =
     let prio = rw (← c.self.view_is) at c.priority-priority.ensures in
     let of = own_parts c.args.caller.now.process c.in-Some.chid _ (sym c.own_connection.ensures ∙ c.in-Some.is) in
     let d = c.pulse_for-due.result in
-    let pulsed = (rw c.number.ensures at c.pulse_for-due.ensures) ∙ ap (λ p. cond c.tells_detached-last.result (Some (disconnect_item (c.args.caller.now.made + 1) p c.args.caller.now.process)) None) prio in
+    let pulsed = c.pulse_for-due.ensures ∙ ap (λ p. cond c.tells_detached-last.result (Some (disconnect_item (c.args.caller.now.made + 1) p c.args.caller.now.process)) None) prio in
     let due = due_is _ c.args.caller.now.seat.thread c.args.coid _ may.among.known may.up may.free c.in-Some.chid of c.tells_detached-last.result may.sound c.tells_detached-last.ensures ∙ ap (made_for c.in-Some.chid) (sym pulsed) in
-    let new = new_pulse (c.args.caller.now.made + 1) c.priority-priority.result c.args.caller.now.process c.tells_detached-last.result d (rw c.number.ensures at c.pulse_for-due.ensures) in
+    let new = new_pulse (c.args.caller.now.made + 1) c.priority-priority.result c.args.caller.now.process c.tells_detached-last.result d c.pulse_for-due.ensures in
     let told = is_told _ c.args.caller.now.seat.thread c.in-Some.chid d _ _ c.in_ok-met.met may.sound may.free new c.in_ok-met.ensures.ok in
     rw (may.counted, c.remove.ensures.after) (sound_detached _ c.args.caller.now.seat.thread c.args.coid _ may.among.known may.up may.free c.in-Some.chid of d due may.sound _ _ c.in_ok-met.met told _ _ c.cancel.ensures.threads c.cancel.ensures.channels
     (sound_due _ c.in-Some.chid d _ _ c.in_ok-met.met may.sound new c.in_ok-met.ensures.ok))
@@ -41,9 +41,9 @@ returns c =
     let prio = rw (← c.self.view_is) at c.priority-priority.ensures in
     let of = own_parts c.args.caller.now.process c.in-Some.chid _ (sym c.own_connection.ensures ∙ c.in-Some.is) in
     let d = c.pulse_for-due.result in
-    let pulsed = (rw c.number.ensures at c.pulse_for-due.ensures) ∙ ap (λ p. cond c.tells_detached-last.result (Some (disconnect_item (c.args.caller.now.made + 1) p c.args.caller.now.process)) None) prio in
+    let pulsed = c.pulse_for-due.ensures ∙ ap (λ p. cond c.tells_detached-last.result (Some (disconnect_item (c.args.caller.now.made + 1) p c.args.caller.now.process)) None) prio in
     let due = due_is _ c.args.caller.now.seat.thread c.args.coid _ may.among.known may.up may.free c.in-Some.chid of c.tells_detached-last.result may.sound c.tells_detached-last.ensures ∙ ap (made_for c.in-Some.chid) (sym pulsed) in
-    let new = new_pulse (c.args.caller.now.made + 1) c.priority-priority.result c.args.caller.now.process c.tells_detached-last.result d (rw c.number.ensures at c.pulse_for-due.ensures) in
+    let new = new_pulse (c.args.caller.now.made + 1) c.priority-priority.result c.args.caller.now.process c.tells_detached-last.result d c.pulse_for-due.ensures in
     let told = is_told _ c.args.caller.now.seat.thread c.in-Some.chid d _ _ c.in_ok-met.met may.sound may.free new c.in_ok-met.ensures.ok in
     let there = c.remove.ensures.value ∙ of.is in
     let fewer = rw there at c.remove.ensures.fewer in
@@ -56,7 +56,7 @@ returns-in_err-met c =
     let prio = rw (← c.self.view_is) at c.priority-priority.ensures in
     let of = own_parts c.args.caller.now.process c.in-Some.chid _ (sym c.own_connection.ensures ∙ c.in-Some.is) in
     let d = c.pulse_for-due.result in
-    let pulsed = (rw c.number.ensures at c.pulse_for-due.ensures) ∙ ap (λ p. cond c.tells_detached-last.result (Some (disconnect_item (c.args.caller.now.made + 1) p c.args.caller.now.process)) None) prio in
+    let pulsed = c.pulse_for-due.ensures ∙ ap (λ p. cond c.tells_detached-last.result (Some (disconnect_item (c.args.caller.now.made + 1) p c.args.caller.now.process)) None) prio in
     let due = due_is _ c.args.caller.now.seat.thread c.args.coid _ may.among.known may.up may.free c.in-Some.chid of c.tells_detached-last.result may.sound c.tells_detached-last.ensures ∙ ap (made_for c.in-Some.chid) (sym pulsed) in
     let away = c.in_err-met.ensures.err in
     let p = err_from_is_err_and c.from_residual.result c.from_residual.ensures.1 in
@@ -80,5 +80,5 @@ invariant_of-self c =
 pub send_due-requires-clause-newest : goal.send_due-requires-clause-newest
 send_due-requires-clause-newest c =
     let may = rw (← c.self.view_is) at c.requires in
-    let new = new_pulse (c.args.caller.now.made + 1) c.priority-priority.result c.args.caller.now.process c.tells_detached-last.result c.pulse_for-due.result (rw c.number.ensures at c.pulse_for-due.ensures) in
+    let new = new_pulse (c.args.caller.now.made + 1) c.priority-priority.result c.args.caller.now.process c.tells_detached-last.result c.pulse_for-due.result c.pulse_for-due.ensures in
     newest_due (c.args.caller.now.made + 1) c.pulse_for-due.result _ new (up_to_below (λ x. x.number) c.args.caller.now.made _ (may.sound.items c.in-Some.chid))

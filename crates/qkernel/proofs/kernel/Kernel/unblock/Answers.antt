@@ -40,33 +40,33 @@ returns-then-held c =
 -- ---- its server is told
 
 pub send_pulse-requires-clause-pulse : goal.send_pulse-requires-clause-pulse
-send_pulse-requires-clause-pulse c = (new_pulse (c.args.caller.now.made + 1) _ _ _ (rw c.number.ensures at c.pulse_for-pulse.ensures)).1
+send_pulse-requires-clause-pulse c = (new_pulse (c.args.caller.now.made + 1) _ _ _ c.item-pulse.ensures).1
 
 pub send_pulse-requires-clause-newest : goal.send_pulse-requires-clause-newest
 send_pulse-requires-clause-newest c =
     let may = rw (← c.self.view_is) at c.requires in
-    let new = new_pulse (c.args.caller.now.made + 1) _ _ c.pulse_for-pulse.result (rw c.number.ensures at c.pulse_for-pulse.ensures) in
-    newest_due (c.args.caller.now.made + 1) (Some c.pulse_for-pulse.result) _ new (up_to_below (λ x. x.number) c.args.caller.now.made _ (may.sound.items c.in-Some.guarded.1))
+    let new = new_pulse (c.args.caller.now.made + 1) _ _ c.item-pulse.result c.item-pulse.ensures in
+    newest_due (c.args.caller.now.made + 1) (Some c.item-pulse.result) _ new (up_to_below (λ x. x.number) c.args.caller.now.made _ (may.sound.items c.in-Some.guarded.1))
 
 pub mark_unblocked-requires : goal.mark_unblocked-requires
 mark_unblocked-requires c =
     let may = rw (← c.self.view_is) at c.requires in
     let there = rw (← c.self.view_is) at c.in_ok-fellow.ensures.seat in
     let free = rw (← c.self.view_is) at c.requires.free in
-    let new = new_pulse (c.args.caller.now.made + 1) _ _ c.pulse_for-pulse.result (rw c.number.ensures at c.pulse_for-pulse.ensures) in
-    let told = is_told _ c.args.caller.now.seat.thread c.in-Some.guarded.1 (Some c.pulse_for-pulse.result) _ _ c.in_ok-met.met may.sound free new c.in_ok-met.ensures.ok in
+    let new = new_pulse (c.args.caller.now.made + 1) _ _ c.item-pulse.result c.item-pulse.ensures in
+    let told = is_told _ c.args.caller.now.seat.thread c.in-Some.guarded.1 (Some c.item-pulse.result) _ _ c.in_ok-met.met may.sound free new c.in_ok-met.ensures.ok in
     seat_kept c.in_ok-fellow.fellow.thread _ _ told.members ∙ there
 
 pub invariant_of-self-2 : goal.invariant_of-self-2
 invariant_of-self-2 c =
     let may = rw (← c.self.view_is) at c.requires in
-    let new = new_pulse (c.args.caller.now.made + 1) _ _ c.pulse_for-pulse.result (rw c.number.ensures at c.pulse_for-pulse.ensures) in
-    rw (may.counted) (sound_kept _ _ c.mark_unblocked.ensures.members (sound_due _ c.in-Some.guarded.1 (Some c.pulse_for-pulse.result) _ _ c.in_ok-met.met may.sound new c.in_ok-met.ensures.ok))
+    let new = new_pulse (c.args.caller.now.made + 1) _ _ c.item-pulse.result c.item-pulse.ensures in
+    rw (may.counted) (sound_kept _ _ c.mark_unblocked.ensures.members (sound_due _ c.in-Some.guarded.1 (Some c.item-pulse.result) _ _ c.in_ok-met.met may.sound new c.in_ok-met.ensures.ok))
 
 pub invariant_of-self-in_err-met : goal.invariant_of-self-in_err-met
 invariant_of-self-in_err-met c =
     let may = rw (← c.self.view_is) at c.requires in
-    rw (may.counted) (sound_turned_away _ c.args.caller.now.seat.thread (Unblock c.args.target) c.in-Some.guarded.1 c.pulse_for-pulse.result c.in_err-met.field-0.0 _ _ c.in_err-met.ensures.err may.sound)
+    rw (may.counted) (sound_turned_away _ c.args.caller.now.seat.thread (Unblock c.args.target) c.in-Some.guarded.1 c.item-pulse.result c.in_err-met.field-0.0 _ _ c.in_err-met.ensures.err may.sound)
 
 pub returns : goal.returns
 returns c =
@@ -74,11 +74,11 @@ returns c =
     let fellow = rw (← c.self.view_is) at c.in_ok-fellow.ensures.fellow in
     let guards = rw c.in_ok-fellow.ensures.thread at (sym c.guarded_message.ensures ∙ c.in-Some.is) in
     let g = c.in-Some.guarded in
-    let pulse = c.pulse_for-pulse.result in
-    let new = new_pulse (c.args.caller.now.made + 1) _ _ pulse (rw c.number.ensures at c.pulse_for-pulse.ensures) in
+    let pulse = c.item-pulse.result in
+    let new = new_pulse (c.args.caller.now.made + 1) _ _ pulse c.item-pulse.ensures in
     let told = is_told _ c.args.caller.now.seat.thread g.1 (Some pulse) _ _ c.in_ok-met.met may.sound may.free new c.in_ok-met.ensures.ok in
     rw (← c.self.view_is, may.counted) (step_told _ c.args.caller.now.seat.thread (Unblock c.args.target) _ (made_for g.1 (Some pulse)) may.sound may.among.known may.free
-    (tells_unblock _ c.args.caller.now.seat.thread c.args.target _ may.sound may.among.known may.up may.free fellow g guards c.if-held.false pulse (rw c.number.ensures at c.pulse_for-pulse.ensures) told.room) _ _ c.in_ok-met.met told _ _
+    (tells_unblock _ c.args.caller.now.seat.thread c.args.target _ may.sound may.among.known may.up may.free fellow g guards c.if-held.false pulse c.item-pulse.ensures told.room) _ _ c.in_ok-met.met told _ _
     (are_marked c.args.target (record { item = pulse; channel = g.1 }) _ _ (rw c.in_ok-fellow.ensures.thread at c.mark_unblocked.ensures)) (rw (c.put-2.ensures, c.ending-2.ensures, may.none) at c.put_if.ensures))
 
 pub returns-in_err-met : goal.returns-in_err-met
@@ -87,11 +87,11 @@ returns-in_err-met c =
     let fellow = rw (← c.self.view_is) at c.in_ok-fellow.ensures.fellow in
     let guards = rw c.in_ok-fellow.ensures.thread at (sym c.guarded_message.ensures ∙ c.in-Some.is) in
     let g = c.in-Some.guarded in
-    let pulse = c.pulse_for-pulse.result in
+    let pulse = c.item-pulse.result in
     let p = err_from_is_err_and c.from_residual-in_err-met.result c.from_residual-in_err-met.ensures.1 in
     rw (p.1, p.2) (
       c.requires.none,
       rw (← c.self.view_is, may.counted) (step_turned_away _ c.args.caller.now.seat.thread (Unblock c.args.target) g.1 pulse c.in_err-met.field-0.0 _ _ c.in_err-met.ensures.err _
-          (unblock_full _ c.args.caller.now.seat.thread c.args.target _ may.sound may.among.known may.up may.free fellow g guards c.if-held.false pulse (rw c.number.ensures at c.pulse_for-pulse.ensures))
-          (unblock_memory _ c.args.caller.now.seat.thread c.args.target _ may.sound may.among.known may.up may.free fellow g guards c.if-held.false pulse (rw c.number.ensures at c.pulse_for-pulse.ensures)) refl),
+          (unblock_full _ c.args.caller.now.seat.thread c.args.target _ may.sound may.among.known may.up may.free fellow g guards c.if-held.false pulse c.item-pulse.ensures)
+          (unblock_memory _ c.args.caller.now.seat.thread c.args.target _ may.sound may.among.known may.up may.free fellow g guards c.if-held.false pulse c.item-pulse.ensures) refl),
     )
