@@ -108,7 +108,8 @@ pub static CHECK: Row = Row {
     example: "",
 };
 
-/// The tests of a pattern, which has `or` between them. `*` stands for any number; the last numbers may be left out.
+/// The tests of a pattern, which has `or` between them. `*` stands for any number, and for
+/// each id; the last numbers may be left out.
 pub static TESTS: [Row; 16] = [
     Row {
         form: "ok",
@@ -156,7 +157,7 @@ pub static TESTS: [Row; 16] = [
         example: "state t\nexpect count or count 4",
     },
     Row {
-        form: "state [ready [PRIORITY]|send|receive|reply [CHANNEL [PRIORITY]]]",
+        form: "state [ready [PRIORITY]|send|receive|reply [* [PRIORITY]]]",
         meaning: "the thread was in this state",
         example: "state t\nexpect state or state ready 4 or state send * 4 or state receive or state reply *",
     },

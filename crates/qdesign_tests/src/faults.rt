@@ -183,3 +183,25 @@ fn patterns(rt: HostRuntime) {
         "7:14: a test is missing: a test begins with ok, fail, channel, connection, reply, message, pulse, error, count, state, info, bytes, has, is, in or any";
     expect_faults(&rt, rt.alloc(), "state app\nexpect ok or", wanted);
 }
+
+#[test]
+fn numbers_of_ids(rt: HostRuntime) {
+    let wanted = "7:19: '5': * is wanted: a channel's number differs between interleavings";
+    expect_faults(&rt, rt.alloc(), "state app\nexpect state send 5", wanted);
+    let wanted = "7:16: '0': * is wanted: a channel's number differs between interleavings";
+    expect_faults(
+        &rt,
+        rt.alloc(),
+        "state app\nif state reply 0 20\nend",
+        wanted,
+    );
+    let wanted = "7:28: 'requests': * is wanted: a channel's number differs between interleavings";
+    let lines = "state app\nexpect ok or state receive requests";
+    expect_faults(&rt, rt.alloc(), lines, wanted);
+    let wanted = "7:17: '2': * is wanted: a connection's number differs between interleavings";
+    expect_faults(&rt, rt.alloc(), "state app\nexpect info 1 2 2", wanted);
+    let lines = "state app\nexpect state send * 20 or info 1 2 * 3 or state receive *";
+    let text = format!(in rt.alloc(); "{HEAD}{lines}\n").expect(&rt, "room");
+    let found = faults(rt.alloc(), text.as_str()).expect(&rt, "room");
+    assert_eq!(rt; found.as_str(), "");
+}

@@ -1,7 +1,7 @@
-//! Tests of the search: what it counts and finds, where it gives up, and whether its account of a kernel is the kernel's.
+//! Tests of the search: what it counts and finds, and where it gives up.
 #![tactic(auto)]
 
 #[cfg(test)]
-mod account;
+mod drawn;
 #[cfg(test)]
 mod search;

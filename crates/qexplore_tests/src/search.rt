@@ -6,14 +6,15 @@ use qexplore::fault::Fault;
 use qexplore::random::try_some;
 use qexplore::search::{Verdict, Watch, explore};
 use qexplore::tally::Runs;
-use qprograms::design::Design;
+use qprograms::design::{Design, Instruction, Step};
 use qprograms::machine::standing::Finding;
+use qprograms::pattern::{Outcome, Pattern, Test};
 use std::alloc::Global;
 use std::process::Abort;
 
 /// Counts how often it is told.
 #[derive(Drop)]
-struct Counter(usize);
+pub struct Counter(pub usize);
 
 impl Watch for Counter {
     fn see(&mut self, _count: usize) {
@@ -78,6 +79,27 @@ fn it_gives_up(rt: HostRuntime) {
             Verdict::Nothing(_)
         )
     );
+}
+
+/// Adds a pattern to the first program of a design that asks for the number of a channel.
+fn ask_for_number(rt: &impl Abort, alloc: Global, design: &mut Design) {
+    let mut wanted = Vec::new(alloc);
+    wanted.push(Some(1i64)).expect(rt, "room");
+    let mut tests = Vec::new(alloc);
+    let test = Test::Ends(Outcome::Channel, wanted);
+    tests.push(test).ok().expect(rt, "room");
+    let step = Step::Expect(Pattern { tests });
+    let program = design.programs.get_mut(0).expect(rt, "a program");
+    let instruction = Instruction { step, line: 1 };
+    program.code.push(instruction).ok().expect(rt, "room");
+}
+
+#[test]
+fn it_gives_up_where_numbers_matter(rt: HostRuntime) {
+    let mut design = design(&rt, rt.alloc(), LOCK_MENDED);
+    ask_for_number(&rt, rt.alloc(), &mut design);
+    let verdict = explore(rt.alloc(), &design, 1000, &mut Counter(0)).expect(&rt, "room");
+    assert!(rt; matches!(verdict, Verdict::GaveUp(_)));
 }
 
 #[test]

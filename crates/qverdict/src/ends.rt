@@ -9,7 +9,7 @@ use std::alloc::{AllocError, Global};
 fn names<'a>(alloc: Global, story: &Story<'a>, blocked: bool) -> Result<Vec<&'a str>, AllocError> {
     let mut names = Vec::new(alloc);
     for seat in 0..story.design.threads.len() {
-        if story.moment.content.is_blocked(seat) == blocked {
+        if story.moment.is_blocked(seat) == blocked {
             names.push(story.thread_name(seat))?;
         }
     }
