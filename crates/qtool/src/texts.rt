@@ -284,7 +284,7 @@ its own. A program has these lines:
   check inversion         on top: an inversion of priorities is a fault too
 
 A PATTERN has one or more of these with 'or' between them. '*' is any number, and
-numbers may be left out from the last one on:
+stands for a channel and a connection; numbers may be left out from the last one on:
 
   ok
   fail [srch|badf|inval|again|intr|busy|nomemory|down]
@@ -295,7 +295,7 @@ numbers may be left out from the last one on:
   reply [STATUS [COPIED]]
   error [CODE]
   count [N]
-  state [ready [PRIORITY]|send|receive|reply [CHANNEL [PRIORITY]]]
+  state [ready [PRIORITY]|send|receive|reply [* [PRIORITY]]]
   info [NUMBERS]
   bytes BYTES             the buffer begins so
   has NAME                the name stands for something
