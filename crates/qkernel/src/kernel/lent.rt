@@ -1,7 +1,6 @@
 //! Making a call that borrows its bytes.
 
-ghost use Rattle.std.specs.Prelude.{◌≡◌, ◌+◌, ◌<◌, ◌≤◌, ◌^◌, [], length, is_some, true, IfErr, OnErr, OnOk};
-ghost use Rattle.qtables.specs.Members.{member_at};
+ghost use Rattle.std.specs.Prelude.{◌≡◌, ◌+◌, ◌<◌, ◌≤◌, ◌^◌, [], length, IfErr, OnErr, OnOk};
 ghost use Rattle.qstate.specs.Thread.{blocked_count};
 ghost use Rattle.qstate.specs.Threads.{IsSeatIn};
 ghost use Rattle.qstate.specs.Kept.{members_of};
@@ -12,7 +11,6 @@ use super::{CALL_LIMIT, Kernel};
 use crate::lent_call::LentCall;
 use qbase::bytes::Bytes;
 use qbase::errno::Errno;
-use qbase::ids::ThreadNo;
 use qstate::endings::Endings;
 use qstate::seat::Seat;
 
@@ -94,23 +92,5 @@ impl Kernel {
         }
         self.perform_lent(seat, call, endings);
         Ok(())
-    }
-
-    /// Makes one call as `step` does, but of a call that borrows its bytes: they are copied once, into the reply
-    /// buffer.
-    pub fn step_lent(&mut self, thread: ThreadNo, call: &LentCall, endings: &mut Endings)
-        requires known { is_some (member_at (members_of self.old.threads) thread) ≡ true }
-        requires limit { self.old.made < 2 ^ 40 }
-        requires none { endings.old.items ≡ [] }
-        ensures event { AnswersAtTraces self.old thread (call_lent call.now) endings.new.items self.new }
-        ensures roster { members_of self.new.threads ≡ members_of self.old.threads }
-        ensures made { self.new.made ≡ self.old.made + 1 }
-        ensures refused { LeavesIfRefused self.old thread (call_lent call.now) endings.new.items self.new }
-
-        // An event ends at most its own call and calls that were open.
-        ensures room { length endings.new.items + blocked_count self.new.threads ≤ blocked_count self.old.threads + 1 }
-    {
-        let seat = self.known_seat(thread);
-        self.perform_lent(&seat, call, endings);
     }
 }
