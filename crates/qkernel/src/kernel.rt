@@ -30,7 +30,6 @@ mod write;
 
 use arrayvec::ArrayVec;
 use caller::Caller;
-use pulse::Payload;
 use qbase::bytes::Bytes;
 use qbase::errno::Errno;
 use qbase::ids::ThreadNo;
@@ -180,7 +179,7 @@ impl Kernel {
                 priority,
                 code,
                 value,
-            } => self.pulse(caller, coid, priority, Payload { code, value }, endings),
+            } => self.pulse(caller, coid, priority, code, value, endings),
             Call::PrioritySet {
                 thread: target,
                 priority,

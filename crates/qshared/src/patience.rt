@@ -1,8 +1,8 @@
 //! How long a thread looks for its ending before it sleeps.
 
-/// The most looks of a wait. A thread pauses between two looks, twice as long each time up to 64 pauses, so these take
-/// some tens of microseconds. A thread never yields its core: on a busy machine a process that computes would keep it
-/// for milliseconds.
+/// The most looks of a wait. A thread pauses between two looks, twice as long each time up to 64 pauses of the
+/// processor, some 4,800 in all. A pause takes 4 to 60 ns, so these looks take 20 to 300 microseconds. A thread never
+/// yields its core: on a busy machine a process that computes would keep it for milliseconds.
 const MOST_LOOKS: u32 = 80;
 
 /// The fewest looks of a wait.

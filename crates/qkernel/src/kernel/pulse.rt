@@ -11,12 +11,6 @@ use qstate::channel::route;
 use qstate::endings::{Endings, put, put_if};
 use qstate::pulses::send_pulse;
 
-/// What a user's pulse brings its receiver.
-pub(super) struct Payload {
-    pub(super) code: i8,
-    pub(super) value: i32,
-}
-
 impl Kernel {
     ghost use Rattle.qkernel.specs.Private.Caller.{MayCall, MakesOrRefuses};
 
@@ -27,13 +21,13 @@ impl Kernel {
         caller: &Caller,
         coid: ConnectionId,
         priority: Priority,
-        payload: Payload,
+        code: i8,
+        value: i32,
         endings: &mut Endings,
     ) -> Result<(), Errno>
         requires { MayCall self.old caller.now endings.old.items }
-        ensures { MakesOrRefuses self.old caller.now (Call.Pulse coid priority payload.code payload.value) result endings.new.items self.new }
+        ensures { MakesOrRefuses self.old caller.now (Call.Pulse coid priority code value) result endings.new.items self.new }
     {
-        let Payload { code, value } = payload;
         let Some(chid) = route(&self.connections, &self.channels, caller.process, coid) else {
             return Err(Errno::Badf);
         };
