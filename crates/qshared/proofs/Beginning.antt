@@ -21,7 +21,7 @@ same_replicate (Prim.Native.Nat.suc n) Prim.Native.Nat.zero x = refl
 same_replicate (Prim.Native.Nat.suc n) (Prim.Native.Nat.suc i) x = same_replicate n i x
 
 pub held_first : (roster : List Member) (slots : ℕ) (kernel : State) (threads : List ℕ) → IsSound kernel → members_of kernel.threads ≡ roster → StandsAt (members_of kernel.threads) kernel []
-    → threads ≡ threads_of (members_of kernel.threads) → length threads ≡ slots → IsUnderLock roster slots kernel (seated_desk slots slots) threads [] []
+    → threads ≡ threads_of (members_of kernel.threads) → length threads ≡ slots → IsUnderLock roster slots kernel (seated_desk slots slots) threads []
 held_first roster slots kernel threads sound same stands threads_are many =
     let rises : IsRoster (members_of kernel.threads) = sound.roster in
     let few : length kernel.threads ≤ 64 = sound.few in
@@ -42,5 +42,4 @@ held_first roster slots kernel threads sound same stands threads_are many =
         tied = λ t i is. (ap (λ (l : Line Completion). l.put) (same_replicate slots i idle_line), ap (λ (l : Line Completion). l.opened) (same_replicate slots i idle_line) ∙ sym (blocked_same roster [] tt t));
       };
       numbered = omega arith;
-      emptied = refl;
     }

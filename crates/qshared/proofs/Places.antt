@@ -89,6 +89,10 @@ rises_at (u ∷ ts) (suc k) d r l = let near : k < length ts = omega arith in le
 pub place_at : (ts : List ℕ) (k d : ℕ) → Rises ts → k < length ts → place ts (get_or ts k d) ≡ Some k
 place_at ts k d r l = position_from-zero (λ u. eqb u (get_or ts k d)) ts ∙ at_found ts (get_or ts k d) k 0 (rises_at ts k d r l) ∙ ap Some (omega arith)
 
+-- a thread that is found at an index of these threads has that place
+pub place_found : (ts xs : List ℕ) (k d t : ℕ) → Rises ts → xs ≡ ts → k < length xs → t ≡ get_or xs k d → place ts t ≡ Some k
+place_found ts xs k d t r same l is = ap (place ts) (is ∙ ap (λ ys. get_or ys k d) same) ∙ place_at ts k d r (omega (arith, l, ap length same))
+
 -- ---- seats are places
 
 same_from : (u : ℕ) (threads : List Thread) (i : ℕ) → position_from (λ v. eqb v u) i (threads_of (members_of threads)) ≡ position_from (λ t. eqb t.member.thread u) i threads
@@ -101,6 +105,10 @@ place_is_seat threads u = position_from-zero (λ v. eqb v u) (threads_of (member
 -- the place of the thread at a seat
 pub seated : (threads : List Thread) (u k : ℕ) (seat : Seat) → IsSeatIn threads seat → seat.thread ≡ u → k ≡ seat.index → place (threads_of (members_of threads)) u ≡ Some k
 seated threads u k seat at same index = place_is_seat threads u ∙ ap (seat_in threads) (sym same) ∙ at ∙ ap Some (sym index)
+
+-- the seat of a thread that has a place
+pub seat_at_place : (threads : List Thread) (seat : Seat) → place (threads_of (members_of threads)) seat.thread ≡ Some seat.index → IsSeatIn threads seat
+seat_at_place threads seat at = sym (place_is_seat threads seat.thread) ∙ at
 
 -- a thread that isn't in the roster has none
 pub unseated : (threads : List Thread) (u : ℕ) → false ≡ is_some (member_at (members_of threads) u) → place (threads_of (members_of threads)) u ≡ None

@@ -1,5 +1,5 @@
 -- The value under the lock: a kernel, the kernel's seat of the cells, and the past.
-use Rattle.std.specs.Prelude.{◌≡◌, ℕ, ◌≤◌, List, [], length, ◌^◌}
+use Rattle.std.specs.Prelude.{◌≡◌, ℕ, ◌≤◌, List, length, ◌^◌}
 use Rattle.qtables.specs.Members.{IsRoster}
 use Rattle.qtables.specs.declared.member.Member.{Member}
 use Rattle.qmodel.specs.declared.call.Completion.{Completion}
@@ -26,14 +26,13 @@ pub record Agrees (roster : List Member) (kernel : State) (d : Desk Completion) 
   pub stands : StandsAt roster kernel past
   pub tied : IsTied roster d past
 
--- what holds whenever the lock is free, for the kernel of this roster: all of the above, there are as many
--- cells as threads, and no ending is left over
+-- what holds whenever the lock is free, for the kernel of this roster: all of the above, and there are as many
+-- cells as threads
 pub record IsUnderLock (roster : List Member) (slots : ℕ) (kernel : State) (d : Desk Completion)
-    (threads : List ℕ) (past : Trace) (endings : List Completion) : Type 0 where
+    (threads : List ℕ) (past : Trace) : Type 0 where
   pub rises : IsRoster roster
   pub sized : length roster ≡ slots
   pub few : slots ≤ 64
   pub threads_are : threads ≡ threads_of roster
   pub told : Agrees roster kernel d past
   pub numbered : length past ≤ 2 ^ 40
-  pub emptied : endings ≡ []

@@ -8,10 +8,10 @@ ghost use Rattle.qstate.specs.Kept.{members_of};
 ghost use Rattle.qshared.specs.Due.{place};
 ghost use Rattle.qshared.specs.Private.Putting.{MayPut, Handed};
 
+use crate::turn::Turn;
 use qbase::ids::ThreadNo;
 use qhandoff::cells::Cells;
 use qhandoff::seats::KernelSeat;
-use qkernel::endings::Endings;
 use qkernel::kernel::Kernel;
 use qmodel::call::Completion;
 
@@ -61,33 +61,34 @@ fn bit_of(place: usize, is_own: bool) -> u64
     1u64 << place
 }
 
-/// Puts an event's endings into their threads' cells. Returns whether one of them is for this thread, and sets the bit
-/// of every other cell that is filled.
+/// Puts an event's endings into their threads' cells. Returns whether one of them is for the thread whose turn it is, and
+/// sets the bit of every other cell that is filled.
 pub(crate) fn hand_out(
     seat: &mut KernelSeat<Completion>,
     cells: &Cells<Completion>,
     kernel: &Kernel,
-    endings: &mut Endings,
-    thread: ThreadNo,
-    woken: &mut u64,
+    turn: &mut Turn,
 ) -> bool
     requires few { (cells_id cells.now).slots ≤ 64 }
     requires cells { kernel_id seat.old ≡ cells_id cells.now }
     requires sized { length (threads_of (members_of kernel.now.threads)) ≡ (cells_id cells.now).slots }
-    requires apart { AreApart endings.old.items }
-    requires may { AllByRecursion (MayPut (threads_of (members_of kernel.now.threads)) (desk seat.old)) endings.old.items }
+    requires apart { AreApart turn.old.endings.value.items }
+    requires may { AllByRecursion (MayPut (threads_of (members_of kernel.now.threads)) (desk seat.old)) turn.old.endings.value.items }
     ensures cells { kernel_id seat.new ≡ kernel_id seat.old }
-    ensures own { result ≡ gets endings.old.items thread }
-    ensures handed { Handed (threads_of (members_of kernel.now.threads)) endings.old.items (desk seat.old) (desk seat.new) }
-    ensures emptied { endings.new.items ≡ [] }
+    ensures own { result ≡ gets turn.old.endings.value.items turn.old.seat.thread }
+    ensures handed { Handed (threads_of (members_of kernel.now.threads)) turn.old.endings.value.items (desk seat.old) (desk seat.new) }
+    ensures seat { turn.new.seat ≡ turn.old.seat }
+    ensures emptied { turn.new.endings.value.items ≡ [] }
 {
+    let thread = turn.seat.thread();
+    let endings = &mut *turn.endings;
     endings.as_mut_slice().reverse();
     let mut own = false;
     while let Some(ending) = endings.pop() {
         let is_own = ending.thread == thread;
         own = is_for(own, &ending, thread);
         let place = hand_one(seat, cells, kernel, ending);
-        *woken |= bit_of(place, is_own);
+        turn.woken |= bit_of(place, is_own);
     }
     own
 }

@@ -19,5 +19,6 @@ pub mod shared;
 mod spinning;
 pub mod tie;
 pub mod traced;
+mod turn;
 pub mod unkept;
 mod waker;

@@ -13,7 +13,7 @@ use crate::log::Log;
 use crate::performed::Performed;
 use crate::tie::{Tie, Whole};
 use crate::traced::Traced;
-use qbase::ids::ThreadNo;
+use crate::turn::Turn;
 use qhandoff::cells::Cells;
 use qmodel::call::{Call, Completion};
 use qpast::asking::{Asked, Heard};
@@ -35,13 +35,6 @@ pub(crate) struct Locked<K: Tie, L: Log> {
     ghost counted: { length traced.past ≡ book.total },
     ghost named: { (map (λ h. h.name) heard.items ≡ K.names.lists) × (length heard.items ≡ K.names.cells.slots) },
     ghost heard_all: { AreCallsOf K.names.roster (map (λ h. h.calls) heard.items) traced.past },
-}
-
-/// A thread, and the number of its cell.
-#[derive(Clone, Copy)]
-pub(crate) struct ThreadCell {
-    pub(crate) thread: ThreadNo,
-    pub(crate) cell: usize,
 }
 
 /// Returns whether the call is an event.
@@ -88,34 +81,38 @@ impl<K: Tie, L: Log> Locked<K, L> {
         }
     }
 
-    /// Makes a call of a thread. If the call is an event, counts it in the thread's share and adds it to the thread's
-    /// list.
+    /// Makes a call of the thread whose turn it is. If the call is an event, counts it in the thread's share and adds it
+    /// to the thread's list.
     pub(crate) fn call(
         &mut self,
         cells: &Cells<Completion>,
-        own: ThreadCell,
+        turn: &mut Turn,
         share: &mut Share<K>,
         asked: &mut Asked,
         call: Call,
     ) -> Performed
         requires cells { cells_id cells.now ≡ K.names.cells }
         requires part { 0 < share.old.parts }
-        requires thread { (place (threads_of K.names.roster) own.thread ≡ Some own.cell) × (own.cell < K.names.cells.slots) }
-        requires asked { slice_index_or K.names.lists own.cell 0 ≡ asked.old.name }
-        ensures came { AtPast K.names.roster own.thread asked.old.calls (Comes K.names.roster L.refuses L.admits own.thread call result) }
+        requires seat { (place (threads_of K.names.roster) turn.old.seat.thread ≡ Some turn.old.seat.index) × (turn.old.seat.index < K.names.cells.slots) }
+        requires none { turn.old.endings.value.items ≡ [] }
+        requires asked { slice_index_or K.names.lists turn.old.seat.index 0 ≡ asked.old.name }
+        ensures came { AtPast K.names.roster turn.old.seat.thread asked.old.calls (Comes K.names.roster L.refuses L.admits turn.old.seat.thread call result) }
         ensures parts { share.new.parts ≡ share.old.parts }
         ensures amount { share.new.amount ≡ share.old.amount + one_if (is_event result) }
         ensures name { asked.new.name ≡ asked.old.name }
         ensures asked { asked.new.calls ≡ asked.old.calls ++ (if is_event result then call ∷ [] else []) }
         ensures few { share.old.amount < 2 ^ 63 }
+        ensures seat { turn.new.seat ≡ turn.old.seat }
+        ensures none { turn.new.endings.value.items ≡ [] }
     {
+        let cell = turn.seat.index();
         let _events = self.traced.len();
         self.book.audit(share);
-        agree(asked, &mut self.heard, own.cell);
+        agree(asked, &mut self.heard, cell);
         let asking = Snapshot::of(&call);
-        let performed = self.traced.perform(cells, own.thread, call);
+        let performed = self.traced.perform(cells, turn, call);
         if is_event(&performed) {
-            asked.ask(&mut self.heard[own.cell], &asking);
+            asked.ask(&mut self.heard[cell], &asking);
             self.book.add(share, 1);
         }
         performed

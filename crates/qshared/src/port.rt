@@ -8,13 +8,14 @@ ghost use Rattle.qshared.specs.Answered.{AtPast, Answered};
 ghost use Rattle.qshared.specs.Counting.{is_call, gives, pends};
 ghost use Rattle.qshared.specs.TwoCalls.{AnsweredBoth, is_ok, calls_in, asked_by, gives_both, pends_both};
 
-use crate::locked::{Locked, ThreadCell};
+use crate::locked::Locked;
 use crate::log::Log;
 use crate::patience::Patience;
 use crate::performed::Performed;
 use crate::shared::Shared;
 use crate::spinning;
 use crate::tie::Tie;
+use crate::turn::Turn;
 use crossbeam_utils::Backoff;
 use crossbeam_utils::sync::Parker;
 use qbase::errno::Errno;
@@ -53,6 +54,7 @@ pub enum CalledBoth {
 pub struct Port<K: Tie> {
     pub(crate) thread: ThreadNo,
     pub(crate) seat: ThreadSeat<Completion>,
+    pub(crate) turn: Turn,
     // The port's share of the sum of all events.
     pub(crate) share: Share<K>,
     pub(crate) calls: u64,
@@ -63,6 +65,8 @@ pub struct Port<K: Tie> {
     pub(crate) asked: Asked,
     ghost seat_is: { thread_id seat ≡ K.names.cells },
     ghost thread_is: { place (threads_of K.names.roster) thread ≡ Some (thread_of seat) },
+    ghost turn_is: { (turn.seat.thread ≡ thread) × (turn.seat.index ≡ thread_of seat) },
+    ghost idle: { turn.endings.value.items ≡ [] },
     ghost counted: { share.amount ≡ calls },
     ghost part: { share.parts ≡ 1 },
     ghost asked_is: { slice_index_or K.names.lists (thread_of seat) 0 ≡ asked.name },
@@ -122,20 +126,22 @@ fn look(
 
 impl<K: Tie> Port<K> {
     pub(crate) fn new(
-        thread: ThreadNo,
+        turn: Turn,
         seat: ThreadSeat<Completion>,
         share: Share<K>,
         parker: Parker,
         asked: Asked,
     ) -> Port<K>
-        requires seat { (thread_id seat ≡ K.names.cells) × (place (threads_of K.names.roster) thread ≡ Some (thread_of seat)) }
+        requires seat { (thread_id seat ≡ K.names.cells) × (place (threads_of K.names.roster) turn.seat.thread ≡ Some (thread_of seat)) }
+        requires turn { (turn.seat.index ≡ thread_of seat) × (turn.endings.value.items ≡ []) }
         requires share { (share.amount ≡ 0) × (share.parts ≡ 1) }
         requires asked { slice_index_or K.names.lists (thread_of seat) 0 ≡ asked.name }
-        ensures { (result.seat ≡ seat) × (result.calls ≡ 0) × (result.pending ≡ false) × (result.thread ≡ thread) × (result.asked ≡ asked) }
+        ensures { (result.seat ≡ seat) × (result.calls ≡ 0) × (result.pending ≡ false) × (result.asked ≡ asked) }
     {
         Port {
-            thread,
+            thread: turn.seat.thread(),
             seat,
+            turn,
             share,
             calls: 0,
             pending: false,
@@ -160,13 +166,12 @@ impl<K: Tie> Port<K> {
         ensures taken { taken self.new.seat ≡ taken self.old.seat ++ gives result }
         ensures same { (self.new.thread ≡ self.old.thread) × (thread_of self.new.seat ≡ thread_of self.old.seat) }
     {
-        let (called, woken) = {
-            let mut guard = spinning::lock(&shared.lock, rt);
-            let locked = &mut **guard;
-            let called = self.make(&shared.cells, locked, call);
-            (called, locked.traced.woken)
+        self.turn.woken = 0;
+        let called = {
+            let mut guard = spinning::lock(&*shared.lock, rt);
+            self.make(&shared.cells, &mut **guard, call)
         };
-        shared.wake(woken);
+        shared.wake(self.turn.woken);
         called
     }
 
@@ -188,29 +193,28 @@ impl<K: Tie> Port<K> {
         ensures taken { taken self.new.seat ≡ taken self.old.seat ++ gives_both result }
         ensures same { (self.new.thread ≡ self.old.thread) × (thread_of self.new.seat ≡ thread_of self.old.seat) }
     {
-        let (called, woken) = {
-            let mut guard = spinning::lock(&shared.lock, rt);
+        self.turn.woken = 0;
+        let called = {
+            let mut guard = spinning::lock(&*shared.lock, rt);
             let locked = &mut **guard;
             let first = self.make(&shared.cells, locked, first);
-            let woken = locked.traced.woken;
             match first {
                 Called::Done(completion) => {
                     if is_ok(completion.mark) {
                         let second = self.make(&shared.cells, locked, second);
-                        let both = CalledBoth::Both(completion, second);
-                        (both, woken | locked.traced.woken)
+                        CalledBoth::Both(completion, second)
                     } else {
-                        (CalledBoth::First(Called::Done(completion), second), woken)
+                        CalledBoth::First(Called::Done(completion), second)
                     }
                 }
-                Called::Blocked => (CalledBoth::First(Called::Blocked, second), woken),
+                Called::Blocked => CalledBoth::First(Called::Blocked, second),
                 Called::Refused(errno, call) => {
                     let first = Called::Refused(errno, call);
-                    (CalledBoth::First(first, second), woken)
+                    CalledBoth::First(first, second)
                 }
             }
         };
-        shared.wake(woken);
+        shared.wake(self.turn.woken);
         called
     }
 
@@ -230,12 +234,13 @@ impl<K: Tie> Port<K> {
         ensures taken { taken self.new.seat ≡ taken self.old.seat ++ gives result }
         ensures same { (self.new.thread ≡ self.old.thread) × (thread_of self.new.seat ≡ thread_of self.old.seat) }
     {
-        let place = self.seat.thread();
-        let own = ThreadCell {
-            thread: self.thread,
-            cell: place,
-        };
-        let performed = locked.call(cells, own, &mut self.share, &mut self.asked, call);
+        let performed = locked.call(
+            cells,
+            &mut self.turn,
+            &mut self.share,
+            &mut self.asked,
+            call,
+        );
         match performed {
             Performed::Refused(errno, call) => Called::Refused(errno, call),
             Performed::Open => {

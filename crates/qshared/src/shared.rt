@@ -7,6 +7,7 @@ ghost use Rattle.qrules.specs.Facts.{threads_of};
 ghost use Rattle.qrules.specs.Lawful.{IsLawful};
 ghost use Rattle.qrules.specs.Trace.{followed_by};
 ghost use Rattle.qrules.specs.Properties.{HasProperties};
+ghost use Rattle.qstate.specs.Kept.{members_of};
 ghost use Rattle.qhandoff.specs.Words.{cells_id, thread_of, taken, took, IsRow};
 ghost use Rattle.qshared.specs.Asking.{AreCallsOf, asked_in};
 ghost use Rattle.qshared.specs.Due.{place, endings_due, of_thread, AreKnown};
@@ -23,13 +24,16 @@ use crate::port::Port;
 use crate::report::{Report, Tally};
 use crate::tie::Tie;
 use crate::traced::Traced;
+use crate::turn::Turn;
 use crate::unkept::Unkept;
 use crate::waker::Waker;
+use crossbeam_utils::CachePadded;
 use crossbeam_utils::sync::Parker;
 use qbase::errno::Errno;
 use qbase::ids::ThreadNo;
 use qhandoff::cells::Cells;
 use qhandoff::seats::ThreadSeat;
+use qkernel::kernel::Kernel;
 use qmodel::call::Completion;
 use qpast::asking::{Asked, Heard};
 use std::alloc::{AllocError, Global};
@@ -40,8 +44,8 @@ use std::sync::ledger::Share;
 #[derive(Drop)]
 pub struct Shared<K: Tie, L: Log> {
     pub(crate) cells: Cells<Completion>,
-    // In a box, so that a thread that waits for the lock doesn't take a line of the kernel from the holder when it looks.
-    pub(crate) lock: Mutex<Box<Locked<K, L>>>,
+    // Padded and in a box, so that a thread that waits for the lock looks at a cache line that has nothing else.
+    pub(crate) lock: CachePadded<Mutex<Box<Locked<K, L>>>>,
     // One for each port, by the number of its cell.
     wakers: Vec<Waker>,
     ghost cells_are: { cells_id cells ≡ K.names.cells },
@@ -70,13 +74,13 @@ fn without_places(mut left: Vec<(usize, Completion)>, mut room: Vec<Completion>)
 
 /// Makes a port for each seat, with its share of the ledger, and what wakes the ports' threads.
 fn ports_for<K: Tie>(
-    alloc: Global,
+    kernel: &Kernel,
     threads: &[ThreadNo],
     seats: Vec<ThreadSeat<Completion>>,
     mut asked: Vec<Asked>,
     spare: &mut Share<K>,
 ) -> Result<(Vec<Port<K>>, Vec<Waker>), AllocError>
-    requires roster { IsRoster K.names.roster × (threads.now ≡ threads_of K.names.roster) }
+    requires roster { IsRoster K.names.roster × (threads.now ≡ threads_of K.names.roster) × (members_of kernel.now.threads ≡ K.names.roster) }
     requires seats { (length seats.items ≡ length threads.now) × IsRow K.names.cells seats.items × ((k : ℕ) → took (get_elem? seats.items k) ≡ []) }
     requires asked { (map (λ a. a.name) asked.items ≡ K.names.lists) × (length asked.items ≡ K.names.cells.slots) × ((k : ℕ) → asked_in (get_elem? asked.items k) ≡ []) }
     requires sized { length threads.now ≡ K.names.cells.slots }
@@ -85,6 +89,7 @@ fn ports_for<K: Tie>(
     ensures ports { IfOk result (λ r. AreAll (λ p. thread_of p.seat) K.names.cells.slots r.0.items) }
     ensures new { IfOk result (λ r. (k : ℕ) (p : _) → get_elem? r.0.items k ≡ some p → (p.calls ≡ 0) × (p.pending ≡ false) × (taken p.seat ≡ []) × (p.asked.calls ≡ [])) }
 {
+    let alloc = kernel.alloc();
     let mut ports = Vec::with_capacity(alloc, seats.len())?;
     let mut wakers = Vec::with_capacity(alloc, seats.len())?;
     asked.reverse();
@@ -95,7 +100,11 @@ fn ports_for<K: Tie>(
         let Some(own) = asked.pop() else {
             unreachable!()
         };
-        let port = Port::new(thread, seat, spare.split_off(1, 0), parker, own);
+        let Some(place) = kernel.seat(thread) else {
+            unreachable!()
+        };
+        let turn = Turn::new(alloc, place)?;
+        let port = Port::new(turn, seat, spare.split_off(1, 0), parker, own);
         ports.push_reserved(port);
     }
     Ok((ports, wakers))
@@ -172,10 +181,10 @@ impl<K: Tie, L: Log> Shared<K, L> {
         let many = seats.len();
         let room = ClosingRoom::new(alloc, many)?;
         let (book, mut spare) = blank.open::<K>();
-        let (ports, wakers) = ports_for(alloc, &threads, seats, asked, &mut spare)?;
+        let (ports, wakers) = ports_for(&kernel, &threads, seats, asked, &mut spare)?;
         let traced = Traced::new(kernel, seat, log);
         let locked = Locked::new(traced, book, spare, room, heard);
-        let lock = Mutex::new(Box::new(alloc, locked)?);
+        let lock = CachePadded::new(Mutex::new(Box::new(alloc, locked)?));
         let shared = Shared {
             cells,
             lock,
@@ -241,7 +250,7 @@ impl<K: Tie, L: Log> Shared<K, L> {
             room,
             heard,
             ..
-        } = Box::into_inner(lock.into_inner());
+        } = Box::into_inner(lock.into_inner().into_inner());
         let ClosingRoom {
             mut seats,
             mut calls,

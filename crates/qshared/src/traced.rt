@@ -1,5 +1,5 @@
 //! A kernel with its past, and the kernel's seat of the cells.
-ghost use Rattle.std.specs.Prelude.{◌≡◌, ◌≤◌, ◌^◌, [], length, if◌then◌else◌};
+ghost use Rattle.std.specs.Prelude.{◌≡◌, ◌≤◌, ◌^◌, [], length, if◌then◌else◌, Some};
 ghost use Rattle.qrules.specs.Facts.{threads_of};
 ghost use Rattle.qrules.specs.Lawful.{IsLawful};
 ghost use Rattle.qrules.specs.Properties.{HasProperties};
@@ -7,18 +7,17 @@ ghost use Rattle.qstate.specs.Kept.{members_of};
 ghost use Rattle.qkernel.specs.Stands.{StandsAt};
 ghost use Rattle.qhandoff.specs.Steps.{seated_desk};
 ghost use Rattle.qhandoff.specs.Words.{cells_id, kernel_id, desk};
+ghost use Rattle.qshared.specs.Due.{place};
 ghost use Rattle.qshared.specs.Performing.{Performs};
 
 use crate::handing::hand_out;
 use crate::log::Log;
 use crate::performed::Performed;
 use crate::tie::Tie;
-use arrayvec::ArrayVec;
+use crate::turn::Turn;
 use qbase::errno::Errno;
-use qbase::ids::ThreadNo;
 use qhandoff::cells::Cells;
 use qhandoff::seats::KernelSeat;
-use qkernel::endings::Endings;
 use qkernel::kernel::Kernel;
 use qmodel::call::{Call, Completion};
 use std::marker::{Model, PhantomData};
@@ -29,10 +28,6 @@ use std::marker::{Model, PhantomData};
 pub struct Traced<K: Tie, L: Log> {
     pub(crate) kernel: Kernel,
     pub(crate) seat: KernelSeat<Completion>,
-    // The endings of one call; empty between two calls.
-    pub(crate) endings: Endings,
-    // The bit of each other thread whose cell the last call filled.
-    pub(crate) woken: u64,
     pub(crate) log: L,
     pub(crate) of: PhantomData<K>,
 }
@@ -48,7 +43,7 @@ impl<K: Tie, L: Log> Model for Traced<K, L> {
 
     ghost view = { λ t. record { kernel = t.kernel; desk = desk t.seat; past = L.past t.log } };
 
-    ghost invariant = { λ t. (kernel_id t.seat ≡ K.names.cells) × (L.roster t.log ≡ K.names.roster) × IsUnderLock K.names.roster K.names.cells.slots t.kernel (desk t.seat) (threads_of (members_of t.kernel.threads)) (L.past t.log) t.endings.items };
+    ghost invariant = { λ t. (kernel_id t.seat ≡ K.names.cells) × (L.roster t.log ≡ K.names.roster) × IsUnderLock K.names.roster K.names.cells.slots t.kernel (desk t.seat) (threads_of (members_of t.kernel.threads)) (L.past t.log) };
 }
 
 // Returns the outcome of a call that is an event: `Ended` if its own ending was put, else `Open`.
@@ -72,12 +67,9 @@ impl<K: Tie, L: Log> Traced<K, L> {
         ensures { result.past ≡ [] }
     {
         let _made = kernel.made();
-        let alloc = kernel.alloc();
         Traced {
             kernel,
             seat,
-            endings: ArrayVec::new_in(alloc),
-            woken: 0,
             log,
             of: PhantomData,
         }
@@ -92,21 +84,21 @@ impl<K: Tie, L: Log> Traced<K, L> {
         self.kernel.made()
     }
 
-    /// Makes a call of a thread, for `Port::call`, which holds the lock: opens the thread's cell, makes the call, and
-    /// puts every ending into its thread's cell. Refused, in this order: `NoThread` if the thread isn't in the roster,
-    /// `Down` after Shutdown, `Busy` if the thread has an open call or an ending that it didn't take, and then the
-    /// errors of the log.
-    pub fn perform(&mut self, cells: &Cells<Completion>, thread: ThreadNo, call: Call) -> Performed
-        requires { cells_id cells.now ≡ K.names.cells }
-        ensures { Performs K.names.roster L.refuses L.admits self.old thread call result self.new }
+    /// Makes a call of the thread whose turn it is, for `Port::call`, which holds the lock: opens the thread's cell, makes
+    /// the call, and puts every ending into its thread's cell. Refused, in this order: `Down` after Shutdown, `Busy` if
+    /// the thread has an open call or an ending that it didn't take, and then the errors of the log.
+    pub fn perform(&mut self, cells: &Cells<Completion>, turn: &mut Turn, call: Call) -> Performed
+        requires cells { cells_id cells.now ≡ K.names.cells }
+        requires seat { place (threads_of K.names.roster) turn.old.seat.thread ≡ Some turn.old.seat.index }
+        requires none { turn.old.endings.value.items ≡ [] }
+        ensures performs { Performs K.names.roster L.refuses L.admits self.old turn.old.seat.thread call result self.new }
+        ensures seat { turn.new.seat ≡ turn.old.seat }
+        ensures none { turn.new.endings.value.items ≡ [] }
     {
-        self.woken = 0;
-        let Some(seat) = self.kernel.seat(thread) else {
-            return Performed::Refused(Errno::NoThread, call);
-        };
         if self.kernel.is_down() {
             return Performed::Refused(Errno::Down, call);
         }
+        let seat = turn.seat;
         let place = seat.index();
         if !self.seat.open(cells, place) {
             return Performed::Refused(Errno::Busy, call);
@@ -116,18 +108,11 @@ impl<K: Tie, L: Log> Traced<K, L> {
             self.seat.cancel(cells, place);
             return Performed::Refused(errno, call);
         }
-        let Ok(()) = self.kernel.call_at(&seat, call, &mut self.endings) else {
+        let Ok(()) = self.kernel.call_at(&seat, call, &mut *turn.endings) else {
             unreachable!();
         };
-        self.log.event(&self.kernel, &seat, &self.endings);
-        let own = hand_out(
-            &mut self.seat,
-            cells,
-            &self.kernel,
-            &mut self.endings,
-            thread,
-            &mut self.woken,
-        );
+        self.log.event(&self.kernel, &seat, &*turn.endings);
+        let own = hand_out(&mut self.seat, cells, &self.kernel, turn);
         ended_or_open(own)
     }
 }

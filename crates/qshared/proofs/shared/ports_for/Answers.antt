@@ -1,11 +1,12 @@
-use Rattle.std.proofs.Common.{◌≡◌, false, ◌+◌, ◌++◌, ◌∷◌, [], suc, arith, sym, ap, subst, ◌∙◌, map, reverse, length, length-append, append_assoc, get_or, ◌<◌}
+use Rattle.std.proofs.Common.{◌≡◌, refl, false, ◌+◌, ◌++◌, ◌∷◌, [], suc, arith, sym, ap, subst, ◌∙◌, map, reverse, length, length-append, append_assoc, get_or, ◌<◌}
 use Rattle.std.proofs.lemmas.Grind.{common_steps}
 use Rattle.std.proofs.lemmas.Iterator.Adapters.{YieldsList-from_vec}
 use Rattle.std.proofs.lemmas.Iterator.Consumers.{YieldsList-turn, YieldsList-end}
 use Rattle.std.proofs.lemmas.List.{length-map}
 use lib.ListN.{get_elem?}
 use lib.Seq.{get_or-append_seam}
-use Rattle.std.specs.Prelude.{Some}
+use Rattle.std.specs.Prelude.{Some, None}
+use Rattle.std.proofs.lemmas.Option.{same_Some, none-some}
 use Rattle.qmodel.specs.Private.Facts.{threads_of}
 use Rattle.qmodel.proofs.Rosters.{rises}
 use Rattle.atomic_table.proofs.Lists.{at_index}
@@ -13,7 +14,7 @@ use Rattle.qhandoff.specs.Words.{thread_of}
 use Rattle.qkernel.proofs.Running.{popped}
 use Rattle.qshared.specs.Asking.{asked_in}
 use Rattle.qshared.specs.Due.{place}
-use Rattle.qshared.proofs.Places.{place_at}
+use Rattle.qshared.proofs.Places.{place_found, seated, unseated}
 use Rattle.qshared.proofs.Rows.{map_same, map_snoc, each_pushed, ports_fresh}
 use Rattle.qshared.proofs.shared.ports_for.Goals as goal
 
@@ -27,11 +28,27 @@ pub new-port-requires-clause-seat : goal.new-port-requires-clause-seat
 new-port-requires-clause-seat g c =
     let t = YieldsList-turn (YieldsList-from_vec {s = c.into_iter-seat-iterator.result} c.args.seats.items c.into_iter-seat-iterator.ensures.into_iter_gives.0 (c.into_iter-seat-iterator.ensures.into_iter_gives.1 ∙ c.args.seats.ok.0)) c.loop-seat.yielded c.loop-seat.seat-iterator c.loop-seat.yielded_by c.next.result c.next.new.self c.in-Some.seat c.in-Some.is c.next.ensures.steps in
     let row = c.requires.seats.1 (length c.loop-seat.yielded) c.in-Some.seat (at_index c.args.seats.items (length c.loop-seat.yielded) c.in-Some.seat t.0 t.1) in
-    let ts = threads_of g.K.Tie.names.roster in
-    let same : c.args.threads.now ≡ ts = c.requires.roster.1 in
-    let below : c.thread.result < length ts = omega (arith, c.thread.ensures.within, ap (λ z. z.slots) row.0, c.requires.sized, ap length same) in
-    let d = c.index-threads-thread.result in
-    (row.0, ap (place ts) (c.index-threads-thread.is ∙ ap (λ xs. get_or xs c.thread.result d) same) ∙ place_at ts c.thread.result d (rises g.K.Tie.names.roster c.requires.roster.0) below ∙ ap Some c.thread.ensures.number)
+    let below : c.thread.result < length c.args.threads.now = omega (arith, c.thread.ensures.within, ap (λ z. z.slots) row.0, c.requires.sized) in
+    let turned : c.in_ok-turn.turn.seat.thread ≡ c.index-threads-thread.result = ap (λ s. s.thread) c.in_ok-turn.ensures.seat ∙ c.in-Some-seat.ensures.thread in
+    (row.0, place_found (threads_of g.K.Tie.names.roster) c.args.threads.now c.thread.result c.index-threads-thread.result c.in_ok-turn.turn.seat.thread (rises g.K.Tie.names.roster c.requires.roster.0) c.requires.roster.1 below (turned ∙ c.index-threads-thread.is) ∙ ap Some c.thread.ensures.number)
+
+pub new-port-requires-clause-turn : goal.new-port-requires-clause-turn
+new-port-requires-clause-turn g c =
+    let t = YieldsList-turn (YieldsList-from_vec {s = c.into_iter-seat-iterator.result} c.args.seats.items c.into_iter-seat-iterator.ensures.into_iter_gives.0 (c.into_iter-seat-iterator.ensures.into_iter_gives.1 ∙ c.args.seats.ok.0)) c.loop-seat.yielded c.loop-seat.seat-iterator c.loop-seat.yielded_by c.next.result c.next.new.self c.in-Some.seat c.in-Some.is c.next.ensures.steps in
+    let row = c.requires.seats.1 (length c.loop-seat.yielded) c.in-Some.seat (at_index c.args.seats.items (length c.loop-seat.yielded) c.in-Some.seat t.0 t.1) in
+    let below : c.thread.result < length c.args.threads.now = omega (arith, c.thread.ensures.within, ap (λ z. z.slots) row.0, c.requires.sized) in
+    let here = place_found (threads_of g.K.Tie.names.roster) c.args.threads.now c.thread.result c.index-threads-thread.result c.index-threads-thread.result (rises g.K.Tie.names.roster c.requires.roster.0) c.requires.roster.1 below c.index-threads-thread.is in
+    let there = ap (λ r. place (threads_of r) c.index-threads-thread.result) (sym c.requires.roster.2) ∙ seated _ c.index-threads-thread.result _ c.in-Some-seat.place c.in-Some-seat.ensures.seat c.in-Some-seat.ensures.thread refl in
+    (ap (λ s. s.index) c.in_ok-turn.ensures.seat ∙ same_Some _ _ (sym there ∙ here) ∙ c.thread.ensures.number, c.in_ok-turn.ensures.none)
+
+pub unreachable-requires-in_default-seat : goal.unreachable-requires-in_default-seat
+unreachable-requires-in_default-seat g c =
+    let t = YieldsList-turn (YieldsList-from_vec {s = c.into_iter-seat-iterator.result} c.args.seats.items c.into_iter-seat-iterator.ensures.into_iter_gives.0 (c.into_iter-seat-iterator.ensures.into_iter_gives.1 ∙ c.args.seats.ok.0)) c.loop-seat.yielded c.loop-seat.seat-iterator c.loop-seat.yielded_by c.next.result c.next.new.self c.in-Some.seat c.in-Some.is c.next.ensures.steps in
+    let row = c.requires.seats.1 (length c.loop-seat.yielded) c.in-Some.seat (at_index c.args.seats.items (length c.loop-seat.yielded) c.in-Some.seat t.0 t.1) in
+    let below : c.thread.result < length c.args.threads.now = omega (arith, c.thread.ensures.within, ap (λ z. z.slots) row.0, c.requires.sized) in
+    let here = place_found (threads_of g.K.Tie.names.roster) c.args.threads.now c.thread.result c.index-threads-thread.result c.index-threads-thread.result (rises g.K.Tie.names.roster c.requires.roster.0) c.requires.roster.1 below c.index-threads-thread.is in
+    let nowhere = ap (λ r. place (threads_of r) c.index-threads-thread.result) (sym c.requires.roster.2) ∙ unseated _ c.index-threads-thread.result c.in_default-seat.ensures.known in
+    none-some c.thread.result (sym nowhere ∙ here)
 
 pub new-port-requires-clause-asked : goal.new-port-requires-clause-asked
 new-port-requires-clause-asked g c =
@@ -54,12 +71,12 @@ loop-seat-preserved g c =
     let more : length c.push_reserved.new.self.items ≡ length c.loop-seat.ports.items + 1 = ap length e ∙ length-append c.loop-seat.ports.items (p ∷ []) in
     let less : length c.loop-seat.asked.items ≡ length c.pop.new.self.items + 1 = ap length c.in-Some-pop.ensures.items ∙ length-append c.pop.new.self.items (own ∷ []) in (
       ap (map (λ q. q.seat)) e ∙ map_snoc (λ q. q.seat) c.loop-seat.ports.items p ∙ ap (λ ys. ys ++ p.seat ∷ []) v.0 ∙ ap (λ s. c.loop-seat.yielded ++ s ∷ []) c.new-port.ensures.0,
-      (λ k q at. each_pushed (λ r. (r.calls ≡ 0) × (r.pending ≡ false) × (r.asked.calls ≡ [])) c.loop-seat.ports.items p v.1 (c.new-port.ensures.1, c.new-port.ensures.2, ap (λ a. a.calls) c.new-port.ensures.4 ∙ subst (λ xs. asked_in (get_elem? xs 0) ≡ []) turn (v.7 0)) k q (ap (λ ys. get_elem? ys k) (sym e) ∙ at)),
+      (λ k q at. each_pushed (λ r. (r.calls ≡ 0) × (r.pending ≡ false) × (r.asked.calls ≡ [])) c.loop-seat.ports.items p v.1 (c.new-port.ensures.1, c.new-port.ensures.2, ap (λ a. a.calls) c.new-port.ensures.3 ∙ subst (λ xs. asked_in (get_elem? xs 0) ≡ []) turn (v.7 0)) k q (ap (λ ys. get_elem? ys k) (sym e) ∙ at)),
       grind (arith, common_steps),
       grind (arith, common_steps),
       grind (arith, common_steps),
       grind (arith, common_steps),
-      ap (λ ys. map (λ q. q.asked.name) ys ++ R) e ∙ ap (λ ys. ys ++ R) (map_snoc (λ q. q.asked.name) c.loop-seat.ports.items p) ∙ append_assoc N (p.asked.name ∷ []) R ∙ ap (λ n. N ++ n ∷ R) (ap (λ a. a.name) c.new-port.ensures.4) ∙ ap (λ ys. N ++ map (λ a. a.name) ys) (sym turn) ∙ v.6,
+      ap (λ ys. map (λ q. q.asked.name) ys ++ R) e ∙ ap (λ ys. ys ++ R) (map_snoc (λ q. q.asked.name) c.loop-seat.ports.items p) ∙ append_assoc N (p.asked.name ∷ []) R ∙ ap (λ n. N ++ n ∷ R) (ap (λ a. a.name) c.new-port.ensures.3) ∙ ap (λ ys. N ++ map (λ a. a.name) ys) (sym turn) ∙ v.6,
       (λ k. subst (λ xs. asked_in (get_elem? xs (suc k)) ≡ []) turn (v.7 (suc k))),
       omega (arith, more, less, v.8),
     )

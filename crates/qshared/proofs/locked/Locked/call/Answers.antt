@@ -1,3 +1,4 @@
+use Rattle.std.specs.Prelude.{Some}
 use Rattle.std.proofs.Common.{◌≡◌, ◌<◌, List, [], map, length, length-set, ap, sym, subst, ◌∙◌, arith}
 use Rattle.std.proofs.lemmas.List.{length-map, map-set}
 use Rattle.qpast.specs.declared.asking.Heard.{Heard}
@@ -7,30 +8,30 @@ use Rattle.qshared.proofs.locked.Locked.call.Goals as goal
 
 pub agree-requires : goal.agree-requires
 agree-requires g c = record {
-  cell = omega (arith, c.requires.thread.1, c.args.self.now.named.1);
-  name = rw (c.args.self.now.named.0) c.requires.asked;
+  cell = omega (arith, c.requires.seat.1, c.index-cell.ensures, c.args.self.now.named.1);
+  name = rw (c.args.self.now.named.0, c.index-cell.ensures) c.requires.asked;
 }
 
 pub invariant_of-self-clause-named : goal.invariant_of-self-clause-named
 invariant_of-self-clause-named g c =
     let hs = c.agree.new.heard.items in
     let named : (map (λ h. h.name) hs ≡ g.K.Tie.names.lists) × (length hs ≡ g.K.Tie.names.cells.slots) = (ap (map (λ h. h.name)) c.agree.ensures.heard ∙ c.args.self.now.named.0, ap length c.agree.ensures.heard ∙ c.args.self.now.named.1) in
-    let near : c.args.own.cell < length hs = omega (arith, c.requires.thread.1, named.1) in (
-      kept_names hs c.args.own.cell c.index_mut.result.now c.ask.new.heard near c.index_mut.ensures.value c.ask.ensures.heard_name ∙ named.0,
-      length-set hs c.args.own.cell c.ask.new.heard ∙ named.1,
+    let near : c.index-cell.result < length hs = omega (arith, c.requires.seat.1, c.index-cell.ensures, named.1) in (
+      kept_names hs c.index-cell.result c.index_mut.result.now c.ask.new.heard near c.index_mut.ensures.value c.ask.ensures.heard_name ∙ named.0,
+      length-set hs c.index-cell.result c.ask.new.heard ∙ named.1,
     )
 
 pub invariant_of-self-clause-heard_all : goal.invariant_of-self-clause-heard_all
 invariant_of-self-clause-heard_all g c =
     let hs = c.agree.new.heard.items in
     let many : length hs ≡ g.K.Tie.names.cells.slots = ap length c.agree.ensures.heard ∙ c.args.self.now.named.1 in
-    let near : c.args.own.cell < length hs = omega (arith, c.requires.thread.1, many) in
+    let near : c.index-cell.result < length hs = omega (arith, c.requires.seat.1, c.index-cell.ensures, many) in
     let long : length (map (λ h. h.calls) hs) ≡ length hs = length-map hs (λ h. h.calls) in
-    let told = told_list hs c.args.own.cell c.index_mut.result.now c.ask.new.heard c.args.call near c.index_mut.ensures.value (rw (c.of-asking.ensures) at c.ask.ensures.heard) in
+    let told = told_list hs c.index-cell.result c.index_mut.result.now c.ask.new.heard c.args.call near c.index_mut.ensures.value (rw (c.of-asking.ensures) at c.ask.ensures.heard) in
     let before : AreCallsOf g.K.Tie.names.roster (map (λ h. h.calls) hs) c.args.self.now.traced.past =
     subst (λ (xs : List Heard). AreCallsOf g.K.Tie.names.roster (map (λ h. h.calls) xs) c.args.self.now.traced.past) (sym c.agree.ensures.heard) c.args.self.now.heard_all in
-    subst (λ ls. AreCallsOf g.K.Tie.names.roster ls c.perform-performed.new.self.past) (sym (map-set (λ h. h.calls) hs c.args.own.cell c.ask.new.heard))
-    (heard_event g.K.Tie.names.roster g.L.Log.refuses g.L.Log.admits (map (λ h. h.calls) hs) c.args.own.thread c.args.own.cell c.args.call c.args.self.now.traced c.perform-performed.new.self c.requires.thread.0 c.perform-performed.result c.perform-performed.ensures
+    subst (λ ls. AreCallsOf g.K.Tie.names.roster ls c.perform-performed.new.self.past) (sym (map-set (λ h. h.calls) hs c.index-cell.result c.ask.new.heard))
+    (heard_event g.K.Tie.names.roster g.L.Log.refuses g.L.Log.admits (map (λ h. h.calls) hs) c.args.turn.now.seat.thread c.index-cell.result c.args.call c.args.self.now.traced c.perform-performed.new.self (c.requires.seat.0 ∙ ap Some (sym c.index-cell.ensures)) c.perform-performed.result c.perform-performed.ensures.performs
     (sym c.is_event.ensures ∙ c.if-is_event.true) (omega (arith, near, long)) c.ask.new.heard.calls told before)
 
 pub invariant_of-self-else-is_event-clause-named : goal.invariant_of-self-else-is_event-clause-named
@@ -39,7 +40,7 @@ invariant_of-self-else-is_event-clause-named g c = (ap (map (λ h. h.name)) c.ag
 pub invariant_of-self-else-is_event-clause-heard_all : goal.invariant_of-self-else-is_event-clause-heard_all
 invariant_of-self-else-is_event-clause-heard_all g c =
     subst (λ (xs : List Heard). AreCallsOf g.K.Tie.names.roster (map (λ h. h.calls) xs) c.perform-performed.new.self.past) (sym c.agree.ensures.heard)
-    (heard_refused g.K.Tie.names.roster g.L.Log.refuses g.L.Log.admits (map (λ h. h.calls) c.args.self.now.heard.items) c.args.own.thread c.args.own.cell c.args.call c.args.self.now.traced c.perform-performed.new.self c.requires.thread.0 c.perform-performed.result c.perform-performed.ensures
+    (heard_refused g.K.Tie.names.roster g.L.Log.refuses g.L.Log.admits (map (λ h. h.calls) c.args.self.now.heard.items) c.args.turn.now.seat.thread c.index-cell.result c.args.call c.args.self.now.traced c.perform-performed.new.self (c.requires.seat.0 ∙ ap Some (sym c.index-cell.ensures)) c.perform-performed.result c.perform-performed.ensures.performs
     (sym c.is_event.ensures ∙ c.if-is_event.false) c.args.self.now.heard_all)
 
 pub returns-clause-came : goal.returns-clause-came
@@ -47,6 +48,6 @@ returns-clause-came g c = record {
   past = c.args.self.now.traced.past;
   lawful = c.len-events.ensures.lawful.0;
   properties = c.len-events.ensures.lawful.1;
-  calls = sym (c.agree.ensures.agreed ∙ c.args.self.now.heard_all c.args.own.thread c.args.own.cell c.requires.thread.0);
-  holds = comes g.K.Tie.names.roster g.L.Log.refuses g.L.Log.admits [] c.args.own.thread c.args.own.cell c.args.call c.args.self.now.traced c.perform-performed.new.self c.requires.thread.0 c.perform-performed.result c.perform-performed.ensures;
+  calls = sym (c.agree.ensures.agreed ∙ c.args.self.now.heard_all c.args.turn.now.seat.thread c.index-cell.result (c.requires.seat.0 ∙ ap Some (sym c.index-cell.ensures)));
+  holds = comes g.K.Tie.names.roster g.L.Log.refuses g.L.Log.admits [] c.args.turn.now.seat.thread c.index-cell.result c.args.call c.args.self.now.traced c.perform-performed.new.self (c.requires.seat.0 ∙ ap Some (sym c.index-cell.ensures)) c.perform-performed.result c.perform-performed.ensures.performs;
 }

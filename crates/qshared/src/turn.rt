@@ -1,0 +1,33 @@
+//! A port's turn at the lock.
+
+ghost use Rattle.std.specs.Prelude.{◌≡◌, [], IfOk};
+
+use arrayvec::ArrayVec;
+use qkernel::endings::Endings;
+use qkernel::seat::Seat;
+use std::alloc::{AllocError, Global};
+
+/// What a port brings to the lock: the seat whose calls are made, and room for the endings of one call. It lies with the
+/// port and not under the lock, so that its cache lines stay with the port's thread.
+#[derive(Drop)]
+pub struct Turn {
+    pub(crate) seat: Seat,
+    // The endings of one call; empty between two calls.
+    pub(crate) endings: Box<Endings>,
+    // The bit of each other thread whose cell was filled in this turn.
+    pub(crate) woken: u64,
+}
+
+impl Turn {
+    /// Makes the room, 7 KB, for the port of the thread at a seat.
+    pub(crate) fn new(alloc: Global, seat: Seat) -> Result<Turn, AllocError>
+        ensures seat { IfOk result (λ turn. turn.seat ≡ seat) }
+        ensures none { IfOk result (λ turn. turn.endings.value.items ≡ []) }
+    {
+        Ok(Turn {
+            seat,
+            endings: Box::new(alloc, ArrayVec::new_in(alloc))?,
+            woken: 0,
+        })
+    }
+}
