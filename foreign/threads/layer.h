@@ -81,7 +81,8 @@ struct place {
 struct neutrino {
     pthread_mutex_t lock;
     balsaeuchre library;
-    pid_t process; /* the host's process that opened it */
+    pid_t process;  /* the host's process that opened it */
+    int most_looks; /* of a thread at its word; 0 on one processor */
     size_t joined;
     uint8_t place_of[256]; /* PLACES: no thread has this number */
     uint8_t clock_of[256]; /* by process: the thread that unblocks calls that time out */

@@ -27,7 +27,7 @@ use qshared::tie::Tie;
 use std::alloc::Global;
 use std::rt::Clock;
 use std::sync::Wait;
-use std::thread::Threads;
+use std::thread::{Threads, available_parallelism};
 use std::{mem, thread};
 
 /// The ports of a kernel except that of the main thread, by the work of their threads.
@@ -66,9 +66,12 @@ pub fn run<K: Tie + Send + Sync, R: Threads + Wait + Clock + Eprint + Sync>(
     requires named { AreParts K.names K.name K.parts parts }
     ensures run { IfOk result (λ f. IfSome f.trace (λ t. IsRun K.names.roster t)) }
 {
-    let Ok((shared, mut ports)) = Shared::<K, Kept<K>>::open(parts) else {
+    let Ok((mut shared, mut ports)) = Shared::<K, Kept<K>>::open(parts) else {
         return Err(ServeFault::NoMemory);
     };
+    if let Ok(processors) = available_parallelism(rt) {
+        shared.set_processors(processors.get());
+    }
     let Some(main) = ports.pop() else {
         return Err(ServeFault::Worker);
     };

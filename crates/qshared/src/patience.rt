@@ -30,18 +30,20 @@ impl Patience {
 
     /// Returns the number of looks of the next wait.
     pub(crate) fn looks(&self) -> u32 {
-        self.looks
+        if self.in_vain % TRIAL == 0 {
+            MOST_LOOKS
+        } else {
+            self.looks
+        }
     }
 
     /// Notes whether a look of the last wait found the ending.
     pub(crate) fn note(&mut self, found: bool) {
-        if !found {
-            self.in_vain = self.in_vain.wrapping_add(1);
-        }
-        self.looks = if found || self.in_vain % TRIAL == 0 {
-            MOST_LOOKS
+        if found {
+            self.looks = MOST_LOOKS;
         } else {
-            LEAST_LOOKS.max(self.looks - self.looks / 16)
-        };
+            self.in_vain = self.in_vain.wrapping_add(1);
+            self.looks = LEAST_LOOKS.max(self.looks - self.looks / 16);
+        }
     }
 }

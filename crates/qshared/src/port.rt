@@ -168,7 +168,7 @@ impl<K: Tie> Port<K> {
     {
         self.turn.woken = 0;
         let called = {
-            let mut guard = spinning::lock(&*shared.lock, rt);
+            let mut guard = spinning::lock(&*shared.lock, shared.looks, rt);
             self.make(&shared.cells, &mut **guard, call)
         };
         shared.wake(self.turn.woken);
@@ -195,7 +195,7 @@ impl<K: Tie> Port<K> {
     {
         self.turn.woken = 0;
         let called = {
-            let mut guard = spinning::lock(&*shared.lock, rt);
+            let mut guard = spinning::lock(&*shared.lock, shared.looks, rt);
             let locked = &mut **guard;
             let first = self.make(&shared.cells, locked, first);
             match first {
@@ -271,7 +271,8 @@ impl<K: Tie> Port<K> {
         take(&mut self.seat, &shared.cells, &mut self.pending)
     }
 
-    /// Waits for the thread's ending and takes it: looks for some microseconds, and then sleeps until it is woken.
+    /// Waits for the thread's ending and takes it: looks for some microseconds, unless there is one processor alone, and
+    /// then sleeps until it is woken.
     /// `endpoint.rt` of `crates/qcalls` waits so.
     pub fn wait<L: Log, R: Wait>(&mut self, shared: &Shared<K, L>, rt: &R) -> Completion
         requires { self.old.pending ≡ true }
@@ -279,12 +280,16 @@ impl<K: Tie> Port<K> {
         ensures pending { self.new.pending ≡ false }
         ensures same { (self.new.thread ≡ self.old.thread) × (thread_of self.new.seat ≡ thread_of self.old.seat) × (self.new.calls ≡ self.old.calls) × (self.new.asked ≡ self.old.asked) }
     {
-        let found = look(
-            &mut self.seat,
-            &shared.cells,
-            &mut self.pending,
-            &mut self.patience,
-        );
+        let found = if shared.looks {
+            look(
+                &mut self.seat,
+                &shared.cells,
+                &mut self.pending,
+                &mut self.patience,
+            )
+        } else {
+            None
+        };
         if let Some(completion) = found {
             return completion;
         }

@@ -48,6 +48,8 @@ pub struct Shared<K: Tie, L: Log> {
     pub(crate) lock: CachePadded<Mutex<Box<Locked<K, L>>>>,
     // One for each port, by the number of its cell.
     wakers: Vec<Waker>,
+    // Whether a thread looks for some microseconds before it sleeps.
+    pub(crate) looks: bool,
     ghost cells_are: { cells_id cells ≡ K.names.cells },
 }
 
@@ -189,8 +191,17 @@ impl<K: Tie, L: Log> Shared<K, L> {
             cells,
             lock,
             wakers,
+            looks: true,
         };
         Ok((shared, ports))
+    }
+
+    /// Sets how many processors the ports' threads run on, as `std::thread::available_parallelism` returns it. With one
+    /// processor a thread that waits sleeps at once; with more, which is what a kernel is opened for, it first looks for
+    /// some microseconds whether it still has to wait.
+    /// `course.rt` of the bench's round trips sets it.
+    pub fn set_processors(&mut self, processors: usize) {
+        self.looks = processors != 1;
     }
 
     /// Returns whether these are all ports of the kernel, in rising thread number.

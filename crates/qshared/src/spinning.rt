@@ -9,10 +9,15 @@ use std::sync::{Mutex, MutexGuard, Wait};
 /// milliseconds.
 const LOOKS: u32 = 80;
 
-/// Takes the lock; waits for it if another thread holds it.
-pub(crate) fn lock<'a, T: Drop, R: Wait>(mutex: &'a Mutex<T>, rt: &R) -> MutexGuard<'a, T> {
+/// Takes the lock; waits for it if another thread holds it, and if `looks` is false sleeps at once.
+pub(crate) fn lock<'a, T: Drop, R: Wait>(
+    mutex: &'a Mutex<T>,
+    looks: bool,
+    rt: &R,
+) -> MutexGuard<'a, T> {
     let backoff = Backoff::new();
-    for _ in 0..LOOKS {
+    let most = if looks { LOOKS } else { 0 };
+    for _ in 0..most {
         if let Some(guard) = mutex.try_lock() {
             return guard;
         }

@@ -162,16 +162,18 @@ fn many<K: Tie + Send + Sync, R: Threads + Wait + Abort + Sync>(
     finished(rt, shared, ports)
 }
 
-/// All threads on a kernel that keeps no past.
+/// All threads on a kernel that keeps no past, for so many processors.
 fn many_and_no_past<K: Tie + Send + Sync, R: Threads + Wait + Abort + Sync>(
     rt: &R,
     alloc: Global,
     parts: Parts,
     size: Size,
+    processors: usize,
 ) -> Tally
     requires named { AreParts K.names K.name K.parts parts }
 {
-    let (shared, ports) = Shared::<K, Unkept<K>>::open(parts).expect(rt, "a kernel");
+    let (mut shared, ports) = Shared::<K, Unkept<K>>::open(parts).expect(rt, "a kernel");
+    shared.set_processors(processors);
     let ports = all_threads(rt, alloc, &shared, ports, size);
     tallied(rt, shared, ports)
 }
@@ -219,21 +221,36 @@ fn sum_of(counts: &[u64]) -> u64 {
     sum
 }
 
-/// Two servers and four clients, with 50,000 messages of each client, on a kernel that keeps no past. Each message is
-/// three calls at least: a Send, a Receive and an answer.
-#[test]
-fn no_past_is_kept(rt: HostRuntime) {
-    let alloc = rt.alloc();
+/// Two servers and four clients on a kernel that keeps no past, for so many processors. Each message is three calls at
+/// least: a Send, a Receive and an answer.
+fn all_are_answered(
+    rt: &(impl Threads + Wait + Abort + Sync),
+    alloc: Global,
+    rounds: u64,
+    processors: usize,
+) {
     let size = Size {
         servers: 2,
         clients: 4,
-        rounds: 50_000,
+        rounds,
     };
-    let roster = roster(&rt, alloc, size);
-    let parts = Parts::new(alloc, &roster, 2).expect(&rt, "parts");
-    let tally = many_and_no_past::<Brand, _>(&rt, alloc, parts, size);
+    let roster = roster(rt, alloc, size);
+    let parts = Parts::new(alloc, &roster, 2).expect(rt, "parts");
+    let tally = many_and_no_past::<Brand, _>(rt, alloc, parts, size, processors);
     assert!(rt; tally.left.is_empty());
     assert!(rt; tally.calls.len() == 7);
     assert!(rt; tally.calls.iter().all(|calls| *calls > 3));
-    assert!(rt; sum_of(tally.calls.as_slice()) > 600_000);
+    assert!(rt; sum_of(tally.calls.as_slice()) > 12 * rounds);
+}
+
+/// 50,000 messages of each client.
+#[test]
+fn no_past_is_kept(rt: HostRuntime) {
+    all_are_answered(&rt, rt.alloc(), 50_000, 4);
+}
+
+/// 5,000 messages of each client, on a kernel for one processor, whose threads sleep whenever they wait.
+#[test]
+fn all_threads_sleep(rt: HostRuntime) {
+    all_are_answered(&rt, rt.alloc(), 5_000, 1);
 }

@@ -3,7 +3,6 @@
 use crate::errors::{CallError, Errno, OpenError, Result, outcome};
 use crate::kernel::{Call, Mark, Thread};
 use crate::shared::{Lent, Shared};
-use crate::sleeping::LOOKS;
 use std::mem::forget;
 use std::process::abort;
 use std::sync::Arc;
@@ -34,7 +33,8 @@ pub struct Port {
 pub fn open(threads: &[Thread]) -> std::result::Result<Vec<Port>, OpenError> {
     let shared = Arc::new(Shared::new(threads)?);
     let ports = threads.iter().enumerate();
-    Ok(ports.map(|(at, &thread)| Port { shared: shared.clone(), at, thread, timeout: None, looks: LOOKS }).collect())
+    let looks = shared.most_looks;
+    Ok(ports.map(|(at, &thread)| Port { shared: shared.clone(), at, thread, timeout: None, looks }).collect())
 }
 
 /// Opens a kernel of these threads, like [`open`], and returns an array with a port for each.
@@ -113,7 +113,7 @@ impl Port {
         let open = Open;
         let place = &self.shared.places[self.at];
         let mut is_late = false;
-        if !place.look(&mut self.looks) {
+        if !place.look(&mut self.looks, self.shared.most_looks) {
             // SAFETY: this port is the place's owner, and `make` opened its call.
             while !unsafe { place.sleep(end) } {
                 (is_late, end) = self.time_out();
