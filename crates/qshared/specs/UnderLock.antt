@@ -26,8 +26,8 @@ pub record Agrees (roster : List Member) (kernel : State) (d : Desk Completion) 
   pub stands : StandsAt roster kernel past
   pub tied : IsTied roster d past
 
--- what holds whenever the lock is free, for the kernel of this roster: all of the above, and there are as many
--- cells as threads
+-- what holds whenever the lock is free, for the kernel of this roster: all of the above, and there are as
+-- many cells as threads
 pub record IsUnderLock (roster : List Member) (slots : ℕ) (kernel : State) (d : Desk Completion)
     (threads : List ℕ) (past : Trace) : Type 0 where
   pub rises : IsRoster roster
