@@ -48,12 +48,13 @@ static int open_kernel(neutrino *k, const struct neutrino_thread *threads, size_
     uint32_t error = balsaeuchre_open(roster, roster_of(k, threads, count, roster), &k->library);
     if (error) return host_error(error);
     k->process = getpid();
-    k->most_looks = has_one_processor() ? 0 : WORD_LOOKS;
+    cpu_set_t cpus;
+    int looks = sched_getaffinity(0, sizeof cpus, &cpus) || CPU_COUNT(&cpus) > 1 ? WORD_LOOKS : -1;
     memset(k->place_of, PLACES, sizeof k->place_of);
     for (size_t at = 0; at < count; at++) {
         k->place_of[threads[at].tid] = (uint8_t)at;
         k->places[at] = (struct place){.word = ENDED, .tid = threads[at].tid, .pid = threads[at].pid,
-                                       .looks = k->most_looks};
+                                       .looks = looks};
     }
     open_names(k);
     pthread_mutex_init(&k->lock, NULL);

@@ -70,7 +70,7 @@ struct place {
     uint8_t tid, pid;
     bool joined;
     int state;
-    int looks;             /* looks at its word before it sleeps */
+    int looks;             /* at its word before it sleeps, and one more; -1: none */
     int coid, chid, rcvid; /* of the message that it sent; rcvid is 0 until that is received */
     size_t msglen;         /* of that message, as it was received */
     size_t longest;        /* of its buffers */
@@ -81,8 +81,7 @@ struct place {
 struct neutrino {
     pthread_mutex_t lock;
     balsaeuchre library;
-    pid_t process;  /* the host's process that opened it */
-    int most_looks; /* of a thread at its word; 0 on one processor */
+    pid_t process; /* the host's process that opened it */
     size_t joined;
     uint8_t place_of[256]; /* PLACES: no thread has this number */
     uint8_t clock_of[256]; /* by process: the thread that unblocks calls that time out */

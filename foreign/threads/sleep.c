@@ -1,12 +1,11 @@
 /* The lock, and the words at which threads sleep. Tested, not proved; models/sleeping.py explores the word. */
 #include <linux/futex.h>
-#include <sched.h>
 #include <sys/syscall.h>
 
 /* The number of tries for the lock, and of looks at its word, before a thread sleeps. Looks in vain halve the number
  * for the next call, down to a fifth, which takes some microseconds: with fewer, two threads that slept once would
  * always sleep. It never yields its core: on a busy machine that takes milliseconds, and a sleep ends at once. On one
- * processor it sleeps at once, since the thread that it waits for can't run while it looks. */
+ * processor it doesn't look, since the thread that it waits for can't run meanwhile. */
 #ifndef LOCK_LOOKS
 #define LOCK_LOOKS 100
 #endif
@@ -14,21 +13,11 @@
 #define WORD_LOOKS 2000
 #endif
 
-static void pause_briefly(void) {
-#if defined(__x86_64__)
-    __builtin_ia32_pause();
-#endif
-}
-
-/* Returns whether the program may use one processor alone. */
-static bool has_one_processor(void) {
-    cpu_set_t processors;
-    return sched_getaffinity(0, sizeof processors, &processors) == 0 && CPU_COUNT(&processors) == 1;
-}
+static void pause_briefly(void) { __builtin_ia32_pause(); }
 
 static void lock(neutrino *k) {
     inside++;
-    for (int looks = 0; looks < (k->most_looks ? LOCK_LOOKS : 0); looks++) {
+    for (int looks = 0; looks < LOCK_LOOKS; looks++) {
         if (pthread_mutex_trylock(&k->lock) == 0) return;
         for (int pauses = 0; pauses < 8; pauses++) pause_briefly();
     }
@@ -52,15 +41,15 @@ static void open_word(struct place *p) { atomic_store_explicit(&p->word, OPEN, m
 static bool is_ended(struct place *p) { return atomic_load_explicit(&p->word, memory_order_acquire) == ENDED; }
 
 /* Looks at the word for a while. Returns whether the call has ended. */
-static bool look(struct place *p, int most) {
-    for (int looks = -1; looks < p->looks; looks++) {
+static bool look(struct place *p) {
+    for (int looks = 0; looks <= p->looks; looks++) {
         if (is_ended(p)) {
-            p->looks = p->looks < most / 2 ? 2 * p->looks + 1 : most;
+            p->looks = p->looks < WORD_LOOKS / 2 ? 2 * p->looks + 1 : WORD_LOOKS;
             return true;
         }
         pause_briefly();
     }
-    p->looks = p->looks / 2 < most / 5 ? most / 5 : p->looks / 2;
+    if (p->looks > 0) p->looks = p->looks / 2 < WORD_LOOKS / 5 ? WORD_LOOKS / 5 : p->looks / 2;
     return false;
 }
 
@@ -68,7 +57,7 @@ static bool look(struct place *p, int most) {
 static bool sleep_until(struct place *p, uint64_t until) {
     struct timespec end = {(time_t)(until / 1000000000u), (long)(until % 1000000000u)};
     uint32_t open = OPEN;
-    if (look(p, kernel->most_looks)) return true;
+    if (look(p)) return true;
     atomic_compare_exchange_strong(&p->word, &open, ASLEEP);
     while (!is_ended(p)) {
         long woken = syscall(SYS_futex, &p->word, FUTEX_WAIT_BITSET_PRIVATE, ASLEEP, until ? &end : NULL, NULL,

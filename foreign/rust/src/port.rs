@@ -3,6 +3,7 @@
 use crate::errors::{CallError, Errno, OpenError, Result, outcome};
 use crate::kernel::{Call, Mark, Thread};
 use crate::shared::{Lent, Shared};
+use crate::sleeping::LOOKS;
 use std::mem::forget;
 use std::process::abort;
 use std::sync::Arc;
@@ -33,7 +34,8 @@ pub struct Port {
 pub fn open(threads: &[Thread]) -> std::result::Result<Vec<Port>, OpenError> {
     let shared = Arc::new(Shared::new(threads)?);
     let ports = threads.iter().enumerate();
-    let looks = shared.most_looks;
+    // On one processor a port never looks, since the thread that it waits for can't run meanwhile.
+    let looks = if thread::available_parallelism().is_ok_and(|count| count.get() == 1) { 0 } else { LOOKS };
     Ok(ports.map(|(at, &thread)| Port { shared: shared.clone(), at, thread, timeout: None, looks }).collect())
 }
 
@@ -113,7 +115,7 @@ impl Port {
         let open = Open;
         let place = &self.shared.places[self.at];
         let mut is_late = false;
-        if !place.look(&mut self.looks, self.shared.most_looks) {
+        if !place.look(&mut self.looks) {
             // SAFETY: this port is the place's owner, and `make` opened its call.
             while !unsafe { place.sleep(end) } {
                 (is_late, end) = self.time_out();

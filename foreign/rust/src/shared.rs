@@ -6,7 +6,7 @@ use crate::kernel::{Call, Ending, Kernel, Mark, Thread};
 #[cfg(feature = "record")]
 use crate::record::Record;
 use crate::results::Info;
-use crate::sleeping::{Place, most_looks};
+use crate::sleeping::Place;
 use std::ops::Range;
 use std::process::abort;
 use std::sync::{Mutex, MutexGuard, TryLockError};
@@ -73,8 +73,6 @@ pub(crate) struct Shared {
     place_of: [Option<usize>; 256],
     /// By the number of a process, its clock: the thread that unblocks calls whose timeout expired.
     pub(crate) clock_of: [u8; 256],
-    /// The most looks of a thread at its place's word; 0 on one processor.
-    pub(crate) most_looks: u32,
     #[cfg(feature = "record")]
     pub(crate) record: Record,
 }
@@ -98,7 +96,6 @@ impl Shared {
             places: threads.iter().map(|_| Place::new()).collect(),
             place_of,
             clock_of,
-            most_looks: most_looks(),
             #[cfg(feature = "record")]
             record: Record::new(&roster, threads.len()),
         })
@@ -107,8 +104,7 @@ impl Shared {
     /// Takes the lock. If a thread panicked with it, the program is aborted: that thread's call would never end, nor
     /// those that it was about to end, and their buffers stay lent.
     pub(crate) fn lock(&self) -> MutexGuard<'_, Locked> {
-        let tries = if self.most_looks == 0 && !cfg!(tsan) { 0 } else { LOCK_LOOKS };
-        for _ in 0..tries {
+        for _ in 0..LOCK_LOOKS {
             match self.lock.try_lock() {
                 Err(TryLockError::WouldBlock) if cfg!(tsan) => thread::yield_now(),
                 Err(TryLockError::WouldBlock) => (0..LOCK_PAUSES).for_each(|_| hint::spin_loop()),

@@ -10,13 +10,7 @@ use std::time::Instant;
 /// The most looks of a thread at its word before it sleeps, with a pause between them. Looks in vain halve the number
 /// for the next call, down to a fifth, which takes some microseconds: with fewer, two threads that slept once would
 /// always sleep.
-const LOOKS: u32 = 2000;
-
-/// Returns the most looks of a thread: none on one processor, since the thread that it waits for can't run while it
-/// looks.
-pub(crate) fn most_looks() -> u32 {
-    if thread::available_parallelism().is_ok_and(|processors| processors.get() == 1) { 0 } else { LOOKS }
-}
+pub(crate) const LOOKS: u32 = 2000;
 
 /// The call is open, and its thread isn't asleep.
 const OPEN: u32 = 0;
@@ -77,17 +71,17 @@ impl Place {
         unsafe { *self.mark.get() }
     }
 
-    /// Looks at the word up to `looks` times, and returns whether the call has ended. Doubles `looks` if it has, up to
-    /// `most`, and halves it if not, down to a fifth of `most`.
-    pub(crate) fn look(&self, looks: &mut u32, most: u32) -> bool {
+    /// Looks at the word up to `looks` times, and returns whether the call has ended. Doubles `looks` if it has, and
+    /// halves it if not; 0 stays 0.
+    pub(crate) fn look(&self, looks: &mut u32) -> bool {
         for _ in 0..*looks {
             if self.is_ended() {
-                *looks = (2 * *looks + 1).min(most);
+                *looks = (2 * *looks + 1).min(LOOKS);
                 return true;
             }
             hint::spin_loop();
         }
-        *looks = (*looks / 2).max(most / 5);
+        *looks = (*looks / 2).max(LOOKS / 5).min(*looks);
         self.is_ended()
     }
 
