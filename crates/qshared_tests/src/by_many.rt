@@ -240,7 +240,7 @@ fn all_are_answered(
     assert!(rt; tally.left.is_empty());
     assert!(rt; tally.calls.len() == 7);
     assert!(rt; tally.calls.iter().all(|calls| *calls > 3));
-    assert!(rt; sum_of(tally.calls.as_slice()) > 12 * rounds);
+    assert!(rt; sum_of(tally.calls.as_slice()) > rounds.saturating_mul(12));
 }
 
 /// 50,000 messages of each client.
