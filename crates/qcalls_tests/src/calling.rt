@@ -2,6 +2,7 @@
 
 ghost use Rattle.qshared.specs.Naming.{AreParts};
 
+use crate::receiving::request;
 use qbase::errno::Errno;
 use qbase::flags::ChannelFlags;
 use qbase::ids::{ChannelId, ConnectionId, ProcessNo, ReceiveId, ThreadNo};
@@ -11,7 +12,7 @@ use qcalls::caller::Caller;
 use qcalls::endpoint::Endpoint;
 use qcalls::error::CallError;
 use qcalls::opening::two_callers;
-use qcalls::results::{Received, Request};
+use qcalls::results::Received;
 use qqueue::item::What;
 use qshared::kept::Kept;
 use qshared::parts::Parts;
@@ -23,18 +24,6 @@ use std::marker::Brand;
 use std::process::Abort;
 use std::sync::Wait;
 use std::thread::{Threads, join};
-
-/// The next message, which there has to be.
-fn request<E: Endpoint, R: Wait + Abort>(
-    rt: &R,
-    server: &mut Caller<E, R>,
-    chid: ChannelId,
-) -> Result<Request, CallError> {
-    match server.msg_receive(chid, 8)? {
-        Received::Message(request) => Ok(request),
-        Received::Pulse(_) => panic!(rt; "a pulse"),
-    }
-}
 
 /// What the next pulse brings, which is received as any item.
 fn pulse<E: Endpoint, R: Wait + Abort>(

@@ -5,6 +5,8 @@
 #[cfg(test)]
 mod calling;
 #[cfg(test)]
+mod receiving;
+#[cfg(test)]
 mod reply_receive;
 #[cfg(test)]
 mod simulating;

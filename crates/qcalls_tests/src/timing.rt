@@ -2,6 +2,7 @@
 
 ghost use Rattle.qshared.specs.Naming.{AreParts};
 
+use crate::receiving::request;
 use qbase::errno::Errno;
 use qbase::flags::ChannelFlags;
 use qbase::ids::{ChannelId, ConnectionId, ProcessNo, ThreadNo};
@@ -10,7 +11,6 @@ use qcalls::alarms::Alarms;
 use qcalls::caller::Caller;
 use qcalls::endpoint::Endpoint;
 use qcalls::error::CallError;
-use qcalls::results::{Received, Request};
 use qqueue::item::What;
 use qshared::kept::Kept;
 use qshared::parts::Parts;
@@ -29,18 +29,6 @@ const SHORT_MILLIS: u64 = 5;
 
 /// A time that is never over in these tests, in milliseconds.
 const LONG_MILLIS: u64 = 600_000;
-
-/// The next message, which there has to be.
-fn request<E: Endpoint, R: Wait + Abort>(
-    rt: &R,
-    server: &mut Caller<E, R>,
-    chid: ChannelId,
-) -> Result<Request, CallError> {
-    match server.msg_receive(chid, 8)? {
-        Received::Message(request) => Ok(request),
-        Received::Pulse(_) => panic!(rt; "a pulse"),
-    }
-}
 
 /// The server of two channels, of which the second has the flag `UNBLOCK`: it holds a message until its sender has gone,
 /// answers the next in time, and one more once it is told that its sender's time is over.
