@@ -1,1 +1,1 @@
-pub mod Olders
+pub mod Places

@@ -1,27 +1,18 @@
-//! Tests of public functions of the crates below the script: what a queue, a roster and the tables answer, and
-//! what the kernel's functions answer that no script of the program shows. They stand in a crate of their own,
-//! since a crate is proved once more with its tests.
+//! Tests for which the machine code of the proved build matters: cells between threads, waking, and a kernel of 64
+//! threads that makes every call. All other tests are in `tests/unproved`.
 #![tactic(auto)]
 
 #[cfg(test)]
-mod copying;
+mod by_many;
 #[cfg(test)]
-mod dispatching;
+mod cells;
 #[cfg(test)]
-mod hostile;
-#[cfg(test)]
-mod logging;
+mod client;
 #[cfg(test)]
 mod making;
 #[cfg(test)]
-mod pending;
+mod rerun;
 #[cfg(test)]
-mod queue;
+mod server;
 #[cfg(test)]
-mod running;
-#[cfg(test)]
-mod stepping;
-#[cfg(test)]
-mod tables;
-#[cfg(test)]
-mod turnover;
+mod waking;

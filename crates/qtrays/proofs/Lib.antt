@@ -1,6 +1,0 @@
-pub mod Changes
-pub mod Allowed
-pub mod Rests
-pub mod Starting
-pub mod Rows
-pub mod Behind
