@@ -9,7 +9,7 @@ use qkernel::call::{Completion, Mark};
 use std::alloc::{AllocError, Global};
 
 /// The sort of an arrow.
-#[derive(Clone, Copy, Debug, PartialEq, Eq)]
+#[derive(Clone, Copy, PartialEq, Eq)]
 pub enum What {
     /// A message that is received.
     Message,
@@ -22,7 +22,7 @@ pub enum What {
 }
 
 /// An arrow from one thread to another, or from a thread to itself.
-#[derive(Clone, Copy, Debug, PartialEq, Eq)]
+#[derive(Clone, Copy, PartialEq, Eq)]
 pub struct Arrow {
     /// The number of the call that sent the message or the pulse. An answer has its message's number.
     pub number: u64,

@@ -9,7 +9,7 @@ use qtables::member::Member;
 use std::alloc::{AllocError, Global};
 
 /// The end of a run: who waits for whom.
-#[derive(Debug, Drop)]
+#[derive(Drop)]
 pub struct Outcome {
     /// The threads whose messages aren't answered.
     pub waits: Vec<Wait>,
@@ -18,7 +18,7 @@ pub struct Outcome {
 }
 
 /// The chart of a run: a line for each thread, and a row for each call.
-#[derive(Debug, Drop)]
+#[derive(Drop)]
 pub struct Chart {
     /// The threads from left to right; those of a process are neighbours.
     pub lifelines: Vec<Member>,

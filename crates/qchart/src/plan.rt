@@ -5,7 +5,7 @@ use crate::chart::Chart;
 use crate::row::Row;
 
 /// A side of a thread's line.
-#[derive(Clone, Copy, Debug, PartialEq, Eq)]
+#[derive(Clone, Copy, PartialEq, Eq)]
 pub enum Side {
     Left,
     Right,

@@ -34,7 +34,7 @@ impl Bearing {
 }
 
 /// A thread and its priority.
-#[derive(Clone, Copy, Debug, PartialEq, Eq)]
+#[derive(Clone, Copy, PartialEq, Eq)]
 pub struct Level {
     pub thread: ThreadNo,
     pub priority: Priority,

@@ -8,7 +8,7 @@ use qbase::state::ThreadState;
 use qkernel::open_call::Blocked;
 
 /// A call of another thread that was ended by force.
-#[derive(Clone, Copy, Debug, PartialEq, Eq)]
+#[derive(Clone, Copy, PartialEq, Eq)]
 pub struct Cut {
     /// The number of the ended call.
     pub number: u64,
@@ -17,7 +17,7 @@ pub struct Cut {
 }
 
 /// A call and its effects.
-#[derive(Debug, Drop)]
+#[derive(Drop)]
 pub struct Row {
     /// The thread that made the call.
     pub thread: ThreadNo,

@@ -3,7 +3,7 @@
 use std::alloc::{AllocError, Global};
 
 /// A form of a line or of a test.
-#[derive(Clone, Copy, Debug)]
+#[derive(Clone, Copy)]
 pub struct Row {
     pub form: &'static str,
     /// Its meaning.

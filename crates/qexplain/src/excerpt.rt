@@ -12,7 +12,7 @@ const SHOWN_BEFORE: usize = 32;
 
 /// A line, and the marks below it. A long line is cut to what stands around the part, with two dots where something is
 /// left out. A tab is shown as a space, and a byte that isn't printable ASCII as `?`.
-#[derive(Debug, Drop)]
+#[derive(Drop)]
 pub struct Excerpt {
     line: String,
     marks: String,

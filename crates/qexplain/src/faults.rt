@@ -18,7 +18,7 @@ pub const MOST_FAULTS: usize = 20;
 const MOST_THREADS: usize = 64;
 
 /// A remark on a line: its number, counted from 1, its fault if it has one, and the explanation.
-#[derive(Debug, Drop)]
+#[derive(Drop)]
 pub struct Remark {
     pub line: usize,
     pub fault: Option<LineFault>,

@@ -5,7 +5,7 @@ use qbase::ids::ProcessNo;
 use qmodel::kind::CallKind;
 
 /// The life of a channel or a connection.
-#[derive(Clone, Copy, Debug, PartialEq, Eq)]
+#[derive(Clone, Copy, PartialEq, Eq)]
 pub enum Life {
     /// No call made one with this number.
     Absent,
@@ -16,7 +16,7 @@ pub enum Life {
 }
 
 /// The delivery of a message.
-#[derive(Clone, Copy, Debug, PartialEq, Eq)]
+#[derive(Clone, Copy, PartialEq, Eq)]
 pub enum Delivery {
     /// No call sent a message with this number.
     Absent,

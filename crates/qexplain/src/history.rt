@@ -7,7 +7,7 @@ use qtables::member::Member;
 use std::alloc::{AllocError, Global};
 
 /// The end of a call.
-#[derive(Clone, Copy, Debug, PartialEq, Eq)]
+#[derive(Clone, Copy, PartialEq, Eq)]
 pub enum End {
     /// None yet: the call's thread is blocked in it.
     Open,

@@ -7,7 +7,7 @@ use qbase::ids::ProcessNo;
 use qmodel::kind::CallKind;
 
 /// A thing that a call may name although another process has it.
-#[derive(Clone, Copy, Debug, PartialEq, Eq)]
+#[derive(Clone, Copy, PartialEq, Eq)]
 pub enum Thing {
     Channel,
     Connection,
@@ -17,7 +17,7 @@ pub enum Thing {
 }
 
 /// The rule that refused a call, of those in the table of `docs/MODEL.md`.
-#[derive(Clone, Copy, Debug, PartialEq, Eq)]
+#[derive(Clone, Copy, PartialEq, Eq)]
 pub enum Reason {
     /// The call with this number shut the kernel down.
     Down(u64),

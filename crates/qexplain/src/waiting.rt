@@ -8,7 +8,7 @@ use std::alloc::{AllocError, Global};
 use std::fmt;
 
 /// A thread whose message isn't answered.
-#[derive(Clone, Copy, Debug, PartialEq, Eq)]
+#[derive(Clone, Copy, PartialEq, Eq)]
 pub struct Wait {
     pub thread: ThreadNo,
     /// Its message.
@@ -56,7 +56,7 @@ impl Wait {
 
 /// Threads that wait for one another in a circle, in its order, the least first. No other thread can answer any of
 /// them.
-#[derive(Debug, Drop)]
+#[derive(Drop)]
 pub struct Deadlock {
     waits: Vec<Wait>,
 }

@@ -12,7 +12,7 @@ use std::alloc::{AllocError, Global};
 use std::fmt;
 
 /// A call that failed: its number, its error, and the reason.
-#[derive(Debug, Drop)]
+#[derive(Drop)]
 pub struct Refusal {
     /// The number of the call.
     pub number: u64,

@@ -5,7 +5,7 @@ use crate::word::Word;
 use qbase::bytes::Bytes;
 
 /// The part of a script that is read.
-#[derive(Clone, Copy, Debug, PartialEq, Eq)]
+#[derive(Clone, Copy, PartialEq, Eq)]
 pub enum Extent {
     /// All lines.
     Whole,
@@ -14,7 +14,7 @@ pub enum Extent {
 }
 
 /// A pattern of a printed word.
-#[derive(Debug, Drop)]
+#[derive(Drop)]
 pub enum Pattern {
     /// This very word.
     Is(Word),
@@ -29,7 +29,7 @@ pub enum Pattern {
 }
 
 /// The expected end of a call.
-#[derive(Debug, Drop)]
+#[derive(Drop)]
 pub enum Ending {
     /// It doesn't end in its own event.
     Blocked,
@@ -38,7 +38,7 @@ pub enum Ending {
 }
 
 /// The expected end of a call, as a line says it.
-#[derive(Debug, Drop)]
+#[derive(Drop)]
 pub struct Expectation {
     pub ending: Ending,
     /// The ending as it is written.
@@ -47,7 +47,7 @@ pub struct Expectation {
 }
 
 /// The expected end of a call that another call ends.
-#[derive(Debug, Drop)]
+#[derive(Drop)]
 pub struct Follower {
     /// The name of the ended call, which its own line defines.
     pub name: Word,
@@ -56,7 +56,7 @@ pub struct Follower {
 }
 
 /// The expectations of the line of a call.
-#[derive(Debug, Drop)]
+#[derive(Drop)]
 pub struct CallCheck {
     /// The word that names the call.
     pub verb: Word,
@@ -68,7 +68,7 @@ pub struct CallCheck {
 }
 
 /// The state of a thread.
-#[derive(Clone, Copy, Debug, PartialEq, Eq)]
+#[derive(Clone, Copy, PartialEq, Eq)]
 pub enum Activity {
     Ready,
     Send,
@@ -79,7 +79,7 @@ pub enum Activity {
 }
 
 /// A line that says the state of a thread.
-#[derive(Debug, Drop)]
+#[derive(Drop)]
 pub struct StateCheck {
     /// The number of calls above it.
     pub calls: u64,

@@ -25,7 +25,7 @@ pub struct Fault {
 }
 
 /// The reason why a line can't be read.
-#[derive(Debug, Drop)]
+#[derive(Drop)]
 pub enum ReadError {
     /// There is no memory for what it says.
     Memory,

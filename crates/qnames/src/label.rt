@@ -4,7 +4,7 @@ use crate::line::{Kind, Place};
 use crate::word::Word;
 
 /// A name and what it stands for.
-#[derive(Debug, Drop)]
+#[derive(Drop)]
 pub struct Label {
     pub name: Word,
     pub kind: Kind,
@@ -15,7 +15,7 @@ pub struct Label {
 }
 
 /// The fault of a name.
-#[derive(Clone, Copy, Debug, PartialEq, Eq)]
+#[derive(Clone, Copy, PartialEq, Eq)]
 pub enum NameError {
     /// No line above defines it.
     Undefined,
@@ -26,7 +26,7 @@ pub enum NameError {
 }
 
 /// The fault of the name at a place.
-#[derive(Clone, Copy, Debug, PartialEq, Eq)]
+#[derive(Clone, Copy, PartialEq, Eq)]
 pub struct NameFault {
     pub place: Place,
     pub error: NameError,

@@ -18,7 +18,7 @@ use qreading::fault::{LineFault, ScriptFault};
 use std::alloc::{AllocError, Global};
 
 /// A script with names whose plain script can run.
-#[derive(Debug, Drop)]
+#[derive(Drop)]
 pub struct Named {
     text: String,
     scope: Scope,
@@ -28,7 +28,7 @@ pub struct Named {
 }
 
 /// The result of reading a script with names.
-#[derive(Debug, Drop)]
+#[derive(Drop)]
 pub enum Reading {
     /// It can run.
     Good(Named),

@@ -12,7 +12,7 @@ use std::alloc::{AllocError, Global};
 
 /// The plain script, and the faults of its names. If there are faults, the script must not be used: it has 0 for each
 /// name that stands for nothing.
-#[derive(Debug, Drop)]
+#[derive(Drop)]
 pub struct Plain {
     pub text: String,
     pub faults: Vec<NameFault>,

@@ -13,7 +13,7 @@ use crate::word::Word;
 use std::alloc::{AllocError, Global};
 
 /// What some lines define: the numbers of threads, calls and processes, and what names stand for.
-#[derive(Debug, Drop)]
+#[derive(Drop)]
 pub struct Scope {
     threads: u64,
     calls: u64,

@@ -18,7 +18,7 @@ pub struct Translation {
 }
 
 /// The reason why lines have no plain script that can run.
-#[derive(Debug, Drop)]
+#[derive(Drop)]
 pub enum Refusal {
     /// There is no memory for it.
     Memory,

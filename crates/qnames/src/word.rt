@@ -7,7 +7,7 @@ use std::fmt;
 use std::marker::Model;
 
 /// A name, or a word that goes into the plain script as it is. Contracts see the list of its bytes.
-#[derive(Debug, Drop)]
+#[derive(Drop)]
 pub struct Word {
     text: String,
 }

@@ -16,7 +16,7 @@ use std::alloc::{AllocError, Global};
 pub const MOST_REFUSALS: usize = 100;
 
 /// A report of what the trace of a run doesn't say.
-#[derive(Debug, Drop)]
+#[derive(Drop)]
 pub struct Report {
     /// The first failures, at most `MOST_REFUSALS`, each with the number of its line, counted from 1.
     pub refusals: Vec<(usize, Refusal)>,

@@ -13,7 +13,7 @@ pub const MOST_ROUNDS: u16 = 1000;
 const AMPLE_STACK: usize = 1 << 20;
 
 /// The settings of a demonstration.
-#[derive(Clone, Copy, Debug, PartialEq, Eq)]
+#[derive(Clone, Copy, PartialEq, Eq)]
 pub struct Settings {
     /// The number of clients, 1 to 32.
     pub clients: u8,
@@ -55,7 +55,7 @@ impl Settings {
 }
 
 /// The sizes of the threads' stacks, in bytes, each rounded up to a multiple of 128 KiB.
-#[derive(Clone, Copy, Debug, PartialEq, Eq)]
+#[derive(Clone, Copy, PartialEq, Eq)]
 pub struct Stacks {
     /// The stack of a server.
     pub server: usize,

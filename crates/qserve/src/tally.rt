@@ -4,7 +4,7 @@ use crate::fault::WorkerFault;
 use qcalls::error::CallError;
 
 /// The work of one worker, or of several together.
-#[derive(Clone, Copy, Debug, PartialEq, Eq)]
+#[derive(Clone, Copy, PartialEq, Eq)]
 pub struct Tally {
     /// Messages that a client sent and had answered.
     pub sent: u64,

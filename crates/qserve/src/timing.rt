@@ -7,7 +7,7 @@ use std::rt::Clock;
 use std::time::Instant;
 
 /// The times of a demonstration, in nanoseconds.
-#[derive(Clone, Copy, Debug, PartialEq, Eq)]
+#[derive(Clone, Copy, PartialEq, Eq)]
 pub struct Timing {
     /// From before the first worker is started until all have ended.
     pub run: u64,

@@ -25,7 +25,7 @@ use std::{fs, io};
 use tally::Tally;
 
 /// The reason why a check can't go on.
-#[derive(Debug, Drop)]
+#[derive(Drop)]
 enum CheckFault {
     /// There is no memory for it.
     NoMemory,

@@ -31,7 +31,7 @@ const NOT_ALL: u8 = 4;
 const STEPS: u32 = 1000;
 
 /// The outcome for the text of a design.
-#[derive(Debug, Drop)]
+#[derive(Drop)]
 pub enum Outcome {
     /// The words of the search.
     Told(String),

@@ -4,7 +4,7 @@ use std::alloc::{AllocError, Global};
 use std::fmt;
 
 /// The first line in which two texts differ, as it is in each.
-#[derive(Debug, Drop)]
+#[derive(Drop)]
 pub struct Difference {
     line: usize,
     found: String,

@@ -11,7 +11,7 @@ use std::alloc::Global;
 use std::fmt;
 
 /// The outcome of an example.
-#[derive(Debug, Drop)]
+#[derive(Drop)]
 pub enum Outcome {
     /// It printed its trace.
     Same,

@@ -36,7 +36,7 @@ quit                                   end
 ";
 
 /// The reason why a play ends before its input does.
-#[derive(Debug, Drop)]
+#[derive(Drop)]
 enum PlayFault {
     NoMemory,
     Unread,

@@ -6,7 +6,7 @@ use qbase::state::ThreadState;
 use std::alloc::{AllocError, Global};
 
 /// A state of a thread, from one call to another.
-#[derive(Clone, Copy, Debug)]
+#[derive(Clone, Copy)]
 pub struct Bar {
     pub state: ThreadState,
     /// The number of the call after which the thread is in the state; 0 for the start.

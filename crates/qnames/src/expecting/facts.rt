@@ -7,7 +7,7 @@ use qmodel::kind::CallKind;
 use std::alloc::{AllocError, Global};
 
 /// What a call does, as far as states depend on it.
-#[derive(Clone, Copy, Debug, PartialEq, Eq)]
+#[derive(Clone, Copy, PartialEq, Eq)]
 pub enum Deed {
     /// Attaches a connection to this channel.
     Attach(u64),
@@ -20,7 +20,7 @@ pub enum Deed {
 }
 
 /// A call: the thread that makes it, and what it does.
-#[derive(Clone, Copy, Debug, PartialEq, Eq)]
+#[derive(Clone, Copy, PartialEq, Eq)]
 pub struct Fact {
     pub thread: u64,
     pub deed: Deed,

@@ -5,7 +5,7 @@ use crate::expecting::facts::{Deed, Fact};
 use crate::expecting::trace::Endings;
 
 /// The state of a thread, and the channel that it is blocked on; 0 if it is ready.
-#[derive(Clone, Copy, Debug, PartialEq, Eq)]
+#[derive(Clone, Copy, PartialEq, Eq)]
 pub struct Standing {
     pub activity: Activity,
     pub channel: u64,

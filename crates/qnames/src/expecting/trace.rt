@@ -6,7 +6,7 @@ use std::alloc::{AllocError, Global};
 use std::collections::BTreeMap;
 
 /// The end of a call.
-#[derive(Debug, Drop)]
+#[derive(Drop)]
 pub struct Ended<'a> {
     /// The number of the call that ended it, which may be its own.
     pub event: u64,

@@ -6,7 +6,7 @@ use crate::line::Place;
 use std::alloc::Global;
 
 /// The sort of a part of a line.
-#[derive(Clone, Copy, Debug, PartialEq, Eq)]
+#[derive(Clone, Copy, PartialEq, Eq)]
 pub enum Sort {
     /// A name, a number, hexadecimal bytes, flags: anything without quotes and brackets.
     Word,
@@ -23,7 +23,7 @@ pub enum Sort {
 }
 
 /// A part of a line.
-#[derive(Clone, Copy, Debug)]
+#[derive(Clone, Copy)]
 pub struct Token<'a> {
     pub sort: Sort,
     pub bytes: &'a [u8],

@@ -4,7 +4,7 @@ use crate::example::Outcome;
 use std::fmt;
 
 /// The number of scripts with each outcome.
-#[derive(Clone, Copy, Debug, Default, PartialEq, Eq)]
+#[derive(Clone, Copy, Default, PartialEq, Eq)]
 pub struct Tally {
     /// The scripts that printed their traces.
     pub same: usize,

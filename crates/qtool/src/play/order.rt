@@ -4,7 +4,7 @@ use qreading::reading::call::is;
 use qreading::reading::words::next_word;
 
 /// The order of a line.
-#[derive(Clone, Copy, Debug, PartialEq, Eq)]
+#[derive(Clone, Copy, PartialEq, Eq)]
 pub enum Order<'a> {
     /// Print the state of each thread.
     State,

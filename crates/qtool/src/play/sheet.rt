@@ -11,7 +11,7 @@ use qscript::fault::{LineFault, ScriptFault};
 use std::alloc::{AllocError, Global};
 
 /// The outcome of adding lines.
-#[derive(Debug, Drop)]
+#[derive(Drop)]
 pub enum Taken {
     /// They are added.
     Added(Addition),
@@ -22,7 +22,7 @@ pub enum Taken {
 }
 
 /// The effects of added lines.
-#[derive(Debug, Drop)]
+#[derive(Drop)]
 pub struct Addition {
     /// What they add to the trace, without the lines of blocked threads.
     pub printed: Vec<u8>,
