@@ -4,6 +4,8 @@
     bench/gate.py run LOG [WORD..]    runs `rt ci WORD..` in this checkout and writes LOG
     bench/gate.py LOG..               prints the table of one or more logs
 
+Below the table stands the longest chain: crates each of which waits for the proof of the one before.
+
 LOG has a line for each process of the toolchain that the run started, with tabs between its words: the crate, the kind,
 the processor seconds, and the seconds from its start to its end. The kinds are `proof`, `tests` (the crate with its
 tests), `seed` (the proof that a crate's edits begin with, and its check at the end), `edits` and `build` (compilers and
@@ -97,6 +99,18 @@ def record(log, words):
     return gate.returncode
 
 
+def longest_chain(spent):
+    """The crates of the longest chain, lowest first, and the processor seconds of their proofs."""
+    chains = {}
+    for line in (TOP / "crates.txt").read_text().splitlines():
+        head, colon, libraries = line.partition(":")
+        if colon and not line.startswith("#"):
+            name = head.split()[0]
+            below = max((chains[it] for it in libraries.split() if it in chains), key=lambda it: it[1], default=([], 0.0))
+            chains[name] = [*below[0], name], below[1] + spent[name]["proof"]
+    return max(chains.values(), key=lambda it: it[1])
+
+
 def table(logs):
     """Prints the processor seconds of each crate, the dearest first."""
     spent, number, total, wall = defaultdict(lambda: dict.fromkeys(KINDS, 0.0)), defaultdict(int), 0.0, 0.0
@@ -113,6 +127,8 @@ def table(logs):
         print(f"{crate:<18}" + "".join(f"{row[kind]:9.0f}" for kind in KINDS) + f"{sum(row.values()):9.0f}{number[crate]:13}")
     sums = {kind: sum(row[kind] for row in spent.values()) for kind in KINDS}
     print(f"{'sum':<18}" + "".join(f"{sums[kind]:9.0f}" for kind in KINDS) + f"{sum(sums.values()):9.0f}{sum(number.values()):13}")
+    names, seconds = longest_chain(spent)
+    print(f"longest chain: {seconds:.0f} seconds of proofs: {' '.join(names)}")
     print(f"{total / 60:.0f} processor minutes by the system, {wall / 60:.0f} minutes from start to end")
 
 

@@ -291,7 +291,7 @@ impl Kernel {
     /// Makes one call. An `Ok` is an event, whose number is one more than that of the last event, and holds its endings
     /// in rising thread number. An `Err` is no event: it gives the call back and changes nothing. The errors are
     /// `NoThread` if the thread isn't in the roster, and else `Exhausted` after 2^40 calls.
-    /// `dispatching.rt` of `crates/qtests` uses it.
+    /// `dispatching.rt.txt` of `tests/unproved/kernel_tests` uses it.
     pub fn dispatch(&mut self, thread: ThreadNo, call: Call) -> Result<Endings, (Errno, Call)>
         ensures event { IfOk result (λ endings. AnswersAtTraces self.old thread call endings.items self.new) }
         ensures refused { IfOk result (λ endings. LeavesIfRefused self.old thread call endings.items self.new) }

@@ -155,8 +155,7 @@ impl<K: Tie> Port<K> {
     /// ending. Refused, in this order: `Down` after Shutdown; `Busy` if the thread has an open call or an ending that
     /// isn't collected; and then the errors of the log, which never refuses a Shutdown. These are, if the kernel keeps
     /// its past, `TraceFull` if one event of the limit is left, and `NoMemory` if there was none for the trace; if it
-    /// keeps no past, `Exhausted` if one of 2^40 events is left. A thread that the roster lacks would get `NoThread`
-    /// before all these, but has no port.
+    /// keeps no past, `Exhausted` if one of 2^40 events is left.
     /// `endpoint.rt` of `crates/qcalls` calls it.
     pub fn call<L: Log, R: Wait>(&mut self, shared: &Shared<K, L>, rt: &R, call: Call) -> Called
         ensures came { AtPast K.names.roster self.old.thread self.old.asked.calls (Answered K.names.roster L.refuses L.admits self.old.thread call result) }
@@ -262,7 +261,7 @@ impl<K: Tie> Port<K> {
     }
 
     /// Takes the ending that was put for the thread, if there is one. It takes no lock and no memory, and never waits.
-    /// `qroundtrips` polls the two ports of one thread.
+    /// `qroundtrips` of `bench/programs` polls the two ports of one thread.
     pub fn poll<L: Log>(&mut self, shared: &Shared<K, L>) -> Option<Completion>
         ensures taken { MatchOption result (taken self.new.seat ≡ taken self.old.seat) (λ x. taken self.new.seat ≡ taken self.old.seat ++ x ∷ []) }
         ensures pending { MatchOption result (self.new.pending ≡ self.old.pending) (λ x. self.new.pending ≡ false) }

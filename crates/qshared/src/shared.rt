@@ -325,7 +325,7 @@ impl<K: Tie> Shared<K, Kept<K>> {
 impl<K: Tie> Shared<K, Unkept<K>> {
     /// Opens a kernel of these parts that keeps no past, with a port for each thread, in rising thread number. The
     /// limit of the parts is ignored. `NoMemory` is the only error, and drops the parts.
-    /// `course.rt` of `crates/qroundtrips` opens and closes one.
+    /// `course.rt` of `bench/programs/qroundtrips` opens and closes one.
     pub fn open(parts: Parts) -> Result<(Shared<K, Unkept<K>>, Vec<Port<K>>), Errno>
         requires named { AreParts K.names K.name K.parts parts }
         ensures ports { IfOk result (λ r. AreAll (λ p. thread_of p.seat) K.names.cells.slots r.1.items) }
