@@ -3,6 +3,7 @@
 
     bench/gate.py run LOG [WORD..]    runs `rt ci WORD..` in this checkout and writes LOG
     bench/gate.py LOG..               prints the table of one or more logs
+    bench/gate.py lanes N LOG..       prints how long their jobs take on N processors
 
 Below the table stands the longest chain: crates each of which waits for the proof of the one before.
 
@@ -10,6 +11,9 @@ LOG has a line for each process of the toolchain that the run started, with tabs
 the processor seconds, and the seconds from its start to its end. The kinds are `proof`, `tests` (the crate with its
 tests), `seed` (the proof that a crate's edits begin with, and its check at the end), `edits` and `build` (compilers and
 linkers). The last line is that of the whole run, `total`.
+
+`lanes` goes through the jobs as `rt ci` does: each waits for the proofs that it stands on, edits also for their seed;
+those with the longest chain behind them come first, and edits fill what is left. A job takes its processor seconds.
 
 What an earlier run on this machine passed is taken from there and costs nothing. `bench/gate.py run LOG --anew` proves
 all from nothing. Processes are looked at ten times a second, so a figure is up to a tenth of a second a process short.
@@ -111,9 +115,9 @@ def longest_chain(spent):
     return max(chains.values(), key=lambda it: it[1])
 
 
-def table(logs):
-    """Prints the processor seconds of each crate, the dearest first."""
-    spent, number, total, wall = defaultdict(lambda: dict.fromkeys(KINDS, 0.0)), defaultdict(int), 0.0, 0.0
+def read(logs):
+    """The processor seconds of each crate by kind, those of each of its edits, and the whole by the system and the clock."""
+    spent, edits, total, wall = defaultdict(lambda: dict.fromkeys(KINDS, 0.0)), defaultdict(list), 0.0, 0.0
     for log in logs:
         for line in Path(log).read_text().splitlines():
             crate, kind, seconds, lasted = line.split("\t")
@@ -121,7 +125,53 @@ def table(logs):
                 total, wall = total + float(seconds), wall + float(lasted)
             else:
                 spent[crate][kind] += float(seconds)
-                number[crate] += kind == "edits"
+                if kind == "edits":
+                    edits[crate].append(float(seconds))
+    return spent, edits, total, wall
+
+
+def jobs_of(spent, edits):
+    """Each job: its processor seconds, and the jobs that it waits for."""
+    jobs, listed = {}, {}
+    for line in (TOP / "crates.txt").read_text().splitlines():
+        head, colon, libraries = line.partition(":")
+        if colon and not line.startswith("#"):
+            listed[head.split()[0]] = libraries.split()
+    for crate, libraries in listed.items():
+        row, below = spent[crate], [(it, "proof") for it in libraries if it in listed]
+        jobs[crate, "proof"] = row["proof"] + row["build"], below
+        jobs[crate, "tests"] = row["tests"], below
+        jobs[crate, "seed"] = row["seed"], [(crate, "proof")]
+        for at, seconds in enumerate(edits[crate]):
+            jobs[crate, f"edit {at}"] = seconds, [(crate, "seed"), (crate, "tests")]
+    return jobs
+
+
+def lanes(number, logs):
+    """Prints when the last job ends on so many processors, and how much of their time the jobs fill."""
+    jobs = jobs_of(*read(logs)[:2])
+    behind = {key: 0.0 for key in jobs}
+    for key in reversed(jobs):
+        behind[key] += jobs[key][0]
+        for it in jobs[key][1]:
+            behind[it] = max(behind[it], behind[key])
+    left = sorted(jobs, key=lambda key: (key[1] not in ("proof", "tests"), -behind[key]))
+    running, done, now = {}, set(), 0.0
+    while left or running:
+        for key in [it for it in left if done >= set(jobs[it][1])][: number - len(running)]:
+            left.remove(key)
+            running[key] = now + jobs[key][0]
+        first = min(running, key=running.get)
+        now = running.pop(first)
+        done.add(first)
+    filled = sum(seconds for seconds, _ in jobs.values()) / (number * now)
+    print(f"{number} processors: {now / 60:.0f} minutes, of which their jobs fill {100 * filled:.0f} %")
+
+
+def table(logs):
+    """Prints the processor seconds of each crate, the dearest first."""
+    spent, edits, total, wall = read(logs)
+    number = {crate: len(edits[crate]) for crate in list(spent)}
     print(f"{'crate':<18}" + "".join(f"{kind:>9}" for kind in KINDS) + f"{'sum':>9}{'edits tried':>13}")
     for crate, row in sorted(spent.items(), key=lambda it: -sum(it[1].values())):
         print(f"{crate:<18}" + "".join(f"{row[kind]:9.0f}" for kind in KINDS) + f"{sum(row.values()):9.0f}{number[crate]:13}")
@@ -132,6 +182,8 @@ def table(logs):
     print(f"{total / 60:.0f} processor minutes by the system, {wall / 60:.0f} minutes from start to end")
 
 
+if sys.argv[1:2] == ["lanes"] and len(sys.argv) > 3:
+    sys.exit(lanes(int(sys.argv[2]), sys.argv[3:]))
 if sys.argv[1:2] == ["run"] and len(sys.argv) > 2:
     sys.exit(record(sys.argv[2], sys.argv[3:]))
 if len(sys.argv) < 2 or sys.argv[1].startswith("-"):

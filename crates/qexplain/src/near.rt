@@ -8,6 +8,9 @@ use strsim::osa_distance;
 /// The most letters that may be wrong, missing, too many or swapped in a word that counts as near.
 const MOST_EDITS: usize = 2;
 
+/// The most bytes of a word that are quoted.
+const MOST_QUOTED: usize = 24;
+
 /// Returns the distance of a word from a name, in any case, or `None` if the word isn't near.
 fn distance(alloc: Global, word: &str, name: &str) -> Result<Option<usize>, AllocError> {
     if word.len() > name.len().saturating_add(MOST_EDITS) {
@@ -39,6 +42,30 @@ pub fn near_call(alloc: Global, word: &[u8]) -> Result<Option<&'static str>, All
         }
     }
     Ok(nearest)
+}
+
+/// Returns the names of all calls, for a word that is none of them.
+fn call_names(alloc: Global, word: &str) -> Result<String, AllocError> {
+    let mut text = format!(in alloc; "'{word}' names no call; the calls are")?;
+    for form in &CALLS {
+        text.push(' ')?;
+        text.push_str(form.word)?;
+    }
+    Ok(text)
+}
+
+/// Returns the words for a word that names no call: the name that it is near to, or else the names of all calls.
+pub fn unknown_call(alloc: Global, word: &str) -> Result<String, AllocError> {
+    match near_call(alloc, word.as_bytes())? {
+        Some(near) => format!(in alloc; "'{word}' names no call; did you mean '{near}'?"),
+        None => call_names(alloc, word),
+    }
+}
+
+/// Returns the front of a word, as text.
+pub fn quotation(bytes: &[u8]) -> &str {
+    let front = bytes.get(..MOST_QUOTED).unwrap_or(bytes);
+    str::from_utf8(front).unwrap_or("?")
 }
 
 /// Returns whether a word is near to `thread`, with which a roster line begins.

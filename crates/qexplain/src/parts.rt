@@ -26,14 +26,14 @@ impl<'a> Iterator for Lines<'a> {
 }
 
 /// A part of a line: its first byte, counted from 0, and its length in bytes.
-#[derive(Clone, Copy, Debug, PartialEq, Eq)]
+#[derive(Clone, Copy, PartialEq, Eq)]
 pub struct Place {
     pub at: usize,
     pub len: usize,
 }
 
 /// A word of a line.
-#[derive(Clone, Copy, Debug)]
+#[derive(Clone, Copy)]
 pub struct Word<'a> {
     /// Its bytes.
     pub bytes: &'a [u8],

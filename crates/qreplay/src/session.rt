@@ -120,7 +120,7 @@ impl Session {
 }
 
 /// Returns the last line of a text that is neither empty nor a comment, and the index at which it begins.
-fn last_line(text: &[u8]) -> Option<(usize, &[u8])> {
+pub fn last_line(text: &[u8]) -> Option<(usize, &[u8])> {
     let mut last = None;
     let mut rest = text;
     for line in Lines(text) {

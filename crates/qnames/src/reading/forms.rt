@@ -4,10 +4,11 @@ use crate::expectation::{Ending, Pattern};
 use crate::fault::{ReadError, fault_at};
 use crate::lexing::token::Token;
 use crate::line::Kind;
-use crate::reading::near::{nearest, quotation};
+use crate::reading::near::nearest;
 use crate::reading::operands::{wanted, word_of};
 use crate::reading::values::{bytes, errno, named, number, process};
 use crate::word::Word;
+use qexplain::near::quotation;
 use std::alloc::{AllocError, Global};
 
 /// The sort of a place behind the first word of an ending.

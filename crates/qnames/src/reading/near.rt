@@ -1,7 +1,6 @@
 //! Finds the name that a misspelt one was meant to be.
 
 use std::alloc::{AllocError, Global};
-use std::str;
 use strsim::osa_distance;
 
 /// The most letters that may be wrong, missing, too many or swapped in a word that counts as near.
@@ -39,10 +38,4 @@ pub fn nearest<'a>(
         }
     }
     Ok(found)
-}
-
-/// Returns the front of a word, as text.
-pub fn quotation(bytes: &[u8]) -> &str {
-    let front = bytes.get(..24).unwrap_or(bytes);
-    str::from_utf8(front).unwrap_or("?")
 }

@@ -5,10 +5,11 @@ use crate::lexing::name::is_name;
 use crate::lexing::quoted::quoted_bytes;
 use crate::lexing::token::{Sort, Token};
 use crate::line::{Kind, Mention, Operand, Place};
-use crate::reading::near::{nearest, quotation};
+use crate::reading::near::nearest;
 use crate::word::Word;
 use qbase::bytes::Bytes;
 use qexplain::grammar::Operand as Slot;
+use qexplain::near::quotation;
 use qreading::reading::number::digits;
 use std::alloc::{AllocError, Global};
 

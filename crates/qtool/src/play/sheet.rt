@@ -4,9 +4,7 @@ use qnames::fault::Fault;
 use qnames::line::Place;
 use qnames::named::script_faults;
 use qnames::{Reading, read, read_so_far};
-use qreading::reading::lines::next_line;
-use qreading::reading::words::next_word;
-use qreplay::session::Session;
+use qreplay::session::{Session, last_line};
 use qscript::fault::{LineFault, ScriptFault};
 use std::alloc::{AllocError, Global};
 
@@ -68,30 +66,6 @@ fn joined(alloc: Global, front: &[u8], lines: &[u8]) -> Result<Vec<u8>, AllocErr
         text.push(b'\n')?;
     }
     Ok(text)
-}
-
-/// Returns whether a line is neither empty nor a comment.
-fn has_words(line: &[u8]) -> bool {
-    match next_word(line) {
-        Some((word, _)) => !word.starts_with(b"#"),
-        None => false,
-    }
-}
-
-/// Returns the last line of a text that is neither empty nor a comment, and the index at which it begins.
-fn last_line(text: &[u8]) -> Option<(usize, &[u8])> {
-    let mut last = None;
-    let mut rest = text;
-    for _ in 0..text.len() {
-        let Some((line, after)) = next_line(rest) else {
-            break;
-        };
-        if has_words(line) {
-            last = Some((text.len().saturating_sub(rest.len()), line));
-        }
-        rest = after;
-    }
-    last
 }
 
 /// Runs a plain script; returns its session, and what it prints without the lines of blocked threads.
