@@ -3,8 +3,7 @@
 ghost use Rattle.std.specs.Prelude.{◌≡◌};
 
 use qbase::bytes::Bytes;
-use qbase::errno::Errno;
-use qbase::ids::{ChannelId, ConnectionId, ProcessNo, ThreadNo};
+use qbase::ids::{ChannelId, ConnectionId};
 use qbase::priority::Priority;
 use qkernel::call::{Call, Completion, Mark};
 use qshared::kept::Kept;
