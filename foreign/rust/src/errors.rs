@@ -26,37 +26,34 @@ pub enum Errno {
     Down,
     /// The kernel has made all the 2^40 calls that it can number.
     Exhausted,
-    /// The kept trace is full; no function here returns it.
-    TraceFull,
     /// The thread isn't in the roster.
     NoThread,
 }
 
-/// The errors and their messages, by the number in the library less 1.
-const ERRNOS: [(Errno, &str); 11] = [
-    (Errno::Srch, "no such thread, channel or held message"),
-    (Errno::Badf, "no such connection"),
-    (Errno::Inval, "argument outside its range"),
-    (Errno::Again, "limit reached"),
-    (Errno::Intr, "unblocked"),
-    (Errno::Busy, "thread is blocked"),
-    (Errno::NoMemory, "out of memory"),
-    (Errno::Down, "kernel is shut down"),
-    (Errno::Exhausted, "kernel has made all its calls"),
-    (Errno::TraceFull, "kept trace is full"),
-    (Errno::NoThread, "thread isn't in the roster"),
+/// The errors with their numbers in the library, where 10 is of a kernel that keeps a trace, and their messages.
+const ERRNOS: [(Errno, u32, &str); 10] = [
+    (Errno::Srch, 1, "no such thread, channel or held message"),
+    (Errno::Badf, 2, "no such connection"),
+    (Errno::Inval, 3, "argument outside its range"),
+    (Errno::Again, 4, "limit reached"),
+    (Errno::Intr, 5, "unblocked"),
+    (Errno::Busy, 6, "thread is blocked"),
+    (Errno::NoMemory, 7, "out of memory"),
+    (Errno::Down, 8, "kernel is shut down"),
+    (Errno::Exhausted, 9, "kernel has made all its calls"),
+    (Errno::NoThread, 11, "thread isn't in the roster"),
 ];
 
 impl Errno {
-    /// Returns the error with this number, which isn't 0.
+    /// Returns the error with this number.
     pub(crate) fn of(number: u32) -> Errno {
-        ERRNOS[number as usize - 1].0
+        ERRNOS.iter().find(|row| row.1 == number).expect("a number of an error").0
     }
 }
 
 impl fmt::Display for Errno {
     fn fmt(&self, f: &mut fmt::Formatter<'_>) -> fmt::Result {
-        f.write_str(ERRNOS[*self as usize].1)
+        f.write_str(ERRNOS[*self as usize].2)
     }
 }
 

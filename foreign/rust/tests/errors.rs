@@ -59,7 +59,6 @@ fn what_errors_say() {
         (Errno::NoMemory, "out of memory"),
         (Errno::Down, "kernel is shut down"),
         (Errno::Exhausted, "kernel has made all its calls"),
-        (Errno::TraceFull, "kept trace is full"),
         (Errno::NoThread, "thread isn't in the roster"),
     ];
     all.iter().for_each(|(errno, words)| assert_eq!(said(errno), *words));
