@@ -1,6 +1,7 @@
-//! All steps in one function: a roster, a kernel, a channel, a connection, a message and its answer.
+//! All steps on one page: a roster, a kernel, a channel, a connection, a message and its answer.
 
-ghost use Rattle.std.specs.Prelude.{IfOk};
+ghost use Rattle.std.specs.Prelude.{[], IfOk};
+ghost use Rattle.balsaeuchre.specs.Stands.{StandsAt};
 ghost use Rattle.balsaeuchre_uses.specs.FirstMessage.{roster, events};
 ghost use Rattle.balsaeuchre_uses.specs.Written.{IsRunOf};
 
@@ -10,25 +11,35 @@ use balsaeuchre::{
 };
 use std::alloc::Global;
 
+const SERVER: ThreadNo = ThreadNo(1);
+
+const CLIENT: ThreadNo = ThreadNo(2);
+
+/// Returns a kernel of a server and a client, each in a process of its own, before any call.
+fn kernel_of_two(alloc: Global) -> Result<Kernel, Errno>
+    ensures { IfOk result (λ kernel. StandsAt roster kernel []) }
+{
+    let mut roster = Roster::new(alloc);
+    roster.add(SERVER, ProcessNo(1), Priority::lowest())?;
+    roster.add(CLIENT, ProcessNo(2), Priority::lowest())?;
+    Ok(Kernel::new(alloc, &roster)?)
+}
+
 /// Lets the server receive the client's message, and answer it with bytes of its own.
 pub fn first_message(alloc: Global, message: &[u8], answer: &[u8]) -> Result<Trace, Errno>
     ensures { IfOk result (λ trace. IsRunOf roster (events message.now answer.now) trace) }
 {
-    let (server, client) = (ThreadNo(1), ThreadNo(2));
-    let mut roster = Roster::new(alloc);
-    roster.add(server, ProcessNo(1), Priority::lowest())?;
-    roster.add(client, ProcessNo(2), Priority::lowest())?;
-    let mut kernel = Kernel::new(alloc, &roster)?;
+    let mut kernel = kernel_of_two(alloc)?;
     let message = Bytes::copied(alloc, message)?;
     let answer = Bytes::copied(alloc, answer)?;
     let reply_buffer = Bytes::copied(alloc, &[0; 8])?;
     let buffer = Bytes::copied(alloc, &[0; 8])?;
     let calls = vec![in alloc;
-        (server, Call::ChannelCreate(ChannelFlags::of(0))), // call 1 creates channel 1
-        (client, Call::ConnectAttach(ChannelId(1))), // call 2 attaches connection 2
-        (client, Call::Send { coid: ConnectionId(2), message, reply_buffer }), // blocks
-        (server, Call::Receive { chid: ChannelId(1), buffer }), // takes the message of call 3
-        (server, Call::Reply { rcvid: ReceiveId(3), status: 0, bytes: answer }), // ends the Send
+        (SERVER, Call::ChannelCreate(ChannelFlags::of(0))), // call 1 creates channel 1
+        (CLIENT, Call::ConnectAttach(ChannelId(1))), // call 2 attaches connection 2
+        (CLIENT, Call::Send { coid: ConnectionId(2), message, reply_buffer }), // blocks
+        (SERVER, Call::Receive { chid: ChannelId(1), buffer }), // takes the message of call 3
+        (SERVER, Call::Reply { rcvid: ReceiveId(3), status: 0, bytes: answer }), // ends the Send
     ]?;
     Ok(run(&mut kernel, calls)?)
 }

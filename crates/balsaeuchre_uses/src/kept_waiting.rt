@@ -117,11 +117,18 @@ impl Client {
 
 /// Returns a simulator of a server and two clients, each in a process of its own.
 fn simulator_of_three(alloc: Global) -> Result<Simulator, CallError> {
+    let roster = roster_of_three(alloc)?;
+    Simulator::new(alloc, &roster)
+}
+
+/// Returns the three threads. (No clause says which, so that the prover doesn't go through the kernel's facts about
+/// them.)
+fn roster_of_three(alloc: Global) -> Result<Roster, CallError> {
     let mut roster = Roster::new(alloc);
     roster.add(SERVER, ProcessNo(1), Priority::lowest())?;
     roster.add(FIRST, ProcessNo(2), Priority::lowest())?;
     roster.add(SECOND, ProcessNo(3), Priority::lowest())?;
-    Simulator::new(alloc, &roster)
+    Ok(roster)
 }
 
 /// Lets the server receive one message, and answer the client that can go on.

@@ -11,12 +11,23 @@ const SERVER: ThreadNo = ThreadNo(1);
 
 const CLIENT: ThreadNo = ThreadNo(2);
 
-/// Lets the client send a message, and the server answer it with the buffer into which it received it.
-pub fn echo(alloc: Global, message: &[u8]) -> Result<Reply, CallError> {
+/// Returns a simulator of both threads, each in a process of its own.
+fn simulator_of_two(alloc: Global) -> Result<Simulator, CallError> {
+    let roster = roster_of_two(alloc)?;
+    Simulator::new(alloc, &roster)
+}
+
+/// Returns both threads. (No clause says which, so that the prover doesn't go through the kernel's facts about them.)
+fn roster_of_two(alloc: Global) -> Result<Roster, CallError> {
     let mut roster = Roster::new(alloc);
     roster.add(SERVER, ProcessNo(1), Priority::lowest())?;
     roster.add(CLIENT, ProcessNo(2), Priority::lowest())?;
-    let mut simulator = Simulator::new(alloc, &roster)?;
+    Ok(roster)
+}
+
+/// Lets the client send a message, and the server answer it with the buffer into which it received it.
+pub fn echo(alloc: Global, message: &[u8]) -> Result<Reply, CallError> {
+    let mut simulator = simulator_of_two(alloc)?;
     let chid = simulator.channel_create(SERVER, ChannelFlags::of(0))?;
     let coid = simulator.connect_attach(CLIENT, chid)?;
     let _blocked = simulator.msg_send(CLIENT, coid, message, 8)?;

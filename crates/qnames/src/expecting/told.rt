@@ -61,6 +61,32 @@ fn push_content(
     push(out, shown_bytes(alloc, content)?.as_str())
 }
 
+/// Adds the id behind `channel`, `connection` or `unblock`.
+fn push_id(out: &mut String, scope: &Scope, words: &[&[u8]]) -> Result<(), AllocError> {
+    match words {
+        [id, ..] => push_named(out, scope, false, id),
+        [] => Ok(()),
+    }
+}
+
+/// Adds what a pulse of this kind brings.
+fn push_what(
+    out: &mut String,
+    scope: &Scope,
+    kind: &[u8],
+    words: &[&[u8]],
+) -> Result<(), AllocError> {
+    match kind {
+        b"unblock" => push_id(out, scope, words),
+        b"disconnect" => match words {
+            [process, ..] => push_process(out, scope, process),
+            [] => Ok(()),
+        },
+        b"user" => push_plain(out, words.get(..2).unwrap_or(words)),
+        _ => Ok(()),
+    }
+}
+
 /// Adds the content of a pulse.
 fn push_pulse(out: &mut String, scope: &Scope, words: &[&[u8]]) -> Result<(), AllocError> {
     let [item, priority, kind, rest @ ..] = words else {
@@ -69,15 +95,7 @@ fn push_pulse(out: &mut String, scope: &Scope, words: &[&[u8]]) -> Result<(), Al
     push_named(out, scope, false, item)?;
     push(out, text(priority))?;
     push(out, text(kind))?;
-    match (*kind, rest) {
-        (b"unblock", [message, ..]) => push_named(out, scope, false, message),
-        (b"disconnect", [process, ..]) => push_process(out, scope, process),
-        (b"user", [code, value, ..]) => {
-            push(out, text(code))?;
-            push(out, text(value))
-        }
-        _ => Ok(()),
-    }
+    push_what(out, scope, kind, rest)
 }
 
 /// Adds the content of an Info: the sender's process and thread, its connection and the numbers.
@@ -99,6 +117,48 @@ fn push_plain(out: &mut String, words: &[&[u8]]) -> Result<(), AllocError> {
     Ok(())
 }
 
+/// Adds the id of a message and its copied bytes.
+fn push_message(
+    alloc: Global,
+    out: &mut String,
+    scope: &Scope,
+    words: &[&[u8]],
+) -> Result<(), AllocError> {
+    let [id, count, buffer, ..] = words else {
+        return push_plain(out, words);
+    };
+    push_named(out, scope, false, id)?;
+    push_content(alloc, out, count, buffer)
+}
+
+/// Adds the status of a reply and its copied bytes.
+fn push_reply(alloc: Global, out: &mut String, words: &[&[u8]]) -> Result<(), AllocError> {
+    let [status, count, buffer, ..] = words else {
+        return push_plain(out, words);
+    };
+    push(out, text(status))?;
+    push_content(alloc, out, count, buffer)
+}
+
+/// Adds a count of bytes, and the copied bytes.
+fn push_count(alloc: Global, out: &mut String, words: &[&[u8]]) -> Result<(), AllocError> {
+    let [count, buffer, ..] = words else {
+        return push_plain(out, words);
+    };
+    push(out, text(count))?;
+    push_content(alloc, out, count, buffer)
+}
+
+/// Adds a thread's state, the channel that it is blocked on, and its priority.
+fn push_state(out: &mut String, scope: &Scope, words: &[&[u8]]) -> Result<(), AllocError> {
+    let [state, channel, priority, ..] = words else {
+        return push_plain(out, words);
+    };
+    push(out, text(state))?;
+    push_named(out, scope, false, channel)?;
+    push(out, text(priority))
+}
+
 /// Adds the words behind the first one.
 fn push_rest(
     alloc: Global,
@@ -107,37 +167,16 @@ fn push_rest(
     first: &[u8],
     rest: &[&[u8]],
 ) -> Result<(), AllocError> {
-    match (first, rest) {
-        (b"channel" | b"connection", [id, ..]) => push_named(out, scope, false, id),
-        (b"message", [id, count, buffer, ..]) => {
-            push_named(out, scope, false, id)?;
-            push_content(alloc, out, count, buffer)
-        }
-        (b"reply", [status, count, buffer, ..]) => {
-            push(out, text(status))?;
-            push_content(alloc, out, count, buffer)
-        }
-        (b"count", [count, buffer, ..]) => {
-            push(out, text(count))?;
-            push_content(alloc, out, count, buffer)
-        }
-        (b"error" | b"fail", [word, ..]) => push(out, text(word)),
-        (
-            b"state",
-            [
-                state @ (b"send" | b"receive" | b"reply"),
-                channel,
-                priority,
-                ..
-            ],
-        ) => {
-            push(out, text(state))?;
-            push_named(out, scope, false, channel)?;
-            push(out, text(priority))
-        }
-        (b"pulse", words) => push_pulse(out, scope, words),
-        (b"info", words) => push_info(out, scope, words),
-        (_, words) => push_plain(out, words),
+    match first {
+        b"channel" | b"connection" => push_id(out, scope, rest),
+        b"message" => push_message(alloc, out, scope, rest),
+        b"reply" => push_reply(alloc, out, rest),
+        b"count" => push_count(alloc, out, rest),
+        b"error" | b"fail" => push_plain(out, rest.get(..1).unwrap_or(rest)),
+        b"state" => push_state(out, scope, rest),
+        b"pulse" => push_pulse(out, scope, rest),
+        b"info" => push_info(out, scope, rest),
+        _ => push_plain(out, rest),
     }
 }
 

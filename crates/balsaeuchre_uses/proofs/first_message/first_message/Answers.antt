@@ -1,7 +1,6 @@
-use Rattle.std.proofs.Common.{◌≡◌, [], map, refl, ap, subst, ◌∙◌}
+use Rattle.std.proofs.Common.{◌≡◌, [], map, refl, ap, ◌∙◌}
 use Rattle.qworked.specs.Runs.{flags_of}
 use Rattle.balsaeuchre.specs.Lawful.{event_call}
-use Rattle.balsaeuchre.specs.Stands.{StandsAt}
 use Rattle.balsaeuchre_uses.specs.FirstMessage.{roster, events}
 use Rattle.balsaeuchre_uses.proofs.Lawful.{first_lawful, first_memory}
 use Rattle.balsaeuchre_uses.proofs.RunLemmas.{run_of}
@@ -9,12 +8,11 @@ use Rattle.balsaeuchre_uses.proofs.first_message.first_message.Goals as goal
 
 pub returns : goal.returns
 returns c =
-    let members : c.add-2.new.self ≡ roster = rw (c.in_ok-add-2.ensures.ok, c.in_ok-add.ensures.ok, c.new-roster.ensures, c.lowest.ensures, c.lowest-2.ensures) refl in
     let told : map event_call c.in_ok-run.field-0.events ≡ map event_call (events c.args.message.now c.args.answer.now) =
     let flags : c.of.result ≡ flags_of 0 = ap (λ n. flags_of n) c.of.ensures in
     c.in_ok-run.ensures.told ∙ c.in_ok-calls.ensures.items ∙ rw (c.in_ok-message.ensures, c.in_ok-answer.ensures, c.in_ok-reply_buffer.ensures, c.in_ok-buffer.ensures, flags) refl in
     run_of roster (events c.args.message.now c.args.answer.now) c.in_ok-run.field-0
-    (c.in_ok-run.ensures.headline roster [] tt (subst (λ r. StandsAt r c.in_ok-kernel.kernel []) members c.in_ok-kernel.ensures.stands))
+    (c.in_ok-run.ensures.headline roster [] tt c.in_ok-kernel.ensures)
     told
     (first_lawful c.args.message.now c.args.answer.now)
     (first_memory c.args.message.now c.args.answer.now)
