@@ -30,10 +30,10 @@ fn level(number: u8) -> Result<Priority, Errno>
     }
 }
 
-/// Returns a kernel of four threads, each in a process of its own: the store and the server of priority 10, the clients
-/// of 40 and 20.
-fn kernel_of_four(alloc: Global) -> Result<Kernel, Errno>
-    ensures { IfOk result (λ kernel. StandsAt roster kernel []) }
+/// Returns four threads, each in a process of its own: the store and the server of priority 10, the clients of 40
+/// and 20.
+fn roster_of_four(alloc: Global) -> Result<Roster, Errno>
+    ensures { IfOk result (λ members. members ≡ roster) }
 {
     let low = level(10)?;
     let high = level(40)?;
@@ -43,6 +43,14 @@ fn kernel_of_four(alloc: Global) -> Result<Kernel, Errno>
     roster.add(SERVER, ProcessNo(2), low)?;
     roster.add(URGENT, ProcessNo(3), high)?;
     roster.add(MIDDLING, ProcessNo(4), middling)?;
+    Ok(roster)
+}
+
+/// Returns a kernel of the four threads, before any call.
+fn kernel_of_four(alloc: Global) -> Result<Kernel, Errno>
+    ensures { IfOk result (λ kernel. StandsAt roster kernel []) }
+{
+    let roster = roster_of_four(alloc)?;
     Ok(Kernel::new(alloc, &roster)?)
 }
 

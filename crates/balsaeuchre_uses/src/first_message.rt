@@ -1,6 +1,6 @@
 //! All steps on one page: a roster, a kernel, a channel, a connection, a message and its answer.
 
-ghost use Rattle.std.specs.Prelude.{[], IfOk};
+ghost use Rattle.std.specs.Prelude.{◌≡◌, [], IfOk};
 ghost use Rattle.balsaeuchre.specs.Stands.{StandsAt};
 ghost use Rattle.balsaeuchre_uses.specs.FirstMessage.{roster, events};
 ghost use Rattle.balsaeuchre_uses.specs.Written.{IsRunOf};
@@ -15,13 +15,21 @@ const SERVER: ThreadNo = ThreadNo(1);
 
 const CLIENT: ThreadNo = ThreadNo(2);
 
-/// Returns a kernel of a server and a client, each in a process of its own, before any call.
-fn kernel_of_two(alloc: Global) -> Result<Kernel, Errno>
-    ensures { IfOk result (λ kernel. StandsAt roster kernel []) }
+/// Returns a server and a client, each in a process of its own.
+fn roster_of_two(alloc: Global) -> Result<Roster, Errno>
+    ensures { IfOk result (λ members. members ≡ roster) }
 {
     let mut roster = Roster::new(alloc);
     roster.add(SERVER, ProcessNo(1), Priority::lowest())?;
     roster.add(CLIENT, ProcessNo(2), Priority::lowest())?;
+    Ok(roster)
+}
+
+/// Returns a kernel of both threads, before any call.
+fn kernel_of_two(alloc: Global) -> Result<Kernel, Errno>
+    ensures { IfOk result (λ kernel. StandsAt roster kernel []) }
+{
+    let roster = roster_of_two(alloc)?;
     Ok(Kernel::new(alloc, &roster)?)
 }
 

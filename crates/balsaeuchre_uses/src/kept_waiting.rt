@@ -7,7 +7,7 @@ use crate::reply::Reply;
 use balsaeuchre::calls::{CallError, Received};
 use balsaeuchre::simulator::{Outcome, Simulator};
 use balsaeuchre::{
-    ChannelFlags, ChannelId, ConnectionId, Priority, ProcessNo, ReceiveId, Roster, ThreadNo,
+    ChannelFlags, ChannelId, ConnectionId, Errno, Priority, ProcessNo, ReceiveId, Roster, ThreadNo,
 };
 use std::alloc::{AllocError, Global};
 use std::collections::VecDeque;
@@ -123,7 +123,7 @@ fn simulator_of_three(alloc: Global) -> Result<Simulator, CallError> {
 
 /// Returns the three threads. (No clause says which, so that the prover doesn't go through the kernel's facts about
 /// them.)
-fn roster_of_three(alloc: Global) -> Result<Roster, CallError> {
+fn roster_of_three(alloc: Global) -> Result<Roster, Errno> {
     let mut roster = Roster::new(alloc);
     roster.add(SERVER, ProcessNo(1), Priority::lowest())?;
     roster.add(FIRST, ProcessNo(2), Priority::lowest())?;

@@ -4,7 +4,9 @@
 use crate::reply::Reply;
 use balsaeuchre::calls::{CallError, Received};
 use balsaeuchre::simulator::{Outcome, Simulator};
-use balsaeuchre::{ChannelFlags, Priority, ProcessNo, Roster, ThreadNo};
+use balsaeuchre::{
+    ChannelFlags, ChannelId, ConnectionId, Errno, Priority, ProcessNo, Roster, ThreadNo,
+};
 use std::alloc::Global;
 
 const SERVER: ThreadNo = ThreadNo(1);
@@ -18,24 +20,34 @@ fn simulator_of_two(alloc: Global) -> Result<Simulator, CallError> {
 }
 
 /// Returns both threads. (No clause says which, so that the prover doesn't go through the kernel's facts about them.)
-fn roster_of_two(alloc: Global) -> Result<Roster, CallError> {
+fn roster_of_two(alloc: Global) -> Result<Roster, Errno> {
     let mut roster = Roster::new(alloc);
     roster.add(SERVER, ProcessNo(1), Priority::lowest())?;
     roster.add(CLIENT, ProcessNo(2), Priority::lowest())?;
     Ok(roster)
 }
 
-/// Lets the client send a message, and the server answer it with the buffer into which it received it.
-pub fn echo(alloc: Global, message: &[u8]) -> Result<Reply, CallError> {
-    let mut simulator = simulator_of_two(alloc)?;
+/// Creates the server's channel, and attaches the client to it.
+fn connect(simulator: &mut Simulator) -> Result<(ChannelId, ConnectionId), CallError> {
     let chid = simulator.channel_create(SERVER, ChannelFlags::of(0))?;
-    let coid = simulator.connect_attach(CLIENT, chid)?;
-    let _blocked = simulator.msg_send(CLIENT, coid, message, 8)?;
-    let call = simulator.kernel().made();
+    Ok((chid, simulator.connect_attach(CLIENT, chid)?))
+}
+
+/// Lets the server receive a message, and answer it with the buffer into which it received it.
+fn serve(simulator: &mut Simulator, chid: ChannelId) -> Result<(), CallError> {
     let Outcome::Done(Received::Message(request)) = simulator.msg_receive(SERVER, chid, 8)? else {
         return Err(CallError::Unexpected);
     };
-    simulator.msg_reply(SERVER, request.rcvid, 0, request.buffer.as_slice())?;
+    simulator.msg_reply(SERVER, request.rcvid, 0, request.buffer.as_slice())
+}
+
+/// Lets the client send a message, and the server answer it.
+pub fn echo(alloc: Global, message: &[u8]) -> Result<Reply, CallError> {
+    let mut simulator = simulator_of_two(alloc)?;
+    let (chid, coid) = connect(&mut simulator)?;
+    let _blocked = simulator.msg_send(CLIENT, coid, message, 8)?;
+    let call = simulator.kernel().made();
+    serve(&mut simulator, chid)?;
     let ending = simulator.take(CLIENT).ok_or(CallError::Unexpected)?;
     Ok(Reply {
         call,

@@ -20,14 +20,22 @@ pub const CLIENT: ThreadNo = ThreadNo(2);
 /// Another thread of process 2.
 pub const FELLOW: ThreadNo = ThreadNo(3);
 
-/// Returns a kernel of the three threads, before any call.
-pub fn kernel_of_three(alloc: Global) -> Result<Kernel, Errno>
-    ensures { IfOk result (λ kernel. StandsAt roster kernel []) }
+/// Returns the three threads.
+fn roster_of_three(alloc: Global) -> Result<Roster, Errno>
+    ensures { IfOk result (λ members. members ≡ roster) }
 {
     let mut roster = Roster::new(alloc);
     roster.add(SERVER, ProcessNo(1), Priority::lowest())?;
     roster.add(CLIENT, ProcessNo(2), Priority::lowest())?;
     roster.add(FELLOW, ProcessNo(2), Priority::lowest())?;
+    Ok(roster)
+}
+
+/// Returns a kernel of the three threads, before any call.
+pub fn kernel_of_three(alloc: Global) -> Result<Kernel, Errno>
+    ensures { IfOk result (λ kernel. StandsAt roster kernel []) }
+{
+    let roster = roster_of_three(alloc)?;
     Ok(Kernel::new(alloc, &roster)?)
 }
 
