@@ -6,9 +6,9 @@ mod serving;
 
 use clap::Error;
 use clap::error::ErrorKind;
+use qcommand::command::{Action, ChartRun, ExploreRun, ScriptRun, action_of};
 use qtool::charts::run_chart;
 use qtool::check::run_check;
-use qtool::command::{Action, ChartRun, ExploreRun, ScriptRun, action_of};
 use qtool::designs::run_explore;
 use qtool::ending::{end_failed, end_unwritten, end_with};
 use qtool::play::run_play;

@@ -1,6 +1,6 @@
 //! Shows a line with a mark below the part that an explanation is about.
 
-use crate::parts::Place;
+use qforms::parts::Place;
 use std::alloc::{AllocError, Global};
 use std::fmt;
 

@@ -1,10 +1,10 @@
 //! Finds all faults of a text, and its oddities.
 
 use crate::explanation::{Explanation, explain_line, explanation_of};
-use crate::grammar::{Operand, call_form};
 use crate::hints::{buffer_hint, is_utf_16};
-use crate::parts::{Lines, Word, words};
 use qbase::ids::ThreadNo;
+use qforms::grammar::{Operand, call_form};
+use qforms::parts::{Lines, Word, words};
 use qreading::fault::{LineFault, ParseError};
 use qreading::reading::line::{Line, line_said};
 use qreading::reading::number::small;

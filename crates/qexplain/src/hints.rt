@@ -1,6 +1,6 @@
 //! Recognizes what is often written in a script by mistake, and says what to write in its place.
 
-use crate::grammar::{CALLS, Form, Operand};
+use qforms::grammar::{CALLS, Form, Operand};
 use qreading::reading::call::is;
 use std::alloc::{AllocError, Global};
 use std::str;

@@ -5,14 +5,10 @@ pub mod excerpt;
 pub mod explanation;
 pub mod faults;
 pub mod found;
-pub mod grammar;
 pub mod hints;
 pub mod history;
-pub mod near;
-pub mod parts;
 pub mod refusal;
 pub mod waiting;
 pub mod why;
 
 pub use explanation::{Explanation, explain};
-pub use grammar::{CALLS, Form, Operand, ROSTER};

@@ -1,9 +1,9 @@
 //! Reports what the trace of a run doesn't say.
 
 use qexplain::history::{History, Past};
-use qexplain::parts::call_lines;
 use qexplain::waiting::{Deadlock, Wait, deadlocks, waits};
 use qexplain::why::{Refusal, refusals};
+use qforms::parts::call_lines;
 use qkernel::kernel::Kernel;
 use qmodel::call::{Completion, Mark};
 use qscript::fault::ScriptFault;

@@ -1,8 +1,8 @@
 //! Keeps a script that grows line by line, and returns what each line adds to its trace.
 
 use crate::report::report_from;
-use qexplain::parts::Lines;
 use qexplain::why::Refusal;
+use qforms::parts::Lines;
 use qreading::reading::words::next_word;
 use qscript::fault::ScriptFault;
 use qscript::parse;

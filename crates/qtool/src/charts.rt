@@ -1,10 +1,10 @@
 //! Draws the run of a script, into a file or on standard output.
 
-use crate::command::ChartRun;
 use crate::ending::{end_failed, end_unread, end_unwritten, end_with};
 use crate::names::{is_named, plain_of_file};
 use qchart::drawing::drawing;
 use qchart::view::{Style, View};
+use qcommand::command::ChartRun;
 use std::io::Read;
 use std::process::ExitCode;
 use std::rt::Files;

@@ -6,7 +6,6 @@ mod origin;
 mod places;
 mod tally;
 
-use crate::command::CheckRun;
 use crate::designs::is_design;
 use crate::ending::{end_failed, end_unwritten};
 use crate::example::{Outcome, outcome_of, printed};
@@ -16,6 +15,7 @@ use design::check_design;
 use named::check_named;
 use origin::origin_of;
 use places::{Example, count_unread, examples};
+use qcommand::command::CheckRun;
 use qexplain::explain;
 use qscript::fault::ScriptFault;
 use std::alloc::{AllocError, AllocFailed};

@@ -1,8 +1,8 @@
 //! Explores the design of a file: every interleaving of its threads.
 
-use crate::command::ExploreRun;
 use crate::ending::{end_failed, end_unread, end_unwritten};
 use crate::names::show_fault;
+use qcommand::command::ExploreRun;
 use qdesign::{Reading, read};
 use qexplore::fault::Found;
 use qexplore::random::try_some;

@@ -1,9 +1,8 @@
-//! The program except the server on threads: its command line, and its work with scripts and designs.
+//! The program except its command line and the server on threads: its work with scripts and designs.
 #![tactic(auto)]
 
 pub mod charts;
 pub mod check;
-pub mod command;
 pub mod designs;
 pub mod difference;
 pub mod ending;
@@ -15,4 +14,3 @@ pub mod remarks;
 pub mod scripts;
 pub mod streams;
 pub mod summary;
-pub mod texts;

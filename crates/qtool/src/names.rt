@@ -1,10 +1,10 @@
 //! Runs a script with names, or prints its plain script.
 
-use crate::command::ScriptRun;
 use crate::ending::{end_failed, end_unread, end_unwritten};
 use crate::remarks::tell_run;
+use qcommand::command::ScriptRun;
 use qexplain::excerpt::excerpt_of;
-use qexplain::parts::{Lines, Place};
+use qforms::parts::{Lines, Place};
 use qnames::fault::Fault;
 use qnames::named::script_faults;
 use qnames::{Named, Reading, read};

@@ -3,10 +3,10 @@
 mod order;
 pub mod sheet;
 
-use crate::command::PlayRun;
 use crate::ending::{end_failed, end_unread, end_unwritten, tell_failed, tell_unread};
 use crate::names::{is_named, show_fault};
 use order::{Order, order_of};
+use qcommand::command::PlayRun;
 use qexplain::explain;
 use qnames::fault::Fault;
 use qreplay::report::report_of;

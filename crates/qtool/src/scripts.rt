@@ -1,10 +1,10 @@
 //! Runs a script, from a file or from standard input.
 
-use crate::command::ScriptRun;
 use crate::ending::{end_failed, end_quietly, end_unread, end_with};
 use crate::names::{is_named, run_named};
 use crate::remarks::{tell_faults, tell_first_fault, tell_report};
 use crate::streams::{Outlet, Source};
+use qcommand::command::ScriptRun;
 use qreplay::report::report_of;
 use qscript::fault::ScriptFault;
 use qscript::script::script;

@@ -1,6 +1,6 @@
 //! A printed trace, sorted by the calls that end in it.
 
-use qexplain::parts::{Lines, words};
+use qforms::parts::{Lines, words};
 use qreading::reading::number::digits;
 use std::alloc::{AllocError, Global};
 use std::collections::BTreeMap;

@@ -8,7 +8,7 @@ use crate::reading::near::nearest;
 use crate::reading::operands::{wanted, word_of};
 use crate::reading::values::{bytes, errno, named, number, process};
 use crate::word::Word;
-use qexplain::near::quotation;
+use qforms::near::quotation;
 use std::alloc::{AllocError, Global};
 
 /// The sort of a place behind the first word of an ending.

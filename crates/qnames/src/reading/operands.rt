@@ -8,8 +8,8 @@ use crate::line::{Kind, Mention, Operand, Place};
 use crate::reading::near::nearest;
 use crate::word::Word;
 use qbase::bytes::Bytes;
-use qexplain::grammar::Operand as Slot;
-use qexplain::near::quotation;
+use qforms::grammar::Operand as Slot;
+use qforms::near::quotation;
 use qreading::reading::number::digits;
 use std::alloc::{AllocError, Global};
 

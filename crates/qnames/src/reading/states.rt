@@ -6,7 +6,7 @@ use crate::lexing::token::{Sort, Token};
 use crate::line::{Kind, Operand};
 use crate::reading::operands::{id, wanted};
 use crate::word::Word;
-use qexplain::grammar::Operand as Slot;
+use qforms::grammar::Operand as Slot;
 use std::alloc::Global;
 
 /// The states, by name.

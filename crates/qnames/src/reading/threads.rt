@@ -6,7 +6,7 @@ use crate::lexing::token::{Sort, Token};
 use crate::line::{Definition, Place, Process, ThreadLine};
 use crate::reading::operands::{wanted, word_of};
 use crate::word::Word;
-use qexplain::grammar::Operand as Slot;
+use qforms::grammar::Operand as Slot;
 use qreading::reading::number::small;
 use std::alloc::Global;
 

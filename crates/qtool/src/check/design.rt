@@ -3,10 +3,10 @@
 use super::CheckFault;
 use super::places::{Example, count_unread};
 use super::tally::Tally;
-use crate::command::CheckRun;
 use crate::designs::Outcome;
 use crate::difference::difference_of;
 use crate::lines::without_returns;
+use qcommand::command::CheckRun;
 use std::path::Path;
 use std::rt::Files;
 use std::{fs, io};

@@ -1,7 +1,7 @@
 //! Finds the line of a script from which a line of its trace comes.
 
 use crate::difference::Difference;
-use qexplain::parts::{Lines, call_lines};
+use qforms::parts::{Lines, call_lines};
 use std::alloc::{AllocError, Global};
 
 /// The most bytes of a line that are shown.
