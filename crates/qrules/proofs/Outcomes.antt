@@ -6,7 +6,7 @@ use Rattle.qbase.specs.declared.errno.Errno.{Errno}
 use Rattle.qbase.specs.declared.errno.Errno.TheVariants.{Down, Busy}
 use Rattle.qmodel.specs.Private.Answer as old
 use Rattle.qmodel.specs.Private.Calls.{row_of}
-use Rattle.qmodel.specs.Private.Effects.{buffer_of as old_buffer_of}
+use Rattle.qmodel.specs.Buffers.{buffer_of as old_buffer_of}
 use Rattle.qmodel.specs.Private.Facts.{threads_of, Facts as OldFacts}
 use Rattle.qmodel.specs.declared.call.Call.{Call}
 use Rattle.qmodel.specs.declared.call.Call.TheVariants as calls

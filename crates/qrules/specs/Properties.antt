@@ -2,12 +2,12 @@
 use Rattle.std.specs.Prelude.{◌&&◌, ◌++◌, ◌==◌, ◌∷◌, ◌≡◌, ◌≤◌, if◌then◌else◌}
 use Rattle.qrules.specs.Words.{[], best_of, count_by, drop, false, filter, filter_map, is_some, laid_count}
 use Rattle.qrules.specs.Words.{lay_over, map, not, option_and_then, option_map, option_map_or, option_or}
-use Rattle.qrules.specs.Words.{option_to_list, true, AllByRecursion, Any, Bool, Completion, IsSomeAnd, Item}
-use Rattle.qrules.specs.Words.{List, Mark, MatchOption, Member, Option, Some, ℕ}
+use Rattle.qrules.specs.Words.{option_to_list, true, AllByRecursion, Any, Bool, Completion, Item, List}
+use Rattle.qrules.specs.Words.{Mark, Member, None, Option, Some, ℕ}
 use Rattle.qrules.specs.Trace.{call_at, endings_of, Bytes, CallNo, ChannelId, ConnectionId, Event}
 use Rattle.qrules.specs.Trace.{InEachEvent, Priority, ReceiveId, Trace}
 use Rattle.qrules.specs.Facts.{owns}
-use Rattle.qrules.specs.Rule.{buffer_of, Effect, ReceiveRequest, SentItem}
+use Rattle.qrules.specs.Rule.{buffer_of, ReceiveRequest, SentItem, Transfer}
 use Rattle.qrules.specs.Rules.{effect_of}
 use Rattle.qrules.specs.Past.{attached_connection, is_accepted, is_destroyed, is_ended, is_received}
 use Rattle.qrules.specs.Past.{item_among, item_in, items_by_now, priority_of_item, sender_of, with_writes}
@@ -86,13 +86,14 @@ abbrev pub IsLaid : Bytes → ℕ → Bytes → Bytes → ℕ → Type 0
 IsLaid buffer offset bytes after copied =
     (after ≡ lay_over buffer offset bytes) × (copied ≡ laid_count buffer offset bytes)
 
--- a Read copies the message from its offset on over its buffer, a Write has no buffer, and no other call
--- counts
-abbrev pub IsCounted : Trace → Effect → Completion → ℕ → Type 0
-IsCounted past e x copied = MatchOption e.reads
-    (IsSomeAnd e.writes
-    (λ w. (x.buffer ≡ []) × (copied ≡ laid_count (buffer_at past w.rcvid) w.offset w.bytes)))
-    (λ r. IsLaid r.bytes 0 (drop r.offset (message_at past r.rcvid)) x.buffer copied)
+-- what a call copied that counts bytes: a Read copies the message from its offset on over its buffer, a Write
+-- has no buffer, and no other call counts
+abbrev pub IsCounted : Trace → Option Transfer → Option Transfer → Completion → ℕ → Type 0
+IsCounted past (Some r) writes x copied =
+    IsLaid r.bytes 0 (drop r.offset (message_at past r.rcvid)) x.buffer copied
+IsCounted past None (Some w) x copied =
+    (x.buffer ≡ []) × (copied ≡ laid_count (buffer_at past w.rcvid) w.offset w.bytes)
+IsCounted past None None x copied = ⊥
 
 -- a receipt copies the message over the front of the receiver's buffer, and a reply its bytes over the
 -- sender's; a Read and a Write copy as many bytes as they count; any other ending returns the buffer in its
@@ -103,7 +104,8 @@ IsCopied past e x (mark.Message rcvid copied) =
 IsCopied past e x (mark.Replied status copied) =
     (bytes : Bytes) × ((effect_of e.call).replies ≡ Some (status, bytes))
     × IsLaid (buffer_at (e ∷ past) x.call) 0 bytes x.buffer copied
-IsCopied past e x (mark.Count copied) = IsCounted past (effect_of e.call) x copied
+IsCopied past e x (mark.Count copied) =
+    IsCounted past (effect_of e.call).reads (effect_of e.call).writes x copied
 IsCopied past e x other = x.buffer ≡ buffer_at (e ∷ past) x.call
 
 -- the bytes of each ending are copied in this way

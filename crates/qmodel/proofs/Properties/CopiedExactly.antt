@@ -16,7 +16,8 @@ use Rattle.qbase.specs.Laying.{laid_count, lay_over}
 use Rattle.qtables.specs.declared.member.Member.{Member}
 use Rattle.qmodel.specs.Private.Answer.{ending, Answers}
 use Rattle.qmodel.specs.Private.Calls.{row_of}
-use Rattle.qmodel.specs.Private.Effects.{buffer_of, message_sent, replies_with, writes}
+use Rattle.qmodel.specs.Buffers.{buffer_of}
+use Rattle.qmodel.specs.Private.Effects.{message_sent, replies_with, writes}
 use Rattle.qmodel.specs.Private.Calls.Error.{error_finish}
 use Rattle.qmodel.specs.Private.Calls.Info.{info_of, info_ending}
 use Rattle.qmodel.specs.Private.Calls.Reply.{reply_finish}

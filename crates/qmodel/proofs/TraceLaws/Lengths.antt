@@ -13,7 +13,8 @@ use Rattle.qqueue.specs.declared.item.Item.{Item}
 use Rattle.qqueue.specs.declared.item.Kind.TheVariants.{Any, PulseOnly}
 use Rattle.qmodel.specs.Private.Answer.{ending}
 use Rattle.qmodel.specs.Private.Calls.{row_of}
-use Rattle.qmodel.specs.Private.Effects.{asks, buffer_of, makes, unblocks, writes}
+use Rattle.qmodel.specs.Buffers.{buffer_of}
+use Rattle.qmodel.specs.Private.Effects.{asks, makes, unblocks, writes}
 use Rattle.qmodel.specs.Private.Calls.ConnectDetach as connect_detach
 use Rattle.qmodel.specs.Private.Calls.Error.{error_finish}
 use Rattle.qmodel.specs.Private.Calls.Reply.{reply_finish}

@@ -9,7 +9,7 @@ use Rattle.qmodel.specs.declared.call.Completion.{Completion}
 use Rattle.qmodel.specs.declared.call.Mark.TheVariants as mark
 use Rattle.qmodel.specs.Trace.{ThreadNo}
 use Rattle.qmodel.specs.Private.Calls.{row_of}
-use Rattle.qmodel.specs.Private.Effects.{buffer_of}
+use Rattle.qmodel.specs.Buffers.{buffer_of}
 use Rattle.qmodel.specs.Private.Facts.{Facts, threads_of}
 
 -- the first refusal that applies: Down after a shutdown, then Busy if the caller is blocked, then the row's

@@ -13,15 +13,11 @@ use Rattle.qmodel.specs.Trace.{OpenChannel}
 use Rattle.qmodel.specs.Private.Rows.{Setting, Written}
 use Rattle.qmodel.specs.Trace.{SentItem}
 
--- ---- waiting, and buffers
+-- ---- waiting
 
 -- the open call that a call leaves if it doesn't end in its own event
 abbrev pub asks : CallNo → Call → Option OpenCall
 asks n c = option_map (λ wait. record { number = n; wait = wait }) (effect_of c).waits
-
--- the buffer that a call brings; empty if it brings none
-abbrev pub buffer_of : Call → List ℕ
-buffer_of c = unwrap_or (effect_of c).buffer []
 
 -- ---- channels and connections
 

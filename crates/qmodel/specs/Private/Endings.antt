@@ -10,7 +10,7 @@ use Rattle.qmodel.specs.declared.call.Call.{Call}
 use Rattle.qmodel.specs.declared.call.Completion.{Completion}
 use Rattle.qmodel.specs.declared.open_call.OpenCall.{OpenCall}
 use Rattle.qmodel.specs.Trace.{ThreadNo}
-use Rattle.qmodel.specs.Private.Effects.{buffer_of}
+use Rattle.qmodel.specs.Buffers.{buffer_of}
 use Rattle.qmodel.specs.Private.Cancelling.{buffer_of_wait}
 use Rattle.qmodel.specs.Private.Headline.CopiedExactly.{call_at}
 use Rattle.qmodel.specs.Private.Lawful.{IsLawful}

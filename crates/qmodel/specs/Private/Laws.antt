@@ -21,7 +21,8 @@ use Rattle.qmodel.specs.declared.open_call.Receipt.{Receipt}
 use Rattle.qmodel.specs.declared.open_call.Wait.{Wait}
 use Rattle.qmodel.specs.declared.open_call.Wait.TheVariants.{Answer, Item as ForItem}
 use Rattle.qmodel.specs.Trace.{CallNo, ChannelId, ConnectionId, Priority, ReceiveId, ThreadNo}
-use Rattle.qmodel.specs.Private.Effects.{asks, buffer_of, receives_on}
+use Rattle.qmodel.specs.Buffers.{buffer_of}
+use Rattle.qmodel.specs.Private.Effects.{asks, receives_on}
 use Rattle.qmodel.specs.Private.Facts.{Facts, is_for_receipt, sender}
 use Rattle.qmodel.specs.Private.Headline.AnsweredToSender.{is_held}
 use Rattle.qmodel.specs.Private.Headline.CopiedExactly.{call_at}

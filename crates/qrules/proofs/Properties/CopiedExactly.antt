@@ -1,6 +1,6 @@
 -- Every buffer and every count is what was to be copied.
 use Rattle.std.proofs.Common.{◌≡◌, ◌∙◌, ◌↔◌, ℕ, List, [], ◌∷◌, drop, refl, ap, sym, subst}
-use Rattle.std.specs.Prelude.{Option, None, Some, option_map, MatchOption, IsSomeAnd}
+use Rattle.std.specs.Prelude.{Option, None, Some, option_map}
 use Rattle.qbase.proofs.Lists.{all_more}
 use Rattle.qbase.specs.Laying.{laid_count}
 use Rattle.qmodel.specs.Private.Calls.{effect_of as old_effect_of}
@@ -9,7 +9,7 @@ use Rattle.qmodel.specs.Trace.{Event, Trace}
 use Rattle.qmodel.specs.declared.call.Completion.{Completion}
 use Rattle.qmodel.specs.declared.call.Mark.{Mark}
 use Rattle.qmodel.specs.declared.call.Mark.TheVariants as mark
-use Rattle.qrules.specs.Properties.{buffer_at, message_at, CopiedExactly, IsCopied, IsLaid}
+use Rattle.qrules.specs.Properties.{buffer_at, message_at, CopiedExactly, IsCopied, IsCounted, IsLaid}
 use Rattle.qrules.specs.Rule.{Transfer}
 use Rattle.qrules.specs.Rules.{effect_of}
 use Rattle.qrules.proofs.Past.Effects.{reading_view, same_reads, same_replies, same_writes, written_view}
@@ -17,12 +17,7 @@ use Rattle.qrules.proofs.Properties.Calls.{same_buffer_at, same_message_at}
 
 -- ---- what is counted
 
-abbrev counted : Trace → Option Transfer → Option Transfer → Completion → ℕ → Type 0
-counted past reads writes x copied = MatchOption reads
-    (IsSomeAnd writes (λ w. (x.buffer ≡ []) × (copied ≡ laid_count (buffer_at past w.rcvid) w.offset w.bytes)))
-    (λ r. IsLaid r.bytes 0 (drop r.offset (message_at past r.rcvid)) x.buffer copied)
-
-same_counted : (past : Trace) (reads writes : Option Transfer) (x : Completion) (copied : ℕ) → counted past reads writes x copied ↔ old.IsCountOf past (option_map reading_view reads) (option_map written_view writes) x copied
+same_counted : (past : Trace) (reads writes : Option Transfer) (x : Completion) (copied : ℕ) → IsCounted past reads writes x copied ↔ old.IsCountOf past (option_map reading_view reads) (option_map written_view writes) x copied
 same_counted past (Some r) writes x copied =
     let same = same_message_at past r.rcvid in
     (λ h. subst (λ m. IsLaid r.bytes 0 (drop r.offset m) x.buffer copied) same h, λ h. subst (λ m. IsLaid r.bytes 0 (drop r.offset m) x.buffer copied) (sym same) h)

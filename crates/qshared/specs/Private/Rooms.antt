@@ -6,7 +6,7 @@ use Rattle.qtables.specs.Members.{IsRoster}
 use Rattle.qmodel.specs.declared.call.Call.{Call}
 use Rattle.qmodel.specs.declared.call.Call.TheVariants.{Shutdown}
 use Rattle.qmodel.specs.declared.call.Completion.{Completion}
-use Rattle.qmodel.specs.Private.Effects.{buffer_of}
+use Rattle.qmodel.specs.Buffers.{buffer_of}
 use Rattle.qmodel.specs.Private.Endings.{buffer_of_open, gets}
 use Rattle.qmodel.specs.Private.Facts.{threads_of}
 use Rattle.qmodel.specs.Private.Past.{open_call}

@@ -12,7 +12,8 @@ use Rattle.qmodel.specs.Trace.{CallNo, ReceiveId}
 use Rattle.qmodel.specs.Private.Past.{with_writes}
 use Rattle.qmodel.specs.Trace.{Event, Trace}
 use Rattle.qmodel.specs.Private.Effect.{Reading}
-use Rattle.qmodel.specs.Private.Effects.{buffer_of, message_sent, replies_with}
+use Rattle.qmodel.specs.Buffers.{buffer_of}
+use Rattle.qmodel.specs.Private.Effects.{message_sent, replies_with}
 use Rattle.qmodel.specs.Private.Calls.{effect_of}
 use Rattle.qmodel.specs.Private.Rows.{Written}
 
