@@ -21,6 +21,7 @@ pub use Rattle.qkernel.specs.Stands
 pub use Rattle.qkernel.specs.Run
 pub use Rattle.qkernel.specs.Blocked
 -- the shared kernel and its ports
+pub use Rattle.qpast.specs.History as SeenPast
 pub use Rattle.qhandoff.specs.Words
 pub use Rattle.qshared.specs.Answered
 pub use Rattle.qshared.specs.Asking
@@ -35,4 +36,14 @@ pub use Rattle.qcalls.specs.History
 pub use Rattle.qcalls.specs.Errors
 pub use Rattle.qcalls.specs.Results
 pub use Rattle.qcalls.specs.Making
+pub use Rattle.qcalls.specs.Coming
+pub use Rattle.qcalls.specs.Timing
 pub use Rattle.qcalls.specs.Closing
+-- the laws
+pub mod Fitting
+pub use Rattle.qlaws.specs.Lawful as LawForms
+pub use Rattle.qlaws.specs.Endings
+pub use Rattle.qlaws.specs.OpenCalls
+pub use Rattle.qlaws.specs.Pending
+pub use Rattle.qlaws.specs.Limits
+pub use Rattle.qshared.specs.Laws

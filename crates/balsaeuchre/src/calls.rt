@@ -8,5 +8,5 @@ pub use qcalls::alarms::Alarms;
 pub use qcalls::caller::Caller;
 pub use qcalls::endpoint::{Endpoint, KernelPort, Told};
 pub use qcalls::error::CallError;
-pub use qcalls::opening::{PortCaller, close, two_callers};
+pub use qcalls::opening::{PortCaller, callers, close, two_callers};
 pub use qcalls::results::{Answer, Pulse, Received, Request, State};

@@ -5,6 +5,8 @@
 #![tactic(auto)]
 
 pub mod calls;
+mod fitting;
+pub mod laws;
 pub mod shared;
 pub mod simulator;
 

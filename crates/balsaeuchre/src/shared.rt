@@ -9,6 +9,7 @@ pub use qshared::log::Log;
 pub use qshared::parts::Parts;
 pub use qshared::port::{Called, CalledBoth, Port};
 pub use qshared::report::{Report, Tally};
+pub use qshared::seen::Seen;
 pub use qshared::shared::Shared;
 pub use qshared::tie::Tie;
 pub use qshared::unkept::Unkept;

@@ -1,7 +1,9 @@
--- The rows of an event say what `Info` would of the messages that it received.
-use Rattle.std.proofs.Common.{◌≡◌, ◌∙◌, ℕ, ◌<◌, List, [], ◌∷◌, length, ap, sym, subst, arith, zero, suc, true}
+-- The rows of an event say what `Info` would of the messages that it received, and restore all buffers.
+use Rattle.std.proofs.Common.{◌≡◌, ◌∙◌, ℕ, ◌<◌, ◌≤◌, List, [], ◌∷◌, length, take, drop, ap, sym, subst, arith, zero, suc, true}
 use Rattle.std.specs.Prelude.{Some, is_some, slice_get}
-use Rattle.std.specs.List.{AllByRecursion}
+use Rattle.std.proofs.Math.Seq.{drop-append_seam}
+use Rattle.std.proofs.lemmas.List.{take-append-le}
+use Rattle.qbase.specs.Laying.{laid_count}
 use Rattle.qtables.specs.Members.{IsRoster, member_at}
 use Rattle.qmodel.specs.declared.call.Call.{Call}
 use Rattle.qmodel.specs.declared.call.Completion.{Completion}
@@ -10,22 +12,17 @@ use Rattle.qmodel.specs.Private.Lawful.{with_event}
 use Rattle.qstate.specs.Kept.{members_of}
 use Rattle.qkernel.specs.Kernel.{State, IsSound}
 use Rattle.qkernel.specs.Stands.{AnswersAtTraces}
-use Rattle.balsaeuchre_c.specs.Calling.{InformsAtTraces}
-use Rattle.balsaeuchre_c.specs.Rows.{Fills, TellsReceipt, info_in}
-use Rattle.balsaeuchre_c.specs.Telling.{IsTold}
+use Rattle.balsaeuchre_c.specs.Calling.{brought_at, Informs, OfEachRow, Restores}
+use Rattle.balsaeuchre_c.specs.Rows.{Fills, Tells, info_in, told_bytes}
+use Rattle.balsaeuchre_c.specs.Telling.{IsTold, start_of}
 use Rattle.balsaeuchre_c.specs.declared.row.Row.{Row}
 use Rattle.balsaeuchre_c.specs.declared.telling.Done.{Done}
 use Rattle.qrules.specs.Lawful.{IsLawful}
 use Rattle.qrules.specs.Trace.{Trace}
-use Rattle.qkernel.proofs.Traces.{answers_before, before, info_before, stands_roster}
+use Rattle.qkernel.proofs.Traces.{answers_before, before, info_before, properties_of, stands_roster}
 use Rattle.balsaeuchre_c.proofs.Holding.{received_told}
-use Rattle.balsaeuchre_c.proofs.Tellings.{some_same}
-
--- what is so of all is so of the one at a place
-all_at : {A : Type 0} (P : A → Type 0) (xs : List A) (i : ℕ) (x : A) → AllByRecursion P xs → slice_get xs i ≡ Some x → P x
-all_at P [] i x all at = cc
-all_at P (y ∷ xs) zero x all at = subst P (some_same y x at) all.0
-all_at P (y ∷ xs) (suc i) x all at = all_at P xs i x all.1 at
+use Rattle.balsaeuchre_c.proofs.Restoring.{all_at, restored}
+use Rattle.balsaeuchre_c.proofs.Tellings.{some_same, told_in_room}
 
 -- where something stands there is room
 get-below : {A : Type 0} (xs : List A) (i : ℕ) (x : A) → slice_get xs i ≡ Some x → i < length xs
@@ -37,9 +34,16 @@ get-below (y ∷ xs) (suc i) x at = let below : i < length xs = get-below xs i x
 filled_same : (r : Row) (info : Info) → info.msglen ≡ r.count → Fills r (Some info) → info ≡ info_in r
 filled_same r info count filled = ap (λ (n : ℕ). record { process = info.process; thread = info.thread; priority = info.priority; connection = info.connection; msglen = n; srcmsglen = info.srcmsglen; dstmsglen = info.dstmsglen }) count ∙ filled
 
-pub informs : (old : State) (t : ℕ) (c : Call) (X : List Completion) (new : State) (rows : List Row) (ob bytes : List ℕ) (done : Done) → IsSound old → is_some (member_at (members_of old.threads) t) ≡ true
-    → AnswersAtTraces old t c X new → IsTold new X rows ob bytes done → InformsAtTraces old t c X rows
-informs old t c X new rows ob bytes done sound known answers told roster past lawful stands place e row so at rcvid copied m =
+-- the row at a place has the ending at that place
+row_at : (s : State) (X : List Completion) (orows rows : List Row) (ob bytes : List ℕ) (done : Done) → IsTold s X orows rows ob bytes done → (place : ℕ) (e : Completion) (row : Row)
+    → slice_get X place ≡ Some e → slice_get rows place ≡ Some row → Tells row s e (start_of X ob place) (laid_count ob (start_of X ob place) (told_bytes e))
+row_at s X orows rows ob bytes done told place e row so at =
+    let r = told.told place (get-below X place e so) e so in
+    subst (λ (x : Row). Tells x s e (start_of X ob place) (laid_count ob (start_of X ob place) (told_bytes e))) (some_same r.0 row (sym r.1 ∙ at)) r.2
+
+pub informs : (old : State) (t : ℕ) (c : Call) (X : List Completion) (new : State) (orows rows : List Row) (ob bytes : List ℕ) (done : Done) → IsSound old → is_some (member_at (members_of old.threads) t) ≡ true
+    → AnswersAtTraces old t c X new → IsTold new X orows rows ob bytes done → OfEachRow Informs old t c X rows
+informs old t c X new orows rows ob bytes done sound known answers told roster past lawful stands place e row so at rcvid copied m =
     let a = answers roster past lawful stands in
     let same_roster = stands_roster roster old past stands in
     let rises : IsRoster roster = subst IsRoster same_roster sound.roster in
@@ -48,8 +52,28 @@ informs old t c X new rows ob bytes done sound known answers told roster past la
     let trace : Trace = with_event t c X past in
     let after : IsLawful roster trace = (lawful, (member, a.0)) in
     let same_info = info_before roster trace after rcvid in
-    let r = told.told place (get-below X place e so) e so in
-    let same : r.0 ≡ row = some_same r.0 row (sym r.1 ∙ at) in
-    let k = subst (λ (x : Row). TellsReceipt x new e) same r.2.message rcvid copied m in
+    let k = (row_at new X orows rows ob bytes done told place e row so at).message rcvid copied m in
     let said = k.said roster trace a.1 ∙ same_info ∙ held.is in
     same_info ∙ held.is ∙ ap Some (filled_same row held.info (held.count ∙ sym k.count) (subst (Fills row) said k.filled))
+
+pub restores : (old : State) (t : ℕ) (c : Call) (X : List Completion) (new : State) (orows rows : List Row) (ob bytes : List ℕ) (done : Done) → IsSound old → is_some (member_at (members_of old.threads) t) ≡ true
+    → AnswersAtTraces old t c X new → IsTold new X orows rows ob bytes done → OfEachRow (λ roster. Restores bytes) old t c X rows
+restores old t c X new orows rows ob bytes done sound known answers told roster past lawful stands place e row so at =
+    let a = answers roster past lawful stands in
+    let same_roster = stands_roster roster old past stands in
+    let member : is_some (member_at roster t) ≡ true = subst (λ r. is_some (member_at r t) ≡ true) same_roster known in
+    let properties = properties_of roster (with_event t c X past) (lawful, (member, a.0)) (subst IsRoster same_roster sound.roster) in
+    let k = (row_at new X orows rows ob bytes done told place e row so at).of in
+    let w = restored roster past t c X place e properties a.0 so in
+    let brought = brought_at (with_event t c X past) e.call in
+    let written : row.written ≡ laid_count ob (start_of X ob place) (told_bytes e) = k.written in
+    let cut : drop (length (told_bytes e)) e.buffer ≡ drop (length (told_bytes e)) brought = ap (drop (length (told_bytes e))) w.parts ∙ drop-append_seam (told_bytes e) _ in
+    let begins : (n : ℕ) → n ≤ length (told_bytes e) → take n e.buffer ≡ take n (told_bytes e) = λ n within. ap (take n) w.parts ∙ take-append-le n (told_bytes e) _ within in
+    record {
+      size = w.size ∙ ap (λ i. length (brought_at (with_event t c X past) i)) (sym k.call);
+      front = begins row.written (omega arith)
+          ∙ subst (λ n. take n (told_bytes e) ≡ take n (drop row.start bytes)) (sym written)
+          (sym (ap (λ i. take (laid_count ob (start_of X ob place) (told_bytes e)) (drop i bytes)) k.start ∙ told_in_room X ob place e so bytes told.bytes));
+      rest = subst (λ n. drop n e.buffer ≡ drop n (brought_at (with_event t c X past) row.call)) (sym k.length)
+          (subst (λ i. drop (length (told_bytes e)) e.buffer ≡ drop (length (told_bytes e)) (brought_at (with_event t c X past) i)) (sym k.call) cut);
+    }

@@ -2,8 +2,8 @@
 use Rattle.std.proofs.Common.{◌≡◌, ℕ, ◌+◌, ◌-◌, ◌<◌, ◌≤◌, min, List, [], ◌∷◌, ◌++◌, length, take, drop, get_or, refl, sym, ap, inl, inr, zero-add, ◌∙◌, subst, arith, zero, suc}
 use borrow.Author.Count.{below_more}
 use Rattle.std.proofs.Math.ListN.{set}
-use Rattle.std.proofs.Math.Seq.{take-append-add, take-append_seam, take-length}
-use Rattle.std.proofs.lemmas.List.{length-append, length-take, length-take-le, length-drop, take-append-le, append-nil, drop_all, take-append-drop}
+use Rattle.std.proofs.Math.Seq.{drop-append_seam, take-append-add, take-append_seam, take-length}
+use Rattle.std.proofs.lemmas.List.{append_assoc, drop-drop, drop-set-lt, length-append, length-take, length-take-le, length-drop, take-append-le, append-nil, drop_all, take-append-drop, take-take}
 use Rattle.std.proofs.lemmas.Bool.Decides.{leb_tells}
 use Rattle.std.proofs.lemmas.Grind.{flat_map-append}
 use Rattle.std.proofs.lemmas.Slice.{drop-append-drop}
@@ -92,19 +92,20 @@ lay_over-more b xs ys =
     ∙ ap (λ k. take (laid_count b 0 (xs ++ ys)) (xs ++ ys) ++ drop k b) (sym (zero-add (laid_count b 0 (xs ++ ys))))
 
 -- what is so of a part of the endings that is told
-pub record IsToldTo (s : State) (endings : List Completion) (rows : List Row) (old_bytes bytes : List ℕ) (count at : ℕ) : Type 0 where
+pub record IsToldTo (s : State) (endings : List Completion) (old_rows rows : List Row) (old_bytes bytes : List ℕ) (count at : ℕ) : Type 0 where
   pub told : (place : ℕ) → place < count → TellsAt s endings old_bytes rows place
+  pub rest : drop count rows ≡ drop count old_rows
   pub laid : bytes ≡ lay_over old_bytes 0 (buffers (take count endings))
   pub reached : at ≡ laid_count old_bytes 0 (buffers (take count endings))
   pub room : length bytes ≡ length old_bytes
 
 -- one ending more is told
-pub told-more : (s : State) (es : List Completion) (rows : List Row) (ob bs : List ℕ) (n at : ℕ) (e : Completion) (row : Row)
-    → IsToldTo s es rows ob bs n at → slice_get es n ≡ Some e → n < length rows
+pub told-more : (s : State) (es : List Completion) (orows rows : List Row) (ob bs : List ℕ) (n at : ℕ) (e : Completion) (row : Row)
+    → IsToldTo s es orows rows ob bs n at → slice_get es n ≡ Some e → n < length rows
     → Tells row s e at (laid_count bs at (told_bytes e))
     → length (lay_over bs at (told_bytes e)) ≡ length ob
-    → IsToldTo s es (set rows n row) ob (lay_over bs at (told_bytes e)) (n + 1) (at + laid_count bs at (told_bytes e))
-told-more s es rows ob bs n at e row is so h whole room =
+    → IsToldTo s es orows (set rows n row) ob (lay_over bs at (told_bytes e)) (n + 1) (at + laid_count bs at (told_bytes e))
+told-more s es orows rows ob bs n at e row is so h whole room =
     let before : List ℕ = buffers (take n es) in
     let grown : buffers (take (n + 1) es) ≡ before ++ told_bytes e = buffers-more es n e so in
     let same_room : laid_count bs at (told_bytes e) ≡ laid_count ob at (told_bytes e) = ap (λ z. min (length (told_bytes e)) (z - at)) is.room in
@@ -118,6 +119,7 @@ told-more s es rows ob bs n at e row is so h whole room =
                 (subst (λ (a : ℕ). Tells row s e a (laid_count ob a (told_bytes e))) is.reached
                 (subst (λ (w : ℕ). Tells row s e at w) same_room whole)),
           ));
+      rest = drop-set-lt (n + 1) rows n row (omega arith) ∙ sym (drop-drop 1 n rows) ∙ ap (λ rs. drop 1 rs) is.rest ∙ drop-drop 1 n orows;
       laid = ap (λ z. lay_over z at (told_bytes e)) is.laid ∙ ap (λ a. lay_over (lay_over ob 0 before) a (told_bytes e)) is.reached
           ∙ lay_over-more ob before (told_bytes e) ∙ ap (λ z. lay_over ob 0 z) (sym grown);
       reached = ap (λ w. at + w) same_room ∙ ap (λ a. a + laid_count ob a (told_bytes e)) is.reached
@@ -129,25 +131,56 @@ told-more s es rows ob bs n at e row is so h whole room =
 pub length-lay_over : (b : List ℕ) (at : ℕ) (d : List ℕ) → length (lay_over b at d) ≡ length b
 length-lay_over b at d = simp (length-append, length-take, length-drop) (omega arith)
 
+-- what is laid behind other bytes stands there, as far as there is room
+laid_behind : (b xs ys zs : List ℕ)
+    → take (laid_count b (laid_count b 0 xs) ys) (drop (laid_count b 0 xs) (lay_over b 0 (xs ++ (ys ++ zs)))) ≡ take (laid_count b (laid_count b 0 xs) ys) ys
+laid_behind b xs ys zs =
+    let s : ℕ = laid_count b 0 xs in
+    let w : ℕ = laid_count b s ys in
+    let c : List ℕ = lay_over b 0 xs in
+    let size : length c ≡ length b = length-lay_over b 0 xs in
+    let n : ℕ = laid_count c s (ys ++ zs) in
+    let more : length (ys ++ zs) ≡ length ys + length zs = length-append ys zs in
+    let front : length (take s c) ≡ s = length-take-le s c (omega (arith, size)) in
+    let laid : length (take n (ys ++ zs)) ≡ n = length-take-le n (ys ++ zs) (omega arith) in
+    let back : List ℕ = drop (s + n) c in
+    ap (λ z. take w (drop s z)) (sym (lay_over-more b xs (ys ++ zs)))
+    ∙ ap (λ z. take w (drop s z)) (append_assoc (take s c) (take n (ys ++ zs)) back)
+    ∙ ap (take w) (subst (λ (k : ℕ). drop k (take s c ++ (take n (ys ++ zs) ++ back)) ≡ take n (ys ++ zs) ++ back) front (drop-append_seam (take s c) (take n (ys ++ zs) ++ back)))
+    ∙ take-append-le w (take n (ys ++ zs)) back (omega (arith, size, more, laid))
+    ∙ take-take w n (ys ++ zs) (omega (arith, size, more))
+    ∙ take-append-le w ys zs (omega arith)
+
+-- the bytes of an ending stand at their place in the room
+pub told_in_room : (es : List Completion) (ob : List ℕ) (n : ℕ) (e : Completion) → slice_get es n ≡ Some e → (bytes : List ℕ) → bytes ≡ lay_over ob 0 (buffers es)
+    → take (laid_count ob (start_of es ob n) (told_bytes e)) (drop (start_of es ob n) bytes) ≡ take (laid_count ob (start_of es ob n) (told_bytes e)) (told_bytes e)
+told_in_room es ob n e so bytes laid =
+    let before : List ℕ = buffers (take n es) in
+    let behind : List ℕ = buffers (drop (n + 1) es) in
+    let all : buffers es ≡ before ++ (told_bytes e ++ behind) = ap (λ part. buffers part) (sym (take-append-drop (n + 1) es)) ∙ flat_map-append told_bytes (take (n + 1) es) (drop (n + 1) es)
+    ∙ ap (λ z. z ++ behind) (buffers-more es n e so) ∙ append_assoc before (told_bytes e) behind in
+    ap (λ z. take (laid_count ob (start_of es ob n) (told_bytes e)) (drop (start_of es ob n) z)) (laid ∙ ap (λ z. lay_over ob 0 z) all) ∙ laid_behind ob before (told_bytes e) behind
+
 -- the same, of what was written by these steps
-pub told-next : (s : State) (es : List Completion) (rows : List Row) (ob bs : List ℕ) (n at : ℕ) (e : Completion) (row : Row) (bytes slice : List ℕ) (count : ℕ)
+pub told-next : (s : State) (es : List Completion) (orows rows : List Row) (ob bs : List ℕ) (n at : ℕ) (e : Completion) (row : Row) (bytes slice : List ℕ) (count : ℕ)
     → slice ≡ told_bytes e → bytes ≡ lay_over bs at slice → count ≡ laid_count bs at slice
-    → IsToldTo s es rows ob bs n at → slice_get es n ≡ Some e → n < length rows → Tells row s e at count
-    → IsToldTo s es (set rows n row) ob bytes (n + 1) (at + count)
-told-next s es rows ob bs n at e row bytes slice count same laid counted is so h whole =
+    → IsToldTo s es orows rows ob bs n at → slice_get es n ≡ Some e → n < length rows → Tells row s e at count
+    → IsToldTo s es orows (set rows n row) ob bytes (n + 1) (at + count)
+told-next s es orows rows ob bs n at e row bytes slice count same laid counted is so h whole =
     let e1 : bytes ≡ lay_over bs at (told_bytes e) = laid ∙ ap (λ s. lay_over bs at s) same in
     let e2 : count ≡ laid_count bs at (told_bytes e) = counted ∙ ap (λ s. laid_count bs at s) same in
-    subst (λ (b : List ℕ). IsToldTo s es (set rows n row) ob b (n + 1) (at + count)) (sym e1)
-    (subst (λ (k : ℕ). IsToldTo s es (set rows n row) ob (lay_over bs at (told_bytes e)) (n + 1) (at + k)) (sym e2)
-    (told-more s es rows ob bs n at e row is so h (subst (λ (w : ℕ). Tells row s e at w) e2 whole) (length-lay_over bs at (told_bytes e) ∙ is.room)))
+    subst (λ (b : List ℕ). IsToldTo s es orows (set rows n row) ob b (n + 1) (at + count)) (sym e1)
+    (subst (λ (k : ℕ). IsToldTo s es orows (set rows n row) ob (lay_over bs at (told_bytes e)) (n + 1) (at + k)) (sym e2)
+    (told-more s es orows rows ob bs n at e row is so h (subst (λ (w : ℕ). Tells row s e at w) e2 whole) (length-lay_over bs at (told_bytes e) ∙ is.room)))
 
 -- all of it is told
-pub told-all : (s : State) (es : List Completion) (rows : List Row) (ob bytes : List ℕ) (n at : ℕ) (done : Done) → IsToldTo s es rows ob bytes n at → length es ≤ n
-    → done ≡ record { endings = length es; bytes = at; call = s.made } → IsTold s es rows ob bytes done
-told-all s es rows ob bytes n at done is e same =
-    let whole : take n es ≡ es = sym (append-nil (take n es)) ∙ ap (λ z. take n es ++ z) (sym (drop_all n es e)) ∙ take-append-drop n es in
+pub told-all : (s : State) (es : List Completion) (orows rows : List Row) (ob bytes : List ℕ) (n at : ℕ) (done : Done) → IsToldTo s es orows rows ob bytes n at → n ≡ length es
+    → done ≡ record { endings = length es; bytes = at; call = s.made } → IsTold s es orows rows ob bytes done
+told-all s es orows rows ob bytes n at done is e same =
+    let whole : take n es ≡ es = sym (append-nil (take n es)) ∙ ap (λ z. take n es ++ z) (sym (drop_all n es (omega arith))) ∙ take-append-drop n es in
     record {
       told = λ place below. is.told place (omega arith);
+      rest = subst (λ (k : ℕ). drop k rows ≡ drop k orows) e is.rest;
       bytes = is.laid ∙ ap (λ part. lay_over ob 0 (buffers part)) whole;
       count = ap (λ d. d.endings) same;
       written = ap (λ d. d.bytes) same ∙ is.reached ∙ ap (λ part. laid_count ob 0 (buffers part)) whole;

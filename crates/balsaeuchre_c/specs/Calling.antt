@@ -1,13 +1,16 @@
 -- The result of a call through C.
-use Rattle.std.specs.Prelude.{◌≡◌, ℕ, ◌<◌, true, is_some, List, ◌∷◌, slice_get, Some, ◌⊎◌}
+use Rattle.std.specs.Prelude.{◌≡◌, ℕ, ◌<◌, true, is_some, List, [], ◌∷◌, length, take, drop, slice_get, Some}
+use Rattle.std.specs.Prelude.{◌⊎◌}
+use Rattle.std.specs.Option.{option_map_or}
 use Rattle.qbase.specs.declared.errno.Errno.{Errno}
 use Rattle.qbase.specs.declared.errno.Errno.TheVariants.{Inval}
 use Rattle.qkernel.specs.Kernel.{IsSound, State}
 use Rattle.qkernel.specs.Stands.{AnswersAtTraces, DispatchError, StandsAt}
-use Rattle.qrules.specs.Facts.{Facts}
 use Rattle.qrules.specs.Lawful.{IsLawful, facts_of}
+use Rattle.qrules.specs.Rule.{buffer_of}
+use Rattle.qrules.specs.Rules.{effect_of}
 use Rattle.qrules.specs.Rules.Held.{info_of}
-use Rattle.qrules.specs.Trace.{Trace}
+use Rattle.qrules.specs.Trace.{call_at, Trace}
 use Rattle.qmodel.specs.declared.call.Call.{Call}
 use Rattle.qmodel.specs.declared.call.Completion.{Completion}
 use Rattle.qmodel.specs.declared.call.Mark.TheVariants as mark
@@ -22,19 +25,31 @@ use Rattle.balsaeuchre_c.specs.Requests.{call_of, IsRefusedAs}
 use Rattle.balsaeuchre_c.specs.Rows.{info_in}
 use Rattle.balsaeuchre_c.specs.Telling.{IsTold}
 
--- if the ending is the receipt of a message, the row has what an `Info` of the message would return by these
--- facts
-abbrev pub Informs : Facts → Completion → Row → Type 0
-Informs f e row = (rcvid copied : ℕ) → e.mark ≡ mark.Message rcvid copied
-    → info_of f rcvid ≡ Some (info_in row)
-
--- each row of an event does, at every lawful trace that the kernel may have made, followed by the event
-abbrev pub InformsAtTraces : State → ℕ → Call → List Completion → List Row → Type 0
-InformsAtTraces old t call endings rows =
+-- P holds of each ending of an event and its row, at every lawful trace that the kernel may have made,
+-- followed by the event
+abbrev pub OfEachRow : (List Member → Trace → Completion → Row → Type 0)
+    → State → ℕ → Call → List Completion → List Row → Type 0
+OfEachRow P old t call endings rows =
     (roster : List Member) (past : Trace) → IsLawful roster past → StandsAt roster old past
     → (place : ℕ) (e : Completion) (row : Row)
     → slice_get endings place ≡ Some e → slice_get rows place ≡ Some row
-    → Informs (facts_of roster (record { thread = t; call = call; endings = endings } ∷ past)) e row
+    → P roster (record { thread = t; call = call; endings = endings } ∷ past) e row
+
+-- if the ending is the receipt of a message, the row has what an `Info` of the message would return
+abbrev pub Informs : List Member → Trace → Completion → Row → Type 0
+Informs roster past e row = (rcvid copied : ℕ) → e.mark ≡ mark.Message rcvid copied
+    → info_of (facts_of roster past) rcvid ≡ Some (info_in row)
+
+-- the buffer that call i brought
+abbrev pub brought_at : Trace → ℕ → List ℕ
+brought_at past i = option_map_or (λ c. buffer_of (effect_of c)) (call_at past i) []
+
+-- the ending's buffer is as long as the one that its call brought; its first `written` bytes are in the room
+-- for bytes, from `start` on, and behind its first `length` bytes it is as its call brought it
+pub record Restores (bytes : List ℕ) (past : Trace) (e : Completion) (row : Row) : Type 0 where
+  pub size : length e.buffer ≡ length (brought_at past row.call)
+  pub front : take row.written e.buffer ≡ take row.written (drop row.start bytes)
+  pub rest : drop row.length e.buffer ≡ drop row.length (brought_at past row.call)
 
 -- the kernel made the very call that the request means, of a thread of its roster, and its endings are right
 -- at every lawful trace that the kernel may have made
@@ -46,14 +61,16 @@ pub record IsMade (old : Session) (r : Request) (sent room : List ℕ) (new : Se
   pub answers : AnswersAtTraces old.kernel r.thread call new.endings.items new.kernel
 
 -- the kernel made the very call that the request means, its endings are right at every lawful trace that the
--- kernel may have made, and they are written, with what `Info` would return of a received message
-pub record IsEvent (old : Session) (r : Request) (sent room : List ℕ) (new : Session) (rows : List Row)
-    (old_bytes bytes : List ℕ) (done : Done) : Type 0 where
+-- kernel may have made, and they are written, with what `Info` would return of a received message, and with
+-- all bytes of their buffers that may differ from those that their calls brought
+pub record IsEvent (old : Session) (r : Request) (sent room : List ℕ) (new : Session)
+    (old_rows rows : List Row) (old_bytes bytes : List ℕ) (done : Done) : Type 0 where
   pub call : Call
   pub meant : call_of r sent room ≡ Some call
   pub answers : AnswersAtTraces old.kernel r.thread call new.endings.items new.kernel
-  pub told : IsTold new.kernel new.endings.items rows old_bytes bytes done
-  pub informs : InformsAtTraces old.kernel r.thread call new.endings.items rows
+  pub told : IsTold new.kernel new.endings.items old_rows rows old_bytes bytes done
+  pub informs : OfEachRow Informs old.kernel r.thread call new.endings.items rows
+  pub restores : OfEachRow (λ roster. Restores bytes) old.kernel r.thread call new.endings.items rows
 
 -- the reason why a call is no event: there are fewer than 64 rows; or else the request means no call or there
 -- is no memory; or else the kernel makes no event of it

@@ -77,7 +77,7 @@ pub extern "C" fn balsaeuchre_make_call(
     bytes: &mut [u8],
     done: &mut Done,
 ) -> u32
-    ensures event { result ≡ 0 → IsEvent kernel.old.session request.now sent.now room.now kernel.new.session rows.new bytes.old bytes.new done.new }
+    ensures event { result ≡ 0 → IsEvent kernel.old.session request.now sent.now room.now kernel.new.session rows.old rows.new bytes.old bytes.new done.new }
     ensures refused { 1 ≤ result → (errno : Errno) × (numbered ERRNOS result ≡ Some errno) × CallError kernel.old.session request.now sent.now room.now (length rows.old) errno }
 
     // What is unchanged: all if the call is no event, and the roster.

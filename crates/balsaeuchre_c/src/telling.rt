@@ -48,7 +48,7 @@ fn told_front(ending: &Completion) -> &[u8]
 /// into the room for bytes, cut at its end.
 pub fn tell(kernel: &Kernel, endings: &[Completion], rows: &mut [Row], bytes: &mut [u8]) -> Done
     requires { length endings.now ≤ length rows.old }
-    ensures { IsTold kernel.now endings.now rows.new bytes.old bytes.new result }
+    ensures { IsTold kernel.now endings.now rows.old rows.new bytes.old bytes.new result }
 {
     let mut start = 0;
     for (place, ending) in endings.iter().enumerate() {

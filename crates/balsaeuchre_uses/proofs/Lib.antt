@@ -1,2 +1,3 @@
 mod RunLemmas
 mod Lawful
+mod Told

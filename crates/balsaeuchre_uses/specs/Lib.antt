@@ -4,3 +4,4 @@ pub mod ThreeThreads
 pub mod ShutDown
 pub mod Carried
 pub mod Timeout
+pub mod Answered

@@ -1,6 +1,7 @@
 //! Examples of the kernel as a library, each on one page. The program runs all of them, and prints how the calls ended.
 #![tactic(auto)]
 
+mod answered;
 mod carried;
 mod driver;
 mod first_message;
@@ -60,6 +61,9 @@ fn main(rt: HostRuntime) -> Result<(), Fail> {
     let values = [7, -2, 30];
     driver::with_a_driver(&rt, alloc, &values)?;
     println!(rt; "driver\n  {} values", values.len())?;
+    let (answer, state) = answered::told_of_an_answer(&rt, alloc)?;
+    let bytes = answer.bytes();
+    println!(rt; "told of an answer\n  {bytes:?} {state:?}")?;
     println!(rt; "kept waiting")?;
     for reply in &kept_waiting::kept_waiting(alloc)? {
         show_reply(&rt, reply)?;

@@ -16,7 +16,7 @@ use std::thread::{Threads, join};
 pub const MESSAGES: [&[u8]; 3] = [b"one", b"two", b"three"];
 
 /// Answers each message with its own bytes, until the client has detached.
-fn serve<E: Endpoint, R: Wait>(server: &mut Caller<E, R>, chid: ChannelId) -> Result<()> {
+pub fn serve<E: Endpoint, R: Wait>(server: &mut Caller<E, R>, chid: ChannelId) -> Result<()> {
     let mut received = server.msg_receive(chid, 8)?;
     for _ in server.rt().forever() {
         let Received::Message(request) = received else {

@@ -1,6 +1,6 @@
 -- The endings that are kept: the first of a thread, and the list without it.
-use Rattle.std.proofs.Common.{◌≡◌, ◌∙◌, ℕ, suc, zero, ◌+◌, ◌<◌, List, [], ◌∷◌, ◌++◌, length, take, drop, get_or, refl, ap, sym, cond, arith, true, false, eqb}
-use Rattle.std.specs.Prelude.{Bool, None, Some, is_some, position, slice_get}
+use Rattle.std.proofs.Common.{◌≡◌, ◌∙◌, ℕ, suc, ◌+◌, ◌<◌, List, [], ◌∷◌, ◌++◌, length, take, drop, get_or, refl, ap, sym, cond, arith, true, false, eqb}
+use Rattle.std.specs.Prelude.{None, Some, is_some, position}
 use Rattle.std.specs.List.{position_from}
 use Rattle.std.proofs.lemmas.Iterator.Adapters.{position_from-zero}
 use Rattle.std.proofs.lemmas.Option.{same_Some, none-some}

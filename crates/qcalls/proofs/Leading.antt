@@ -1,5 +1,5 @@
 -- What an answer to a call, or to two calls in turn, leads to.
-use Rattle.std.proofs.Common.{◌≡◌, ◌∙◌, ap, sym, refl, Bool, true, false, List, [], ◌∷◌, ◌++◌, Result, Ok, Err, if◌then◌else◌}
+use Rattle.std.proofs.Common.{◌≡◌, ◌∙◌, ap, sym, refl, true, false, List, [], ◌∷◌, ◌++◌, Result, Ok, Err, if◌then◌else◌}
 use Rattle.std.specs.Prelude.{⊤}
 use Rattle.std.proofs.lemmas.List.{append-nil, append_assoc}
 use Rattle.qmodel.specs.declared.call.Call.{Call}
@@ -43,6 +43,12 @@ leads_makes call called.Blocked {before} {between} {after} {result} was (x, took
       comes = rw (said ∙ was.told) (kept ∙ was.asked, (x, took ∙ ap (λ l. l ++ x ∷ []) (was.taken ∙ append-nil before.taken), is));
       idle = λ idle. none;
     }
+
+-- what was answered stays so until the ending is there
+pub leads_told : (answer : Called) (before after : History) (result : Result Ending CallError) → Leads answer before after result → after.told ≡ before.told
+leads_told (called.Refused errno given) before after result l = ap (λ h. h.told) l.0
+leads_told (called.Done x) before after result l = ap (λ h. h.told) l.0
+leads_told called.Blocked before after result l = l.4
 
 -- an ending with the mark `Ok` is that of a call that did what it says
 done_of_ok : (m : Mark) (buffer : List _) → is_ok m ≡ true → Ok tt ≡ done_in false m buffer

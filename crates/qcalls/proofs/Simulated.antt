@@ -1,5 +1,5 @@
 -- A result that is read off the event of a call in one thread.
-use Rattle.std.proofs.Common.{◌≡◌, ◌∙◌, ◌⊎◌, inl, inr, ℕ, ap, sym, refl, subst, cond, true, false, Result, Ok, Err}
+use Rattle.std.proofs.Common.{◌≡◌, ◌∙◌, inl, inr, ℕ, ap, sym, refl, subst, cond, true, false, Result, Ok, Err}
 use Rattle.std.specs.Prelude.{Option, None, Some, List, Bool, is_some, nat_lt, ◌^◌}
 use Rattle.std.proofs.lemmas.Option.{none-some}
 use Rattle.qbase.specs.declared.errno.Errno.TheVariants as errno

@@ -3,5 +3,7 @@ pub mod Errors
 pub mod Results
 pub mod Making
 pub mod Closing
+pub mod Coming
 pub mod Polling
 pub mod Simulating
+pub mod Timing

@@ -6,7 +6,7 @@ use Rattle.qcalls.specs.History.{History}
 use Rattle.qcalls.specs.Making.{Comes}
 use Rattle.qcalls.specs.Results.{Reading}
 use Rattle.qcalls.specs.declared.endpoint.Told.{Told}
-use Rattle.qcalls.specs.declared.endpoint.Told.TheVariants.{Done, Blocked, Refused}
+use Rattle.qcalls.specs.declared.endpoint.Told.TheVariants.{Blocked}
 use Rattle.qcalls.specs.declared.error.CallError.{CallError}
 use Rattle.qcalls.specs.declared.error.CallError.TheVariants.{NoMemory}
 

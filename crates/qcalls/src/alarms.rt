@@ -1,5 +1,8 @@
 //! Alarms: the times until which the calls of a process's threads may wait.
 
+ghost use Rattle.std.specs.Prelude.{◌≡◌, ◌⊎◌, IfErr};
+ghost use Rattle.qcalls.specs.declared.error.CallError.TheVariants as error;
+
 use crate::error::CallError;
 use qbase::ids::ThreadNo;
 use std::alloc::Global;
@@ -54,7 +57,9 @@ impl Alarms {
         rt: &R,
         thread: ThreadNo,
         time: Duration,
-    ) -> Result<(), CallError> {
+    ) -> Result<(), CallError>
+        ensures { IfErr result (λ e. (e ≡ error.NoClock) ⊎ (e ≡ error.NoMemory)) }
+    {
         let now = Instant::now(rt).or(Err(CallError::NoClock))?;
         let at = now.checked_add(time).ok_or(CallError::NoClock)?;
         let alarm = Alarm {

@@ -1,7 +1,8 @@
 //! A thread that makes calls.
 
-ghost use Rattle.std.specs.Prelude.{◌≡◌, false, true};
+ghost use Rattle.std.specs.Prelude.{◌≡◌, ⊤, false, true, MatchResult};
 ghost use Rattle.qshared.specs.Counting.{pends};
+ghost use Rattle.qcalls.specs.Coming.{ComesOf, ComesOfBoth, ShutsDown};
 ghost use Rattle.qcalls.specs.Making.{Leads, Makes, MakesBoth, ending_in};
 
 use crate::ending::Ending;
@@ -65,6 +66,7 @@ impl<'a, E: Endpoint, R: Wait> Caller<'a, E, R> {
         work: F,
     ) -> Result<T, X>
         requires { F.IsAlwaysCallable work }
+        ensures { MatchResult result (λ _. ⊤) (λ _. (e : _) × ShutsDown (λ e. E.history e) E.came e (E.history self.new.endpoint) (E.seen self.new.endpoint)) }
     {
         let done = work(self);
         self.or_shutdown(done)
@@ -73,7 +75,8 @@ impl<'a, E: Endpoint, R: Wait> Caller<'a, E, R> {
     /// Returns the ending of a call that had this answer, and waits for it if the call is blocked.
     fn ending_of(&mut self, called: Called) -> Result<Ending, CallError>
         requires { pends called false ≡ true → (E.history self.old.endpoint).pending ≡ true }
-        ensures { Leads called (E.history self.old.endpoint) (E.history self.new.endpoint) result }
+        ensures leads { Leads called (E.history self.old.endpoint) (E.history self.new.endpoint) result }
+        ensures seen { E.seen self.new.endpoint ≡ E.seen self.old.endpoint }
     {
         let (waited, completion) = match called {
             Called::Done(completion) => (false, completion),
@@ -90,7 +93,8 @@ impl<'a, E: Endpoint, R: Wait> Caller<'a, E, R> {
 
     /// Makes a call, and waits for its ending.
     pub(crate) fn make(&mut self, call: Call) -> Result<Ending, CallError>
-        ensures { Makes ending_in call (E.history self.old.endpoint) (E.history self.new.endpoint) result }
+        ensures makes { Makes ending_in call (E.history self.old.endpoint) (E.history self.new.endpoint) result }
+        ensures came { ComesOf E.came self.old.endpoint call (E.seen self.new.endpoint) (E.history self.new.endpoint).told }
     {
         let called = self.endpoint.call(self.rt, call);
         self.ending_of(called)
@@ -99,7 +103,8 @@ impl<'a, E: Endpoint, R: Wait> Caller<'a, E, R> {
     /// Makes two calls in turn, and waits for the ending of the second. The second is made only if the first succeeded;
     /// else the first's error is returned.
     pub(crate) fn make_both(&mut self, first: Call, second: Call) -> Result<Ending, CallError>
-        ensures { MakesBoth ending_in first second (E.history self.old.endpoint) (E.history self.new.endpoint) result }
+        ensures makes { MakesBoth ending_in first second (E.history self.old.endpoint) (E.history self.new.endpoint) result }
+        ensures came { ComesOfBoth (λ e. E.seen e) E.came E.came_both self.old.endpoint first second (E.seen self.new.endpoint) (E.history self.new.endpoint).told }
     {
         match self.endpoint.call_both(self.rt, first, second) {
             CalledBoth::Both(_, called) => self.ending_of(called),

@@ -1,5 +1,6 @@
 //! Channels and connections.
 
+ghost use Rattle.qcalls.specs.Coming.{ComesOf};
 ghost use Rattle.qcalls.specs.Making.{Makes};
 ghost use Rattle.qcalls.specs.Results.{channel_in, connection_in, done_in};
 
@@ -15,7 +16,8 @@ impl<'a, E: Endpoint, R: Wait> Caller<'a, E, R> {
     /// Creates a channel that the caller's process owns (`ChannelCreate`). Refused with `Inval` if a flag is unknown,
     /// and `Again` at 64 open channels.
     pub fn channel_create(&mut self, flags: ChannelFlags) -> Result<ChannelId, CallError>
-        ensures { Makes channel_in (Call.ChannelCreate flags) (E.history self.old.endpoint) (E.history self.new.endpoint) result }
+        ensures makes { Makes channel_in (Call.ChannelCreate flags) (E.history self.old.endpoint) (E.history self.new.endpoint) result }
+        ensures came { ComesOf E.came self.old.endpoint (Call.ChannelCreate flags) (E.seen self.new.endpoint) (E.history self.new.endpoint).told }
     {
         self.make(Call::ChannelCreate(flags))?.channel()
     }
@@ -23,7 +25,8 @@ impl<'a, E: Endpoint, R: Wait> Caller<'a, E, R> {
     /// Destroys a channel of the caller's process, and cuts each call that is blocked on it (`ChannelDestroy`). Refused
     /// with `Inval` if the channel isn't open or is another process's.
     pub fn channel_destroy(&mut self, chid: ChannelId) -> Result<(), CallError>
-        ensures { Makes done_in (Call.ChannelDestroy chid) (E.history self.old.endpoint) (E.history self.new.endpoint) result }
+        ensures makes { Makes done_in (Call.ChannelDestroy chid) (E.history self.old.endpoint) (E.history self.new.endpoint) result }
+        ensures came { ComesOf E.came self.old.endpoint (Call.ChannelDestroy chid) (E.seen self.new.endpoint) (E.history self.new.endpoint).told }
     {
         self.make(Call::ChannelDestroy(chid))?.done()
     }
@@ -31,7 +34,8 @@ impl<'a, E: Endpoint, R: Wait> Caller<'a, E, R> {
     /// Attaches the caller's process to a channel of any process (`ConnectAttach`). Refused with `Srch` if the channel
     /// isn't open, and `Again` at 1,024 connections.
     pub fn connect_attach(&mut self, chid: ChannelId) -> Result<ConnectionId, CallError>
-        ensures { Makes connection_in (Call.ConnectAttach chid) (E.history self.old.endpoint) (E.history self.new.endpoint) result }
+        ensures makes { Makes connection_in (Call.ConnectAttach chid) (E.history self.old.endpoint) (E.history self.new.endpoint) result }
+        ensures came { ComesOf E.came self.old.endpoint (Call.ConnectAttach chid) (E.seen self.new.endpoint) (E.history self.new.endpoint).told }
     {
         self.make(Call::ConnectAttach(chid))?.connection()
     }
@@ -40,7 +44,8 @@ impl<'a, E: Endpoint, R: Wait> Caller<'a, E, R> {
     /// `Inval` if the connection isn't live or is another process's, and `Again` if a pulse is due and 1,024 pulses
     /// wait on the channel.
     pub fn connect_detach(&mut self, coid: ConnectionId) -> Result<(), CallError>
-        ensures { Makes done_in (Call.ConnectDetach coid) (E.history self.old.endpoint) (E.history self.new.endpoint) result }
+        ensures makes { Makes done_in (Call.ConnectDetach coid) (E.history self.old.endpoint) (E.history self.new.endpoint) result }
+        ensures came { ComesOf E.came self.old.endpoint (Call.ConnectDetach coid) (E.seen self.new.endpoint) (E.history self.new.endpoint).told }
     {
         self.make(Call::ConnectDetach(coid))?.done()
     }

@@ -2,8 +2,13 @@
 
 ghost use Rattle.std.specs.Prelude.{◌≡◌, ◌++◌, [], ◌∷◌, Bool, true, false, MatchOption, if◌then◌else◌};
 ghost use Rattle.qhandoff.specs.Words.{taken};
+ghost use Rattle.qpast.specs.History.{Extends};
 ghost use Rattle.qshared.specs.Counting.{is_call, gives, pends};
 ghost use Rattle.qshared.specs.TwoCalls.{asked_by, gives_both, pends_both};
+ghost use Rattle.qmodel.specs.declared.call.Call.{Call as Asking};
+ghost use Rattle.qshared.specs.declared.port.Called.{Called as Answer};
+ghost use Rattle.qshared.specs.declared.port.CalledBoth.{CalledBoth as Answers};
+ghost use Rattle.qrules.specs.Trace.{Trace};
 ghost use Rattle.qcalls.specs.History.{History, IsInTurn, told_by, told_by_both};
 
 use qbase::errno::Errno;
@@ -11,6 +16,7 @@ use qbase::ids::ThreadNo;
 use qmodel::call::{Call, Completion};
 use qshared::log::Log;
 use qshared::port::{Called, CalledBoth, Port};
+use qshared::seen::Seen;
 use qshared::shared::Shared;
 use qshared::tie::Tie;
 use std::sync::Wait;
@@ -31,6 +37,15 @@ pub trait Endpoint {
     /// The calls that it asked for, the endings that it took, whether a call is pending, and what it answered last.
     ghost history: { Self → History };
 
+    /// What it saw of the past.
+    ghost seen: { Self → Trace };
+
+    /// What its answer to a call says, given the endpoint before the call and what it saw after it.
+    ghost came: { Self → Asking → Answer → Trace → Type 0 };
+
+    /// What its answer to two calls says.
+    ghost came_both: { Self → Asking → Asking → Answers → Trace → Type 0 };
+
     /// Returns the thread that it belongs to.
     fn thread(&self) -> ThreadNo;
 
@@ -39,7 +54,8 @@ pub trait Endpoint {
         ensures asked { (history self.new).asked ≡ (history self.old).asked ++ (if is_call result then call ∷ [] else []) }
         ensures taken { (history self.new).taken ≡ (history self.old).taken ++ gives result }
         ensures pending { (history self.new).pending ≡ pends result (history self.old).pending }
-        ensures told { (history self.new).told ≡ told_by result };
+        ensures told { (history self.new).told ≡ told_by result }
+        ensures came { came self.old call result (seen self.new) };
 
     /// Makes two calls in turn: the second only if the first ends in its own event with the mark `Ok`. A port takes the
     /// lock once for both.
@@ -48,20 +64,21 @@ pub trait Endpoint {
         ensures taken { (history self.new).taken ≡ (history self.old).taken ++ gives_both result }
         ensures pending { (history self.new).pending ≡ pends_both result (history self.old).pending }
         ensures told { (history self.new).told ≡ told_by_both result }
-        ensures turn { IsInTurn second result };
+        ensures turn { IsInTurn second result }
+        ensures came { came_both self.old first second result (seen self.new) };
 
     /// Takes the ending of the blocked call if it has arrived. It never waits.
     fn poll(&mut self) -> Option<Completion>
         ensures taken { MatchOption result ((history self.new).taken ≡ (history self.old).taken) (λ x. (history self.new).taken ≡ (history self.old).taken ++ x ∷ []) }
         ensures pending { MatchOption result ((history self.new).pending ≡ (history self.old).pending) (λ x. (history self.new).pending ≡ false) }
-        ensures same { ((history self.new).asked ≡ (history self.old).asked) × ((history self.new).told ≡ (history self.old).told) };
+        ensures same { ((history self.new).asked ≡ (history self.old).asked) × ((history self.new).told ≡ (history self.old).told) × (seen self.new ≡ seen self.old) };
 
     /// Waits for the ending of the blocked call, and takes it.
     fn wait<R: Wait>(&mut self, rt: &R) -> Completion
         requires { (history self.old).pending ≡ true }
         ensures taken { (history self.new).taken ≡ (history self.old).taken ++ result ∷ [] }
         ensures pending { (history self.new).pending ≡ false }
-        ensures same { ((history self.new).asked ≡ (history self.old).asked) × ((history self.new).told ≡ (history self.old).told) };
+        ensures same { ((history self.new).asked ≡ (history self.old).asked) × ((history self.new).told ≡ (history self.old).told) × (seen self.new ≡ seen self.old) };
 }
 
 /// A port with its shared kernel.
@@ -92,6 +109,22 @@ impl<'a, K: Tie, L: Log> KernelPort<'a, K, L> {
         port
     }
 
+    /// Returns what the port saw of the past.
+    pub(crate) fn seen(&self) -> Seen<K>
+        ensures { result ≡ self.now.port.seen.trace }
+    {
+        self.port.seen()
+    }
+
+    /// Learns what another port of the kernel saw.
+    pub(crate) fn learn(&mut self, other: &Seen<K>)
+        ensures own { Extends self.new.port.seen.trace self.old.port.seen.trace }
+        ensures others { Extends self.new.port.seen.trace other.entry.now }
+        ensures same { (self.new.port.thread ≡ self.old.port.thread) × (self.new.port.asked ≡ self.old.port.asked) × (self.new.port.seat ≡ self.old.port.seat) × (self.new.port.turn.pending ≡ self.old.port.turn.pending) × (self.new.port.last ≡ self.old.port.last) × (self.new.told ≡ self.old.told) }
+    {
+        self.port.learn(other);
+    }
+
     /// Returns what the port answered the last call; `Done` before the first call.
     pub fn told(&self) -> Told
         ensures { result ≡ self.now.told }
@@ -112,7 +145,17 @@ pub fn told_by(called: &Called) -> Told
 }
 
 impl<'a, K: Tie, L: Log> Endpoint for KernelPort<'a, K, L> {
-    ghost history = { λ p. record { asked = p.port.asked.calls; taken = taken p.port.seat; pending = p.port.pending; told = p.told } };
+    ghost use Rattle.qshared.specs.Answered.{Answered, AtPast};
+    ghost use Rattle.qshared.specs.Due.{collected};
+    ghost use Rattle.qshared.specs.TwoCalls.{AnsweredBoth};
+
+    ghost history = { λ p. record { asked = p.port.asked.calls; taken = collected p.port.last.trace p.port.thread (taken p.port.seat); pending = p.port.turn.pending; told = p.told } };
+
+    ghost seen = { λ p. p.port.seen.trace };
+
+    ghost came = { λ p c a after. AtPast K.names.roster p.port.thread p.port.asked.calls p.port.seen.trace (λ past. Answered K.names.roster L.refuses L.admits p.port.thread c a past after) };
+
+    ghost came_both = { λ p c d a after. AtPast K.names.roster p.port.thread p.port.asked.calls p.port.seen.trace (λ past. AnsweredBoth K.names.roster L.refuses L.admits p.port.thread c d a past after) };
 
     fn thread(&self) -> ThreadNo {
         self.port.thread()

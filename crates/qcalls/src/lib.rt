@@ -13,6 +13,7 @@ mod polling;
 mod pulses;
 mod reply_receive;
 pub mod results;
+mod seen;
 pub mod simulator;
 mod threads;
 mod timekeeper;

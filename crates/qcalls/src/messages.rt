@@ -1,6 +1,7 @@
 //! Messages: sending, receiving and answering them.
 
 ghost use Rattle.std.specs.Prelude.{replicate};
+ghost use Rattle.qcalls.specs.Coming.{ComesOf, ComesOfBytes};
 ghost use Rattle.qcalls.specs.Making.{Makes, MakesOfBytes};
 ghost use Rattle.qcalls.specs.Results.{answer_in, bytes_in, count_in, done_in, info_in, received_in};
 
@@ -22,7 +23,8 @@ impl<'a, E: Endpoint, R: Wait> Caller<'a, E, R> {
         message: &[u8],
         reply_len: usize,
     ) -> Result<Answer, CallError>
-        ensures { MakesOfBytes answer_in (Call.Send coid message.now (replicate reply_len 0)) (E.history self.old.endpoint) (E.history self.new.endpoint) result }
+        ensures makes { MakesOfBytes answer_in (Call.Send coid message.now (replicate reply_len 0)) (E.history self.old.endpoint) (E.history self.new.endpoint) result }
+        ensures came { ComesOfBytes E.came self.old.endpoint (Call.Send coid message.now (replicate reply_len 0)) (E.seen self.old.endpoint) (E.seen self.new.endpoint) (E.history self.new.endpoint).told result }
     {
         let message = Bytes::copied(self.alloc, message)?;
         let reply_buffer = Bytes::filled(self.alloc, 0, reply_len)?;
@@ -37,7 +39,8 @@ impl<'a, E: Endpoint, R: Wait> Caller<'a, E, R> {
     /// Takes a message, into a buffer of `len` bytes, or a pulse of a channel, and waits for one if there is none
     /// (`MsgReceive`). Refused with `Srch` if the channel isn't open or is another process's.
     pub fn msg_receive(&mut self, chid: ChannelId, len: usize) -> Result<Received, CallError>
-        ensures { MakesOfBytes received_in (Call.Receive chid (replicate len 0)) (E.history self.old.endpoint) (E.history self.new.endpoint) result }
+        ensures makes { MakesOfBytes received_in (Call.Receive chid (replicate len 0)) (E.history self.old.endpoint) (E.history self.new.endpoint) result }
+        ensures came { ComesOfBytes E.came self.old.endpoint (Call.Receive chid (replicate len 0)) (E.seen self.old.endpoint) (E.seen self.new.endpoint) (E.history self.new.endpoint).told result }
     {
         let buffer = Bytes::filled(self.alloc, 0, len)?;
         self.make(Call::Receive { chid, buffer })?.received()
@@ -51,7 +54,8 @@ impl<'a, E: Endpoint, R: Wait> Caller<'a, E, R> {
         status: i64,
         bytes: &[u8],
     ) -> Result<(), CallError>
-        ensures { MakesOfBytes done_in (Call.Reply rcvid status bytes.now) (E.history self.old.endpoint) (E.history self.new.endpoint) result }
+        ensures makes { MakesOfBytes done_in (Call.Reply rcvid status bytes.now) (E.history self.old.endpoint) (E.history self.new.endpoint) result }
+        ensures came { ComesOfBytes E.came self.old.endpoint (Call.Reply rcvid status bytes.now) (E.seen self.old.endpoint) (E.seen self.new.endpoint) (E.history self.new.endpoint).told result }
     {
         let bytes = Bytes::copied(self.alloc, bytes)?;
         let reply = Call::Reply {
@@ -65,7 +69,8 @@ impl<'a, E: Endpoint, R: Wait> Caller<'a, E, R> {
     /// Answers a held message with a code and no bytes; the code 0 is a reply of status 0 (`MsgError`). Refused as
     /// `msg_reply` is.
     pub fn msg_error(&mut self, rcvid: ReceiveId, code: i32) -> Result<(), CallError>
-        ensures { Makes done_in (Call.Error rcvid code) (E.history self.old.endpoint) (E.history self.new.endpoint) result }
+        ensures makes { Makes done_in (Call.Error rcvid code) (E.history self.old.endpoint) (E.history self.new.endpoint) result }
+        ensures came { ComesOf E.came self.old.endpoint (Call.Error rcvid code) (E.seen self.new.endpoint) (E.history self.new.endpoint).told }
     {
         self.make(Call::Error { rcvid, code })?.done()
     }
@@ -77,7 +82,8 @@ impl<'a, E: Endpoint, R: Wait> Caller<'a, E, R> {
         offset: usize,
         len: usize,
     ) -> Result<Bytes, CallError>
-        ensures { MakesOfBytes bytes_in (Call.Read rcvid offset (replicate len 0)) (E.history self.old.endpoint) (E.history self.new.endpoint) result }
+        ensures makes { MakesOfBytes bytes_in (Call.Read rcvid offset (replicate len 0)) (E.history self.old.endpoint) (E.history self.new.endpoint) result }
+        ensures came { ComesOfBytes E.came self.old.endpoint (Call.Read rcvid offset (replicate len 0)) (E.seen self.old.endpoint) (E.seen self.new.endpoint) (E.history self.new.endpoint).told result }
     {
         let buffer = Bytes::filled(self.alloc, 0, len)?;
         let read = Call::Read {
@@ -96,7 +102,8 @@ impl<'a, E: Endpoint, R: Wait> Caller<'a, E, R> {
         offset: usize,
         bytes: &[u8],
     ) -> Result<usize, CallError>
-        ensures { MakesOfBytes count_in (Call.Write rcvid offset bytes.now) (E.history self.old.endpoint) (E.history self.new.endpoint) result }
+        ensures makes { MakesOfBytes count_in (Call.Write rcvid offset bytes.now) (E.history self.old.endpoint) (E.history self.new.endpoint) result }
+        ensures came { ComesOfBytes E.came self.old.endpoint (Call.Write rcvid offset bytes.now) (E.seen self.old.endpoint) (E.seen self.new.endpoint) (E.history self.new.endpoint).told result }
     {
         let bytes = Bytes::copied(self.alloc, bytes)?;
         let write = Call::Write {
@@ -110,7 +117,8 @@ impl<'a, E: Endpoint, R: Wait> Caller<'a, E, R> {
     /// Returns the data of a held message: its sender, its connection, and its lengths in bytes (`MsgInfo`). Refused as
     /// `msg_reply` is.
     pub fn msg_info(&mut self, rcvid: ReceiveId) -> Result<Info, CallError>
-        ensures { Makes info_in (Call.Info rcvid) (E.history self.old.endpoint) (E.history self.new.endpoint) result }
+        ensures makes { Makes info_in (Call.Info rcvid) (E.history self.old.endpoint) (E.history self.new.endpoint) result }
+        ensures came { ComesOf E.came self.old.endpoint (Call.Info rcvid) (E.seen self.new.endpoint) (E.history self.new.endpoint).told }
     {
         self.make(Call::Info(rcvid))?.info()
     }

@@ -1,7 +1,13 @@
 //! Making callers of the ports of a shared kernel, and closing the kernel.
 
-ghost use Rattle.std.specs.Prelude.{◌≡◌, IfOk};
-ghost use Rattle.qcalls.specs.Closing.{IsPast};
+ghost use Rattle.std.specs.Prelude.{◌≡◌, ◌≤◌, [], ◌∷◌, IfErr, IfOk, length, map, sum};
+ghost use Rattle.qrules.specs.Trace.{followed_by};
+ghost use Rattle.qshared.specs.Asking.{AreCallsOf};
+ghost use Rattle.qhandoff.specs.Words.{taken};
+ghost use Rattle.qshared.specs.Due.{collected};
+ghost use Rattle.qshared.specs.Past.{AreSeen};
+ghost use Rattle.qcalls.specs.Closing.{IsDue, IsPast};
+ghost use Rattle.qcalls.specs.declared.error.CallError.TheVariants as error;
 
 use crate::caller::Caller;
 use crate::endpoint::KernelPort;
@@ -45,7 +51,9 @@ pub fn two_callers<'a, 'p, K: Tie, L: Log, R: Wait>(
     shared: &'p Shared<K, L>,
     rt: &'a R,
     alloc: Global,
-) -> Result<(PortCaller<'a, 'p, K, L, R>, PortCaller<'a, 'p, K, L, R>), CallError> {
+) -> Result<(PortCaller<'a, 'p, K, L, R>, PortCaller<'a, 'p, K, L, R>), CallError>
+    ensures { IfOk result (λ r. ports.items ≡ r.0.endpoint.port ∷ r.1.endpoint.port ∷ []) }
+{
     let (Some(second), Some(first), None) = (ports.pop(), ports.pop(), ports.pop()) else {
         return Err(CallError::Unexpected);
     };
@@ -55,10 +63,32 @@ pub fn two_callers<'a, 'p, K: Tie, L: Log, R: Wait>(
     ))
 }
 
+/// Makes the callers of a kernel of any number of threads, in rising thread number. `NoMemory` is the only error.
+pub fn callers<'a, 'p, K: Tie, L: Log, R: Wait>(
+    ports: Vec<Port<K>>,
+    shared: &'p Shared<K, L>,
+    rt: &'a R,
+    alloc: Global,
+) -> Result<Vec<PortCaller<'a, 'p, K, L, R>>, CallError>
+    ensures ports { IfOk result (λ callers. map (λ c. c.endpoint.port) callers.items ≡ ports.items) }
+    ensures error { IfErr result (λ e. e ≡ error.NoMemory) }
+{
+    let mut callers = Vec::with_capacity(alloc, ports.len())?;
+    for port in ports {
+        callers.push_reserved(Caller::of(port, shared, rt, alloc));
+    }
+    Ok(callers)
+}
+
 /// Closes a kernel that keeps its past, and returns its past. `Unexpected` if these aren't all its ports, in rising
 /// thread number.
 pub fn close<K: Tie>(shared: Shared<K, Kept<K>>, ports: Vec<Port<K>>) -> Result<Trace, CallError>
-    ensures { IfOk result (λ trace. IsPast K.names.roster trace) }
+    ensures past { IfOk result (λ trace. IsPast K.names.roster trace) }
+    ensures within { IfOk result (λ trace. length trace.events ≤ K.names.limit) }
+    ensures sum { IfOk result (λ trace. sum (map (λ p. p.calls) ports.items) ≡ length trace.events) }
+    ensures asked { IfOk result (λ trace. AreCallsOf K.names.roster (map (λ p. p.asked.calls) ports.items) (followed_by [] trace.events)) }
+    ensures seen { IfOk result (λ trace. AreSeen (followed_by [] trace.events) (map (λ p. p.seen.trace) ports.items)) }
+    ensures due { IfOk result (λ trace. IsDue K.names.roster (map (λ p. collected p.last.trace p.thread (taken p.seat)) ports.items) (followed_by [] trace.events)) }
 {
     if !shared.all(ports.as_slice()) {
         return Err(CallError::Unexpected);

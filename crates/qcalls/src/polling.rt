@@ -1,6 +1,7 @@
 //! A receive that is polled, for a thread that must not wait.
 
 ghost use Rattle.std.specs.Prelude.{◌≡◌, replicate};
+ghost use Rattle.qcalls.specs.Coming.{ComesOfBytes};
 ghost use Rattle.qcalls.specs.Polling.{Polls, StartsOfBytes, option_in};
 ghost use Rattle.qcalls.specs.Results.{received_in};
 
@@ -24,7 +25,8 @@ impl<'a, E: Endpoint, R: Wait> Caller<'a, E, R> {
         chid: ChannelId,
         len: usize,
     ) -> Result<Option<Received>, CallError>
-        ensures { StartsOfBytes received_in (Call.Receive chid (replicate len 0)) (E.history self.old.endpoint) (E.history self.new.endpoint) result }
+        ensures starts { StartsOfBytes received_in (Call.Receive chid (replicate len 0)) (E.history self.old.endpoint) (E.history self.new.endpoint) result }
+        ensures came { ComesOfBytes E.came self.old.endpoint (Call.Receive chid (replicate len 0)) (E.seen self.old.endpoint) (E.seen self.new.endpoint) (E.history self.new.endpoint).told result }
     {
         let buffer = Bytes::filled(self.alloc, 0, len)?;
         match self.endpoint.call(self.rt, Call::Receive { chid, buffer }) {
@@ -37,7 +39,8 @@ impl<'a, E: Endpoint, R: Wait> Caller<'a, E, R> {
     /// Returns the message or pulse of the receive that was started, if one has arrived. It never waits, and always
     /// returns `None` if no receive was started.
     pub fn msg_receive_poll(&mut self) -> Result<Option<Received>, CallError>
-        ensures { Polls received_in (E.history self.old.endpoint) (E.history self.new.endpoint) result }
+        ensures polls { Polls received_in (E.history self.old.endpoint) (E.history self.new.endpoint) result }
+        ensures seen { E.seen self.new.endpoint ≡ E.seen self.old.endpoint }
     {
         match self.endpoint.poll() {
             Some(completion) => received_by(true, completion),

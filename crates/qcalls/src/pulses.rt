@@ -1,5 +1,6 @@
 //! Pulses.
 
+ghost use Rattle.qcalls.specs.Coming.{ComesOf};
 ghost use Rattle.qcalls.specs.Making.{Makes};
 ghost use Rattle.qcalls.specs.Results.{done_in, pulse_in};
 
@@ -22,7 +23,8 @@ impl<'a, E: Endpoint, R: Wait> Caller<'a, E, R> {
         code: i8,
         value: i32,
     ) -> Result<(), CallError>
-        ensures { Makes done_in (Call.Pulse coid priority code value) (E.history self.old.endpoint) (E.history self.new.endpoint) result }
+        ensures makes { Makes done_in (Call.Pulse coid priority code value) (E.history self.old.endpoint) (E.history self.new.endpoint) result }
+        ensures came { ComesOf E.came self.old.endpoint (Call.Pulse coid priority code value) (E.seen self.new.endpoint) (E.history self.new.endpoint).told }
     {
         let pulse = Call::Pulse {
             coid,
@@ -36,7 +38,8 @@ impl<'a, E: Endpoint, R: Wait> Caller<'a, E, R> {
     /// Takes a pulse of a channel, and waits for one if there is none; messages stay queued (`MsgReceivePulse`).
     /// Refused with `Srch` if the channel isn't open or is another process's.
     pub fn msg_receive_pulse(&mut self, chid: ChannelId) -> Result<Pulse, CallError>
-        ensures { Makes pulse_in (Call.ReceivePulse chid) (E.history self.old.endpoint) (E.history self.new.endpoint) result }
+        ensures makes { Makes pulse_in (Call.ReceivePulse chid) (E.history self.old.endpoint) (E.history self.new.endpoint) result }
+        ensures came { ComesOf E.came self.old.endpoint (Call.ReceivePulse chid) (E.seen self.new.endpoint) (E.history self.new.endpoint).told }
     {
         self.make(Call::ReceivePulse(chid))?.pulse()
     }

@@ -1,6 +1,7 @@
 //! A reply and the next receive in one call, for a server's loop.
 
 ghost use Rattle.std.specs.Prelude.{replicate};
+ghost use Rattle.qcalls.specs.Coming.{ComesOfBothBytes};
 ghost use Rattle.qcalls.specs.Making.{MakesBothOfBytes};
 ghost use Rattle.qcalls.specs.Results.{received_in};
 
@@ -25,7 +26,8 @@ impl<'a, E: Endpoint, R: Wait> Caller<'a, E, R> {
         chid: ChannelId,
         len: usize,
     ) -> Result<Received, CallError>
-        ensures { MakesBothOfBytes received_in (Call.Reply rcvid status bytes.now) (Call.Receive chid (replicate len 0)) (E.history self.old.endpoint) (E.history self.new.endpoint) result }
+        ensures makes { MakesBothOfBytes received_in (Call.Reply rcvid status bytes.now) (Call.Receive chid (replicate len 0)) (E.history self.old.endpoint) (E.history self.new.endpoint) result }
+        ensures came { ComesOfBothBytes (λ e. E.seen e) E.came E.came_both self.old.endpoint (Call.Reply rcvid status bytes.now) (Call.Receive chid (replicate len 0)) (E.seen self.new.endpoint) (E.history self.new.endpoint).told result }
     {
         let bytes = Bytes::copied(self.alloc, bytes)?;
         let buffer = Bytes::filled(self.alloc, 0, len)?;

@@ -1,5 +1,11 @@
 //! Calls with a time limit.
 
+ghost use Rattle.std.specs.Prelude.{replicate};
+ghost use Rattle.qmodel.specs.declared.call.Call.TheVariants as Call;
+ghost use Rattle.qcalls.specs.Coming.{ComesWithin};
+ghost use Rattle.qcalls.specs.Results.{answer_in, pulse_in, received_in};
+ghost use Rattle.qcalls.specs.Timing.{IsTimed, MakesWithin};
+
 use crate::alarms::Alarms;
 use crate::caller::Caller;
 use crate::endpoint::Endpoint;
@@ -22,7 +28,10 @@ impl<'a, E: Endpoint, R: Wait + Clock> Caller<'a, E, R> {
         message: &[u8],
         reply_len: usize,
         time: Duration,
-    ) -> Result<Answer, CallError> {
+    ) -> Result<Answer, CallError>
+        ensures makes { MakesWithin answer_in (Call.Send coid message.now (replicate reply_len 0)) (E.history self.old.endpoint) (E.history self.new.endpoint) result }
+        ensures came { ComesWithin E.came self.old.endpoint (Call.Send coid message.now (replicate reply_len 0)) (E.seen self.old.endpoint) (E.seen self.new.endpoint) (E.history self.new.endpoint).told result }
+    {
         alarms.set(self.rt, self.thread(), time)?;
         let answer = self.msg_send(coid, message, reply_len);
         self.timed(alarms, answer)
@@ -36,7 +45,10 @@ impl<'a, E: Endpoint, R: Wait + Clock> Caller<'a, E, R> {
         chid: ChannelId,
         len: usize,
         time: Duration,
-    ) -> Result<Received, CallError> {
+    ) -> Result<Received, CallError>
+        ensures makes { MakesWithin received_in (Call.Receive chid (replicate len 0)) (E.history self.old.endpoint) (E.history self.new.endpoint) result }
+        ensures came { ComesWithin E.came self.old.endpoint (Call.Receive chid (replicate len 0)) (E.seen self.old.endpoint) (E.seen self.new.endpoint) (E.history self.new.endpoint).told result }
+    {
         alarms.set(self.rt, self.thread(), time)?;
         let received = self.msg_receive(chid, len);
         self.timed(alarms, received)
@@ -49,14 +61,19 @@ impl<'a, E: Endpoint, R: Wait + Clock> Caller<'a, E, R> {
         alarms: &Alarms,
         chid: ChannelId,
         time: Duration,
-    ) -> Result<Pulse, CallError> {
+    ) -> Result<Pulse, CallError>
+        ensures makes { MakesWithin pulse_in (Call.ReceivePulse chid) (E.history self.old.endpoint) (E.history self.new.endpoint) result }
+        ensures came { ComesWithin E.came self.old.endpoint (Call.ReceivePulse chid) (E.seen self.old.endpoint) (E.seen self.new.endpoint) (E.history self.new.endpoint).told result }
+    {
         alarms.set(self.rt, self.thread(), time)?;
         let pulse = self.msg_receive_pulse(chid);
         self.timed(alarms, pulse)
     }
 
     /// Clears the caller's alarm, and returns the result of its call: `TimedOut` if the timekeeper ended it.
-    fn timed<T>(&mut self, alarms: &Alarms, done: Result<T, CallError>) -> Result<T, CallError> {
+    fn timed<T>(&self, alarms: &Alarms, done: Result<T, CallError>) -> Result<T, CallError>
+        ensures { IsTimed done result }
+    {
         let rang = alarms.clear(self.rt, self.thread());
         match done {
             Err(CallError::Cut(Errno::Intr)) if rang => Err(CallError::TimedOut),

@@ -1,17 +1,22 @@
 -- The laws of the calls that threads wait in.
-use Rattle.std.proofs.Common.{◌≡◌, ◌∙◌, ◌↔◌, ◌<◌, ◌≤◌, ℕ, List, [], ◌∷◌, length, refl, ap, sym, subst, cond, arith, Bool, true, false, inl, inr}
+use Rattle.std.proofs.Common.{◌≡◌, ◌∙◌, ◌↔◌, ◌<◌, ◌≤◌, ℕ, List, [], ◌∷◌, length, refl, ap, sym, subst, cond, arith, Bool, true, false, inl, inr, eqb}
 use Rattle.std.specs.Prelude.{Option, None, Some, is_some, not, nat_lt, ◌||◌, ◌&&◌, filter, fold, option_map, option_and_then}
 use Rattle.std.specs.List.{AllByRecursion, reduce}
 use Rattle.std.specs.Option.{option_map_or}
 use Rattle.std.proofs.lemmas.Bool.{false_from_ne_true, ltb-true, ltb-false, true≢false}
 use Rattle.std.proofs.lemmas.Option.{none-some, same_Some}
+use Rattle.std.proofs.Math.Bool.{or-false}
+use Rattle.qbase.specs.declared.errno.Errno.TheVariants.{Srch}
+use Rattle.qtables.specs.Members.{IsRoster}
 use Rattle.qtables.specs.declared.member.Member.{Member}
-use Rattle.qmodel.specs.Private.Effects.{asks}
+use Rattle.qmodel.specs.Private.Cancelling.{cancel_where, cancels}
+use Rattle.qmodel.specs.Private.Effects.{asks, shuts_down}
 use Rattle.qmodel.specs.Private.Facts.{Facts as OldFacts}
 use Rattle.qmodel.specs.Private.Headline.AnsweredToSender.{is_held as was_held}
 use Rattle.qmodel.specs.Private.Laws as old_laws
 use Rattle.qmodel.specs.Private.Lawful as old
-use Rattle.qmodel.specs.Private.Past.{is_taken, made_at, open_call}
+use Rattle.qmodel.specs.Private.Past.{is_down, is_taken, made_at, open_call}
+use Rattle.qmodel.specs.Private.Step.{open_call_after, unless}
 use Rattle.qmodel.specs.Trace.{Trace}
 use Rattle.qmodel.specs.declared.call.Call.{Call}
 use Rattle.qmodel.specs.declared.call.Call.TheVariants as calls
@@ -19,6 +24,8 @@ use Rattle.qmodel.specs.declared.open_call.OpenCall.{OpenCall}
 use Rattle.qmodel.specs.declared.open_call.Wait.TheVariants.{Answer}
 use Rattle.qqueue.specs.Best.{may_take}
 use Rattle.qmodel.specs.declared.open_call.Receipt.{Receipt as OldReceipt}
+use Rattle.qmodel.proofs.Past.Ends.{passes_of}
+use Rattle.qmodel.proofs.Past.Follows.{past_follows}
 use Rattle.qmodel.proofs.TraceLaws.Held as held
 use Rattle.qmodel.proofs.TraceLaws.Lengths as lengths
 use Rattle.qmodel.proofs.TraceLaws.Unended as unended
@@ -32,11 +39,11 @@ use Rattle.qrules.specs.View.{receipt_view}
 use Rattle.qrules.proofs.Same.{facts_view}
 use Rattle.qrules.proofs.Messages.{send_cases, NoSend, OneSend}
 use Rattle.qrules.proofs.Outcomes.{same_buffer}
-use Rattle.qrules.proofs.Past.Done.{same_channel, same_connection_at, same_made}
+use Rattle.qrules.proofs.Past.Done.{same_channel, same_connection_at, same_down, same_made}
 use Rattle.qrules.proofs.Past.Receipts.{same_ended, same_received}
 use Rattle.qrules.proofs.Properties.Calls.{same_call_at}
 use Rattle.qlaws.specs.OpenCalls as laws
-use Rattle.qlaws.proofs.Waits.{all_receives, all_sends, before, facts_at, number_at, receive_at, receive_parts, send_parts}
+use Rattle.qlaws.proofs.Waits.{all_receives, all_sends, before, blocked_at, facts_at, number_at, receive_at, receive_parts, send_parts}
 
 -- ---- at most one for each thread
 
@@ -225,3 +232,32 @@ pub receive_buffers_keep_length : laws.ReceiveBuffersKeepLength
 receive_buffers_keep_length roster past r l = all_receives roster past l (λ s. laws.IsAsLong past s.number s.buffer) (λ u s e.
     let k = lengths.open_calls_keep_length roster past r (before roster past l) u _ (receive_parts roster past l u s e).is in
     record { call = k.call; is = same_call_at past s.number ∙ k.is; same = k.same ∙ ap length (sym (same_buffer k.call)) })
+
+-- ---- after a shutdown
+
+-- a call that shuts the kernel down leaves no thread waiting
+shut_out : (f : OldFacts) (t : ℕ) (c : Call) (u : ℕ) → shuts_down c ≡ true → open_call_after f t c u ≡ None
+shut_out f t calls.Shutdown u e =
+    elim (eqb u t) as (λ b. cond b None (unless (is_some (cancels f (λ u wait. true) Srch u)) (f.open_call u)) ≡ None) [
+      | true ↦ refl
+      | false ↦ elim (f.open_call u) as (λ o. unless (is_some (cancel_where (λ wait. true) Srch u o)) o ≡ None) [ None ↦ refl | Some o ↦ refl ]
+    ]
+shut_out f t c u e = absurd (true≢false (sym e))
+
+none_open : (roster : List Member) (past : Trace) → IsRoster roster → old.IsLawful roster past → is_down past ≡ true → (u : ℕ) → open_call roster past u ≡ None
+none_open roster [] r l down u = absurd (true≢false (sym down))
+none_open roster (e ∷ past) r l down u =
+    let f : OldFacts = old.facts_of roster past in
+    elim (l.2) [
+      | inl a ↦
+          let k = past_follows true roster past e.thread e.call e.endings r l.0 l.1 a in
+          let up : f.down ≡ false = (passes_of f e.thread e.call e.endings a).up in
+          k.open_call u ∙ shut_out f e.thread e.call u (sym (or-false (shuts_down e.call)) ∙ ap (λ b. shuts_down e.call || b) (sym up) ∙ sym k.down ∙ down)
+      | inr a ↦
+          let k = past_follows false roster past e.thread e.call e.endings r l.0 l.1 a in
+          k.open_call u ∙ none_open roster past r l.0 (sym k.down ∙ down) u
+    ]
+
+pub nobody_waits_after_shutdown : laws.NobodyWaitsAfterShutdown
+nobody_waits_after_shutdown roster past r l down t =
+    blocked_at roster past l t ∙ ap is_some (none_open roster past r (before roster past l) (sym (same_down past) ∙ down) t)

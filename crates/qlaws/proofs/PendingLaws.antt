@@ -97,7 +97,7 @@ same_now roster past x l =
     ∙ ap (λ made. priority_of_item (item_among made x.number)) (same_by_now past (old.items roster past))
     ∙ ap priority_of_item (same_among (old.items_by_now past (old.items roster past)) x.number)
 
-same_gone : (past : Trace) (x : Item) → is_gone past x ≡ old.is_gone past x
+pub same_gone : (past : Trace) (x : Item) → is_gone past x ≡ old.is_gone past x
 same_gone past x = ap (λ b. b || (not (is_pulse x.what) && is_ended past x.number)) (same_received past x.number) ∙ ap (λ b. old.is_taken past x.number || (not (is_pulse x.what) && b)) (same_ended past x.number)
 
 takes_before : (past : Trace) (z : Completion) (i h : ℕ) (x : Item) → laws.TakesBeside past z i h x → old_laws.TakesBeside past z i h x

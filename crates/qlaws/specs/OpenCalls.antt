@@ -4,11 +4,11 @@ use Rattle.qrules.specs.Words.{false, is_some, length, may_take, not, option_map
 use Rattle.qrules.specs.Words.{true}
 use Rattle.qrules.specs.Words.{AllByRecursion, Bool, Call, Connection, None, Option, Some}
 use Rattle.qrules.specs.Trace.{call_at, Bytes, CallNo, ReceiveId, ThreadNo, Trace}
-use Rattle.qrules.specs.Facts.{open_send, receive_of, send_of, Facts, OpenReceive, OpenSend}
+use Rattle.qrules.specs.Facts.{is_blocked, open_send, receive_of, send_of, Facts, OpenReceive, OpenSend}
 use Rattle.qrules.specs.Rule.{buffer_of, SentItem}
 use Rattle.qrules.specs.Rules.{effect_of}
 use Rattle.qrules.specs.Delivery.{newest_receiver}
-use Rattle.qrules.specs.Past.{accepted_call, is_ended, is_received, AcceptedCall}
+use Rattle.qrules.specs.Past.{accepted_call, is_ended, is_received, was_done, AcceptedCall}
 use Rattle.qrules.specs.Lawful.{facts_of}
 use Rattle.qlaws.specs.Lawful.{AfterEach}
 
@@ -106,3 +106,10 @@ ReplyBuffersKeepLength = AfterEach (λ roster past.
 abbrev pub ReceiveBuffersKeepLength : Type 0
 ReceiveBuffersKeepLength = AfterEach (λ roster past.
     AllByRecursion (λ r. IsAsLong past r.number r.buffer) (facts_of roster past).open_receives)
+
+-- ---- after a shutdown
+
+-- after an accepted Shutdown no thread waits
+abbrev pub NobodyWaitsAfterShutdown : Type 0
+NobodyWaitsAfterShutdown = AfterEach (λ roster past. was_done (λ e. e.shuts_down) past ≡ true
+    → (t : ThreadNo) → is_blocked (facts_of roster past) t ≡ false)

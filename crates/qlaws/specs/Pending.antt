@@ -2,14 +2,14 @@
 use Rattle.std.specs.Prelude.{◌&&◌, ◌++◌, ◌+◌, ◌∷◌, ◌≡◌, ◌≤◌, if◌then◌else◌}
 use Rattle.qrules.specs.Words.{count_by, false, filter, is_pulse, map, may_take, not, true}
 use Rattle.qrules.specs.Words.{with_priority, AllByRecursion, Bool, Completion, Item, List, Member, None}
-use Rattle.qrules.specs.Words.{Some}
+use Rattle.qrules.specs.Words.{option_and_then, unwrap_or, Some, ℕ}
 use Rattle.qrules.specs.Words.calls
 use Rattle.qrules.specs.Trace.{CallNo, ChannelId, Event, Priority, ReceiveId, ThreadNo, Trace}
 use Rattle.qrules.specs.Facts.{send_of, OpenSend}
-use Rattle.qrules.specs.Rule.{ReceiveRequest}
-use Rattle.qrules.specs.Past.{is_accepted, is_gone, is_number, item_among, items_by_now, priority_of_item}
-use Rattle.qrules.specs.Past.{sender_of}
-use Rattle.qrules.specs.Lawful.{facts_of}
+use Rattle.qrules.specs.Rule.{ReceiveRequest, SentItem}
+use Rattle.qrules.specs.Past.{is_accepted, is_gone, is_number, is_unblock_for, item_among, items_by_now}
+use Rattle.qrules.specs.Past.{priority_of_item, priority_set_by, sender_of}
+use Rattle.qrules.specs.Lawful.{facts_of, item_made_by}
 use Rattle.qrules.specs.Properties.{items, number_received, request_of}
 use Rattle.qqueue.specs.Contents.{IsRising}
 use Rattle.qqueue.specs.Order.{comes_before}
@@ -31,6 +31,11 @@ PendingRises = AfterEach (λ roster past. (h : ChannelId) → IsRising ((facts_o
 abbrev pub PulsesAreLimited : Type 0
 PulsesAreLimited = AfterEach (λ roster past. (h : ChannelId)
     → count_by (λ x. is_pulse x.what) ((facts_of roster past).pending h) ≤ 1024)
+
+-- at most one of all items made is an unblock pulse for message i
+abbrev pub OneUnblockPulse : Type 0
+OneUnblockPulse = AfterEach (λ roster past. (i : ReceiveId)
+    → count_by (λ m. is_unblock_for i m.item.what) (items roster past) ≤ 1)
 
 -- no item is both pending and held
 abbrev pub NonePendingIsHeld : Type 0
@@ -78,6 +83,34 @@ FirstGoesFirst = (past : Trace) → InEachNewest (λ roster after e. (later : Li
     → HasPriority roster after x → HasPriority roster after y
     → AllByRecursion (λ z. TakesBeside (e ∷ after) z y.number h x → is_gone after x ≡ true) e.endings)
     ((facts_of roster past).pending h)) ((facts_of roster past).pending h))
+
+-- ---- places
+
+-- the place of item x among these items: how many of them are received before it
+abbrev pub place : Item → List Item → ℕ
+place x items = count_by (λ y. comes_before y x) items
+
+-- the item with the priority that event e sets for its sender, if it sets one
+abbrev pub as_set_by : Event → Trace → Item → Item
+as_set_by e past y = with_priority
+    (unwrap_or (option_and_then (priority_set_by e past) (sender_of past y.number)) y.priority) y
+
+-- on channel h event e puts nothing before item x: the item that it makes there, if that waits, doesn't come
+-- before x, nor does a pending one whose priority it sets, unless that came before x already
+pub record PutsNoneBefore (roster : List Member) (past : Trace) (e : Event) (h : ChannelId) (x : Item) : Type
+    0 where
+  pub made : (m : SentItem) → item_made_by (facts_of roster past) e past ≡ Some m → m.channel ≡ h
+      → is_gone (e ∷ past) m.item ≡ false → comes_before m.item x ≡ false
+  pub set : AllByRecursion (λ y. comes_before (as_set_by e past y) x ≡ true → comes_before y x ≡ true)
+      ((facts_of roster past).pending h)
+
+-- if an event puts nothing before x, the place of x falls by one, at least, for each pending item before it
+-- that is gone afterwards
+abbrev pub PlacesFall : Type 0
+PlacesFall = InEachNewest (λ roster past e. (h : ChannelId) (x : Item) → PutsNoneBefore roster past e h x
+    → place x ((facts_of roster (e ∷ past)).pending h)
+    + place x (filter (is_gone (e ∷ past)) ((facts_of roster past).pending h))
+    ≤ place x ((facts_of roster past).pending h))
 
 -- ---- setting a priority
 

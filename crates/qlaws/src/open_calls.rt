@@ -1,7 +1,7 @@
 //! Laws of the calls that threads wait in.
 
-ghost use Rattle.qlaws.specs.OpenCalls.{AtMostOneOpen, HeldIsOpenSend, NewestIsLast, NoneIsNewest};
-ghost use Rattle.qlaws.specs.OpenCalls.{NothingPendingForWaiting, OpenIsUnended, OpenSendsAreRouted};
+ghost use Rattle.qlaws.specs.OpenCalls.{AtMostOneOpen, HeldIsOpenSend, NewestIsLast, NobodyWaitsAfterShutdown};
+ghost use Rattle.qlaws.specs.OpenCalls.{NoneIsNewest, NothingPendingForWaiting, OpenIsUnended, OpenSendsAreRouted};
 ghost use Rattle.qlaws.specs.OpenCalls.{ReceiveBuffersKeepLength, ReplyBuffersKeepLength};
 
 /// At most one of a thread's accepted calls that may wait isn't ended, and the thread waits in exactly that one.
@@ -36,4 +36,9 @@ pub fn nothing_pending_for_waiting()
 pub fn buffers_keep_length()
     ensures sends { ReplyBuffersKeepLength }
     ensures receives { ReceiveBuffersKeepLength }
+{}
+
+/// After an accepted Shutdown no thread waits.
+pub fn nobody_waits_after_shutdown()
+    ensures { NobodyWaitsAfterShutdown }
 {}

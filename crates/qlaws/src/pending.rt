@@ -1,8 +1,8 @@
 //! Laws of the items that wait to be received.
 
-ghost use Rattle.qlaws.specs.Pending.{FirstGoesFirst, NonePendingIsHeld, OthersKeepTheirOrder};
-ghost use Rattle.qlaws.specs.Pending.{PendingFollowsItsSender, PendingIsOpen, PendingRises, PulsesAreLimited};
-ghost use Rattle.qlaws.specs.Pending.{SettingMovesItsOwn};
+ghost use Rattle.qlaws.specs.Pending.{FirstGoesFirst, NonePendingIsHeld, OneUnblockPulse, OthersKeepTheirOrder};
+ghost use Rattle.qlaws.specs.Pending.{PendingFollowsItsSender, PendingIsOpen, PendingRises, PlacesFall};
+ghost use Rattle.qlaws.specs.Pending.{PulsesAreLimited, SettingMovesItsOwn};
 
 /// The items that are pending on a channel are in rising number, and none is held. The sender of each message waits in
 /// its Send, and has the same priority as the message.
@@ -18,10 +18,22 @@ pub fn pulses_are_limited()
     ensures { PulsesAreLimited }
 {}
 
+/// At most one unblock pulse is made for a message.
+pub fn one_unblock_pulse()
+    ensures { OneUnblockPulse }
+{}
+
 /// If two items are pending on a channel and both keep their priorities, the one that comes before the other is
 /// received first, or is removed in another way. A ReceivePulse passes over messages.
 pub fn first_goes_first()
     ensures { FirstGoesFirst }
+{}
+
+/// In an event that puts no other item before it, the place of a pending item falls by one, at least, for each item
+/// before it that is received or cancelled. So it rises only where an item of greater priority is sent to the channel,
+/// or a message's priority is set.
+pub fn places_fall()
+    ensures { PlacesFall }
 {}
 
 /// An accepted PrioritySet sets the priority of its thread's pending message, too. It changes no other pending item,

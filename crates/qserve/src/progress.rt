@@ -88,6 +88,12 @@ impl<'p, E> Counted<'p, E> {
 impl<'p, E: Endpoint> Endpoint for Counted<'p, E> {
     ghost history = { λ c. E.history c.inner };
 
+    ghost seen = { λ c. E.seen c.inner };
+
+    ghost came = { λ c. E.came c.inner };
+
+    ghost came_both = { λ c. E.came_both c.inner };
+
     fn thread(&self) -> ThreadNo {
         self.inner.thread()
     }

@@ -93,6 +93,12 @@ pub struct Timed<'c, E, C> {
 impl<'c, E: Endpoint, C: Clock> Endpoint for Timed<'c, E, C> {
     ghost history = { λ t. E.history t.inner };
 
+    ghost seen = { λ t. E.seen t.inner };
+
+    ghost came = { λ t. E.came t.inner };
+
+    ghost came_both = { λ t. E.came_both t.inner };
+
     fn thread(&self) -> ThreadNo {
         self.inner.thread()
     }

@@ -12,6 +12,8 @@ use Rattle.qkernel.specs.Kernel.{State, IsSound}
 use Rattle.qhandoff.specs.declared.view.Line.{Line}
 use Rattle.qhandoff.specs.Rule.{idle_line}
 use Rattle.qhandoff.specs.Steps.{seated_desk}
+use Rattle.std.proofs.lemmas.Bool.{true≢false}
+use Rattle.qshared.specs.Due.{AreLater}
 use Rattle.qshared.specs.UnderLock.{IsUnderLock}
 use Rattle.qkernel.proofs.Traces.{blocked_same, properties_of}
 
@@ -40,6 +42,7 @@ held_first roster slots kernel threads sound same stands threads_are many =
         properties = properties_of roster [] tt rises';
         stands = stands';
         tied = λ t i is. (ap (λ (l : Line Completion). l.put) (same_replicate slots i idle_line), ap (λ (l : Line Completion). l.opened) (same_replicate slots i idle_line) ∙ sym (blocked_same roster [] tt t));
+        owed = λ t i is. record { later = subst (λ b. AreLater b [] []) (sym (blocked_same roster [] tt t)) (refl, λ w. absurd (true≢false (sym w))); whole = refl };
       };
       numbered = omega arith;
     }

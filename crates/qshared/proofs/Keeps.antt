@@ -1,7 +1,10 @@
 -- What is so under the lock before a call and after it.
-use Rattle.std.proofs.Common.{◌≡◌, ℕ, ◌<◌, ◌^◌, List, length, refl, sym, subst, ◌∙◌, cond, arith, true, false, inl, inr}
+use Rattle.std.proofs.Common.{◌≡◌, ℕ, ◌+◌, ◌<◌, ◌^◌, List, [], length, refl, ap, sym, subst, ◌∙◌, arith, true, false, inl, inr}
 use Rattle.std.specs.List.{AllByRecursion}
-use Rattle.std.specs.Prelude.{Some, is_some}
+use Rattle.std.specs.Prelude.{None, Option, Some, is_some}
+use Rattle.std.proofs.lemmas.Bool.{cases_Bool, eq-eqb, eqb-true}
+use Rattle.std.proofs.lemmas.Option.{same_Some}
+use Rattle.qbase.proofs.Lists.{all_more}
 use Rattle.std.proofs.lemmas.List.{length-map}
 use Rattle.qbase.specs.declared.errno.Errno.TheVariants.{Busy}
 use Rattle.qtables.specs.Members.{member_at}
@@ -13,7 +16,10 @@ use Rattle.qmodel.specs.Private.Facts.{threads_of}
 use Rattle.qmodel.specs.Private.Lawful.{with_event}
 use Rattle.qmodel.specs.Trace.{Trace}
 use Rattle.qmodel.proofs.Rosters.{among_member}
+use Rattle.qmodel.specs.Private.Laws.{thread_at}
 use Rattle.qmodel.proofs.TraceLaws.Blocked.{caller_gets_its_own, endings_are_apart}
+use Rattle.qmodel.proofs.TraceLaws.Ending.{endings_name_own_calls}
+use Rattle.qrules.specs.Facts.{is_blocked}
 use Rattle.qrules.specs.Lawful.{facts_of}
 use Rattle.qrules.specs.Outcome.{Answers}
 use Rattle.qkernel.specs.Stands.{AnswersAtTraces}
@@ -21,13 +27,14 @@ use Rattle.qkernel.specs.Kernel.{State}
 use Rattle.qhandoff.specs.declared.view.Desk.{Desk}
 use Rattle.qhandoff.specs.Rule.{line}
 use Rattle.qhandoff.specs.Steps.{opened_desk, cancelled_desk, IsBusy}
-use Rattle.qshared.specs.Due.{place}
-use Rattle.qshared.specs.Past.{is_down}
+use Rattle.qhandoff.specs.Words.{one}
+use Rattle.qshared.specs.Due.{HasWaited, at_once, later_due, of_thread, place}
+use Rattle.qshared.specs.Past.{has_ending_of, is_down}
 use Rattle.qshared.specs.UnderLock.{IsUnderLock}
-use Rattle.qshared.specs.Performing.{Admits, IsFree, IsServed, IsReason, IsEvent, Performs, Refuses}
+use Rattle.qshared.specs.Performing.{Admits, IsFree, IsServed, IsReason, IsEvent, Performs, Refuses, outcome}
 use Rattle.qshared.specs.Private.Putting.{MayPut, Handed}
-use Rattle.qshared.specs.declared.performed.Performed.TheVariants.{Ended, Open}
 use Rattle.qshared.proofs.Places.{place_among, place_below}
+use Rattle.qshared.proofs.Turns.{gets_of, none_later, not_nil, of_one, own_number, waited_due}
 use Rattle.qkernel.proofs.Traces.{before, stands_down}
 use Rattle.qshared.proofs.Telling.{undone, is_free, lawful_after, all_may_put, told_after}
 
@@ -51,9 +58,20 @@ module _ (roster : List Member) (slots : ℕ) (kernel : State) (d : Desk Complet
         is_served,
         elim b [
           | inl opened ↦ inl (sym (h.told.tied t i at).1 ∙ opened)
-          | inr full ↦ inr (λ none. full ((h.told.tied t i at).0 ∙ none))
+          | inr full ↦ inr (λ none. full ((h.told.tied t i at).0 ∙ none_later (at_once past t) (later_due past t) _ (h.told.owed t i at).later ((h.told.owed t i at).whole ∙ none)))
         ],
       )
+
+      -- a thread is busy if a call of it that waited isn't collected
+      pub is_pending : HasWaited past t → IsReason roster past t Busy
+      is_pending waited =
+          let o = h.told.owed t i at in (
+            is_served,
+            elim (cases_Bool (is_blocked (facts_of roster past) t)) [
+              | inl blocked ↦ inl blocked
+              | inr idle ↦ inr (λ none. waited_due (is_blocked (facts_of roster past) t) (at_once past t) (later_due past t) o.later waited idle (o.whole ∙ none))
+            ],
+          )
 
       module _ (closed : (line d i).opened ≡ false) (wide : length d.lines ≡ slots) where
         near : i < length d.lines
@@ -77,23 +95,32 @@ module _ (roster : List Member) (slots : ℕ) (kernel : State) (d : Desk Complet
           pub may_put : AllByRecursion (MayPut threads (opened_desk d i)) X
           may_put = subst (λ ts. AllByRecursion (MayPut ts (opened_desk d i)) X) (sym h.threads_are) (all_may_put roster kernel d past t i h.told at near free c X answers h.rises)
 
-          pub held_after : (d' : Desk Completion) → Handed threads X (opened_desk d i) d' → IsUnderLock roster slots new d' threads (with_event t c X past)
+          pub held_after : (d' : Desk Completion) → Handed threads t X (opened_desk d i) d' → IsUnderLock roster slots new d' threads (with_event t c X past)
           held_after d' handed = record {
             rises = h.rises;
             sized = h.sized;
             few = h.few;
             threads_are = h.threads_are;
             told = told_after roster kernel d past t i h.told at near free c X answers h.rises new d' (step roster past h.told.lawful h.told.stands).1
-                (subst (λ ts. Handed ts X (opened_desk d i) d') h.threads_are handed);
+                (subst (λ ts. Handed ts t X (opened_desk d i) d') h.threads_are handed);
             numbered = omega (arith, few);
           }
 
-          pub performs : (refuses : Refuses) (admits : Admits) (d' : Desk Completion) → admits past c
-              → Performs roster refuses admits (record { kernel = kernel; desk = d; past = past }) t c (cond (gets X t) Ended Open) (record { kernel = new; desk = d'; past = with_event t c X past })
-          performs refuses admits d' admitted =
-              let own = caller_gets_its_own roster past (record { thread = t; call = c; endings = X }) h.rises (before roster (with_event t c X past) (lawful_after roster kernel d past t i h.told at near free c X answers h.rises)) in
+          own_ending : (own : Option Completion) → of_thread t X ≡ one own → gets X t ≡ is_some own
+          own_ending None is = elim (cases_Bool (gets X t)) [
+            | inl got ↦ let x = of_one t X apart got in absurd (not_nil x.0 [] (sym x.1 ∙ is))
+            | inr none ↦ none
+          ]
+          own_ending (Some x) is = gets_of t X x [] is
+
+          pub performs : (refuses : Refuses) (admits : Admits) (d' : Desk Completion) → admits past c → (own : Option Completion) → of_thread t X ≡ one own
+              → Performs roster refuses admits (record { kernel = kernel; desk = d; past = past }) t c (outcome own) (record { kernel = new; desk = d'; past = with_event t c X past })
+          performs refuses admits d' admitted own is =
+              let lawful = before roster (with_event t c X past) (lawful_after roster kernel d past t i h.told at near free c X answers h.rises) in
+              let ends : gets X t ≡ has_ending_of X (length past + 1) = caller_gets_its_own roster past (record { thread = t; call = c; endings = X }) h.rises lawful in
+              let names = endings_name_own_calls roster past (record { thread = t; call = c; endings = X }) h.rises lawful in
               let event : IsEvent roster admits past t c X = record { free = free; admitted = admitted; answers = answers } in
-              elim (gets X t) as (λ b. gets X t ≡ b → Performs roster refuses admits (record { kernel = kernel; desk = d; past = past }) t c (cond b Ended Open) (record { kernel = new; desk = d'; past = with_event t c X past })) [
-                | true ↦ λ e. (X, event, refl, sym own ∙ e)
-                | false ↦ λ e. (X, event, refl, sym own ∙ e)
-              ] refl
+              elim own as (λ o. of_thread t X ≡ one o → Performs roster refuses admits (record { kernel = kernel; desk = d; past = past }) t c (outcome o) (record { kernel = new; desk = d'; past = with_event t c X past })) [
+                | None ↦ λ e. (X, event, refl, record { none = e; unended = sym ends ∙ own_ending None e })
+                | Some x ↦ λ e. (X, event, refl, record { only = e; number = own_number (length past + 1) t x X (all_more _ _ X names (λ y n s. same_Some y.thread t (sym n ∙ ap (thread_at (with_event t c X past)) (eqb-true y.call (length past + 1) s) ∙ rw (eq-eqb (length past + 1) (length past + 1) refl) refl))) (sym ends ∙ own_ending (Some x) e) e })
+              ] is

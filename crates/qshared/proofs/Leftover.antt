@@ -15,9 +15,16 @@ use Rattle.qhandoff.specs.Words as cells
 use Rattle.qmodel.specs.Private.Facts.{threads_of}
 use Rattle.qmodel.proofs.Rosters.{among_member}
 use Rattle.qtables.specs.declared.member.Member.{Member}
-use Rattle.qshared.specs.Due.{AreKnown, endings_due, of_thread, place}
+use Rattle.qhandoff.specs.declared.seats.ThreadSeat.{ThreadSeat}
+use Rattle.qhandoff.specs.Words.{took}
+use Rattle.qmodel.specs.declared.call.Call.{Call}
+use Rattle.qpast.specs.History.{Extends}
+use Rattle.qshared.specs.Asking.{IsSince, calls_of}
+use Rattle.qshared.specs.Due.{AreDue, AreKnown, AreLater, at_once, collected, endings_due, in_turn, later_due, later_of, of_thread, place}
+use Rattle.atomic_table.proofs.Lists.{at_map}
+use Rattle.qshared.proofs.Turns.{extends_since, left_over, once_same}
 use Rattle.qshared.specs.Past.{RiseByThread}
-use Rattle.qshared.proofs.Places.{IsAt, at_among, is_at, place_among, place_at, place_same}
+use Rattle.qshared.proofs.Places.{IsAt, at_among, is_at, place_among, place_at, place_below, place_same}
 
 -- a completion with the number of its cell
 abbrev Left : Type 0
@@ -67,9 +74,12 @@ all_behind : {A : Type 0} (P : A → Type 0) (xs ys : List A) → AllByRecursion
 all_behind P [] ys a = a
 all_behind P (x ∷ xs) ys a = all_behind P xs ys a.1
 
-own_due : (past : Trace) (t : ℕ) → AllByRecursion (λ x. x.thread ≡ t) (endings_due past t)
+own_later : (caller t : ℕ) (X : List Completion) → AllByRecursion (λ x. x.thread ≡ t) (later_of caller t X)
+own_later caller t X = elim (eqb caller t) as (λ b. AllByRecursion (λ x. x.thread ≡ t) (cond b [] (of_thread t X))) [ true ↦ tt | false ↦ own_filtered t X ]
+
+own_due : (past : Trace) (t : ℕ) → AllByRecursion (λ x. x.thread ≡ t) (later_due past t)
 own_due [] t = tt
-own_due (e ∷ past) t = all_append _ (endings_due past t) (of_thread t e.endings) (own_due past t) (own_filtered t e.endings)
+own_due (e ∷ past) t = all_append _ (later_due past t) (later_of e.thread t e.endings) (own_due past t) (own_later e.thread t e.endings)
 
 -- ---- each is left for its own thread
 
@@ -124,7 +134,7 @@ left_rises ts r (x ∷ xs) all up = (above xs all.1 up.0, left_rises ts r xs all
 -- ---- where what was taken and what is left is what is due
 
 module _ (ts : List ℕ) (past : Trace) (xs : List Left) (rises : Rises ts) (up : cells.Rises xs) (below : AreBelow (length ts) xs)
-    (took : ℕ → List Completion) (told : (t i : ℕ) → place ts t ≡ Some i → took i ++ left_for i xs ≡ endings_due past t) where
+    (took : ℕ → List Completion) (told : (t i : ℕ) → place ts t ≡ Some i → took i ++ left_for i xs ≡ later_due past t) where
   placed : AllByRecursion (IsPlaced ts) xs
   placed = each (IsPlaced ts) xs (λ k x at.
       let t = get_or ts x.0 0 in
@@ -141,5 +151,36 @@ module _ (ts : List ℕ) (past : Trace) (xs : List Left) (rises : Rises ts) (up 
   pub left_by_thread : RiseByThread (map (λ x. x.1) xs)
   left_by_thread = left_rises ts rises xs placed (rising xs up)
 
-  pub left_due : (t i : ℕ) → place ts t ≡ Some i → took i ++ of_thread t (map (λ x. x.1) xs) ≡ endings_due past t
+  pub left_due : (t i : ℕ) → place ts t ≡ Some i → took i ++ of_thread t (map (λ x. x.1) xs) ≡ later_due past t
   left_due t i at = ap (λ ys. took i ++ ys) (left_same ts t i at xs placed) ∙ told t i at
+
+-- ---- of all that is due to a thread
+
+-- to one thread, by what its port last saw
+pub port_due : (past seen last : Trace) (asked : List Call) (u t : ℕ) (took left : List Completion) (pending blocked : Bool) → u ≡ t → Extends past seen → IsSince seen last → calls_of past t ≡ asked → calls_of last u ≡ asked
+    → AreLater pending (at_once last u) took → AreLater blocked (at_once past t) (later_due past t) → in_turn (at_once past t) (later_due past t) ≡ endings_due past t → took ++ left ≡ later_due past t → collected last u took ++ left ≡ endings_due past t
+port_due past seen last asked u t took left pending blocked same extends since now then mine owed whole told =
+    let once : at_once past t ≡ at_once last t = once_same past seen last asked t extends (extends_since seen last since) now (ap (calls_of last) (sym same) ∙ then) in
+    ap (λ v. collected last v took ++ left) same
+    ∙ left_over (at_once last t) took left (later_due past t) pending blocked (subst (λ v. AreLater pending (at_once last v) took) same mine) (subst (λ os. AreLater blocked os (later_due past t)) once owed) told
+    ∙ ap (λ os. in_turn os (later_due past t)) (sym once) ∙ whole
+
+module _ {P : Type 0} (seat : P → ThreadSeat Completion) (mine : P → List Completion) (roster : List Member) (past : Trace) (left : List Completion) where
+  there : (ports : List P) (i : ℕ) → i < length ports → (p : P) × (get_elem? ports i ≡ some p)
+  there [] i below = absurd (omega arith)
+  there (p ∷ ports) zero below = (p, refl)
+  there (p ∷ ports) (suc i) below = there ports i (omega arith)
+
+  pub at_port : {A : Type 0} (f : P → A) (ports : List P) (i : ℕ) (p : P) (d : A) → get_elem? ports i ≡ some p → get_or (map f ports) i d ≡ f p
+  at_port f [] i p d e = absurd (some-ne-none p (sym e))
+  at_port f (q ∷ ports) zero p d e = ap f (some-injective q p e)
+  at_port f (q ∷ ports) (suc i) p d e = at_port f ports i p d e
+
+  -- to all threads
+  pub all_due : (ports : List P) → length ports ≡ length (threads_of roster)
+      → ((t k : ℕ) (p : P) → get_elem? ports k ≡ some p → place (threads_of roster) t ≡ Some k → took (some (seat p)) ++ of_thread t left ≡ later_due past t → mine p ++ of_thread t left ≡ endings_due past t)
+      → ((t i : ℕ) → place (threads_of roster) t ≡ Some i → took (get_elem? (map seat ports) i) ++ of_thread t left ≡ later_due past t) → AreDue roster (map mine ports) left past
+  all_due ports many each cells t i at =
+      let below : i < length (threads_of roster) = place_below (threads_of roster) t i at in
+      let p = there ports i (omega (arith, below, many)) in
+      ap (λ ys. ys ++ of_thread t left) (at_port mine ports i p.0 [] p.1) ∙ each t i p.0 p.1 at (ap (λ o. took o ++ of_thread t left) (sym (at_map seat ports i p.0 p.1)) ∙ cells t i at)

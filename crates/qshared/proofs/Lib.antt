@@ -1,4 +1,5 @@
 pub mod Beginning
+pub mod Collecting
 pub mod Copying
 pub mod Keeps
 pub mod KeptLog
@@ -8,3 +9,5 @@ pub mod Places
 pub mod Puts
 pub mod Rows
 pub mod Telling
+pub mod Turns
+pub mod Seeing

@@ -1,8 +1,8 @@
 -- Endings that are put one after another.
 use Rattle.std.proofs.Common.{◌≡◌, ℕ, ◌<◌, List, [], ◌∷◌, ◌++◌, length, refl, ap, sym, subst, ◌∙◌, cond, Bool, true, false, eqb, inl, inr, append-nil, append_assoc}
-use Rattle.std.specs.Prelude.{Some, ◌||◌}
+use Rattle.std.specs.Prelude.{None, Option, Some, ◌||◌}
 use Rattle.std.specs.List.{AllByRecursion}
-use Rattle.std.proofs.lemmas.Bool.{cases_Bool, eqb-true, eqb-false, ne_eqb, true≢false}
+use Rattle.std.proofs.lemmas.Bool.{cases_Bool, eqb-true, eqb-false, eq-eqb, ne_eqb, true≢false}
 use Rattle.std.proofs.lemmas.List.Elements.{filter-append}
 use Rattle.std.proofs.lemmas.List.Folds.{list_any-append}
 use Rattle.std.proofs.lemmas.Option.{same_Some}
@@ -10,12 +10,14 @@ use Rattle.qmodel.specs.declared.call.Completion.{Completion}
 use Rattle.qhandoff.specs.declared.view.Desk.{Desk}
 use Rattle.qhandoff.specs.declared.view.Line.{Line}
 use Rattle.qhandoff.specs.Rule.{line}
-use Rattle.qhandoff.specs.Steps.{put_desk}
+use Rattle.qhandoff.specs.Steps.{cancelled_desk, put_desk}
+use Rattle.qhandoff.specs.Words.{one}
 use Rattle.qhandoff.proofs.Changes.{line_else, line_here}
 use Rattle.qmodel.specs.Private.Endings.{gets, AreApart}
-use Rattle.qshared.specs.Due.{place, of_thread}
+use Rattle.qshared.specs.Due.{later_of, place, of_thread}
 use Rattle.qshared.specs.Private.Putting.{MayPut, Handed}
 use Rattle.qshared.proofs.Places.{place_same}
+use Rattle.qshared.proofs.Turns.{of_none}
 
 pub gets_here : (x : Completion) (t : ℕ) → eqb x.thread t ≡ true → gets (x ∷ []) t ≡ true
 gets_here x t e = rw e refl
@@ -23,8 +25,13 @@ gets_here x t e = rw e refl
 gets_else : (x : Completion) (t : ℕ) → eqb x.thread t ≡ false → gets (x ∷ []) t ≡ false
 gets_else x t e = rw e refl
 
-pub one_handed : (ts : List ℕ) (x : Completion) (i : ℕ) (d : Desk Completion) → place ts x.thread ≡ Some i → i < length d.lines → Handed ts (x ∷ []) d (put_desk d i x)
-one_handed ts x i d at near =
+cond_nil : (b : Bool) → cond b [] (of_thread 0 []) ≡ of_thread 0 []
+cond_nil true = refl
+cond_nil false = refl
+
+-- an ending that is put for another thread than the caller
+pub one_handed : (ts : List ℕ) (caller : ℕ) (x : Completion) (i : ℕ) (d : Desk Completion) → eqb x.thread caller ≡ false → place ts x.thread ≡ Some i → i < length d.lines → Handed ts caller (x ∷ []) d (put_desk d i x)
+one_handed ts caller x i d foreign at near =
     let l = line d i in
     let l' : Line Completion = record l { opened = false; putting = false; put = l.put ++ x ∷ [] } in
     let same_place = λ (t j : ℕ) (is : place ts t ≡ Some j) (e : eqb x.thread t ≡ true). same_Some j i (sym is ∙ ap (place ts) (sym (eqb-true x.thread t e)) ∙ at) in
@@ -33,8 +40,9 @@ one_handed ts x i d at near =
       put = λ t j is. elim (cases_Bool (eqb x.thread t)) [
         | inl e ↦
             let s = same_place t j is e in
-            ap (λ z. z.put) (line_here d i l' j s near) ∙ ap (λ k. (line d k).put ++ x ∷ []) (sym s) ∙ rw e refl
-        | inr e ↦ ap (λ z. z.put) (line_else d i l' j (other_place t j is e)) ∙ rw e (sym (append-nil (line d j).put))
+            let other : eqb caller t ≡ false = ne_eqb caller t (λ c. eqb-false x.thread caller foreign (eqb-true x.thread t e ∙ sym c)) in
+            ap (λ z. z.put) (line_here d i l' j s near) ∙ ap (λ k. (line d k).put ++ x ∷ []) (sym s) ∙ rw (other, e) refl
+        | inr e ↦ ap (λ z. z.put) (line_else d i l' j (other_place t j is e)) ∙ sym (append-nil (line d j).put) ∙ ap (λ ys. (line d j).put ++ ys) (rw e (sym (cond_nil (eqb caller t))))
       ];
       opened = λ t j is. elim (cases_Bool (eqb x.thread t)) [
         | inl e ↦ ap (λ z. z.opened) (line_here d i l' j (same_place t j is e) near) ∙ rw e refl
@@ -42,8 +50,36 @@ one_handed ts x i d at near =
       ];
     }
 
-pub none_handed : (ts : List ℕ) (d : Desk Completion) → Handed ts [] d d
-none_handed ts d = record { put = λ t i is. sym (append-nil (line d i).put); opened = λ t i is. refl }
+close_puts : (d : Desk Completion) (i j : ℕ) → i < length d.lines → (line (cancelled_desk d i) j).put ≡ (line d j).put
+close_puts d i j near =
+    let l' : Line Completion = record (line d i) { opened = false } in
+    elim (cases_Bool (eqb j i)) [
+      | inl e ↦ ap (λ z. z.put) (line_here d i l' j (eqb-true j i e) near) ∙ ap (λ k. (line d k).put) (sym (eqb-true j i e))
+      | inr e ↦ ap (λ z. z.put) (line_else d i l' j (eqb-false j i e))
+    ]
+
+own_later : (caller t : ℕ) (x : Completion) → eqb x.thread caller ≡ true → later_of caller t (x ∷ []) ≡ []
+own_later caller t x own = elim (cases_Bool (eqb x.thread t)) [
+  | inl e ↦ let same : eqb caller t ≡ true = eq-eqb caller t (sym (eqb-true x.thread caller own) ∙ eqb-true x.thread t e) in rw same refl
+  | inr e ↦ rw e (cond_nil (eqb caller t))
+]
+
+-- the caller's own ending, whose cell is closed
+pub own_handed : (ts : List ℕ) (caller : ℕ) (x : Completion) (i : ℕ) (d : Desk Completion) → eqb x.thread caller ≡ true → place ts caller ≡ Some i → i < length d.lines → Handed ts caller (x ∷ []) d (cancelled_desk d i)
+own_handed ts caller x i d own at near =
+    let l' : Line Completion = record (line d i) { opened = false } in
+    let same_place = λ (t j : ℕ) (is : place ts t ≡ Some j) (e : eqb x.thread t ≡ true). same_Some j i (sym is ∙ ap (place ts) (sym (eqb-true x.thread t e) ∙ eqb-true x.thread caller own) ∙ at) in
+    let other_place = λ (t j : ℕ) (is : place ts t ≡ Some j) (e : eqb x.thread t ≡ false) (s : j ≡ i). eqb-false x.thread t e (eqb-true x.thread caller own ∙ place_same ts caller t j (subst (λ k. place ts caller ≡ Some k) (sym s) at) is) in
+    record {
+      put = λ t j is. close_puts d i j near ∙ sym (append-nil (line d j).put) ∙ ap (λ ys. (line d j).put ++ ys) (sym (own_later caller t x own));
+      opened = λ t j is. elim (cases_Bool (eqb x.thread t)) [
+        | inl e ↦ ap (λ z. z.opened) (line_here d i l' j (same_place t j is e) near) ∙ rw e refl
+        | inr e ↦ ap (λ z. z.opened) (line_else d i l' j (other_place t j is e)) ∙ rw e refl
+      ];
+    }
+
+pub none_handed : (ts : List ℕ) (caller : ℕ) (d : Desk Completion) → Handed ts caller [] d d
+none_handed ts caller d = record { put = λ t i is. sym (append-nil (line d i).put) ∙ ap (λ ys. (line d i).put ++ ys) (sym (cond_nil (eqb caller t))); opened = λ t i is. refl }
 
 cond_or : (a b c : Bool) → cond b false (cond a false c) ≡ cond (a || b) false c
 cond_or true true c = refl
@@ -58,27 +94,33 @@ pub or_second : (a b : Bool) → (a || b) ≡ false → b ≡ false
 or_second true b e = absurd (true≢false e)
 or_second false b e = e
 
-pub more_handed : (ts : List ℕ) (X Y : List Completion) (d d' d'' : Desk Completion) → Handed ts X d d' → Handed ts Y d' d'' → Handed ts (X ++ Y) d d''
-more_handed ts X Y d d' d'' a b = record {
-  put = λ t i is. b.put t i is ∙ ap (λ ys. ys ++ of_thread t Y) (a.put t i is) ∙ append_assoc (line d i).put (of_thread t X) (of_thread t Y) ∙ ap (λ ys. (line d i).put ++ ys) (sym (filter-append (λ x. eqb x.thread t) X Y));
+later_append : (caller t : ℕ) (X Y : List Completion) → later_of caller t X ++ later_of caller t Y ≡ later_of caller t (X ++ Y)
+later_append caller t X Y = elim (cases_Bool (eqb caller t)) [
+  | inl e ↦ rw e refl
+  | inr e ↦ rw e (sym (filter-append (λ x. eqb x.thread t) X Y))
+]
+
+pub more_handed : (ts : List ℕ) (caller : ℕ) (X Y : List Completion) (d d' d'' : Desk Completion) → Handed ts caller X d d' → Handed ts caller Y d' d'' → Handed ts caller (X ++ Y) d d''
+more_handed ts caller X Y d d' d'' a b = record {
+  put = λ t i is. b.put t i is ∙ ap (λ ys. ys ++ later_of caller t Y) (a.put t i is) ∙ append_assoc (line d i).put (later_of caller t X) (later_of caller t Y) ∙ ap (λ ys. (line d i).put ++ ys) (later_append caller t X Y);
   opened = λ t i is. b.opened t i is ∙ ap (λ z. cond (gets Y t) false z) (a.opened t i is) ∙ cond_or (gets X t) (gets Y t) (line d i).opened ∙ ap (λ z. cond z false (line d i).opened) (sym (list_any-append (λ x. eqb x.thread t) X Y));
 }
 
 -- what may be put and goes to a thread that got nothing yet may still be put
-pub may_still : (ts : List ℕ) (X : List Completion) (x : Completion) (d d' : Desk Completion) → Handed ts X d d' → gets X x.thread ≡ false → MayPut ts d x → MayPut ts d' x
-may_still ts X x d d' h none m = (m.0, m.1, h.opened x.thread m.0 m.1 ∙ ap (λ b. cond b false (line d m.0).opened) none ∙ m.2)
+pub may_still : (ts : List ℕ) (caller : ℕ) (X : List Completion) (x : Completion) (d d' : Desk Completion) → Handed ts caller X d d' → gets X x.thread ≡ false → MayPut ts d x → MayPut ts d' x
+may_still ts caller X x d d' h none m = (m.0, m.1, h.opened x.thread m.0 m.1 ∙ ap (λ b. cond b false (line d m.0).opened) none ∙ m.2)
 
 -- ---- the loop
 
--- of the endings X some are put, and these are left
-pub record Handing (ts : List ℕ) (X : List Completion) (d d' : Desk Completion) (thread : ℕ) (own : Bool) (left : List Completion) : Type 0 where
+-- of the endings X some are put or are the caller's own, and these are left
+pub record Handing (ts : List ℕ) (X : List Completion) (d d' : Desk Completion) (caller : ℕ) (own : Option Completion) (left : List Completion) : Type 0 where
   pub done : List Completion
   pub whole : done ++ left ≡ X
-  pub handed : Handed ts done d d'
-  pub own_is : own ≡ gets done thread
+  pub handed : Handed ts caller done d d'
+  pub own_is : of_thread caller done ≡ one own
 
-pub handing_start : (ts : List ℕ) (X : List Completion) (d : Desk Completion) (thread : ℕ) → Handing ts X d d thread false X
-handing_start ts X d thread = record { done = []; whole = refl; handed = none_handed ts d; own_is = refl }
+pub handing_start : (ts : List ℕ) (X : List Completion) (d : Desk Completion) (caller : ℕ) → Handing ts X d d caller None X
+handing_start ts X d caller = record { done = []; whole = refl; handed = none_handed ts caller d; own_is = refl }
 
 pub gets_middle : (X Y : List Completion) (x : Completion) → AreApart (X ++ x ∷ Y) → gets X x.thread ≡ false
 gets_middle [] Y x a = refl
@@ -95,20 +137,29 @@ pub all_middle : (P : Completion → Type 0) (X Y : List Completion) (x : Comple
 all_middle P [] Y x a = a.0
 all_middle P (y ∷ X) Y x a = all_middle P X Y x a.1
 
--- the next ending may be put
-pub handing_next : (ts : List ℕ) (X : List Completion) (d d' : Desk Completion) (thread : ℕ) (own : Bool) (x : Completion) (left : List Completion)
-    → AreApart X → AllByRecursion (MayPut ts d) X → Handing ts X d d' thread own (x ∷ left) → MayPut ts d' x
-handing_next ts X d d' thread own x left apart may h =
-    may_still ts h.done x d d' h.handed (gets_middle h.done left x (subst AreApart (sym h.whole) apart)) (all_middle (MayPut ts d) h.done left x (subst (AllByRecursion (MayPut ts d)) (sym h.whole) may))
+module _ (ts : List ℕ) (X : List Completion) (d d' : Desk Completion) (caller : ℕ) (own : Option Completion) (x : Completion) (left : List Completion) (h : Handing ts X d d' caller own (x ∷ left)) where
+  fresh : AreApart X → gets h.done x.thread ≡ false
+  fresh apart = gets_middle h.done left x (subst AreApart (sym h.whole) apart)
 
-pub handing_more : (ts : List ℕ) (X : List Completion) (d d' d'' : Desk Completion) (thread : ℕ) (own own' : Bool) (x : Completion) (left : List Completion)
-    → Handing ts X d d' thread own (x ∷ left) → Handed ts (x ∷ []) d' d'' → own' ≡ (own || eqb x.thread thread) → Handing ts X d d'' thread own' left
-handing_more ts X d d' d'' thread own own' x left h one own_is = record {
-  done = h.done ++ x ∷ [];
-  whole = append_assoc h.done (x ∷ []) left ∙ h.whole;
-  handed = more_handed ts h.done (x ∷ []) d d' d'' h.handed one;
-  own_is = own_is ∙ ap (λ b. b || eqb x.thread thread) h.own_is ∙ ap (λ b. gets h.done thread || b) (sym (or_none (eqb x.thread thread))) ∙ sym (list_any-append (λ y. eqb y.thread thread) h.done (x ∷ []));
-} where
-  or_none : (b : Bool) → (b || false) ≡ b
-  or_none true = refl
-  or_none false = refl
+  -- the next ending may be put
+  pub handing_next : AreApart X → AllByRecursion (MayPut ts d) X → MayPut ts d' x
+  handing_next apart may = may_still ts caller h.done x d d' h.handed (fresh apart) (all_middle (MayPut ts d) h.done left x (subst (AllByRecursion (MayPut ts d)) (sym h.whole) may))
+
+  module _ (i : ℕ) (near : i < length d'.lines) where
+    -- one more ending is put
+    pub handing_more : eqb x.thread caller ≡ false → place ts x.thread ≡ Some i → Handing ts X d (put_desk d' i x) caller own left
+    handing_more foreign at = record {
+      done = h.done ++ x ∷ [];
+      whole = append_assoc h.done (x ∷ []) left ∙ h.whole;
+      handed = more_handed ts caller h.done (x ∷ []) d d' (put_desk d' i x) h.handed (one_handed ts caller x i d' foreign at near);
+      own_is = filter-append (λ y. eqb y.thread caller) h.done (x ∷ []) ∙ ap (λ ys. of_thread caller h.done ++ ys) (rw foreign refl) ∙ append-nil (of_thread caller h.done) ∙ h.own_is;
+    }
+
+    -- the caller's own ending is there
+    pub handing_own : AreApart X → eqb x.thread caller ≡ true → place ts caller ≡ Some i → Handing ts X d (cancelled_desk d' i) caller (Some x) left
+    handing_own apart is at = record {
+      done = h.done ++ x ∷ [];
+      whole = append_assoc h.done (x ∷ []) left ∙ h.whole;
+      handed = more_handed ts caller h.done (x ∷ []) d d' (cancelled_desk d' i) h.handed (own_handed ts caller x i d' is at near);
+      own_is = filter-append (λ y. eqb y.thread caller) h.done (x ∷ []) ∙ ap (λ ys. ys ++ of_thread caller (x ∷ [])) (of_none caller h.done (subst (λ u. gets h.done u ≡ false) (eqb-true x.thread caller is) (fresh apart))) ∙ rw is refl;
+    }

@@ -1,8 +1,8 @@
 -- What the past, the kernel and the cells are after an event.
 use Rattle.std.proofs.Common.{◌≡◌, ◌≢◌, ℕ, zero, suc, ◌<◌, List, [], ◌∷◌, ◌++◌, length, set, refl, ap, sym, subst, ◌∙◌, cond, true, false, eqb, inl, inr}
-use Rattle.std.specs.Prelude.{Some}
+use Rattle.std.specs.Prelude.{Some, is_some, ◌||◌}
 use Rattle.std.specs.List.{AllByRecursion}
-use Rattle.std.proofs.lemmas.Bool.{cases_Bool, eqb-true, eqb-false}
+use Rattle.std.proofs.lemmas.Bool.{cases_Bool, eqb-true, eqb-false, eq-eqb, ne_eqb, true≢false}
 use Rattle.std.proofs.lemmas.List.{set-get_or}
 use Rattle.std.proofs.lemmas.Option.{same_Some}
 use Rattle.qbase.proofs.Lists.{some_of}
@@ -10,12 +10,14 @@ use Rattle.qtables.specs.Members.{IsRoster}
 use Rattle.qtables.specs.declared.member.Member.{Member}
 use Rattle.qmodel.specs.declared.call.Call.{Call}
 use Rattle.qmodel.specs.declared.call.Completion.{Completion}
-use Rattle.qmodel.specs.Private.Endings.{GoesToBlocked, gets, may_end}
+use Rattle.qmodel.specs.Private.Endings.{AreApart, GoesToBlocked, gets, may_end}
+use Rattle.qmodel.specs.Private.Past.{open_call}
 use Rattle.qmodel.specs.Private.Facts.{threads_of}
 use Rattle.qmodel.specs.Private.Lawful.{with_event}
 use Rattle.qmodel.specs.Trace.{Event, Trace}
 use Rattle.qmodel.proofs.Rosters.{among_member, known}
-use Rattle.qmodel.proofs.TraceLaws.Blocked.{blocked_unless_ended, endings_go_to_blocked}
+use Rattle.qmodel.proofs.TraceLaws.Blocked.{blocked_unless_ended, endings_are_apart, endings_go_to_blocked}
+use Rattle.qrules.specs.Facts.{is_blocked}
 use Rattle.qrules.specs.Lawful.{IsLawful, facts_of}
 use Rattle.qrules.specs.Outcome.{Answers}
 use Rattle.qkernel.specs.Stands.{StandsAt}
@@ -25,11 +27,12 @@ use Rattle.qhandoff.specs.declared.view.Line.{Line}
 use Rattle.qhandoff.specs.Rule.{idle_line, line}
 use Rattle.qhandoff.specs.Steps.{opened_desk, cancelled_desk}
 use Rattle.qhandoff.proofs.Changes.{line_else, line_here}
-use Rattle.qshared.specs.Due.{place, of_thread}
+use Rattle.qshared.specs.Due.{AreLater, IsOwed, at_once, endings_due, later_due, later_of, of_thread, place}
 use Rattle.qshared.specs.UnderLock.{Agrees}
 use Rattle.qshared.specs.Performing.{IsFree}
 use Rattle.qshared.specs.Private.Putting.{MayPut, Handed}
 use Rattle.qshared.proofs.Places.{place_among, place_same, place_some}
+use Rattle.qshared.proofs.Turns.{of_none, of_one, owed_other, owed_own}
 use Rattle.qkernel.proofs.Traces.{before, blocked_same, properties_of, stands_down}
 
 -- ---- an opened cell
@@ -96,15 +99,55 @@ module _ (roster : List Member) (kernel : State) (d : Desk Completion) (past : T
             let s = some_of (place (threads_of roster) x.thread) (place_some (threads_of roster) x.thread (known roster x.thread a.0.known)) in
             ((s.0, s.1, opened_may x.thread s.0 s.1 ∙ a.0.may), each Y a.1)
 
+      -- the blocked threads are those whose calls might have ended and didn't
+      still_blocked : (u : ℕ) → is_blocked (facts_of roster (with_event t c X past)) u ≡ cond (gets X u) false (may_end roster past t u)
+      still_blocked u = blocked_same roster (e ∷ past) lawful_after u ∙ blocked_unless_ended roster past e rises (before roster (e ∷ past) lawful_after) (sym (blocked_same roster past told.lawful t) ∙ free.idle) u
+
+      one_each : AreApart X
+      one_each = endings_are_apart roster past e rises (before roster (e ∷ past) lawful_after)
+
+      may_of : (Y : List Completion) → AllByRecursion (GoesToBlocked roster past t) Y → (u : ℕ) → gets Y u ≡ true → may_end roster past t u ≡ true
+      may_of [] all u got = absurd (true≢false (sym got))
+      may_of (y ∷ Y) all u got = elim (cases_Bool (eqb y.thread u)) [
+        | inl s ↦ subst (λ v. may_end roster past t v ≡ true) (eqb-true y.thread u s) all.0.may
+        | inr s ↦ may_of Y all.1 u (rw s at got)
+      ]
+
+      -- what is owed to each thread
+      owed_after : (u j : ℕ) → place (threads_of roster) u ≡ Some j → IsOwed roster (with_event t c X past) u
+      owed_after u j is = elim (cases_Bool (eqb t u)) [
+        | inl own ↦
+            let same : t ≡ u = eqb-true t u own in
+            let free_before : is_blocked (facts_of roster past) u ≡ false = ap (is_blocked (facts_of roster past)) (sym same) ∙ free.idle in
+            let o = told.owed u j is in
+            let r = owed_own (at_once past u) (later_due past u) (endings_due past u) (of_thread u X) (is_blocked (facts_of roster (with_event t c X past)) u) (subst (λ b. AreLater b (at_once past u) (later_due past u)) free_before o.later) o.whole
+            (elim (cases_Bool (gets X u)) [
+              | inl got ↦ let x = of_one u X one_each got in inr (x.0, x.1, still_blocked u ∙ rw got refl)
+              | inr none ↦ inl (of_none u X none, still_blocked u ∙ ap (λ b. cond b false (may_end roster past t u)) none ∙ ap (λ b. b || is_some (open_call roster past u)) (eq-eqb u t (sym same)))
+            ]) in
+            record { later = rw own r.0; whole = rw own r.1 }
+        | inr other ↦
+            let apart : eqb u t ≡ false = ne_eqb u t (λ s. eqb-false t u other (sym s)) in
+            let waiting : may_end roster past t u ≡ is_blocked (facts_of roster past) u = ap (λ b. b || is_some (open_call roster past u)) apart ∙ sym (blocked_same roster past told.lawful u) in
+            let o = told.owed u j is in
+            let r = owed_other (at_once past u) (later_due past u) (endings_due past u) (of_thread u X) (is_blocked (facts_of roster past) u) (is_blocked (facts_of roster (with_event t c X past)) u) o.later o.whole
+            (elim (cases_Bool (gets X u)) [
+              | inl got ↦ let x = of_one u X one_each got in inr (x.0, x.1, sym waiting ∙ may_of X (endings_go_to_blocked roster past e rises (before roster (e ∷ past) lawful_after)) u got, still_blocked u ∙ rw got refl)
+              | inr none ↦ inl (of_none u X none, still_blocked u ∙ ap (λ b. cond b false (may_end roster past t u)) none ∙ waiting)
+            ]) in
+            record { later = rw other r.0; whole = rw other r.1 }
+      ]
+
       module _ (new : State) (d' : Desk Completion) (stands : StandsAt roster new (with_event t c X past))
-          (handed : Handed (threads_of roster) X (opened_desk d i) d') where
+          (handed : Handed (threads_of roster) t X (opened_desk d i) d') where
         pub told_after : Agrees roster new d' (with_event t c X past)
         told_after = record {
           lawful = lawful_after;
           properties = properties_of roster (with_event t c X past) lawful_after rises;
           stands = stands;
           tied = λ u j is. (
-            handed.put u j is ∙ ap (λ ys. ys ++ of_thread u X) (open_puts d i j near ∙ (told.tied u j is).0),
-            handed.opened u j is ∙ ap (λ b. cond (gets X u) false b) (opened_may u j is) ∙ sym (blocked_unless_ended roster past e rises (before roster (e ∷ past) lawful_after) (sym (blocked_same roster past told.lawful t) ∙ free.idle) u) ∙ sym (blocked_same roster (e ∷ past) lawful_after u),
+            handed.put u j is ∙ ap (λ ys. ys ++ later_of t u X) (open_puts d i j near ∙ (told.tied u j is).0),
+            handed.opened u j is ∙ ap (λ b. cond (gets X u) false b) (opened_may u j is) ∙ sym (still_blocked u),
           );
+          owed = owed_after;
         }

@@ -1,43 +1,58 @@
 -- The outcome of a call, and the past at which it has that outcome.
-use Rattle.std.specs.Prelude.{◌≡◌, ℕ, ◌+◌, true, false, List, length}
+use Rattle.std.specs.Prelude.{◌≡◌, ℕ, ◌+◌, List, ◌∷◌, length}
 use Rattle.qtables.specs.declared.member.Member.{Member}
 use Rattle.qmodel.specs.declared.call.Call.{Call}
 use Rattle.qmodel.specs.declared.call.Completion.{Completion}
 use Rattle.qrules.specs.Lawful.{IsLawful}
-use Rattle.qshared.specs.Past.{has_ending_of}
 use Rattle.qrules.specs.Properties.{HasProperties}
 use Rattle.qrules.specs.Trace.{Trace}
+use Rattle.qpast.specs.History.{Extends}
 use Rattle.qshared.specs.Asking.{calls_of}
-use Rattle.qshared.specs.Performing.{Admits, IsEvent, IsRefused, Refuses}
+use Rattle.qshared.specs.Performing.{Admits, IsEvent, IsOpen, IsOwn, IsRefused, Refuses}
 use Rattle.qshared.specs.declared.performed.Performed.{Performed}
 use Rattle.qshared.specs.declared.performed.Performed.TheVariants.{Ended, Open, Refused}
 use Rattle.qshared.specs.declared.port.Called.{Called}
 use Rattle.qshared.specs.declared.port.Called.TheVariants.{Done, Blocked}
 use Rattle.qshared.specs.declared.port.Called.TheVariants as called
 
--- this holds at a lawful past with the six properties, in which the thread's calls are just those that its
--- port made before
-pub record AtPast (roster : List Member) (t : ℕ) (made : List Call) (Holds : Trace → Type 0) : Type 0 where
-  pub past : Trace
+-- a past that a port can meet under the lock: it is lawful and has the six properties, it goes on from what
+-- the port saw before, and the thread's calls in it are just those that the port made before
+pub record IsMet (roster : List Member) (t : ℕ) (made : List Call) (seen past : Trace) : Type 0 where
   pub lawful : IsLawful roster past
   pub properties : HasProperties roster past
   pub calls : calls_of past t ≡ made
+  pub extends : Extends past seen
+
+-- this holds at a past that the port met
+pub record AtPast (roster : List Member) (t : ℕ) (made : List Call) (seen : Trace)
+    (Holds : Trace → Type 0) : Type 0 where
+  pub past : Trace
+  pub met : IsMet roster t made seen past
   pub holds : Holds past
 
--- the outcome of a call under the lock at a past: it is refused with an error and given back, or it is an
--- event, which ended exactly if the endings hold one of the call itself
-abbrev pub Comes : List Member → Refuses → Admits → ℕ → Call → Performed → Trace → Type 0
-Comes roster refuses admits t c (Refused e given) past = (given ≡ c) × IsRefused roster refuses past t c e
-Comes roster refuses admits t c Ended past =
-    (X : List Completion) × IsEvent roster admits past t c X × (has_ending_of X (length past + 1) ≡ true)
-Comes roster refuses admits t c Open past =
-    (X : List Completion) × IsEvent roster admits past t c X × (has_ending_of X (length past + 1) ≡ false)
+-- a call is an event after this past; then the past is that and the event, which has these endings
+pub record Happens (roster : List Member) (admits : Admits) (t : ℕ) (c : Call) (X : List Completion)
+    (past after : Trace) : Type 0 where
+  pub event : IsEvent roster admits past t c X
+  pub then : after ≡ record { thread = t; call = c; endings = X } ∷ past
 
--- what a port answers at a past: the call is refused with an error and given back, or it is an event; if the
--- answer has an ending, the call ended in that event
-abbrev pub Answered : List Member → Refuses → Admits → ℕ → Call → Called → Trace → Type 0
-Answered roster refuses admits t c (called.Refused e given) past =
-    (given ≡ c) × IsRefused roster refuses past t c e
-Answered roster refuses admits t c (Done x) past =
-    (X : List Completion) × IsEvent roster admits past t c X × (has_ending_of X (length past + 1) ≡ true)
-Answered roster refuses admits t c Blocked past = (X : List Completion) × IsEvent roster admits past t c X
+-- the outcome of a call under the lock at a past, and the past after it: it is refused with an error and
+-- given back, and the past is the same; or it is an event, and ended in it exactly if one of the endings is
+-- that of the call itself
+abbrev pub Comes : List Member → Refuses → Admits → ℕ → Call → Performed → Trace → Trace → Type 0
+Comes roster refuses admits t c (Refused e given) past after =
+    (given ≡ c) × IsRefused roster refuses past t c e × (after ≡ past)
+Comes roster refuses admits t c (Ended x) past after = (X : List Completion)
+    × Happens roster admits t c X past after × IsOwn t (length past + 1) X x
+Comes roster refuses admits t c Open past after = (X : List Completion)
+    × Happens roster admits t c X past after × IsOpen t (length past + 1) X
+
+-- what a port answers at a past, and the past after it: the call is refused with an error and given back, and
+-- the past is the same; or it is an event; if the answer has an ending, it is the call's own in that event
+abbrev pub Answered : List Member → Refuses → Admits → ℕ → Call → Called → Trace → Trace → Type 0
+Answered roster refuses admits t c (called.Refused e given) past after =
+    (given ≡ c) × IsRefused roster refuses past t c e × (after ≡ past)
+Answered roster refuses admits t c (Done x) past after = (X : List Completion)
+    × Happens roster admits t c X past after × IsOwn t (length past + 1) X x
+Answered roster refuses admits t c Blocked past after = (X : List Completion)
+    × Happens roster admits t c X past after × IsOpen t (length past + 1) X

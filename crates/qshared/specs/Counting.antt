@@ -9,7 +9,7 @@ use Rattle.qshared.specs.declared.performed.Performed.TheVariants.{Ended, Open, 
 
 -- true if a call that was made under the lock is an event
 abbrev pub is_event : Performed → Bool
-is_event Ended = true
+is_event (Ended x) = true
 is_event Open = true
 is_event (Refused errno call) = false
 

@@ -1,25 +1,43 @@
 -- What follows from the rule of the cells and their tie to the past.
-use Rattle.std.specs.Prelude.{◌≡◌, ℕ, ◌<◌, ◌≤◌, List, ◌++◌, length, Option, Some}
+use Rattle.std.specs.Prelude.{◌≡◌, ℕ, ◌+◌, ◌<◌, ◌≤◌, ◌==◌, List, [], ◌∷◌, ◌++◌, length, take}
+use Rattle.std.specs.Prelude.{Option, Some, None, if◌then◌else◌}
 use mathlib.Core.Option.{some}
 use lib.ListN.{get_elem?}
 use Rattle.atomic_table.specs.Table.{State}
 use Rattle.qtables.specs.declared.member.Member.{Member}
 use Rattle.qmodel.specs.declared.call.Completion.{Completion}
 use Rattle.qrules.specs.Facts.{threads_of}
-use Rattle.qrules.specs.Trace.{Trace}
+use Rattle.qrules.specs.Trace.{CallNo, Event, followed_by, Trace}
+use Rattle.qpast.specs.History.{Extends}
 use Rattle.qhandoff.specs.declared.view.Desk.{Desk}
 use Rattle.qhandoff.specs.declared.view.Hand.{Hand}
 use Rattle.qhandoff.specs.declared.view.View.{View}
 use Rattle.qhandoff.specs.declared.view.View.TheVariants.{Kernel, Thread}
 use Rattle.qhandoff.specs.Rule.{KeepsRule}
-use Rattle.qshared.specs.Due.{IsTied, endings_due, place}
+use Rattle.qshared.specs.Due.{IsTied, later_due, place}
 
--- between any two steps, what a thread took is a prefix of what is due to it by a past that the cells are
--- tied to, and lacks at most one ending
+-- between any two steps, what a thread took out of its cell is a prefix of the endings that came later for
+-- it, by a past that the cells are tied to, and lacks at most one ending
 abbrev pub TakenIsDue : Type 0
 TakenIsDue = (n : ℕ) (s : State (Option Completion) (View Completion)) (d : Desk Completion)
     (h : Hand Completion) (i j t : ℕ) (roster : List Member) (past : Trace)
     → KeepsRule n s → get_elem? s.views i ≡ some (Kernel d) → get_elem? s.views j ≡ some (Thread h)
     → h.thread < n
     → IsTied roster d past → place (threads_of roster) t ≡ Some h.thread
-    → (rest : List Completion) × (endings_due past t ≡ h.taken ++ rest) × (length rest ≤ 1)
+    → (rest : List Completion) × (later_due past t ≡ h.taken ++ rest) × (length rest ≤ 1)
+
+-- the event of number i
+abbrev pub event_at : Trace → CallNo → Option Event
+event_at [] i = None
+event_at (e ∷ past) i = if i == length past + 1 then Some e else event_at past i
+
+-- who saw the past after an event, or learned of it from one who did, meets only pasts in which the event
+-- stands at its number
+abbrev pub InRealTime : Type 0
+InRealTime = (e : Event) (past after seen met : Trace) → after ≡ e ∷ past → Extends seen after
+    → Extends met seen → (event_at met (length past + 1) ≡ Some e) × (length past < length met)
+
+-- what was seen of a past is the first of its events
+abbrev pub IsBeginning : Type 0
+IsBeginning = (events : List Event) (seen : Trace) → Extends (followed_by [] events) seen
+    → followed_by [] (take (length seen) events) ≡ seen

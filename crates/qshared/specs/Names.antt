@@ -11,5 +11,7 @@ pub record Names : Type 0 where
   pub cells : TableId
   -- the name of each thread's list of calls, by the number of its cell
   pub lists : List ℕ
+  -- the name of its past, of which each port saw a beginning
+  pub history : ℕ
   -- the most events that its past may have, if it is kept
   pub limit : ℕ

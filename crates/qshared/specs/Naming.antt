@@ -13,6 +13,7 @@ names_of p = record {
   roster = members_of p.kernel.threads;
   cells = cells_id p.cells;
   lists = map (λ h. h.name) p.heard.items;
+  history = p.history.name;
   limit = p.limit;
 }
 
@@ -30,6 +31,7 @@ AreParts names ledger shares p =
     (cells_id p.cells ≡ names.cells) × (ledger_of p ≡ ledger) × (shares ≡ names.cells.slots)
     × (members_of p.kernel.threads ≡ names.roster)
     × (map (λ h. h.name) p.heard.items ≡ names.lists) × (p.limit ≡ names.limit)
+    × (p.history.name ≡ names.history)
 
 -- there are this many ports, and each has the index of its place as its number
 abbrev pub AreAll : {P : Type 0} → (P → ℕ) → ℕ → List P → Type 0

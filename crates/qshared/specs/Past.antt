@@ -1,5 +1,8 @@
 -- What contracts ask of the past and of an event's endings.
-use Rattle.std.specs.Prelude.{◌<◌, ◌==◌, ◌∷◌}
+use Rattle.std.specs.Prelude.{◌≡◌, ◌<◌, ◌==◌, ◌∷◌, ℕ}
+use mathlib.Core.Option.{some}
+use lib.ListN.{get_elem?}
+use Rattle.qpast.specs.History.{Extends}
 use Rattle.qrules.specs.Words.{[], list_any, AllByRecursion, Bool, Completion, List}
 use Rattle.qrules.specs.Past.{was_done}
 use Rattle.qrules.specs.Trace.{CallNo, Trace}
@@ -16,3 +19,7 @@ has_ending_of endings i = list_any (λ x. x.call == i) endings
 abbrev pub RiseByThread : List Completion → Type 0
 RiseByThread [] = Unit {0}
 RiseByThread (x ∷ endings) = AllByRecursion (λ y. x.thread < y.thread) endings × RiseByThread endings
+
+-- this past goes on from each of those that were seen
+abbrev pub AreSeen : Trace → List Trace → Type 0
+AreSeen past seen = (k : ℕ) (s : Trace) → get_elem? seen k ≡ some s → Extends past s

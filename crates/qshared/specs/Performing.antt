@@ -1,5 +1,6 @@
 -- The outcome of a call that was made under the lock.
 use Rattle.std.specs.Prelude.{◌≡◌, ◌⊎◌, ℕ, ◌+◌, true, false, is_some, List, [], ◌∷◌, length}
+use Rattle.std.specs.Prelude.{Option, None, Some}
 use Rattle.qbase.specs.declared.errno.Errno.{Errno}
 use Rattle.qbase.specs.declared.errno.Errno.TheVariants.{NoThread, Down, Busy}
 use Rattle.qtables.specs.Members.{member_at}
@@ -10,7 +11,7 @@ use Rattle.qrules.specs.Facts.{is_blocked}
 use Rattle.qrules.specs.Lawful.{facts_of}
 use Rattle.qrules.specs.Outcome.{Answers}
 use Rattle.qrules.specs.Trace.{Trace}
-use Rattle.qshared.specs.Due.{endings_due}
+use Rattle.qshared.specs.Due.{endings_due, of_thread}
 use Rattle.qshared.specs.Past.{has_ending_of, is_down}
 use Rattle.qshared.specs.declared.performed.Performed.{Performed}
 use Rattle.qshared.specs.UnderLock.{UnderLock}
@@ -56,16 +57,31 @@ pub record IsEvent (roster : List Member) (admits : Admits) (past : Trace) (t : 
   pub admitted : admits past c
   pub answers : Answers (facts_of roster past) t c X
 
+-- x is the one ending of these that is for thread t, and that of the call of number i
+pub record IsOwn (t i : ℕ) (endings : List Completion) (x : Completion) : Type 0 where
+  pub only : of_thread t endings ≡ x ∷ []
+  pub number : x.call ≡ i
+
+-- none of these endings is for thread t, and none is that of the call of number i
+pub record IsOpen (t i : ℕ) (endings : List Completion) : Type 0 where
+  pub none : of_thread t endings ≡ []
+  pub unended : has_ending_of endings i ≡ false
+
+-- the outcome of an event, given the caller's own ending, or none
+abbrev pub outcome : Option Completion → Performed
+outcome (Some x) = Ended x
+outcome None = Open
+
 -- a call that is refused is given back and changes nothing; any other is an event, which the past then has,
--- and ended in it exactly if the endings hold one of the call itself
+-- and ended in it exactly if one of the endings is that of the call itself
 abbrev pub Performs : List Member → Refuses → Admits → UnderLock → ℕ → Call → Performed → UnderLock → Type 0
 Performs roster refuses admits old t c (Refused e given) new =
     (new ≡ old) × (given ≡ c) × IsRefused roster refuses old.past t c e
-Performs roster refuses admits old t c Ended new =
+Performs roster refuses admits old t c (Ended x) new =
     (X : List Completion) × IsEvent roster admits old.past t c X
     × (new.past ≡ record { thread = t; call = c; endings = X } ∷ old.past)
-    × (has_ending_of X (length old.past + 1) ≡ true)
+    × IsOwn t (length old.past + 1) X x
 Performs roster refuses admits old t c Open new =
     (X : List Completion) × IsEvent roster admits old.past t c X
     × (new.past ≡ record { thread = t; call = c; endings = X } ∷ old.past)
-    × (has_ending_of X (length old.past + 1) ≡ false)
+    × IsOpen t (length old.past + 1) X

@@ -1,11 +1,12 @@
 -- A port's answer to two calls that are made in one turn at the lock.
-use Rattle.std.specs.Prelude.{◌≡◌, ℕ, Bool, true, false, ◌+◌, List, [], ◌∷◌, ◌++◌, if◌then◌else◌}
+use Rattle.std.specs.Prelude.{◌≡◌, ℕ, Bool, true, false, ◌+◌, List, [], ◌∷◌, if◌then◌else◌}
 use Rattle.qtables.specs.declared.member.Member.{Member}
 use Rattle.qmodel.specs.declared.call.Call.{Call}
 use Rattle.qmodel.specs.declared.call.Completion.{Completion}
 use Rattle.qmodel.specs.declared.call.Mark.{Mark}
 use Rattle.qmodel.specs.declared.call.Mark.TheVariants.{Ok}
-use Rattle.qshared.specs.Answered.{Answered, AtPast}
+use Rattle.qmodel.specs.Trace.{Trace}
+use Rattle.qshared.specs.Answered.{Answered}
 use Rattle.qshared.specs.Counting.{is_call, gives, pends}
 use Rattle.qshared.specs.Performing.{Admits, Refuses}
 use Rattle.qshared.specs.declared.port.Called.{Called}
@@ -45,17 +46,13 @@ abbrev pub pends_both : CalledBoth → Bool → Bool
 pends_both (Both x second) before = pends second before
 pends_both (First first given) before = pends first before
 
--- a call is answered as a single call of a port is, after the calls that its port made before
-abbrev pub AnsweredAfter : List Member → Refuses → Admits → ℕ → List Call → Call → Called → Type 0
-AnsweredAfter roster refuses admits t made c answer =
-    AtPast roster t made (Answered roster refuses admits t c answer)
-
--- the second call is made exactly if the first ended in its own event and didn't fail; each call that is made
--- is answered as a single call of a port is; a call that isn't made is given back
-abbrev pub AnsweredBoth : List Member → Refuses → Admits → ℕ → List Call → Call → Call → CalledBoth → Type 0
-AnsweredBoth roster refuses admits t made c d (Both x second) =
+-- two calls are answered at a past, with no event between them: the second is made exactly if the first ended
+-- in its own event and didn't fail, and then after that event; a call that isn't made is given back
+abbrev pub AnsweredBoth :
+    List Member → Refuses → Admits → ℕ → Call → Call → CalledBoth → Trace → Trace → Type 0
+AnsweredBoth roster refuses admits t c d (Both x second) past after =
     (is_ok x.mark ≡ true)
-    × AnsweredAfter roster refuses admits t made c (Done x)
-    × AnsweredAfter roster refuses admits t (made ++ c ∷ []) d second
-AnsweredBoth roster refuses admits t made c d (First first given) =
-    (is_accepted first ≡ false) × AnsweredAfter roster refuses admits t made c first × (given ≡ d)
+    × ((between : Trace) × Answered roster refuses admits t c (Done x) past between
+    × Answered roster refuses admits t d second between after)
+AnsweredBoth roster refuses admits t c d (First first given) past after =
+    (is_accepted first ≡ false) × Answered roster refuses admits t c first past after × (given ≡ d)

@@ -1,5 +1,5 @@
 -- The value under the lock: a kernel, the kernel's seat of the cells, and the past.
-use Rattle.std.specs.Prelude.{◌≡◌, ℕ, ◌≤◌, List, length, ◌^◌}
+use Rattle.std.specs.Prelude.{◌≡◌, ℕ, ◌≤◌, List, length, ◌^◌, Some}
 use Rattle.qtables.specs.Members.{IsRoster}
 use Rattle.qtables.specs.declared.member.Member.{Member}
 use Rattle.qmodel.specs.declared.call.Completion.{Completion}
@@ -10,7 +10,7 @@ use Rattle.qrules.specs.Trace.{Trace}
 use Rattle.qkernel.specs.Stands.{StandsAt}
 use Rattle.qkernel.specs.Kernel.{State}
 use Rattle.qhandoff.specs.declared.view.Desk.{Desk}
-use Rattle.qshared.specs.Due.{IsTied}
+use Rattle.qshared.specs.Due.{IsOwed, IsTied, place}
 
 -- what contracts see of the value under the lock: the kernel, what its seat knows of the cells, and the past
 pub record UnderLock : Type 0 where
@@ -19,12 +19,13 @@ pub record UnderLock : Type 0 where
   pub past : Trace
 
 -- the past is lawful and has the six properties, the kernel stands at it, and the endings put into the cells
--- are those due
+-- are those that came later
 pub record Agrees (roster : List Member) (kernel : State) (d : Desk Completion) (past : Trace) : Type 0 where
   pub lawful : IsLawful roster past
   pub properties : HasProperties roster past
   pub stands : StandsAt roster kernel past
   pub tied : IsTied roster d past
+  pub owed : (t i : ℕ) → place (threads_of roster) t ≡ Some i → IsOwed roster past t
 
 -- what holds whenever the lock is free, for the kernel of this roster: all of the above, and there are as
 -- many cells as threads

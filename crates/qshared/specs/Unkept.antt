@@ -1,20 +1,17 @@
 -- A past that is kept nowhere: the errors of its log, and what holds of it.
-use Rattle.std.specs.Prelude.{◌≡◌, ℕ, ◌+◌, ◌<◌, ◌⊎◌, ◌++◌, ◌^◌, List, length, sum, Some}
-use lib.ListN.{get_elem?}
+use Rattle.std.specs.Prelude.{◌≡◌, ℕ, ◌+◌, ◌<◌, ◌⊎◌, ◌^◌, List, length, sum}
 use Rattle.qbase.specs.declared.errno.Errno.{Errno}
 use Rattle.qbase.specs.declared.errno.Errno.TheVariants.{Exhausted}
 use Rattle.qtables.specs.declared.member.Member.{Member}
 use Rattle.qmodel.specs.declared.call.Call.{Call}
 use Rattle.qmodel.specs.declared.call.Call.TheVariants.{Shutdown}
 use Rattle.qmodel.specs.declared.call.Completion.{Completion}
-use Rattle.qrules.specs.Facts.{threads_of}
 use Rattle.qrules.specs.Lawful.{IsLawful}
 use Rattle.qrules.specs.Properties.{HasProperties}
 use Rattle.qrules.specs.Trace.{Trace}
-use Rattle.qhandoff.specs.declared.seats.ThreadSeat.{ThreadSeat}
-use Rattle.qhandoff.specs.Words.{took}
 use Rattle.qshared.specs.Asking.{AreCallsOf}
-use Rattle.qshared.specs.Due.{endings_due, of_thread, place}
+use Rattle.qshared.specs.Past.{AreSeen}
+use Rattle.qshared.specs.Due.{AreDue}
 
 -- the error with which a call isn't noted: one event of the 2^40 that a kernel makes is left; a Shutdown is
 -- never refused
@@ -27,14 +24,14 @@ abbrev pub admits_unkept : Trace → Call → Type 0
 admits_unkept past c = (length past + 1 < 2 ^ 40) ⊎ (c ≡ Shutdown)
 
 -- there is a past, lawful and with the six properties, of as many events as these counts sum to; each
--- thread's calls in it are exactly those of its list, and due to the thread is exactly what its seat took and
--- what is left for it
-pub record HasPast (roster : List Member) (seats : List (ThreadSeat Completion)) (asked : List (List Call))
-    (calls : List ℕ) (left : List Completion) : Type 0 where
+-- thread's calls in it are exactly those of its list, it goes on from all that was seen, and due to the
+-- thread is exactly what its port took and what is left for it
+pub record HasPast (roster : List Member) (taken : List (List Completion)) (asked : List (List Call))
+    (seen : List Trace) (calls : List ℕ) (left : List Completion) : Type 0 where
   pub past : Trace
   pub many : sum calls ≡ length past
   pub asked_is : AreCallsOf roster asked past
+  pub begins : AreSeen past seen
   pub lawful : IsLawful roster past
   pub properties : HasProperties roster past
-  pub due_is : (t i : ℕ) → place (threads_of roster) t ≡ Some i
-      → took (get_elem? seats i) ++ of_thread t left ≡ endings_due past t
+  pub due_is : AreDue roster taken left past

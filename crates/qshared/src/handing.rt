@@ -1,11 +1,12 @@
 //! Putting an event's endings into the cells.
-ghost use Rattle.std.specs.Prelude.{◌≡◌, ◌<◌, ◌≤◌, [], ◌∷◌, length, ◌||◌, ◌==◌};
+ghost use Rattle.std.specs.Prelude.{◌≡◌, ◌<◌, ◌≤◌, [], length, Some};
 ghost use Rattle.std.specs.List.{AllByRecursion};
-ghost use Rattle.qhandoff.specs.Words.{cells_id, kernel_id, desk};
-ghost use Rattle.qmodel.specs.Private.Endings.{gets, AreApart};
+ghost use Rattle.qhandoff.specs.Steps.{put_desk};
+ghost use Rattle.qhandoff.specs.Words.{cells_id, kernel_id, desk, one};
+ghost use Rattle.qmodel.specs.Private.Endings.{AreApart};
 ghost use Rattle.qrules.specs.Facts.{threads_of};
 ghost use Rattle.qstate.specs.Kept.{members_of};
-ghost use Rattle.qshared.specs.Due.{place};
+ghost use Rattle.qshared.specs.Due.{of_thread, place};
 ghost use Rattle.qshared.specs.Private.Putting.{MayPut, Handed};
 
 use crate::turn::Turn;
@@ -35,7 +36,7 @@ fn hand_one(
     requires may { MayPut (threads_of (members_of kernel.now.threads)) (desk seat.old) ending }
     ensures cells { kernel_id seat.new ≡ kernel_id seat.old }
     ensures place { result < (cells_id cells.entry.now).slots }
-    ensures handed { Handed (threads_of (members_of kernel.now.threads)) (ending ∷ []) (desk seat.old) (desk seat.new) }
+    ensures put { (place (threads_of (members_of kernel.now.threads)) ending.thread ≡ Some result) × (desk seat.new ≡ put_desk (desk seat.old) result ending) }
 {
     let Some(place) = place_of(kernel, ending.thread) else {
         unreachable!()
@@ -44,51 +45,46 @@ fn hand_one(
     place
 }
 
-/// Returns whether `before` is true or the ending is for the thread.
-fn is_for(before: bool, ending: &Completion, thread: ThreadNo) -> bool
-    ensures { result ≡ (before || (ending.now.thread == thread)) }
-{
-    before || ending.thread == thread
-}
-
-/// Returns the bit of a cell whose thread is to be woken; 0 if the cell is the caller's own.
-fn bit_of(place: usize, is_own: bool) -> u64
+/// Returns the bit of a cell whose thread is to be woken.
+fn bit_of(place: usize) -> u64
     requires { place < 64 }
 {
-    if is_own {
-        return 0;
-    }
     1u64 << place
 }
 
-/// Puts an event's endings into their threads' cells. Returns whether one of them is for the thread whose turn it is, and
-/// sets the bit of every other cell that is filled.
+/// Puts an event's endings into their threads' cells, but for that of the thread whose turn it is: closes this thread's
+/// cell, and returns its ending. Sets the bit of every other cell that is filled.
 pub(crate) fn hand_out(
     seat: &mut KernelSeat<Completion>,
     cells: &Cells<Completion>,
     kernel: &Kernel,
     turn: &mut Turn,
-) -> bool
+) -> Option<Completion>
     requires few { (cells_id cells.now).slots ≤ 64 }
     requires cells { kernel_id seat.old ≡ cells_id cells.now }
     requires sized { length (threads_of (members_of kernel.now.threads)) ≡ (cells_id cells.now).slots }
+    requires place { place (threads_of (members_of kernel.now.threads)) turn.old.seat.thread ≡ Some turn.old.seat.index }
     requires apart { AreApart turn.old.endings.value.items }
     requires may { AllByRecursion (MayPut (threads_of (members_of kernel.now.threads)) (desk seat.old)) turn.old.endings.value.items }
     ensures cells { kernel_id seat.new ≡ kernel_id seat.old }
-    ensures own { result ≡ gets turn.old.endings.value.items turn.old.seat.thread }
-    ensures handed { Handed (threads_of (members_of kernel.now.threads)) turn.old.endings.value.items (desk seat.old) (desk seat.new) }
-    ensures seat { turn.new.seat ≡ turn.old.seat }
+    ensures own { of_thread turn.old.seat.thread turn.old.endings.value.items ≡ one result }
+    ensures handed { Handed (threads_of (members_of kernel.now.threads)) turn.old.seat.thread turn.old.endings.value.items (desk seat.old) (desk seat.new) }
+    ensures seat { (turn.new.seat ≡ turn.old.seat) × (turn.new.pending ≡ turn.old.pending) }
     ensures emptied { turn.new.endings.value.items ≡ [] }
 {
+    let own_place = turn.seat.index();
     let thread = turn.seat.thread();
     let endings = &mut *turn.endings;
     endings.as_mut_slice().reverse();
-    let mut own = false;
+    let mut own = None;
     while let Some(ending) = endings.pop() {
-        let is_own = ending.thread == thread;
-        own = is_for(own, &ending, thread);
-        let place = hand_one(seat, cells, kernel, ending);
-        turn.woken |= bit_of(place, is_own);
+        if ending.thread == thread {
+            seat.cancel(cells, own_place);
+            own = Some(ending);
+        } else {
+            let place = hand_one(seat, cells, kernel, ending);
+            turn.woken |= bit_of(place);
+        }
     }
     own
 }

@@ -1,10 +1,20 @@
-//! A law that follows from the rule of the cells and their tie to the past. The function does nothing: its contract is
-//! the law, for every state of the cells between two steps.
+//! Laws of a shared kernel. The functions do nothing: their contracts are the laws.
 
-ghost use Rattle.qshared.specs.Laws.{TakenIsDue};
+ghost use Rattle.qshared.specs.Laws.{InRealTime, IsBeginning, TakenIsDue};
 
-/// States that at each moment, what a thread took is a prefix of what was due to it when the lock was last free, and
-/// lacks at most one ending.
+/// States that at each moment, what a thread took out of its cell is a prefix of the endings that came later for it, by
+/// the past when the lock was last free, and lacks at most one of them.
 pub fn taken_is_due()
     ensures { TakenIsDue }
+{}
+
+/// States that what a port was told stands in each past that another meets who knew of it: the event has the number that
+/// follows those before it, and so comes first.
+pub fn in_real_time()
+    ensures { InRealTime }
+{}
+
+/// States that what was seen of a past is the first events of the trace that is returned at the end.
+pub fn is_beginning()
+    ensures { IsBeginning }
 {}

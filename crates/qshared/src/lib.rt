@@ -15,6 +15,7 @@ pub mod performed;
 pub mod port;
 pub mod report;
 mod room;
+pub mod seen;
 pub mod shared;
 mod spinning;
 pub mod tie;

@@ -1,10 +1,10 @@
 //! The value under the lock.
-ghost use Rattle.std.specs.Prelude.{◌≡◌, ◌+◌, ◌++◌, ◌<◌, ◌≤◌, ◌^◌, ℕ, [], ◌∷◌, length, map, slice_index_or, if◌then◌else◌, Some};
+ghost use Rattle.std.specs.Prelude.{◌≡◌, ◌+◌, ◌++◌, ◌<◌, ◌≤◌, ◌^◌, ℕ, [], ◌∷◌, length, map, slice_index_or, if◌then◌else◌, Some, true, false};
 ghost use lib.ListN.{get_elem?};
 ghost use Rattle.qrules.specs.Facts.{threads_of};
 ghost use Rattle.qhandoff.specs.Words.{cells_id};
-ghost use Rattle.qshared.specs.Asking.{AreCallsOf, heard_in};
-ghost use Rattle.qshared.specs.Answered.{AtPast, Comes};
+ghost use Rattle.qshared.specs.Asking.{AreCallsOf, WaitedBefore, heard_in};
+ghost use Rattle.qshared.specs.Answered.{IsMet, Comes};
 ghost use Rattle.qshared.specs.Counting.{is_event, one_if};
 ghost use Rattle.qshared.specs.Due.{place};
 
@@ -17,6 +17,7 @@ use crate::turn::Turn;
 use qhandoff::cells::Cells;
 use qmodel::call::{Call, Completion};
 use qpast::asking::{Asked, Heard};
+use qpast::history::Seen;
 use std::snapshot::Snapshot;
 use std::sync::ledger::{Book, Share};
 
@@ -42,7 +43,7 @@ fn is_event(performed: &Performed) -> bool
     ensures { result ≡ is_event performed.now }
 {
     match performed {
-        Performed::Ended | Performed::Open => true,
+        Performed::Ended(_) | Performed::Open => true,
         Performed::Refused(_, _) => false,
     }
 }
@@ -82,27 +83,34 @@ impl<K: Tie, L: Log> Locked<K, L> {
     }
 
     /// Makes a call of the thread whose turn it is. If the call is an event, counts it in the thread's share and adds it
-    /// to the thread's list.
+    /// to the thread's list. What was seen is then the whole past.
     pub(crate) fn call(
         &mut self,
         cells: &Cells<Completion>,
         turn: &mut Turn,
         share: &mut Share<K>,
         asked: &mut Asked,
+        seen: &mut Seen,
         call: Call,
     ) -> Performed
         requires cells { cells_id cells.now ≡ K.names.cells }
         requires part { 0 < share.old.parts }
         requires seat { (place (threads_of K.names.roster) turn.old.seat.thread ≡ Some turn.old.seat.index) × (turn.old.seat.index < K.names.cells.slots) }
         requires none { turn.old.endings.value.items ≡ [] }
+        requires pending { turn.old.pending ≡ true → WaitedBefore seen.old.trace asked.old.calls turn.old.seat.thread }
         requires asked { slice_index_or K.names.lists turn.old.seat.index 0 ≡ asked.old.name }
-        ensures came { AtPast K.names.roster turn.old.seat.thread asked.old.calls (Comes K.names.roster L.refuses L.admits turn.old.seat.thread call result) }
+        requires seen { seen.old.name ≡ K.names.history }
+        ensures met { IsMet K.names.roster turn.old.seat.thread asked.old.calls seen.old.trace self.old.traced.past }
+        ensures idle { is_event result ≡ true → turn.old.pending ≡ false }
+        ensures came { Comes K.names.roster L.refuses L.admits turn.old.seat.thread call result self.old.traced.past seen.new.trace }
+        ensures past { self.new.traced.past ≡ seen.new.trace }
+        ensures seen { seen.new.name ≡ seen.old.name }
         ensures parts { share.new.parts ≡ share.old.parts }
         ensures amount { share.new.amount ≡ share.old.amount + one_if (is_event result) }
         ensures name { asked.new.name ≡ asked.old.name }
         ensures asked { asked.new.calls ≡ asked.old.calls ++ (if is_event result then call ∷ [] else []) }
         ensures few { share.old.amount < 2 ^ 63 }
-        ensures seat { turn.new.seat ≡ turn.old.seat }
+        ensures seat { (turn.new.seat ≡ turn.old.seat) × (turn.new.pending ≡ turn.old.pending) }
         ensures none { turn.new.endings.value.items ≡ [] }
     {
         let cell = turn.seat.index();
@@ -110,7 +118,7 @@ impl<K: Tie, L: Log> Locked<K, L> {
         self.book.audit(share);
         agree(asked, &mut self.heard, cell);
         let asking = Snapshot::of(&call);
-        let performed = self.traced.perform(cells, turn, call);
+        let performed = self.traced.perform(cells, turn, seen, call);
         if is_event(&performed) {
             asked.ask(&mut self.heard[cell], &asking);
             self.book.add(share, 1);

@@ -15,6 +15,7 @@ use qhandoff::seats::{KernelSeat, ThreadSeat};
 use qkernel::kernel::Kernel;
 use qmodel::call::Completion;
 use qpast::asking::{Asked, Heard, halves};
+use qpast::history::{History, Seen};
 use qtables::member::Member;
 use qtables::roster::Roster;
 use std::alloc::{AllocError, Global};
@@ -33,12 +34,15 @@ pub struct Parts {
     pub(crate) limit: usize,
     pub(crate) asked: Vec<Asked>,
     pub(crate) heard: Vec<Heard>,
+    pub(crate) history: History,
+    pub(crate) seen: Seen,
     ghost fits: { (kernel_id seat ≡ cells_id cells) × (desk seat ≡ seated_desk (count cells) (count cells)) × (blank.parts ≡ count cells) },
     ghost row: { (length seats.items ≡ count cells) × IsRow (cells_id cells) seats.items × ((k : ℕ) → took (get_elem? seats.items k) ≡ []) },
     ghost stands: { StandsAt (members_of kernel.threads) kernel [] },
     ghost threads_are: { (threads.items ≡ threads_of (members_of kernel.threads)) × (length threads.items ≡ count cells) },
     ghost bounded: { (2 ≤ limit) × (limit ≤ 2 ^ 20) },
     ghost halves: { (map (λ a. a.name) asked.items ≡ map (λ h. h.name) heard.items) × (length asked.items ≡ count cells) × (length heard.items ≡ count cells) },
+    ghost unseen: { (history.name ≡ seen.name) × (history.trace ≡ []) × (seen.trace ≡ []) },
     ghost empty: { ((k : ℕ) → asked_in (get_elem? asked.items k) ≡ []) × ((k : ℕ) → heard_in (get_elem? heard.items k) ≡ []) },
 }
 
@@ -89,6 +93,7 @@ impl Parts {
         let (cells, seat, seats) = Cells::new(alloc, threads.len())?;
         let kernel = Kernel::new(alloc, roster)?;
         let (asked, heard) = lists(alloc, threads.len())?;
+        let (history, seen) = History::begin();
         Ok(Parts {
             cells,
             seat,
@@ -99,6 +104,8 @@ impl Parts {
             limit: trace_limit as usize,
             asked,
             heard,
+            history,
+            seen,
         })
     }
 }

@@ -3,8 +3,10 @@
 ghost use Rattle.std.specs.Prelude.{◌≡◌, ◌+◌, ◌++◌, [], ◌∷◌, true, false, MatchOption, if◌then◌else◌, slice_index_or, Some};
 ghost use Rattle.qrules.specs.Facts.{threads_of};
 ghost use Rattle.qhandoff.specs.Words.{cells_id, thread_id, thread_of, taken, IsThreadOf};
-ghost use Rattle.qshared.specs.Due.{place};
-ghost use Rattle.qshared.specs.Answered.{AtPast, Answered};
+ghost use Rattle.qpast.specs.History.{Extends};
+ghost use Rattle.qshared.specs.Asking.{IsSince, calls_of};
+ghost use Rattle.qshared.specs.Due.{AreLater, at_once, collected, place};
+ghost use Rattle.qshared.specs.Answered.{AtPast, IsMet, Answered};
 ghost use Rattle.qshared.specs.Counting.{is_call, gives, pends};
 ghost use Rattle.qshared.specs.TwoCalls.{AnsweredBoth, is_ok, calls_in, asked_by, gives_both, pends_both};
 
@@ -12,6 +14,7 @@ use crate::locked::Locked;
 use crate::log::Log;
 use crate::patience::Patience;
 use crate::performed::Performed;
+use crate::seen::Seen;
 use crate::shared::Shared;
 use crate::spinning;
 use crate::tie::Tie;
@@ -24,6 +27,7 @@ use qhandoff::cells::Cells;
 use qhandoff::seats::ThreadSeat;
 use qmodel::call::{Call, Completion, Mark};
 use qpast::asking::Asked;
+use qpast::history;
 use std::sync::Wait;
 use std::sync::ledger::Share;
 
@@ -58,11 +62,14 @@ pub struct Port<K: Tie> {
     // The port's share of the sum of all events.
     pub(crate) share: Share<K>,
     pub(crate) calls: u64,
-    pub(crate) pending: bool,
     pub(crate) parker: Parker,
     pub(crate) patience: Patience,
     // Its calls that are events; only contracts read them.
     pub(crate) asked: Asked,
+    // What it saw of the past; only contracts read it.
+    pub(crate) seen: history::Seen,
+    // What it saw of the past at its last call; only contracts read it.
+    pub(crate) last: history::Seen,
     ghost seat_is: { thread_id seat ≡ K.names.cells },
     ghost thread_is: { place (threads_of K.names.roster) thread ≡ Some (thread_of seat) },
     ghost turn_is: { (turn.seat.thread ≡ thread) × (turn.seat.index ≡ thread_of seat) },
@@ -70,6 +77,10 @@ pub struct Port<K: Tie> {
     ghost counted: { share.amount ≡ calls },
     ghost part: { share.parts ≡ 1 },
     ghost asked_is: { slice_index_or K.names.lists (thread_of seat) 0 ≡ asked.name },
+    ghost seen_is: { seen.name ≡ K.names.history },
+    ghost since: { IsSince seen.trace last.trace },
+    ghost calls_are: { calls_of last.trace thread ≡ asked.calls },
+    ghost later: { AreLater turn.pending (at_once last.trace thread) (taken seat) },
 }
 
 /// Returns whether a call succeeded, by the mark of its ending: whether the mark is `Ok`.
@@ -79,8 +90,8 @@ fn is_ok(mark: Mark) -> bool
     matches!(mark, Mark::Ok)
 }
 
-/// Takes the ending that was put for a thread, if there is one. It has only the thread's seat and the cells, so it can
-/// take no lock and no memory, and can't wait for another thread.
+/// Takes the ending that was put for a thread, if one is pending and there. It has only the thread's seat and the cells,
+/// so it can take no lock and no memory, and can't wait for another thread.
 fn take(
     seat: &mut ThreadSeat<Completion>,
     cells: &Cells<Completion>,
@@ -89,8 +100,11 @@ fn take(
     requires { IsThreadOf cells.now seat.old }
     ensures seat { (thread_id seat.new ≡ thread_id seat.old) × (thread_of seat.new ≡ thread_of seat.old) }
     ensures taken { MatchOption result (taken seat.new ≡ taken seat.old) (λ x. taken seat.new ≡ taken seat.old ++ x ∷ []) }
-    ensures pending { MatchOption result (pending.new ≡ pending.old) (λ x. pending.new ≡ false) }
+    ensures pending { MatchOption result (pending.new ≡ pending.old) (λ x. (pending.old ≡ true) × (pending.new ≡ false)) }
 {
+    if !*pending {
+        return None;
+    }
     let completion = seat.poll(cells);
     if completion.is_some() {
         *pending = false;
@@ -109,7 +123,7 @@ fn look(
     requires { IsThreadOf cells.now seat.old }
     ensures seat { (thread_id seat.new ≡ thread_id seat.old) × (thread_of seat.new ≡ thread_of seat.old) }
     ensures taken { MatchOption result (taken seat.new ≡ taken seat.old) (λ x. taken seat.new ≡ taken seat.old ++ x ∷ []) }
-    ensures pending { MatchOption result (pending.new ≡ pending.old) (λ x. pending.new ≡ false) }
+    ensures pending { MatchOption result (pending.new ≡ pending.old) (λ x. (pending.old ≡ true) × (pending.new ≡ false)) }
 {
     let backoff = Backoff::new();
     for _ in 0..patience.looks() {
@@ -131,12 +145,15 @@ impl<K: Tie> Port<K> {
         share: Share<K>,
         parker: Parker,
         asked: Asked,
+        seen: history::Seen,
     ) -> Port<K>
         requires seat { (thread_id seat ≡ K.names.cells) × (place (threads_of K.names.roster) turn.seat.thread ≡ Some (thread_of seat)) }
-        requires turn { (turn.seat.index ≡ thread_of seat) × (turn.endings.value.items ≡ []) }
+        requires turn { (turn.seat.index ≡ thread_of seat) × (turn.endings.value.items ≡ []) × (turn.pending ≡ false) }
+        requires taken { taken seat ≡ [] }
         requires share { (share.amount ≡ 0) × (share.parts ≡ 1) }
         requires asked { slice_index_or K.names.lists (thread_of seat) 0 ≡ asked.name }
-        ensures { (result.seat ≡ seat) × (result.calls ≡ 0) × (result.pending ≡ false) × (result.asked ≡ asked) }
+        requires seen { (seen.name ≡ K.names.history) × (seen.trace ≡ []) × (asked.calls ≡ []) }
+        ensures { (result.seat ≡ seat) × (result.calls ≡ 0) × (result.turn.pending ≡ false) × (result.asked ≡ asked) × (result.seen ≡ seen) × (result.last.trace ≡ []) }
     {
         Port {
             thread: turn.seat.thread(),
@@ -144,10 +161,11 @@ impl<K: Tie> Port<K> {
             turn,
             share,
             calls: 0,
-            pending: false,
             parker,
             patience: Patience::new(),
             asked,
+            last: seen.again(),
+            seen,
         }
     }
 
@@ -158,11 +176,11 @@ impl<K: Tie> Port<K> {
     /// keeps no past, `Exhausted` if one of 2^40 events is left.
     /// `endpoint.rt` of `crates/qcalls` calls it.
     pub fn call<L: Log, R: Wait>(&mut self, shared: &Shared<K, L>, rt: &R, call: Call) -> Called
-        ensures came { AtPast K.names.roster self.old.thread self.old.asked.calls (Answered K.names.roster L.refuses L.admits self.old.thread call result) }
+        ensures came { AtPast K.names.roster self.old.thread self.old.asked.calls self.old.seen.trace (λ past. Answered K.names.roster L.refuses L.admits self.old.thread call result past self.new.seen.trace) }
         ensures calls { self.new.calls ≡ self.old.calls + (if is_call result then 1 else 0) }
         ensures asked { self.new.asked.calls ≡ self.old.asked.calls ++ (if is_call result then call ∷ [] else []) }
-        ensures pending { self.new.pending ≡ pends result self.old.pending }
-        ensures taken { taken self.new.seat ≡ taken self.old.seat ++ gives result }
+        ensures pending { self.new.turn.pending ≡ pends result self.old.turn.pending }
+        ensures taken { collected self.new.last.trace self.new.thread (taken self.new.seat) ≡ collected self.old.last.trace self.old.thread (taken self.old.seat) ++ gives result }
         ensures same { (self.new.thread ≡ self.old.thread) × (thread_of self.new.seat ≡ thread_of self.old.seat) }
     {
         self.turn.woken = 0;
@@ -185,11 +203,11 @@ impl<K: Tie> Port<K> {
         first: Call,
         second: Call,
     ) -> CalledBoth
-        ensures came { AnsweredBoth K.names.roster L.refuses L.admits self.old.thread self.old.asked.calls first second result }
+        ensures came { AtPast K.names.roster self.old.thread self.old.asked.calls self.old.seen.trace (λ past. AnsweredBoth K.names.roster L.refuses L.admits self.old.thread first second result past self.new.seen.trace) }
         ensures calls { self.new.calls ≡ self.old.calls + calls_in result }
         ensures asked { self.new.asked.calls ≡ self.old.asked.calls ++ asked_by first second result }
-        ensures pending { self.new.pending ≡ pends_both result self.old.pending }
-        ensures taken { taken self.new.seat ≡ taken self.old.seat ++ gives_both result }
+        ensures pending { self.new.turn.pending ≡ pends_both result self.old.turn.pending }
+        ensures taken { collected self.new.last.trace self.new.thread (taken self.new.seat) ≡ collected self.old.last.trace self.old.thread (taken self.old.seat) ++ gives_both result }
         ensures same { (self.new.thread ≡ self.old.thread) × (thread_of self.new.seat ≡ thread_of self.old.seat) }
     {
         self.turn.woken = 0;
@@ -217,8 +235,7 @@ impl<K: Tie> Port<K> {
         called
     }
 
-    /// Makes a call of the thread under the lock, which the caller holds, and takes its ending if it ends in its own
-    /// event.
+    /// Makes a call of the thread under the lock, which the caller holds.
     fn make<L: Log>(
         &mut self,
         cells: &Cells<Completion>,
@@ -226,11 +243,13 @@ impl<K: Tie> Port<K> {
         call: Call,
     ) -> Called
         requires cells { cells_id cells.now ≡ K.names.cells }
-        ensures came { AtPast K.names.roster self.old.thread self.old.asked.calls (Answered K.names.roster L.refuses L.admits self.old.thread call result) }
+        ensures met { IsMet K.names.roster self.old.thread self.old.asked.calls self.old.seen.trace locked.old.traced.past }
+        ensures came { Answered K.names.roster L.refuses L.admits self.old.thread call result locked.old.traced.past self.new.seen.trace }
+        ensures past { locked.new.traced.past ≡ self.new.seen.trace }
         ensures calls { self.new.calls ≡ self.old.calls + (if is_call result then 1 else 0) }
         ensures asked { self.new.asked.calls ≡ self.old.asked.calls ++ (if is_call result then call ∷ [] else []) }
-        ensures pending { self.new.pending ≡ pends result self.old.pending }
-        ensures taken { taken self.new.seat ≡ taken self.old.seat ++ gives result }
+        ensures pending { self.new.turn.pending ≡ pends result self.old.turn.pending }
+        ensures taken { collected self.new.last.trace self.new.thread (taken self.new.seat) ≡ collected self.old.last.trace self.old.thread (taken self.old.seat) ++ gives result }
         ensures same { (self.new.thread ≡ self.old.thread) × (thread_of self.new.seat ≡ thread_of self.old.seat) }
     {
         let performed = locked.call(
@@ -238,24 +257,20 @@ impl<K: Tie> Port<K> {
             &mut self.turn,
             &mut self.share,
             &mut self.asked,
+            &mut self.seen,
             call,
         );
+        self.last = self.seen.again();
         match performed {
             Performed::Refused(errno, call) => Called::Refused(errno, call),
             Performed::Open => {
                 self.calls += 1;
-                self.pending = true;
+                self.turn.pending = true;
                 Called::Blocked
             }
-            Performed::Ended => {
+            Performed::Ended(completion) => {
                 self.calls += 1;
-                match self.seat.poll(cells) {
-                    Some(completion) => Called::Done(completion),
-                    None => {
-                        self.pending = true;
-                        Called::Blocked
-                    }
-                }
+                Called::Done(completion)
             }
         }
     }
@@ -263,27 +278,27 @@ impl<K: Tie> Port<K> {
     /// Takes the ending that was put for the thread, if there is one. It takes no lock and no memory, and never waits.
     /// `qroundtrips` of `bench/programs` polls the two ports of one thread.
     pub fn poll<L: Log>(&mut self, shared: &Shared<K, L>) -> Option<Completion>
-        ensures taken { MatchOption result (taken self.new.seat ≡ taken self.old.seat) (λ x. taken self.new.seat ≡ taken self.old.seat ++ x ∷ []) }
-        ensures pending { MatchOption result (self.new.pending ≡ self.old.pending) (λ x. self.new.pending ≡ false) }
-        ensures same { (self.new.thread ≡ self.old.thread) × (thread_of self.new.seat ≡ thread_of self.old.seat) × (self.new.calls ≡ self.old.calls) × (self.new.asked ≡ self.old.asked) }
+        ensures taken { MatchOption result (collected self.new.last.trace self.new.thread (taken self.new.seat) ≡ collected self.old.last.trace self.old.thread (taken self.old.seat)) (λ x. collected self.new.last.trace self.new.thread (taken self.new.seat) ≡ collected self.old.last.trace self.old.thread (taken self.old.seat) ++ x ∷ []) }
+        ensures pending { MatchOption result (self.new.turn.pending ≡ self.old.turn.pending) (λ x. self.new.turn.pending ≡ false) }
+        ensures same { (self.new.thread ≡ self.old.thread) × (thread_of self.new.seat ≡ thread_of self.old.seat) × (self.new.calls ≡ self.old.calls) × (self.new.asked ≡ self.old.asked) × (self.new.seen ≡ self.old.seen) }
     {
-        take(&mut self.seat, &shared.cells, &mut self.pending)
+        take(&mut self.seat, &shared.cells, &mut self.turn.pending)
     }
 
     /// Waits for the thread's ending and takes it: looks for some microseconds, unless there is one processor alone, and
     /// then sleeps until it is woken.
     /// `endpoint.rt` of `crates/qcalls` waits so.
     pub fn wait<L: Log, R: Wait>(&mut self, shared: &Shared<K, L>, rt: &R) -> Completion
-        requires { self.old.pending ≡ true }
-        ensures taken { taken self.new.seat ≡ taken self.old.seat ++ result ∷ [] }
-        ensures pending { self.new.pending ≡ false }
-        ensures same { (self.new.thread ≡ self.old.thread) × (thread_of self.new.seat ≡ thread_of self.old.seat) × (self.new.calls ≡ self.old.calls) × (self.new.asked ≡ self.old.asked) }
+        requires { self.old.turn.pending ≡ true }
+        ensures taken { collected self.new.last.trace self.new.thread (taken self.new.seat) ≡ collected self.old.last.trace self.old.thread (taken self.old.seat) ++ result ∷ [] }
+        ensures pending { self.new.turn.pending ≡ false }
+        ensures same { (self.new.thread ≡ self.old.thread) × (thread_of self.new.seat ≡ thread_of self.old.seat) × (self.new.calls ≡ self.old.calls) × (self.new.asked ≡ self.old.asked) × (self.new.seen ≡ self.old.seen) }
     {
         let found = if shared.looks {
             look(
                 &mut self.seat,
                 &shared.cells,
-                &mut self.pending,
+                &mut self.turn.pending,
                 &mut self.patience,
             )
         } else {
@@ -303,26 +318,43 @@ impl<K: Tie> Port<K> {
     /// Sleeps until the thread is woken, unless its ending is there already, and takes the ending. `None` if it was woken
     /// for no reason.
     fn sleep<L: Log, R: Wait>(&mut self, shared: &Shared<K, L>, rt: &R) -> Option<Completion>
-        ensures taken { MatchOption result (taken self.new.seat ≡ taken self.old.seat) (λ x. taken self.new.seat ≡ taken self.old.seat ++ x ∷ []) }
-        ensures pending { MatchOption result (self.new.pending ≡ self.old.pending) (λ x. self.new.pending ≡ false) }
-        ensures same { (self.new.thread ≡ self.old.thread) × (thread_of self.new.seat ≡ thread_of self.old.seat) × (self.new.calls ≡ self.old.calls) × (self.new.asked ≡ self.old.asked) }
+        ensures taken { MatchOption result (collected self.new.last.trace self.new.thread (taken self.new.seat) ≡ collected self.old.last.trace self.old.thread (taken self.old.seat)) (λ x. collected self.new.last.trace self.new.thread (taken self.new.seat) ≡ collected self.old.last.trace self.old.thread (taken self.old.seat) ++ x ∷ []) }
+        ensures pending { MatchOption result (self.new.turn.pending ≡ self.old.turn.pending) (λ x. self.new.turn.pending ≡ false) }
+        ensures same { (self.new.thread ≡ self.old.thread) × (thread_of self.new.seat ≡ thread_of self.old.seat) × (self.new.calls ≡ self.old.calls) × (self.new.asked ≡ self.old.asked) × (self.new.seen ≡ self.old.seen) }
     {
         let cell = self.seat.thread();
         shared.set_asleep(cell, true);
-        let mut completion = take(&mut self.seat, &shared.cells, &mut self.pending);
+        let mut completion = take(&mut self.seat, &shared.cells, &mut self.turn.pending);
         if completion.is_none() {
             self.parker.park(rt);
-            completion = take(&mut self.seat, &shared.cells, &mut self.pending);
+            completion = take(&mut self.seat, &shared.cells, &mut self.turn.pending);
         }
         shared.set_asleep(cell, false);
         completion
     }
 
+    /// Returns what the port saw of the past: all of it, as it was when its last call left the lock.
+    pub fn seen(&self) -> Seen<K>
+        ensures { result ≡ self.now.seen.trace }
+    {
+        Seen::new(self.seen.again())
+    }
+
+    /// Learns what was seen of the past through another port of the kernel, so that the next call is known to come after
+    /// it.
+    pub fn learn(&mut self, other: &Seen<K>)
+        ensures own { Extends self.new.seen.trace self.old.seen.trace }
+        ensures others { Extends self.new.seen.trace other.entry.now }
+        ensures same { (self.new.thread ≡ self.old.thread) × (self.new.seat ≡ self.old.seat) × (self.new.calls ≡ self.old.calls) × (self.new.turn.pending ≡ self.old.turn.pending) × (self.new.asked ≡ self.old.asked) × (self.new.last ≡ self.old.last) }
+    {
+        self.seen.learn(&other.beginning);
+    }
+
     /// Returns whether a call was blocked and its ending isn't collected yet.
     pub fn pending(&self) -> bool
-        ensures { result ≡ self.now.pending }
+        ensures { result ≡ self.now.turn.pending }
     {
-        self.pending
+        self.turn.pending
     }
 
     /// Returns the thread whose port it is.

@@ -1,5 +1,5 @@
 //! The shared kernel: opening it, closing it, and waking threads.
-ghost use Rattle.std.specs.Prelude.{◌≡◌, ◌≤◌, ◌++◌, ℕ, [], length, map, sum, IfOk, IfErr, OnOk, IsTrue, ◌↔◌, Some, false, vec_capacity};
+ghost use Rattle.std.specs.Prelude.{◌≡◌, ◌≤◌, ◌++◌, ℕ, [], length, map, sum, IfOk, IfErr, OnOk, IsTrue, ◌↔◌, ◌==◌, Some, false, not, vec_capacity};
 ghost use mathlib.Core.Option.{some};
 ghost use lib.ListN.{get_elem?};
 ghost use Rattle.qtables.specs.Members.{IsRoster};
@@ -10,9 +10,9 @@ ghost use Rattle.qrules.specs.Properties.{HasProperties};
 ghost use Rattle.qstate.specs.Kept.{members_of};
 ghost use Rattle.qhandoff.specs.Words.{cells_id, thread_of, taken, took, IsRow};
 ghost use Rattle.qshared.specs.Asking.{AreCallsOf, asked_in};
-ghost use Rattle.qshared.specs.Due.{place, endings_due, of_thread, AreKnown};
+ghost use Rattle.qshared.specs.Due.{AreDue, AreKnown, collected};
 ghost use Rattle.qshared.specs.Naming.{AreParts, AreAll};
-ghost use Rattle.qshared.specs.Past.{RiseByThread};
+ghost use Rattle.qshared.specs.Past.{AreSeen, RiseByThread};
 ghost use Rattle.qshared.specs.Unkept.{HasPast};
 
 use crate::closing_room::ClosingRoom;
@@ -36,6 +36,7 @@ use qhandoff::seats::ThreadSeat;
 use qkernel::kernel::Kernel;
 use qmodel::call::Completion;
 use qpast::asking::{Asked, Heard};
+use qpast::history::{History, Seen};
 use std::alloc::{AllocError, Global};
 use std::sync::Mutex;
 use std::sync::ledger::Share;
@@ -81,15 +82,17 @@ fn ports_for<K: Tie>(
     seats: Vec<ThreadSeat<Completion>>,
     mut asked: Vec<Asked>,
     spare: &mut Share<K>,
+    seen: &Seen,
 ) -> Result<(Vec<Port<K>>, Vec<Waker>), AllocError>
     requires roster { IsRoster K.names.roster × (threads.now ≡ threads_of K.names.roster) × (members_of kernel.now.threads ≡ K.names.roster) }
     requires seats { (length seats.items ≡ length threads.now) × IsRow K.names.cells seats.items × ((k : ℕ) → took (get_elem? seats.items k) ≡ []) }
     requires asked { (map (λ a. a.name) asked.items ≡ K.names.lists) × (length asked.items ≡ K.names.cells.slots) × ((k : ℕ) → asked_in (get_elem? asked.items k) ≡ []) }
     requires sized { length threads.now ≡ K.names.cells.slots }
     requires spare { (spare.old.parts ≡ length seats.items) × (spare.old.amount ≡ 0) }
+    requires seen { (seen.now.name ≡ K.names.history) × (seen.now.trace ≡ []) }
     ensures spare { OnOk result ((spare.new.parts ≡ 0) × (spare.new.amount ≡ 0)) }
     ensures ports { IfOk result (λ r. AreAll (λ p. thread_of p.seat) K.names.cells.slots r.0.items) }
-    ensures new { IfOk result (λ r. (k : ℕ) (p : _) → get_elem? r.0.items k ≡ some p → (p.calls ≡ 0) × (p.pending ≡ false) × (taken p.seat ≡ []) × (p.asked.calls ≡ [])) }
+    ensures new { IfOk result (λ r. (k : ℕ) (p : _) → get_elem? r.0.items k ≡ some p → (p.calls ≡ 0) × (p.turn.pending ≡ false) × (collected p.last.trace p.thread (taken p.seat) ≡ []) × (p.asked.calls ≡ []) × (p.seen.trace ≡ [])) }
 {
     let alloc = kernel.alloc();
     let mut ports = Vec::with_capacity(alloc, seats.len())?;
@@ -106,29 +109,32 @@ fn ports_for<K: Tie>(
             unreachable!()
         };
         let turn = Turn::new(alloc, place)?;
-        let port = Port::new(turn, seat, spare.split_off(1, 0), parker, own);
+        let port = Port::new(turn, seat, spare.split_off(1, 0), parker, own, seen.again());
         ports.push_reserved(port);
     }
     Ok((ports, wakers))
 }
 
 /// Takes the ports apart: collects their seats, the number of calls of each, the calls that each asked for, and the sum
-/// of all their shares.
+/// of all their shares. The past goes on from what each port saw.
 fn gather<K: Tie>(
     ports: Vec<Port<K>>,
     seats: &mut Vec<ThreadSeat<Completion>>,
     calls: &mut Vec<u64>,
     asked: &mut Vec<Asked>,
     spare: &mut Share<K>,
+    history: &mut History,
 )
     requires seats { (seats.old.items ≡ []) × (length ports.items ≤ vec_capacity seats.old) }
     requires calls { (calls.old.items ≡ []) × (length ports.items ≤ vec_capacity calls.old) }
     requires asked { (asked.old.items ≡ []) × (length ports.items ≤ vec_capacity asked.old) }
     requires spare { (spare.old.parts ≡ 0) × (spare.old.amount ≡ 0) }
+    requires history { history.old.name ≡ K.names.history }
     ensures seats { seats.new.items ≡ map (λ p. p.seat) ports.items }
     ensures calls { calls.new.items ≡ map (λ p. p.calls) ports.items }
     ensures asked { asked.new.items ≡ map (λ p. p.asked) ports.items }
     ensures spare { (spare.new.parts ≡ length ports.items) × (spare.new.amount ≡ sum calls.new.items) }
+    ensures seen { AreSeen history.old.trace (map (λ p. p.seen.trace) ports.items) }
 {
     for port in ports {
         let Port {
@@ -136,12 +142,14 @@ fn gather<K: Tie>(
             share,
             calls: made,
             asked: own,
+            mut seen,
             ..
         } = port;
         seats.push_reserved(seat);
         calls.push_reserved(made);
         asked.push_reserved(own);
         spare.merge(share);
+        history.look(&mut seen);
     }
 }
 
@@ -165,7 +173,7 @@ impl<K: Tie, L: Log> Shared<K, L> {
         requires named { AreParts K.names K.name K.parts parts }
         requires log { (L.roster log ≡ K.names.roster) × (L.past log ≡ []) }
         ensures ports { IfOk result (λ r. AreAll (λ p. thread_of p.seat) K.names.cells.slots r.1.items) }
-        ensures new { IfOk result (λ r. (k : ℕ) (p : _) → get_elem? r.1.items k ≡ some p → (p.calls ≡ 0) × (p.pending ≡ false) × (taken p.seat ≡ []) × (p.asked.calls ≡ [])) }
+        ensures new { IfOk result (λ r. (k : ℕ) (p : _) → get_elem? r.1.items k ≡ some p → (p.calls ≡ 0) × (p.turn.pending ≡ false) × (collected p.last.trace p.thread (taken p.seat) ≡ []) × (p.asked.calls ≡ []) × (p.seen.trace ≡ [])) }
     {
         let Parts {
             cells,
@@ -176,6 +184,8 @@ impl<K: Tie, L: Log> Shared<K, L> {
             threads,
             asked,
             heard,
+            history,
+            seen,
             ..
         } = parts;
         let _made = kernel.made();
@@ -183,8 +193,8 @@ impl<K: Tie, L: Log> Shared<K, L> {
         let many = seats.len();
         let room = ClosingRoom::new(alloc, many)?;
         let (book, mut spare) = blank.open::<K>();
-        let (ports, wakers) = ports_for(&kernel, &threads, seats, asked, &mut spare)?;
-        let traced = Traced::new(kernel, seat, log);
+        let (ports, wakers) = ports_for(&kernel, &threads, seats, asked, &mut spare, &seen)?;
+        let traced = Traced::new(kernel, seat, log, history);
         let locked = Locked::new(traced, book, spare, room, heard);
         let lock = CachePadded::new(Mutex::new(Box::new(alloc, locked)?));
         let shared = Shared {
@@ -200,7 +210,10 @@ impl<K: Tie, L: Log> Shared<K, L> {
     /// processor a thread that waits sleeps at once; with more, which is what a kernel is opened for, it first looks for
     /// some microseconds whether it still has to wait.
     /// `course.rt` of the bench's round trips sets it.
-    pub fn set_processors(&mut self, processors: usize) {
+    pub fn set_processors(&mut self, processors: usize)
+        ensures looks { self.new.looks ≡ not (processors == 1) }
+        ensures same { (self.new.cells ≡ self.old.cells) × (self.new.wakers ≡ self.old.wakers) }
+    {
         self.looks = processors != 1;
     }
 
@@ -248,10 +261,11 @@ impl<K: Tie, L: Log> Shared<K, L> {
         ensures calls { result.calls.items ≡ map (λ p. p.calls) ports.items }
         ensures sum { sum result.calls.items ≡ length (L.past result.log) }
         ensures asked { AreCallsOf K.names.roster (map (λ p. p.asked.calls) ports.items) (L.past result.log) }
+        ensures seen { AreSeen (L.past result.log) (map (λ p. p.seen.trace) ports.items) }
         ensures lawful { IsLawful K.names.roster (L.past result.log) × HasProperties K.names.roster (L.past result.log) }
         ensures rises { RiseByThread result.left.items }
         ensures known { AreKnown K.names.roster result.left.items }
-        ensures due { (t i : ℕ) → place (threads_of K.names.roster) t ≡ Some i → took (get_elem? (map (λ p. p.seat) ports.items) i) ++ of_thread t result.left.items ≡ endings_due (L.past result.log) t }
+        ensures due { AreDue K.names.roster (map (λ p. collected p.last.trace p.thread (taken p.seat)) ports.items) result.left.items (L.past result.log) }
     {
         let Shared { cells, lock, .. } = self;
         let Locked {
@@ -269,8 +283,20 @@ impl<K: Tie, L: Log> Shared<K, L> {
             mut asked,
             ..
         } = room;
-        let Traced { seat, log, .. } = traced;
-        gather(ports, &mut seats, &mut calls, &mut asked, &mut spare);
+        let Traced {
+            seat,
+            log,
+            mut history,
+            ..
+        } = traced;
+        gather(
+            ports,
+            &mut seats,
+            &mut calls,
+            &mut asked,
+            &mut spare,
+            &mut history,
+        );
         agree(asked, heard);
         book.audit(&mut spare);
         let left = cells.close(seat, seats);
@@ -289,7 +315,7 @@ impl<K: Tie> Shared<K, Kept<K>> {
     pub fn open(parts: Parts) -> Result<(Shared<K, Kept<K>>, Vec<Port<K>>), Errno>
         requires named { AreParts K.names K.name K.parts parts }
         ensures ports { IfOk result (λ r. AreAll (λ p. thread_of p.seat) K.names.cells.slots r.1.items) }
-        ensures new { IfOk result (λ r. (k : ℕ) (p : _) → get_elem? r.1.items k ≡ some p → (p.calls ≡ 0) × (p.pending ≡ false) × (taken p.seat ≡ []) × (p.asked.calls ≡ [])) }
+        ensures new { IfOk result (λ r. (k : ℕ) (p : _) → get_elem? r.1.items k ≡ some p → (p.calls ≡ 0) × (p.turn.pending ≡ false) × (collected p.last.trace p.thread (taken p.seat) ≡ []) × (p.asked.calls ≡ []) × (p.seen.trace ≡ [])) }
         ensures error { IfErr result (λ e. e ≡ Errno.NoMemory) }
     {
         let alloc = parts.kernel.alloc();
@@ -308,10 +334,11 @@ impl<K: Tie> Shared<K, Kept<K>> {
         ensures sum { sum result.calls.items ≡ length result.trace.events }
         ensures within { length result.trace.events ≤ K.names.limit }
         ensures asked { AreCallsOf K.names.roster (map (λ p. p.asked.calls) ports.items) (followed_by [] result.trace.events) }
+        ensures seen { AreSeen (followed_by [] result.trace.events) (map (λ p. p.seen.trace) ports.items) }
         ensures lawful { (result.trace.first ≡ 1) × IsLawful K.names.roster (followed_by [] result.trace.events) × HasProperties K.names.roster (followed_by [] result.trace.events) }
         ensures rises { RiseByThread result.left.items }
         ensures known { AreKnown K.names.roster result.left.items }
-        ensures due { (t i : ℕ) → place (threads_of K.names.roster) t ≡ Some i → took (get_elem? (map (λ p. p.seat) ports.items) i) ++ of_thread t result.left.items ≡ endings_due (followed_by [] result.trace.events) t }
+        ensures due { AreDue K.names.roster (map (λ p. collected p.last.trace p.thread (taken p.seat)) ports.items) result.left.items (followed_by [] result.trace.events) }
     {
         let Closed { log, calls, left } = self.close(ports);
         Report {
@@ -329,7 +356,7 @@ impl<K: Tie> Shared<K, Unkept<K>> {
     pub fn open(parts: Parts) -> Result<(Shared<K, Unkept<K>>, Vec<Port<K>>), Errno>
         requires named { AreParts K.names K.name K.parts parts }
         ensures ports { IfOk result (λ r. AreAll (λ p. thread_of p.seat) K.names.cells.slots r.1.items) }
-        ensures new { IfOk result (λ r. (k : ℕ) (p : _) → get_elem? r.1.items k ≡ some p → (p.calls ≡ 0) × (p.pending ≡ false) × (taken p.seat ≡ []) × (p.asked.calls ≡ [])) }
+        ensures new { IfOk result (λ r. (k : ℕ) (p : _) → get_elem? r.1.items k ≡ some p → (p.calls ≡ 0) × (p.turn.pending ≡ false) × (collected p.last.trace p.thread (taken p.seat) ≡ []) × (p.asked.calls ≡ []) × (p.seen.trace ≡ [])) }
         ensures error { IfErr result (λ e. e ≡ Errno.NoMemory) }
     {
         Ok(Shared::with_log(parts, Unkept::new())?)
@@ -343,7 +370,7 @@ impl<K: Tie> Shared<K, Unkept<K>> {
         ensures calls { result.calls.items ≡ map (λ p. p.calls) ports.items }
         ensures rises { RiseByThread result.left.items }
         ensures known { AreKnown K.names.roster result.left.items }
-        ensures past { HasPast K.names.roster (map (λ p. p.seat) ports.items) (map (λ p. p.asked.calls) ports.items) result.calls.items result.left.items }
+        ensures past { HasPast K.names.roster (map (λ p. collected p.last.trace p.thread (taken p.seat)) ports.items) (map (λ p. p.asked.calls) ports.items) (map (λ p. p.seen.trace) ports.items) result.calls.items result.left.items }
     {
         let Closed { calls, left, .. } = self.close(ports);
         Tally { calls, left }

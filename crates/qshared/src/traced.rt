@@ -1,14 +1,17 @@
 //! A kernel with its past, and the kernel's seat of the cells.
-ghost use Rattle.std.specs.Prelude.{◌≡◌, ◌≤◌, ◌^◌, [], length, if◌then◌else◌, Some};
+ghost use Rattle.std.specs.Prelude.{◌≡◌, ◌≤◌, ◌^◌, [], length, Some, true, false};
 ghost use Rattle.qrules.specs.Facts.{threads_of};
 ghost use Rattle.qrules.specs.Lawful.{IsLawful};
 ghost use Rattle.qrules.specs.Properties.{HasProperties};
 ghost use Rattle.qstate.specs.Kept.{members_of};
 ghost use Rattle.qkernel.specs.Stands.{StandsAt};
 ghost use Rattle.qhandoff.specs.Steps.{seated_desk};
+ghost use Rattle.qpast.specs.History.{Extends};
 ghost use Rattle.qhandoff.specs.Words.{cells_id, kernel_id, desk};
+ghost use Rattle.qshared.specs.Asking.{WaitedBefore, calls_of};
+ghost use Rattle.qshared.specs.Counting.{is_event};
 ghost use Rattle.qshared.specs.Due.{place};
-ghost use Rattle.qshared.specs.Performing.{Performs};
+ghost use Rattle.qshared.specs.Performing.{Performs, outcome};
 
 use crate::handing::hand_out;
 use crate::log::Log;
@@ -20,7 +23,9 @@ use qhandoff::cells::Cells;
 use qhandoff::seats::KernelSeat;
 use qkernel::kernel::Kernel;
 use qmodel::call::{Call, Completion};
+use qpast::history::{History, Seen};
 use std::marker::{Model, PhantomData};
+use std::snapshot::Snapshot;
 
 /// A kernel with its past, and the kernel's seat of the cells: the value under the lock, without the count of the
 /// ports' calls.
@@ -29,6 +34,7 @@ pub struct Traced<K: Tie, L: Log> {
     pub(crate) kernel: Kernel,
     pub(crate) seat: KernelSeat<Completion>,
     pub(crate) log: L,
+    pub(crate) history: History,
     pub(crate) of: PhantomData<K>,
 }
 
@@ -43,23 +49,28 @@ impl<K: Tie, L: Log> Model for Traced<K, L> {
 
     ghost view = { λ t. record { kernel = t.kernel; desk = desk t.seat; past = L.past t.log } };
 
-    ghost invariant = { λ t. (kernel_id t.seat ≡ K.names.cells) × (L.roster t.log ≡ K.names.roster) × IsUnderLock K.names.roster K.names.cells.slots t.kernel (desk t.seat) (threads_of (members_of t.kernel.threads)) (L.past t.log) };
+    ghost invariant = { λ t. (kernel_id t.seat ≡ K.names.cells) × (L.roster t.log ≡ K.names.roster) × IsUnderLock K.names.roster K.names.cells.slots t.kernel (desk t.seat) (threads_of (members_of t.kernel.threads)) (L.past t.log) × ((t.history.name ≡ K.names.history) × (t.history.trace ≡ L.past t.log)) };
 }
 
-// Returns the outcome of a call that is an event: `Ended` if its own ending was put, else `Open`.
-fn ended_or_open(own: bool) -> Performed
-    ensures { result ≡ (if own then Performed.Ended else Performed.Open) }
+// Returns the outcome of a call that is an event: `Ended` if its own ending was among the endings, else `Open`.
+fn ended_or_open(own: Option<Completion>) -> Performed
+    ensures { result ≡ outcome own }
 {
-    if own {
-        Performed::Ended
-    } else {
-        Performed::Open
+    match own {
+        Some(completion) => Performed::Ended(completion),
+        None => Performed::Open,
     }
 }
 
 impl<K: Tie, L: Log> Traced<K, L> {
     /// Makes the value for a kernel that made no call, with an empty past.
-    pub(crate) fn new(kernel: Kernel, seat: KernelSeat<Completion>, log: L) -> Traced<K, L>
+    pub(crate) fn new(
+        kernel: Kernel,
+        seat: KernelSeat<Completion>,
+        log: L,
+        history: History,
+    ) -> Traced<K, L>
+        requires history { (history.name ≡ K.names.history) × (history.trace ≡ []) }
         requires log { (L.roster log ≡ K.names.roster) × (L.past log ≡ []) }
         requires seat { (kernel_id seat ≡ K.names.cells) × (desk seat ≡ seated_desk K.names.cells.slots K.names.cells.slots) }
         requires roster { (members_of kernel.threads ≡ K.names.roster) × StandsAt (members_of kernel.threads) kernel [] }
@@ -71,6 +82,7 @@ impl<K: Tie, L: Log> Traced<K, L> {
             kernel,
             seat,
             log,
+            history,
             of: PhantomData,
         }
     }
@@ -85,24 +97,42 @@ impl<K: Tie, L: Log> Traced<K, L> {
     }
 
     /// Makes a call of the thread whose turn it is, for `Port::call`, which holds the lock: opens the thread's cell, makes
-    /// the call, and puts every ending into its thread's cell. Refused, in this order: `Down` after Shutdown, `Busy` if
+    /// the call, and puts every other thread's ending into its cell. If the call ended, closes the thread's cell and
+    /// returns its ending. What was seen is then the whole past. Refused, in this order: `Down` after Shutdown, `Busy` if
     /// the thread has an open call or an ending that it didn't take, and then the errors of the log.
-    pub fn perform(&mut self, cells: &Cells<Completion>, turn: &mut Turn, call: Call) -> Performed
+    pub fn perform(
+        &mut self,
+        cells: &Cells<Completion>,
+        turn: &mut Turn,
+        seen: &mut Seen,
+        call: Call,
+    ) -> Performed
         requires cells { cells_id cells.now ≡ K.names.cells }
         requires seat { place (threads_of K.names.roster) turn.old.seat.thread ≡ Some turn.old.seat.index }
         requires none { turn.old.endings.value.items ≡ [] }
+        requires pending { turn.old.pending ≡ true → WaitedBefore seen.old.trace (calls_of self.old.past turn.old.seat.thread) turn.old.seat.thread }
+        requires seen { seen.old.name ≡ K.names.history }
+        ensures idle { is_event result ≡ true → turn.old.pending ≡ false }
         ensures performs { Performs K.names.roster L.refuses L.admits self.old turn.old.seat.thread call result self.new }
-        ensures seat { turn.new.seat ≡ turn.old.seat }
+        ensures seat { (turn.new.seat ≡ turn.old.seat) × (turn.new.pending ≡ turn.old.pending) }
         ensures none { turn.new.endings.value.items ≡ [] }
+        ensures name { seen.new.name ≡ seen.old.name }
+        ensures extends { Extends self.old.past seen.old.trace }
+        ensures seen { seen.new.trace ≡ self.new.past }
     {
+        self.history.look(seen);
         if self.kernel.is_down() {
             return Performed::Refused(Errno::Down, call);
         }
         let seat = turn.seat;
         let place = seat.index();
+        if turn.pending {
+            return Performed::Refused(Errno::Busy, call);
+        }
         if !self.seat.open(cells, place) {
             return Performed::Refused(Errno::Busy, call);
         }
+        let asking = Snapshot::of(&call);
         let made = self.kernel.made();
         if let Err(errno) = self.log.note(made, &call) {
             self.seat.cancel(cells, place);
@@ -112,6 +142,10 @@ impl<K: Tie, L: Log> Traced<K, L> {
             unreachable!();
         };
         self.log.event(&self.kernel, &seat, &*turn.endings);
+        let thread = seat.thread();
+        let history = &mut self.history;
+        history.add(&thread, &asking, &*turn.endings);
+        history.look(seen);
         let own = hand_out(&mut self.seat, cells, &self.kernel, turn);
         ended_or_open(own)
     }

@@ -1,6 +1,6 @@
 //! A port's turn at the lock.
 
-ghost use Rattle.std.specs.Prelude.{◌≡◌, [], IfOk};
+ghost use Rattle.std.specs.Prelude.{◌≡◌, [], false, IfOk};
 
 use arrayvec::ArrayVec;
 use qkernel::endings::Endings;
@@ -16,18 +16,21 @@ pub struct Turn {
     pub(crate) endings: Box<Endings>,
     // The bit of each other thread whose cell was filled in this turn.
     pub(crate) woken: u64,
+    // Whether the ending of a blocked call isn't collected yet.
+    pub(crate) pending: bool,
 }
 
 impl Turn {
     /// Makes the room, 7 KB, for the port of the thread at a seat.
     pub(crate) fn new(alloc: Global, seat: Seat) -> Result<Turn, AllocError>
         ensures seat { IfOk result (λ turn. turn.seat ≡ seat) }
-        ensures none { IfOk result (λ turn. turn.endings.value.items ≡ []) }
+        ensures none { IfOk result (λ turn. (turn.endings.value.items ≡ []) × (turn.pending ≡ false)) }
     {
         Ok(Turn {
             seat,
             endings: Box::new(alloc, ArrayVec::new_in(alloc))?,
             woken: 0,
+            pending: false,
         })
     }
 }

@@ -4,14 +4,17 @@ use Rattle.qmodel.specs.declared.call.Completion.{Completion}
 use Rattle.qmodel.specs.Private.Endings.{gets}
 use Rattle.qhandoff.specs.declared.view.Desk.{Desk}
 use Rattle.qhandoff.specs.Rule.{line}
-use Rattle.qshared.specs.Due.{of_thread, place}
+use Rattle.qshared.specs.Due.{later_of, place}
 
 -- an ending may be put: its thread is one of these, and its cell is opened
 abbrev pub MayPut : List ℕ → Desk Completion → Completion → Type 0
 MayPut threads d x = (i : ℕ) × (place threads x.thread ≡ Some i) × ((line d i).opened ≡ true)
 
--- these endings were put, each into its thread's cell, and nothing else changes
-pub record Handed (threads : List ℕ) (X : List Completion) (d d' : Desk Completion) : Type 0 where
-  pub put : (t i : ℕ) → place threads t ≡ Some i → (line d' i).put ≡ (line d i).put ++ of_thread t X
+-- these endings of an event were put, each into its thread's cell, but for the caller's, whose cell was
+-- closed instead; nothing else changes
+pub record Handed (threads : List ℕ) (caller : ℕ) (X : List Completion) (d d' : Desk Completion)
+    : Type 0 where
+  pub put : (t i : ℕ) → place threads t ≡ Some i
+      → (line d' i).put ≡ (line d i).put ++ later_of caller t X
   pub opened : (t i : ℕ) → place threads t ≡ Some i
       → (line d' i).opened ≡ (if gets X t then false else (line d i).opened)

@@ -5,15 +5,15 @@ use Rattle.std.proofs.lemmas.Iterator.Consumers.{YieldsList-turn, YieldsList-end
 use Rattle.std.proofs.lemmas.List.{length-map}
 use lib.ListN.{get_elem?}
 use lib.Seq.{get_or-append_seam}
-use Rattle.std.specs.Prelude.{Some, None}
+use Rattle.std.specs.Prelude.{Some}
 use Rattle.std.proofs.lemmas.Option.{same_Some, none-some}
 use Rattle.qmodel.specs.Private.Facts.{threads_of}
 use Rattle.qmodel.proofs.Rosters.{rises}
 use Rattle.atomic_table.proofs.Lists.{at_index}
-use Rattle.qhandoff.specs.Words.{thread_of}
+use Rattle.qhandoff.specs.Words.{taken, thread_of, took}
 use Rattle.qkernel.proofs.Running.{popped}
 use Rattle.qshared.specs.Asking.{asked_in}
-use Rattle.qshared.specs.Due.{place}
+use Rattle.qshared.specs.Due.{collected, place}
 use Rattle.qshared.proofs.Places.{place_found, seated, unseated}
 use Rattle.qshared.proofs.Rows.{map_same, map_snoc, each_pushed, ports_fresh}
 use Rattle.qshared.proofs.shared.ports_for.Goals as goal
@@ -39,7 +39,7 @@ new-port-requires-clause-turn g c =
     let below : c.thread.result < length c.args.threads.now = omega (arith, c.thread.ensures.within, ap (λ z. z.slots) row.0, c.requires.sized) in
     let here = place_found (threads_of g.K.Tie.names.roster) c.args.threads.now c.thread.result c.index-threads-thread.result c.index-threads-thread.result (rises g.K.Tie.names.roster c.requires.roster.0) c.requires.roster.1 below c.index-threads-thread.is in
     let there = ap (λ r. place (threads_of r) c.index-threads-thread.result) (sym c.requires.roster.2) ∙ seated _ c.index-threads-thread.result _ c.in-Some-seat.place c.in-Some-seat.ensures.seat c.in-Some-seat.ensures.thread refl in
-    (ap (λ s. s.index) c.in_ok-turn.ensures.seat ∙ same_Some _ _ (sym there ∙ here) ∙ c.thread.ensures.number, c.in_ok-turn.ensures.none)
+    (ap (λ s. s.index) c.in_ok-turn.ensures.seat ∙ same_Some _ _ (sym there ∙ here) ∙ c.thread.ensures.number, c.in_ok-turn.ensures.none.0, c.in_ok-turn.ensures.none.1)
 
 pub unreachable-requires-in_default-seat : goal.unreachable-requires-in_default-seat
 unreachable-requires-in_default-seat g c =
@@ -71,7 +71,7 @@ loop-seat-preserved g c =
     let more : length c.push_reserved.new.self.items ≡ length c.loop-seat.ports.items + 1 = ap length e ∙ length-append c.loop-seat.ports.items (p ∷ []) in
     let less : length c.loop-seat.asked.items ≡ length c.pop.new.self.items + 1 = ap length c.in-Some-pop.ensures.items ∙ length-append c.pop.new.self.items (own ∷ []) in (
       ap (map (λ q. q.seat)) e ∙ map_snoc (λ q. q.seat) c.loop-seat.ports.items p ∙ ap (λ ys. ys ++ p.seat ∷ []) v.0 ∙ ap (λ s. c.loop-seat.yielded ++ s ∷ []) c.new-port.ensures.0,
-      (λ k q at. each_pushed (λ r. (r.calls ≡ 0) × (r.pending ≡ false) × (r.asked.calls ≡ [])) c.loop-seat.ports.items p v.1 (c.new-port.ensures.1, c.new-port.ensures.2, ap (λ a. a.calls) c.new-port.ensures.3 ∙ subst (λ xs. asked_in (get_elem? xs 0) ≡ []) turn (v.7 0)) k q (ap (λ ys. get_elem? ys k) (sym e) ∙ at)),
+      (λ k q at. each_pushed (λ r. (r.calls ≡ 0) × (r.turn.pending ≡ false) × (r.asked.calls ≡ []) × (r.seen.trace ≡ []) × (r.last.trace ≡ [])) c.loop-seat.ports.items p v.1 (c.new-port.ensures.1, c.new-port.ensures.2, ap (λ a. a.calls) c.new-port.ensures.3 ∙ subst (λ xs. asked_in (get_elem? xs 0) ≡ []) turn (v.7 0), ap (λ a. a.trace) (c.new-port.ensures.4 ∙ c.again.ensures.copy) ∙ c.requires.seen.1, c.new-port.ensures.5) k q (ap (λ ys. get_elem? ys k) (sym e) ∙ at)),
       grind (arith, common_steps),
       grind (arith, common_steps),
       grind (arith, common_steps),
@@ -93,4 +93,14 @@ pub returns-clause-new : goal.returns-clause-new
 returns-clause-new g c =
     let t = YieldsList-end (YieldsList-from_vec {s = c.into_iter-seat-iterator.result} c.args.seats.items c.into_iter-seat-iterator.ensures.into_iter_gives.0 (c.into_iter-seat-iterator.ensures.into_iter_gives.1 ∙ c.args.seats.ok.0)) c.loop-seat.yielded c.loop-seat.seat-iterator c.loop-seat.yielded_by c.next.result c.next.new.self c.in-None.is c.next.ensures.steps in
     let v = c.loop-seat.invariant in let seats = c.requires.seats in
-    λ k p at. ((v.1 k p at).0, (v.1 k p at).1, (ports_fresh (λ q. q.seat) g.K.Tie.names.cells c.args.seats.items c.loop-seat.ports.items (v.0 ∙ sym (map_same c.loop-seat.yielded) ∙ t.0) seats.1 seats.2 k p at).1, (v.1 k p at).2)
+    λ k p at. ((v.1 k p at).0, (v.1 k p at).1, ap (λ q. collected q p.thread (taken p.seat)) (v.1 k p at).4, (v.1 k p at).2, (v.1 k p at).3)
+
+pub new-port-requires-clause-taken : goal.new-port-requires-clause-taken
+new-port-requires-clause-taken g c =
+    let t = YieldsList-turn (YieldsList-from_vec {s = c.into_iter-seat-iterator.result} c.args.seats.items c.into_iter-seat-iterator.ensures.into_iter_gives.0 (c.into_iter-seat-iterator.ensures.into_iter_gives.1 ∙ c.args.seats.ok.0)) c.loop-seat.yielded c.loop-seat.seat-iterator c.loop-seat.yielded_by c.next.result c.next.new.self c.in-Some.seat c.in-Some.is c.next.ensures.steps in
+    ap took (sym (at_index c.args.seats.items (length c.loop-seat.yielded) c.in-Some.seat t.0 t.1)) ∙ c.requires.seats.2 (length c.loop-seat.yielded)
+
+pub new-port-requires-clause-seen : goal.new-port-requires-clause-seen
+new-port-requires-clause-seen g c =
+    let turn : reverse c.loop-seat.asked.items ≡ c.in-Some-pop.own ∷ reverse c.pop.new.self.items = popped c.loop-seat.asked.items c.pop.new.self.items c.in-Some-pop.own c.in-Some-pop.ensures.items in
+    (ap (λ s. s.name) c.again.ensures.copy ∙ c.requires.seen.0, ap (λ s. s.trace) c.again.ensures.copy ∙ c.requires.seen.1, subst (λ xs. asked_in (get_elem? xs 0) ≡ []) turn (c.loop-seat.invariant.7 0))

@@ -1,34 +1,58 @@
-use Rattle.std.proofs.Common.{ap, ◌∙◌, Err}
+use Rattle.std.proofs.Common.{ap, sym, subst, inl, inr, ◌∙◌, Err}
 use Rattle.std.proofs.lemmas.Result.{err_from_is_err_and}
+use Rattle.qcalls.specs.Coming.{ComesOf}
 use Rattle.qcalls.specs.Making.{read_off}
 use Rattle.qcalls.specs.Results.{done_in}
-use Rattle.qcalls.proofs.Leading.{both_make, first_fails, reads_done, second_makes}
+use Rattle.qcalls.proofs.Leading.{both_make, first_fails, leads_told, reads_done, second_makes}
 use Rattle.qcalls.proofs.caller.Caller.make_both.Goals as goal
 
-pub returns-in-Both : goal.returns-in-Both
-returns-in-Both g c =
+pub returns-in-Both-clause-makes : goal.returns-in-Both-clause-makes
+returns-in-Both-clause-makes g c =
     let was = c.in-Both.ensures in
-    both_make c.args.first c.args.second c.in-Both.field-0 c.in-Both.called was.turn was.asked was.taken was.pending was.told c.ending_of.ensures
+    both_make c.args.first c.args.second c.in-Both.field-0 c.in-Both.called was.turn was.asked was.taken was.pending was.told c.ending_of.ensures.leads
 
-pub returns-in_err-ending_of-in-First : goal.returns-in_err-ending_of-in-First
-returns-in_err-ending_of-in-First g c =
+pub returns-in_err-ending_of-in-First-clause-makes : goal.returns-in_err-ending_of-in-First-clause-makes
+returns-in_err-ending_of-in-First-clause-makes g c =
     let was = c.in-First.ensures in
     let p = err_from_is_err_and c.from_residual.result c.from_residual.ensures.1 in
     first_fails c.args.first c.args.second c.in-First.called c.ending_of-in-First.result
-    (record { asked = was.asked; taken = was.taken; pending = was.pending; told = was.told }) c.ending_of-in-First.ensures
+    (record { asked = was.asked; taken = was.taken; pending = was.pending; told = was.told }) c.ending_of-in-First.ensures.leads
     (ap (read_off done_in) c.in_err-ending_of-in-First.was) (p.1 ∙ ap Err p.2)
 
-pub returns-in_err-done-in-First : goal.returns-in_err-done-in-First
-returns-in_err-done-in-First g c =
+pub returns-in_err-done-in-First-clause-makes : goal.returns-in_err-done-in-First-clause-makes
+returns-in_err-done-in-First-clause-makes g c =
     let was = c.in-First.ensures in
     let p = err_from_is_err_and c.from_residual-in_err-done-in-First.result c.from_residual-in_err-done-in-First.ensures.1 in
     first_fails c.args.first c.args.second c.in-First.called c.ending_of-in-First.result
-    (record { asked = was.asked; taken = was.taken; pending = was.pending; told = was.told }) c.ending_of-in-First.ensures
+    (record { asked = was.asked; taken = was.taken; pending = was.pending; told = was.told }) c.ending_of-in-First.ensures.leads
     (reads_done c.in_ok-ending_of-in-First.was c.done.ensures c.in_err-done-in-First.was) (p.1 ∙ ap Err p.2)
 
-pub returns : goal.returns
-returns g c =
+pub returns-clause-makes : goal.returns-clause-makes
+returns-clause-makes g c =
     let was = c.in-First.ensures in
     second_makes c.args.first c.args.second c.in-First.called c.ending_of-in-First.result
-    (record { asked = was.asked; taken = was.taken; pending = was.pending; told = was.told }) c.ending_of-in-First.ensures
-    (reads_done c.in_ok-ending_of-in-First.was c.done.ensures c.in_ok-done-in-First.was) was.turn.1 c.make.ensures
+    (record { asked = was.asked; taken = was.taken; pending = was.pending; told = was.told }) c.ending_of-in-First.ensures.leads
+    (reads_done c.in_ok-ending_of-in-First.was c.done.ensures c.in_ok-done-in-First.was) was.turn.1 c.make.ensures.makes
+
+pub returns-in-Both-clause-came : goal.returns-in-Both-clause-came
+returns-in-Both-clause-came g c =
+    let was = c.in-Both.ensures in
+    record { between = c.call_both.new.self; answer = _; both = was.came; then = inl (c.ending_of.ensures.seen, leads_told _ _ _ _ c.ending_of.ensures.leads ∙ was.told) }
+
+pub returns-in_err-ending_of-in-First-clause-came : goal.returns-in_err-ending_of-in-First-clause-came
+returns-in_err-ending_of-in-First-clause-came g c =
+    let was = c.in-First.ensures in
+    record { between = c.call_both.new.self; answer = _; both = was.came; then = inl (c.ending_of-in-First.ensures.seen, leads_told _ _ _ _ c.ending_of-in-First.ensures.leads ∙ was.told) }
+
+pub returns-in_err-done-in-First-clause-came : goal.returns-in_err-done-in-First-clause-came
+returns-in_err-done-in-First-clause-came g c =
+    let was = c.in-First.ensures in
+    record { between = c.call_both.new.self; answer = _; both = was.came; then = inl (c.ending_of-in-First.ensures.seen, leads_told _ _ _ _ c.ending_of-in-First.ensures.leads ∙ was.told) }
+
+pub returns-clause-came : goal.returns-clause-came
+returns-clause-came g c =
+    let was = c.in-First.ensures in
+    let e = c.ending_of-in-First.new.self.endpoint in
+    let last = c.make.new.self.endpoint in
+    let came = subst (λ d. ComesOf g.E.Endpoint.came e d (g.E.Endpoint.seen last) (g.E.Endpoint.history last).told) was.turn.1 c.make.ensures.came in
+    record { between = e; answer = _; both = subst (g.E.Endpoint.came_both c.args.self.now.endpoint c.args.first c.args.second _) (sym c.ending_of-in-First.ensures.seen) was.came; then = inr came }

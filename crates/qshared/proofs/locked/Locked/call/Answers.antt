@@ -2,7 +2,7 @@ use Rattle.std.specs.Prelude.{Some}
 use Rattle.std.proofs.Common.{◌≡◌, ◌<◌, List, [], map, length, length-set, ap, sym, subst, ◌∙◌, arith}
 use Rattle.std.proofs.lemmas.List.{length-map, map-set}
 use Rattle.qpast.specs.declared.asking.Heard.{Heard}
-use Rattle.qshared.specs.Asking.{AreCallsOf}
+use Rattle.qshared.specs.Asking.{AreCallsOf, WaitedBefore}
 use Rattle.qshared.proofs.Lists.{comes, kept_names, told_list, heard_event, heard_refused}
 use Rattle.qshared.proofs.locked.Locked.call.Goals as goal
 
@@ -43,11 +43,18 @@ invariant_of-self-else-is_event-clause-heard_all g c =
     (heard_refused g.K.Tie.names.roster g.L.Log.refuses g.L.Log.admits (map (λ h. h.calls) c.args.self.now.heard.items) c.args.turn.now.seat.thread c.index-cell.result c.args.call c.args.self.now.traced c.perform-performed.new.self (c.requires.seat.0 ∙ ap Some (sym c.index-cell.ensures)) c.perform-performed.result c.perform-performed.ensures.performs
     (sym c.is_event.ensures ∙ c.if-is_event.false) c.args.self.now.heard_all)
 
-pub returns-clause-came : goal.returns-clause-came
-returns-clause-came g c = record {
-  past = c.args.self.now.traced.past;
+pub returns-clause-met : goal.returns-clause-met
+returns-clause-met g c = record {
   lawful = c.len-events.ensures.lawful.0;
   properties = c.len-events.ensures.lawful.1;
   calls = sym (c.agree.ensures.agreed ∙ c.args.self.now.heard_all c.args.turn.now.seat.thread c.index-cell.result (c.requires.seat.0 ∙ ap Some (sym c.index-cell.ensures)));
-  holds = comes g.K.Tie.names.roster g.L.Log.refuses g.L.Log.admits [] c.args.turn.now.seat.thread c.index-cell.result c.args.call c.args.self.now.traced c.perform-performed.new.self (c.requires.seat.0 ∙ ap Some (sym c.index-cell.ensures)) c.perform-performed.result c.perform-performed.ensures.performs;
+  extends = c.perform-performed.ensures.extends;
 }
+
+pub returns-clause-came : goal.returns-clause-came
+returns-clause-came g c = comes g.K.Tie.names.roster g.L.Log.refuses g.L.Log.admits [] c.args.turn.now.seat.thread c.index-cell.result c.args.call c.args.self.now.traced c.perform-performed.new.self (c.requires.seat.0 ∙ ap Some (sym c.index-cell.ensures)) c.perform-performed.result c.perform-performed.ensures.performs c.perform-performed.new.seen.trace c.perform-performed.ensures.seen
+
+pub perform-performed-requires-clause-pending : goal.perform-performed-requires-clause-pending
+perform-performed-requires-clause-pending g c = λ p.
+    let t = c.args.turn.now.seat.thread in
+    subst (λ cs. WaitedBefore c.args.seen.now.trace cs t) (c.agree.ensures.agreed ∙ c.args.self.now.heard_all t c.index-cell.result (c.requires.seat.0 ∙ ap Some (sym c.index-cell.ensures))) (c.requires.pending p)

@@ -4,13 +4,14 @@ use Rattle.std.proofs.lemmas.List.{length-map}
 use lib.ListN.{get_elem?}
 use Rattle.qmodel.specs.Private.Facts.{threads_of}
 use Rattle.qmodel.proofs.Rosters.{rises}
-use Rattle.qhandoff.specs.Words.{cells_id, count, took, left_for, AreBelow, IsRow}
+use Rattle.qhandoff.specs.Words.{cells_id, count, taken, took, left_for, AreBelow, IsRow}
 use Rattle.qshared.specs.Asking.{calls_of}
-use Rattle.qshared.specs.Due.{AreKnown, endings_due, of_thread, place}
-use Rattle.qshared.specs.Past.{RiseByThread}
-use Rattle.qshared.proofs.Leftover.{few_left, left_by_thread, left_due, left_known}
+use Rattle.qshared.specs.Due.{AreDue, AreKnown, collected, later_due, of_thread, place}
+use Rattle.qshared.specs.Past.{AreSeen, RiseByThread}
+use Rattle.qshared.proofs.Leftover.{all_due, at_port, few_left, left_by_thread, left_due, left_known, port_due}
 use Rattle.qshared.proofs.Lists.{map_both, names_of}
-use Rattle.qshared.proofs.Places.{place_below}
+use Rattle.qshared.proofs.Places.{place_below, place_same}
+use Rattle.atomic_table.proofs.Lists.{at_map}
 use Rattle.qshared.proofs.Rows.{seats_row}
 use Rattle.qshared.proofs.shared.Shared.close.Goals as goal
 
@@ -51,7 +52,7 @@ returns-clause-rises g c =
     let ts = threads_of g.K.Tie.names.roster in
     let long : count c.args.self.cells ≡ length ts = ap (λ y. y.slots) c.args.self.cells_are ∙ sym h.sized ∙ sym (length-map g.K.Tie.names.roster (λ m. m.thread)) in
     let below : AreBelow (length ts) c.close-left.result.items = subst (λ n. AreBelow n c.close-left.result.items) long c.close-left.ensures.within in
-    let told : (t i : ℕ) → place ts t ≡ Some i → took (get_elem? (map (λ p. p.seat) c.args.ports.items) i) ++ left_for i c.close-left.result.items ≡ endings_due (g.L.Log.past c.traced.inside.log) t =
+    let told : (t i : ℕ) → place ts t ≡ Some i → took (get_elem? (map (λ p. p.seat) c.args.ports.items) i) ++ left_for i c.close-left.result.items ≡ later_due (g.L.Log.past c.traced.inside.log) t =
     λ t i at. ap (λ ss. took (get_elem? ss i) ++ left_for i c.close-left.result.items) (sym c.gather.ensures.seats) ∙ c.close-left.ensures.told i (subst (λ n. i < n) (sym long) (place_below ts t i at)) ∙ (h.told.tied t i at).0 in
     subst RiseByThread (sym c.without_places.ensures) (left_by_thread ts (g.L.Log.past c.traced.inside.log) c.close-left.result.items (rises g.K.Tie.names.roster h.rises) c.close-left.ensures.rises below (λ i. took (get_elem? (map (λ p. p.seat) c.args.ports.items) i)) told)
 
@@ -61,17 +62,30 @@ returns-clause-known g c =
     let ts = threads_of g.K.Tie.names.roster in
     let long : count c.args.self.cells ≡ length ts = ap (λ y. y.slots) c.args.self.cells_are ∙ sym h.sized ∙ sym (length-map g.K.Tie.names.roster (λ m. m.thread)) in
     let below : AreBelow (length ts) c.close-left.result.items = subst (λ n. AreBelow n c.close-left.result.items) long c.close-left.ensures.within in
-    let told : (t i : ℕ) → place ts t ≡ Some i → took (get_elem? (map (λ p. p.seat) c.args.ports.items) i) ++ left_for i c.close-left.result.items ≡ endings_due (g.L.Log.past c.traced.inside.log) t =
+    let told : (t i : ℕ) → place ts t ≡ Some i → took (get_elem? (map (λ p. p.seat) c.args.ports.items) i) ++ left_for i c.close-left.result.items ≡ later_due (g.L.Log.past c.traced.inside.log) t =
     λ t i at. ap (λ ss. took (get_elem? ss i) ++ left_for i c.close-left.result.items) (sym c.gather.ensures.seats) ∙ c.close-left.ensures.told i (subst (λ n. i < n) (sym long) (place_below ts t i at)) ∙ (h.told.tied t i at).0 in
     subst (AreKnown g.K.Tie.names.roster) (sym c.without_places.ensures) (left_known ts (g.L.Log.past c.traced.inside.log) c.close-left.result.items (rises g.K.Tie.names.roster h.rises) c.close-left.ensures.rises below (λ i. took (get_elem? (map (λ p. p.seat) c.args.ports.items) i)) told g.K.Tie.names.roster refl)
 
 pub returns-clause-due : goal.returns-clause-due
 returns-clause-due g c =
     let h = c.traced.invariant.2 in
+    let past = g.L.Log.past c.traced.inside.log in
     let ts = threads_of g.K.Tie.names.roster in
+    let ports = c.args.ports.items in
     let long : count c.args.self.cells ≡ length ts = ap (λ y. y.slots) c.args.self.cells_are ∙ sym h.sized ∙ sym (length-map g.K.Tie.names.roster (λ m. m.thread)) in
     let below : AreBelow (length ts) c.close-left.result.items = subst (λ n. AreBelow n c.close-left.result.items) long c.close-left.ensures.within in
-    let told : (t i : ℕ) → place ts t ≡ Some i → took (get_elem? (map (λ p. p.seat) c.args.ports.items) i) ++ left_for i c.close-left.result.items ≡ endings_due (g.L.Log.past c.traced.inside.log) t =
+    let told : (t i : ℕ) → place ts t ≡ Some i → took (get_elem? (map (λ p. p.seat) ports) i) ++ left_for i c.close-left.result.items ≡ later_due past t =
     λ t i at. ap (λ ss. took (get_elem? ss i) ++ left_for i c.close-left.result.items) (sym c.gather.ensures.seats) ∙ c.close-left.ensures.told i (subst (λ n. i < n) (sym long) (place_below ts t i at)) ∙ (h.told.tied t i at).0 in
-    subst (λ left. (t i : ℕ) → place ts t ≡ Some i → took (get_elem? (map (λ p. p.seat) c.args.ports.items) i) ++ of_thread t left ≡ endings_due (g.L.Log.past c.traced.inside.log) t) (sym c.without_places.ensures)
-    (left_due ts (g.L.Log.past c.traced.inside.log) c.close-left.result.items (rises g.K.Tie.names.roster h.rises) c.close-left.ensures.rises below (λ i. took (get_elem? (map (λ p. p.seat) c.args.ports.items) i)) told)
+    let left = map (λ x. x.1) c.close-left.result.items in
+    let cells = left_due ts past c.close-left.result.items (rises g.K.Tie.names.roster h.rises) c.close-left.ensures.rises below (λ i. took (get_elem? (map (λ p. p.seat) ports) i)) told in
+    let many : length ports ≡ length ts = c.requires.all.0 ∙ ap (λ y. y.slots) (sym c.args.self.cells_are) ∙ long in
+    subst (λ l. AreDue g.K.Tie.names.roster (map (λ p. collected p.last.trace p.thread (taken p.seat)) ports) l past) (sym c.without_places.ensures)
+    (all_due (λ p. p.seat) (λ p. collected p.last.trace p.thread (taken p.seat)) g.K.Tie.names.roster past left ports many (λ t k p at is mine.
+    let same = place_same ts p.thread t k (p.thread_is ∙ ap Some (c.requires.all.1 k p at)) is in
+    let extends = subst (λ q. AreSeen q (map (λ p. p.seen.trace) ports)) c.traced.invariant.3.1 c.gather.ensures.seen k p.seen.trace (at_map (λ q. q.seen.trace) ports k p at) in
+    let now = sym (returns-clause-asked g c t k is) ∙ at_port (λ q. q.seat) (λ q. []) g.K.Tie.names.roster past left (λ q. q.asked.calls) ports k p [] at in
+    let o = h.told.owed t k is in
+    port_due past p.seen.trace p.last.trace p.asked.calls p.thread t (taken p.seat) (of_thread t left) p.turn.pending _ same extends p.since now p.calls_are p.later o.later o.whole mine) cells)
+
+pub returns-clause-seen : goal.returns-clause-seen
+returns-clause-seen g c = subst (λ past. AreSeen past (map (λ p. p.seen.trace) c.args.ports.items)) c.traced.invariant.3.1 c.gather.ensures.seen

@@ -1,12 +1,15 @@
-use Rattle.std.proofs.Common.{◌≡◌, length, sym, ◌∙◌, ap, refl, inl, inr, arith}
+use Rattle.std.proofs.Common.{◌≡◌, length, sym, ◌∙◌, ap, refl, subst, inl, inr, arith}
 use Rattle.std.specs.Prelude.{Some}
 use Rattle.qmodel.specs.Private.Lawful.{with_event}
 use Rattle.qhandoff.specs.Words.{desk}
 use Rattle.qrules.specs.Facts.{threads_of}
 use Rattle.qstate.proofs.Seats.{seat_kept}
+use Rattle.qpast.specs.History.{Extends}
+use Rattle.qshared.specs.Asking.{WaitedBefore, calls_of}
 use Rattle.qshared.specs.Due.{place}
+use Rattle.qshared.proofs.Turns.{still_waited}
 use Rattle.qshared.proofs.Places.{seat_at_place}
-use Rattle.qshared.proofs.Keeps.{is_known, is_shut, is_busy, free, same_desk, held_after, apart, may_put, performs}
+use Rattle.qshared.proofs.Keeps.{is_known, is_shut, is_busy, is_pending, free, same_desk, held_after, apart, may_put, performs}
 use Rattle.qkernel.specs.Stands.{AnswersAtTraces}
 use Rattle.qkernel.proofs.Traces.{stands_down, stands_made, stands_roster}
 use Rattle.qshared.proofs.traced.Traced.perform.Goals as goal
@@ -22,6 +25,17 @@ returns-then-not-open-clause-performs g c =
     let up = sym c.is_down.ensures ∙ c.if-is_down.false in
     rw (← c.self.view_is, c.if-not-open.ensures.desk.0) (refl, refl, inl (is_busy _ _ _ _ _ _ c.self.invariant.2 c.args.turn.now.seat.thread c.index-place.result at up c.if-not-open.ensures.desk.1))
 
+pub returns-then-turn-clause-performs : goal.returns-then-turn-clause-performs
+returns-then-turn-clause-performs g c =
+    let t = c.args.turn.now.seat.thread in
+    let up = sym c.is_down.ensures ∙ c.if-is_down.false in
+    rw (← c.self.view_is) (refl, refl, inl (is_pending _ _ _ _ _ _ c.self.invariant.2 t c.args.turn.now.seat.index c.requires.seat up (still_waited (g.L.Log.past c.self.inside.log) c.args.seen.now.trace t (subst (λ p. Extends p c.args.seen.now.trace) c.self.invariant.3.1 c.look.ensures.extends) (subst (λ u. WaitedBefore c.args.seen.now.trace (calls_of u.past t) t) (sym c.self.view_is) (c.requires.pending c.if-turn.true)))))
+
+pub hand_out-own-requires-clause-place : goal.hand_out-own-requires-clause-place
+hand_out-own-requires-clause-place g c =
+    let t = c.args.turn.now.seat.thread in
+    ap (λ ms. place (threads_of ms) t) c.call_at.ensures.roster ∙ ap (λ ts. place ts t) c.self.invariant.2.threads_are ∙ c.requires.seat
+
 pub invariant_of-self-in-Err : goal.invariant_of-self-in-Err
 invariant_of-self-in-Err g c =
     let at : place (threads_of g.K.Tie.names.roster) c.args.turn.now.seat.thread ≡ Some c.index-place.result = c.requires.seat ∙ ap Some (sym c.index-place.ensures) in
@@ -32,6 +46,7 @@ invariant_of-self-in-Err g c =
       c.cancel.ensures.cells ∙ c.open.ensures.cells ∙ c.self.invariant.0,
       same.1 ∙ c.self.invariant.1,
       rw (c.cancel.ensures.desk, opened.0, same_desk _ _ _ _ _ _ c.self.invariant.2 c.args.turn.now.seat.thread c.index-place.result at up opened.1 wide, same.0) c.self.invariant.2,
+      (ap (λ h. h.name) c.look.ensures.same ∙ c.self.invariant.3.0, ap (λ h. h.trace) c.look.ensures.same ∙ c.self.invariant.3.1 ∙ sym same.0),
     )
 
 pub returns-in-Err-clause-performs : goal.returns-in-Err-clause-performs
@@ -100,10 +115,13 @@ invariant_of-self-2 g c =
     let opened = c.if-not-open.ensures.desk in
     let wide : length (desk c.self.inside.seat).lines ≡ g.K.Tie.names.cells.slots = c.self.inside.seat.knows.1 ∙ ap (λ z. z.slots) c.self.invariant.0 in
     let handed = rw (c.call_at.ensures.roster, opened.0) at c.hand_out-own.ensures.handed in
-    let past = c.event.ensures.event ∙ ap (λ x. with_event c.args.turn.now.seat.thread (g.L.Log.noted c.note.new.self) x.items (g.L.Log.past c.note.new.self)) c.deref.ensures ∙ ap (λ k. with_event c.args.turn.now.seat.thread k c.call_at.new.endings.items (g.L.Log.past c.note.new.self)) c.in_default.ensures.noted.0 ∙ ap (λ p. with_event c.args.turn.now.seat.thread c.args.call c.call_at.new.endings.items p) c.note.ensures.same.0 in (
+    let past = c.event.ensures.event ∙ ap (λ x. with_event c.args.turn.now.seat.thread (g.L.Log.noted c.note.new.self) x.items (g.L.Log.past c.note.new.self)) c.deref.ensures ∙ ap (λ k. with_event c.args.turn.now.seat.thread k c.call_at.new.endings.items (g.L.Log.past c.note.new.self)) c.in_default.ensures.noted.0 ∙ ap (λ p. with_event c.args.turn.now.seat.thread c.args.call c.call_at.new.endings.items p) c.note.ensures.same.0 in
+    let t = c.args.turn.now.seat.thread in let X = c.call_at.new.endings.items in
+    let seen = c.add.ensures.past ∙ ap (λ u. with_event u c.of-asking.result.value c.deref-2.result.now.items c.look.new.self.trace) c.thread-thread.ensures ∙ ap (λ k. with_event t k c.deref-2.result.now.items c.look.new.self.trace) c.of-asking.ensures ∙ ap (λ x. with_event t c.args.call x.items c.look.new.self.trace) c.deref-2.ensures ∙ ap (λ h. with_event t c.args.call X h.trace) c.look.ensures.same ∙ ap (λ p. with_event t c.args.call X p) c.self.invariant.3.1 in (
       c.hand_out-own.ensures.cells ∙ c.open.ensures.cells ∙ c.self.invariant.0,
       c.event.ensures.same ∙ c.note.ensures.same.1 ∙ c.self.invariant.1,
       rw (past, c.call_at.ensures.roster) (held_after _ _ _ _ _ _ c.self.invariant.2 c.args.turn.now.seat.thread c.index-place.result at up opened.1 wide c.in_default.ensures.few c.args.call c.call_at.new.endings.items c.call_at.new.self event (desk c.hand_out-own.new.seat) handed),
+      (ap (λ h. h.name) c.look-2.ensures.same ∙ c.add.ensures.name ∙ ap (λ h. h.name) c.look.ensures.same ∙ c.self.invariant.3.0, ap (λ h. h.trace) c.look-2.ensures.same ∙ seen ∙ sym past),
     )
 
 pub returns-clause-performs : goal.returns-clause-performs
@@ -114,7 +132,7 @@ returns-clause-performs g c =
     let opened = c.if-not-open.ensures.desk in
     let wide : length (desk c.self.inside.seat).lines ≡ g.K.Tie.names.cells.slots = c.self.inside.seat.knows.1 ∙ ap (λ z. z.slots) c.self.invariant.0 in
     let past = c.event.ensures.event ∙ ap (λ x. with_event c.args.turn.now.seat.thread (g.L.Log.noted c.note.new.self) x.items (g.L.Log.past c.note.new.self)) c.deref.ensures ∙ ap (λ k. with_event c.args.turn.now.seat.thread k c.call_at.new.endings.items (g.L.Log.past c.note.new.self)) c.in_default.ensures.noted.0 ∙ ap (λ p. with_event c.args.turn.now.seat.thread c.args.call c.call_at.new.endings.items p) c.note.ensures.same.0 in
-    rw (← c.self.view_is, c.ended_or_open.ensures, c.hand_out-own.ensures.own, past) (performs _ _ _ _ _ _ c.self.invariant.2 c.args.turn.now.seat.thread c.index-place.result at up opened.1 wide c.in_default.ensures.few c.args.call c.call_at.new.endings.items c.call_at.new.self event g.L.Log.refuses g.L.Log.admits _ c.in_default.ensures.admitted)
+    rw (← c.self.view_is, c.ended_or_open.ensures, past) (performs _ _ _ _ _ _ c.self.invariant.2 c.args.turn.now.seat.thread c.index-place.result at up opened.1 wide c.in_default.ensures.few c.args.call c.call_at.new.endings.items c.call_at.new.self event g.L.Log.refuses g.L.Log.admits _ c.in_default.ensures.admitted c.hand_out-own.result c.hand_out-own.ensures.own)
 
 pub note-requires : goal.note-requires
 note-requires g c = record {

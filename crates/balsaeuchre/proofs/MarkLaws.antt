@@ -1,0 +1,189 @@
+-- The mark of each ending fits the call that it ends.
+use Rattle.std.proofs.Common.{◌≡◌, ◌∙◌, ◌+◌, ℕ, List, [], ◌∷◌, length, refl, ap, sym, subst, cond, Bool, true, false, inl, inr, int_eq}
+use Rattle.std.specs.Prelude.{ℤ, pos, Result, Err, Option, None, Some, option_map}
+use Rattle.std.specs.List.{AllByRecursion}
+use Rattle.std.proofs.lemmas.Bool.{true≢false}
+use Rattle.std.proofs.lemmas.Option.{none-some, same_Some}
+use Rattle.qbase.specs.Laying.{laid_count, lay_over}
+use Rattle.qbase.specs.declared.errno.Errno.{Errno}
+use Rattle.qbase.specs.declared.errno.Errno.TheVariants.{NoMemory, Srch}
+use Rattle.qbase.proofs.Lists.{all_filter_map, all_more}
+use Rattle.qqueue.specs.Best.{is_pulse, may_take}
+use Rattle.qqueue.specs.declared.item.Item.{Item}
+use Rattle.qqueue.specs.declared.item.Kind.TheVariants.{Any, PulseOnly}
+use Rattle.qqueue.proofs.OrderLaws.{best-may}
+use Rattle.qmodel.specs.Private.Answer.{ending, refusal_ending}
+use Rattle.qmodel.specs.Private.Calls.{row_of}
+use Rattle.qmodel.specs.Private.Calls.ConnectDetach as connect_detach
+use Rattle.qmodel.specs.Private.Calls.Error.{error_finish, mark_of}
+use Rattle.qmodel.specs.Private.Calls.Info.{info_of, info_ending}
+use Rattle.qmodel.specs.Private.Calls.Pulse as pulse
+use Rattle.qmodel.specs.Private.Calls.Reply.{reply_finish}
+use Rattle.qmodel.specs.Private.Calls.Send.{item}
+use Rattle.qmodel.specs.Private.Calls.Unblock as unblock
+use Rattle.qmodel.specs.Private.Cancelling.{is_on}
+use Rattle.qmodel.specs.Private.Effects.{asks}
+use Rattle.qmodel.specs.Private.Facts.{Facts, message, route, sender, threads_of}
+use Rattle.qmodel.specs.Private.Headline.CopiedExactly.{call_at as old_call_at}
+use Rattle.qmodel.specs.Private.Held.{Finish}
+use Rattle.qmodel.specs.Private.Lawful.{facts_of}
+use Rattle.qmodel.specs.Private.Past.{call_by_now, wait_with_receipt, with_receipt}
+use Rattle.qmodel.specs.Private.Rows.{delivery_of, with_buffer}
+use Rattle.qmodel.specs.Trace.{Trace}
+use Rattle.qmodel.specs.declared.call.Call.{Call}
+use Rattle.qmodel.specs.declared.call.Call.TheVariants.{Send, Receive, Reply, Error, Info, ReceivePulse, Pulse, ChannelDestroy, Shutdown, Unblock, ConnectDetach}
+use Rattle.qmodel.specs.declared.call.Completion.{Completion}
+use Rattle.qmodel.specs.declared.call.Info.{Info as Told}
+use Rattle.qmodel.specs.declared.call.Mark.{Mark}
+use Rattle.qmodel.specs.declared.call.Mark.TheVariants as mark
+use Rattle.qmodel.specs.declared.open_call.OpenCall.{OpenCall}
+use Rattle.qmodel.specs.declared.open_call.Wait.{Wait}
+use Rattle.qmodel.specs.declared.open_call.Wait.TheVariants.{Answer, Item as ForItem}
+use Rattle.qmodel.proofs.Calls.Cancelling.{cancel_parts}
+use Rattle.qmodel.proofs.Calls.ConnectDetach.{detach_ends}
+use Rattle.qmodel.proofs.Calls.Held.{SenderEnds, sender_ends}
+use Rattle.qmodel.proofs.Past.Ends.{ending_names, laws_of, passes_of}
+use Rattle.qmodel.proofs.Past.Laws.{Passes}
+use Rattle.qmodel.proofs.Past.Numbers.{block_asked, block_below, call_earlier, call_newest, open_parts}
+use Rattle.qmodel.proofs.Properties.Rows.Delivering.{Delivers, delivery_meets}
+use Rattle.qmodel.proofs.Properties.Rows.Receiving.{receive_takes}
+use Rattle.qmodel.proofs.Properties.Rows.Telling.{told_meets, unblock_ends}
+use Rattle.qrules.proofs.Properties.Calls.{same_call_at}
+use Rattle.qrules.specs.Trace.{call_at}
+use Rattle.qlaws.proofs.Waits.{before}
+use Rattle.qcalls.specs.Errors.{failure}
+use Rattle.qcalls.specs.declared.error.CallError.{CallError}
+use Rattle.qcalls.specs.declared.error.CallError.TheVariants.{Unexpected}
+use Rattle.balsaeuchre.specs.Fitting.{fits, reading_of, EndingsFit, FittingIsExpected, NeverUnexpected}
+
+-- the call that waits in this way
+abbrev call_in : Wait → Call
+call_in (Answer coid message reply_buffer receipt) = Send coid message reply_buffer
+call_in (ForItem chid Any buffer) = Receive chid buffer
+call_in (ForItem chid PulseOnly buffer) = ReceivePulse chid
+
+-- ---- the call's own ending
+
+taking_fits : (taken : Item) (bytes buffer : List ℕ) (w : Wait) → (chid : ℕ) (kind : _) (b : List ℕ) → w ≡ ForItem chid kind b → may_take kind taken ≡ true → fits (call_in w) (delivery_of taken bytes buffer).0 ≡ true
+taking_fits taken bytes buffer w chid Any b is may = rw is (elim (is_pulse taken.what) as (λ p. fits (Receive chid b) (cond {A = Mark × List ℕ} p (mark.Pulse taken.number taken.priority taken.what, buffer) (mark.Message taken.number (laid_count buffer 0 bytes), lay_over buffer 0 bytes)).0 ≡ true) [ true ↦ refl | false ↦ refl ])
+taking_fits taken bytes buffer w chid PulseOnly b is may = rw (is, may) refl
+
+own_fits : (f : Facts) (t : ℕ) (c : Call) (y : Completion) → (row_of f t c).own ≡ Some y → fits c y.mark ≡ true
+own_fits f t (Send coid message reply_buffer) y e = absurd (none-some y e)
+own_fits f t (Receive chid buffer) y e = let k = receive_takes f t chid Any buffer y e in
+    ap (λ x. fits (Receive chid buffer) x.mark) (sym k.ending) ∙ taking_fits k.item _ buffer (ForItem chid Any buffer) chid Any buffer refl refl
+own_fits f t (ReceivePulse chid) y e = let k = receive_takes f t chid PulseOnly [] y e in
+    ap (λ x. fits (ReceivePulse chid) x.mark) (sym k.ending) ∙ taking_fits k.item _ [] (ForItem chid PulseOnly []) chid PulseOnly [] refl (best-may PulseOnly (f.pending chid) k.item k.best)
+own_fits f t (Info rcvid) y e = told (info_of f (sender f rcvid)) e where
+  told : (o : Option Told) → option_map (info_ending f.number t) o ≡ Some y → fits (Info rcvid) y.mark ≡ true
+  told None e = absurd (none-some y e)
+  told (Some info) e = ap (λ x. fits (Info rcvid) x.mark) (sym (same_Some _ y e))
+own_fits f t c y e = ap (λ x. fits c x.mark) (sym (same_Some _ y e))
+
+-- ---- another thread's ending
+
+-- the ending fits what thread u waits for
+abbrev FitsOpen : Facts → ℕ → Completion → Type 0
+FitsOpen f u y = (o : OpenCall) → f.open_call u ≡ Some o → fits (call_in o.wait) y.mark ≡ true
+
+met_fits : (f : Facts) (o : Option ℕ) (taken : Item) (bytes : List ℕ) (u : ℕ) (y : Completion) → Delivers f o taken bytes u y → FitsOpen f u y
+met_fits f o taken bytes u y k w is =
+    ap (λ x. fits (call_in w.wait) x.mark) (sym k.ending)
+    ∙ taking_fits taken bytes k.buffer w.wait k.channel k.kind k.buffer (ap (λ v. v.wait) (same_Some _ _ (sym is ∙ k.is_open)) ∙ k.waits) k.may
+
+failed_fits : (w : Wait) (m : Mark) (errno : _) → mark.Failed errno ≡ m → fits (call_in w) m ≡ true
+failed_fits w m errno e = ap (fits (call_in w)) (sym e)
+
+answered_fits : (f : Facts) (t rcvid : ℕ) (finish : Finish) (u : ℕ) (y : Completion) → ((coid : ℕ) (m b : List ℕ) → fits (Send coid m b) (finish b).0 ≡ true) → SenderEnds f t rcvid finish u y → FitsOpen f u y
+answered_fits f t rcvid finish u y any k w is =
+    ap (λ x. fits (call_in w.wait) x.mark) (sym k.ending)
+    ∙ ap (λ v. fits (call_in v) (finish k.held.reply_buffer).0) (ap (λ v. v.wait) (same_Some _ _ (sym is ∙ k.held.is_open)) ∙ k.held.waits)
+    ∙ any k.held.coid k.held.message k.held.reply_buffer
+
+error_fits : (code : ℤ) (coid : ℕ) (m b : List ℕ) → fits (Send coid m b) (mark_of code) ≡ true
+error_fits code coid m b = elim (int_eq code (pos 0)) as (λ z. fits (Send coid m b) (cond z (mark.Replied (pos 0) 0) (mark.Errored code)) ≡ true) [ true ↦ refl | false ↦ refl ]
+
+ends_fits : (f : Facts) (t : ℕ) (c : Call) (u : ℕ) (y : Completion) → Passes f t c → (row_of f t c).ends u ≡ Some y → FitsOpen f u y
+ends_fits f t (Send coid message reply_buffer) u y p e = met_fits f (route f t coid) (item f t) message u y (delivery_meets f (route f t coid) (item f t) message u y e)
+ends_fits f t (Reply rcvid status bytes) u y p e = answered_fits f t rcvid (reply_finish status bytes) u y (λ coid m b. refl) (sender_ends f t rcvid (reply_finish status bytes) u y p.row e)
+ends_fits f t (Error rcvid code) u y p e = answered_fits f t rcvid (error_finish code) u y (error_fits code) (sender_ends f t rcvid (error_finish code) u y p.row e)
+ends_fits f t (Pulse coid priority code value) u y p e =
+    let k = told_meets f (pulse.sent_pulse f coid priority code value) u y e in met_fits f (Some k.made.channel) k.made.item [] u y k.delivers
+ends_fits f t (ChannelDestroy chid) u y p e = λ w is. failed_fits w.wait y.mark _ (ap (λ x. x.mark) (cancel_parts (is_on f.connection chid) Srch u (f.open_call u) y e).ending)
+ends_fits f t Shutdown u y p e = λ w is. failed_fits w.wait y.mark _ (ap (λ x. x.mark) (cancel_parts (λ wait. true) Srch u (f.open_call u) y e).ending)
+ends_fits f t (Unblock thread) u y p e = elim (unblock_ends f thread u y (unblock.due_pulse f thread) e) [
+  | inl cut ↦ λ w is. failed_fits w.wait y.mark _ (ap (λ x. x.mark) cut.ending)
+  | inr k ↦ met_fits f (Some k.made.channel) k.made.item [] u y k.delivers
+]
+ends_fits f t (ConnectDetach coid) u y p e = elim (detach_ends f coid (connect_detach.due_pulse f t coid) u y e) [
+  | inl cut ↦ λ w is. failed_fits w.wait y.mark _ (ap (λ x. x.mark) cut.ending)
+  | inr s ↦ let k = told_meets f (connect_detach.due_pulse f t coid) u y s in met_fits f (Some k.made.channel) k.made.item [] u y k.delivers
+]
+ends_fits f t c u y p e = absurd (none-some y e)
+
+-- ---- the call that is open
+
+asked_fits : (n : ℕ) (c : Call) (b : OpenCall) (m : Mark) → asks n c ≡ Some b → fits c m ≡ fits (call_in b.wait) m
+asked_fits n (Send coid message reply_buffer) b m e = ap (λ o. fits (call_in o.wait) m) (same_Some _ b e)
+asked_fits n (Receive chid buffer) b m e = ap (λ o. fits (call_in o.wait) m) (same_Some _ b e)
+asked_fits n (ReceivePulse chid) b m e = ap (λ o. fits (call_in o.wait) m) (same_Some _ b e)
+asked_fits n c b m e = absurd (none-some b e)
+
+filled_fits : (change : List ℕ → List ℕ) (w : Wait) (m : Mark) → fits (call_in w) m ≡ fits (call_in (with_buffer change w)) m
+filled_fits change (Answer coid message reply_buffer receipt) m = refl
+filled_fits change (ForItem chid kind buffer) m = refl
+
+received_fits : (priority : ℕ) (unblocked : Bool) (copied : Option ℕ) (o : OpenCall) (m : Mark) → fits (call_in o.wait) m ≡ fits (call_in (with_receipt priority unblocked copied o).wait) m
+received_fits priority unblocked None o m = refl
+received_fits priority unblocked (Some copied) o m = elim (o.wait) as (λ w. fits (call_in w) m ≡ fits (call_in (wait_with_receipt (record { priority = priority; copied = copied; unblocked = unblocked }) w)) m) [
+  | Answer coid message reply_buffer receipt ↦ refl
+  | ForItem chid kind buffer ↦ refl
+]
+
+-- what is known of the ending of call i
+of_call : (past : Trace) (x : Completion) (i : ℕ) (c : Call) → x.call ≡ i → old_call_at past i ≡ Some c → fits c x.mark ≡ true → option_map (λ c. fits c x.mark) (call_at past x.call) ≡ Some true
+of_call past x i c at is fit = ap (option_map (λ c. fits c x.mark)) (same_call_at past x.call ∙ ap (old_call_at past) at ∙ is) ∙ ap Some fit
+
+pub endings_fit : EndingsFit
+endings_fit roster past e r l =
+    let f = facts_of roster past in
+    let P = λ (x : Completion). option_map (λ c. fits c x.mark) (call_at (e ∷ past) x.call) ≡ Some true in
+    elim ((before roster (e ∷ past) l).2) [
+      | inl a ↦ subst (AllByRecursion P) (sym a.1) (all_filter_map P (ending f e.thread e.call) (threads_of roster) (λ v y is.
+          elim (ending_names f e.thread e.call v y (laws_of f e.thread e.call e.endings a) is) [
+            | inl own ↦ of_call (e ∷ past) y (length past + 1) e.call own.names.call (call_newest e past) (own_fits f e.thread e.call y own.is)
+            | inr other ↦
+                let k = open_parts roster past v other.names.waiting other.names.is in
+                let asked = block_asked past v k.block k.is in
+                of_call (e ∷ past) y k.block.number asked.call (other.names.call ∙ k.number) (call_earlier e past k.block.number (block_below past v k.block k.is) ∙ asked.is)
+                (asked_fits k.block.number asked.call k.block y.mark asked.asks_it
+                ∙ filled_fits _ k.block.wait y.mark ∙ received_fits _ _ _ (call_by_now past k.block) y.mark ∙ ap (λ o. fits (call_in o.wait) y.mark) (sym k.same)
+                ∙ ends_fits f e.thread e.call v y (passes_of f e.thread e.call e.endings a) other.is other.names.waiting other.names.is)
+          ]))
+      | inr a ↦ subst (AllByRecursion P) (sym a.2) (of_call (e ∷ past) (refusal_ending f e.thread e.call a.0) (length past + 1) e.call refl (call_newest e past) refl, tt)
+    ]
+
+-- ---- what is read off an ending
+
+-- the result is the error Unexpected
+abbrev is_unexpected : {A : Type 0} → Result A CallError → Bool
+is_unexpected (Err Unexpected) = true
+is_unexpected other = false
+
+failed : (A : Type 0) (waited : Bool) (errno : Errno) → is_unexpected {A = A} (Err (failure waited errno)) ≡ false
+failed A true NoMemory = refl
+failed A true errno = refl
+failed A false NoMemory = refl
+failed A false errno = refl
+
+expected : (c : Call) (waited : Bool) (m : Mark) (buffer : List ℕ) → fits c m ≡ true → is_unexpected ((reading_of c).1 waited m buffer) ≡ false
+expected Shutdown waited mark.Ok buffer fit = refl
+expected c waited (mark.Failed errno) buffer fit = failed (reading_of c).0 waited errno
+expected c waited m buffer fit = search
+
+pub fitting_is_expected : FittingIsExpected
+fitting_is_expected c m buffer fit waited is = true≢false (ap is_unexpected (sym is) ∙ expected c waited m buffer fit)
+
+pub never_unexpected : NeverUnexpected
+never_unexpected roster past e r l = all_more _ _ e.endings (endings_fit roster past e r l) (λ x fit c at.
+    fitting_is_expected c x.mark x.buffer (same_Some _ true (ap (option_map (λ c. fits c x.mark)) (sym at) ∙ fit)))

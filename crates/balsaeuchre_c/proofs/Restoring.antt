@@ -1,0 +1,132 @@
+-- What is written of an ending's buffer, and behind it the buffer that its call brought, is all of the buffer.
+use Rattle.std.proofs.Common.{◌≡◌, ◌∙◌, ℕ, ◌+◌, List, [], ◌∷◌, ◌++◌, length, take, drop, refl, ap, sym, subst, arith, zero-add, cond, Bool, true, false, eqb, inl, inr, zero, suc}
+use Rattle.std.specs.Prelude.{Option, None, Some, is_some, fold, filter_map, find, reverse, option_and_then, option_map, slice_get}
+use Rattle.std.specs.List.{AllByRecursion}
+use Rattle.std.specs.Option.{option_map_or}
+use Rattle.std.proofs.Math.Seq.{take-append_seam}
+use Rattle.std.proofs.lemmas.Bool.{eq-eqb}
+use Rattle.std.proofs.lemmas.List.{append-nil, drop_all, length-take-le}
+use Rattle.std.proofs.lemmas.Option.{none-some, same_Some}
+use Rattle.qbase.specs.Laying.{laid_count, lay_over}
+use Rattle.qbase.proofs.Lengths.{lay_length}
+use Rattle.qbase.proofs.Lists.{all_filter_map}
+use Rattle.qtables.specs.declared.member.Member.{Member}
+use Rattle.qmodel.specs.declared.call.Call.{Call}
+use Rattle.qmodel.specs.declared.call.Call.TheVariants.{Send, Read, Write}
+use Rattle.qmodel.specs.declared.call.Completion.{Completion}
+use Rattle.qmodel.specs.declared.call.Mark.{Mark}
+use Rattle.qmodel.specs.declared.call.Mark.TheVariants as mark
+use Rattle.qrules.specs.Facts.{Facts, threads_of}
+use Rattle.qrules.specs.Lawful.{facts_of}
+use Rattle.qrules.specs.Outcome.{row, Answers}
+use Rattle.qrules.specs.Past.{accepted_calls, item_in, with_writes}
+use Rattle.qrules.specs.Properties.{buffer_at, message_at, request_of, HasProperties, IsCopied, IsCounted, IsLaid, TakesBest}
+use Rattle.qrules.specs.Rule.{buffer_of, ReceiveRequest, Transfer}
+use Rattle.qrules.specs.Rules.{effect_of}
+use Rattle.qrules.specs.Trace.{call_at, Event, Trace}
+use Rattle.balsaeuchre_c.specs.Calling.{brought_at}
+use Rattle.balsaeuchre_c.specs.Rows.{told_bytes, told_of}
+
+-- what is so of all is so of the one at a place
+pub all_at : {A : Type 0} (P : A → Type 0) (xs : List A) (i : ℕ) (x : A) → AllByRecursion P xs → slice_get xs i ≡ Some x → P x
+all_at P [] i x all at = cc
+all_at P (y ∷ xs) zero x all at = subst P (same_Some y x at) all.0
+all_at P (y ∷ xs) (suc i) x all at = all_at P xs i x all.1 at
+
+-- the told bytes and the rest of what was brought are all of the buffer, which is as long as that
+pub record Whole (buffer told brought : List ℕ) : Type 0 where
+  pub size : length buffer ≡ length brought
+  pub parts : buffer ≡ told ++ drop (length told) brought
+
+-- ---- bytes
+
+all_told : (b p : List ℕ) → length b ≡ length p → Whole b b p
+all_told b p same = record { size = same; parts = sym (ap (λ z. b ++ z) (drop_all (length b) p (omega arith)) ∙ append-nil b) }
+
+none_told : (n : ℕ) → Whole [] (take n []) []
+none_told zero = record { size = refl; parts = refl }
+none_told (suc n) = record { size = refl; parts = refl }
+
+front_told : (b p m : List ℕ) (n : ℕ) → b ≡ lay_over p 0 m → n ≡ laid_count p 0 m → Whole b (take n b) p
+front_told b p m n is count =
+    let h : List ℕ = take n m in
+    let hn : length h ≡ n = length-take-le n m (omega arith) in
+    let base : b ≡ h ++ drop n p = is ∙ sym (ap (λ k. take k m ++ drop (0 + k) p) count) ∙ ap (λ k. h ++ drop k p) (zero-add n) in
+    let front : take n (h ++ drop n p) ≡ h = subst (λ (k : ℕ). take k (h ++ drop n p) ≡ h) hn (take-append_seam h (drop n p)) in
+    record { size = ap length is ∙ lay_length p 0 m; parts = base ∙ ap (λ k. h ++ drop k p) (sym hn) ∙ ap (λ z. z ++ drop (length z) p) (sym (ap (take n) base ∙ front)) }
+
+-- ---- what a call brought
+
+writes_length : (ws : List Transfer) (b : List ℕ) → length (fold (λ b w. lay_over b w.offset w.bytes) b ws) ≡ length b
+writes_length [] b = refl
+writes_length (w ∷ ws) b = writes_length ws (lay_over b w.offset w.bytes) ∙ lay_length b w.offset w.bytes
+
+buffer_length : (past : Trace) (i : ℕ) → length (buffer_at past i) ≡ length (brought_at past i)
+buffer_length past i = elim (call_at past i) as (λ o. length (option_map_or (λ c. cond (is_some (effect_of c).sends) (with_writes past i (buffer_of (effect_of c))) (buffer_of (effect_of c))) o []) ≡ length (option_map_or (λ c. buffer_of (effect_of c)) o [])) [
+  | None ↦ refl
+  | Some c ↦ elim (is_some (effect_of c).sends) as (λ b. length (cond b (with_writes past i (buffer_of (effect_of c))) (buffer_of (effect_of c))) ≡ length (buffer_of (effect_of c))) [ true ↦ writes_length (reverse (filter_map (λ d. option_and_then (λ w. cond (eqb w.rcvid i) (Some w) None) d.effect.writes) (accepted_calls past))) (buffer_of (effect_of c)) | false ↦ refl ]
+]
+
+receive_sends : (c : Call) (r : ReceiveRequest) → (effect_of c).receives ≡ Some r → is_some (effect_of c).sends ≡ false
+receive_sends (Send coid sent room) r e = absurd (none-some r e)
+receive_sends c r e = refl
+
+buffer_brought : (past : Trace) (i : ℕ) (r : ReceiveRequest) → request_of past i ≡ Some r → buffer_at past i ≡ brought_at past i
+buffer_brought past i r is = by_call (call_at past i) is where
+  by_call : (o : Option Call) → option_and_then (λ c. (effect_of c).receives) o ≡ Some r
+      → option_map_or (λ c. cond (is_some (effect_of c).sends) (with_writes past i (buffer_of (effect_of c))) (buffer_of (effect_of c))) o [] ≡ option_map_or (λ c. buffer_of (effect_of c)) o []
+  by_call None e = absurd (none-some r e)
+  by_call (Some c) e = rw (receive_sends c r e) refl
+
+-- ---- what a Read or a Write counts
+
+alone : (f : Facts) (own : Completion) (u : ℕ) (y : Completion) → find (λ x. eqb x.thread u) (own ∷ []) ≡ Some y → own.call ≡ f.number → y.call ≡ f.number
+alone f own u y e same = by_test (eqb own.thread u) e where
+  by_test : (b : Bool) → cond b (Some own) None ≡ Some y → y.call ≡ f.number
+  by_test true e = ap (λ x. x.call) (sym (same_Some own y e)) ∙ same
+  by_test false e = absurd (none-some y e)
+
+ended_alone : (f : Facts) (t : ℕ) (c : Call) (X : List Completion) (own : Completion) → (row f t c).endings ≡ own ∷ [] → own.call ≡ f.number → Answers f t c X → AllByRecursion (λ y. y.call ≡ f.number) X
+ended_alone f t c X own only same answers = elim answers [
+  | inl a ↦ subst (AllByRecursion (λ y. y.call ≡ f.number)) (sym a.1) (all_filter_map _ (λ u. find (λ x. eqb x.thread u) (row f t c).endings) (threads_of f.roster)
+      (λ u y e. alone f own u y (ap (λ ys. find (λ x. eqb x.thread u) ys) (sym only) ∙ e) same))
+  | inr a ↦ subst (AllByRecursion (λ y. y.call ≡ f.number)) (sym a.2) (refl, tt)
+]
+
+newest_brought : (v : Event) (past : Trace) → brought_at (v ∷ past) (length past + 1) ≡ buffer_of (effect_of v.call)
+newest_brought v past = rw (eq-eqb (length past + 1) (length past + 1) refl) refl
+
+-- ---- each ending
+
+module _ (roster : List Member) (past : Trace) (t : ℕ) (c : Call) (X : List Completion) where
+  -- the event
+  abbrev v : Event
+  v = record { thread = t; call = c; endings = X }
+
+  -- a Read or a Write ends in its own event
+  counted : (d : Call) (place : ℕ) (y : Completion) (n : ℕ) → Answers (facts_of roster past) t d X → slice_get X place ≡ Some y → IsCounted past (effect_of d).reads (effect_of d).writes y n
+      → brought_at (v ∷ past) (length past + 1) ≡ buffer_of (effect_of d) → Whole y.buffer (take n y.buffer) (brought_at (v ∷ past) y.call)
+  counted (Read i at room) place y n a so h brought =
+      let own : y.call ≡ length past + 1 = all_at _ X place y (ended_alone (facts_of roster past) t (Read i at room) X _ refl refl a) so in
+      subst (λ p. Whole y.buffer (take n y.buffer) p) (sym (ap (brought_at (v ∷ past)) own ∙ brought)) (front_told y.buffer room _ n h.0 h.1)
+  counted (Write i at bytes) place y n a so h brought =
+      let own : y.call ≡ length past + 1 = all_at _ X place y (ended_alone (facts_of roster past) t (Write i at bytes) X _ refl refl a) so in
+      subst (λ p. Whole y.buffer (take n y.buffer) p) (sym (ap (brought_at (v ∷ past)) own ∙ brought)) (subst (λ b. Whole b (take n b) []) (sym h.0) (none_told n))
+  counted d place y n a so h brought = absurd h
+
+  by_mark : (place : ℕ) (y : Completion) (m : Mark) → Answers (facts_of roster past) t c X → slice_get X place ≡ Some y → IsCopied past v y m
+      → ((i : ℕ) → option_map (λ r. r.number) (item_in m) ≡ Some i → TakesBest roster past v y i)
+      → Whole y.buffer (told_of m y.buffer) (brought_at (v ∷ past) y.call)
+  by_mark place y (mark.Message rcvid n) a so h best =
+      let k = best rcvid refl in
+      let laid = subst (λ p. IsLaid p 0 (message_at (v ∷ past) rcvid) y.buffer n) (buffer_brought (v ∷ past) y.call k.request k.call) h in
+      front_told y.buffer (brought_at (v ∷ past) y.call) (message_at (v ∷ past) rcvid) n laid.0 laid.1
+  by_mark place y (mark.Replied status n) a so h best = all_told y.buffer _ (ap length h.2.0 ∙ lay_length _ 0 h.0 ∙ buffer_length (v ∷ past) y.call)
+  by_mark place y (mark.Count n) a so h best = counted c place y n a so h (newest_brought v past)
+  by_mark place y (mark.Pulse item priority what) a so h best = let k = best item refl in let same = h ∙ buffer_brought (v ∷ past) y.call k.request k.call in record { size = ap length same; parts = same }
+  by_mark place y _ a so h best = all_told y.buffer _ (ap length h ∙ buffer_length (v ∷ past) y.call)
+
+  -- an ending of a lawful event
+  pub restored : (place : ℕ) (y : Completion) → HasProperties roster (v ∷ past) → Answers (facts_of roster past) t c X → slice_get X place ≡ Some y
+      → Whole y.buffer (told_bytes y) (brought_at (v ∷ past) y.call)
+  restored place y p a so = by_mark place y y.mark a so (all_at _ X place y p.copied_exactly.1 so) (all_at _ X place y p.best_first.1 so)

@@ -1,0 +1,188 @@
+-- An item's place falls with each item before it that is gone.
+use mathlib.Core.Path.{fun_ext}
+use Rattle.std.proofs.Common.{◌≡◌, ◌∙◌, ◌≤◌, ◌+◌, ℕ, List, [], ◌∷◌, map, refl, ap, sym, subst, cond, arith, Bool, true, false, eqb}
+use Rattle.std.specs.Prelude.{Option, None, Some, not, ◌&&◌, count_by, filter, option_and_then, unwrap_or}
+use Rattle.std.specs.List.{AllByRecursion}
+use Rattle.std.proofs.lemmas.Bool.{eqb-true, false_from_ne_true, or_parts, true≢false}
+use Rattle.std.proofs.lemmas.List.Sums.{sum_by-append, sum_by-cons}
+use Rattle.qbase.proofs.Lists.{all_more}
+use Rattle.qqueue.specs.Best.{is_pulse, with_priority}
+use Rattle.qqueue.specs.Order.{comes_before}
+use Rattle.qqueue.specs.declared.item.Item.{Item}
+use Rattle.qtables.specs.declared.member.Member.{Member}
+use Rattle.qmodel.specs.Private.Lawful as old
+use Rattle.qmodel.specs.Private.Past.{current_priority, is_closed, is_gone, is_taken, item_of, made_on, pending_items, priority_set_by, sender_of}
+use Rattle.qmodel.specs.Trace.{Event, SentItem, Trace}
+use Rattle.qmodel.proofs.Past.Cancels.{sent_by}
+use Rattle.qmodel.proofs.Past.CurrentPriority.{now, worth_newest, worth_set}
+use Rattle.qmodel.proofs.Past.Items.{item_below, items_on, made_by, pending_is, standing_is, stands_all, staying, Stands}
+use Rattle.qmodel.proofs.Past.Pending.{items_more, stays_gone}
+use Rattle.qrules.specs.Lawful.{facts_of, item_made_by}
+use Rattle.qrules.specs.Past as new
+use Rattle.qrules.proofs.Lawful.{of_roster}
+use Rattle.qrules.proofs.Past.Done.{same_sender_of}
+use Rattle.qrules.proofs.Past.Effects.{same_makes}
+use Rattle.qrules.proofs.Past.Facts.{facts_known}
+use Rattle.qrules.proofs.Past.Items.{same_set_by}
+use Rattle.qlaws.specs.Pending as laws
+use Rattle.qlaws.proofs.PendingLaws.{same_gone}
+use Rattle.qlaws.proofs.Waits.{before, facts_at}
+
+-- ---- counts
+
+abbrev one : Bool → ℕ
+one b = cond b 1 0
+
+count_filter : (q g : Item → Bool) (items : List Item) → count_by q (filter g items) ≡ count_by (λ y. g y && q y) items
+count_filter q g [] = refl
+count_filter q g (y ∷ items) =
+    let rest : count_by q (filter g items) ≡ count_by (λ y. g y && q y) items = count_filter q g items in
+    elim (g y) as (λ b. count_by q (cond b (y ∷ filter g items) (filter g items)) ≡ one (b && q y) + count_by (λ y. g y && q y) items) [
+      | true ↦ sum_by-cons (λ y. one (q y)) y (filter g items) ∙ ap (λ n. one (q y) + n) rest
+      | false ↦ omega arith
+    ] ∙ sym (sum_by-cons (λ y. one (g y && q y)) y items)
+
+count_map : (q : Item → Bool) (k : Item → Item) (items : List Item) → count_by q (map k items) ≡ count_by (λ y. q (k y)) items
+count_map q k [] = refl
+count_map q k (y ∷ items) =
+    sum_by-cons (λ y. one (q y)) (k y) (map k items) ∙ ap (λ n. one (q (k y)) + n) (count_map q k items) ∙ sym (sum_by-cons (λ y. one (q (k y))) y items)
+
+-- where the items that pass the first test or the second are no more than those that pass the third
+fewer : (p q s : Item → Bool) (items : List Item) → AllByRecursion (λ y. one (p y) + one (q y) ≤ one (s y)) items → count_by p items + count_by q items ≤ count_by s items
+fewer p q s [] all = omega arith
+fewer p q s (y ∷ items) all =
+    let first : one (p y) + one (q y) ≤ one (s y) = all.0 in
+    let rest : count_by p items + count_by q items ≤ count_by s items = fewer p q s items all.1 in
+    let of_p : count_by p (y ∷ items) ≡ one (p y) + count_by p items = sum_by-cons (λ y. one (p y)) y items in
+    let of_q : count_by q (y ∷ items) ≡ one (q y) + count_by q items = sum_by-cons (λ y. one (q y)) y items in
+    let of_s : count_by s (y ∷ items) ≡ one (s y) + count_by s items = sum_by-cons (λ y. one (s y)) y items in
+    omega arith
+
+-- of those that are gone there are no more than of all
+fewer_gone : (q g : Item → Bool) (items : List Item) → 0 + count_by q (filter g items) ≤ count_by q items
+fewer_gone q g [] = omega arith
+fewer_gone q g (y ∷ items) =
+    let rest : 0 + count_by q (filter g items) ≤ count_by q items = fewer_gone q g items in
+    let all : count_by q (y ∷ items) ≡ one (q y) + count_by q items = sum_by-cons (λ y. one (q y)) y items in
+    let kept : count_by q (y ∷ filter g items) ≡ one (q y) + count_by q (filter g items) = sum_by-cons (λ y. one (q y)) y (filter g items) in
+    elim (g y) as (λ b. 0 + count_by q (cond b (y ∷ filter g items) (filter g items)) ≤ count_by q (y ∷ items)) [ true ↦ omega arith | false ↦ omega arith ]
+
+-- an item that goes counts only before, and one that stays counts afterwards only if it did so before
+weigh : (gone gone_after after before : Bool) → (gone ≡ true → gone_after ≡ true) → (gone_after ≡ false → after ≡ true → before ≡ true)
+    → one (not gone_after && after) + one (not gone && (gone_after && before)) ≤ one (not gone && before)
+weigh true true after before stays put = omega arith
+weigh true false after before stays put = absurd (true≢false (sym (stays refl)))
+weigh false true after before stays put = omega arith
+weigh false false true true stays put = omega arith
+weigh false false true false stays put = absurd (true≢false (sym (put refl refl)))
+weigh false false false before stays put = omega arith
+
+all_two : {X : Type 0} (P Q R : X → Type 0) (xs : List X) → AllByRecursion P xs → AllByRecursion Q xs → ((x : X) → P x → Q x → R x) → AllByRecursion R xs
+all_two P Q R [] p q f = tt
+all_two P Q R (x ∷ xs) p q f = (f x p.0 q.0, all_two P Q R xs p.1 q.1 f)
+
+-- what is so of those that pass, each as it is by now
+of_passing : (P : Item → Type 0) (p : Item → Bool) (k : Item → Item) (items : List Item) → AllByRecursion P (map k (filter p items)) → AllByRecursion (λ y. p y ≡ true → P (k y)) items
+of_passing P p k [] all = tt
+of_passing P p k (y ∷ items) all =
+    elim (p y) as (λ b. p y ≡ b → AllByRecursion P (map k (cond b (y ∷ filter p items) (filter p items))) → AllByRecursion (λ y. p y ≡ true → P (k y)) (y ∷ items)) [
+      | true ↦ λ is all. (λ passes. all.0, of_passing P p k items all.1)
+      | false ↦ λ is all. (λ passes. absurd (true≢false (sym passes ∙ is)), of_passing P p k items all)
+    ] refl all
+
+-- ---- by the kernel's own records
+
+-- the item with the priority that event e sets for its sender
+abbrev set_by : Event → Trace → Item → Item
+set_by e past y = with_priority (unwrap_or (option_and_then (priority_set_by e past) (sender_of past y.number)) y.priority) y
+
+module _ (roster : List Member) (past : Trace) (e : Event) (l : old.IsLawful roster past) (h : ℕ) (x : Item) where
+  abbrev P : Item → Type 0
+  P y = comes_before (set_by e past y) x ≡ true → comes_before y x ≡ true
+
+  -- an item that stays comes before x only if it did so
+  stays_behind : (y : Item) → Stands roster past h y → (not (is_gone past y) ≡ true → P (now past y)) → is_gone (e ∷ past) y ≡ false → comes_before (now (e ∷ past) y) x ≡ true → comes_before (now past y) x ≡ true
+  stays_behind y at put stays first =
+      let going : is_gone past y ≡ false = false_from_ne_true _ (λ gone. true≢false (sym (stays_gone past e.thread e.call e.endings y gone) ∙ stays)) in
+      elim (is_pulse y.what) as (λ b. is_pulse y.what ≡ b → comes_before (now past y) x ≡ true) [
+        | true ↦ λ pulse.
+            let same : current_priority past y ≡ current_priority (e ∷ past) y = rw pulse refl in
+            ap (λ q. comes_before (with_priority q y) x) same ∙ first
+        | false ↦ λ message.
+            let s = sent_by roster past h y l (standing_is roster past h y at going) message in
+            let same : unwrap_or (option_and_then (priority_set_by e past) (sender_of past y.number)) (current_priority past y) ≡ current_priority (e ∷ past) y =
+            ap (λ o. unwrap_or (option_and_then (priority_set_by e past) o) (current_priority past y)) s.sent
+            ∙ sym (worth_set e past y s.sender (item_below roster past y.number _ at) message (or_parts (is_taken past y.number) _ going).0 s.sent) in
+            put (ap not going) (ap (λ q. comes_before (with_priority q y) x) same ∙ first)
+      ] refl
+
+  abbrev counts_after : Item → Bool
+  counts_after y = not (is_gone (e ∷ past) y) && comes_before (now (e ∷ past) y) x
+
+  none_made : ((m : SentItem) → item_of roster e past ≡ Some m → m.channel ≡ h → is_gone (e ∷ past) m.item ≡ false → comes_before m.item x ≡ false) → count_by counts_after (made_on h (item_of roster e past)) ≡ 0
+  none_made made =
+      elim (item_of roster e past) as (λ o. item_of roster e past ≡ o → count_by counts_after (made_on h o) ≡ 0) [
+        | None ↦ λ is. refl
+        | Some m ↦ λ is.
+            elim (eqb m.channel h) as (λ b. eqb m.channel h ≡ b → count_by counts_after (cond b (m.item ∷ []) []) ≡ 0) [
+              | true ↦ λ on.
+                  let worth : current_priority (e ∷ past) m.item ≡ m.item.priority = worth_newest e past m.item (made_by roster e past m is).number in
+                  elim (is_gone (e ∷ past) m.item) as (λ b. is_gone (e ∷ past) m.item ≡ b → 0 + one (not b && comes_before (now (e ∷ past) m.item) x) ≡ 0) [
+                    | true ↦ λ gone. refl
+                    | false ↦ λ stays. ap (λ q. 0 + one (comes_before (with_priority q m.item) x)) worth ∙ ap (λ b. 0 + one b) (made m is (eqb-true m.channel h on) stays)
+                  ] refl
+              | false ↦ λ on. refl
+            ] refl
+      ] refl
+
+  falls : ((m : SentItem) → item_of roster e past ≡ Some m → m.channel ≡ h → is_gone (e ∷ past) m.item ≡ false → comes_before m.item x ≡ false) → AllByRecursion P (pending_items roster past h)
+      → laws.place x (pending_items roster (e ∷ past) h) + laws.place x (filter (is_gone (e ∷ past)) (pending_items roster past h)) ≤ laws.place x (pending_items roster past h)
+  falls made put =
+      let is_before : Item → Bool = λ y. comes_before y x in
+      let L : List Item = items_on roster past h in
+      elim (is_closed (e ∷ past) h) as (λ b. is_closed (e ∷ past) h ≡ b → laws.place x (pending_items roster (e ∷ past) h) + laws.place x (filter (is_gone (e ∷ past)) (pending_items roster past h)) ≤ laws.place x (pending_items roster past h)) [
+        | true ↦ λ closed.
+            let none : pending_items roster (e ∷ past) h ≡ [] = rw closed refl in
+            subst (λ items. laws.place x items + laws.place x (filter (is_gone (e ∷ past)) (pending_items roster past h)) ≤ laws.place x (pending_items roster past h)) (sym none)
+            (fewer_gone is_before (is_gone (e ∷ past)) (pending_items roster past h))
+        | false ↦ λ going.
+            let was_open : is_closed past h ≡ false = (or_parts _ (is_closed past h) going).1 in
+            let was : pending_items roster past h ≡ map (now past) (staying roster past h) = pending_is roster past h ∙ ap (λ b. cond b [] (map (now past) (staying roster past h))) was_open in
+            let is : pending_items roster (e ∷ past) h ≡ map (now (e ∷ past)) (staying roster (e ∷ past) h) = pending_is roster (e ∷ past) h ∙ ap (λ b. cond b [] (map (now (e ∷ past)) (staying roster (e ∷ past) h))) going in
+            let counted : (q : Item → Bool) → count_by q (pending_items roster past h) ≡ count_by (λ y. not (is_gone past y) && q (now past y)) L =
+            λ q. ap (count_by q) was ∙ count_map q (now past) (staying roster past h) ∙ count_filter (λ y. q (now past y)) (λ y. not (is_gone past y)) L in
+            let afterwards : laws.place x (pending_items roster (e ∷ past) h) ≡ count_by counts_after L + count_by counts_after (made_on h (item_of roster e past)) =
+            ap (laws.place x) is ∙ count_map is_before (now (e ∷ past)) (staying roster (e ∷ past) h)
+            ∙ count_filter (λ y. comes_before (now (e ∷ past) y) x) (λ y. not (is_gone (e ∷ past) y)) (items_on roster (e ∷ past) h)
+            ∙ ap (count_by counts_after) (items_more roster e past h)
+            ∙ sum_by-append (λ y. one (counts_after y)) L (made_on h (item_of roster e past)) in
+            let gone : laws.place x (filter (is_gone (e ∷ past)) (pending_items roster past h)) ≡ count_by (λ y. not (is_gone past y) && (is_gone (e ∷ past) y && comes_before (now past y) x)) L =
+            count_filter is_before (is_gone (e ∷ past)) (pending_items roster past h) ∙ counted (λ y. is_gone (e ∷ past) y && comes_before y x) in
+            let beforehand : laws.place x (pending_items roster past h) ≡ count_by (λ y. not (is_gone past y) && comes_before (now past y) x) L = counted is_before in
+            let new : count_by counts_after (made_on h (item_of roster e past)) ≡ 0 = none_made made in
+            let less : count_by counts_after L + count_by (λ y. not (is_gone past y) && (is_gone (e ∷ past) y && comes_before (now past y) x)) L ≤ count_by (λ y. not (is_gone past y) && comes_before (now past y) x) L =
+            fewer _ _ _ L (
+            all_two (Stands roster past h) (λ y. not (is_gone past y) ≡ true → P (now past y)) _ L (stands_all roster past h) (of_passing P (λ y. not (is_gone past y)) (now past) L (subst (AllByRecursion P) was put))
+            (λ y at k. weigh (is_gone past y) (is_gone (e ∷ past) y) _ _ (stays_gone past e.thread e.call e.endings y) (stays_behind y at k))) in
+            omega arith
+      ] refl
+
+-- ---- by the rules
+
+same_set : (e : Event) (past : Trace) (y : Item) → laws.as_set_by e past y ≡ set_by e past y
+same_set e past y =
+    ap (λ (set : ℕ → Option ℕ). with_priority (unwrap_or (option_and_then set (new.sender_of past y.number)) y.priority) y) (fun_ext (same_set_by e past))
+    ∙ ap (λ o. with_priority (unwrap_or (option_and_then (priority_set_by e past) o) y.priority) y) (same_sender_of past y.number)
+
+pub places_fall : laws.PlacesFall
+places_fall roster past e r l h x none =
+    let of = of_roster roster past l.0 in
+    let f = old.facts_of roster past in
+    let made : item_made_by (facts_of roster past) e past ≡ item_of roster e past =
+    ap (λ f. item_made_by f e past) (facts_at roster past l.0) ∙ ap (λ o. cond (new.is_accepted e past) o None) (same_makes f e.thread e.call (facts_known roster past of)) in
+    let put = all_more _ _ (pending_items roster past h) (subst (λ f. AllByRecursion (λ y. comes_before (laws.as_set_by e past y) x ≡ true → comes_before y x ≡ true) (f.pending h)) (facts_at roster past l.0) none.set)
+    (λ y k first. k (ap (λ y. comes_before y x) (same_set e past y) ∙ first)) in
+    subst (λ f. laws.place x (f.pending h) + laws.place x (filter (new.is_gone (e ∷ past)) ((facts_of roster past).pending h)) ≤ laws.place x ((facts_of roster past).pending h)) (sym (facts_at roster (e ∷ past) l)) (
+    subst (λ f. laws.place x (pending_items roster (e ∷ past) h) + laws.place x (filter (new.is_gone (e ∷ past)) (f.pending h)) ≤ laws.place x (f.pending h)) (sym (facts_at roster past l.0)) (
+    subst (λ (gone : Item → Bool). laws.place x (pending_items roster (e ∷ past) h) + laws.place x (filter gone (pending_items roster past h)) ≤ laws.place x (pending_items roster past h)) (sym (fun_ext (same_gone (e ∷ past)))) (
+    falls roster past e (before roster past l.0) h x (λ m is on stays. none.made m (made ∙ is) on (same_gone (e ∷ past) m.item ∙ stays)) put)))

@@ -1,0 +1,104 @@
+-- At most one unblock pulse is made for a message.
+use mathlib.Core.Path.{fun_ext}
+use Rattle.std.proofs.Common.{◌≡◌, ◌∙◌, ◌≤◌, ◌+◌, ℕ, List, [], ◌∷◌, refl, ap, sym, subst, cond, arith, Bool, true, false}
+use Rattle.std.specs.Prelude.{None, Some, count_by}
+use Rattle.std.specs.Option.{option_to_list}
+use Rattle.std.proofs.lemmas.Bool.{eqb-true, or_parts, true≢false}
+use Rattle.std.proofs.lemmas.List.Sums.{sum_by-append, sum_by-cons}
+use Rattle.std.proofs.lemmas.Option.{none-some, same_Some}
+use Rattle.qqueue.specs.declared.item.What.{What}
+use Rattle.qqueue.specs.declared.item.What.TheVariants as what
+use Rattle.qtables.specs.declared.member.Member.{Member}
+use Rattle.qmodel.specs.Private.Effects.{makes, unblocks}
+use Rattle.qmodel.specs.Private.Facts.{Facts as OldFacts}
+use Rattle.qmodel.specs.Private.Lawful as old
+use Rattle.qmodel.specs.Private.Past.{call_by_now, copied_count_of, is_unblock_for, item_of, items as old_items, priority_of_item, unblocked_among, wait_with_receipt, with_receipt}
+use Rattle.qmodel.specs.Trace.{SentItem, Trace}
+use Rattle.qmodel.specs.declared.call.Call.{Call}
+use Rattle.qmodel.specs.declared.call.Call.TheVariants as calls
+use Rattle.qmodel.specs.declared.open_call.OpenCall.{OpenCall}
+use Rattle.qmodel.specs.declared.open_call.Receipt.{Receipt as OldReceipt}
+use Rattle.qmodel.specs.declared.open_call.Wait.{Wait}
+use Rattle.qmodel.specs.declared.open_call.Wait.TheVariants.{Answer, Item as ForItem}
+use Rattle.qmodel.proofs.Calls.{call_laws}
+use Rattle.qmodel.proofs.Calls.Unblock.{due_parts}
+use Rattle.qmodel.proofs.Past.CurrentPriority.{unblocked_among_now}
+use Rattle.qmodel.proofs.Past.Items.{item_accepted}
+use Rattle.qmodel.proofs.Past.Numbers.{is_unblocked, open_parts}
+use Rattle.qmodel.proofs.Past.Unblocked.{none_unblocked}
+use Rattle.qrules.specs.Past as new
+use Rattle.qrules.specs.Properties.{items}
+use Rattle.qrules.proofs.Lawful.{of_roster}
+use Rattle.qrules.proofs.Properties.Items.{same_items}
+use Rattle.qlaws.specs.Pending as laws
+
+-- the receipt doesn't tell that no unblock pulse was made
+abbrev told : Wait → Bool
+told (Answer coid message reply_buffer (Some receipt)) = receipt.unblocked
+told wait = true
+
+untold : (receipt : OldReceipt) (w : Wait) → told (wait_with_receipt receipt w) ≡ false → receipt.unblocked ≡ false
+untold receipt (Answer coid message reply_buffer before) e = e
+untold receipt (ForItem chid kind buffer) e = absurd (true≢false e)
+
+unblock_is : (c : Call) (v : ℕ) → unblocks c ≡ Some v → c ≡ calls.Unblock v
+unblock_is (calls.Unblock thread) v e = ap calls.Unblock (same_Some thread v e)
+unblock_is c v e = absurd (none-some v e)
+
+-- of a message for which an unblock pulse is made, none was made before
+first_for : (roster : List Member) (past : Trace) (t : ℕ) (c : Call) (i : ℕ) (m : SentItem) → makes (old.facts_of roster past) t c ≡ Some m → is_unblock_for i m.item.what ≡ true → is_unblocked roster past i ≡ false
+first_for roster past t c i m made is =
+    let f : OldFacts = old.facts_of roster past in
+    elim (unblocks c) as (λ w. unblocks c ≡ w → is_unblocked roster past i ≡ false) [
+      | None ↦ λ none. absurd (true≢false (sym is ∙ (call_laws c).unblocks_none none f t m made i))
+      | Some v ↦ λ some.
+          let d = due_parts f (f.open_call v) m (subst (λ c. makes f t c ≡ Some m) (unblock_is c v some) made) in
+          let p = open_parts roster past v d.waiting d.is in
+          let number : p.block.number ≡ i = sym p.number ∙ eqb-true _ _ (ap (λ (m : SentItem). is_unblock_for i m.item.what) d.made ∙ is) in
+          let first : told d.waiting.wait ≡ false = ap told d.waits ∙ d.first in
+          subst (λ i. is_unblocked roster past i ≡ false) number (
+          elim (copied_count_of past p.block.number) as (λ r. copied_count_of past p.block.number ≡ r → d.waiting ≡ with_receipt (priority_of_item roster past p.block.number) (is_unblocked roster past p.block.number) r (call_by_now past p.block)
+          → is_unblocked roster past p.block.number ≡ false) [
+            | None ↦ λ none same. none_unblocked roster past p.block.number none
+            | Some copied ↦ λ taken same. untold _ (call_by_now past p.block).wait (ap (λ (o : OpenCall). told o.wait) (sym same) ∙ first)
+          ] refl p.same)
+    ] refl
+
+-- how many of the items are unblock pulses for message i
+abbrev pulses_for : ℕ → List SentItem → ℕ
+pulses_for i items = count_by (λ m. is_unblock_for i m.item.what) items
+
+none_counted : (i : ℕ) (items : List SentItem) → unblocked_among items i ≡ false → pulses_for i items ≡ 0
+none_counted i [] e = refl
+none_counted i (m ∷ items) e =
+    let p = or_parts (is_unblock_for i m.item.what) (unblocked_among items i) e in
+    let rest : pulses_for i items ≡ 0 = none_counted i items p.1 in
+    sum_by-cons (λ m. cond (is_unblock_for i m.item.what) 1 0) m items ∙ ap (λ b. cond b 1 0 + pulses_for i items) p.0 ∙ omega arith
+
+at_most_one : (roster : List Member) (past : Trace) (i : ℕ) → pulses_for i (old_items roster past) ≤ 1
+at_most_one roster [] i = omega arith
+at_most_one roster (e ∷ past) i =
+    let before : ℕ = pulses_for i (old_items roster past) in
+    let most : before ≤ 1 = at_most_one roster past i in
+    subst (λ n. n ≤ 1) (sym (sum_by-append (λ m. cond (is_unblock_for i m.item.what) 1 0) (old_items roster past) (option_to_list (item_of roster e past)))) (
+    elim (item_of roster e past) as (λ o. item_of roster e past ≡ o → before + pulses_for i (option_to_list o) ≤ 1) [
+      | None ↦ λ is. omega arith
+      | Some m ↦ λ is.
+          elim (is_unblock_for i m.item.what) as (λ b. is_unblock_for i m.item.what ≡ b → before + (0 + cond b 1 0) ≤ 1) [
+            | true ↦ λ pulse.
+                let first = first_for roster past e.thread e.call i m (item_accepted roster e past m is).1 pulse in
+                let none : before ≡ 0 = none_counted i (old_items roster past) (sym (unblocked_among_now past (old_items roster past) i) ∙ first) in
+                omega arith
+            | false ↦ λ other. omega arith
+          ] refl
+    ] refl)
+
+same_unblock : (i : ℕ) (w : What) → new.is_unblock_for i w ≡ is_unblock_for i w
+same_unblock i (what.Unblock rcvid) = refl
+same_unblock i _ = refl
+
+pub one_unblock_pulse : laws.OneUnblockPulse
+one_unblock_pulse roster past r l i =
+    subst (λ n. n ≤ 1) (sym (
+    ap (count_by (λ m. new.is_unblock_for i m.item.what)) (same_items roster past (of_roster roster past l))
+    ∙ ap (λ (is : What → Bool). count_by (λ m. is m.item.what) (old_items roster past)) (fun_ext (same_unblock i)))) (at_most_one roster past i)

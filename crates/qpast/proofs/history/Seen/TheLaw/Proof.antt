@@ -1,0 +1,14 @@
+-- A `&` to a `Seen` holds what was seen, which can be had twice. Assumes `Logic`.
+use base.Logic.{snd∗}
+use base.Before.{before}
+use types.Logic.{sem}
+use denote.Struct.Lending.{of_Lends}
+use Rattle.qpast.specs.History.{seen_owns}
+use Rattle.qpast.specs.contracts.history.Seen as C
+use Rattle.qpast.proofs.Pasts.{twice, lends_twice}
+use Rattle.qpast.proofs.history.Seen.TheLaw.Statement.{statement}
+
+pub shares : statement
+shares = of_Lends C.struct C.the_codes C.the_heap C.the_lent
+    (λ d p. record { contraction = λ M 𝓤 𝓛 κ. twice 𝓛 d.name d.trace; mono = λ M 𝓤 𝓛 κ' κ. snd∗ 𝓤 (sem 𝓛 (before κ' κ)) (sem 𝓛 (seen_owns d.name d.trace)) })
+    tt (λ M 𝓤 𝓛 d p. lends_twice 𝓛 (seen_owns d.name d.trace) (twice 𝓛 d.name d.trace) C.the_row.lives)

@@ -1,0 +1,87 @@
+//! The one past of a kernel, and what was seen of it; both exist in proofs only.
+
+ghost use Rattle.std.specs.Prelude.{◌≡◌, [], ◌∷◌, ℕ};
+ghost use denote.Sharing.{said};
+ghost use Rattle.qmodel.specs.Trace.{Trace};
+ghost use Rattle.qpast.specs.History.{Extends, longer, history_owns, seen_owns};
+
+use qbase::ids::ThreadNo;
+use qmodel::call::Call;
+use qstate::endings::Endings;
+use std::marker::{Model, Send, Sync};
+use std::snapshot::Snapshot;
+
+/// The past of a kernel, which only grows. There is one of its name. It has no bytes, and its functions do nothing.
+#[derive(Drop)]
+pub struct History {
+    pub ghost name: { ℕ },
+    pub ghost trace: { Trace },
+}
+
+impl Model for History {
+    ghost also_owns = { λ h. history_owns h.name h.trace };
+}
+
+unsafe impl Send for History {}
+
+/// What was seen of the past of its name: the past began with these events, and always will. It has no bytes, and its
+/// functions do nothing.
+#[derive(Drop)]
+pub struct Seen {
+    pub ghost name: { ℕ },
+    pub ghost trace: { Trace },
+}
+
+impl Model for Seen {
+    ghost also_owns = { λ s. seen_owns s.name s.trace };
+
+    ghost also_shares = { λ s _ κ. said (seen_owns s.name s.trace) κ };
+}
+
+unsafe impl Send for Seen {}
+
+unsafe impl Sync for Seen {}
+
+impl History {
+    /// Returns the past of a kernel that made no call, and what was seen of it.
+    pub fn begin() -> (History, Seen)
+        ensures name { result.0.name ≡ result.1.name }
+        ensures past { result.0.trace ≡ [] }
+        ensures seen { result.1.trace ≡ [] }
+    {
+        (History {}, Seen {})
+    }
+
+    /// Adds an event: this call of the thread, with these endings.
+    pub fn add(&mut self, _thread: &ThreadNo, _call: &Snapshot<Call>, _endings: &Endings)
+        ensures name { self.new.name ≡ self.old.name }
+        ensures past { self.new.trace ≡ record { thread = _thread.now; call = _call.now.value; endings = _endings.now.items } ∷ self.old.trace }
+    {}
+
+    /// Sees the whole past, which goes on from all that was seen before. It must be seen under the past's name.
+    pub fn look(&mut self, seen: &mut Seen)
+        requires { self.old.name ≡ seen.old.name }
+        ensures same { self.new ≡ self.old }
+        ensures name { seen.new.name ≡ seen.old.name }
+        ensures extends { Extends self.old.trace seen.old.trace }
+        ensures seen { seen.new.trace ≡ self.old.trace }
+    {}
+}
+
+impl Seen {
+    /// Returns a copy.
+    pub fn again(&self) -> Seen
+        ensures copy { result ≡ self.now }
+    {
+        Seen {}
+    }
+
+    /// Learns what the other saw: the longer of the two goes on from the other. They must be of one past.
+    pub fn learn(&mut self, other: &Seen)
+        requires { self.old.name ≡ other.now.name }
+        ensures name { self.new.name ≡ self.old.name }
+        ensures longer { self.new.trace ≡ longer self.old.trace other.now.trace }
+        ensures own { Extends self.new.trace self.old.trace }
+        ensures others { Extends self.new.trace other.now.trace }
+    {}
+}

@@ -1,0 +1,273 @@
+-- Endings that came at once and endings that came later, in turn.
+use Rattle.std.proofs.Common.{◌≡◌, ℕ, zero, suc, ◌+◌, ◌-◌, ◌<◌, ◌≤◌, ◌⊎◌, List, [], ◌∷◌, ◌++◌, length, length-append, take, drop, refl, ap, sym, subst, ◌∙◌, cond, Bool, true, false, eqb, inl, inr, arith, append-nil, append_assoc}
+use Rattle.std.specs.Prelude.{None, Option, Some, is_none, MatchOption}
+use Rattle.std.specs.List.{AllByRecursion, list_any}
+use Rattle.std.proofs.lemmas.List.{take-append-drop}
+use Rattle.std.proofs.Math.Seq.{drop-append_seam}
+use Rattle.std.proofs.lemmas.Bool.{cases_Bool, eqb-true, eq-eqb, true≢false}
+use Rattle.qmodel.specs.declared.call.Completion.{Completion}
+use Rattle.qmodel.specs.Private.Endings.{gets, AreApart}
+use Rattle.qmodel.specs.Trace.{Trace}
+use Rattle.qpast.specs.History.{Extends}
+use Rattle.qmodel.specs.declared.call.Call.{Call}
+use Rattle.qshared.specs.Asking.{IsSince, WaitedBefore, calls_of}
+use Rattle.qshared.specs.Due.{HasWaited, of_thread, at_once, ends_open, in_turn, waits, AreLater}
+
+-- the head and the tail of equal lists
+heads : {A : Type 0} (x y : A) (xs ys : List A) → x ∷ xs ≡ y ∷ ys → x ≡ y
+heads x y xs ys e = ap (λ l. first x l) e where
+  first : {A : Type 0} → A → List A → A
+  first d [] = d
+  first d (z ∷ zs) = z
+
+tails : {A : Type 0} (x y : A) (xs ys : List A) → x ∷ xs ≡ y ∷ ys → xs ≡ ys
+tails x y xs ys e = ap rest e where
+  rest : {A : Type 0} → List A → List A
+  rest [] = []
+  rest (z ∷ zs) = zs
+
+pub not_nil : {A : Type 0} (x : A) (xs : List A) → x ∷ xs ≡ [] → ⊥
+not_nil x xs e = let n : suc (length xs) ≡ zero = ap length e in omega arith
+
+-- ---- lists of endings
+
+pub turn_once : (once : List (List Completion)) (later : List Completion) (x : Completion) (xs : List Completion) → in_turn (once ++ (x ∷ xs) ∷ []) later ≡ in_turn once later ++ x ∷ xs
+turn_once [] later x xs = append-nil (x ∷ xs)
+turn_once ((y ∷ ys) ∷ once) later x xs = ap (λ zs. y ∷ ys ++ zs) (turn_once once later x xs) ∙ sym (append_assoc (y ∷ ys) (in_turn once later) (x ∷ xs))
+turn_once ([] ∷ once) [] x xs = turn_once once [] x xs
+turn_once ([] ∷ once) (z ∷ later) x xs = ap (λ zs. z ∷ zs) (turn_once once later x xs)
+
+pub turn_none : (once : List (List Completion)) (later : List Completion) → length later ≤ waits once → in_turn (once ++ [] ∷ []) later ≡ in_turn once later
+turn_none [] [] few = refl
+turn_none [] (z ∷ later) few = absurd (omega arith)
+turn_none ((y ∷ ys) ∷ once) later few = ap (λ zs. y ∷ ys ++ zs) (turn_none once later few)
+turn_none ([] ∷ once) [] few = turn_none once [] (omega arith)
+turn_none ([] ∷ once) (z ∷ later) few = ap (λ zs. z ∷ zs) (turn_none once later (omega arith))
+
+pub turn_later : (before : List (List Completion)) (later : List Completion) (x : Completion) → waits before ≡ length later → in_turn (before ++ [] ∷ []) (later ++ x ∷ []) ≡ in_turn (before ++ [] ∷ []) later ++ x ∷ []
+turn_later [] [] x same = refl
+turn_later [] (z ∷ later) x same = absurd (omega arith)
+turn_later ((y ∷ ys) ∷ before) later x same = ap (λ zs. y ∷ ys ++ zs) (turn_later before later x same) ∙ sym (append_assoc (y ∷ ys) (in_turn (before ++ [] ∷ []) later) (x ∷ []))
+turn_later ([] ∷ before) [] x same = absurd (omega arith)
+turn_later ([] ∷ before) (z ∷ later) x same = ap (λ zs. z ∷ zs) (turn_later before later x (omega arith))
+
+pub waits_none : (once : List (List Completion)) → waits (once ++ [] ∷ []) ≡ waits once + 1
+waits_none [] = refl
+waits_none ([] ∷ once) = ap suc (waits_none once) ∙ omega arith
+waits_none ((y ∷ ys) ∷ once) = waits_none once
+
+pub waits_once : (once : List (List Completion)) (x : Completion) (xs : List Completion) → waits (once ++ (x ∷ xs) ∷ []) ≡ waits once
+waits_once [] x xs = refl
+waits_once ([] ∷ once) x xs = ap suc (waits_once once x xs)
+waits_once ((y ∷ ys) ∷ once) x xs = waits_once once x xs
+
+turn_some : (once : List (List Completion)) (later : List Completion) → 0 < length later → length later ≤ waits once → in_turn once later ≡ [] → ⊥
+turn_some [] later some few e = absurd (omega (arith, some, few))
+turn_some ((y ∷ ys) ∷ once) later some few e = not_nil y (ys ++ in_turn once later) e
+turn_some ([] ∷ once) [] some few e = absurd (omega arith)
+turn_some ([] ∷ once) (z ∷ later) some few e = not_nil z (in_turn once later) e
+
+few_later : (once : List (List Completion)) (later : List Completion) (waiting : Bool) → AreLater waiting once later → length later ≤ waits once
+few_later once later true l = omega (arith, l.0)
+few_later once later false l = omega (arith, l.0)
+
+-- whose last call waits
+open_end : (once : List (List Completion)) → ends_open once ≡ true → (before : List (List Completion)) × (once ≡ before ++ [] ∷ [])
+open_end [] e = absurd (true≢false (sym e))
+open_end ([] ∷ []) e = ([], refl)
+open_end ((x ∷ xs) ∷ []) e = absurd (true≢false (sym e))
+open_end (xs ∷ ys ∷ once) e = let h = open_end (ys ∷ once) e in (xs ∷ h.0, ap (λ os. xs ∷ os) h.1)
+
+end_open : (once : List (List Completion)) → ends_open (once ++ [] ∷ []) ≡ true
+end_open [] = refl
+end_open (xs ∷ []) = refl
+end_open (xs ∷ ys ∷ once) = end_open (ys ∷ once)
+
+-- nothing came later if nothing is due
+pub none_later : (once : List (List Completion)) (later : List Completion) (blocked : Bool) → AreLater blocked once later → in_turn once later ≡ [] → later ≡ []
+none_later once [] blocked l e = refl
+none_later once (z ∷ later) blocked l e = absurd (turn_some once (z ∷ later) (omega arith) (few_later once (z ∷ later) blocked l) e)
+
+-- a thread one of whose calls waited is blocked, or an ending is due to it
+pub waited_due : (waiting : Bool) (once : List (List Completion)) (later : List Completion) → AreLater waiting once later → 0 < waits once → waiting ≡ false → in_turn once later ≡ [] → ⊥
+waited_due true once later l some free e = true≢false free
+waited_due false once later l some free e = turn_some once later (omega (arith, l.0, some)) (omega (arith, l.0)) e
+
+-- whose call isn't collected has waited
+pub has_waited : (once : List (List Completion)) (later : List Completion) (waiting : Bool) → AreLater waiting once later → waiting ≡ true → 0 < waits once
+has_waited once later false l is = absurd (true≢false (sym is))
+has_waited once later true l is = omega (arith, l.0)
+
+-- a call that waits is one more, and the last
+pub now_waits : (once : List (List Completion)) (later : List Completion) → AreLater false once later → AreLater true (once ++ [] ∷ []) later
+now_waits once later l = (waits_none once ∙ omega (arith, l.0), λ w. end_open once)
+
+pub still_none : (once : List (List Completion)) (later : List Completion) (x : Completion) (xs : List Completion) → AreLater false once later → AreLater false (once ++ (x ∷ xs) ∷ []) later
+still_none once later x xs l = (waits_once once x xs ∙ l.0, λ w. absurd (true≢false (sym w)))
+
+-- ---- of one event
+
+pub of_none : (t : ℕ) (X : List Completion) → gets X t ≡ false → of_thread t X ≡ []
+of_none t [] none = refl
+of_none t (x ∷ X) none = elim (cases_Bool (eqb x.thread t)) [
+  | inl e ↦ absurd (true≢false (rw e at none))
+  | inr e ↦ rw e (of_none t X (rw e at none))
+]
+
+pub of_one : (t : ℕ) (X : List Completion) → AreApart X → gets X t ≡ true → (x : Completion) × (of_thread t X ≡ x ∷ [])
+of_one t [] apart some = absurd (true≢false (sym some))
+of_one t (x ∷ X) apart some = elim (cases_Bool (eqb x.thread t)) [
+  | inl e ↦ (x, rw e (ap (λ zs. x ∷ zs) (of_none t X (subst (λ u. gets X u ≡ false) (eqb-true x.thread t e) apart.0))))
+  | inr e ↦ rw e (of_one t X apart.1 (rw e at some))
+]
+
+pub gets_of : (t : ℕ) (X : List Completion) (x : Completion) (xs : List Completion) → of_thread t X ≡ x ∷ xs → gets X t ≡ true
+gets_of t X x xs is = elim (cases_Bool (gets X t)) [
+  | inl e ↦ e
+  | inr e ↦ absurd (not_nil x xs (sym is ∙ of_none t X e))
+]
+
+none_gets : (t : ℕ) (Y : List Completion) → gets Y t ≡ true → of_thread t Y ≡ [] → ⊥
+none_gets t [] some none = true≢false (sym some)
+none_gets t (y ∷ Y) some none = elim (cases_Bool (eqb y.thread t)) [
+  | inl e ↦ not_nil y (of_thread t Y) (rw e at none)
+  | inr e ↦ none_gets t Y (rw e at some) (rw e at none)
+]
+
+any_of : (n t : ℕ) (X : List Completion) → AllByRecursion (λ y. eqb y.call n ≡ true → y.thread ≡ t) X → list_any (λ y. eqb y.call n) X ≡ true → gets X t ≡ true
+any_of n t [] all any = any
+any_of n t (y ∷ Y) all any = elim (cases_Bool (eqb y.call n)) [
+  | inl e ↦ rw (eq-eqb y.thread t (all.0 e)) refl
+  | inr e ↦ elim (cases_Bool (eqb y.thread t)) [
+    | inl s ↦ rw s refl
+    | inr s ↦ rw s (any_of n t Y all.1 (rw e at any))
+  ]
+]
+
+-- the one ending for the thread is that of the call of this number, if that ends and is the thread's
+pub own_number : (n t : ℕ) (x : Completion) (X : List Completion) → AllByRecursion (λ y. eqb y.call n ≡ true → y.thread ≡ t) X → list_any (λ y. eqb y.call n) X ≡ true → of_thread t X ≡ x ∷ [] → x.call ≡ n
+own_number n t x [] all any is = absurd (true≢false (sym any))
+own_number n t x (y ∷ Y) all any is = elim (cases_Bool (eqb y.call n)) [
+  | inl e ↦ let s : eqb y.thread t ≡ true = eq-eqb y.thread t (all.0 e) in ap (λ z. z.call) (sym (heads y x (of_thread t Y) [] (rw s at is))) ∙ eqb-true y.call n e
+  | inr e ↦
+      let more : list_any (λ z. eqb z.call n) Y ≡ true = rw e at any in
+      elim (cases_Bool (eqb y.thread t)) [
+        | inl s ↦ absurd (none_gets t Y (any_of n t Y all.1 more) (tails y x (of_thread t Y) [] (rw s at is)))
+        | inr s ↦ own_number n t x Y all.1 more (rw s at is)
+      ]
+]
+
+-- ---- what is owed after an event
+
+-- by the caller's own ending, or by that which it waits for
+pub owed_own : (once : List (List Completion)) (later due ys : List Completion) (blocked : Bool) → AreLater false once later → in_turn once later ≡ due
+    → ((ys ≡ []) × (blocked ≡ true)) ⊎ ((x : Completion) × (ys ≡ x ∷ []) × (blocked ≡ false))
+    → AreLater blocked (once ++ ys ∷ []) (later ++ []) × (in_turn (once ++ ys ∷ []) (later ++ []) ≡ due ++ ys)
+owed_own once later due ys blocked l whole cases =
+    subst (λ ls. AreLater blocked (once ++ ys ∷ []) ls × (in_turn (once ++ ys ∷ []) ls ≡ due ++ ys)) (sym (append-nil later)) (elim cases [
+      | inl none ↦ rw (none.0, none.1) (now_waits once later l, turn_none once later (omega (arith, l.0)) ∙ whole ∙ sym (append-nil due))
+      | inr some ↦ rw (some.1, some.2) (still_none once later some.0 [] l, turn_once once later some.0 [] ∙ ap (λ zs. zs ++ some.0 ∷ []) whole)
+    ])
+
+-- by another thread's event
+pub owed_other : (once : List (List Completion)) (later due ys : List Completion) (old blocked : Bool) → AreLater old once later → in_turn once later ≡ due
+    → ((ys ≡ []) × (blocked ≡ old)) ⊎ ((x : Completion) × (ys ≡ x ∷ []) × (old ≡ true) × (blocked ≡ false))
+    → AreLater blocked (once ++ []) (later ++ ys) × (in_turn (once ++ []) (later ++ ys) ≡ due ++ ys)
+owed_other once later due ys old blocked l whole cases =
+    subst (λ os. AreLater blocked os (later ++ ys) × (in_turn os (later ++ ys) ≡ due ++ ys)) (sym (append-nil once)) (elim cases [
+      | inl none ↦ rw (none.0, none.1, append-nil later, append-nil due) (l, whole)
+      | inr some ↦ rw (some.1, some.3) (more (rw (some.2) at l) some.0)
+    ])
+  where
+    more : AreLater true once later → (x : Completion) → AreLater false once (later ++ x ∷ []) × (in_turn once (later ++ x ∷ []) ≡ due ++ x ∷ [])
+    more w x =
+        let p = open_end once (w.1 refl) in
+        let many : waits once ≡ waits p.0 + 1 = ap waits p.1 ∙ waits_none p.0 in
+        let same : waits p.0 ≡ length later = omega (arith, many, w.0) in (
+          (w.0 ∙ sym (length-append later (x ∷ [])) ∙ omega arith, λ b. absurd (true≢false (sym b))),
+          ap (λ os. in_turn os (later ++ x ∷ [])) p.1 ∙ turn_later p.0 later x same ∙ ap (λ os. in_turn os later ++ x ∷ []) (sym p.1) ∙ ap (λ zs. zs ++ x ∷ []) whole,
+        )
+
+-- ---- what a port collects
+
+pub collects : (once : List (List Completion)) (later : List Completion) (x : Completion) → AreLater true once later
+    → AreLater false once (later ++ x ∷ []) × (in_turn once (later ++ x ∷ []) ≡ in_turn once later ++ x ∷ [])
+collects once later x l = owed_other' (owed_other once later (in_turn once later) (x ∷ []) true false l refl (inr (x, refl, refl, refl))) where
+  owed_other' : AreLater false (once ++ []) (later ++ x ∷ []) × (in_turn (once ++ []) (later ++ x ∷ []) ≡ in_turn once later ++ x ∷ []) → AreLater false once (later ++ x ∷ []) × (in_turn once (later ++ x ∷ []) ≡ in_turn once later ++ x ∷ [])
+  owed_other' p = subst (λ os. AreLater false os (later ++ x ∷ []) × (in_turn os (later ++ x ∷ []) ≡ in_turn once later ++ x ∷ [])) (append-nil once) p
+
+-- an ending is taken out of the cell, or none
+abbrev pub Takes : Option Completion → List Completion → List Completion → Type 0
+Takes r before after = MatchOption r (after ≡ before) (λ x. after ≡ before ++ x ∷ [])
+
+pub takes : (once : List (List Completion)) (before after : List Completion) (r : Option Completion) (old new : Bool)
+    → Takes r before after → MatchOption r (new ≡ old) (λ x. (old ≡ true) × (new ≡ false)) → AreLater old once before → Takes r (in_turn once before) (in_turn once after)
+takes once before after None old new is p l = ap (in_turn once) is
+takes once before after (Some x) old new is p l = ap (in_turn once) is ∙ (collects once before x (subst (λ b. AreLater b once before) p.0 l)).1
+
+pub takes_again : (once : List (List Completion)) (before between after : List Completion) (r s : Option Completion) (old middle new : Bool) → is_none r ≡ true
+    → Takes r before between → MatchOption r (middle ≡ old) (λ x. (old ≡ true) × (middle ≡ false)) → Takes s between after → MatchOption s (new ≡ middle) (λ x. (middle ≡ true) × (new ≡ false))
+    → AreLater old once before → Takes s (in_turn once before) (in_turn once after)
+takes_again once before between after (Some x) s old middle new none a p b q l = absurd (true≢false (sym none))
+takes_again once before between after None s old middle new none a p b q l =
+    takes once before after s old new (subst (λ xs. Takes s xs after) a b) (subst (λ m. MatchOption s (new ≡ m) (λ x. (m ≡ true) × (new ≡ false))) p q) l
+
+pub takes_some : (before after : List Completion) (r : Option Completion) (x : Completion) → r ≡ Some x → Takes r before after → after ≡ before ++ x ∷ []
+takes_some before after r x is t = subst (λ o. Takes o before after) is t
+
+pub takes_none : (before after : List Completion) (r : Option Completion) → r ≡ None → Takes r before after → after ≡ before
+takes_none before after r is t = subst (λ o. Takes o before after) is t
+
+-- what a port took and what is left in its cell is all
+pub left_over : (once : List (List Completion)) (took left later : List Completion) (pending blocked : Bool) → AreLater pending once took → AreLater blocked once later → took ++ left ≡ later
+    → in_turn once took ++ left ≡ in_turn once later
+left_over once took left later pending blocked p l all = elim pending as (λ b. AreLater b once took → in_turn once took ++ left ≡ in_turn once later) [
+  | true ↦ λ w. one_left left w (omega (arith, few, many, w.0)) all
+  | false ↦ λ w. nothing_left left (omega (arith, few, many, w.0)) all
+] p where
+  many : length later ≡ length took + length left
+  many = ap length (sym all) ∙ length-append took left
+
+  few : length later ≤ waits once
+  few = few_later once later blocked l
+
+  nothing_left : (ys : List Completion) → length ys ≤ 0 → took ++ ys ≡ later → in_turn once took ++ ys ≡ in_turn once later
+  nothing_left [] n a = append-nil (in_turn once took) ∙ ap (in_turn once) (sym (append-nil took) ∙ a)
+  nothing_left (y ∷ ys) n a = absurd (omega arith)
+
+  one_left : (ys : List Completion) → AreLater true once took → length ys ≤ 1 → took ++ ys ≡ later → in_turn once took ++ ys ≡ in_turn once later
+  one_left [] w n a = nothing_left [] (omega arith) a
+  one_left (y ∷ []) w n a = sym (collects once took y w).1 ∙ ap (in_turn once) a
+  one_left (y ∷ z ∷ ys) w n a = absurd (omega arith)
+
+-- ---- a longer past with no more calls of a thread
+
+calls_more : (more past : Trace) (t : ℕ) → length (calls_of past t) ≤ length (calls_of (more ++ past) t)
+calls_more [] past t = omega arith
+calls_more (e ∷ more) past t = let h = calls_more more past t in let a = length-append (calls_of (more ++ past) t) (cond (eqb e.thread t) (e.call ∷ []) []) in omega (arith, h, a)
+
+once_more : (more past : Trace) (t : ℕ) → length (calls_of (more ++ past) t) ≤ length (calls_of past t) → at_once (more ++ past) t ≡ at_once past t
+once_more [] past t few = refl
+once_more (e ∷ more) past t few = elim (cases_Bool (eqb e.thread t)) [
+  | inl is ↦ let a = length-append (calls_of (more ++ past) t) (e.call ∷ []) in absurd (omega (arith, calls_more more past t, a, rw is at few))
+  | inr other ↦ rw other (append-nil (at_once (more ++ past) t) ∙ once_more more past t (rw (other, append-nil (calls_of (more ++ past) t)) at few))
+]
+
+pub once_same : (past seen last : Trace) (asked : List Call) (t : ℕ) → Extends past seen → Extends seen last → calls_of past t ≡ asked → calls_of last t ≡ asked → at_once past t ≡ at_once last t
+once_same past seen last asked t h k now then =
+    let all : past ≡ (h.0 ++ k.0) ++ last = h.1 ∙ ap (λ l. h.0 ++ l) k.1 ∙ sym (append_assoc h.0 k.0 last) in
+    ap (λ p. at_once p t) all ∙ once_more (h.0 ++ k.0) last t (omega (arith, ap length (sym (ap (λ p. calls_of p t) all) ∙ now ∙ sym then)))
+
+-- a past that goes on from another, by its list
+pub extends_since : (past last : Trace) → IsSince past last → Extends past last
+extends_since past last s = let n = length past - length last in (take n past, sym (take-append-drop n past) ∙ ap (λ l. take n past ++ l) s)
+
+pub since_extends : (past last : Trace) → Extends past last → IsSince past last
+since_extends past last h =
+    let many : length past ≡ length h.0 + length last = ap length h.1 ∙ length-append h.0 last in
+    let less : length past - length last ≡ length h.0 = omega (arith, many) in
+    ap (λ n. drop n past) less ∙ ap (drop (length h.0)) h.1 ∙ drop-append_seam h.0 last
+
+-- a call that waited is one of the past
+pub still_waited : (past seen : Trace) (t : ℕ) → Extends past seen → WaitedBefore seen (calls_of past t) t → HasWaited past t
+still_waited past seen t h w = subst (λ os. 0 < waits os) (sym (once_same past seen w.last (calls_of past t) t h (extends_since seen w.last w.since) refl w.calls)) w.waited

@@ -1,0 +1,55 @@
+//! What was seen of the past of a kernel.
+
+ghost use Rattle.std.specs.Prelude.{◌≡◌};
+ghost use Rattle.qpast.specs.History.{Extends};
+
+use crate::tie::Tie;
+use qpast::history;
+use std::marker::{Model, PhantomData};
+
+/// What was seen of the past of the kernel that K names: its first events up to some moment, which contracts see. It has
+/// no bytes, and its functions do nothing. It can be copied, and lent or sent to other threads: who learns it knows that
+/// his next call comes after these events.
+#[derive(Drop)]
+pub struct Seen<K: Tie> {
+    pub(crate) beginning: history::Seen,
+    of: PhantomData<K>,
+}
+
+impl<K: Tie> Model for Seen<K> {
+    ghost use Rattle.std.specs.Prelude.{◌≡◌};
+    ghost use Rattle.qmodel.specs.Trace.{Trace};
+
+    ghost Value = { Trace };
+
+    ghost view = { λ s. s.beginning.trace };
+
+    ghost invariant = { λ s. s.beginning.name ≡ K.names.history };
+}
+
+impl<K: Tie> Seen<K> {
+    pub(crate) fn new(beginning: history::Seen) -> Seen<K>
+        requires { beginning.name ≡ K.names.history }
+        ensures { result ≡ beginning.trace }
+    {
+        Seen {
+            beginning,
+            of: PhantomData,
+        }
+    }
+
+    /// Returns a copy.
+    pub fn again(&self) -> Seen<K>
+        ensures { result ≡ self.now }
+    {
+        Seen::new(self.beginning.again())
+    }
+
+    /// Learns what the other saw. Both are beginnings of one past, so this is then the longer of the two.
+    pub fn learn(&mut self, other: &Seen<K>)
+        ensures own { Extends self.new self.old }
+        ensures others { Extends self.new other.entry.now }
+    {
+        self.beginning.learn(&other.beginning);
+    }
+}
