@@ -45,5 +45,5 @@ pub use Rattle.qlaws.specs.Lawful as LawForms
 pub use Rattle.qlaws.specs.Endings
 pub use Rattle.qlaws.specs.OpenCalls
 pub use Rattle.qlaws.specs.Pending
-pub use Rattle.qlaws.specs.Limits
+pub use Rattle.qlaws.specs.Ids
 pub use Rattle.qshared.specs.Laws

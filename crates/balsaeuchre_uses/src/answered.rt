@@ -54,7 +54,7 @@ fn look<'a, 'p, K: Tie, L: Log, R: Wait>(
     note: &Note<K>,
     thread: ThreadNo,
 ) -> Result<State>
-    ensures { ComesOf (λ e c a after. AtPast K.names.roster e.port.thread e.port.asked.calls e.port.seen.trace (ToldAfterAnswer note.now.seen (λ past. Answered K.names.roster L.refuses L.admits e.port.thread c a past after))) other.old.endpoint (calls.State thread) other.new.endpoint.port.seen.trace other.new.endpoint.told }
+    ensures { ComesOf (λ e. ⟦<KernelPort<'p, K, L> as Endpoint>⟧.history e) (λ e c a after. AtPast K.names.roster e.port.thread e.port.asked.calls e.port.seen.trace (ToldAfterAnswer note.now.seen (λ past. Answered K.names.roster L.refuses L.admits e.port.thread c a past after))) other.old.endpoint (calls.State thread) other.new.endpoint.port.seen.trace (⟦<KernelPort<'p, K, L> as Endpoint>⟧.history other.new.endpoint) }
 {
     other.learn(&note.seen);
     in_real_time();

@@ -10,6 +10,7 @@ use Rattle.qshared.specs.declared.port.Called.{Called}
 use Rattle.qshared.specs.declared.port.Called.TheVariants as called
 use Rattle.qshared.specs.Counting.{is_call, gives, pends}
 use Rattle.qshared.specs.TwoCalls.{is_ok}
+use Rattle.qcalls.specs.Coming.{Gives}
 use Rattle.qcalls.specs.History.{History, told_by}
 use Rattle.qcalls.specs.Making.{Follows, Leads, Makes, MakesBoth, ending_in, read_off}
 use Rattle.qcalls.specs.Results.{Reading, done_in}
@@ -49,6 +50,19 @@ pub leads_told : (answer : Called) (before after : History) (result : Result End
 leads_told (called.Refused errno given) before after result l = ap (λ h. h.told) l.0
 leads_told (called.Done x) before after result l = ap (λ h. h.told) l.0
 leads_told called.Blocked before after result l = l.4
+
+-- what was taken at an answer, and after it, is what the answer gives
+pub leads_gives : (answer : Called) (before : List Completion) (between after : History) (result : Result Ending CallError)
+    → between.taken ≡ before ++ gives answer → Leads answer between after result → Gives answer before after.taken
+leads_gives (called.Refused errno given) before between after result took l = ap (λ h. h.taken) l.0 ∙ took ∙ append-nil before
+leads_gives (called.Done x) before between after result took l = ap (λ h. h.taken) l.0 ∙ took
+leads_gives called.Blocked before between after result took l = (l.0 ∷ [], l.1 ∙ ap (λ xs. xs ++ l.0 ∷ []) (took ∙ append-nil before))
+
+-- and so it is at the answer to two calls that were both made
+pub leads_gives_both : (x : Completion) (answer : Called) (before : List Completion) (between after : History) (result : Result Ending CallError)
+    → between.taken ≡ before ++ x ∷ gives answer → Leads answer between after result → Gives answer (before ++ x ∷ []) after.taken
+leads_gives_both x answer before between after result took l =
+    leads_gives answer (before ++ x ∷ []) between after result (took ∙ sym (append_assoc before (x ∷ []) (gives answer))) l
 
 -- an ending with the mark `Ok` is that of a call that did what it says
 done_of_ok : (m : Mark) (buffer : List _) → is_ok m ≡ true → Ok tt ≡ done_in false m buffer

@@ -94,7 +94,7 @@ impl<'a, E: Endpoint, R: Wait> Caller<'a, E, R> {
     /// Makes a call, and waits for its ending.
     pub(crate) fn make(&mut self, call: Call) -> Result<Ending, CallError>
         ensures makes { Makes ending_in call (E.history self.old.endpoint) (E.history self.new.endpoint) result }
-        ensures came { ComesOf E.came self.old.endpoint call (E.seen self.new.endpoint) (E.history self.new.endpoint).told }
+        ensures came { ComesOf (λ e. E.history e) E.came self.old.endpoint call (E.seen self.new.endpoint) (E.history self.new.endpoint) }
     {
         let called = self.endpoint.call(self.rt, call);
         self.ending_of(called)
@@ -104,7 +104,7 @@ impl<'a, E: Endpoint, R: Wait> Caller<'a, E, R> {
     /// else the first's error is returned.
     pub(crate) fn make_both(&mut self, first: Call, second: Call) -> Result<Ending, CallError>
         ensures makes { MakesBoth ending_in first second (E.history self.old.endpoint) (E.history self.new.endpoint) result }
-        ensures came { ComesOfBoth (λ e. E.seen e) E.came E.came_both self.old.endpoint first second (E.seen self.new.endpoint) (E.history self.new.endpoint).told }
+        ensures came { ComesOfBoth (λ e. E.history e) (λ e. E.seen e) E.came E.came_both self.old.endpoint first second (E.seen self.new.endpoint) (E.history self.new.endpoint) }
     {
         match self.endpoint.call_both(self.rt, first, second) {
             CalledBoth::Both(_, called) => self.ending_of(called),

@@ -17,7 +17,7 @@ impl<'a, E: Endpoint, R: Wait> Caller<'a, E, R> {
     /// and `Again` at 64 open channels.
     pub fn channel_create(&mut self, flags: ChannelFlags) -> Result<ChannelId, CallError>
         ensures makes { Makes channel_in (Call.ChannelCreate flags) (E.history self.old.endpoint) (E.history self.new.endpoint) result }
-        ensures came { ComesOf E.came self.old.endpoint (Call.ChannelCreate flags) (E.seen self.new.endpoint) (E.history self.new.endpoint).told }
+        ensures came { ComesOf (λ e. E.history e) E.came self.old.endpoint (Call.ChannelCreate flags) (E.seen self.new.endpoint) (E.history self.new.endpoint) }
     {
         self.make(Call::ChannelCreate(flags))?.channel()
     }
@@ -26,7 +26,7 @@ impl<'a, E: Endpoint, R: Wait> Caller<'a, E, R> {
     /// with `Inval` if the channel isn't open or is another process's.
     pub fn channel_destroy(&mut self, chid: ChannelId) -> Result<(), CallError>
         ensures makes { Makes done_in (Call.ChannelDestroy chid) (E.history self.old.endpoint) (E.history self.new.endpoint) result }
-        ensures came { ComesOf E.came self.old.endpoint (Call.ChannelDestroy chid) (E.seen self.new.endpoint) (E.history self.new.endpoint).told }
+        ensures came { ComesOf (λ e. E.history e) E.came self.old.endpoint (Call.ChannelDestroy chid) (E.seen self.new.endpoint) (E.history self.new.endpoint) }
     {
         self.make(Call::ChannelDestroy(chid))?.done()
     }
@@ -35,7 +35,7 @@ impl<'a, E: Endpoint, R: Wait> Caller<'a, E, R> {
     /// isn't open, and `Again` at 1,024 connections.
     pub fn connect_attach(&mut self, chid: ChannelId) -> Result<ConnectionId, CallError>
         ensures makes { Makes connection_in (Call.ConnectAttach chid) (E.history self.old.endpoint) (E.history self.new.endpoint) result }
-        ensures came { ComesOf E.came self.old.endpoint (Call.ConnectAttach chid) (E.seen self.new.endpoint) (E.history self.new.endpoint).told }
+        ensures came { ComesOf (λ e. E.history e) E.came self.old.endpoint (Call.ConnectAttach chid) (E.seen self.new.endpoint) (E.history self.new.endpoint) }
     {
         self.make(Call::ConnectAttach(chid))?.connection()
     }
@@ -45,7 +45,7 @@ impl<'a, E: Endpoint, R: Wait> Caller<'a, E, R> {
     /// wait on the channel.
     pub fn connect_detach(&mut self, coid: ConnectionId) -> Result<(), CallError>
         ensures makes { Makes done_in (Call.ConnectDetach coid) (E.history self.old.endpoint) (E.history self.new.endpoint) result }
-        ensures came { ComesOf E.came self.old.endpoint (Call.ConnectDetach coid) (E.seen self.new.endpoint) (E.history self.new.endpoint).told }
+        ensures came { ComesOf (λ e. E.history e) E.came self.old.endpoint (Call.ConnectDetach coid) (E.seen self.new.endpoint) (E.history self.new.endpoint) }
     {
         self.make(Call::ConnectDetach(coid))?.done()
     }

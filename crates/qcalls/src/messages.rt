@@ -24,7 +24,7 @@ impl<'a, E: Endpoint, R: Wait> Caller<'a, E, R> {
         reply_len: usize,
     ) -> Result<Answer, CallError>
         ensures makes { MakesOfBytes answer_in (Call.Send coid message.now (replicate reply_len 0)) (E.history self.old.endpoint) (E.history self.new.endpoint) result }
-        ensures came { ComesOfBytes E.came self.old.endpoint (Call.Send coid message.now (replicate reply_len 0)) (E.seen self.old.endpoint) (E.seen self.new.endpoint) (E.history self.new.endpoint).told result }
+        ensures came { ComesOfBytes (λ e. E.history e) E.came self.old.endpoint (Call.Send coid message.now (replicate reply_len 0)) (E.seen self.old.endpoint) (E.seen self.new.endpoint) (E.history self.new.endpoint) result }
     {
         let message = Bytes::copied(self.alloc, message)?;
         let reply_buffer = Bytes::filled(self.alloc, 0, reply_len)?;
@@ -40,7 +40,7 @@ impl<'a, E: Endpoint, R: Wait> Caller<'a, E, R> {
     /// (`MsgReceive`). Refused with `Srch` if the channel isn't open or is another process's.
     pub fn msg_receive(&mut self, chid: ChannelId, len: usize) -> Result<Received, CallError>
         ensures makes { MakesOfBytes received_in (Call.Receive chid (replicate len 0)) (E.history self.old.endpoint) (E.history self.new.endpoint) result }
-        ensures came { ComesOfBytes E.came self.old.endpoint (Call.Receive chid (replicate len 0)) (E.seen self.old.endpoint) (E.seen self.new.endpoint) (E.history self.new.endpoint).told result }
+        ensures came { ComesOfBytes (λ e. E.history e) E.came self.old.endpoint (Call.Receive chid (replicate len 0)) (E.seen self.old.endpoint) (E.seen self.new.endpoint) (E.history self.new.endpoint) result }
     {
         let buffer = Bytes::filled(self.alloc, 0, len)?;
         self.make(Call::Receive { chid, buffer })?.received()
@@ -55,7 +55,7 @@ impl<'a, E: Endpoint, R: Wait> Caller<'a, E, R> {
         bytes: &[u8],
     ) -> Result<(), CallError>
         ensures makes { MakesOfBytes done_in (Call.Reply rcvid status bytes.now) (E.history self.old.endpoint) (E.history self.new.endpoint) result }
-        ensures came { ComesOfBytes E.came self.old.endpoint (Call.Reply rcvid status bytes.now) (E.seen self.old.endpoint) (E.seen self.new.endpoint) (E.history self.new.endpoint).told result }
+        ensures came { ComesOfBytes (λ e. E.history e) E.came self.old.endpoint (Call.Reply rcvid status bytes.now) (E.seen self.old.endpoint) (E.seen self.new.endpoint) (E.history self.new.endpoint) result }
     {
         let bytes = Bytes::copied(self.alloc, bytes)?;
         let reply = Call::Reply {
@@ -70,7 +70,7 @@ impl<'a, E: Endpoint, R: Wait> Caller<'a, E, R> {
     /// `msg_reply` is.
     pub fn msg_error(&mut self, rcvid: ReceiveId, code: i32) -> Result<(), CallError>
         ensures makes { Makes done_in (Call.Error rcvid code) (E.history self.old.endpoint) (E.history self.new.endpoint) result }
-        ensures came { ComesOf E.came self.old.endpoint (Call.Error rcvid code) (E.seen self.new.endpoint) (E.history self.new.endpoint).told }
+        ensures came { ComesOf (λ e. E.history e) E.came self.old.endpoint (Call.Error rcvid code) (E.seen self.new.endpoint) (E.history self.new.endpoint) }
     {
         self.make(Call::Error { rcvid, code })?.done()
     }
@@ -83,7 +83,7 @@ impl<'a, E: Endpoint, R: Wait> Caller<'a, E, R> {
         len: usize,
     ) -> Result<Bytes, CallError>
         ensures makes { MakesOfBytes bytes_in (Call.Read rcvid offset (replicate len 0)) (E.history self.old.endpoint) (E.history self.new.endpoint) result }
-        ensures came { ComesOfBytes E.came self.old.endpoint (Call.Read rcvid offset (replicate len 0)) (E.seen self.old.endpoint) (E.seen self.new.endpoint) (E.history self.new.endpoint).told result }
+        ensures came { ComesOfBytes (λ e. E.history e) E.came self.old.endpoint (Call.Read rcvid offset (replicate len 0)) (E.seen self.old.endpoint) (E.seen self.new.endpoint) (E.history self.new.endpoint) result }
     {
         let buffer = Bytes::filled(self.alloc, 0, len)?;
         let read = Call::Read {
@@ -103,7 +103,7 @@ impl<'a, E: Endpoint, R: Wait> Caller<'a, E, R> {
         bytes: &[u8],
     ) -> Result<usize, CallError>
         ensures makes { MakesOfBytes count_in (Call.Write rcvid offset bytes.now) (E.history self.old.endpoint) (E.history self.new.endpoint) result }
-        ensures came { ComesOfBytes E.came self.old.endpoint (Call.Write rcvid offset bytes.now) (E.seen self.old.endpoint) (E.seen self.new.endpoint) (E.history self.new.endpoint).told result }
+        ensures came { ComesOfBytes (λ e. E.history e) E.came self.old.endpoint (Call.Write rcvid offset bytes.now) (E.seen self.old.endpoint) (E.seen self.new.endpoint) (E.history self.new.endpoint) result }
     {
         let bytes = Bytes::copied(self.alloc, bytes)?;
         let write = Call::Write {
@@ -118,7 +118,7 @@ impl<'a, E: Endpoint, R: Wait> Caller<'a, E, R> {
     /// `msg_reply` is.
     pub fn msg_info(&mut self, rcvid: ReceiveId) -> Result<Info, CallError>
         ensures makes { Makes info_in (Call.Info rcvid) (E.history self.old.endpoint) (E.history self.new.endpoint) result }
-        ensures came { ComesOf E.came self.old.endpoint (Call.Info rcvid) (E.seen self.new.endpoint) (E.history self.new.endpoint).told }
+        ensures came { ComesOf (λ e. E.history e) E.came self.old.endpoint (Call.Info rcvid) (E.seen self.new.endpoint) (E.history self.new.endpoint) }
     {
         self.make(Call::Info(rcvid))?.info()
     }

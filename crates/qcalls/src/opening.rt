@@ -1,10 +1,11 @@
 //! Making callers of the ports of a shared kernel, and closing the kernel.
 
-ghost use Rattle.std.specs.Prelude.{◌≡◌, ◌≤◌, [], ◌∷◌, IfErr, IfOk, length, map, sum};
+ghost use Rattle.std.specs.Prelude.{◌≡◌, ◌≢◌, ◌≤◌, [], ◌∷◌, IfErr, IfOk, length, map, sum};
 ghost use Rattle.qrules.specs.Trace.{followed_by};
 ghost use Rattle.qshared.specs.Asking.{AreCallsOf};
-ghost use Rattle.qhandoff.specs.Words.{taken};
+ghost use Rattle.qhandoff.specs.Words.{taken, thread_of};
 ghost use Rattle.qshared.specs.Due.{collected};
+ghost use Rattle.qshared.specs.Naming.{AreAll};
 ghost use Rattle.qshared.specs.Past.{AreSeen};
 ghost use Rattle.qcalls.specs.Closing.{IsDue, IsPast};
 ghost use Rattle.qcalls.specs.declared.error.CallError.TheVariants as error;
@@ -52,7 +53,8 @@ pub fn two_callers<'a, 'p, K: Tie, L: Log, R: Wait>(
     rt: &'a R,
     alloc: Global,
 ) -> Result<(PortCaller<'a, 'p, K, L, R>, PortCaller<'a, 'p, K, L, R>), CallError>
-    ensures { IfOk result (λ r. ports.items ≡ r.0.endpoint.port ∷ r.1.endpoint.port ∷ []) }
+    ensures ports { IfOk result (λ r. ports.items ≡ r.0.endpoint.port ∷ r.1.endpoint.port ∷ []) }
+    ensures error { IfErr result (λ e. (e ≡ error.Unexpected) × (length ports.items ≢ 2)) }
 {
     let (Some(second), Some(first), None) = (ports.pop(), ports.pop(), ports.pop()) else {
         return Err(CallError::Unexpected);
@@ -89,6 +91,7 @@ pub fn close<K: Tie>(shared: Shared<K, Kept<K>>, ports: Vec<Port<K>>) -> Result<
     ensures asked { IfOk result (λ trace. AreCallsOf K.names.roster (map (λ p. p.asked.calls) ports.items) (followed_by [] trace.events)) }
     ensures seen { IfOk result (λ trace. AreSeen (followed_by [] trace.events) (map (λ p. p.seen.trace) ports.items)) }
     ensures due { IfOk result (λ trace. IsDue K.names.roster (map (λ p. collected p.last.trace p.thread (taken p.seat)) ports.items) (followed_by [] trace.events)) }
+    ensures error { IfErr result (λ e. (e ≡ error.Unexpected) × ¬ (AreAll (λ p. thread_of p.seat) K.names.cells.slots ports.items)) }
 {
     if !shared.all(ports.as_slice()) {
         return Err(CallError::Unexpected);

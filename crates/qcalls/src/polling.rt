@@ -26,7 +26,7 @@ impl<'a, E: Endpoint, R: Wait> Caller<'a, E, R> {
         len: usize,
     ) -> Result<Option<Received>, CallError>
         ensures starts { StartsOfBytes received_in (Call.Receive chid (replicate len 0)) (E.history self.old.endpoint) (E.history self.new.endpoint) result }
-        ensures came { ComesOfBytes E.came self.old.endpoint (Call.Receive chid (replicate len 0)) (E.seen self.old.endpoint) (E.seen self.new.endpoint) (E.history self.new.endpoint).told result }
+        ensures came { ComesOfBytes (λ e. E.history e) E.came self.old.endpoint (Call.Receive chid (replicate len 0)) (E.seen self.old.endpoint) (E.seen self.new.endpoint) (E.history self.new.endpoint) result }
     {
         let buffer = Bytes::filled(self.alloc, 0, len)?;
         match self.endpoint.call(self.rt, Call::Receive { chid, buffer }) {

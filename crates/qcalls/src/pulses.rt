@@ -24,7 +24,7 @@ impl<'a, E: Endpoint, R: Wait> Caller<'a, E, R> {
         value: i32,
     ) -> Result<(), CallError>
         ensures makes { Makes done_in (Call.Pulse coid priority code value) (E.history self.old.endpoint) (E.history self.new.endpoint) result }
-        ensures came { ComesOf E.came self.old.endpoint (Call.Pulse coid priority code value) (E.seen self.new.endpoint) (E.history self.new.endpoint).told }
+        ensures came { ComesOf (λ e. E.history e) E.came self.old.endpoint (Call.Pulse coid priority code value) (E.seen self.new.endpoint) (E.history self.new.endpoint) }
     {
         let pulse = Call::Pulse {
             coid,
@@ -39,7 +39,7 @@ impl<'a, E: Endpoint, R: Wait> Caller<'a, E, R> {
     /// Refused with `Srch` if the channel isn't open or is another process's.
     pub fn msg_receive_pulse(&mut self, chid: ChannelId) -> Result<Pulse, CallError>
         ensures makes { Makes pulse_in (Call.ReceivePulse chid) (E.history self.old.endpoint) (E.history self.new.endpoint) result }
-        ensures came { ComesOf E.came self.old.endpoint (Call.ReceivePulse chid) (E.seen self.new.endpoint) (E.history self.new.endpoint).told }
+        ensures came { ComesOf (λ e. E.history e) E.came self.old.endpoint (Call.ReceivePulse chid) (E.seen self.new.endpoint) (E.history self.new.endpoint) }
     {
         self.make(Call::ReceivePulse(chid))?.pulse()
     }

@@ -27,7 +27,7 @@ impl<'a, E: Endpoint, R: Wait> Caller<'a, E, R> {
         len: usize,
     ) -> Result<Received, CallError>
         ensures makes { MakesBothOfBytes received_in (Call.Reply rcvid status bytes.now) (Call.Receive chid (replicate len 0)) (E.history self.old.endpoint) (E.history self.new.endpoint) result }
-        ensures came { ComesOfBothBytes (λ e. E.seen e) E.came E.came_both self.old.endpoint (Call.Reply rcvid status bytes.now) (Call.Receive chid (replicate len 0)) (E.seen self.new.endpoint) (E.history self.new.endpoint).told result }
+        ensures came { ComesOfBothBytes (λ e. E.history e) (λ e. E.seen e) E.came E.came_both self.old.endpoint (Call.Reply rcvid status bytes.now) (Call.Receive chid (replicate len 0)) (E.seen self.new.endpoint) (E.history self.new.endpoint) result }
     {
         let bytes = Bytes::copied(self.alloc, bytes)?;
         let buffer = Bytes::filled(self.alloc, 0, len)?;

@@ -19,7 +19,7 @@ impl<'a, E: Endpoint, R: Wait> Caller<'a, E, R> {
     /// `Srch` if the thread isn't in the roster or is another process's.
     pub fn sched_set(&mut self, thread: ThreadNo, priority: Priority) -> Result<(), CallError>
         ensures makes { Makes done_in (Call.PrioritySet thread priority) (E.history self.old.endpoint) (E.history self.new.endpoint) result }
-        ensures came { ComesOf E.came self.old.endpoint (Call.PrioritySet thread priority) (E.seen self.new.endpoint) (E.history self.new.endpoint).told }
+        ensures came { ComesOf (λ e. E.history e) E.came self.old.endpoint (Call.PrioritySet thread priority) (E.seen self.new.endpoint) (E.history self.new.endpoint) }
     {
         self.make(Call::PrioritySet { thread, priority })?.done()
     }
@@ -29,7 +29,7 @@ impl<'a, E: Endpoint, R: Wait> Caller<'a, E, R> {
     /// `sched_set` is, and `Again` if that pulse is due and 1,024 pulses wait on the channel.
     pub fn unblock(&mut self, thread: ThreadNo) -> Result<(), CallError>
         ensures makes { Makes done_in (Call.Unblock thread) (E.history self.old.endpoint) (E.history self.new.endpoint) result }
-        ensures came { ComesOf E.came self.old.endpoint (Call.Unblock thread) (E.seen self.new.endpoint) (E.history self.new.endpoint).told }
+        ensures came { ComesOf (λ e. E.history e) E.came self.old.endpoint (Call.Unblock thread) (E.seen self.new.endpoint) (E.history self.new.endpoint) }
     {
         self.make(Call::Unblock(thread))?.done()
     }
@@ -38,7 +38,7 @@ impl<'a, E: Endpoint, R: Wait> Caller<'a, E, R> {
     /// in the roster.
     pub fn state(&mut self, thread: ThreadNo) -> Result<State, CallError>
         ensures makes { Makes state_in (Call.State thread) (E.history self.old.endpoint) (E.history self.new.endpoint) result }
-        ensures came { ComesOf E.came self.old.endpoint (Call.State thread) (E.seen self.new.endpoint) (E.history self.new.endpoint).told }
+        ensures came { ComesOf (λ e. E.history e) E.came self.old.endpoint (Call.State thread) (E.seen self.new.endpoint) (E.history self.new.endpoint) }
     {
         self.make(Call::State(thread))?.state()
     }
@@ -47,7 +47,7 @@ impl<'a, E: Endpoint, R: Wait> Caller<'a, E, R> {
     /// kernel down before.
     pub fn shutdown(&mut self) -> Result<(), CallError>
         ensures makes { Makes done_in Call.Shutdown (E.history self.old.endpoint) (E.history self.new.endpoint) result }
-        ensures came { ComesOf E.came self.old.endpoint Call.Shutdown (E.seen self.new.endpoint) (E.history self.new.endpoint).told }
+        ensures came { ComesOf (λ e. E.history e) E.came self.old.endpoint Call.Shutdown (E.seen self.new.endpoint) (E.history self.new.endpoint) }
     {
         self.make(Call::Shutdown)?.done()
     }

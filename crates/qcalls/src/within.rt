@@ -30,7 +30,7 @@ impl<'a, E: Endpoint, R: Wait + Clock> Caller<'a, E, R> {
         time: Duration,
     ) -> Result<Answer, CallError>
         ensures makes { MakesWithin answer_in (Call.Send coid message.now (replicate reply_len 0)) (E.history self.old.endpoint) (E.history self.new.endpoint) result }
-        ensures came { ComesWithin E.came self.old.endpoint (Call.Send coid message.now (replicate reply_len 0)) (E.seen self.old.endpoint) (E.seen self.new.endpoint) (E.history self.new.endpoint).told result }
+        ensures came { ComesWithin (λ e. E.history e) E.came self.old.endpoint (Call.Send coid message.now (replicate reply_len 0)) (E.seen self.old.endpoint) (E.seen self.new.endpoint) (E.history self.new.endpoint) result }
     {
         alarms.set(self.rt, self.thread(), time)?;
         let answer = self.msg_send(coid, message, reply_len);
@@ -47,7 +47,7 @@ impl<'a, E: Endpoint, R: Wait + Clock> Caller<'a, E, R> {
         time: Duration,
     ) -> Result<Received, CallError>
         ensures makes { MakesWithin received_in (Call.Receive chid (replicate len 0)) (E.history self.old.endpoint) (E.history self.new.endpoint) result }
-        ensures came { ComesWithin E.came self.old.endpoint (Call.Receive chid (replicate len 0)) (E.seen self.old.endpoint) (E.seen self.new.endpoint) (E.history self.new.endpoint).told result }
+        ensures came { ComesWithin (λ e. E.history e) E.came self.old.endpoint (Call.Receive chid (replicate len 0)) (E.seen self.old.endpoint) (E.seen self.new.endpoint) (E.history self.new.endpoint) result }
     {
         alarms.set(self.rt, self.thread(), time)?;
         let received = self.msg_receive(chid, len);
@@ -63,7 +63,7 @@ impl<'a, E: Endpoint, R: Wait + Clock> Caller<'a, E, R> {
         time: Duration,
     ) -> Result<Pulse, CallError>
         ensures makes { MakesWithin pulse_in (Call.ReceivePulse chid) (E.history self.old.endpoint) (E.history self.new.endpoint) result }
-        ensures came { ComesWithin E.came self.old.endpoint (Call.ReceivePulse chid) (E.seen self.old.endpoint) (E.seen self.new.endpoint) (E.history self.new.endpoint).told result }
+        ensures came { ComesWithin (λ e. E.history e) E.came self.old.endpoint (Call.ReceivePulse chid) (E.seen self.old.endpoint) (E.seen self.new.endpoint) (E.history self.new.endpoint) result }
     {
         alarms.set(self.rt, self.thread(), time)?;
         let pulse = self.msg_receive_pulse(chid);

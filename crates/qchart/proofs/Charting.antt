@@ -1,5 +1,5 @@
 -- The chart of a run that began on a new kernel.
-use Rattle.std.proofs.Common.{◌≡◌, ℕ, ◌+◌, List, [], refl, sym, subst, ◌∙◌, arith}
+use Rattle.std.proofs.Common.{◌≡◌, ℕ, ◌+◌, List, [], refl, arith}
 use Rattle.std.specs.List.Sorted.{IsPermutation}
 use Rattle.qtables.specs.Members.{IsRoster}
 use Rattle.qtables.specs.declared.member.Member.{Member}
@@ -11,23 +11,24 @@ use Rattle.qmodel.specs.Trace.{Run}
 use Rattle.qkernel.specs.Stands.{StandsAt}
 use Rattle.qkernel.specs.Kernel.{State}
 use Rattle.qkernel.proofs.Running.{headline_of}
-use Rattle.qkernel.proofs.Traces.{stands_made, stands_roster}
+use Rattle.qkernel.proofs.Traces.{stands_made}
+use Rattle.qstate.specs.Kept.{members_of}
 use Rattle.qscript.specs.Enrolled.{roster_with}
 use Rattle.qchart.specs.declared.chart.Chart.{Chart}
 use Rattle.qchart.specs.Charts.{IsChartOf}
 use Rattle.qchart.specs.Rows.{HasRows}
 
-pub charted : (roster : List Member) (calls : List (ℕ × Call)) (old new : State) (chart : Chart) → IsRoster (roster_with [] roster) → StandsAt (roster_with [] roster) old []
+pub charted : (roster : List Member) (calls : List (ℕ × Call)) (old new : State) (chart : Chart) → IsRoster (members_of old.threads) → StandsAt (roster_with [] roster) old []
     → HasRows old calls new chart.rows.items → IsPermutation roster chart.lifelines.items → IsChartOf roster calls chart
 charted roster calls old new chart rises stands has lines =
     let run : Run = record { first = 1; events = has.events } in
     let made = stands_made (roster_with [] roster) old [] stands in
     let first : 1 ≡ old.made + 1 = omega (arith, made) in
-    let well = headline_of old new 1 has.events (subst IsRoster (sym (stands_roster (roster_with [] roster) old [] stands)) rises) first has.ran (roster_with [] roster) [] tt stands in
+    let well = headline_of old new 1 has.events rises first has.ran (roster_with [] roster) [] tt stands in
     record {
       run = run;
       left = blocked_threads (facts_of (roster_with [] roster) (followed_by [] has.events));
       ran = record { rising = well.rising; first = refl; made = has.made; lawful = well.lawful; properties = well.properties; left = refl };
       lines = lines;
-      drawn = record { threads = has.threads; arrows = has.arrows; blocked = has.blocked (roster_with [] roster) [] tt stands };
+      drawn = record { threads = has.threads; arrows = has.arrows; changes = has.changes (roster_with [] roster) [] tt stands; blocked = has.blocked (roster_with [] roster) [] tt stands };
     }

@@ -1,5 +1,5 @@
 -- Rows that are made one after another.
-use Rattle.std.proofs.Common.{◌≡◌, ℕ, ◌+◌, List, [], ◌∷◌, ◌++◌, length, length-append, map, refl, ap, sym, subst, ◌∙◌, append_assoc, append-nil, true, arith}
+use Rattle.std.proofs.Common.{◌≡◌, ℕ, List, [], ◌∷◌, ◌++◌, map, refl, ap, sym, ◌∙◌, append_assoc, append-nil, true}
 use Rattle.std.specs.Prelude.{is_some}
 use Rattle.std.proofs.lemmas.List.{map-append}
 use Rattle.qtables.specs.Members.{member_at}
@@ -8,18 +8,17 @@ use Rattle.std.specs.List.{filter_map}
 use Rattle.qmodel.specs.declared.call.Call.{Call}
 use Rattle.qmodel.specs.declared.call.Completion.{Completion}
 use Rattle.qchart.specs.Arrows.{arrow_of}
-use Rattle.qkernel.proofs.Traces.{followed_push}
 use Rattle.qkernel.specs.Blocked.{blocked_threads}
 use Rattle.qrules.specs.Trace.{followed_by}
 use Rattle.qrules.specs.Lawful.{event_call, facts_of}
 use Rattle.qmodel.specs.Trace.{Event, Trace}
 use Rattle.qstate.specs.Kept.{members_of}
-use Rattle.qkernel.specs.Run.{RunsAtTraces}
-use Rattle.qkernel.specs.Stands.{AnswersAtTraces, StandsAt}
+use Rattle.qkernel.specs.Stands.{AnswersAtTraces}
 use Rattle.qkernel.specs.Kernel.{State}
 use Rattle.qkernel.proofs.Running.{runs_more}
 use Rattle.qchart.specs.declared.row.Row.{Row}
-use Rattle.qchart.specs.Rows.{HasRows, TellsBlocked, arrows_from, blocked_from, event_arrows, event_thread, row_arrows, row_blocked, row_thread}
+use Rattle.qchart.specs.Changes.{changed_threads}
+use Rattle.qchart.specs.Rows.{HasRows, TellsBlocked, TellsChanges, arrows_from, blocked_from, changes_from, event_arrows, event_thread, row_arrows, row_blocked, row_changes, row_thread}
 
 -- the arrows of one event more
 arrows_push : (before : List ℕ) (events : List Event) (e : Event) → arrows_from before (events ++ e ∷ []) ≡ arrows_from before events ++ event_arrows (before ++ map event_thread events) e ∷ []
@@ -29,44 +28,56 @@ arrows_push before (x ∷ events) e =
     let callers = append_assoc before (x.thread ∷ []) (map event_thread events) in
     ap (λ rest. event_arrows before x ∷ rest) (after ∙ ap (λ cs. arrows_from (before ++ x.thread ∷ []) events ++ event_arrows cs e ∷ []) callers)
 
+-- the priorities that one event more changed
+changes_push : (roster : List Member) (past : Trace) (events : List Event) (e : Event)
+    → changes_from roster past (events ++ e ∷ [])
+    ≡ changes_from roster past events ++ changed_threads (facts_of roster (followed_by past events)) (facts_of roster (followed_by past (events ++ e ∷ []))) ∷ []
+changes_push roster past [] e = refl
+changes_push roster past (x ∷ events) e = ap (λ rest. changed_threads (facts_of roster past) (facts_of roster (x ∷ past)) ∷ rest) (changes_push roster (x ∷ past) events e)
+
 -- who is blocked after one event more
 blocked_push : (roster : List Member) (past : Trace) (events : List Event) (e : Event)
     → blocked_from roster past (events ++ e ∷ []) ≡ blocked_from roster past events ++ blocked_threads (facts_of roster (followed_by past (events ++ e ∷ []))) ∷ []
 blocked_push roster past [] e = refl
 blocked_push roster past (x ∷ events) e = ap (λ rest. blocked_threads (facts_of roster (x ∷ past)) ∷ rest) (blocked_push roster (x ∷ past) events e)
 
--- the rows so far: the roster stayed as it was, and these threads made the calls
+-- the rows so far, and the threads that made their calls
 pub record Going (old : State) (calls : List (ℕ × Call)) (now : State) (drawn : List Row) (threads : List ℕ) : Type 0 where
   pub rows : HasRows old calls now drawn
   pub callers : threads ≡ map event_thread rows.events
-  pub members : members_of now.threads ≡ members_of old.threads
-  pub made : now.made ≡ old.made + length calls
 
 -- no rows
 pub going_none : (old : State) → Going old [] old [] []
 going_none old = record {
-  rows = record { events = []; ran = λ roster past lawful stands. (lawful, stands); made = refl; threads = refl; arrows = refl; blocked = λ roster past lawful stands. refl };
+  rows = record {
+    events = [];
+    ran = λ roster past lawful stands. (lawful, stands);
+    made = refl;
+    threads = refl;
+    arrows = refl;
+    changes = λ roster past lawful stands. refl;
+    blocked = λ roster past lawful stands. refl;
+  };
   callers = refl;
-  members = refl;
-  made = omega arith;
 }
 
 -- what a row tells of one call by a kernel in this state after these callers' calls, and the state that the kernel is left in
 pub record IsRowOf (old : State) (before : List ℕ) (t : ℕ) (c : Call) (row : Row) (new : State) : Type 0 where
   pub endings : List Completion
+  pub known : is_some (member_at (members_of old.threads) t) ≡ true
   pub answers : AnswersAtTraces old t c endings new
   pub thread : row.thread ≡ t
   pub arrows : row.arrows.items ≡ filter_map (arrow_of (before ++ t ∷ []) t) endings
+  pub changes : TellsChanges old new row.changes.items
   pub blocked : TellsBlocked new row.blocked.items
 
 -- one row more
 pub going_more : (old : State) (calls : List (ℕ × Call)) (mid new : State) (rows : List Row) (callers : List ℕ) (t : ℕ) (c : Call) (row : Row) → Going old calls mid rows callers
-    → is_some (member_at (members_of mid.threads) t) ≡ true → IsRowOf mid callers t c row new → members_of new.threads ≡ members_of mid.threads → new.made ≡ mid.made + 1
-    → Going old (calls ++ (t, c) ∷ []) new (rows ++ row ∷ []) (callers ++ t ∷ [])
-going_more old calls mid new rows callers t c row g known is members made =
+    → IsRowOf mid callers t c row new → Going old (calls ++ (t, c) ∷ []) new (rows ++ row ∷ []) (callers ++ t ∷ [])
+going_more old calls mid new rows callers t c row g is =
     let e : Event = record { thread = t; call = c; endings = is.endings } in
     let events = g.rows.events in
-    let ran = runs_more old mid new events e g.rows.ran known is.answers in
+    let ran = runs_more old mid new events e g.rows.ran is.known is.answers in
     let own : row_arrows row ≡ event_arrows (map event_thread events) e = is.arrows ∙ ap (λ cs. event_arrows cs e) g.callers in
     record {
       rows = record {
@@ -75,6 +86,12 @@ going_more old calls mid new rows callers t c row g known is members made =
         made = map-append event_call events (e ∷ []) ∙ ap (λ cs. cs ++ (t, c) ∷ []) g.rows.made;
         threads = map-append row_thread rows (row ∷ []) ∙ ap (λ ts. ts ++ row.thread ∷ []) g.rows.threads ∙ ap (λ u. map event_thread events ++ u ∷ []) is.thread ∙ sym (map-append event_thread events (e ∷ []));
         arrows = map-append row_arrows rows (row ∷ []) ∙ ap (λ rest. rest ++ row_arrows row ∷ []) g.rows.arrows ∙ ap (λ own. arrows_from [] events ++ own ∷ []) own ∙ sym (arrows_push [] events e);
+        changes = λ roster past lawful stands.
+            let before = g.rows.ran roster past lawful stands in
+            let now = ran roster past lawful stands in
+            map-append row_changes rows (row ∷ []) ∙ ap (λ cs. cs ++ row_changes row ∷ []) (g.rows.changes roster past lawful stands)
+            ∙ ap (λ own. changes_from roster past events ++ own ∷ []) (is.changes roster (followed_by past events) (followed_by past (events ++ e ∷ [])) before.1 now.1)
+            ∙ sym (changes_push roster past events e);
         blocked = λ roster past lawful stands.
             let now = ran roster past lawful stands in
             map-append row_blocked rows (row ∷ []) ∙ ap (λ bs. bs ++ row_blocked row ∷ []) (g.rows.blocked roster past lawful stands)
@@ -82,6 +99,4 @@ going_more old calls mid new rows callers t c row g known is members made =
             ∙ sym (blocked_push roster past events e);
       };
       callers = ap (λ cs. cs ++ t ∷ []) g.callers ∙ sym (map-append event_thread events (e ∷ []));
-      members = members ∙ g.members;
-      made = omega (arith, made, g.made, length-append calls ((t, c) ∷ []));
     }

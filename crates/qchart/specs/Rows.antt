@@ -12,7 +12,9 @@ use Rattle.qkernel.specs.Stands.{StandsAt}
 use Rattle.qkernel.specs.Kernel.{State}
 use Rattle.qchart.specs.declared.arrow.Arrow.{Arrow}
 use Rattle.qchart.specs.declared.row.Row.{Row}
+use Rattle.qchart.specs.declared.changes.Level.{Level}
 use Rattle.qchart.specs.Arrows.{arrow_of}
+use Rattle.qchart.specs.Changes.{changed_threads}
 
 -- the thread that made the call of an event
 abbrev pub event_thread : Event → ℕ
@@ -33,6 +35,13 @@ blocked_from roster past [] = []
 blocked_from roster past (e ∷ events) =
     blocked_threads (facts_of roster (e ∷ past)) ∷ blocked_from roster (e ∷ past) events
 
+-- the threads whose priority each event changed, with the new priority
+abbrev pub changes_from : List Member → Trace → List Event → List (List Level)
+changes_from roster past [] = []
+changes_from roster past (e ∷ events) =
+    changed_threads (facts_of roster past) (facts_of roster (e ∷ past))
+    ∷ changes_from roster (e ∷ past) events
+
 -- the thread that made a row's call
 abbrev pub row_thread : Row → ℕ
 row_thread row = row.thread
@@ -40,6 +49,10 @@ row_thread row = row.thread
 -- the arrows of a row
 abbrev pub row_arrows : Row → List Arrow
 row_arrows row = row.arrows.items
+
+-- the threads whose priority a row changed
+abbrev pub row_changes : Row → List Level
+row_changes row = row.changes.items
 
 -- the threads that are blocked after a row
 abbrev pub row_blocked : Row → List Blocked
@@ -50,6 +63,12 @@ abbrev pub TellsBlocked : State → List Blocked → Type 0
 TellsBlocked s blocked = (roster : List Member) (past : Trace) → StandsAt roster s past
     → blocked ≡ blocked_threads (facts_of roster past)
 
+-- these threads have these priorities after each trace that the kernel may have made in the new state, and
+-- others after each that it may have made in the old one; no other thread's priority differs
+abbrev pub TellsChanges : State → State → List Level → Type 0
+TellsChanges old new changes = (roster : List Member) (past now : Trace) → StandsAt roster old past
+    → StandsAt roster new now → changes ≡ changed_threads (facts_of roster past) (facts_of roster now)
+
 -- a kernel made these calls and thereby went from the old state to the new one, and the rows are those of
 -- their events at every lawful trace that it may have made before
 pub record HasRows (old : State) (calls : List (ℕ × Call)) (new : State) (rows : List Row) : Type 0 where
@@ -58,12 +77,16 @@ pub record HasRows (old : State) (calls : List (ℕ × Call)) (new : State) (row
   pub made : map event_call events ≡ calls
   pub threads : map row_thread rows ≡ map event_thread events
   pub arrows : map row_arrows rows ≡ arrows_from [] events
+  pub changes : (roster : List Member) (past : Trace) → IsLawful roster past → StandsAt roster old past
+      → map row_changes rows ≡ changes_from roster past events
   pub blocked : (roster : List Member) (past : Trace) → IsLawful roster past → StandsAt roster old past
       → map row_blocked rows ≡ blocked_from roster past events
 
 -- the rows are those of these events, the first of a kernel: each with the thread that called, what was
--- received and answered in the order of the endings, and the threads that are blocked after it
+-- received and answered in the order of the endings, the threads whose priority it changed, and the threads
+-- that are blocked after it
 pub record IsDrawn (roster : List Member) (events : List Event) (rows : List Row) : Type 0 where
   pub threads : map row_thread rows ≡ map event_thread events
   pub arrows : map row_arrows rows ≡ arrows_from [] events
+  pub changes : map row_changes rows ≡ changes_from roster [] events
   pub blocked : map row_blocked rows ≡ blocked_from roster [] events

@@ -2,20 +2,10 @@
 
 use crate::row::Row;
 use qbase::ids::ThreadNo;
-use qbase::state::ThreadState;
 use qexplain::waiting::{Deadlock, Wait};
 use qkernel::open_call::Blocked;
 use qtables::member::Member;
 use std::alloc::{AllocError, Global};
-
-/// The end of a run: who waits for whom.
-#[derive(Drop)]
-pub struct Outcome {
-    /// The threads whose messages aren't answered.
-    pub waits: Vec<Wait>,
-    /// The circles among these threads.
-    pub deadlocks: Vec<Deadlock>,
-}
 
 /// The chart of a run: a line for each thread, and a row for each call.
 #[derive(Drop)]
@@ -25,18 +15,20 @@ pub struct Chart {
     /// The rows of the calls in order.
     pub rows: Vec<Row>,
     /// The number of the call before the first row.
-    pub before: usize,
+    pub before: u64,
     /// The threads that are blocked before the first row.
     pub blocked: Vec<Blocked>,
+    /// The threads whose messages aren't answered at the end of the run.
+    pub waits: Vec<Wait>,
+    /// The circles among these threads.
+    pub deadlocks: Vec<Deadlock>,
 }
 
 impl Chart {
     /// Returns the column of a thread, from 0 at the left; 0 also if it has none.
     pub fn column(&self, thread: ThreadNo) -> usize {
-        let place = self
-            .lifelines
-            .iter()
-            .position(|member| member.thread == thread);
+        let mut lifelines = self.lifelines.iter();
+        let place = lifelines.position(|member| member.thread == thread);
         place.unwrap_or(0)
     }
 
@@ -44,17 +36,12 @@ impl Chart {
     pub fn longest_words(&self) -> usize {
         let mut most = 0usize;
         for row in &self.rows {
-            most = most.max(row.longest_words());
+            most = most.max(row.words.len());
+            for label in &row.labels {
+                most = most.max(label.len());
+            }
         }
         most
-    }
-
-    /// Returns the state of a thread before the first row.
-    pub fn first_state(&self, thread: ThreadNo) -> ThreadState {
-        match self.blocked.iter().find(|blocked| blocked.thread == thread) {
-            Some(blocked) => blocked.state,
-            None => ThreadState::Ready,
-        }
     }
 
     /// Returns the bytes of the longest head.

@@ -5,14 +5,15 @@ ghost use Rattle.std.specs.List.Sorted.{IsPermutation};
 ghost use Rattle.qscript.specs.Script.{CanRun};
 ghost use Rattle.qchart.specs.Charts.{IsChartOf, IsCharted, IsChartFault};
 
-use crate::chart::{Chart, Outcome};
+use crate::chart::Chart;
 use crate::fault::ChartFault;
 use crate::run::rows_of;
 use crate::svg::svg_of;
 use crate::text::text_of;
 use crate::view::{Style, View};
-use qkernel::kernel::Kernel;
-use qreplay::report::report_of;
+use qexplain::history::History;
+use qexplain::waiting::{deadlocks, waits};
+use qscript::run::Run;
 use qscript::script::roster_with_all;
 use qscript::{Script, parse};
 use qtables::member::Member;
@@ -27,24 +28,12 @@ pub fn drawing(alloc: Global, text: &[u8], view: &View) -> Result<String, ChartF
     ensures { IfErr result (IsChartFault view.now text.now) }
 {
     let whole = chart(alloc, text, view)?;
-    let outcome = outcome_of(alloc, text)?;
     let part = part_of(alloc, whole, view)?;
     let drawn = match view.style {
-        Style::Svg => svg_of(alloc, &part, &outcome)?,
-        Style::Text => text_of(alloc, &part, &outcome)?,
+        Style::Svg => svg_of(alloc, &part)?,
+        Style::Text => text_of(alloc, &part)?,
     };
     Ok(drawn)
-}
-
-/// Returns who waits for whom at the end of a script's run.
-fn outcome_of(alloc: Global, text: &[u8]) -> Result<Outcome, AllocError> {
-    match report_of(alloc, text) {
-        Ok(report) => Ok(Outcome {
-            waits: report.waits,
-            deadlocks: report.deadlocks,
-        }),
-        Err(_) => Err(AllocError),
-    }
 }
 
 /// Runs a script on a new kernel, and returns the chart of the run with all its rows; an error if more than 400 of them
@@ -68,11 +57,11 @@ fn chart_of(alloc: Global, script: Script, bytes: bool) -> Result<Chart, AllocEr
     ensures { IfOk result (IsChartOf script.roster.items script.calls.items) }
 {
     let roster = roster_with_all(alloc, script.roster.as_slice());
-    let mut kernel = match Kernel::new(alloc, &roster) {
-        Ok(kernel) => kernel,
-        Err(_) => return Err(AllocError),
-    };
-    let rows = rows_of(alloc, &mut kernel, roster.members(), script.calls, bytes)?;
+    let mut run = Run::new(alloc, &roster, script.calls.len())?;
+    let mut history = History::new(alloc);
+    let rows = rows_of(alloc, &mut run, &mut history, script.calls, bytes)?;
+    let waits = waits(alloc, run.kernel(), &history)?;
+    let deadlocks = deadlocks(alloc, run.kernel(), waits.as_slice())?;
     let lifelines = by_process(script.roster)?;
     let blocked = Vec::new(alloc);
     Ok(Chart {
@@ -80,6 +69,8 @@ fn chart_of(alloc: Global, script: Script, bytes: bool) -> Result<Chart, AllocEr
         rows,
         before: 0,
         blocked,
+        waits,
+        deadlocks,
     })
 }
 
@@ -88,28 +79,30 @@ fn part_of(alloc: Global, whole: Chart, view: &View) -> Result<Chart, AllocError
     let Chart {
         lifelines,
         rows,
+        waits,
+        deadlocks,
         ..
     } = whole;
+    let before = view.before() as u64;
     let mut part = Vec::new(alloc);
     let mut blocked = Vec::new(alloc);
-    let mut number = 0usize;
     for row in rows {
-        number = number.saturating_add(1);
-        if number > view.to {
+        if row.number > view.to as u64 {
             break;
         }
-        if number > view.before() {
+        if row.number > before {
             part.push(row)?;
         } else {
             blocked = row.blocked;
         }
     }
-    let before = view.before();
     Ok(Chart {
         lifelines,
         rows: part,
         before,
         blocked,
+        waits,
+        deadlocks,
     })
 }
 

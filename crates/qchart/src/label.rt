@@ -2,19 +2,35 @@
 
 use crate::arrow::{Arrow, arrow_of};
 use crate::row::Cut;
+use crate::state::signs_of;
 use qbase::bytes::Bytes;
 use qbase::errno::word;
-use qbase::ids::ThreadNo;
+use qbase::ids::{ChannelId, ConnectionId, ProcessNo, ReceiveId, ThreadNo};
 use qbase::priority::Priority;
-use qbase::state::ThreadState;
 use qkernel::call::{Call, Completion, Mark};
 use qmodel::kind::CallKind;
 use qqueue::item::What;
 use std::alloc::{AllocError, Global};
 
-/// Returns the call of a thread, as it stands beside the thread's line. The message or pulse of a Send or a Pulse has
-/// the number of the call.
-pub fn call_words(alloc: Global, number: u64, call: &Call) -> Result<String, AllocError> {
+/// Returns the call of a thread, as it stands beside the thread's line; with the bytes that it sends if `bytes` is set.
+pub fn call_words(
+    alloc: Global,
+    number: u64,
+    call: &Call,
+    bytes: bool,
+) -> Result<String, AllocError> {
+    let mut words = plain_words(alloc, number, call)?;
+    match call {
+        Call::Send { message, .. } if bytes => push_bytes(&mut words, message.as_slice())?,
+        Call::Reply { bytes: sent, .. } if bytes => push_bytes(&mut words, sent.as_slice())?,
+        Call::Write { bytes: sent, .. } if bytes => push_bytes(&mut words, sent.as_slice())?,
+        _ => {}
+    }
+    Ok(words)
+}
+
+/// Returns a call without its bytes. The message or pulse of a Send or a Pulse has the number of the call.
+fn plain_words(alloc: Global, number: u64, call: &Call) -> Result<String, AllocError> {
     let name = call.kind().word();
     match call {
         Call::ChannelCreate(_) => String::from_str(alloc, name),
@@ -22,7 +38,10 @@ pub fn call_words(alloc: Global, number: u64, call: &Call) -> Result<String, All
         Call::Pulse { code, value, .. } => user_words(alloc, number, *code, *value),
         Call::Reply { rcvid, status, .. } => answer_label(alloc, name, rcvid.0, "status", *status),
         Call::Error { rcvid, code } => answer_label(alloc, name, rcvid.0, "code", i64::from(*code)),
-        Call::PrioritySet { thread, priority } => priority_label(alloc, thread.0, *priority),
+        Call::PrioritySet { thread, priority } => {
+            let (number, level) = (thread.0, priority.get());
+            format!(in alloc; "{name} of {number} to {level}")
+        }
         _ => named_label(alloc, call.kind(), call.operand()),
     }
 }
@@ -55,43 +74,35 @@ fn answer_label(
     format!(in alloc; "{name} {number} {kind} {value}")
 }
 
-fn priority_label(alloc: Global, thread: u8, priority: Priority) -> Result<String, AllocError> {
+/// Returns `priority PRIORITY`.
+pub fn priority_words(alloc: Global, priority: Priority) -> Result<String, AllocError> {
     let level = priority.get();
-    format!(in alloc; "setprio of {thread} to {level}")
+    format!(in alloc; "priority {level}")
 }
 
-/// Adds what the caller gets at once, behind its call; nothing if an arrow shows it, or if there is nothing to say.
-pub fn push_result(words: &mut String, mark: Mark) -> Result<(), AllocError> {
-    match mark {
+/// Adds what the caller of the latest call, which has this number, got at once; nothing if an arrow shows it, or if
+/// there is nothing to say.
+pub fn push_result(
+    words: &mut String,
+    number: u64,
+    endings: &[Completion],
+) -> Result<(), AllocError> {
+    let Some(own) = endings.iter().find(|ending| ending.call == number) else {
+        return Ok(());
+    };
+    match own.mark {
         Mark::Failed(errno) => {
             let error = word(errno);
             write!(words, ": fail {error}")
         }
-        Mark::Channel(chid) => {
-            let channel = chid.0;
-            write!(words, ": channel {channel}")
-        }
-        Mark::Connection(coid) => {
-            let connection = coid.0;
-            write!(words, ": connection {connection}")
-        }
+        Mark::Channel(ChannelId(channel)) => write!(words, ": channel {channel}"),
+        Mark::Connection(ConnectionId(connection)) => write!(words, ": connection {connection}"),
         Mark::Count(copied) => write!(words, ": {copied} bytes"),
         Mark::State { state, priority } => {
-            let name = state_name(state);
-            let level = priority.get();
+            let (name, level) = (signs_of(state).name, priority.get());
             write!(words, ": {name} {level}")
         }
         _ => Ok(()),
-    }
-}
-
-/// Returns the name of a state, in the words of the QNX Neutrino System Architecture.
-pub fn state_name(state: ThreadState) -> &'static str {
-    match state {
-        ThreadState::Ready => "ready",
-        ThreadState::SendBlocked(_) => "SEND-blocked",
-        ThreadState::ReceiveBlocked(_) => "RECEIVE-blocked",
-        ThreadState::ReplyBlocked(_) => "REPLY-blocked",
     }
 }
 
@@ -112,16 +123,6 @@ fn push_bytes(words: &mut String, bytes: &[u8]) -> Result<(), AllocError> {
         write!(words, ".. ({count} bytes)")?;
     }
     Ok(())
-}
-
-/// Adds the bytes that a call sends to another thread.
-pub fn push_call_bytes(words: &mut String, call: &Call) -> Result<(), AllocError> {
-    match call {
-        Call::Send { message, .. } => push_bytes(words, message.as_slice()),
-        Call::Reply { bytes, .. } => push_bytes(words, bytes.as_slice()),
-        Call::Write { bytes, .. } => push_bytes(words, bytes.as_slice()),
-        _ => Ok(()),
-    }
 }
 
 /// Returns the words of the arrows of an event whose call `caller` made, in the order of its endings; with the bytes if
@@ -171,12 +172,10 @@ fn pulse_words(alloc: Global, number: u64, what: What) -> Result<String, AllocEr
     match what {
         What::Message => number_label(alloc, "pulse", number),
         What::User { code, value } => user_words(alloc, number, code, value),
-        What::Unblock(rcvid) => {
-            let message = rcvid.0;
+        What::Unblock(ReceiveId(message)) => {
             format!(in alloc; "pulse {number} unblock of send {message}")
         }
-        What::Disconnect(process) => {
-            let process = process.0;
+        What::Disconnect(ProcessNo(process)) => {
             format!(in alloc; "pulse {number} disconnect of process {process}")
         }
     }

@@ -3,14 +3,15 @@
 #![tactic(auto)]
 
 pub mod arrow;
+pub mod changes;
 pub mod chart;
 pub mod drawing;
 pub mod fault;
 mod label;
 mod plan;
-mod priorities;
 pub mod row;
 mod run;
+mod state;
 mod svg;
 mod text;
 pub mod view;

@@ -3,6 +3,7 @@
 use crate::arrow::Arrow;
 use crate::chart::Chart;
 use crate::row::Row;
+use qbase::ids::ThreadNo;
 
 /// A side of a thread's line.
 #[derive(Clone, Copy, PartialEq, Eq)]
@@ -12,8 +13,8 @@ pub enum Side {
 }
 
 /// Returns the side of its sender's line on which an arrow leaves it: the right if it goes back to the same line.
-pub fn leaves_at(chart: &Chart, arrow: &Arrow) -> Side {
-    if chart.column(arrow.to) < chart.column(arrow.from) {
+pub fn leaves_at(chart: &Chart, from: ThreadNo, to: ThreadNo) -> Side {
+    if chart.column(to) < chart.column(from) {
         Side::Left
     } else {
         Side::Right
@@ -27,7 +28,7 @@ pub fn words_side(chart: &Chart, row: &Row) -> Side {
         return Side::Right;
     };
     if is_sent(row, arrow) {
-        return leaves_at(chart, arrow);
+        return leaves_at(chart, arrow.from, arrow.to);
     }
     if arrow.to == row.thread && chart.column(arrow.from) >= chart.column(arrow.to) {
         return Side::Left;

@@ -1,10 +1,9 @@
 //! A row of a chart: one call and its effects.
 
 use crate::arrow::Arrow;
-use crate::priorities::Level;
+use crate::changes::Level;
 use qbase::errno::Errno;
 use qbase::ids::ThreadNo;
-use qbase::state::ThreadState;
 use qkernel::open_call::Blocked;
 
 /// A call of another thread that was ended by force.
@@ -19,6 +18,8 @@ pub struct Cut {
 /// A call and its effects.
 #[derive(Drop)]
 pub struct Row {
+    /// The number of the call.
+    pub number: u64,
     /// The thread that made the call.
     pub thread: ThreadNo,
     /// The call briefly, and what its thread got at once.
@@ -29,27 +30,8 @@ pub struct Row {
     pub labels: Vec<String>,
     /// The calls of other threads that ended by force, in rising thread number.
     pub cuts: Vec<Cut>,
-    /// The threads whose priority changed, with the new priority.
+    /// The threads whose priority changed, in rising number, with the new priority.
     pub changes: Vec<Level>,
     /// The threads that are blocked after the call, in rising number.
     pub blocked: Vec<Blocked>,
-}
-
-impl Row {
-    /// Returns the bytes of its longest words.
-    pub fn longest_words(&self) -> usize {
-        let mut most = self.words.len();
-        for label in &self.labels {
-            most = most.max(label.len());
-        }
-        most
-    }
-
-    /// Returns the state of a thread after the call.
-    pub fn state_of(&self, thread: ThreadNo) -> ThreadState {
-        match self.blocked.iter().find(|blocked| blocked.thread == thread) {
-            Some(blocked) => blocked.state,
-            None => ThreadState::Ready,
-        }
-    }
 }

@@ -1,125 +1,95 @@
 //! Makes the rows of a run.
 
-ghost use Rattle.std.specs.Prelude.{◌≡◌, ◌+◌, ◌<◌, ◌≤◌, ◌^◌, [], ◌∷◌, ◌++◌, length, is_some, true, IfOk, OnOk};
+ghost use Rattle.std.specs.Prelude.{◌≡◌, ◌+◌, ◌∷◌, ◌++◌, [], is_some, true, IfOk, OnOk};
 ghost use Rattle.std.specs.List.{filter_map};
 ghost use Rattle.qtables.specs.Members.{member_at};
 ghost use Rattle.qstate.specs.Kept.{members_of};
-ghost use Rattle.qkernel.specs.Run.{AllKnown};
 ghost use Rattle.qkernel.specs.Stands.{AnswersAtTraces};
 ghost use Rattle.qchart.specs.Arrows.{arrow_of};
-ghost use Rattle.qchart.specs.Rows.{HasRows, TellsBlocked};
+ghost use Rattle.qchart.specs.Rows.{HasRows, TellsBlocked, TellsChanges};
 
 use crate::arrow::arrows_of;
-use crate::label::{arrow_labels, call_words, push_call_bytes, push_result};
-use crate::priorities::{Bearing, Priorities};
+use crate::changes::{changes_since, levels_of};
+use crate::label::{arrow_labels, call_words, push_result};
 use crate::row::{Cut, Row};
 use qbase::ids::ThreadNo;
+use qexplain::history::{History, Past};
 use qkernel::call::{Call, Completion, Mark};
-use qkernel::endings::Endings;
-use qkernel::kernel::Kernel;
-use qtables::member::Member;
+use qscript::run::Run;
 use std::alloc::{AllocError, Global};
 
 /// The facts about the calls so far that later rows need.
 #[derive(Drop)]
 struct Course {
     callers: Vec<ThreadNo>,
-    priorities: Priorities,
     bytes: bool,
 }
 
-/// Makes the calls in order on a new kernel of these threads, and returns a row for each; its words have the bytes if
-/// `bytes` is set.
+/// Makes the calls in order, adds them to the history, and returns a row for each; its words have the bytes if `bytes`
+/// is set.
 pub fn rows_of(
     alloc: Global,
-    kernel: &mut Kernel,
-    members: &[Member],
+    run: &mut Run,
+    history: &mut History,
     calls: Vec<(ThreadNo, Call)>,
     bytes: bool,
 ) -> Result<Vec<Row>, AllocError>
-    requires known { AllKnown (members_of kernel.old.threads) calls.items }
-    requires limit { kernel.old.made + length calls.items ≤ 2 ^ 40 }
-    ensures { IfOk result (λ rows. HasRows kernel.old calls.items kernel.new rows.items) }
+    ensures { IfOk result (λ rows. HasRows run.old.kernel calls.items run.new.kernel rows.items) }
 {
     let mut course = Course {
         callers: Vec::new(alloc),
-        priorities: Priorities::new(alloc, members)?,
         bytes,
     };
     let mut rows = Vec::new(alloc);
-    let mut endings = Endings::new_in(alloc);
     'calls: for (thread, call) in calls {
-        let row = course.next_row(alloc, kernel, thread, call, &mut endings)?;
+        let past = Past::of(thread, &call);
+        let row = course.next_row(alloc, run, thread, call)?;
+        history.add(past, run.endings())?;
         rows.push(row)?;
-        endings.clear();
     }
     Ok(rows)
 }
 
 impl Course {
-    /// Makes a call, and returns its row. `endings` is reused: it has the endings of this call afterwards.
+    /// Makes a call, and returns its row.
     fn next_row(
         &mut self,
         alloc: Global,
-        kernel: &mut Kernel,
+        run: &mut Run,
         thread: ThreadNo,
         call: Call,
-        endings: &mut Endings,
     ) -> Result<Row, AllocError>
-        requires known { is_some (member_at (members_of kernel.old.threads) thread) ≡ true }
-        requires limit { kernel.old.made < 2 ^ 40 }
-        requires none { endings.old.items ≡ [] }
-        ensures event { OnOk result (AnswersAtTraces kernel.old thread call endings.new.items kernel.new) }
+        ensures event { OnOk result (AnswersAtTraces run.old.kernel thread call run.new.endings.items run.new.kernel) }
         ensures thread { IfOk result (λ row. row.thread ≡ thread) }
-        ensures arrows { IfOk result (λ row. row.arrows.items ≡ filter_map (arrow_of (self.old.callers.items ++ thread ∷ []) thread) endings.new.items) }
-        ensures blocked { IfOk result (λ row. TellsBlocked kernel.new row.blocked.items) }
+        ensures arrows { IfOk result (λ row. row.arrows.items ≡ filter_map (arrow_of (self.old.callers.items ++ thread ∷ []) thread) run.new.endings.items) }
+        ensures changes { IfOk result (λ row. TellsChanges run.old.kernel run.new.kernel row.changes.items) }
+        ensures blocked { IfOk result (λ row. TellsBlocked run.new.kernel row.blocked.items) }
         ensures callers { OnOk result (self.new.callers.items ≡ self.old.callers.items ++ thread ∷ []) }
-        ensures roster { OnOk result (members_of kernel.new.threads ≡ members_of kernel.old.threads) }
-        ensures made { OnOk result (kernel.new.made ≡ kernel.old.made + 1) }
+        ensures known { OnOk result (is_some (member_at (members_of run.old.kernel.threads) thread) ≡ true) }
+        ensures roster { OnOk result (members_of run.new.kernel.threads ≡ members_of run.old.kernel.threads) }
     {
-        let number = kernel.made() + 1;
-        let words = self.words_of(alloc, number, &call)?;
-        let bearing = Bearing::of(&call);
+        let number = run.kernel().made().saturating_add(1);
+        let mut words = call_words(alloc, number, &call, self.bytes)?;
+        let before = levels_of(alloc, run.kernel())?;
         self.callers.push(thread)?;
-        kernel.step(thread, call, endings);
-        let ended = endings.as_slice();
+        if run.make(thread, call).is_err() {
+            return Err(AllocError);
+        }
+        let after = levels_of(alloc, run.kernel())?;
+        let endings = run.endings();
+        push_result(&mut words, number, endings)?;
         let callers = self.callers.as_slice();
-        let arrows = arrows_of(alloc, callers, thread, ended)?;
-        let labels = arrow_labels(alloc, callers, thread, ended, self.bytes)?;
-        let cuts = cuts_of(alloc, number, ended)?;
-        let changes = self.priorities.follow(alloc, callers, bearing, ended)?;
-        let words = with_result(words, number, ended)?;
-        let blocked = kernel.blocked(alloc)?;
         Ok(Row {
+            number,
             thread,
             words,
-            arrows,
-            labels,
-            cuts,
-            changes,
-            blocked,
+            arrows: arrows_of(alloc, callers, thread, endings)?,
+            labels: arrow_labels(alloc, callers, thread, endings, self.bytes)?,
+            cuts: cuts_of(alloc, number, endings)?,
+            changes: changes_since(alloc, before.as_slice(), after.as_slice())?,
+            blocked: run.kernel().blocked(alloc)?,
         })
     }
-}
-
-impl Course {
-    /// Returns the words of a call, without its result.
-    fn words_of(&self, alloc: Global, number: u64, call: &Call) -> Result<String, AllocError> {
-        let mut words = call_words(alloc, number, call)?;
-        if self.bytes {
-            push_call_bytes(&mut words, call)?;
-        }
-        Ok(words)
-    }
-}
-
-/// Returns the words of the latest call, which has this number, with what its thread got at once.
-fn with_result(words: String, number: u64, endings: &[Completion]) -> Result<String, AllocError> {
-    let mut words = words;
-    if let Some(own) = endings.iter().find(|ending| ending.call == number) {
-        push_result(&mut words, own.mark)?;
-    }
-    Ok(words)
 }
 
 /// Returns the calls that an event ended by force, except the latest call, which has this number.

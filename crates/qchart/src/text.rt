@@ -3,13 +3,13 @@
 mod line;
 
 use crate::arrow::{Arrow, What};
-use crate::chart::{Chart, Outcome, head};
-use crate::label::cut_words;
+use crate::chart::{Chart, head};
+use crate::label::{cut_words, priority_words};
 use crate::plan::is_sent;
 use crate::row::Row;
+use crate::state::{signs_of, state_among};
 use line::Line;
 use qbase::ids::ThreadNo;
-use qbase::state::ThreadState;
 use qexplain::waiting::Wait;
 use std::alloc::{AllocError, Global};
 
@@ -26,33 +26,26 @@ R  RECEIVE-blocked  ....>  pulse
 P  REPLY-blocked    o      sent or made before
 ";
 
-/// A chart and its measures.
+/// A chart, and the distance between the lines of its threads.
 #[derive(Drop)]
 struct Page<'a> {
     alloc: Global,
     chart: &'a Chart,
-    outcome: &'a Outcome,
     gap: usize,
 }
 
 /// Returns a chart in columns of text.
-pub fn text_of(alloc: Global, chart: &Chart, outcome: &Outcome) -> Result<String, AllocError> {
-    let page = Page {
-        alloc,
-        chart,
-        outcome,
-        gap: LEAST_GAP
-            .max(chart.longest_words().saturating_add(6))
-            .max(chart.longest_head(alloc)?.saturating_add(2)),
-    };
+pub fn text_of(alloc: Global, chart: &Chart) -> Result<String, AllocError> {
+    let words = chart.longest_words().saturating_add(6);
+    let heads = chart.longest_head(alloc)?.saturating_add(2);
+    let gap = LEAST_GAP.max(words).max(heads);
+    let page = Page { alloc, chart, gap };
     let mut out = String::new(alloc);
     page.push_heads(&mut out)?;
-    let mut number = chart.before;
     for row in &chart.rows {
-        number = number.saturating_add(1);
-        page.push_row(&mut out, number, row)?;
+        page.push_row(&mut out, row)?;
     }
-    for deadlock in &outcome.deadlocks {
+    for deadlock in &chart.deadlocks {
         write!(out, "{deadlock}\n")?;
     }
     out.push_str(LEGEND)?;
@@ -60,13 +53,15 @@ pub fn text_of(alloc: Global, chart: &Chart, outcome: &Outcome) -> Result<String
 }
 
 impl Page<'_> {
-    /// Returns the place of a column's line.
-    fn place(&self, column: usize) -> usize {
+    /// Returns the place of a thread's line.
+    fn place_of(&self, thread: ThreadNo) -> usize {
+        let column = self.chart.column(thread);
         MARGIN.saturating_add(self.gap.saturating_mul(column))
     }
 
-    fn place_of(&self, thread: ThreadNo) -> usize {
-        self.place(self.chart.column(thread))
+    /// Writes words beside a thread's line.
+    fn put_beside(&self, line: &mut Line, thread: ThreadNo, words: &str) -> Result<(), AllocError> {
+        line.put(self.place_of(thread).saturating_add(2), words)
     }
 
     /// Adds two lines for the heads of the threads.
@@ -74,13 +69,10 @@ impl Page<'_> {
         let mut names = Line::new(self.alloc);
         let mut levels = Line::new(self.alloc);
         names.put(0, "call")?;
-        let mut column = 0usize;
         for member in &self.chart.lifelines {
-            let place = self.place(column);
+            let place = self.place_of(member.thread);
             names.put(place, head(self.alloc, member)?.as_str())?;
-            let level = member.priority.get();
-            levels.put(place, format!(in self.alloc; "priority {level}")?.as_str())?;
-            column = column.saturating_add(1);
+            levels.put(place, priority_words(self.alloc, member.priority)?.as_str())?;
         }
         names.end(out)?;
         levels.end(out)
@@ -89,27 +81,26 @@ impl Page<'_> {
     /// Writes the states of the threads after a row, over any arrow that crosses them, and ends the line.
     fn end_line(&self, out: &mut String, line: Line, row: &Row) -> Result<(), AllocError> {
         let mut line = line;
-        let mut column = 0usize;
         for member in &self.chart.lifelines {
-            line.put(self.place(column), state_sign(row.state_of(member.thread)))?;
-            column = column.saturating_add(1);
+            let state = state_among(row.blocked.as_slice(), member.thread);
+            line.put(self.place_of(member.thread), signs_of(state).sign)?;
         }
         line.end(out)
     }
 
     /// Adds the lines of a row: its call, the arrows that aren't the call's own, and the priorities that changed.
-    fn push_row(&self, out: &mut String, number: usize, row: &Row) -> Result<(), AllocError> {
+    fn push_row(&self, out: &mut String, row: &Row) -> Result<(), AllocError> {
         let mut first = Line::new(self.alloc);
+        let number = row.number;
         first.put(0, format!(in self.alloc; "{number:>4}")?.as_str())?;
         match row.arrows.first() {
             Some(arrow) if is_sent(row, arrow) => {
                 self.put_arrow(&mut first, arrow, row.words.as_str(), false)?;
             }
-            _ => self.put_call(&mut first, number, row)?,
+            _ => self.put_call(&mut first, row)?,
         }
         for cut in &row.cuts {
-            let place = self.place_of(cut.thread).saturating_add(2);
-            first.put(place, cut_words(self.alloc, cut)?.as_str())?;
+            self.put_beside(&mut first, cut.thread, cut_words(self.alloc, cut)?.as_str())?;
         }
         self.end_line(out, first, row)?;
         self.push_arrows(out, row)?;
@@ -118,17 +109,13 @@ impl Page<'_> {
 
     /// Writes a call that no arrow shows: its words beside the caller's line, or at a short arrow if nobody has
     /// received what it sent.
-    fn put_call(&self, line: &mut Line, number: usize, row: &Row) -> Result<(), AllocError> {
-        let mut waits = self.outcome.waits.iter();
-        let pending = waits.find(|wait| wait.message as usize == number && !wait.is_held);
-        match pending {
+    fn put_call(&self, line: &mut Line, row: &Row) -> Result<(), AllocError> {
+        let mut waits = self.chart.waits.iter();
+        match waits.find(|wait| wait.message == row.number && !wait.is_held) {
             Some(wait) if wait.on != wait.thread => {
                 self.put_short_arrow(line, wait, row.words.as_str())
             }
-            _ => {
-                let place = self.place_of(row.thread).saturating_add(2);
-                line.put(place, row.words.as_str())
-            }
+            _ => self.put_beside(line, row.thread, row.words.as_str()),
         }
     }
 
@@ -167,9 +154,8 @@ impl Page<'_> {
         }
         let mut line = Line::new(self.alloc);
         for change in &row.changes {
-            let level = change.priority.get();
-            let place = self.place_of(change.thread).saturating_add(2);
-            line.put(place, format!(in self.alloc; "priority {level}")?.as_str())?;
+            let words = priority_words(self.alloc, change.priority)?;
+            self.put_beside(&mut line, change.thread, words.as_str())?;
         }
         self.end_line(out, line, row)
     }
@@ -184,37 +170,24 @@ impl Page<'_> {
     ) -> Result<(), AllocError> {
         let from = self.place_of(arrow.from);
         let to = self.place_of(arrow.to);
-        let tail = if before { "o" } else { shaft(arrow.what) };
+        let shaft = shaft(arrow.what);
+        let tail = if before { "o" } else { shaft };
         if from == to {
             line.put(from.saturating_add(1), "<o ")?;
             return line.put(from.saturating_add(4), words);
         }
         if from < to {
-            line.fill(
-                from.saturating_add(1),
-                to.saturating_sub(1),
-                shaft(arrow.what),
-            )?;
+            line.fill(from.saturating_add(1), to.saturating_sub(1), shaft)?;
             line.put(from.saturating_add(1), tail)?;
             line.put(to.saturating_sub(1), ">")?;
             line.put_spaced(from.saturating_add(3), words)
         } else {
-            line.fill(to.saturating_add(2), from, shaft(arrow.what))?;
+            line.fill(to.saturating_add(2), from, shaft)?;
             line.put(from.saturating_sub(1), tail)?;
             line.put(to.saturating_add(1), "<")?;
             let room = words.len().saturating_add(3);
             line.put_spaced(from.saturating_sub(room), words)
         }
-    }
-}
-
-/// Returns the sign that draws a thread's line in a state.
-fn state_sign(state: ThreadState) -> &'static str {
-    match state {
-        ThreadState::Ready => "|",
-        ThreadState::SendBlocked(_) => "S",
-        ThreadState::ReceiveBlocked(_) => "R",
-        ThreadState::ReplyBlocked(_) => "P",
     }
 }
 

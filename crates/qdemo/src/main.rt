@@ -6,9 +6,9 @@ mod serving;
 
 use clap::Error;
 use clap::error::ErrorKind;
-use qcommand::command::{Action, ChartRun, ExploreRun, ScriptRun, action_of};
 use qtool::charts::run_chart;
 use qtool::check::run_check;
+use qtool::command::{Action, ChartRun, ExploreRun, ScriptRun, action_of};
 use qtool::designs::run_explore;
 use qtool::ending::{end_failed, end_unwritten, end_with};
 use qtool::play::run_play;
@@ -27,7 +27,7 @@ fn main(rt: HostRuntime) -> ExitCode {
     let Ok(words) = words else {
         return end_failed(&rt, "out of memory");
     };
-    match action_of(rt.alloc(), words.as_slice()) {
+    let done = match action_of(rt.alloc(), words.as_slice()) {
         Ok(Action::Script(run)) => {
             let terminal = rt.stderr().is_terminal();
             run_script(&rt, &ScriptRun { terminal, ..run })
@@ -42,8 +42,11 @@ fn main(rt: HostRuntime) -> ExitCode {
             let terminal = rt.stderr().is_terminal();
             run_explore(&rt, &ExploreRun { terminal, ..run })
         }
-        Ok(Action::Serve(run)) => run_serve(&rt, run, rt.stderr().is_terminal()),
-        Err(error) => end_without_action(&rt, &error),
+        Ok(Action::Serve(run)) => Ok(run_serve(&rt, run, rt.stderr().is_terminal())),
+        Err(error) => Err(end_without_action(&rt, &error)),
+    };
+    match done {
+        Ok(code) | Err(code) => code,
     }
 }
 

@@ -3,12 +3,12 @@
 ghost use Rattle.qserve.specs.Fit.{Fit};
 
 use crate::files::{RecordFiles, Why};
-use qcommand::command::ServeRun;
 use qscript::watched::Watched;
 use qserve::fault::ServeFault;
 use qserve::recording::{Forget, Store};
 use qserve::serve::serve;
 use qserve::settings::Settings;
+use qtool::command::ServeRun;
 use qtool::ending::{end_failed, end_quietly, end_unwritten, end_with};
 use qtool::streams::Outlet;
 use qtool::summary::{json_of, with_units};

@@ -1,4 +1,4 @@
-//! The lines of a design, as a table.
+//! Unproved: words and layout. The lines of a design, as a table.
 
 use std::alloc::{AllocError, Global};
 

@@ -1,21 +1,19 @@
-//! Finds all faults of a text, and its oddities.
+//! Unproved: words and layout. Finds all faults of a text, and its oddities.
 
-use crate::explanation::{Explanation, explain_line, explanation_of};
+use crate::explanation::{Explanation, explain_line, explanation_of, form_of};
 use crate::hints::{buffer_hint, is_utf_16};
-use qbase::ids::ThreadNo;
-use qforms::grammar::{Operand, call_form};
-use qforms::parts::{Lines, Word, words};
 use qreading::fault::{LineFault, ParseError};
-use qreading::reading::line::{Line, line_said};
+use qreading::grammar::Operand;
+use qreading::parts::{Lines, Word, words};
+use qreading::reading::line::Line;
 use qreading::reading::number::small;
+use qreading::reading::script::line_behind;
 use qreading::reading::words::next_word;
+use qtables::member::Member;
 use std::alloc::{AllocError, Global};
 
 /// The most faults, or oddities, that are reported.
 pub const MOST_FAULTS: usize = 20;
-
-/// The most threads of a script.
-const MOST_THREADS: usize = 64;
 
 /// A remark on a line: its number, counted from 1, its fault if it has one, and the explanation.
 #[derive(Drop)]
@@ -28,7 +26,8 @@ pub struct Remark {
 /// What the lines so far say that the lines behind them depend on.
 #[derive(Drop)]
 struct Reader {
-    threads: Vec<u8>,
+    roster: Vec<Member>,
+    /// The threads without a line that were reported, or whose lines are faulty.
     strangers: Vec<u8>,
     has_calls: bool,
 }
@@ -38,7 +37,7 @@ struct Reader {
 /// recognized.
 pub fn faults(alloc: Global, text: &[u8]) -> Result<Vec<Remark>, AllocError> {
     let mut reader = Reader {
-        threads: Vec::new(alloc),
+        roster: Vec::new(alloc),
         strangers: Vec::new(alloc),
         has_calls: false,
     };
@@ -64,61 +63,38 @@ pub fn faults(alloc: Global, text: &[u8]) -> Result<Vec<Remark>, AllocError> {
 impl Reader {
     /// Returns the fault of the next line.
     fn fault_of(&mut self, alloc: Global, line: &[u8]) -> Result<Option<LineFault>, AllocError> {
-        let said = line_said(alloc, self.has_calls, line);
+        let said = line_behind(alloc, self.roster.as_slice(), self.has_calls, line);
         match &said {
-            Ok(Line::Blank) => Ok(None),
-            Ok(Line::Roster(member)) => self.enroll(member.thread),
-            Ok(Line::Call(thread, _)) => self.call(*thread),
-            Err(ParseError::Memory) => Err(AllocError),
-            Err(ParseError::Fault(fault)) => {
-                self.guess(line)?;
-                Ok(Some(*fault))
-            }
+            Ok(Line::Blank) => {}
+            Ok(Line::Roster(member)) => self.roster.push(*member)?,
+            Ok(Line::Call(..)) => self.has_calls = true,
+            Err(ParseError::Memory) => return Err(AllocError),
+            Err(ParseError::Fault(fault)) => return self.untold(line, *fault),
         }
-    }
-
-    /// Adds a thread to the roster; returns the fault if it can't be added.
-    fn enroll(&mut self, thread: ThreadNo) -> Result<Option<LineFault>, AllocError> {
-        if self.threads.contains(&thread.0) {
-            return Ok(Some(LineFault::DoubleThread));
-        }
-        if self.threads.len() >= MOST_THREADS {
-            return Ok(Some(LineFault::TooManyThreads));
-        }
-        self.threads.push(thread.0)?;
         Ok(None)
     }
 
-    /// Checks that a call's thread is in the roster. A thread that isn't is reported once.
-    fn call(&mut self, thread: ThreadNo) -> Result<Option<LineFault>, AllocError> {
-        self.has_calls = true;
-        if self.threads.contains(&thread.0) || self.strangers.contains(&thread.0) {
-            return Ok(None);
-        }
-        self.strangers.push(thread.0)?;
-        Ok(Some(LineFault::UnknownThread))
-    }
-
-    /// Guesses what a faulty line was meant to be: a call if it begins with a number, else the roster line of the
-    /// thread that it names.
-    fn guess(&mut self, line: &[u8]) -> Result<(), AllocError> {
+    /// Returns the fault of a line unless it follows from one above. Guesses what the line was meant to be: a call if it
+    /// begins with a number, else the roster line of the thread that it names.
+    fn untold(&mut self, line: &[u8], fault: LineFault) -> Result<Option<LineFault>, AllocError> {
         let Some((first, rest)) = next_word(line) else {
-            return Ok(());
+            return Ok(Some(fault));
         };
-        if small(first).is_ok() {
+        if let Ok(thread) = small(first) {
             self.has_calls = true;
-            return Ok(());
-        }
-        let Some((second, _)) = next_word(rest) else {
-            return Ok(());
-        };
-        match small(second) {
-            Ok(thread) if !self.threads.contains(&thread) => {
+            if fault == LineFault::UnknownThread {
+                if self.strangers.contains(&thread) {
+                    return Ok(None);
+                }
                 self.strangers.push(thread)?;
-                Ok(())
             }
-            _ => Ok(()),
+        } else if let Some((second, _)) = next_word(rest)
+            && let Ok(thread) = small(second)
+            && fault != LineFault::TooManyThreads
+        {
+            self.strangers.push(thread)?;
         }
+        Ok(Some(fault))
     }
 }
 
@@ -132,8 +108,7 @@ pub fn oddities(alloc: Global, text: &[u8]) -> Result<Vec<Remark>, AllocError> {
         if remarks.len() >= MOST_FAULTS {
             break;
         }
-        let words = words(alloc, line)?;
-        if let Some(explanation) = oddity(alloc, line, words.as_slice())? {
+        if let Some(explanation) = oddity(alloc, line)? {
             remarks.push(Remark {
                 line: number,
                 fault: None,
@@ -145,12 +120,9 @@ pub fn oddities(alloc: Global, text: &[u8]) -> Result<Vec<Remark>, AllocError> {
 }
 
 /// Returns the oddity of a line.
-fn oddity(
-    alloc: Global,
-    line: &[u8],
-    words: &[Word<'_>],
-) -> Result<Option<Explanation>, AllocError> {
-    let Some(word) = buffer_word(words) else {
+fn oddity(alloc: Global, line: &[u8]) -> Result<Option<Explanation>, AllocError> {
+    let words = words(alloc, line)?;
+    let Some(word) = buffer_word(words.as_slice()) else {
         return Ok(None);
     };
     match buffer_hint(alloc, word.bytes)? {
@@ -161,11 +133,10 @@ fn oddity(
 
 /// Returns the last word of a call's line, if it is a buffer.
 fn buffer_word<'a>(words: &[Word<'a>]) -> Option<Word<'a>> {
-    let first = words.first()?;
-    if first.bytes.starts_with(b"#") {
+    if words.first()?.bytes.starts_with(b"#") {
         return None;
     }
-    let form = call_form(words.get(1)?.bytes)?;
+    let (form, _) = form_of(words)?;
     match form.operands.last() {
         Some(Operand::Buffer | Operand::ReplyBuffer) => words.last().copied(),
         _ => None,

@@ -1,12 +1,13 @@
-//! Recognizes what is often written in a script by mistake, and says what to write in its place.
+//! Unproved: words and layout. Recognizes what is often written in a script by mistake, and says
+//! what to write in its place.
 
-use qforms::grammar::{CALLS, Form, Operand};
+use qreading::grammar::{CALLS, Form, Operand};
 use qreading::reading::call::is;
 use std::alloc::{AllocError, Global};
 use std::str;
 
-/// Returns the form of the call that QNX has under this name, in any case, with or without underscores.
-pub fn qnx_form(alloc: Global, word: &[u8]) -> Result<Option<Form>, AllocError> {
+/// Returns the form of the call that has this name, here or in QNX: there in any case, with or without underscores.
+pub fn form_meant(alloc: Global, word: &[u8]) -> Result<Option<Form>, AllocError> {
     let mut plain = Vec::new(alloc);
     for byte in word {
         if *byte != b'_' {
@@ -14,7 +15,8 @@ pub fn qnx_form(alloc: Global, word: &[u8]) -> Result<Option<Form>, AllocError> 
         }
     }
     for form in &CALLS {
-        if form.qnx_names.iter().any(|name| is(plain.as_slice(), name)) {
+        let mut names = form.qnx_names.iter();
+        if is(word, form.word) || names.any(|name| is(plain.as_slice(), name)) {
             return Ok(Some(*form));
         }
     }
@@ -96,21 +98,16 @@ fn flag_number(word: &[u8]) -> Option<u8> {
     }
 }
 
-/// Returns the sum of the flags of a word, with `|` or `+` between, or `None` if one of them isn't known.
-fn flag_sum(word: &[u8]) -> Option<u8> {
+/// Adds the sum of flags that are given by their names, with `|` or `+` between, if each of them is known.
+fn push_flag_hint(wanted: &mut String, word: &[u8]) -> Result<(), AllocError> {
     let mut sum = 0u8;
     for part in word.split(|byte| *byte == b'|' || *byte == b'+') {
-        sum |= flag_number(part)?;
+        match flag_number(part) {
+            Some(flag) => sum |= flag,
+            None => return Ok(()),
+        }
     }
-    Some(sum)
-}
-
-/// Adds the number of flags that are given by their names.
-fn push_flag_hint(wanted: &mut String, word: &[u8]) -> Result<(), AllocError> {
-    match flag_sum(word) {
-        Some(sum) => write!(wanted, ": write {sum}"),
-        None => Ok(()),
-    }
+    write!(wanted, ": write {sum}")
 }
 
 /// Returns whether a word has only decimal digits.
@@ -157,16 +154,13 @@ fn push_equal_hint(wanted: &mut String, word: &[u8]) -> Result<(), AllocError> {
 /// The most letters of a word that are rewritten as bytes.
 const MOST_LETTERS: usize = 16;
 
-/// Returns whether a word has only letters, at least one of which isn't a hexadecimal digit.
-fn is_text(word: &[u8]) -> bool {
-    word.len() <= MOST_LETTERS
-        && word.iter().all(|byte| byte.is_ascii_alphabetic())
-        && !word.iter().all(|byte| byte.is_ascii_hexdigit())
-}
-
-/// Adds the bytes of a word of letters, in the form that a script has.
+/// Adds the bytes of a word of letters, at least one of which isn't a hexadecimal digit, in the form that a script has.
 fn push_text_hint(wanted: &mut String, word: &[u8]) -> Result<(), AllocError> {
-    if !is_text(word) {
+    let is_long = word.len() > MOST_LETTERS;
+    if is_long || !word.iter().all(|byte| byte.is_ascii_alphabetic()) {
+        return Ok(());
+    }
+    if word.iter().all(|byte| byte.is_ascii_hexdigit()) {
         return Ok(());
     }
     wanted.push_str("; these letters are ")?;

@@ -1,9 +1,8 @@
-//! Keeps what each past call of a run did.
+//! Unproved: words and layout. Keeps what each past call of a run did.
 
-use qbase::ids::{ProcessNo, ThreadNo};
+use qbase::ids::ThreadNo;
 use qmodel::call::{Call, Completion, Mark};
 use qmodel::kind::CallKind;
-use qtables::member::Member;
 use std::alloc::{AllocError, Global};
 
 /// The end of a call.
@@ -13,8 +12,10 @@ pub enum End {
     Open,
     /// It did what it says.
     Accepted,
-    /// It was refused, or ended by force.
-    Failed,
+    /// It was refused: it failed in its own event.
+    Refused,
+    /// Another call ended it by force.
+    Cut,
     /// It created a channel.
     Channel,
     /// It attached a connection.
@@ -28,11 +29,12 @@ pub enum End {
 }
 
 impl End {
-    /// Returns what is kept of a mark.
-    fn of(mark: Mark) -> End {
+    /// Returns what is kept of a mark. `is_own` says whether the call ended in its own event.
+    fn of(mark: Mark, is_own: bool) -> End {
         match mark {
             Mark::Ok => End::Accepted,
-            Mark::Failed(_) => End::Failed,
+            Mark::Failed(_) if is_own => End::Refused,
+            Mark::Failed(_) => End::Cut,
             Mark::Channel(_) => End::Channel,
             Mark::Connection(_) => End::Connection,
             Mark::Message { rcvid, .. } => End::Message(rcvid.0),
@@ -66,83 +68,33 @@ impl Past {
             ended_by: 0,
         }
     }
-
-    /// Returns whether it was refused: it failed in its own event, which has this number.
-    pub fn is_refused(&self, number: u64) -> bool {
-        self.end == End::Failed && self.ended_by == number
-    }
-
-    /// Returns whether it did what it says.
-    pub fn is_accepted(&self) -> bool {
-        self.end == End::Accepted
-    }
 }
 
-/// The threads of a run, its calls so far in order, and the channels, connections and messages that exist. Calls are
-/// numbered from 1.
+/// The calls of a run so far, in order. Calls are numbered from 1.
 #[derive(Drop)]
 pub struct History {
-    members: Vec<Member>,
     calls: Vec<Past>,
-    channels: Vec<u64>,
-    connections: Vec<u64>,
-    held: Vec<u64>,
 }
 
 impl History {
-    /// Returns the history of these threads before any call.
-    pub fn new(alloc: Global, members: &[Member]) -> Result<History, AllocError> {
-        Ok(History {
-            members: Vec::from_slice(alloc, members)?,
+    /// Returns the history before any call.
+    pub fn new(alloc: Global) -> History {
+        History {
             calls: Vec::new(alloc),
-            channels: Vec::new(alloc),
-            connections: Vec::new(alloc),
-            held: Vec::new(alloc),
-        })
+        }
     }
 
     /// Adds the next call and the endings of its event.
     pub fn add(&mut self, past: Past, endings: &[Completion]) -> Result<(), AllocError> {
-        if self.calls.push(past).is_err() {
-            return Err(AllocError);
-        }
+        self.calls.push(past)?;
         let number = self.made();
         for ending in endings {
-            self.end(number, ending)?;
+            if let Some(past) = self.calls.get_mut(ending.call.saturating_sub(1) as usize) {
+                past.end = End::of(ending.mark, ending.call == number);
+                past.ended_by = number;
+            }
         }
         Ok(())
-    }
-
-    /// Sets the end of a call that ended in the event of this number.
-    fn end(&mut self, number: u64, ending: &Completion) -> Result<(), AllocError> {
-        let place = ending.call.saturating_sub(1) as usize;
-        if let Some(past) = self.calls.get_mut(place) {
-            past.end = End::of(ending.mark);
-            past.ended_by = number;
-        }
-        self.held.retain(|message| *message != ending.call);
-        match ending.mark {
-            Mark::Channel(chid) => self.channels.push(chid.0)?,
-            Mark::Connection(coid) => self.connections.push(coid.0)?,
-            Mark::Message { rcvid, .. } => self.held.push(rcvid.0)?,
-            Mark::Ok => self.take_away(ending.call),
-            _ => {}
-        }
-        Ok(())
-    }
-
-    /// Removes what the accepted call of this number destroys or detaches.
-    fn take_away(&mut self, number: u64) {
-        let Some(past) = self.call(number) else {
-            return;
-        };
-        match past.kind {
-            CallKind::ChannelDestroy => self.channels.retain(|channel| *channel != past.operand),
-            CallKind::ConnectDetach => self
-                .connections
-                .retain(|connection| *connection != past.operand),
-            _ => {}
-        }
     }
 
     /// Returns the number of calls made, which is also the number of the last.
@@ -155,26 +107,6 @@ impl History {
         self.calls.as_slice()
     }
 
-    /// Returns the threads.
-    pub fn members(&self) -> &[Member] {
-        self.members.as_slice()
-    }
-
-    /// Returns the open channels, in rising number.
-    pub fn channels(&self) -> &[u64] {
-        self.channels.as_slice()
-    }
-
-    /// Returns the live connections, in rising number.
-    pub fn connections(&self) -> &[u64] {
-        self.connections.as_slice()
-    }
-
-    /// Returns the held messages, in the order of their receipts.
-    pub fn held(&self) -> &[u64] {
-        self.held.as_slice()
-    }
-
     /// Returns the call with this number, or `None` if it isn't made yet.
     pub fn call(&self, number: u64) -> Option<Past> {
         if number == 0 {
@@ -183,16 +115,19 @@ impl History {
         self.calls.get((number - 1) as usize).copied()
     }
 
-    /// Returns the process of a thread, or `None` if the thread isn't in the roster.
-    pub fn process_of(&self, thread: ThreadNo) -> Option<ProcessNo> {
-        let member = self.members.iter().find(|member| member.thread == thread)?;
-        Some(member.process)
+    /// Returns the number of the call of this kind that did what it says to what this operand names.
+    pub fn accepted(&self, kind: CallKind, operand: u64) -> Option<u64> {
+        let is_it = |past: &Past| past.kind == kind
+            && past.operand == operand
+            && past.end == End::Accepted;
+        let place = self.calls.iter().position(is_it)?;
+        Some((place as u64).saturating_add(1))
     }
 
-    /// Returns the number of the call that a thread is blocked in.
-    pub fn open_call(&self, thread: ThreadNo) -> Option<u64> {
-        let is_open = |past: &Past| past.thread == thread && past.end == End::Open;
-        let place = self.calls.iter().position(is_open)?;
-        Some((place as u64).saturating_add(1))
+    /// Returns the thread that received a message.
+    pub fn receiver_of(&self, message: u64) -> Option<ThreadNo> {
+        let mut calls = self.calls.iter();
+        let receipt = calls.find(|past| past.end == End::Message(message))?;
+        Some(receipt.thread)
     }
 }

@@ -1,13 +1,15 @@
-//! Explains the faults of scripts, why calls fail, and who is blocked on whom.
+//! Unproved: words and layout. Explains the faults of scripts, why calls fail, and who is blocked on whom.
 #![tactic(auto)]
 
 pub mod excerpt;
+pub mod explained_run;
 pub mod explanation;
 pub mod faults;
-pub mod found;
 pub mod hints;
 pub mod history;
-pub mod refusal;
+pub mod report;
+pub mod session;
+pub mod states;
 pub mod waiting;
 pub mod why;
 

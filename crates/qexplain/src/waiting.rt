@@ -1,9 +1,10 @@
-//! Finds who is blocked on whom, and the circles in which threads wait.
+//! Unproved: words and layout. Finds who is blocked on whom, and the circles in which threads wait.
 
 use crate::history::History;
 use qbase::ids::{ProcessNo, ThreadNo};
-use qmodel::kind::CallKind;
-use qtables::member::Member;
+use qbase::state::ThreadState;
+use qkernel::kernel::Kernel;
+use qkernel::open_call::Blocked;
 use std::alloc::{AllocError, Global};
 use std::fmt;
 
@@ -29,28 +30,15 @@ impl fmt::Display for Wait {
         let thread = self.thread.0;
         let on = self.on.0;
         let message = self.message;
-        if self.is_held {
-            return write!(
-                f,
-                "{thread} waits for {on}: message {message} isn't answered"
-            );
-        }
-        let others = self.others();
+        let (others, lack) = match (self.is_held, self.has_others) {
+            (true, _) => ("", "answered"),
+            (false, true) => (" or another thread of its process", "received"),
+            (false, false) => ("", "received"),
+        };
         write!(
             f,
-            "{thread} waits for {on}{others}: message {message} isn't received"
+            "{thread} waits for {on}{others}: message {message} isn't {lack}"
         )
-    }
-}
-
-impl Wait {
-    /// Returns the words for the other threads that may receive the message.
-    fn others(&self) -> &'static str {
-        if self.has_others {
-            " or another thread of its process"
-        } else {
-            ""
-        }
     }
 }
 
@@ -82,96 +70,55 @@ impl Deadlock {
     }
 }
 
-/// Returns what a thread is blocked in, which is the call with this number, in words.
-pub fn wait_words(alloc: Global, history: &History, number: u64) -> Result<String, AllocError> {
-    let Some(past) = history.call(number) else {
-        return String::from_str(alloc, "its thread is blocked");
-    };
-    let thread = past.thread.0;
-    if past.kind != CallKind::Send {
-        let channel = past.operand;
-        return format!(in alloc;
-            "thread {thread} is blocked in call {number}, and waits to receive on channel {channel}"
-        );
-    }
-    let lack = if history.held().contains(&number) {
-        "answered"
-    } else {
-        "received"
-    };
-    format!(in alloc; "thread {thread} is blocked in call {number} until its message is {lack}")
-}
-
-/// Returns the threads whose messages aren't answered, in rising number.
-pub fn waits(alloc: Global, history: &History) -> Result<Vec<Wait>, AllocError> {
+/// Returns the threads whose messages aren't answered, in rising number. The kernel and the history are those after the
+/// same calls.
+pub fn waits(alloc: Global, kernel: &Kernel, history: &History) -> Result<Vec<Wait>, AllocError> {
     let mut waits = Vec::new(alloc);
-    for member in history.members() {
-        if let Some(wait) = wait_of(history, member.thread) {
+    for blocked in &kernel.blocked(alloc)? {
+        if let Some(wait) = wait_of(kernel, history, blocked) {
             waits.push(wait)?;
         }
     }
-    waits.sort_by_key(|wait| wait.thread.0)?;
     Ok(waits)
 }
 
-/// Returns the wait of a thread, if it is blocked in a send.
-fn wait_of(history: &History, thread: ThreadNo) -> Option<Wait> {
-    let message = history.open_call(thread)?;
-    let Some(send) = history.call(message) else {
-        return None;
+/// Returns the wait of a blocked thread, if it is blocked in a send.
+fn wait_of(kernel: &Kernel, history: &History, blocked: &Blocked) -> Option<Wait> {
+    let (chid, is_held) = match blocked.state {
+        ThreadState::SendBlocked(chid) => (chid, false),
+        ThreadState::ReplyBlocked(chid) => (chid, true),
+        _ => return None,
     };
-    if send.kind != CallKind::Send {
-        return None;
-    }
-    let server = history.maker_of(history.channel_of(send.operand))?;
-    let receiver = receiver_of(history, message);
-    let on = match receiver {
-        Some(receiver) => receiver,
-        None => first_of(history.members(), server)?,
-    };
+    let server = kernel.channels().get(chid)?.owner;
+    let mut threads = kernel.threads().iter();
+    let first = threads.find(|thread| thread.member.process == server)?;
+    let on = history.receiver_of(blocked.number);
     Some(Wait {
-        thread,
-        message,
+        thread: blocked.thread,
+        message: blocked.number,
         server,
-        on,
-        is_held: receiver.is_some(),
-        has_others: count_of(history.members(), server) > 1,
+        on: on.unwrap_or(first.member.thread),
+        is_held,
+        has_others: threads.any(|thread| thread.member.process == server),
     })
 }
 
-/// Returns the number of threads of a process.
-fn count_of(members: &[Member], process: ProcessNo) -> usize {
-    let of = members.iter().filter(|member| member.process == process);
-    of.count()
-}
-
-/// Returns the thread that received a message.
-fn receiver_of(history: &History, message: u64) -> Option<ThreadNo> {
-    let mut calls = history.calls().iter();
-    let receipt = calls.find(|past| past.received() == Some(message))?;
-    Some(receipt.thread)
-}
-
-/// Returns the thread of least number in a process.
-fn first_of(members: &[Member], process: ProcessNo) -> Option<ThreadNo> {
-    let of = members.iter().filter(|member| member.process == process);
-    let first = of.map(|member| member.thread.0).min()?;
-    Some(ThreadNo(first))
-}
-
 /// Returns whether each thread of a process is among these waits.
-fn is_blocked(members: &[Member], waits: &[Wait], process: ProcessNo) -> bool {
-    let mut of = members.iter().filter(|member| member.process == process);
-    of.all(|member| waits.iter().any(|wait| wait.thread == member.thread))
+fn is_blocked(kernel: &Kernel, waits: &[Wait], process: ProcessNo) -> bool {
+    let mut of = kernel
+        .threads()
+        .iter()
+        .filter(|thread| thread.member.process == process);
+    of.all(|thread| waits.iter().any(|wait| wait.thread == thread.member.thread))
 }
 
 /// Returns the waits that nobody can end any more: each is for a process whose threads are all in such a wait.
-fn hopeless(alloc: Global, history: &History, waits: &[Wait]) -> Result<Vec<Wait>, AllocError> {
+fn hopeless(alloc: Global, kernel: &Kernel, waits: &[Wait]) -> Result<Vec<Wait>, AllocError> {
     let mut left = Vec::from_slice(alloc, waits)?;
     for _ in 0..waits.len() {
         let mut next = Vec::new(alloc);
         for wait in &left {
-            if is_blocked(history.members(), left.as_slice(), wait.server) {
+            if is_blocked(kernel, left.as_slice(), wait.server) {
                 next.push(*wait)?;
             }
         }
@@ -201,10 +148,10 @@ fn circle_from(alloc: Global, waits: &[Wait], first: Wait) -> Result<Option<Dead
 /// if a process has several threads.
 pub fn deadlocks(
     alloc: Global,
-    history: &History,
+    kernel: &Kernel,
     waits: &[Wait],
 ) -> Result<Vec<Deadlock>, AllocError> {
-    let hopeless = hopeless(alloc, history, waits)?;
+    let hopeless = hopeless(alloc, kernel, waits)?;
     let mut deadlocks = Vec::new(alloc);
     for wait in &hopeless {
         if let Some(deadlock) = circle_from(alloc, hopeless.as_slice(), *wait)? {

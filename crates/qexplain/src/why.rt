@@ -1,72 +1,61 @@
-//! Says in words why a call failed.
+//! Unproved: words and layout. Says in words why a call failed.
 
-mod names;
 mod rules;
 
 use crate::history::{History, Past};
 use qbase::errno::{Errno, word};
+use qkernel::kernel::Kernel;
 use qmodel::call::{Completion, Mark};
 use qmodel::kind::CallKind;
 use rules::rule_words;
 use std::alloc::{AllocError, Global};
 use std::fmt;
 
-/// A call that failed: its number, its error, and the reason.
+/// A call that failed, with its error and the reason in words.
 #[derive(Drop)]
 pub struct Refusal {
     /// The number of the call.
     pub number: u64,
-    head: String,
-    why: String,
+    text: String,
 }
 
 /// `NUMBER CALL OPERAND: fail ERROR: WHY`
 impl fmt::Display for Refusal {
     fn fmt<W: fmt::Write>(&self, f: &mut fmt::Formatter<W>) -> fmt::Result {
-        let head = &self.head;
-        let why = &self.why;
-        write!(f, "{head}: {why}")
+        let text = &self.text;
+        write!(f, "{text}")
     }
 }
 
-/// Returns the failures among the endings of the next call, each with its reason, in the order of the endings. The
-/// history is the one before the call.
+/// Returns the failures among the endings of the latest call, each with its reason, in the order of the endings. The
+/// kernel and the history are those after the call.
 pub fn refusals(
     alloc: Global,
+    kernel: &Kernel,
     history: &History,
-    past: &Past,
     endings: &[Completion],
 ) -> Result<Vec<Refusal>, AllocError> {
     let mut refusals = Vec::new(alloc);
+    let made = history.made();
+    let Some(latest) = history.call(made) else {
+        return Ok(refusals);
+    };
     for ending in endings {
-        if let Mark::Failed(errno) = ending.mark {
-            let refusal = refusal_of(alloc, history, past, ending.call, errno)?;
-            refusals.push(refusal)?;
+        let number = ending.call;
+        if let Mark::Failed(errno) = ending.mark
+            && let Some(past) = history.call(number)
+        {
+            let head = head_words(alloc, number, &past, errno)?;
+            let why = if number == made {
+                rule_words(alloc, kernel, history, latest, errno)?
+            } else {
+                cut_words(alloc, made, &latest)?
+            };
+            let text = format!(in alloc; "{head}: {why}")?;
+            refusals.push(Refusal { number, text })?;
         }
     }
     Ok(refusals)
-}
-
-/// Returns the failure of the call with this number in the event of the next call, with its reason.
-fn refusal_of(
-    alloc: Global,
-    history: &History,
-    past: &Past,
-    number: u64,
-    errno: Errno,
-) -> Result<Refusal, AllocError> {
-    match history.call(number) {
-        Some(cut) => Ok(Refusal {
-            number,
-            head: head_words(alloc, number, &cut, errno)?,
-            why: cut_words(alloc, history.made().saturating_add(1), past)?,
-        }),
-        None => Ok(Refusal {
-            number,
-            head: head_words(alloc, number, past, errno)?,
-            why: rule_words(alloc, history, past, history.reason(past, errno))?,
-        }),
-    }
 }
 
 /// `NUMBER CALL OPERAND: fail ERROR`

@@ -4,4 +4,4 @@ pub mod EndingLaws
 pub mod PendingLaws
 pub mod UnblockLaws
 pub mod PlaceLaws
-pub mod LimitLaws
+pub mod IdLaws

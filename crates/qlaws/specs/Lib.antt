@@ -2,4 +2,4 @@ pub mod Lawful
 pub mod OpenCalls
 pub mod Pending
 pub mod Endings
-pub mod Limits
+pub mod Ids

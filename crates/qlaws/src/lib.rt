@@ -4,6 +4,6 @@
 #![tactic(auto)]
 
 pub mod endings;
-pub mod limits;
+pub mod ids;
 pub mod open_calls;
 pub mod pending;

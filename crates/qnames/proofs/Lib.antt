@@ -1,3 +1,4 @@
 pub mod Places
 pub mod Going
 pub mod Replaced
+pub mod Labels

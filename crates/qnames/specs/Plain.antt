@@ -5,7 +5,7 @@ use Rattle.std.specs.List.{flat_map}
 use Rattle.std.specs.Option.{option_or}
 use Rattle.hex.specs.Hex.{encode_lower}
 use Rattle.qnames.specs.declared.line.Kind.{Kind}
-use Rattle.qnames.specs.declared.line.Place.{Place}
+use Rattle.qreading.specs.declared.place.Place.{Place}
 use Rattle.qnames.specs.declared.line.Definition.{Definition}
 use Rattle.qnames.specs.declared.line.Mention.{Mention}
 use Rattle.qnames.specs.declared.line.Operand.{Operand}

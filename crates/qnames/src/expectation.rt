@@ -1,8 +1,10 @@
 //! What a script with names expects of its run.
 
-use crate::line::{Mention, Operand, Place};
-use crate::word::Word;
+use crate::line::{Mention, Operand};
 use qbase::bytes::Bytes;
+use qmodel::kind::CallKind;
+use qreading::place::Place;
+use qreading::word::Word;
 
 /// The part of a script that is read.
 #[derive(Clone, Copy, PartialEq, Eq)]
@@ -13,18 +15,20 @@ pub enum Extent {
     Front,
 }
 
-/// A pattern of a printed word.
+/// A pattern of a part of a completion, in the order in which a trace prints the parts.
 #[derive(Drop)]
 pub enum Pattern {
-    /// This very word.
-    Is(Word),
+    /// This word.
+    Word(&'static str),
+    /// This number.
+    Number(i128),
     /// The number that a name stands for.
     Named(Mention),
     /// The number of the process with this name.
     Process(Word),
-    /// Hexadecimal digits that begin with the digits of these bytes.
+    /// A buffer that begins with these bytes.
     Front(Bytes),
-    /// Any word.
+    /// Anything.
     Any,
 }
 
@@ -33,8 +37,8 @@ pub enum Pattern {
 pub enum Ending {
     /// It doesn't end in its own event.
     Blocked,
-    /// Words that begin with these patterns.
-    Words(Vec<Pattern>),
+    /// A completion whose first parts are these.
+    Parts(Vec<Pattern>),
 }
 
 /// The expected end of a call, as a line says it.
@@ -58,24 +62,13 @@ pub struct Follower {
 /// The expectations of the line of a call.
 #[derive(Drop)]
 pub struct CallCheck {
-    /// The word that names the call.
-    pub verb: Word,
+    pub kind: CallKind,
+    /// The place of the word that names the call.
     pub place: Place,
     /// The expected end of this call, if the line says it.
     pub own: Option<Expectation>,
     /// The expected ends of other calls that this call ends.
     pub followers: Vec<Follower>,
-}
-
-/// The state of a thread.
-#[derive(Clone, Copy, PartialEq, Eq)]
-pub enum Activity {
-    Ready,
-    Send,
-    Receive,
-    Reply,
-    /// Any of the three blocked states.
-    Blocked,
 }
 
 /// A line that says the state of a thread.
@@ -84,7 +77,8 @@ pub struct StateCheck {
     /// The number of calls above it.
     pub calls: u64,
     pub thread: Operand,
-    pub activity: Activity,
+    /// The name of the state, or `blocked` for any of the three blocked ones.
+    pub state: &'static str,
     /// The channel that the thread is blocked on, if the line says so.
     pub channel: Option<Operand>,
     /// The line from its second word on, as it is written.

@@ -1,9 +1,5 @@
 //! Compares a run with what its script expects.
 
 pub mod check;
-pub mod facts;
-pub mod matching;
+pub mod completion;
 pub mod names;
-pub mod states;
-pub mod told;
-pub mod trace;

@@ -1,7 +1,8 @@
 //! What a name stands for once its line is read, and the faults of names.
 
-use crate::line::{Kind, Place};
-use crate::word::Word;
+use crate::line::Kind;
+use qreading::place::Place;
+use qreading::word::Word;
 
 /// A name and what it stands for.
 #[derive(Drop)]

@@ -1,30 +1,33 @@
 //! Reads and translates a script with names.
 
-use crate::expectation::{CallCheck, Extent, StateCheck};
-use crate::expecting::check::{Run, check_call, check_state};
-use crate::expecting::facts::{Fact, facts};
+use crate::expectation::Extent;
+use crate::expecting::check::Check;
 use crate::expecting::names::NameCheck;
-use crate::expecting::trace::Endings;
-use crate::fault::Fault;
 use crate::label::NameFault;
-use crate::line::{CallLine, Line, Operand, Place, Process};
-use crate::reading::script::{Lined, lines_in};
+use crate::line::{CallLine, Line, Operand, Process};
+use crate::reading::script::{Lined, lines_behind};
 use crate::scope::Scope;
 use crate::translation::{Refusal, translate};
-use crate::word::Word;
 use crate::wording::{Context, Usage, Use};
-use qreading::MOST_TEXT;
 use qreading::fault::{LineFault, ScriptFault};
+use qreading::place::{Fault, Place};
+use qreading::word::Word;
+use qreading::{MOST_TEXT, Script};
 use std::alloc::{AllocError, Global};
 
 /// A script with names whose plain script can run.
 #[derive(Drop)]
 pub struct Named {
-    text: String,
-    scope: Scope,
-    calls: Vec<CallCheck>,
-    states: Vec<StateCheck>,
-    facts: Vec<Fact>,
+    /// The plain script.
+    pub text: String,
+    /// The meaning of the plain script.
+    pub script: Script,
+    /// What is expected of its run.
+    pub check: Check,
+    /// The numbers that lines of threads give for their processes, and their places.
+    pub processes: Vec<(Place, u64)>,
+    /// The number of its lines.
+    pub lines: u64,
 }
 
 /// The result of reading a script with names.
@@ -46,253 +49,138 @@ fn single(alloc: Global, place: Place, what: String) -> Result<Vec<Fault>, Alloc
     Ok(faults)
 }
 
+/// Returns the use of a name by an operand, if the name stands at this place.
+fn use_by<'a>(operand: &'a Operand, usage: Usage<'a>, place: Place) -> Option<Use<'a>> {
+    match operand {
+        Operand::Name(mention) if mention.place == place => Some(Use {
+            name: &mention.name,
+            usage,
+            wanted: mention.wanted,
+        }),
+        _ => None,
+    }
+}
+
 /// Returns the use of a name at a place of a call's line.
 fn use_in<'a>(call: &'a CallLine, place: Place) -> Option<Use<'a>> {
-    if let Operand::Name(mention) = &call.caller {
-        if mention.place == place {
-            return Some(Use {
-                name: &mention.name,
-                usage: Usage::Caller,
-                wanted: mention.wanted,
-            });
-        }
-    }
     for operand in &call.operands {
-        if let Operand::Name(mention) = operand {
-            if mention.place == place {
-                return Some(Use {
-                    name: &mention.name,
-                    usage: Usage::Operand(call.verb.as_str()),
-                    wanted: mention.wanted,
-                });
-            }
+        let used = use_by(operand, Usage::Operand(call.verb.as_str()), place);
+        if used.is_some() {
+            return used;
         }
     }
-    None
+    use_by(&call.caller, Usage::Caller, place)
 }
 
 /// Returns the use of a name at a place, or its definition.
 fn use_at<'a>(lines: &'a [Line], place: Place) -> Option<Use<'a>> {
     for line in lines {
-        let definition = match line {
+        let (definition, used) = match line {
             Line::Aside(_) => continue,
-            Line::Thread(thread) => &thread.definition,
-            Line::Call(call) => {
-                if let Some(used) = use_in(call, place) {
-                    return Some(used);
-                }
-                &call.definition
-            }
+            Line::Thread(thread) => (&thread.definition, None),
+            Line::Call(call) => (&call.definition, use_in(call, place)),
         };
-        if let Some(definition) = definition {
-            if definition.place == place {
+        match definition {
+            _ if used.is_some() => return used,
+            Some(definition) if definition.place == place => {
                 return Some(Use {
                     name: &definition.name,
                     usage: Usage::Caller,
                     wanted: definition.kind,
                 });
             }
+            _ => {}
         }
     }
     None
 }
 
 /// Returns the faults of the names of the lines, in words.
-fn name_faults(
-    alloc: Global,
-    lined: &Lined,
-    scope: &Scope,
+pub fn name_faults(
+    lines: &[Line],
+    context: Context<'_>,
     faults: &[NameFault],
 ) -> Result<Vec<Fault>, AllocError> {
-    let context = Context {
-        scope,
-        calls: lined.calls.as_slice(),
-    };
-    let mut told = Vec::new(alloc);
+    let mut told = Vec::new(context.alloc);
     for fault in faults {
-        if let Some(used) = use_at(lined.lines.as_slice(), fault.place) {
-            let what = context.words(alloc, used, fault.error)?;
-            told.push(Fault {
-                place: fault.place,
-                what,
-            })?;
+        let place = fault.place;
+        if let Some(used) = use_at(lines, place) {
+            let what = context.words(used, fault.error)?;
+            told.push(Fault { place, what })?;
         }
     }
     Ok(told)
 }
 
 /// Returns the faults of the names in the expectations, in words.
-fn expectation_faults(
-    alloc: Global,
-    lined: &Lined,
-    scope: &Scope,
-    extent: Extent,
-) -> Result<Vec<Fault>, AllocError> {
-    let context = Context {
-        scope,
-        calls: lined.calls.as_slice(),
-    };
-    let mut check = NameCheck::new(alloc, context, extent);
-    for call in &lined.calls {
-        check.call(call)?;
+fn expectation_faults(check: &Check, extent: Extent) -> Result<Vec<Fault>, AllocError> {
+    let mut names = NameCheck::new(check.context(), extent);
+    for call in &check.calls {
+        names.call(call)?;
     }
-    for state in &lined.states {
-        check.state(state)?;
+    for state in &check.states {
+        names.state(state)?;
     }
-    Ok(check.into_faults())
+    Ok(names.faults)
 }
 
-/// Returns the name of the process whose number a thread's line gives.
-fn shared_name<'a>(process: &Process, names: &'a [Word]) -> Option<&'a Word> {
-    match process {
-        Process::Number(number) if *number > 0 => names.get(number.saturating_sub(1) as usize),
-        _ => None,
+/// Adds the number that the line of a thread gives for its process, and its place.
+pub fn push_process_number(numbers: &mut Vec<(Place, u64)>, line: &Line) -> Result<(), AllocError> {
+    if let Line::Thread(thread) = line
+        && let Process::Number(number) = &thread.process
+    {
+        numbers.push((thread.place, *number))?;
     }
+    Ok(())
 }
 
 /// Returns the faults of the numbers of processes: a line gives a number that a named process has.
-fn process_faults(alloc: Global, lines: &[Line], scope: &Scope) -> Result<Vec<Fault>, AllocError> {
+pub fn process_faults(
+    alloc: Global,
+    numbers: &[(Place, u64)],
+    scope: &Scope,
+) -> Result<Vec<Fault>, AllocError> {
     let mut faults = Vec::new(alloc);
-    for line in lines {
-        let Line::Thread(thread) = line else {
-            continue;
-        };
-        if let Some(name) = shared_name(&thread.process, scope.process_names()) {
+    for (place, number) in numbers {
+        let at = number.wrapping_sub(1) as usize;
+        if let Some(name) = scope.process_names().get(at) {
             let what = format!(in alloc; "{name} is the process of this number: write its name")?;
-            faults.push(Fault {
-                place: thread.place,
-                what,
-            })?;
+            let place = *place;
+            faults.push(Fault { place, what })?;
         }
     }
     Ok(faults)
 }
 
 /// Returns the fault of a line of the plain script, in words.
-fn line_words(alloc: Global, fault: LineFault) -> Result<String, AllocError> {
-    match fault {
-        LineFault::LongLine => {
-            String::from_str(alloc, "the line's plain form has over 4,096 bytes")
-        }
-        LineFault::DoubleThread => String::from_str(alloc, "another thread has this number"),
-        LineFault::TooManyThreads => String::from_str(alloc, "a script has at most 64 threads"),
-        LineFault::UnknownThread => String::from_str(alloc, "no thread has this number"),
-        other => format!(in alloc; "{other}"),
-    }
+pub fn line_fault(alloc: Global, line: u64, fault: LineFault) -> Result<Vec<Fault>, AllocError> {
+    let place = Place { line, column: 1 };
+    let words = match fault {
+        LineFault::LongLine => "the line's plain form has over 4,096 bytes",
+        LineFault::DoubleThread => "another thread has this number",
+        LineFault::TooManyThreads => "a script has at most 64 threads",
+        LineFault::UnknownThread => "no thread has this number",
+        other => return single(alloc, place, format!(in alloc; "{other}")?),
+    };
+    single(alloc, place, String::from_str(alloc, words)?)
 }
 
-/// Returns the fault of the plain script, in words. Its lines are numbered like those of the script with names.
-pub fn script_faults(alloc: Global, fault: &ScriptFault) -> Result<Vec<Fault>, AllocError> {
-    match fault {
-        ScriptFault::Line { number, fault } => {
-            let place = Place {
-                line: *number,
-                column: 1,
-            };
-            single(alloc, place, line_words(alloc, *fault)?)
-        }
-        ScriptFault::NoMemory => Err(AllocError),
-        other => single(alloc, START, format!(in alloc; "{other}")?),
-    }
-}
-
-/// Returns the faults of lines that can't be translated, in words.
+/// Returns the faults of lines that can't be translated, in words. The lines of the plain script are numbered like those
+/// of the script with names.
 fn refusal_faults(
     alloc: Global,
-    lined: &Lined,
-    scope: &Scope,
+    lined: Lined,
     refusal: &Refusal,
 ) -> Result<Vec<Fault>, AllocError> {
     match refusal {
-        Refusal::Names(faults) => name_faults(alloc, lined, scope, faults.as_slice()),
-        Refusal::Script(fault) => script_faults(alloc, fault),
-        Refusal::Memory => Err(AllocError),
-    }
-}
-
-/// Returns the faults of lines that can be translated: those of the names in expectations and of the numbers of
-/// processes.
-fn other_faults(
-    alloc: Global,
-    lined: &Lined,
-    scope: &Scope,
-    extent: Extent,
-) -> Result<Vec<Fault>, AllocError> {
-    let faults = process_faults(alloc, lined.lines.as_slice(), scope)?;
-    if !faults.is_empty() {
-        return Ok(faults);
-    }
-    expectation_faults(alloc, lined, scope, extent)
-}
-
-impl Named {
-    /// Returns the plain script.
-    pub fn plain(&self) -> &str {
-        self.text.as_str()
-    }
-
-    /// Returns what differs from the script's expectations in a run of its plain script that printed this.
-    pub fn faults_in(&self, alloc: Global, printed: &[u8]) -> Result<Vec<Fault>, AllocError> {
-        self.faults_of(alloc, printed, Extent::Whole)
-    }
-
-    /// Returns what differs from the script's expectations in a run of its plain script that printed this and goes on:
-    /// an open call may still end.
-    pub fn faults_so_far(&self, alloc: Global, printed: &[u8]) -> Result<Vec<Fault>, AllocError> {
-        self.faults_of(alloc, printed, Extent::Front)
-    }
-
-    /// Returns what differs from the script's expectations in a run that printed this.
-    fn faults_of(
-        &self,
-        alloc: Global,
-        printed: &[u8],
-        extent: Extent,
-    ) -> Result<Vec<Fault>, AllocError> {
-        let endings = Endings::of(alloc, printed)?;
-        let run = Run {
-            scope: &self.scope,
-            calls: self.calls.as_slice(),
-            facts: self.facts.as_slice(),
-            endings: &endings,
-            extent,
-        };
-        self.checked(alloc, run)
-    }
-
-    /// Returns what differs from the script's expectations in this run.
-    fn checked(&self, alloc: Global, run: Run<'_, '_>) -> Result<Vec<Fault>, AllocError> {
-        let mut faults = Vec::new(alloc);
-        let mut at = 0usize;
-        let mut number = 0u64;
-        for call in &self.calls {
-            at = self.check_states(alloc, run, &mut faults, at, number)?;
-            number = number.saturating_add(1);
-            check_call(alloc, run, &mut faults, number, call)?;
+        Refusal::Memory | Refusal::Script(ScriptFault::NoMemory) => Err(AllocError),
+        Refusal::Names(faults) => {
+            let scope = Scope::after(alloc, lined.lines.as_slice())?;
+            let check = Check::new(alloc, scope, lined.calls, lined.states);
+            name_faults(lined.lines.as_slice(), check.context(), faults.as_slice())
         }
-        self.check_states(alloc, run, &mut faults, at, number)?;
-        Ok(faults)
-    }
-
-    /// Checks the state lines that stand behind the first `calls` calls, from index `at` on, and returns the index of
-    /// the next one.
-    fn check_states(
-        &self,
-        alloc: Global,
-        run: Run<'_, '_>,
-        faults: &mut Vec<Fault>,
-        at: usize,
-        calls: u64,
-    ) -> Result<usize, AllocError> {
-        let mut next = at;
-        for state in self.states.iter().skip(at) {
-            if state.calls != calls {
-                break;
-            }
-            check_state(alloc, run, faults, state)?;
-            next = next.saturating_add(1);
-        }
-        Ok(next)
+        Refusal::Script(ScriptFault::Line { number, fault }) => line_fault(alloc, *number, *fault),
+        Refusal::Script(fault) => single(alloc, START, format!(in alloc; "{fault}")?),
     }
 }
 
@@ -312,27 +200,31 @@ fn read_lines(alloc: Global, text: &[u8], extent: Extent) -> Result<Reading, All
         let what = String::from_str(alloc, "script too long")?;
         return Ok(Reading::Faulty(single(alloc, START, what)?));
     }
-    let lined = lines_in(alloc, text)?;
+    let lined = lines_behind(alloc, text, 0, 0)?;
     if !lined.faults.is_empty() {
         return Ok(Reading::Faulty(lined.faults));
     }
-    let scope = Scope::after(alloc, lined.lines.as_slice())?;
     let translation = match translate(alloc, lined.lines.as_slice()) {
         Ok(translation) => translation,
-        Err(refusal) => {
-            return Ok(Reading::Faulty(refusal_faults(alloc, &lined, &scope, &refusal)?));
-        }
+        Err(refusal) => return Ok(Reading::Faulty(refusal_faults(alloc, lined, &refusal)?)),
     };
-    let faults = other_faults(alloc, &lined, &scope, extent)?;
+    let mut processes = Vec::new(alloc);
+    for line in &lined.lines {
+        push_process_number(&mut processes, line)?;
+    }
+    let check = Check::new(alloc, translation.scope, lined.calls, lined.states);
+    let mut faults = process_faults(alloc, processes.as_slice(), &check.scope)?;
+    if faults.is_empty() {
+        faults = expectation_faults(&check, extent)?;
+    }
     if !faults.is_empty() {
         return Ok(Reading::Faulty(faults));
     }
-    let facts = facts(alloc, &scope, lined.lines.as_slice())?;
     Ok(Reading::Good(Named {
         text: translation.text,
-        scope,
-        calls: lined.calls,
-        states: lined.states,
-        facts,
+        script: translation.script,
+        check,
+        processes,
+        lines: lined.count,
     }))
 }

@@ -2,7 +2,6 @@
 
 ghost use Rattle.std.specs.Prelude.{◌≡◌, ℕ, ◌+◌, ◌<◌, ◌≤◌, ◌^◌, [], ◌∷◌, ◌++◌, length, OnOk, IfOk, decimal, string_bytes};
 ghost use Rattle.qnames.specs.Names.{none, latest, with_line};
-ghost use Rattle.qnames.specs.Scope.{names_of};
 ghost use Rattle.qnames.specs.Plain.{bytes_word, zeros_word, word_of, words_of, line_text, plain_text, error_of, operand_fault, operands_fault, definition_fault, line_fault, listed, name_faults};
 
 use crate::label::{NameError, NameFault};
@@ -16,7 +15,7 @@ use std::alloc::{AllocError, Global};
 pub struct Plain {
     pub text: String,
     pub faults: Vec<NameFault>,
-    scope: Scope,
+    pub scope: Scope,
 }
 
 /// Adds the word of these bytes.
@@ -46,7 +45,7 @@ fn push_operand(
     scope: &Scope,
     operand: &Operand,
 ) -> Result<(), AllocError>
-    ensures { OnOk result (string_bytes out.new ≡ string_bytes out.old ++ word_of (names_of scope.now).labels operand.now) }
+    ensures { OnOk result (string_bytes out.new ≡ string_bytes out.old ++ word_of scope.now.labels operand.now) }
 {
     match operand {
         Operand::Name(mention) => {
@@ -70,7 +69,7 @@ fn push_operands(
     scope: &Scope,
     operands: &[Operand],
 ) -> Result<(), AllocError>
-    ensures { OnOk result (string_bytes out.new ≡ string_bytes out.old ++ words_of (names_of scope.now).labels operands.now) }
+    ensures { OnOk result (string_bytes out.new ≡ string_bytes out.old ++ words_of scope.now.labels operands.now) }
 {
     'operands: for operand in operands {
         out.push_str(" ")?;
@@ -86,7 +85,7 @@ fn push_call(
     scope: &Scope,
     call: &CallLine,
 ) -> Result<(), AllocError>
-    ensures { OnOk result (string_bytes out.new ≡ string_bytes out.old ++ line_text (names_of scope.now) (Line.Call call.now)) }
+    ensures { OnOk result (string_bytes out.new ≡ string_bytes out.old ++ line_text scope.now (Line.Call call.now)) }
 {
     push_operand(alloc, out, scope, &call.caller)?;
     out.push_str(" ")?;
@@ -96,9 +95,9 @@ fn push_call(
 
 /// Adds the plain line of a thread.
 fn push_thread(out: &mut String, scope: &Scope, line: &ThreadLine) -> Result<(), AllocError>
-    requires threads { (names_of scope.now).threads < 2 ^ 63 }
-    requires processes { length (names_of scope.now).processes < 2 ^ 63 }
-    ensures { OnOk result (string_bytes out.new ≡ string_bytes out.old ++ line_text (names_of scope.now) (Line.Thread line.now)) }
+    requires threads { scope.now.threads < 2 ^ 63 }
+    requires processes { length scope.now.processes < 2 ^ 63 }
+    ensures { OnOk result (string_bytes out.new ≡ string_bytes out.old ++ line_text scope.now (Line.Thread line.now)) }
 {
     let thread = scope.thread(line);
     let process = scope.process(&line.process);
@@ -108,9 +107,9 @@ fn push_thread(out: &mut String, scope: &Scope, line: &ThreadLine) -> Result<(),
 
 /// Adds the plain line of a line.
 fn push_line(alloc: Global, out: &mut String, scope: &Scope, line: &Line) -> Result<(), AllocError>
-    requires threads { (names_of scope.now).threads < 2 ^ 63 }
-    requires processes { length (names_of scope.now).processes < 2 ^ 63 }
-    ensures { OnOk result (string_bytes out.new ≡ string_bytes out.old ++ line_text (names_of scope.now) line.now) }
+    requires threads { scope.now.threads < 2 ^ 63 }
+    requires processes { length scope.now.processes < 2 ^ 63 }
+    ensures { OnOk result (string_bytes out.new ≡ string_bytes out.old ++ line_text scope.now line.now) }
 {
     match line {
         Line::Aside(text) => out.push_str(text.as_str()),
@@ -121,7 +120,7 @@ fn push_line(alloc: Global, out: &mut String, scope: &Scope, line: &Line) -> Res
 
 /// Returns the fault of a name where a line uses it.
 fn error_in(scope: &Scope, mention: &Mention) -> Option<NameError>
-    ensures { result ≡ error_of mention.now.wanted (latest mention.now.name (names_of scope.now).labels) }
+    ensures { result ≡ error_of mention.now.wanted (latest mention.now.name scope.now.labels) }
 {
     match scope.latest(&mention.name) {
         None => Some(NameError::Undefined),
@@ -132,7 +131,7 @@ fn error_in(scope: &Scope, mention: &Mention) -> Option<NameError>
 
 /// Returns the fault of an operand.
 fn fault_of_operand(scope: &Scope, operand: &Operand) -> Option<NameFault>
-    ensures { result ≡ operand_fault (names_of scope.now).labels operand.now }
+    ensures { result ≡ operand_fault scope.now.labels operand.now }
 {
     let Operand::Name(mention) = operand else {
         return None;
@@ -146,7 +145,7 @@ fn fault_of_operand(scope: &Scope, operand: &Operand) -> Option<NameFault>
 
 /// Returns the first fault of these operands.
 fn fault_of_operands(scope: &Scope, operands: &[Operand]) -> Option<NameFault>
-    ensures { result ≡ operands_fault (names_of scope.now).labels operands.now }
+    ensures { result ≡ operands_fault scope.now.labels operands.now }
 {
     'operands: for operand in operands {
         if let Some(fault) = fault_of_operand(scope, operand) {
@@ -158,7 +157,7 @@ fn fault_of_operands(scope: &Scope, operands: &[Operand]) -> Option<NameFault>
 
 /// Returns the fault of a line's definition.
 fn fault_of_definition(scope: &Scope, definition: &Option<Definition>) -> Option<NameFault>
-    ensures { result ≡ definition_fault (names_of scope.now).labels definition.now }
+    ensures { result ≡ definition_fault scope.now.labels definition.now }
 {
     let Some(definition) = definition else {
         return None;
@@ -174,7 +173,7 @@ fn fault_of_definition(scope: &Scope, definition: &Option<Definition>) -> Option
 
 /// Returns the first fault of a line.
 fn fault_of_line(scope: &Scope, line: &Line) -> Option<NameFault>
-    ensures { result ≡ line_fault (names_of scope.now).labels line.now }
+    ensures { result ≡ line_fault scope.now.labels line.now }
 {
     match line {
         Line::Aside(_) => None,
@@ -185,7 +184,7 @@ fn fault_of_line(scope: &Scope, line: &Line) -> Option<NameFault>
 
 /// Returns the first fault of a call's line.
 fn fault_of_call(scope: &Scope, call: &CallLine) -> Option<NameFault>
-    ensures { result ≡ line_fault (names_of scope.now).labels (Line.Call call.now) }
+    ensures { result ≡ line_fault scope.now.labels (Line.Call call.now) }
 {
     if let Some(fault) = fault_of_definition(scope, &call.definition) {
         return Some(fault);
@@ -201,7 +200,7 @@ impl Plain {
     fn new(alloc: Global) -> Plain
         ensures text { string_bytes result.text ≡ [] }
         ensures faults { result.faults.items ≡ [] }
-        ensures scope { names_of result.scope ≡ none }
+        ensures scope { result.scope ≡ none }
     {
         Plain {
             text: String::new(alloc),
@@ -214,10 +213,10 @@ impl Plain {
     fn add(&mut self, alloc: Global, line: &Line) -> Result<(), AllocError>
         requires threads { self.old.scope.threads < 2 ^ 63 }
         requires calls { self.old.scope.calls < 2 ^ 63 }
-        requires processes { length self.old.scope.processes.items < 2 ^ 63 }
-        ensures text { OnOk result (string_bytes self.new.text ≡ string_bytes self.old.text ++ line_text (names_of self.old.scope) line.now ++ 10 ∷ []) }
-        ensures faults { OnOk result (self.new.faults.items ≡ self.old.faults.items ++ listed (line_fault self.old.scope.labels.items line.now)) }
-        ensures scope { OnOk result (names_of self.new.scope ≡ with_line (names_of self.old.scope) line.now) }
+        requires processes { length self.old.scope.processes < 2 ^ 63 }
+        ensures text { OnOk result (string_bytes self.new.text ≡ string_bytes self.old.text ++ line_text self.old.scope line.now ++ 10 ∷ []) }
+        ensures faults { OnOk result (self.new.faults.items ≡ self.old.faults.items ++ listed (line_fault self.old.scope.labels line.now)) }
+        ensures scope { OnOk result (self.new.scope ≡ with_line self.old.scope line.now) }
     {
         push_line(alloc, &mut self.text, &self.scope, line)?;
         self.text.push_str("\n")?;
@@ -226,6 +225,23 @@ impl Plain {
         }
         self.scope.add(alloc, line)
     }
+}
+
+/// Returns the plain line of a line below those of a scope, or the first fault of its names.
+pub fn plain_line(
+    alloc: Global,
+    scope: &Scope,
+    line: &Line,
+) -> Result<Result<String, NameFault>, AllocError> {
+    if !scope.has_room() {
+        return Err(AllocError);
+    }
+    if let Some(fault) = fault_of_line(scope, line) {
+        return Ok(Err(fault));
+    }
+    let mut text = String::new(alloc);
+    push_line(alloc, &mut text, scope, line)?;
+    Ok(Ok(text))
 }
 
 /// Returns the plain script of these lines, and the first fault of the names of each line.

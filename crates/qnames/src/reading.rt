@@ -3,9 +3,6 @@
 pub mod calls;
 pub mod endings;
 pub mod forms;
-pub mod near;
 pub mod operands;
 pub mod script;
-pub mod states;
 pub mod threads;
-pub mod values;

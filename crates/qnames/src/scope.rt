@@ -1,16 +1,19 @@
 //! What the lines above a line define.
 
-ghost use Rattle.std.specs.Prelude.{◌≡◌, ℕ, ◌+◌, ◌<◌, ◌≤◌, ◌^◌, length, position, reverse, find, OnOk, IfSome};
+ghost use Rattle.std.specs.Prelude.{◌≡◌, ℕ, ◌+◌, ◌<◌, ◌≤◌, ◌^◌, length, position, reverse, find, slice_get, true, OnOk, IfOk, IfSome};
 ghost use Rattle.std.specs.List.{position_or_len, list_any};
 ghost use Rattle.std.specs.Str.{bytes_eq};
 ghost use Rattle.std.specs.Option.{option_map};
-ghost use Rattle.qnames.specs.Names.{none, latest, number_of, with_label, thread_number, process_number, with_name, with_process, with_line, code_of, same_kind};
-ghost use Rattle.qnames.specs.Scope.{names_of};
+ghost use Rattle.std.specs.HashMap.{get_by_text};
+ghost use Rattle.qnames.specs.Names.{Names, none, latest, number_of, with_label, thread_number, process_number, with_name, with_process, with_line, code_of, same_kind};
+ghost use Rattle.qnames.specs.Scope.{HasPlaces};
 
 use crate::label::Label;
 use crate::line::{Definition, Kind, Line, Process, ThreadLine};
-use crate::word::Word;
+use qreading::word::Word;
 use std::alloc::{AllocError, Global};
+use std::collections::HashMap;
+use std::marker::Model;
 
 /// What some lines define: the numbers of threads, calls and processes, and what names stand for.
 #[derive(Drop)]
@@ -19,6 +22,16 @@ pub struct Scope {
     calls: u64,
     processes: Vec<Word>,
     labels: Vec<Label>,
+    /// The place of the last label with each name.
+    places: HashMap<String, usize>,
+}
+
+impl Model for Scope {
+    ghost Value = { Names };
+
+    ghost view = { λ a. record { threads = a.threads; calls = a.calls; processes = a.processes.items; labels = a.labels.items } };
+
+    ghost invariant = { λ a. HasPlaces (get_by_text a.places) a.labels.items };
 }
 
 /// Returns the number of a kind.
@@ -49,15 +62,22 @@ fn is(word: &Word, name: &str) -> bool
     word.as_str() == name
 }
 
-/// Returns the last label with this name.
-#[tactic(auto, unfolding(crate::specs::Names::latest))]
-fn latest_in<'a>(labels: &'a [Label], name: &Word) -> Option<&'a Label>
-    ensures { option_map (λ l. l.now) result ≡ latest name.now labels.now }
+/// Returns the place of the last label with each name.
+fn places_of(alloc: Global, labels: &[Label]) -> Result<HashMap<String, usize>, AllocError>
+    ensures { IfOk result (λ places. HasPlaces (get_by_text places) labels.now) }
 {
-    labels
-        .iter()
-        .rev()
-        .find(|label| is(&label.name, name.as_str()))
+    let mut places = HashMap::new(alloc);
+    'labels: for (place, label) in labels.iter().enumerate() {
+        places.insert(String::from_str(alloc, label.name.as_str())?, place)?;
+    }
+    Ok(places)
+}
+
+/// Returns the label at a place.
+fn label_at(labels: &[Label], place: usize) -> Option<&Label>
+    ensures { option_map (λ l. l.now) result ≡ slice_get labels.now place }
+{
+    labels.get(place)
 }
 
 /// Returns the first index of a name among those of the processes.
@@ -123,38 +143,51 @@ fn add_process(
     }
 }
 
-/// Adds a line's definition, if it has one.
-fn add_label(
-    alloc: Global,
-    labels: &mut Vec<Label>,
-    definition: &Option<Definition>,
-    number: u64,
-) -> Result<(), AllocError>
-    ensures { OnOk result (labels.new.items ≡ with_label definition.now number labels.old.items) }
-{
-    let Some(definition) = definition else {
-        return Ok(());
-    };
-    labels.push(Label {
-        name: definition.name.copied(alloc)?,
-        kind: definition.kind,
-        number,
-        line: definition.place.line,
-    })?;
-    Ok(())
-}
-
 impl Scope {
     /// Returns the scope above the first line.
     pub fn new(alloc: Global) -> Scope
-        ensures { names_of result ≡ none }
+        ensures { result ≡ none }
     {
         Scope {
             threads: 0,
             calls: 0,
             processes: Vec::new(alloc),
             labels: Vec::new(alloc),
+            places: HashMap::new(alloc),
         }
+    }
+
+    /// Returns whether it can count one more line; it always can, since a text has fewer lines.
+    pub fn has_room(&self) -> bool
+        ensures threads { result ≡ true → self.now.threads < 2 ^ 63 }
+        ensures calls { result ≡ true → self.now.calls < 2 ^ 63 }
+        ensures processes { result ≡ true → length self.now.processes < 2 ^ 63 }
+    {
+        let most = u64::MAX / 2;
+        self.threads < most && self.calls < most && (self.processes.len() as u64) < most
+    }
+
+    /// Returns how much it has, to which `go_back` may go back.
+    pub fn extent(&self) -> (u64, u64, usize, usize) {
+        let processes = self.processes.len();
+        (self.threads, self.calls, processes, self.labels.len())
+    }
+
+    /// Forgets the lines that were added since it had this much.
+    pub fn go_back(
+        &mut self,
+        alloc: Global,
+        extent: (u64, u64, usize, usize),
+    ) -> Result<(), AllocError> {
+        let (threads, calls, processes, labels) = extent;
+        let kept = labels.min(self.labels.len());
+        let places = places_of(alloc, &self.labels.as_slice()[..kept])?;
+        self.threads = threads;
+        self.calls = calls;
+        self.processes.truncate(processes);
+        self.labels.truncate(kept);
+        self.places = places;
+        Ok(())
     }
 
     /// Returns the scope below these lines. A text has far fewer lines than a number of 64 bits can count.
@@ -168,14 +201,14 @@ impl Scope {
 
     /// Returns the labels of the lines so far, in order.
     pub fn labels(&self) -> &[Label]
-        ensures { result.now ≡ (names_of self.now).labels }
+        ensures { result.now ≡ self.now.labels }
     {
         self.labels.as_slice()
     }
 
     /// Returns the names of the processes; the first is that of process 1.
     pub fn process_names(&self) -> &[Word]
-        ensures { result.now ≡ (names_of self.now).processes }
+        ensures { result.now ≡ self.now.processes }
     {
         self.processes.as_slice()
     }
@@ -190,14 +223,17 @@ impl Scope {
 
     /// Returns the last label with this name.
     pub fn latest(&self, name: &Word) -> Option<&Label>
-        ensures { option_map (λ l. l.now) result ≡ latest name.now (names_of self.now).labels }
+        ensures { option_map (λ l. l.now) result ≡ latest name.now self.now.labels }
     {
-        latest_in(self.labels.as_slice(), name)
+        match self.places.get(name.as_str()) {
+            Some(place) => label_at(self.labels.as_slice(), *place),
+            None => None,
+        }
     }
 
     /// Returns the number that a name stands for, or 0 if it stands for nothing.
     pub fn number(&self, name: &Word) -> u64
-        ensures { result ≡ number_of name.now (names_of self.now).labels }
+        ensures { result ≡ number_of name.now self.now.labels }
     {
         match self.latest(name) {
             Some(label) => label.number,
@@ -207,45 +243,70 @@ impl Scope {
 
     /// Returns the number of the thread of the next line.
     pub fn thread(&self, line: &ThreadLine) -> u64
-        requires { (names_of self.now).threads < 2 ^ 63 }
-        ensures { result ≡ thread_number (names_of self.now) line.now }
+        requires { self.now.threads < 2 ^ 63 }
+        ensures { result ≡ thread_number self.now line.now }
     {
         line.thread.unwrap_or(self.threads + 1)
     }
 
     /// Returns the number of the process of the next thread line.
     pub fn process(&self, process: &Process) -> u64
-        requires { length (names_of self.now).processes < 2 ^ 63 }
-        ensures { result ≡ process_number (names_of self.now).processes process.now }
+        requires { length self.now.processes < 2 ^ 63 }
+        ensures { result ≡ process_number self.now.processes process.now }
     {
         number_of_process(self.processes.as_slice(), process)
     }
 
     /// Adds a line.
     pub fn add(&mut self, alloc: Global, line: &Line) -> Result<(), AllocError>
-        requires threads { (names_of self.old).threads < 2 ^ 63 }
-        requires calls { (names_of self.old).calls < 2 ^ 63 }
-        requires processes { length (names_of self.old).processes < 2 ^ 63 }
-        ensures { OnOk result (names_of self.new ≡ with_line (names_of self.old) line.now) }
+        requires threads { self.old.threads < 2 ^ 63 }
+        requires calls { self.old.calls < 2 ^ 63 }
+        requires processes { length self.old.processes < 2 ^ 63 }
+        ensures { OnOk result (self.new ≡ with_line self.old line.now) }
     {
         match line {
             Line::Aside(_) => Ok(()),
             Line::Thread(thread) => self.add_thread(alloc, thread),
             Line::Call(call) => {
                 self.calls += 1;
-                add_label(alloc, &mut self.labels, &call.definition, self.calls)
+                self.add_label(alloc, &call.definition, self.calls)
             }
         }
     }
 
     /// Adds the line of a thread.
     fn add_thread(&mut self, alloc: Global, line: &ThreadLine) -> Result<(), AllocError>
-        requires { (names_of self.old).threads < 2 ^ 63 }
-        ensures { OnOk result (names_of self.new ≡ with_line (names_of self.old) (Line.Thread line.now)) }
+        requires { self.old.threads < 2 ^ 63 }
+        ensures { OnOk result (self.new ≡ with_line self.old (Line.Thread line.now)) }
     {
         let number = self.thread(line);
         self.threads += 1;
         add_process(alloc, &mut self.processes, &line.process)?;
-        add_label(alloc, &mut self.labels, &line.definition, number)
+        self.add_label(alloc, &line.definition, number)
+    }
+
+    /// Adds a line's definition, if it has one.
+    fn add_label(
+        &mut self,
+        alloc: Global,
+        definition: &Option<Definition>,
+        number: u64,
+    ) -> Result<(), AllocError>
+        ensures { OnOk result (self.new ≡ record self.old { labels = with_label definition.now number self.old.labels }) }
+    {
+        let Some(definition) = definition else {
+            return Ok(());
+        };
+        let label = Label {
+            name: definition.name.copied(alloc)?,
+            kind: definition.kind,
+            number,
+            line: definition.place.line,
+        };
+        let name = String::from_str(alloc, definition.name.as_str())?;
+        self.labels.reserve(1)?;
+        self.places.insert(name, self.labels.len())?;
+        self.labels.push_reserved(label);
+        Ok(())
     }
 }

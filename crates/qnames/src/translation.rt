@@ -6,6 +6,7 @@ ghost use Rattle.qnames.specs.Translation.{IsTranslation, IsRefusal};
 use crate::label::NameFault;
 use crate::line::Line;
 use crate::plain::plain_of;
+use crate::scope::Scope;
 use qreading::fault::ScriptFault;
 use qreading::{Script, parse};
 use std::alloc::Global;
@@ -15,6 +16,8 @@ use std::alloc::Global;
 pub struct Translation {
     pub text: String,
     pub script: Script,
+    /// What the lines define.
+    pub scope: Scope,
 }
 
 /// The reason why lines have no plain script that can run.
@@ -44,6 +47,7 @@ pub fn translate(alloc: Global, lines: &[Line]) -> Result<Translation, Refusal>
         Ok(script) => Ok(Translation {
             text: plain.text,
             script,
+            scope: plain.scope,
         }),
         Err(fault) => Err(Refusal::Script(fault)),
     }

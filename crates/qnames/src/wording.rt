@@ -1,16 +1,17 @@
 //! Words the faults of names.
 
 use crate::expectation::CallCheck;
-use crate::label::{Label, NameError};
+use crate::label::NameError;
 use crate::line::Kind;
-use crate::reading::near::nearest;
 use crate::scope::Scope;
-use crate::word::Word;
+use qreading::near::nearest;
+use qreading::word::Word;
 use std::alloc::{AllocError, Global};
 
 /// What the words of a fault need: what the names stand for after the last line, and the calls.
 #[derive(Clone, Copy)]
 pub struct Context<'a> {
+    pub alloc: Global,
     pub scope: &'a Scope,
     pub calls: &'a [CallCheck],
 }
@@ -34,92 +35,68 @@ pub struct Use<'a> {
     pub wanted: Kind,
 }
 
-/// Returns a kind, with its article.
-fn kind_words(kind: Kind) -> &'static str {
-    match kind {
-        Kind::Thread => "a thread",
-        Kind::Channel => "a channel",
-        Kind::Connection => "a connection",
-        Kind::Message => "a message",
-        Kind::Pulse => "a pulse",
-        Kind::Call => "a call",
-    }
-}
-
 impl Context<'_> {
     /// Returns the word that names the call with this number.
-    fn verb(&self, number: u64) -> &str {
-        let at = number.saturating_sub(1) as usize;
-        match self.calls.get(at) {
-            Some(call) => call.verb.as_str(),
+    fn verb(&self, number: u64) -> &'static str {
+        match self.calls.get(number.saturating_sub(1) as usize) {
+            Some(call) => call.kind.word(),
             None => "",
         }
     }
 
-    /// Returns what a label stands for, with its article.
-    fn label_words(&self, alloc: Global, label: &Label) -> Result<String, AllocError> {
-        if !matches!(label.kind, Kind::Call) {
-            return String::from_str(alloc, kind_words(label.kind));
-        }
-        let verb = self.verb(label.number);
-        format!(in alloc; "a call of {verb}")
-    }
-
     /// Returns the words for a name that no line above defines.
-    fn undefined(&self, alloc: Global, name: &Word) -> Result<String, AllocError> {
+    fn undefined(&self, name: &Word) -> Result<String, AllocError> {
         if let Some(label) = self.scope.latest(name) {
             let line = label.line;
-            return format!(in alloc;
+            return format!(in self.alloc;
                 "{name} isn't defined before this line; line {line} defines it"
             );
         }
-        let mut names = Vec::new(alloc);
+        let mut names = Vec::new(self.alloc);
         for label in self.scope.labels() {
             names.push(label.name.as_str())?;
         }
-        match nearest(alloc, name.as_str(), names.as_slice())? {
-            Some(near) => {
-                format!(in alloc; "{name} isn't defined before this line; did you mean '{near}'?")
-            }
-            None => format!(in alloc; "{name} isn't defined before this line"),
+        match nearest(self.alloc, name.as_str(), names.as_slice())? {
+            Some(near) => format!(in self.alloc;
+                "{name} isn't defined before this line; did you mean '{near}'?"
+            ),
+            None => format!(in self.alloc; "{name} isn't defined before this line"),
         }
     }
 
     /// Returns the words for a name that stands for something of another kind.
-    fn other_kind(&self, alloc: Global, used: Use<'_>) -> Result<String, AllocError> {
+    fn other_kind(&self, used: Use<'_>) -> Result<String, AllocError> {
         let name = used.name;
         let Some(label) = self.scope.latest(name) else {
-            return self.undefined(alloc, name);
+            return self.undefined(name);
         };
-        let is = self.label_words(alloc, label)?;
-        let wanted = kind_words(used.wanted);
-        let mut text = match used.usage {
-            Usage::Caller => {
-                format!(in alloc;
-                    "{name} is {is}, and a call begins with the thread that makes it"
-                )?
-            }
-            Usage::Operand(verb) => format!(in alloc; "{name} is {is}, and {verb} wants {wanted}")?,
-            Usage::Expectation => format!(in alloc; "{name} is {is}, and {wanted} is wanted here")?,
+        let made = self.verb(label.number);
+        let is = match label.kind {
+            Kind::Call => format!(in self.alloc; "a call of {made}")?,
+            kind => String::from_str(self.alloc, kind.words())?,
         };
-        if matches!(used.wanted, Kind::Message) && self.verb(label.number) == "receive" {
+        let wanted = used.wanted.words();
+        let mut text = format!(in self.alloc; "{name} is {is}, and ")?;
+        match used.usage {
+            Usage::Caller => text.push_str("a call begins with the thread that makes it")?,
+            Usage::Operand(verb) => write!(text, "{verb} wants {wanted}")?,
+            Usage::Expectation => write!(text, "{wanted} is wanted here")?,
+        }
+        if matches!(used.wanted, Kind::Message) && made == "receive" {
             text.push_str("; a message has the name of its send")?;
         }
         Ok(text)
     }
 
     /// Returns the fault of a name, in words.
-    pub fn words(
-        &self,
-        alloc: Global,
-        used: Use<'_>,
-        error: NameError,
-    ) -> Result<String, AllocError> {
+    pub fn words(&self, used: Use<'_>, error: NameError) -> Result<String, AllocError> {
         let name = used.name;
         match error {
-            NameError::Undefined => self.undefined(alloc, name),
-            NameError::OtherKind(_) => self.other_kind(alloc, used),
-            NameError::Twice(line) => format!(in alloc; "{name} is defined twice (line {line})"),
+            NameError::Undefined => self.undefined(name),
+            NameError::OtherKind(_) => self.other_kind(used),
+            NameError::Twice(line) => {
+                format!(in self.alloc; "{name} is defined twice (line {line})")
+            }
         }
     }
 }

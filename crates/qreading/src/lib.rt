@@ -2,6 +2,14 @@
 #![tactic(auto)]
 
 pub mod fault;
+pub mod grammar;
+pub mod lexing;
+pub mod near;
+pub mod parts;
+pub mod place;
 pub mod reading;
+pub mod states;
+pub mod values;
+pub mod word;
 
 pub use reading::script::{MOST_TEXT, Script, parse};

@@ -21,7 +21,7 @@ use Rattle.qscript.specs.Script.{CanRun}
 use Rattle.qreading.specs.Reading.Line.{line_of}
 use Rattle.qreading.specs.Reading.Lines.{lines_of, is_newline, without_return, without_last_end}
 use Rattle.qreading.specs.Reading.Words.{is_empty}
-use Rattle.qreading.specs.Reading.Meaning.{Meaning, TooLong, Says, meaning, is_in, line_after_roster, member_in, call_in, roster_of, calls_of, line_with, line_after, fault_in, fault_at, first_fault, fault_or, of_lines}
+use Rattle.qreading.specs.Reading.Meaning.{Meaning, TooLong, Says, meaning, is_in, line_after_roster, member_in, call_in, roster_of, calls_of, line_behind, line_with, line_after, fault_in, fault_at, first_fault, fault_or, of_lines}
 use Rattle.qreading.proofs.Texts.Early.{bind_ok, placed_keeps, alone}
 use Rattle.qreading.proofs.Texts.Progress.{roster_more, calls_more}
 use Rattle.qscript.proofs.Joining.{enrolled_more}
@@ -132,7 +132,7 @@ fine_more ms cs (lines.Call t c) f h = record {
 
 fine_with : (ms : List Member) (cs : List (ℕ × Call)) (line : List ℕ) (l : Line) → Fine ms cs → line_with ms cs line ≡ Ok l
     → Fine (ms ++ cons_option (member_in (Ok l)) []) (cs ++ cons_option (call_in (Ok l)) [])
-unfolding line_with
+unfolding line_with line_behind
 fine_with ms cs line l f h =
     let b = bind_ok (line_of (nat_lt 0 (length cs)) line) (line_after_roster ms) l h in
     let same : b.0 ≡ l = placed_keeps ms b.0 l b.2 in

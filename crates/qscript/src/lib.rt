@@ -3,8 +3,9 @@
 #![tactic(auto)]
 
 pub mod printing;
+pub mod run;
 pub mod script;
-mod transfer;
+pub mod transfer;
 pub mod watched;
 pub mod writing;
 

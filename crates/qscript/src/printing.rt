@@ -3,11 +3,11 @@
 ghost use Rattle.std.specs.Prelude.{◌≡◌, ◌+◌, ◌^◌, ◌≤◌, length, IfOk, string_bytes};
 ghost use Rattle.qscript.specs.Printing.Printed.{printed};
 
-pub(crate) mod buffer;
-pub(crate) mod ended_line;
+pub mod buffer;
+pub mod ended_line;
 mod laws;
-mod marks;
-mod open_line;
+pub mod marks;
+pub mod open_line;
 pub(crate) mod operands;
 pub(crate) mod printer;
 
@@ -24,7 +24,8 @@ pub fn text_of(alloc: Global, run: &Trace, blocked: &[Blocked]) -> Result<String
 {
     let mut printer = Printer::new(alloc, run.first(), run.len())?;
     'events: for k in 0..run.len() {
-        printer.push_event(shows(run.call(k)), run.endings(k))?;
+        let event = run.first() + k as u64;
+        printer.push_event(event, shows(run.call(k)), run.endings(k))?;
     }
     let text = printer.finish(blocked)?;
     Ok(text)

@@ -3,20 +3,17 @@
 ghost use Rattle.std.specs.Prelude.{◌≡◌, ℕ, ◌+◌, ◌≤◌, ◌^◌, [], length, IfOk, IfErr, OnOk, IsErrOf, false, string_bytes};
 ghost use Rattle.qkernel.specs.Run.{AllKnown};
 ghost use Rattle.qstate.specs.Kept.{members_of};
-ghost use Rattle.qscript.specs.Printing.Printer.{HasRun};
+ghost use Rattle.qscript.specs.Running.{HasMade};
 ghost use Rattle.qscript.specs.Enrolled.{roster_with, AllJoin};
 ghost use Rattle.qscript.specs.Script.{CanRun, IsTextOfRun, IsRun, IsUnread, IsTooLong, IsFaulty, IsCut};
 ghost use Rattle.qscript.specs.Watched.{inner_of, has_faulted};
 ghost use Rattle.qreading.specs.declared.fault.LineFault.{LineFault};
 
-use crate::printing::ended_line::shows;
-use crate::printing::printer::Printer;
+use crate::run::Run;
 use crate::transfer::{read_all, write_all};
 use crate::watched::Watched;
 use qbase::ids::ThreadNo;
 use qkernel::call::Call;
-use qkernel::endings::Endings;
-use qkernel::kernel::Kernel;
 use qreading::fault::ScriptFault;
 use qreading::reading::script::{Script, parse};
 use qtables::member::Member;
@@ -41,23 +38,16 @@ pub fn roster_with_all(alloc: Global, members: &[Member]) -> Roster
 }
 
 /// Makes the calls in order, and prints the endings of each at once.
-fn run_calls(
-    alloc: Global,
-    kernel: &mut Kernel,
-    printer: &mut Printer,
-    calls: Vec<(ThreadNo, Call)>,
-) -> Result<(), AllocError>
-    requires known { AllKnown (members_of kernel.old.threads) calls.items }
-    requires limit { kernel.old.made + length calls.items ≤ 2 ^ 40 }
-    requires begun { HasRun kernel.old [] kernel.old printer.old }
-    ensures { OnOk result (HasRun kernel.old calls.items kernel.new printer.new) }
+fn make_calls(run: &mut Run, calls: Vec<(ThreadNo, Call)>) -> Result<(), AllocError>
+    requires known { AllKnown (members_of run.old.kernel.threads) calls.items }
+    requires limit { run.old.kernel.made + length calls.items ≤ 2 ^ 40 }
+    requires begun { HasMade run.old.kernel [] run.old }
+    ensures { OnOk result (HasMade run.old.kernel calls.items run.new) }
 {
-    let mut endings = Endings::new_in(alloc);
     'calls: for (thread, call) in calls {
-        let shows = shows(&call);
-        kernel.step(thread, call, &mut endings);
-        printer.push_event(shows, endings.as_slice())?;
-        endings.clear();
+        if run.make(thread, call).is_err() {
+            return Err(AllocError);
+        }
     }
     Ok(())
 }
@@ -69,14 +59,9 @@ fn run_text(alloc: Global, script: Script) -> Result<String, ScriptFault>
     ensures err { IfErr result (λ e. e ≡ ScriptFault.NoMemory) }
 {
     let roster = roster_with_all(alloc, script.roster.as_slice());
-    let mut kernel = match Kernel::new(alloc, &roster) {
-        Ok(kernel) => kernel,
-        Err(_) => return Err(ScriptFault::NoMemory),
-    };
-    let mut printer = Printer::new(alloc, kernel.made() + 1, script.calls.len())?;
-    run_calls(alloc, &mut kernel, &mut printer, script.calls)?;
-    let blocked = kernel.blocked(alloc)?;
-    let text = printer.finish(blocked.as_slice())?;
+    let mut run = Run::new(alloc, &roster, script.calls.len())?;
+    make_calls(&mut run, script.calls)?;
+    let text = run.finish(alloc)?;
     Ok(text)
 }
 

@@ -1,43 +1,35 @@
-//! Draws the run of a script, into a file or on standard output.
+//! Unproved: words and layout. Draws the run of a script, into a file or on standard output.
 
-use crate::ending::{end_failed, end_unread, end_unwritten, end_with};
-use crate::names::{is_named, plain_of_file};
+use crate::command::ChartRun;
+use crate::ending::{end_unread, end_with, print_text, text_of};
+use crate::names::{is_named, named_of};
+use crate::remarks::Source;
 use qchart::drawing::drawing;
 use qchart::view::{Style, View};
-use qcommand::command::ChartRun;
-use std::io::Read;
+use std::fs;
 use std::process::ExitCode;
 use std::rt::Files;
-use std::{fs, io};
 
 /// Draws the run of a script, from a file or from standard input. A drawing is never written over its script.
 pub fn run_chart<R: Files + Input + Print + Eprint + AllocGlobal>(
     rt: &R,
     run: &ChartRun,
-) -> ExitCode {
-    if let (Some(file), Some(output)) = (&run.file, &run.output)
-        && is_same(rt, file.as_str(), output.as_str())
+) -> Result<ExitCode, ExitCode> {
+    let file = run.file.as_deref();
+    if let (Some(file), Some(output)) = (file, run.output.as_deref())
+        && is_same(rt, file, output)
     {
         let why = format_args!("{output}: the drawing would be written over its script");
-        return end_with(rt, why, 2);
+        return Err(end_with(rt, why, 2));
     }
-    match &run.file {
-        Some(name) if is_named(name.as_str()) => match plain_of_file(rt, name.as_str()) {
-            Ok(named) => draw(rt, run, named.plain().as_bytes()),
-            Err(code) => code,
-        },
-        Some(name) => match fs::read(rt, name.as_str()) {
-            Ok(text) => draw(rt, run, text.as_slice()),
-            Err(error) => end_unread(rt, name.as_str(), error),
-        },
-        None => {
-            let mut text = Vec::new(rt.alloc());
-            match rt.reader().read_to_end(&mut text) {
-                Ok(_) => draw(rt, run, text.as_slice()),
-                Err(_) => end_failed(rt, "read failed"),
-            }
-        }
+    let text = text_of(rt, file)?;
+    let text = text.as_slice();
+    if !file.is_some_and(is_named) {
+        return draw(rt, run, text);
     }
+    let shows = false;
+    let named = named_of(rt, Source { file, text, shows })?;
+    draw(rt, run, named.text.as_bytes())
 }
 
 /// Returns whether two paths lead to one existing file.
@@ -59,35 +51,26 @@ fn view_of(run: &ChartRun) -> View {
         },
         bytes: run.bytes,
         from: run.from as usize,
-        to: match run.to {
-            Some(to) => to as usize,
-            None => usize::MAX,
-        },
+        to: run.to.map_or(usize::MAX, |to| to as usize),
     }
 }
 
 /// Draws the run of this script.
-fn draw<R: Files + Print + Eprint + AllocGlobal>(rt: &R, run: &ChartRun, text: &[u8]) -> ExitCode {
+fn draw<R: Files + Print + Eprint + AllocGlobal>(
+    rt: &R,
+    run: &ChartRun,
+    text: &[u8],
+) -> Result<ExitCode, ExitCode> {
     let drawn = match drawing(rt.alloc(), text, &view_of(run)) {
         Ok(drawn) => drawn,
-        Err(fault) => {
-            let status = fault.status();
-            return end_with(rt, format_args!("{fault}"), status);
-        }
+        Err(fault) => return Err(end_with(rt, format_args!("{fault}"), fault.status())),
     };
-    match &run.output {
-        Some(name) => match fs::write(rt, name.as_str(), drawn.as_str()) {
-            Ok(()) => ExitCode::SUCCESS,
-            Err(error) => end_unread(rt, name.as_str(), error),
-        },
-        None => match print_drawing(rt, drawn.as_str()) {
-            Ok(()) => ExitCode::SUCCESS,
-            Err(error) => end_unwritten(rt, error),
-        },
+    match run.output.as_deref() {
+        None => print_text(rt, drawn.as_str())?,
+        Some(name) => {
+            let written = fs::write(rt, name, drawn.as_str());
+            written.map_err(|error| end_unread(rt, name, error))?;
+        }
     }
-}
-
-/// Prints the drawing as it is.
-fn print_drawing(rt: &impl Print, drawn: &str) -> io::Result<()> {
-    print!(rt; "{drawn}")
+    Ok(ExitCode::SUCCESS)
 }

@@ -1,209 +1,239 @@
-//! Compares what scripts print with the traces beside them.
+//! Unproved: words and layout. Compares what scripts print with the traces beside them.
 
-mod design;
-mod named;
-mod origin;
 mod places;
 mod tally;
 
-use crate::designs::is_design;
-use crate::ending::{end_failed, end_unwritten};
+use crate::command::CheckRun;
+use crate::designs::{is_design, words_of};
+use crate::difference::{Difference, difference_of};
+use crate::ending::{end_unwritten, tell_unread};
 use crate::example::{Outcome, outcome_of, printed};
 use crate::lines::without_returns;
-use crate::names::is_named;
-use design::check_design;
-use named::check_named;
-use origin::origin_of;
-use places::{Example, count_unread, examples};
-use qcommand::command::CheckRun;
+use crate::names::{faults_of, is_named};
+use places::Example;
 use qexplain::explain;
+use qreading::parts::{Lines, call_lines};
 use qscript::fault::ScriptFault;
-use std::alloc::{AllocError, AllocFailed};
+use std::path::Path;
 use std::process::ExitCode;
 use std::rt::Files;
 use std::{fs, io};
 use tally::Tally;
 
-/// The reason why a check can't go on.
+/// The most bytes of a line of a script that are shown.
+const MOST_SHOWN: usize = 72;
+
+/// A check: what is asked for, and the counts so far.
 #[derive(Drop)]
-enum CheckFault {
-    /// There is no memory for it.
-    NoMemory,
-    /// Writing the results failed.
-    Unwritten(io::Error),
+struct Check<'a, R> {
+    rt: &'a R,
+    run: &'a CheckRun,
+    tally: Tally,
 }
 
-impl From<AllocError> for CheckFault {
-    fn from(_e: AllocError) -> CheckFault {
-        CheckFault::NoMemory
-    }
-}
-
-impl<T: Drop> From<AllocFailed<T>> for CheckFault {
-    fn from(_e: AllocFailed<T>) -> CheckFault {
-        CheckFault::NoMemory
-    }
-}
-
-/// Checks the scripts of these files and folders. The status is 0 if each printed its trace, 1 if one differs, is
-/// faulty or has no trace, and 3 if a file can't be read or written.
+/// Checks the scripts of these files and folders, and prints the counts. The status is 0 if each printed its trace, 1
+/// if one differs, is faulty or has no trace, and 3 if a file can't be read or written.
 pub fn run_check<R: Files + Print + Eprint + AllocGlobal + Clone + Drop>(
     rt: &R,
     run: &CheckRun,
-) -> ExitCode {
-    match check_all(rt, run) {
-        Ok(tally) => ExitCode::from(tally.status()),
-        Err(CheckFault::NoMemory) => end_failed(rt, "out of memory"),
-        Err(CheckFault::Unwritten(error)) => end_unwritten(rt, error),
-    }
-}
-
-/// Checks each script, and prints the counts.
-fn check_all<R: Files + Print + Eprint + AllocGlobal + Clone + Drop>(
-    rt: &R,
-    run: &CheckRun,
-) -> Result<Tally, CheckFault> {
-    let mut tally = Tally::default();
-    let examples = examples(rt, run.paths.as_slice(), &mut tally)?;
-    for example in &examples {
-        check_one(rt, run, example, &mut tally)?;
-    }
-    if tally.has_some() {
-        println!(rt; "{tally}").map_err(CheckFault::Unwritten)?;
-    }
-    Ok(tally)
-}
-
-/// Checks a script, prints its outcome, and counts it.
-fn check_one<R: Files + Print + Eprint + AllocGlobal>(
-    rt: &R,
-    run: &CheckRun,
-    example: &Example,
-    tally: &mut Tally,
-) -> Result<(), CheckFault> {
-    let script = match fs::read(rt, example.script.as_str()) {
-        Ok(script) => script,
-        Err(error) => return count_unread(rt, example.script.as_str(), error, tally),
+) -> Result<ExitCode, ExitCode> {
+    let mut check = Check {
+        rt,
+        run,
+        tally: Tally::default(),
     };
-    if is_named(example.script.as_str()) {
-        return check_named(rt, example, script.as_slice(), tally);
-    }
-    if is_design(example.script.as_str()) {
-        return check_design(rt, run, example, script.as_slice(), tally);
-    }
-    match fs::read(rt, example.trace.as_str()) {
-        Ok(trace) => compare(
-            rt,
-            run,
-            example,
-            (script.as_slice(), trace.as_slice()),
-            tally,
-        ),
-        Err(error) if error.kind() == io::ErrorKind::NotFound => {
-            check_without(rt, run, example, script.as_slice(), tally)
-        }
-        Err(error) => count_unread(rt, example.trace.as_str(), error, tally),
+    match check.check_all() {
+        Ok(()) => Ok(ExitCode::from(check.tally.status())),
+        Err(error) => Err(end_unwritten(rt, error)),
     }
 }
 
-/// Compares what a script prints with its trace.
-fn compare<R: Files + Print + Eprint + AllocGlobal>(
-    rt: &R,
-    run: &CheckRun,
-    example: &Example,
-    texts: (&[u8], &[u8]),
-    tally: &mut Tally,
-) -> Result<(), CheckFault> {
-    let (script, trace) = texts;
-    let trace = without_returns(rt.alloc(), trace)?;
-    match outcome_of(rt.alloc(), script, trace.as_slice()) {
-        Outcome::Fault(fault) => tell_fault(rt, run, example, script, fault, tally),
-        Outcome::Differs(_) if run.update => write_trace(rt, example, script, tally),
-        outcome => {
-            tally.count(&outcome);
-            tell(rt, example, script, outcome)
-        }
-    }
-}
-
-/// Prints the outcome of a script, and the line from which a difference comes.
-fn tell<R: Print + AllocGlobal>(
-    rt: &R,
-    example: &Example,
-    script: &[u8],
-    outcome: Outcome,
-) -> Result<(), CheckFault> {
-    let name = example.name.as_str();
-    let origin = match &outcome {
-        Outcome::Differs(difference) => origin_of(rt.alloc(), script, difference)?,
-        _ => None,
-    };
-    println!(rt; "{name}: {outcome}").map_err(CheckFault::Unwritten)?;
-    match origin {
-        Some(origin) => println!(rt; "  script: {origin}").map_err(CheckFault::Unwritten),
-        None => Ok(()),
-    }
-}
-
-/// Checks a script that has no trace; it may also be faulty.
-fn check_without<R: Files + Print + Eprint + AllocGlobal>(
-    rt: &R,
-    run: &CheckRun,
-    example: &Example,
-    script: &[u8],
-    tally: &mut Tally,
-) -> Result<(), CheckFault> {
-    if let Err(fault) = printed(rt.alloc(), script) {
-        return tell_fault(rt, run, example, script, fault, tally);
-    }
-    if run.update {
-        return write_trace(rt, example, script, tally);
-    }
-    let name = example.name.as_str();
-    tally.without = tally.without.saturating_add(1);
-    println!(rt; "{name}: no trace").map_err(CheckFault::Unwritten)
-}
-
-/// Writes what a script prints into its trace.
-fn write_trace<R: Files + Print + Eprint + AllocGlobal>(
-    rt: &R,
-    example: &Example,
-    script: &[u8],
-    tally: &mut Tally,
-) -> Result<(), CheckFault> {
-    let Ok(text) = printed(rt.alloc(), script) else {
-        return Err(CheckFault::NoMemory);
-    };
-    if let Err(error) = fs::write(rt, example.trace.as_str(), text.as_slice()) {
-        return count_unread(rt, example.trace.as_str(), error, tally);
-    }
-    let name = example.name.as_str();
-    tally.written = tally.written.saturating_add(1);
-    println!(rt; "{name}: trace written").map_err(CheckFault::Unwritten)
-}
-
-/// Prints why a script has no run, explains it if explanations are asked for, and counts it.
-fn tell_fault<R: Print + AllocGlobal>(
-    rt: &R,
-    run: &CheckRun,
-    example: &Example,
-    script: &[u8],
-    fault: ScriptFault,
-    tally: &mut Tally,
-) -> Result<(), CheckFault> {
-    if fault.status() == 3 {
-        return Err(CheckFault::NoMemory);
-    }
-    tally.faulty = tally.faulty.saturating_add(1);
-    let name = example.name.as_str();
-    println!(rt; "{name}: {fault}").map_err(CheckFault::Unwritten)?;
-    match fault {
-        ScriptFault::Line { number, fault } if run.explain => {
-            match explain(rt.alloc(), script, number, fault)? {
-                Some(explanation) => println!(rt; "{explanation}").map_err(CheckFault::Unwritten),
-                None => Ok(()),
+/// The error of its methods is that of standard output, or of memory.
+impl<R: Files + Print + Eprint + AllocGlobal + Clone + Drop> Check<'_, R> {
+    /// Checks each script, and prints the counts.
+    fn check_all(&mut self) -> io::Result<()> {
+        let examples = self.examples()?;
+        for example in &examples {
+            match fs::read(self.rt, example.script.as_str()) {
+                Ok(text) => self.check_one(example, text.as_slice())?,
+                Err(error) => self.count_unread(example.script.as_str(), error)?,
             }
         }
-        _ => Ok(()),
+        let tally = self.tally;
+        if tally.has_some() {
+            println!(self.rt; "{tally}")?;
+        }
+        Ok(())
+    }
+
+    /// Checks the script or the design in this text.
+    fn check_one(&mut self, example: &Example, text: &[u8]) -> io::Result<()> {
+        let file = example.script.as_str();
+        if is_named(file) {
+            self.check_named(example, text)
+        } else if is_design(file) {
+            self.check_design(example, text)
+        } else {
+            self.check_plain(example, text)
+        }
+    }
+
+    /// Runs a script with names, and prints what differs from its expectations.
+    fn check_named(&mut self, example: &Example, text: &[u8]) -> io::Result<()> {
+        let faults = faults_of(self.rt.alloc(), text)?;
+        let Example { name, script, .. } = example;
+        if faults.is_empty() {
+            self.tally.same = self.tally.same.saturating_add(1);
+            return println!(self.rt; "{name}: as it expects");
+        }
+        self.tally.differ = self.tally.differ.saturating_add(1);
+        println!(self.rt; "{name}: not as it expects")?;
+        for fault in &faults {
+            println!(self.rt; "  {script}:{fault}")?;
+        }
+        Ok(())
+    }
+
+    /// Explores a design, and compares the words of the search with its verdict.
+    fn check_design(&mut self, example: &Example, text: &[u8]) -> io::Result<()> {
+        let name = example.name.as_str();
+        // A verdict names the file alone, so it holds wherever the folder is.
+        let file = Path::new(name).file_name().unwrap_or(name);
+        let Some(words) = words_of(self.rt.alloc(), file, text)? else {
+            self.tally.faulty = self.tally.faulty.saturating_add(1);
+            return println!(self.rt; "{name}: faulty");
+        };
+        let words = words.as_str().as_bytes();
+        match self.wanted(example) {
+            Ok(Some(verdict)) if verdict.as_slice() == words => self.tell_same(example),
+            Ok(verdict) => {
+                self.settle(example, words, verdict)?;
+                Ok(())
+            }
+            Err(error) => self.count_unread(example.trace.as_str(), error),
+        }
+    }
+
+    /// Runs a script, and compares what it prints with its trace.
+    fn check_plain(&mut self, example: &Example, text: &[u8]) -> io::Result<()> {
+        let alloc = self.rt.alloc();
+        let trace = match self.wanted(example) {
+            Ok(trace) => trace,
+            Err(error) => return self.count_unread(example.trace.as_str(), error),
+        };
+        let outcome = match &trace {
+            Some(trace) => outcome_of(alloc, text, trace.as_slice()),
+            None => match printed(alloc, text) {
+                Ok(found) => Outcome::Differs(found),
+                Err(fault) => Outcome::Fault(fault),
+            },
+        };
+        match outcome {
+            Outcome::Same => self.tell_same(example),
+            Outcome::Fault(fault) => self.tell_fault(example, text, fault),
+            Outcome::Differs(found) => match self.settle(example, found.as_slice(), trace)? {
+                Some(difference) => self.tell_origin(text, &difference),
+                None => Ok(()),
+            },
+        }
+    }
+
+    /// Returns what an example has to print, or `None` if nothing says it.
+    fn wanted(&self, example: &Example) -> io::Result<Option<Vec<u8>>> {
+        match fs::read(self.rt, example.trace.as_str()) {
+            Ok(text) => Ok(Some(without_returns(self.rt.alloc(), text.as_slice())?)),
+            Err(error) if error.kind() == io::ErrorKind::NotFound => Ok(None),
+            Err(error) => Err(error),
+        }
+    }
+
+    /// Tells that an example printed what it has to.
+    fn tell_same(&mut self, example: &Example) -> io::Result<()> {
+        self.tally.same = self.tally.same.saturating_add(1);
+        let Example { name, what, .. } = example;
+        println!(self.rt; "{name}: as its {what} says")
+    }
+
+    /// Writes what an example printed in place of what was wanted, if that is asked for; else tells and returns the
+    /// difference, or tells that nothing was wanted.
+    fn settle(
+        &mut self,
+        example: &Example,
+        found: &[u8],
+        wanted: Option<Vec<u8>>,
+    ) -> io::Result<Option<Difference>> {
+        let Example { name, what, .. } = example;
+        if self.run.update {
+            self.update(example, found)?;
+            return Ok(None);
+        }
+        let Some(wanted) = wanted else {
+            self.tally.without = self.tally.without.saturating_add(1);
+            println!(self.rt; "{name}: no {what}")?;
+            return Ok(None);
+        };
+        let difference = difference_of(self.rt.alloc(), found, wanted.as_slice())?;
+        let line = difference.line;
+        self.tally.differ = self.tally.differ.saturating_add(1);
+        println!(self.rt; "{name}: differs from its {what} at line {line}\n{difference}")?;
+        Ok(Some(difference))
+    }
+
+    /// Writes what an example printed in place of what was wanted.
+    fn update(&mut self, example: &Example, found: &[u8]) -> io::Result<()> {
+        if let Err(error) = fs::write(self.rt, example.trace.as_str(), found) {
+            return self.count_unread(example.trace.as_str(), error);
+        }
+        let Example { name, what, .. } = example;
+        self.tally.written = self.tally.written.saturating_add(1);
+        println!(self.rt; "{name}: {what} written")
+    }
+
+    /// Prints the line of a script from which a difference comes, if it is about a call.
+    fn tell_origin(&self, script: &[u8], difference: &Difference) -> io::Result<()> {
+        let lines = call_lines(self.rt.alloc(), script)?;
+        let Some(call) = difference.call() else {
+            return Ok(());
+        };
+        let Some(number) = lines.get(call.saturating_sub(1) as usize) else {
+            return Ok(());
+        };
+        let line = Lines(script).nth(number.saturating_sub(1)).unwrap_or(&[]);
+        let mut shown = String::new(self.rt.alloc());
+        for byte in line.iter().take(MOST_SHOWN) {
+            match *byte {
+                0x20..=0x7e => shown.push(*byte as char)?,
+                _ => shown.push(' ')?,
+            }
+        }
+        let dots = if line.len() > MOST_SHOWN { ".." } else { "" };
+        println!(self.rt; "  script: line {number}: {shown}{dots}")
+    }
+
+    /// Prints why a script has no run, and explains it if explanations are asked for.
+    fn tell_fault(&mut self, example: &Example, text: &[u8], fault: ScriptFault) -> io::Result<()> {
+        if fault.status() == 3 {
+            return Err(io::Error::from(io::ErrorKind::OutOfMemory));
+        }
+        self.tally.faulty = self.tally.faulty.saturating_add(1);
+        let name = example.name.as_str();
+        println!(self.rt; "{name}: {fault}")?;
+        if let ScriptFault::Line { number, fault } = fault
+            && self.run.explain
+            && let Some(explanation) = explain(self.rt.alloc(), text, number, fault)?
+        {
+            println!(self.rt; "{explanation}")?;
+        }
+        Ok(())
+    }
+
+    /// Reports a file or folder that can't be read or written, and counts it.
+    fn count_unread(&mut self, path: &str, error: io::Error) -> io::Result<()> {
+        if error.kind() == io::ErrorKind::OutOfMemory {
+            return Err(error);
+        }
+        tell_unread(self.rt, path, error);
+        self.tally.unread = self.tally.unread.saturating_add(1);
+        Ok(())
     }
 }

@@ -1,8 +1,10 @@
-//! Ends the program: with its statuses, and a line on standard error.
+//! Unproved: words and layout. Ends the program: with its statuses, and a line on standard error.
 
 use std::fmt::Display;
-use std::io;
+use std::io::{Read, Write};
 use std::process::ExitCode;
+use std::rt::Files;
+use std::{fs, io};
 
 /// The exit status if nobody reads the output any more: that of a program killed by SIGPIPE.
 const CLOSED: u8 = 141;
@@ -38,11 +40,32 @@ pub fn end_unread(rt: &impl Eprint, path: &str, error: io::Error) -> ExitCode {
     end_failed(rt, format_args!("{path}: {error}"))
 }
 
-/// Ends the program because standard output can't be written.
+/// Ends the program because standard output can't be written, or because there is no memory.
 pub fn end_unwritten(rt: &impl Eprint, error: io::Error) -> ExitCode {
     match error.kind() {
         io::ErrorKind::BrokenPipe => end_quietly(),
         io::ErrorKind::OutOfMemory => end_failed(rt, "out of memory"),
         _ => end_failed(rt, "write failed"),
     }
+}
+
+/// Returns the text of a file, or of standard input if there is none; the program ends if it can't be read.
+pub fn text_of<R: Files + Input + Eprint + AllocGlobal>(
+    rt: &R,
+    file: Option<&str>,
+) -> Result<Vec<u8>, ExitCode> {
+    if let Some(name) = file {
+        return fs::read(rt, name).map_err(|error| end_unread(rt, name, error));
+    }
+    let mut text = Vec::new(rt.alloc());
+    match rt.reader().read_to_end(&mut text) {
+        Ok(_) => Ok(text),
+        Err(_) => Err(end_failed(rt, "read failed")),
+    }
+}
+
+/// Prints a text; the program ends if it can't be written.
+pub fn print_text<R: Print + Eprint>(rt: &R, text: &str) -> Result<(), ExitCode> {
+    let printed = io::writer(rt).write_all(text.as_bytes());
+    printed.map_err(|error| end_unwritten(rt, error))
 }

@@ -3,35 +3,20 @@
 ghost use Rattle.std.specs.Prelude.{◌≡◌, IfOk};
 ghost use Rattle.qscript.specs.Script.{Runs};
 
-use crate::difference::{Difference, difference_of};
 use qscript::fault::ScriptFault;
 use qscript::script::script;
 use qscript::watched::Watched;
 use std::alloc::Global;
-use std::fmt;
 
 /// The outcome of an example.
 #[derive(Drop)]
 pub enum Outcome {
     /// It printed its trace.
     Same,
-    /// It printed something else, first in this line.
-    Differs(Difference),
+    /// It printed this.
+    Differs(Vec<u8>),
     /// It has no run, because of this fault.
     Fault(ScriptFault),
-}
-
-impl fmt::Display for Outcome {
-    fn fmt<W: fmt::Write>(&self, f: &mut fmt::Formatter<W>) -> fmt::Result {
-        match self {
-            Outcome::Same => write!(f, "as its trace says"),
-            Outcome::Differs(difference) => {
-                let line = difference.line();
-                write!(f, "differs from its trace at line {line}\n{difference}")
-            }
-            Outcome::Fault(fault) => write!(f, "{fault}"),
-        }
-    }
 }
 
 /// Returns what a script prints: the text of a lawful run of it.
@@ -56,8 +41,5 @@ pub fn outcome_of(alloc: Global, input: &[u8], trace: &[u8]) -> Outcome
     if printed.as_slice() == trace {
         return Outcome::Same;
     }
-    match difference_of(alloc, printed.as_slice(), trace) {
-        Ok(difference) => Outcome::Differs(difference),
-        Err(_) => Outcome::Fault(ScriptFault::NoMemory),
-    }
+    Outcome::Differs(printed)
 }

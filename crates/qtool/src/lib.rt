@@ -1,8 +1,10 @@
-//! The program except its command line and the server on threads: its work with scripts and designs.
+//! Unproved: words and layout. The program except the server on threads: its command line, and its
+//! work with scripts and designs.
 #![tactic(auto)]
 
 pub mod charts;
 pub mod check;
+pub mod command;
 pub mod designs;
 pub mod difference;
 pub mod ending;
@@ -14,3 +16,4 @@ pub mod remarks;
 pub mod scripts;
 pub mod streams;
 pub mod summary;
+pub mod texts;

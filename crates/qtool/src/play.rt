@@ -1,19 +1,19 @@
-//! Plays with a kernel: each line of the input is a line of a script or a command, and is answered at once.
+//! Unproved: words and layout. Plays with a kernel: each line of the input is a line of a script or
+//! a command, and is answered at once.
 
 mod order;
 pub mod sheet;
 
-use crate::ending::{end_failed, end_unread, end_unwritten, tell_failed, tell_unread};
-use crate::names::{is_named, show_fault};
+use crate::command::PlayRun;
+use crate::ending::{end_failed, end_unwritten, tell_failed, tell_unread, text_of};
+use crate::names::is_named;
+use crate::remarks::Source;
 use order::{Order, order_of};
-use qcommand::command::PlayRun;
 use qexplain::explain;
-use qnames::fault::Fault;
-use qreplay::report::report_of;
-use qreplay::states::states_of;
+use qreading::place::Fault;
 use qscript::fault::{LineFault, ScriptFault};
 use sheet::{Sheet, Taken};
-use std::alloc::{AllocError, AllocFailed};
+use std::alloc::AllocError;
 use std::io::{BufRead, BufReader, Write};
 use std::process::ExitCode;
 use std::rt::Files;
@@ -35,38 +35,6 @@ save FILE                              write the lines so far
 quit                                   end
 ";
 
-/// The reason why a play ends before its input does.
-#[derive(Drop)]
-enum PlayFault {
-    NoMemory,
-    Unread,
-    Unwritten(io::Error),
-}
-
-impl From<AllocError> for PlayFault {
-    fn from(_e: AllocError) -> PlayFault {
-        PlayFault::NoMemory
-    }
-}
-
-impl<T: Drop> From<AllocFailed<T>> for PlayFault {
-    fn from(_e: AllocFailed<T>) -> PlayFault {
-        PlayFault::NoMemory
-    }
-}
-
-impl From<ScriptFault> for PlayFault {
-    fn from(_e: ScriptFault) -> PlayFault {
-        PlayFault::NoMemory
-    }
-}
-
-impl From<io::Error> for PlayFault {
-    fn from(error: io::Error) -> PlayFault {
-        PlayFault::Unwritten(error)
-    }
-}
-
 /// A play: the script so far, and the state of the play.
 #[derive(Drop)]
 struct Play<'a, R> {
@@ -87,7 +55,7 @@ pub fn run_play<R: Files + Input + Print + Eprint + AllocGlobal>(
     rt: &R,
     run: &PlayRun,
     terminal: bool,
-) -> ExitCode {
+) -> Result<ExitCode, ExitCode> {
     let mut play = Play {
         rt,
         sheet: Sheet::new(rt.alloc()),
@@ -95,91 +63,61 @@ pub fn run_play<R: Files + Input + Print + Eprint + AllocGlobal>(
         lines: 0,
         faulty: false,
     };
-    if let Some(name) = &run.file {
-        let text = match fs::read(rt, name.as_str()) {
-            Ok(text) => text,
-            Err(error) => return end_unread(rt, name.as_str(), error),
-        };
-        match play.take_file(text.as_slice(), name.as_str()) {
-            Ok(true) => {}
-            Ok(false) => return ExitCode::FAILURE,
-            Err(fault) => return end_play(rt, fault),
+    let played = match run.file.as_deref() {
+        None => play.go_on(),
+        Some(name) => {
+            let text = text_of(rt, Some(name))?;
+            match play.take_file(text.as_slice(), name) {
+                Ok(true) => play.go_on(),
+                Ok(false) => Ok(ExitCode::FAILURE),
+                Err(error) => Err(error),
+            }
         }
-    }
-    match play.go_on() {
-        Ok(()) if play.faulty && !terminal => ExitCode::FAILURE,
-        Ok(()) => ExitCode::SUCCESS,
-        Err(fault) => end_play(rt, fault),
-    }
+    };
+    played.map_err(|error| end_unwritten(rt, error))
 }
 
-/// Ends a play that can't go on.
-fn end_play<R: Eprint>(rt: &R, fault: PlayFault) -> ExitCode {
-    match fault {
-        PlayFault::NoMemory => end_failed(rt, "out of memory"),
-        PlayFault::Unread => end_failed(rt, "read failed"),
-        PlayFault::Unwritten(error) => end_unwritten(rt, error),
-    }
-}
-
+/// The error of its methods is that of standard output, or of memory.
 impl<R: Files + Input + Print + Eprint + AllocGlobal> Play<'_, R> {
     /// Prints bytes as they are.
-    fn print(&self, bytes: &[u8]) -> Result<(), PlayFault> {
-        Ok(io::writer(self.rt).write_all(bytes)?)
+    fn print(&self, bytes: &[u8]) -> io::Result<()> {
+        io::writer(self.rt).write_all(bytes)
     }
 
     /// Begins with the script of a file, and returns whether it has no fault. A fault is reported as `script` reports
     /// it.
-    fn take_file(&mut self, text: &[u8], name: &str) -> Result<bool, PlayFault> {
+    fn take_file(&mut self, text: &[u8], name: &str) -> io::Result<bool> {
+        let file = Some(name);
         let taken = if is_named(name) {
-            self.sheet.add_named(text)
+            Ok(self.sheet.add_named(text)?)
         } else {
             self.sheet.add_plain(text)
         };
         match taken {
-            Ok(Taken::Added(addition)) => {
-                self.print(addition.printed.as_slice())?;
-                self.tell_faults(addition.faults.as_slice(), Some(name), text);
-                Ok(true)
+            Ok(Taken::Added(printed, faults)) => {
+                self.print(printed.as_slice())?;
+                self.tell_faults(faults.as_slice(), file, text);
+                return Ok(true);
             }
             Ok(Taken::Plain(number, fault)) => {
                 tell_failed(self.rt, format_args!("{name}: line {number}: {fault}"));
-                Ok(false)
             }
-            Ok(Taken::Named(faults)) => {
-                self.tell_faults(faults.as_slice(), Some(name), text);
-                Ok(false)
-            }
-            Err(ScriptFault::NoMemory) => Err(PlayFault::NoMemory),
-            Err(fault) => {
-                tell_failed(self.rt, format_args!("{name}: {fault}"));
-                Ok(false)
-            }
+            Ok(Taken::Named(faults)) => self.tell_faults(faults.as_slice(), file, text),
+            Err(ScriptFault::NoMemory) => return Err(AllocError.into()),
+            Err(fault) => tell_failed(self.rt, format_args!("{name}: {fault}")),
         }
+        Ok(false)
     }
 
     /// Reports faults of a script with names by their places in its text, which is that of a file or the lines read.
     fn tell_faults(&mut self, faults: &[Fault], file: Option<&str>, text: &[u8]) {
-        for fault in faults {
-            self.faulty = true;
-            let what = fault.what.as_str();
-            let line = fault.place.line;
-            let column = fault.place.column;
-            match file {
-                Some(name) => tell_failed(self.rt, format_args!("{name}:{line}:{column}: {what}")),
-                None => tell_failed(
-                    self.rt,
-                    format_args!("line {line}, column {column}: {what}"),
-                ),
-            }
-            if self.terminal {
-                show_fault(self.rt, text, fault);
-            }
-        }
+        self.faulty = self.faulty || !faults.is_empty();
+        let shows = self.terminal;
+        Source { file, text, shows }.tell_faults(self.rt, faults);
     }
 
-    /// Reads lines and answers them, up to the end of the input or to `quit`.
-    fn go_on(&mut self) -> Result<(), PlayFault> {
+    /// Reads lines and answers them, up to the end of the input or to `quit`, and returns the exit code.
+    fn go_on(&mut self) -> io::Result<ExitCode> {
         let mut input = BufReader::new(self.rt.alloc(), self.rt.reader())?;
         for _ in 0..u64::MAX {
             if self.terminal {
@@ -189,48 +127,46 @@ impl<R: Files + Input + Print + Eprint + AllocGlobal> Play<'_, R> {
             match input.read_until(b'\n', &mut line) {
                 Ok(0) => break,
                 Ok(_) => {}
-                Err(error) => return Err(read_fault(error)),
+                Err(error) if error.kind() == io::ErrorKind::OutOfMemory => return Err(error),
+                Err(_) => return Ok(end_failed(self.rt, "read failed")),
             }
             if !self.answer(line.as_slice())? {
                 break;
             }
         }
-        self.finish()
+        self.finish()?;
+        if self.faulty && !self.terminal {
+            return Ok(ExitCode::FAILURE);
+        }
+        Ok(ExitCode::SUCCESS)
     }
 
     /// Carries out the order of a line, and returns whether the play goes on.
-    fn answer(&mut self, line: &[u8]) -> Result<bool, PlayFault> {
+    fn answer(&mut self, line: &[u8]) -> io::Result<bool> {
         self.lines = self.lines.saturating_add(1);
         match order_of(without_end(line)) {
             Order::Quit => return Ok(false),
             Order::Help => self.print(HELP.as_bytes())?,
-            Order::State => self.tell_states()?,
+            Order::State => {
+                let states = self.sheet.session().states(self.rt.alloc())?;
+                self.print(states.as_str().as_bytes())?;
+            }
             Order::Undo => self.undo()?,
-            Order::Save(name) => self.save(name)?,
+            Order::Save(name) => self.save(name),
             Order::Line => self.take(line)?,
         }
         Ok(true)
     }
 
-    /// Prints the state of each thread.
-    fn tell_states(&self) -> Result<(), PlayFault> {
-        let states = states_of(self.rt.alloc(), self.sheet.session().text())?;
-        self.print(states.as_str().as_bytes())
-    }
-
     /// Removes the last line, and prints it.
-    fn undo(&mut self) -> Result<(), PlayFault> {
-        match self.sheet.undo()? {
-            Some(line) => {
-                self.print(b"undo ")?;
-                self.print(line.as_slice())?;
-                self.print(b"\n")
-            }
-            None => {
-                self.refuse("there is no line to take back");
-                Ok(())
-            }
-        }
+    fn undo(&mut self) -> io::Result<()> {
+        let Some(line) = self.sheet.undo()? else {
+            self.refuse("there is no line to take back");
+            return Ok(());
+        };
+        self.print(b"undo ")?;
+        self.print(line.as_slice())?;
+        self.print(b"\n")
     }
 
     /// Reports that a line can't be carried out.
@@ -245,32 +181,26 @@ impl<R: Files + Input + Print + Eprint + AllocGlobal> Play<'_, R> {
     }
 
     /// Writes the lines so far into a file.
-    fn save(&mut self, name: &[u8]) -> Result<(), PlayFault> {
+    fn save(&mut self, name: &[u8]) {
         let name = match str::from_utf8(name) {
             Ok(name) if !name.is_empty() => name,
-            _ => {
-                self.refuse("save takes the name of a file");
-                return Ok(());
-            }
+            _ => return self.refuse("save takes the name of a file"),
         };
         if let Err(error) = fs::write(self.rt, name, self.sheet.text()) {
             self.faulty = true;
             tell_unread(self.rt, name, error);
         } else if self.sheet.has_names() && !is_named(name) {
-            tell_failed(
-                self.rt,
-                format_args!("{name}: a script with names runs from a file NAME.names"),
-            );
+            let why = format_args!("{name}: a script with names runs from a file NAME.names");
+            tell_failed(self.rt, why);
         }
-        Ok(())
     }
 
     /// Adds a line to the script, and prints what it adds to the trace.
-    fn take(&mut self, line: &[u8]) -> Result<(), PlayFault> {
+    fn take(&mut self, line: &[u8]) -> io::Result<()> {
         match self.sheet.add(line) {
-            Ok(Taken::Added(addition)) => {
-                self.print(addition.printed.as_slice())?;
-                self.tell_typed(addition.faults.as_slice(), &[])?;
+            Ok(Taken::Added(printed, faults)) => {
+                self.print(printed.as_slice())?;
+                self.tell_typed(faults.as_slice(), &[])?;
                 if self.terminal {
                     self.tell_more()?;
                 }
@@ -278,7 +208,7 @@ impl<R: Files + Input + Print + Eprint + AllocGlobal> Play<'_, R> {
             }
             Ok(Taken::Plain(number, fault)) => self.tell_fault(line, number, fault),
             Ok(Taken::Named(faults)) => self.tell_typed(faults.as_slice(), line),
-            Err(ScriptFault::NoMemory) => Err(PlayFault::NoMemory),
+            Err(ScriptFault::NoMemory) => Err(AllocError.into()),
             Err(_) => {
                 self.refuse("script too long");
                 Ok(())
@@ -287,44 +217,49 @@ impl<R: Files + Input + Print + Eprint + AllocGlobal> Play<'_, R> {
     }
 
     /// Returns the lines so far with this one behind them, without adding it.
-    fn text_with(&self, line: &[u8]) -> Result<Vec<u8>, PlayFault> {
+    fn text_with(&self, line: &[u8]) -> Result<Vec<u8>, AllocError> {
         let mut text = Vec::from_slice(self.rt.alloc(), self.sheet.text())?;
         text.extend_from_slice(line)?;
         Ok(text)
     }
 
     /// Reports faults of the lines so far with this one behind them.
-    fn tell_typed(&mut self, faults: &[Fault], line: &[u8]) -> Result<(), PlayFault> {
-        let text = self.text_with(line)?;
-        self.tell_faults(faults, None, text.as_slice());
+    fn tell_typed(&mut self, faults: &[Fault], line: &[u8]) -> io::Result<()> {
+        if !faults.is_empty() {
+            let text = self.text_with(line)?;
+            self.tell_faults(faults, None, text.as_slice());
+        }
         Ok(())
     }
 
     /// Reports the fault of a line of a plain script, and explains it on a terminal.
-    fn tell_fault(&mut self, line: &[u8], number: u64, fault: LineFault) -> Result<(), PlayFault> {
+    fn tell_fault(&mut self, line: &[u8], number: u64, fault: LineFault) -> io::Result<()> {
         let why = format!(in self.rt.alloc(); "{fault}")?;
         self.refuse(why.as_str());
         if !self.terminal {
             return Ok(());
         }
         let text = self.text_with(line)?;
-        if let Some(explanation) = explain(self.rt.alloc(), text.as_slice(), number, fault)? {
-            eprintln!(self.rt; "{explanation}")?;
+        match explain(self.rt.alloc(), text.as_slice(), number, fault)? {
+            Some(explanation) => eprintln!(self.rt; "{explanation}"),
+            None => Ok(()),
         }
-        Ok(())
     }
 
-    /// Prints who is blocked now, why calls failed, and which threads wait in a circle.
-    fn tell_more(&self) -> Result<(), PlayFault> {
+    /// Prints why calls failed, who is blocked now, and which threads wait in a circle.
+    fn tell_more(&self) -> io::Result<()> {
         let alloc = self.rt.alloc();
-        for failure in &self.sheet.session().failures()? {
+        let Some(run) = self.sheet.session().run() else {
+            return Ok(());
+        };
+        for failure in &run.refusals(alloc)? {
             println!(self.rt; "  {failure}")?;
         }
-        let report = report_of(alloc, self.sheet.session().text())?;
-        for wait in &report.waits {
+        let waits = run.waits(alloc)?;
+        for wait in &waits {
             println!(self.rt; "  {wait}")?;
         }
-        for deadlock in &report.deadlocks {
+        for deadlock in &run.deadlocks(alloc, waits.as_slice())? {
             println!(self.rt; "  {deadlock}")?;
         }
         Ok(())
@@ -332,21 +267,13 @@ impl<R: Files + Input + Print + Eprint + AllocGlobal> Play<'_, R> {
 
     /// Prints the blocked threads at the end, if the input isn't a terminal, and what differs from the expectations
     /// then.
-    fn finish(&mut self) -> Result<(), PlayFault> {
+    fn finish(&mut self) -> io::Result<()> {
         if !self.terminal {
             let blocked = self.sheet.session().blocked()?;
             self.print(blocked.as_slice())?;
         }
         let faults = self.sheet.finish()?;
         self.tell_typed(faults.as_slice(), &[])
-    }
-}
-
-/// Returns the reason why a line can't be read.
-fn read_fault(error: io::Error) -> PlayFault {
-    match error.kind() {
-        io::ErrorKind::OutOfMemory => PlayFault::NoMemory,
-        _ => PlayFault::Unread,
     }
 }
 

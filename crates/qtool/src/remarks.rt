@@ -1,63 +1,89 @@
-//! Writes remarks on a script to standard error: all its faults, its oddities, why its calls failed, and who is blocked
-//! on whom.
+//! Unproved: words and layout. Writes remarks on a script to standard error: all its faults, its
+//! oddities, why its calls failed, and who is blocked on whom.
 
+use qexplain::excerpt::excerpt_of;
 use qexplain::faults::{Remark, faults, oddities};
-use qreplay::report::Report;
-use std::alloc::{AllocError, Global};
+use qexplain::report::Report;
+use qreading::parts::{Lines, Place};
+use qreading::place::Fault;
 use std::io;
+use std::process::ExitCode;
 
-/// Returns `FILE:LINE:COLUMN` of a remark, or `line LINE` if the script has no file.
-fn remark_place(alloc: Global, file: Option<&str>, remark: &Remark) -> Result<String, AllocError> {
-    let line = remark.line;
-    let column = remark.explanation.column();
-    match file {
-        Some(name) => format!(in alloc; "{name}:{line}:{column}"),
-        None => format!(in alloc; "line {line}"),
+/// The source of faults: the name of its file, its text, and whether the faulty lines are shown.
+#[derive(Clone, Copy)]
+pub struct Source<'a> {
+    pub file: Option<&'a str>,
+    pub text: &'a [u8],
+    pub shows: bool,
+}
+
+impl Source<'_> {
+    /// Prints faults, a line for each, and below it the faulty line with a mark, if it is to be shown.
+    pub fn tell_faults<R: Eprint + AllocGlobal>(self, rt: &R, faults: &[Fault]) {
+        for fault in faults {
+            let Fault { place, what } = fault;
+            let (line, column) = (place.line, place.column);
+            let _ = match self.file {
+                Some(file) => eprintln!(rt; "qdemo: {file}:{fault}"),
+                None => eprintln!(rt; "qdemo: line {line}, column {column}: {what}"),
+            };
+            let number = line.saturating_sub(1) as usize;
+            let place = Place {
+                at: column.saturating_sub(1) as usize,
+                len: 1,
+            };
+            if self.shows
+                && let Some(line) = Lines(self.text).nth(number)
+                && let Ok(excerpt) = excerpt_of(rt.alloc(), line, place)
+            {
+                let _ = eprintln!(rt; "{excerpt}");
+            }
+        }
+    }
+
+    /// Prints faults, and ends the program with status 1.
+    pub fn end_faulty<R: Eprint + AllocGlobal>(self, rt: &R, faults: &[Fault]) -> ExitCode {
+        self.tell_faults(rt, faults);
+        ExitCode::FAILURE
     }
 }
 
-/// Returns `FILE:LINE`, or `line LINE` if the script has no file.
-fn line_place(alloc: Global, file: Option<&str>, line: usize) -> Result<String, AllocError> {
-    match file {
-        Some(name) => format!(in alloc; "{name}:{line}"),
-        None => format!(in alloc; "line {line}"),
-    }
-}
-
-/// Prints the place of the first fault of a text in a file.
-pub fn tell_first_fault<R: Eprint + AllocGlobal>(rt: &R, file: &str, text: &[u8]) {
+/// Tells the faults of a plain script: explains them, at most twenty, or else prints the place of the first. If the
+/// text has no file, the first fault has no line of its own, since it was printed before. What there is no memory for
+/// is left out.
+pub fn tell_faults<R: Eprint + AllocGlobal>(
+    rt: &R,
+    file: Option<&str>,
+    text: &[u8],
+    explains: bool,
+) {
     let Ok(remarks) = faults(rt.alloc(), text) else {
         return;
     };
-    if let Some(remark) = remarks.first() {
-        let _ = tell_place(rt, Some(file), remark);
-    }
-}
-
-/// Explains the faults of a text, at most twenty. If the text has no file, the first fault has no line of its own,
-/// since it was printed before. What there is no memory for is left out.
-pub fn tell_faults<R: Eprint + AllocGlobal>(rt: &R, file: Option<&str>, text: &[u8]) {
-    let Ok(remarks) = faults(rt.alloc(), text) else {
-        return;
-    };
-    let mut has_place = file.is_some();
-    for remark in &remarks {
-        if has_place {
+    for (index, remark) in remarks.iter().enumerate() {
+        if file.is_some() || index > 0 {
             let _ = tell_place(rt, file, remark);
+        }
+        if !explains {
+            break;
         }
         let explanation = &remark.explanation;
         let _ = eprintln!(rt; "{explanation}");
-        has_place = true;
     }
 }
 
-/// Prints `PLACE: FAULT`.
+/// Prints `FILE:LINE:COLUMN: FAULT`, or `line LINE: FAULT` if the script has no file.
 fn tell_place<R: Eprint + AllocGlobal>(
     rt: &R,
     file: Option<&str>,
     remark: &Remark,
 ) -> io::Result<()> {
-    let place = remark_place(rt.alloc(), file, remark)?;
+    let line = remark.line;
+    let column = remark.explanation.column();
+    let place = match file {
+        Some(name) => format!(in rt.alloc(); "{name}:{line}:{column}")?,
+        None => format!(in rt.alloc(); "line {line}")?,
+    };
     match remark.fault {
         Some(fault) => eprintln!(rt; "{place}: {fault}"),
         None => eprintln!(rt; "{place}: warning"),
@@ -80,34 +106,22 @@ pub fn tell_report<R: Eprint + AllocGlobal>(
 }
 
 /// Prints why a script's calls failed, and who is blocked on whom at its end.
-pub fn tell_run<R: Eprint + AllocGlobal>(
-    rt: &R,
-    file: Option<&str>,
-    report: &Report,
-) -> io::Result<()> {
-    tell_refusals(rt, file, report)?;
+pub fn tell_run<R: Eprint>(rt: &R, file: Option<&str>, report: &Report) -> io::Result<()> {
+    for (line, refusal) in &report.refusals {
+        match file {
+            Some(name) => eprintln!(rt; "{name}:{line}: {refusal}")?,
+            None => eprintln!(rt; "line {line}: {refusal}")?,
+        }
+    }
+    let more = report.failures.saturating_sub(report.refusals.len());
+    if more > 0 {
+        eprintln!(rt; "and {more} more that failed")?;
+    }
     for wait in &report.waits {
         eprintln!(rt; "{wait}")?;
     }
     for deadlock in &report.deadlocks {
         eprintln!(rt; "{deadlock}")?;
-    }
-    Ok(())
-}
-
-/// Prints why calls failed.
-fn tell_refusals<R: Eprint + AllocGlobal>(
-    rt: &R,
-    file: Option<&str>,
-    report: &Report,
-) -> io::Result<()> {
-    for (line, refusal) in &report.refusals {
-        let place = line_place(rt.alloc(), file, *line)?;
-        eprintln!(rt; "{place}: {refusal}")?;
-    }
-    let more = report.failures.saturating_sub(report.refusals.len());
-    if more > 0 {
-        eprintln!(rt; "and {more} more that failed")?;
     }
     Ok(())
 }

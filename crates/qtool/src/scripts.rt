@@ -1,13 +1,14 @@
-//! Runs a script, from a file or from standard input.
+//! Unproved: words and layout. Runs a script, from a file or from standard input.
 
-use crate::ending::{end_failed, end_quietly, end_unread, end_with};
+use crate::command::ScriptRun;
+use crate::ending::{end_quietly, end_unread, end_with, print_text};
 use crate::names::{is_named, run_named};
-use crate::remarks::{tell_faults, tell_first_fault, tell_report};
+use crate::remarks::{tell_faults, tell_report};
 use crate::streams::{Outlet, Source};
-use qcommand::command::ScriptRun;
-use qreplay::report::report_of;
+use qexplain::report::explained;
 use qscript::fault::ScriptFault;
 use qscript::script::script;
+use qscript::transfer::read_all;
 use qscript::watched::Watched;
 use std::io::Read;
 use std::process::ExitCode;
@@ -19,90 +20,80 @@ use std::{fs, io};
 pub fn run_script<R: Files + Input + Print + Eprint + AllocGlobal>(
     rt: &R,
     run: &ScriptRun,
-) -> ExitCode {
-    match &run.file {
-        Some(name) if is_named(name.as_str()) => run_named(rt, run, name.as_str()),
-        _ if run.plain => end_with(rt, "--plain wants a file NAME.names", 2),
-        _ => run_plain(rt, run),
+) -> Result<ExitCode, ExitCode> {
+    match run.file.as_deref() {
+        Some(name) if is_named(name) => run_named(rt, run, name),
+        _ if run.plain => Err(end_with(rt, "--plain wants a file NAME.names", 2)),
+        None => run_plain(rt, run, rt.reader()),
+        Some(name) => match fs::open(rt, name) {
+            Ok(file) => run_plain(rt, run, file),
+            Err(error) => Err(end_unread(rt, name, error)),
+        },
     }
 }
 
-/// Runs a plain script, from a file or from standard input.
-fn run_plain<R: Files + Input + Print + Eprint + AllocGlobal>(rt: &R, run: &ScriptRun) -> ExitCode {
-    let Some(name) = &run.file else {
-        return run_from(rt, run, rt.reader());
-    };
-    match fs::open(rt, name.as_str()) {
-        Ok(file) => run_from(rt, run, file),
-        Err(error) => end_unread(rt, name.as_str(), error),
-    }
-}
-
-/// Runs the script that this reader gives.
-fn run_from<R: Print + Eprint + AllocGlobal, S: Read + Drop>(
+/// Runs the plain script that this reader gives.
+fn run_plain<R: Print + Eprint + AllocGlobal, S: Read + Drop>(
     rt: &R,
     run: &ScriptRun,
     input: S,
-) -> ExitCode {
-    let keeps = run.explain || run.strict || run.terminal || run.file.is_some();
+) -> Result<ExitCode, ExitCode> {
+    if run.explain || run.strict {
+        return explain_from(rt, run, input);
+    }
+    let keeps = run.terminal || run.file.is_some();
     let mut reader = Watched::new(Source::new(rt.alloc(), input, keeps));
     let mut writer = Watched::new(Outlet::new(io::writer(rt)));
     match script(rt.alloc(), &mut reader, &mut writer) {
-        Ok(()) => end_of_run(rt, run, reader.into_inner().text()),
-        Err(ScriptFault::Write) if writer.into_inner().is_closed() => end_quietly(),
-        Err(fault) => end_faulty(rt, run, fault, &reader.into_inner()),
+        Ok(()) => Ok(ExitCode::SUCCESS),
+        Err(ScriptFault::Write) if writer.into_inner().is_closed() => Err(end_quietly()),
+        Err(fault) => Err(end_faulty(rt, run, fault, &reader.into_inner())),
     }
 }
 
-/// Ends the program for a script that has no run, and prints why.
+/// Runs the script that this reader gives, and reports on the same run. The status is 1 for a failure if the run is
+/// strict.
+fn explain_from<R: Print + Eprint + AllocGlobal, S: Read + Drop>(
+    rt: &R,
+    run: &ScriptRun,
+    input: S,
+) -> Result<ExitCode, ExitCode> {
+    let mut reader = Watched::new(Source::new(rt.alloc(), input, true));
+    let explained = match read_all(rt.alloc(), &mut reader) {
+        Ok(text) => explained(rt.alloc(), text.as_slice()),
+        Err(fault) => Err(fault),
+    };
+    let source = reader.into_inner();
+    let (trace, report) = match explained {
+        Ok(explained) => explained,
+        Err(fault) => return Err(end_faulty(rt, run, fault, &source)),
+    };
+    print_text(rt, trace.as_str())?;
+    if run.explain {
+        let text = source.text().unwrap_or(&[]);
+        let _ = tell_report(rt, run.file.as_deref(), text, &report);
+    }
+    if run.strict && report.failures > 0 {
+        return Ok(ExitCode::FAILURE);
+    }
+    Ok(ExitCode::SUCCESS)
+}
+
+/// Ends the program for a script that has no run, and prints why: its faults with explanations if these are asked for,
+/// else the place of the first, if the script has a file.
 fn end_faulty<R: Eprint + AllocGlobal, S>(
     rt: &R,
     run: &ScriptRun,
     fault: ScriptFault,
     source: &Source<S>,
 ) -> ExitCode {
-    if let (ScriptFault::Read, Some(name), Some(error)) = (&fault, &run.file, source.error()) {
-        return end_unread(rt, name.as_str(), error);
+    let file = run.file.as_deref();
+    if let (ScriptFault::Read, Some(name), Some(error)) = (&fault, file, source.error()) {
+        return end_unread(rt, name, error);
     }
-    let status = fault.status();
-    let is_line = matches!(&fault, ScriptFault::Line { .. });
-    let code = end_with(rt, format_args!("{fault}"), status);
-    if let (true, Some(text)) = (is_line, source.text()) {
-        tell_of_faults(rt, run, text);
+    let code = end_with(rt, format_args!("{fault}"), fault.status());
+    if let (ScriptFault::Line { .. }, Some(text)) = (&fault, source.text()) {
+        tell_faults(rt, file, text, run.explain || run.terminal);
     }
     code
-}
-
-/// Reports the faults of a text: all of them with explanations if these are asked for, else the place of the first, if
-/// the text has a file.
-fn tell_of_faults<R: Eprint + AllocGlobal>(rt: &R, run: &ScriptRun, text: &[u8]) {
-    let file = run.file.as_ref().map(|name| name.as_str());
-    if run.explain || run.terminal {
-        tell_faults(rt, file, text);
-    } else if let Some(name) = file {
-        tell_first_fault(rt, name, text);
-    }
-}
-
-/// Ends the program after the trace is written: prints why calls failed if explanations are asked for, and returns
-/// status 1 for a failure if the run is strict.
-fn end_of_run<R: Eprint + AllocGlobal>(rt: &R, run: &ScriptRun, text: Option<&[u8]>) -> ExitCode {
-    if !run.explain && !run.strict {
-        return ExitCode::SUCCESS;
-    }
-    let report = match text {
-        Some(text) => report_of(rt.alloc(), text),
-        None => Err(ScriptFault::NoMemory),
-    };
-    let Ok(report) = report else {
-        return end_failed(rt, "out of memory");
-    };
-    if run.explain {
-        let file = run.file.as_ref().map(|name| name.as_str());
-        let _ = tell_report(rt, file, text.unwrap_or(&[]), &report);
-    }
-    if run.strict && report.failures > 0 {
-        return ExitCode::FAILURE;
-    }
-    ExitCode::SUCCESS
 }

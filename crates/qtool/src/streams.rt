@@ -1,4 +1,4 @@
-//! A reader and a writer that remember the system's errors.
+//! Unproved: words and layout. A reader and a writer that remember the system's errors.
 
 use std::alloc::Global;
 use std::io;
@@ -30,18 +30,14 @@ impl<R> Source<R> {
 
     /// Returns the bytes so far, if they are kept.
     pub fn text(&self) -> Option<&[u8]> {
-        match &self.kept {
-            Some(kept) => Some(kept.as_slice()),
-            None => None,
-        }
+        self.kept.as_ref().map(|kept| kept.as_slice())
     }
 
     /// Appends bytes to those that are kept.
     fn keep(&mut self, bytes: &[u8]) {
-        let Some(kept) = &mut self.kept else {
-            return;
-        };
-        if kept.extend_from_slice(bytes).is_err() {
+        if let Some(kept) = &mut self.kept
+            && kept.extend_from_slice(bytes).is_err()
+        {
             self.kept = None;
         }
     }

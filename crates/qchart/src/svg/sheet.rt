@@ -2,6 +2,7 @@
 
 use crate::chart::Chart;
 use crate::plan::{Side, words_side};
+use qbase::ids::ThreadNo;
 use std::alloc::{AllocError, Global};
 
 /// Half the width of a thread's head, if its numbers have one digit each.
@@ -34,35 +35,30 @@ const LEAST_WIDTH: usize = 620;
 /// A chart and the measures of its drawing.
 #[derive(Drop)]
 pub struct Sheet<'a> {
+    pub alloc: Global,
     pub chart: &'a Chart,
     /// Half the width of a thread's head.
     pub head_half: usize,
-    /// The number of lines of words below the rows.
-    lines: usize,
-    gap: usize,
+    /// The distance between the lines of neighbouring columns.
+    pub gap: usize,
     left: usize,
     right: usize,
 }
 
 impl Sheet<'_> {
-    /// Returns the measures that the words of a chart need, with this many lines below its rows.
-    pub fn of<'a>(alloc: Global, chart: &'a Chart, lines: usize) -> Result<Sheet<'a>, AllocError> {
+    /// Returns the measures that a chart needs.
+    pub fn of<'a>(alloc: Global, chart: &'a Chart) -> Result<Sheet<'a>, AllocError> {
         let last = chart.lifelines.len().saturating_sub(1);
         let head_half = head_half_for(chart.longest_head(alloc)?);
         let heads = head_half.saturating_mul(2).saturating_add(24);
         Ok(Sheet {
+            alloc,
             chart,
             head_half,
-            lines,
             gap: room_for(chart.longest_words()).max(LEAST_GAP).max(heads),
             left: room_beside(chart, head_half, 0, Side::Left).saturating_add(NUMBERS),
             right: room_beside(chart, head_half, last, Side::Right).max(LEAST_GAP),
         })
-    }
-
-    /// Returns the distance between the lines of neighbouring columns.
-    pub fn gap(&self) -> usize {
-        self.gap
     }
 
     /// Returns the x coordinate of a column's line.
@@ -70,28 +66,22 @@ impl Sheet<'_> {
         self.left.saturating_add(self.gap.saturating_mul(column))
     }
 
-    /// Returns the y coordinate of the row with this number, counted from 1.
-    pub fn y(&self, number: usize) -> usize {
-        BARS.saturating_add(ROW.saturating_mul(number))
+    /// Returns the x coordinate of a thread's line.
+    pub fn x_of(&self, thread: ThreadNo) -> usize {
+        self.x(self.chart.column(thread))
     }
 
-    /// Returns the y coordinate at which the bar of a state begins that starts after this many calls.
-    pub fn top_of(&self, calls: usize) -> usize {
-        if calls == 0 { BARS } else { self.y(calls) }
-    }
-
-    /// Returns the y coordinate at which the bar of a state ends that lasts until the call with this number, or until
-    /// the end.
-    pub fn bottom_of(&self, call: Option<usize>) -> usize {
-        match call {
-            Some(number) => self.y(number),
-            None => self.foot().saturating_sub(8),
-        }
+    /// Returns the y coordinate of the call with this number; that of the call before the first row is where the bars
+    /// begin.
+    pub fn y(&self, number: u64) -> usize {
+        let place = number.saturating_sub(self.chart.before) as usize;
+        BARS.saturating_add(ROW.saturating_mul(place))
     }
 
     /// Returns the y coordinate at which the threads' lines end.
     pub fn foot(&self) -> usize {
-        self.y(self.chart.rows.len()).saturating_add(ROW)
+        let rows = self.chart.rows.len().saturating_add(1);
+        BARS.saturating_add(ROW.saturating_mul(rows))
     }
 
     /// Returns the width of the drawing.
@@ -102,7 +92,7 @@ impl Sheet<'_> {
 
     /// Returns the y coordinate of the legend, below the lines of words.
     pub fn legend(&self) -> usize {
-        let lines = LINE.saturating_mul(self.lines);
+        let lines = LINE.saturating_mul(self.chart.deadlocks.len());
         self.foot().saturating_add(14).saturating_add(lines)
     }
 

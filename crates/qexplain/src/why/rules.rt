@@ -1,188 +1,320 @@
-//! Says in words which rule refused a call.
+//! Unproved: words and layout. Finds the rule that refused a call, of those in the table of
+//! `docs/MODEL.md`, and says it in words.
 
-use crate::found::{Delivery, Life};
-use crate::history::{History, Past};
-use crate::refusal::{Reason, Thing};
-use crate::waiting::wait_words;
-use crate::why::names::call_words;
-use qbase::ids::ProcessNo;
+use crate::history::{End, History, Past};
+use qbase::errno::Errno;
+use qbase::ids::{ChannelId, ConnectionId, ProcessNo};
+use qbase::state::ThreadState;
+use qkernel::kernel::Kernel;
+use qkernel::open_call::Blocked;
+use qmodel::kind::CallKind;
 use std::alloc::{AllocError, Global};
 
-/// Returns the rule that refused a call, with what the call may have meant.
+/// A call that was refused: the past calls, of which it is the last, and the kernel, which it left as it was.
+#[derive(Drop)]
+struct Refused<'a> {
+    alloc: Global,
+    kernel: &'a Kernel,
+    blocked: Vec<Blocked>,
+    history: &'a History,
+    call: Past,
+    /// What it names first: an id, a thread or flags.
+    named: u64,
+}
+
+/// Returns the rule that refused the latest call with this error, with what the call may have meant.
 pub fn rule_words(
     alloc: Global,
+    kernel: &Kernel,
     history: &History,
-    past: &Past,
-    reason: Reason,
+    call: Past,
+    errno: Errno,
 ) -> Result<String, AllocError> {
-    match reason {
-        Reason::NoChannel(channel, life) => no_channel(alloc, history, past, channel, life),
-        Reason::NoConnection(connection, life) => {
-            no_connection(alloc, history, past, connection, life)
-        }
-        Reason::NoMessage(message, delivery) => {
-            no_message(alloc, history, past, message, delivery)
-        }
-        Reason::Others(thing, number, owner) => {
-            others(alloc, history, past, (thing, number), owner)
-        }
-        Reason::Busy(number) => wait_words(alloc, history, number),
-        _ => plain_words(alloc, reason),
+    let refused = Refused {
+        alloc,
+        kernel,
+        blocked: kernel.blocked(alloc)?,
+        history,
+        call,
+        named: call.operand,
+    };
+    refused.rule(errno)
+}
+
+/// Returns the words for the limit that a call of this kind reached.
+fn limit_words(kind: CallKind) -> &'static str {
+    match kind {
+        CallKind::ChannelCreate => "64 channels are open, and there may be no more",
+        CallKind::ConnectAttach => "there are 1,024 connections, and there may be no more",
+        _ => "1,024 pulses wait on the channel, and no more may",
     }
 }
 
-/// Returns the words of a rule that need no history.
-fn plain_words(alloc: Global, reason: Reason) -> Result<String, AllocError> {
-    match reason {
-        Reason::Down(by) => format!(in alloc; "call {by} shut the kernel down"),
-        Reason::Flags(flags) => format!(in alloc;
+impl Refused<'_> {
+    /// Returns the rule that refuses it with this error.
+    fn rule(&self, errno: Errno) -> Result<String, AllocError> {
+        let kind = self.call.kind;
+        match errno {
+            Errno::Down => self.down(),
+            Errno::Busy => self.busy(),
+            Errno::NoMemory => self.plain("there was no memory for it"),
+            Errno::Again => self.plain(limit_words(kind)),
+            Errno::Badf => self.bad_connection(),
+            Errno::Inval if kind == CallKind::Pulse => {
+                self.plain("its code is below 0, and the codes of pulses are 0 to 127")
+            }
+            Errno::Inval | Errno::Srch => self.badly_named(),
+            _ => self.unknown(),
+        }
+    }
+
+    /// Returns what is wrong with what it names.
+    fn badly_named(&self) -> Result<String, AllocError> {
+        match self.call.kind {
+            CallKind::ChannelCreate => self.bad_flags(),
+            CallKind::ChannelDestroy | CallKind::ConnectAttach => self.bad_channel(),
+            CallKind::Receive | CallKind::ReceivePulse => self.bad_channel(),
+            CallKind::ConnectDetach => self.bad_connection(),
+            CallKind::PrioritySet | CallKind::State | CallKind::Unblock => self.bad_thread(),
+            CallKind::Reply | CallKind::Error | CallKind::Info => self.bad_message(),
+            CallKind::Read | CallKind::Write => self.bad_message(),
+            _ => self.unknown(),
+        }
+    }
+
+    /// Returns words as they are.
+    fn plain(&self, words: &str) -> Result<String, AllocError> {
+        String::from_str(self.alloc, words)
+    }
+
+    /// Returns the words for a call that nothing of what is known here refuses.
+    fn unknown(&self) -> Result<String, AllocError> {
+        self.plain("no rule is known for it")
+    }
+
+    /// Returns which call shut the kernel down.
+    fn down(&self) -> Result<String, AllocError> {
+        let by = self.history.accepted(CallKind::Shutdown, 0).unwrap_or(0);
+        format!(in self.alloc; "call {by} shut the kernel down")
+    }
+
+    /// Returns what its thread is blocked in.
+    fn busy(&self) -> Result<String, AllocError> {
+        let mut all = self.blocked.iter();
+        let Some(blocked) = all.find(|blocked| blocked.thread == self.call.thread) else {
+            return self.plain("its thread is blocked");
+        };
+        let thread = blocked.thread.0;
+        let number = blocked.number;
+        let lack = match blocked.state {
+            ThreadState::ReceiveBlocked(chid) => {
+                let channel = chid.0;
+                return format!(in self.alloc;
+                    "thread {thread} is blocked in call {number}, and waits to receive on channel {channel}"
+                );
+            }
+            ThreadState::ReplyBlocked(_) => "answered",
+            _ => "received",
+        };
+        format!(in self.alloc;
+            "thread {thread} is blocked in call {number} until its message is {lack}"
+        )
+    }
+
+    /// Returns what is wrong with its flags.
+    fn bad_flags(&self) -> Result<String, AllocError> {
+        let flags = self.named;
+        format!(in self.alloc;
             "flags are a sum of 1 (FIXED_PRIORITY), 2 (UNBLOCK) and 4 (DISCONNECT), and {flags} is none"
-        ),
-        Reason::Nowhere(channel, by) => {
-            format!(in alloc; "it leads to channel {channel}, which call {by} destroyed")
+        )
+    }
+
+    /// Returns what is wrong with the channel that it names.
+    fn bad_channel(&self) -> Result<String, AllocError> {
+        let channel = self.named;
+        if let Some(open) = self.kernel.channels().get(ChannelId(channel)) {
+            return self.of_others("channel", open.owner);
         }
-        Reason::NoThread(thread) => format!(in alloc; "there is no line 'thread {thread} ..'"),
-        _ => String::from_str(alloc, limit_words(reason)),
-    }
-}
-
-/// Returns the words of a rule without numbers.
-fn limit_words(reason: Reason) -> &'static str {
-    match reason {
-        Reason::Code => "its code is below 0, and the codes of pulses are 0 to 127",
-        Reason::Channels => "64 channels are open, and there may be no more",
-        Reason::Connections => "there are 1,024 connections, and there may be no more",
-        Reason::Pulses => "1,024 pulses wait on the channel, and no more may",
-        Reason::NoMemory => "there was no memory for it",
-        _ => "no rule is known for it",
-    }
-}
-
-/// Returns the words for a call that names something of another process.
-fn others(
-    alloc: Global,
-    history: &History,
-    past: &Past,
-    named: (Thing, u64),
-    owner: ProcessNo,
-) -> Result<String, AllocError> {
-    let (thing, number) = named;
-    let name = thing_name(thing);
-    let owner = owner.0;
-    let thread = past.thread.0;
-    let process = process_number(history, past);
-    format!(in alloc;
-        "{name} {number} is of process {owner}, and thread {thread} of process {process}"
-    )
-}
-
-/// Returns the number of the process of the thread that makes a call.
-fn process_number(history: &History, past: &Past) -> u8 {
-    match history.process_of(past.thread) {
-        Some(process) => process.0,
-        None => 0,
-    }
-}
-
-fn thing_name(thing: Thing) -> &'static str {
-    match thing {
-        Thing::Channel => "channel",
-        Thing::Connection => "connection",
-        Thing::Thread => "thread",
-        Thing::Message => "the channel of message",
-    }
-}
-
-/// Returns the words for a call that names a channel that doesn't exist.
-fn no_channel(
-    alloc: Global,
-    history: &History,
-    past: &Past,
-    channel: u64,
-    life: Life,
-) -> Result<String, AllocError> {
-    if let Life::Gone(by) = life {
-        return format!(in alloc; "call {by} destroyed channel {channel}");
-    }
-    let found = call_words(alloc, history, channel)?;
-    let other = likely_channel(alloc, history, past)?;
-    format!(in alloc; "{channel} is no channel: {found}; {other}")
-}
-
-/// Returns the channel that may have been meant.
-fn likely_channel(alloc: Global, history: &History, past: &Past) -> Result<String, AllocError> {
-    let leads = history.channel_of(past.operand);
-    if history.channels().contains(&leads) {
-        return format!(in alloc; "it leads to channel {leads}");
-    }
-    match history.channels().last() {
-        Some(channel) => format!(in alloc; "call {channel} made channel {channel}"),
-        None => String::from_str(alloc, "no channel is open"),
-    }
-}
-
-/// Returns the words for a call that names a connection that doesn't exist.
-fn no_connection(
-    alloc: Global,
-    history: &History,
-    past: &Past,
-    connection: u64,
-    life: Life,
-) -> Result<String, AllocError> {
-    if let Life::Gone(by) = life {
-        return format!(in alloc; "call {by} detached connection {connection}");
-    }
-    let found = call_words(alloc, history, connection)?;
-    let other = likely_connection(alloc, history, past)?;
-    format!(in alloc; "{connection} is no connection: {found}; {other}")
-}
-
-/// Returns the connection that may have been meant.
-fn likely_connection(alloc: Global, history: &History, past: &Past) -> Result<String, AllocError> {
-    let Some(process) = history.process_of(past.thread) else {
-        return Ok(String::new(alloc));
-    };
-    match history.likely_connection(process, past.operand) {
-        Some(connection) => format!(in alloc; "call {connection} made connection {connection}"),
-        None => {
-            let process = process.0;
-            format!(in alloc; "process {process} has no connection")
+        match self.history.accepted(CallKind::ChannelDestroy, channel) {
+            Some(by) => format!(in self.alloc; "call {by} destroyed channel {channel}"),
+            None => self.missing("channel", self.likely_channel()?),
         }
     }
-}
 
-/// Returns the words for a call that names a message that isn't held.
-fn no_message(
-    alloc: Global,
-    history: &History,
-    past: &Past,
-    message: u64,
-    delivery: Delivery,
-) -> Result<String, AllocError> {
-    match delivery {
-        Delivery::Pending | Delivery::Held => {
-            format!(in alloc; "message {message} isn't received yet")
+    /// Returns what is wrong with the connection that it names, or with the channel that this leads to.
+    fn bad_connection(&self) -> Result<String, AllocError> {
+        let number = self.named;
+        let Some(live) = self.kernel.connections().get(ConnectionId(number)) else {
+            return match self.history.accepted(CallKind::ConnectDetach, number) {
+                Some(by) => format!(in self.alloc; "call {by} detached connection {number}"),
+                None => self.missing("connection", self.likely_connection()?),
+            };
+        };
+        if live.process != self.process() {
+            return self.of_others("connection", live.process);
         }
-        Delivery::Answer(by) => format!(in alloc; "call {by} answered message {message}"),
-        Delivery::Cut(by) => format!(in alloc; "call {by} ended the send of message {message}"),
-        Delivery::Absent => {
-            let found = call_words(alloc, history, message)?;
-            let other = likely_message(alloc, history, past)?;
-            format!(in alloc; "{message} is no message: {found}; {other}")
+        let channel = live.channel.0;
+        match self.history.accepted(CallKind::ChannelDestroy, channel) {
+            Some(by) => format!(in self.alloc;
+                "it leads to channel {channel}, which call {by} destroyed"
+            ),
+            None => self.unknown(),
         }
     }
-}
 
-/// Returns the message that may have been meant.
-fn likely_message(alloc: Global, history: &History, past: &Past) -> Result<String, AllocError> {
-    let Some(process) = history.process_of(past.thread) else {
-        return Ok(String::new(alloc));
-    };
-    match history.likely_message(process) {
-        Some(message) => format!(in alloc; "message {message} is held"),
-        None => {
-            let process = process.0;
-            format!(in alloc; "process {process} holds no message")
+    /// Returns what is wrong with the thread that it names.
+    fn bad_thread(&self) -> Result<String, AllocError> {
+        let thread = self.named;
+        match self.process_of(thread) {
+            Some(process) => self.of_others("thread", process),
+            None => format!(in self.alloc; "there is no line 'thread {thread} ..'"),
         }
+    }
+
+    /// Returns what is wrong with the message that it names.
+    fn bad_message(&self) -> Result<String, AllocError> {
+        let message = self.named;
+        if let Some(owner) = self.holder_of(message) {
+            return self.of_others("the channel of message", owner);
+        }
+        let send = match self.history.call(message) {
+            Some(send) if send.kind == CallKind::Send && send.end != End::Refused => send,
+            _ => return self.missing("message", self.likely_message()?),
+        };
+        let by = send.ended_by;
+        match send.end {
+            End::Open => format!(in self.alloc; "message {message} isn't received yet"),
+            End::Cut => format!(in self.alloc; "call {by} ended the send of message {message}"),
+            _ => format!(in self.alloc; "call {by} answered message {message}"),
+        }
+    }
+
+    /// Returns the words for a call that names a thing of this process, another than that of its thread.
+    fn of_others(&self, thing: &str, owner: ProcessNo) -> Result<String, AllocError> {
+        let number = self.named;
+        let owner = owner.0;
+        let thread = self.call.thread.0;
+        let process = self.process().0;
+        format!(in self.alloc;
+            "{thing} {number} is of process {owner}, and thread {thread} of process {process}"
+        )
+    }
+
+    /// Returns the words for a number that never named such a thing, with the one that may have been meant.
+    fn missing(&self, thing: &str, other: String) -> Result<String, AllocError> {
+        let number = self.named;
+        let found = self.call_words(number)?;
+        format!(in self.alloc; "{number} is no {thing}: {found}; {other}")
+    }
+
+    /// Returns what the call with this number did.
+    fn call_words(&self, number: u64) -> Result<String, AllocError> {
+        let alloc = self.alloc;
+        if number == 0 {
+            return self.plain("calls are numbered from 1");
+        }
+        if number == self.history.made() {
+            return format!(in alloc; "call {number} is this one");
+        }
+        let Some(past) = self.history.call(number) else {
+            return format!(in alloc; "call {number} isn't made yet");
+        };
+        let word = past.kind.word();
+        match past.end {
+            End::Refused => format!(in alloc; "call {number} was refused"),
+            End::Channel => format!(in alloc; "call {number} made a channel"),
+            End::Connection => format!(in alloc; "call {number} made a connection"),
+            End::Message(message) => format!(in alloc; "call {number} received message {message}"),
+            End::Pulse(item) => format!(in alloc; "call {number} received pulse {item}"),
+            _ if past.kind == CallKind::Send => format!(in alloc;
+                "call {number} sent message {number}"
+            ),
+            _ if past.kind == CallKind::Pulse => format!(in alloc; "call {number} sent a pulse"),
+            _ => format!(in alloc; "call {number} is the call '{word}'"),
+        }
+    }
+
+    /// Returns the channel that may have been meant: the one that a connection of this number leads to, or else the
+    /// last one that is open.
+    fn likely_channel(&self) -> Result<String, AllocError> {
+        let channels = self.kernel.channels();
+        if let Some(past) = self.history.call(self.named)
+            && past.end == End::Connection
+            && channels.get(ChannelId(past.operand)).is_some()
+        {
+            let leads = past.operand;
+            return format!(in self.alloc; "it leads to channel {leads}");
+        }
+        let count = channels.len();
+        if count == 0 {
+            return self.plain("no channel is open");
+        }
+        let channel = channels.id_at(count - 1).0;
+        format!(in self.alloc; "call {channel} made channel {channel}")
+    }
+
+    /// Returns the connection that may have been meant: the first of its process to a channel of this number, or else
+    /// the last of its process.
+    fn likely_connection(&self) -> Result<String, AllocError> {
+        let process = self.process();
+        let connections = self.kernel.connections();
+        let mut likely = None;
+        for place in 0..connections.len() {
+            let connection = connections.at(place);
+            if connection.process == process {
+                likely = Some(connections.id_at(place).0);
+                if connection.channel.0 == self.named {
+                    break;
+                }
+            }
+        }
+        let process = process.0;
+        match likely {
+            Some(number) => format!(in self.alloc; "call {number} made connection {number}"),
+            None => format!(in self.alloc; "process {process} has no connection"),
+        }
+    }
+
+    /// Returns the message that may have been meant: the last one received of those that its process holds.
+    fn likely_message(&self) -> Result<String, AllocError> {
+        let process = self.process();
+        let mut likely = None;
+        let mut received_by = 0u64;
+        for past in self.history.calls() {
+            if let End::Message(message) = past.end
+                && past.ended_by > received_by
+                && self.holder_of(message) == Some(process)
+            {
+                likely = Some(message);
+                received_by = past.ended_by;
+            }
+        }
+        let process = process.0;
+        match likely {
+            Some(message) => format!(in self.alloc; "message {message} is held"),
+            None => format!(in self.alloc; "process {process} holds no message"),
+        }
+    }
+
+    /// Returns the process that holds a message: that of its channel, if it is received and not answered.
+    fn holder_of(&self, message: u64) -> Option<ProcessNo> {
+        let mut all = self.blocked.iter();
+        match all.find(|blocked| blocked.number == message)?.state {
+            ThreadState::ReplyBlocked(chid) => Some(self.kernel.channels().get(chid)?.owner),
+            _ => None,
+        }
+    }
+
+    /// Returns the process of a thread, or `None` if the roster has no thread of this number.
+    fn process_of(&self, thread: u64) -> Option<ProcessNo> {
+        let mut threads = self.kernel.threads().iter();
+        let found = threads.find(|found| u64::from(found.member.thread.0) == thread)?;
+        Some(found.member.process)
+    }
+
+    /// Returns the process of its thread.
+    fn process(&self) -> ProcessNo {
+        let thread = u64::from(self.call.thread.0);
+        self.process_of(thread).unwrap_or(ProcessNo(0))
     }
 }

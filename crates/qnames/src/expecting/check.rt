@@ -1,280 +1,416 @@
-//! Compares a run with the expectations of its script.
+//! Compares a run with the expectations of its script, call by call.
 
-use crate::expectation::{Activity, CallCheck, Ending, Expectation, Extent, Follower, StateCheck};
-use crate::expecting::facts::{Fact, operand_number};
-use crate::expecting::matching::all_fit;
-use crate::expecting::states::{Standing, standing_of};
-use crate::expecting::told::told;
-use crate::expecting::trace::{Ended, Endings};
-use crate::fault::Fault;
-use crate::line::{Kind, Place};
+use crate::expectation::{CallCheck, Ending, Expectation, Follower, StateCheck};
+use crate::expecting::completion::End;
+use crate::label::Label;
+use crate::line::{Kind, Operand};
 use crate::scope::Scope;
+use crate::wording::Context;
+use qbase::bytes::Bytes;
+use qbase::state::ThreadState;
+use qkernel::call::{Completion, Mark};
+use qkernel::kernel::Kernel;
+use qmodel::kind::CallKind;
+use qreading::place::{Fault, Place};
+use qreading::reading::number::number;
+use qreading::states::{state_channel, state_name};
+use qstate::thread::Thread;
+use qstate::thread_state::state_of_wait;
 use std::alloc::{AllocError, Global};
+use std::mem;
 
-/// A run to compare: what the script's names stand for, its calls, and how they ended.
-#[derive(Clone, Copy)]
-pub struct Run<'a, 'p> {
-    pub scope: &'a Scope,
-    pub calls: &'a [CallCheck],
-    pub facts: &'a [Fact],
-    pub endings: &'a Endings<'p>,
-    pub extent: Extent,
+/// The comparison of a run with the expectations of its script, up to the latest call.
+#[derive(Drop)]
+pub struct Check {
+    alloc: Global,
+    /// What the names stand for: those of all lines, or of the lines so far.
+    pub scope: Scope,
+    /// The expectations at each call.
+    pub calls: Vec<CallCheck>,
+    /// The lines that say a state, and how many of them are compared.
+    pub states: Vec<StateCheck>,
+    compared: usize,
+    /// How the calls so far ended.
+    ends: Vec<Option<End>>,
+    /// The expected ends of other calls that hadn't ended then: the number of the call whose line says it, and its
+    /// place among the followers there.
+    waiting: Vec<(u64, usize)>,
+    faults: Vec<Fault>,
 }
 
-/// Returns a fault at a place.
-fn fault(place: Place, what: String) -> Result<Option<Fault>, AllocError> {
-    Ok(Some(Fault { place, what }))
-}
-
-/// Returns whether a thread is in a state.
-fn is_in(now: Standing, wanted: Activity) -> bool {
-    match wanted {
-        Activity::Blocked => now.activity != Activity::Ready,
-        other => now.activity == other,
+/// Returns the number that an operand stands for, or 0 if it isn't a number.
+fn operand_number(scope: &Scope, operand: &Operand) -> u64 {
+    match operand {
+        Operand::Name(mention) => scope.number(&mention.name),
+        Operand::Number(number) => *number,
+        Operand::Plain(word) => number(word.as_str().as_bytes()).unwrap_or(0),
+        Operand::Text(_) | Operand::Zeros(_) => 0,
     }
 }
 
-impl Run<'_, '_> {
-    /// Returns how a call ended, in words.
-    fn told(self, alloc: Global, ended: &Ended<'_>) -> Result<String, AllocError> {
-        told(alloc, self.scope, ended.words.as_slice())
+/// Returns the state of a thread that a kernel has.
+fn state_of(kernel: &Kernel, thread: &Thread) -> ThreadState {
+    match &thread.open_call {
+        Some(call) => state_of_wait(kernel.connections(), &call.wait),
+        None => ThreadState::Ready,
+    }
+}
+
+/// Returns the state of the thread with this number; one that a kernel hasn't is ready.
+fn state_of_number(kernel: &Kernel, number: u64) -> ThreadState {
+    let mut threads = kernel.threads().iter();
+    match threads.find(|thread| u64::from(thread.member.thread.0) == number) {
+        Some(thread) => state_of(kernel, thread),
+        None => ThreadState::Ready,
+    }
+}
+
+/// Returns whether this name of a state is the wanted one; `blocked` is any but `ready`.
+fn is_state(name: &str, wanted: &str) -> bool {
+    name == wanted || wanted == "blocked" && name != "ready"
+}
+
+/// Returns a difference at a place.
+fn difference_at(
+    place: Place,
+    what: Result<String, AllocError>,
+) -> Result<Option<Fault>, AllocError> {
+    Ok(Some(Fault { place, what: what? }))
+}
+
+impl Check {
+    /// Returns the check of a script before its first call; these are the expectations of its calls, and between them.
+    pub fn new(
+        alloc: Global,
+        scope: Scope,
+        calls: Vec<CallCheck>,
+        states: Vec<StateCheck>,
+    ) -> Check {
+        Check {
+            alloc,
+            scope,
+            calls,
+            states,
+            compared: 0,
+            ends: Vec::new(alloc),
+            waiting: Vec::new(alloc),
+            faults: Vec::new(alloc),
+        }
+    }
+
+    /// Returns the differences that were found since they were asked for last, in the order of their places.
+    pub fn take_faults(&mut self) -> Result<Vec<Fault>, AllocError> {
+        let mut faults = Vec::new(self.alloc);
+        faults.append(&mut self.faults)?;
+        faults.sort_by_key(|fault| (fault.place.line, fault.place.column))?;
+        Ok(faults)
+    }
+
+    /// Returns what the words of the fault of a name need.
+    pub fn context(&self) -> Context<'_> {
+        Context {
+            alloc: self.alloc,
+            scope: &self.scope,
+            calls: self.calls.as_slice(),
+        }
+    }
+
+    /// Adds a difference, if there is one.
+    fn tell(&mut self, difference: Option<Fault>) -> Result<(), AllocError> {
+        if let Some(fault) = difference {
+            self.faults.push(fault)?;
+        }
+        Ok(())
+    }
+
+    /// Returns the expectations at the call with this number.
+    pub fn at(&self, call: u64) -> Option<&CallCheck> {
+        self.calls.get(call.checked_sub(1)? as usize)
     }
 
     /// Returns the line of the call with this number.
-    fn line_of(self, call: u64) -> u64 {
-        let at = call.saturating_sub(1) as usize;
-        match self.calls.get(at) {
-            Some(check) => check.place.line,
-            None => 0,
+    fn line_of(&self, call: u64) -> u64 {
+        self.at(call).map_or(0, |check| check.place.line)
+    }
+
+    /// Returns how the call with this number ended.
+    fn end_of(&self, call: u64) -> Option<&End> {
+        self.ends.get(call.checked_sub(1)? as usize)?.as_ref()
+    }
+
+    /// Compares how calls ended in the event of the next call, which this kernel made, and the states after it.
+    pub fn follow(&mut self, kernel: &Kernel, endings: &[Completion]) -> Result<(), AllocError> {
+        self.ends.push(None)?;
+        let event = self.ends.len() as u64;
+        for ending in endings {
+            self.note(event, ending)?;
+        }
+        for ending in endings {
+            let difference = self.own_difference(ending.call)?;
+            self.tell(difference)?;
+        }
+        self.compare_followers(event)?;
+        self.compare_states(Some(kernel))
+    }
+
+    /// Compares the states that lines say behind the calls so far. Each thread is ready if there is no kernel yet.
+    pub fn compare_states(&mut self, kernel: Option<&Kernel>) -> Result<(), AllocError> {
+        for _ in 0..self.states.len() {
+            let Some(check) = self.next_state() else {
+                break;
+            };
+            let difference = self.state_difference(kernel, check)?;
+            self.compared = self.compared.saturating_add(1);
+            self.tell(difference)?;
+        }
+        Ok(())
+    }
+
+    /// Returns the next line that says a state, if it stands behind the calls so far.
+    fn next_state(&self) -> Option<&StateCheck> {
+        let check = self.states.get(self.compared)?;
+        if check.calls > self.ends.len() as u64 {
+            return None;
+        }
+        Some(check)
+    }
+
+    /// Keeps how a call ended.
+    fn note(&mut self, event: u64, ending: &Completion) -> Result<(), AllocError> {
+        let Some(check) = self.at(ending.call) else {
+            return Ok(());
+        };
+        let buffer = match check.kind {
+            CallKind::Send | CallKind::Receive | CallKind::Read => {
+                Some(Bytes::copied(self.alloc, ending.buffer.as_slice())?)
+            }
+            _ => None,
+        };
+        if let Some(end) = self.ends.get_mut(ending.call.saturating_sub(1) as usize) {
+            *end = Some(End {
+                event,
+                mark: ending.mark,
+                buffer,
+            });
+        }
+        Ok(())
+    }
+
+    /// Returns how the end of a call differs from what its own line expects.
+    fn own_difference(&self, call: u64) -> Result<Option<Fault>, AllocError> {
+        let (Some(check), Some(end)) = (self.at(call), self.end_of(call)) else {
+            return Ok(None);
+        };
+        match &check.own {
+            Some(own) if matches!(own.ending, Ending::Parts(_)) || end.event == call => {
+                self.difference(end, own)
+            }
+            _ => self.silent_difference(call, check, end),
         }
     }
 
-    /// Returns the thread that makes the call with this number.
-    fn thread_of(self, call: u64) -> u64 {
-        let at = call.saturating_sub(1) as usize;
-        match self.facts.get(at) {
-            Some(fact) => fact.thread,
-            None => 0,
+    /// Returns how the end of a call differs from the expected one.
+    fn difference(&self, end: &End, expected: &Expectation) -> Result<Option<Fault>, AllocError> {
+        if let Ending::Parts(patterns) = &expected.ending {
+            if end.fits(self.alloc, &self.scope, patterns.as_slice())? {
+                return Ok(None);
+            }
         }
+        let wanted = &expected.text;
+        let came = self.came(end, expected.place.line)?;
+        difference_at(
+            expected.place,
+            format!(in self.alloc; "expected {wanted}, and {came}"),
+        )
     }
 
-    /// Returns the fault of a call that has to end and hasn't; none if more lines may end it.
-    fn open_fault(
-        self,
-        alloc: Global,
+    /// Returns `COMPLETION came`, and the line of the call that brought it, if that isn't this line.
+    fn came(&self, end: &End, here: u64) -> Result<String, AllocError> {
+        let came = end.told(self.alloc, &self.scope)?;
+        let line = self.line_of(end.event);
+        if line == here {
+            return format!(in self.alloc; "{came} came");
+        }
+        format!(in self.alloc; "{came} came (line {line})")
+    }
+
+    /// Returns the failure of a call that no line expects.
+    fn silent_difference(
+        &self,
         call: u64,
-        expected: &Expectation,
+        check: &CallCheck,
+        end: &End,
     ) -> Result<Option<Fault>, AllocError> {
-        if self.extent == Extent::Front {
+        if !matches!(end.mark, Mark::Failed(_)) || self.is_followed(call, end.event) {
             return Ok(None);
         }
-        let calls = self.facts.len() as u64;
-        let now = standing_of(self.facts, self.endings, self.thread_of(call), calls);
-        let state = now.name();
-        let wanted = &expected.text;
-        let what = format!(in alloc;
-            "expected {wanted}, and the call hasn't ended: its thread is {state} at the end"
-        )?;
-        fault(expected.place, what)
-    }
-
-    /// Returns the fault of a call that ended otherwise than expected.
-    fn other_fault(
-        self,
-        alloc: Global,
-        ended: &Ended<'_>,
-        expected: &Expectation,
-    ) -> Result<Option<Fault>, AllocError> {
-        let came = self.told(alloc, ended)?;
-        let wanted = &expected.text;
-        let line = self.line_of(ended.event);
-        let what = if line == expected.place.line {
-            format!(in alloc; "expected {wanted}, and {came} came")?
-        } else {
-            format!(in alloc; "expected {wanted}, and {came} came (line {line})")?
-        };
-        fault(expected.place, what)
-    }
-
-    /// Returns the fault of a call that doesn't end as expected. `calls` is the number of calls made when a call that
-    /// is expected to block has to be open.
-    fn expected(
-        self,
-        alloc: Global,
-        call: u64,
-        calls: u64,
-        expected: &Expectation,
-    ) -> Result<Option<Fault>, AllocError> {
-        let ended = self.endings.of_call(call);
-        match (&expected.ending, ended) {
-            (Ending::Blocked, Some(ended)) if ended.event <= calls => {
-                self.other_fault(alloc, ended, expected)
-            }
-            (Ending::Blocked, _) => Ok(None),
-            (Ending::Words(_), None) => self.open_fault(alloc, call, expected),
-            (Ending::Words(patterns), Some(ended)) => {
-                let words = ended.words.as_slice();
-                if all_fit(alloc, self.scope, patterns.as_slice(), words)? {
-                    return Ok(None);
-                }
-                self.other_fault(alloc, ended, expected)
-            }
-        }
+        let verb = check.kind.word();
+        let came = self.came(end, check.place.line)?;
+        difference_at(
+            check.place,
+            format!(in self.alloc; "{verb} isn't expected to fail, and {came}"),
+        )
     }
 
     /// Returns whether the line of the call that ended this one says how it ends.
-    fn is_followed(self, call: u64, event: u64) -> bool {
-        let at = event.saturating_sub(1) as usize;
-        let Some(check) = self.calls.get(at) else {
+    fn is_followed(&self, call: u64, event: u64) -> bool {
+        let Some(check) = self.at(event) else {
             return false;
         };
-        for follower in &check.followers {
-            if self.scope.number(&follower.name) == call {
-                return true;
-            }
-        }
-        false
+        let mut followers = check.followers.iter();
+        followers.any(|follower| self.scope.number(&follower.name) == call)
     }
 
-    /// Returns the fault of a call that failed although no line expects it to.
-    fn silent_fault(
-        self,
-        alloc: Global,
-        call: u64,
-        check: &CallCheck,
-    ) -> Result<Option<Fault>, AllocError> {
-        let Some(ended) = self.endings.of_call(call) else {
-            return Ok(None);
-        };
-        if !matches!(ended.words.as_slice(), [b"fail", ..]) || self.is_followed(call, ended.event) {
-            return Ok(None);
+    /// Compares the ends of other calls that this call's line expects, and those that an earlier line expected to end
+    /// there, and that ended in this event.
+    fn compare_followers(&mut self, event: u64) -> Result<(), AllocError> {
+        let mut expected = mem::replace(&mut self.waiting, Vec::new(self.alloc));
+        let count = self.at(event).map_or(0, |check| check.followers.len());
+        for place in 0..count {
+            expected.push((event, place))?;
         }
-        let came = self.told(alloc, ended)?;
-        let verb = &check.verb;
-        let line = self.line_of(ended.event);
-        let what = if ended.event == call {
-            format!(in alloc; "{verb} isn't expected to fail, and {came} came")?
-        } else {
-            format!(in alloc; "{verb} isn't expected to fail, and {came} came (line {line})")?
-        };
-        fault(check.place, what)
+        for (line, place) in expected {
+            let difference = match self.follower(line, place) {
+                Some((follower, Some(end))) => self.follower_difference(line, follower, end)?,
+                Some((follower, None)) => {
+                    if matches!(follower.expectation.ending, Ending::Parts(_)) {
+                        self.waiting.push((line, place))?;
+                    }
+                    None
+                }
+                None => None,
+            };
+            self.tell(difference)?;
+        }
+        Ok(())
     }
 
-    /// Returns the fault of the call with this number, by the expectation of its own line.
-    fn own_fault(
-        self,
-        alloc: Global,
-        call: u64,
-        check: &CallCheck,
-    ) -> Result<Option<Fault>, AllocError> {
-        let Some(own) = &check.own else {
-            return self.silent_fault(alloc, call, check);
-        };
-        if let Some(fault) = self.expected(alloc, call, call, own)? {
-            return Ok(Some(fault));
-        }
-        match &own.ending {
-            Ending::Blocked => self.silent_fault(alloc, call, check),
-            Ending::Words(_) => Ok(None),
-        }
+    /// Returns an expectation of the line of a call about another call, and how that ended if it has.
+    fn follower(&self, event: u64, place: usize) -> Option<(&Follower, Option<&End>)> {
+        let follower = self.at(event)?.followers.get(place)?;
+        Some((follower, self.end_of(self.scope.number(&follower.name))))
     }
 
-    /// Returns the fault of a call that the call numbered `event` is expected to end.
-    fn follower_fault(
-        self,
-        alloc: Global,
+    /// Returns how the end of a call differs from what the line of the call numbered `event` expects.
+    fn follower_difference(
+        &self,
         event: u64,
         follower: &Follower,
+        end: &End,
     ) -> Result<Option<Fault>, AllocError> {
-        let call = self.scope.number(&follower.name);
-        match (&follower.expectation.ending, self.endings.of_call(call)) {
-            (Ending::Words(_), Some(ended)) if ended.event != event => {
-                self.elsewhere_fault(alloc, ended, follower)
-            }
-            _ => self.expected(alloc, call, event, &follower.expectation),
+        if end.event == event || matches!(follower.expectation.ending, Ending::Blocked) {
+            return self.difference(end, &follower.expectation);
         }
-    }
-
-    /// Returns the fault of a call that another call ended than the expected one.
-    fn elsewhere_fault(
-        self,
-        alloc: Global,
-        ended: &Ended<'_>,
-        follower: &Follower,
-    ) -> Result<Option<Fault>, AllocError> {
-        let came = self.told(alloc, ended)?;
-        let line = self.line_of(ended.event);
+        let came = self.came(end, follower.place.line)?;
         let name = &follower.name;
         let wanted = &follower.expectation.text;
-        let what = format!(in alloc;
-            "expected that {name} ends here with {wanted}, and {came} came (line {line})"
-        )?;
-        fault(follower.place, what)
+        let what = format!(in self.alloc;
+            "expected that {name} ends here with {wanted}, and {came}"
+        );
+        difference_at(follower.place, what)
     }
 
-    /// Returns the fault of a line that says the state of a thread.
-    fn state_fault(self, alloc: Global, check: &StateCheck) -> Result<Option<Fault>, AllocError> {
-        let thread = operand_number(self.scope, &check.thread);
-        let now = standing_of(self.facts, self.endings, thread, check.calls);
-        let channel = match &check.channel {
-            Some(channel) => operand_number(self.scope, channel),
-            None => now.channel,
+    /// Returns how the state of a thread now differs from what a line says.
+    fn state_difference(
+        &self,
+        kernel: Option<&Kernel>,
+        check: &StateCheck,
+    ) -> Result<Option<Fault>, AllocError> {
+        let thread = operand_number(&self.scope, &check.thread);
+        let now = match kernel {
+            Some(kernel) => state_of_number(kernel, thread),
+            None => ThreadState::Ready,
         };
-        if is_in(now, check.activity) && channel == now.channel {
+        self.difference_of_state(&now, check)
+    }
+
+    /// Returns how a state differs from what a line says.
+    fn difference_of_state(
+        &self,
+        now: &ThreadState,
+        check: &StateCheck,
+    ) -> Result<Option<Fault>, AllocError> {
+        let channel = state_channel(*now).map_or(0, |channel| channel.0);
+        let wanted = match &check.channel {
+            Some(wanted) => operand_number(&self.scope, wanted),
+            None => channel,
+        };
+        if is_state(state_name(*now), check.state) && wanted == channel {
             return Ok(None);
         }
-        let is = self.state_words(alloc, now)?;
+        let is = self.state_words(now)?;
         let wanted = &check.text;
-        let what = format!(in alloc; "expected {wanted}, and it is {is}")?;
-        fault(check.place, what)
+        difference_at(
+            check.place,
+            format!(in self.alloc; "expected {wanted}, and it is {is}"),
+        )
     }
 
-    /// Returns the state of a thread in words.
-    fn state_words(self, alloc: Global, now: Standing) -> Result<String, AllocError> {
-        let state = now.name();
-        if matches!(now.activity, Activity::Ready | Activity::Blocked) {
-            return String::from_str(alloc, state);
-        }
-        let number = now.channel;
-        for label in self.scope.labels() {
-            if label.number == number && matches!(label.kind, Kind::Channel) {
-                let name = &label.name;
-                return format!(in alloc; "{state} on {name}");
+    /// Returns a state in words.
+    fn state_words(&self, state: &ThreadState) -> Result<String, AllocError> {
+        let name = state_name(*state);
+        let Some(channel) = state_channel(*state) else {
+            return String::from_str(self.alloc, name);
+        };
+        let number = channel.0;
+        let is = |label: &&Label| label.number == number && label.kind == Kind::Channel;
+        match self.scope.labels().iter().find(is) {
+            Some(label) => {
+                let channel = &label.name;
+                format!(in self.alloc; "{name} on {channel}")
             }
+            None => format!(in self.alloc; "{name} on {number}"),
         }
-        format!(in alloc; "{state} on {number}")
     }
-}
 
-/// Adds a fault, if there is one.
-fn add(faults: &mut Vec<Fault>, fault: Option<Fault>) -> Result<(), AllocError> {
-    if let Some(fault) = fault {
-        faults.push(fault)?;
+    /// Compares what is left at the end of the run: calls that are expected to end, and haven't.
+    pub fn finish(&mut self, kernel: &Kernel) -> Result<(), AllocError> {
+        for call in 1..=self.ends.len() as u64 {
+            let difference = match (self.at(call), self.end_of(call)) {
+                (Some(CallCheck { own: Some(own), .. }), None) => {
+                    self.open_difference(kernel, call, own)?
+                }
+                _ => None,
+            };
+            self.tell(difference)?;
+        }
+        for (event, place) in mem::replace(&mut self.waiting, Vec::new(self.alloc)) {
+            let difference = match self.follower(event, place) {
+                Some((follower, _)) => {
+                    let call = self.scope.number(&follower.name);
+                    self.open_difference(kernel, call, &follower.expectation)?
+                }
+                None => None,
+            };
+            self.tell(difference)?;
+        }
+        Ok(())
     }
-    Ok(())
-}
 
-/// Adds what differs from the expectations of the line of the call with this number.
-pub fn check_call(
-    alloc: Global,
-    run: Run<'_, '_>,
-    faults: &mut Vec<Fault>,
-    call: u64,
-    check: &CallCheck,
-) -> Result<(), AllocError> {
-    add(faults, run.own_fault(alloc, call, check)?)?;
-    for follower in &check.followers {
-        add(faults, run.follower_fault(alloc, call, follower)?)?;
+    /// Returns the difference of a call that has to end and hasn't.
+    fn open_difference(
+        &self,
+        kernel: &Kernel,
+        call: u64,
+        expected: &Expectation,
+    ) -> Result<Option<Fault>, AllocError> {
+        if matches!(expected.ending, Ending::Blocked) {
+            return Ok(None);
+        }
+        let mut threads = kernel.threads().iter();
+        let is_in = |thread: &&Thread| match &thread.open_call {
+            Some(open) => open.number == call,
+            None => false,
+        };
+        let state = match threads.find(is_in) {
+            Some(thread) => state_of(kernel, thread),
+            None => ThreadState::Ready,
+        };
+        let state = state_name(state);
+        let wanted = &expected.text;
+        let what = format!(in self.alloc;
+            "expected {wanted}, and the call hasn't ended: its thread is {state} at the end"
+        );
+        difference_at(expected.place, what)
     }
-    Ok(())
-}
-
-/// Adds what differs from a line that says the state of a thread.
-pub fn check_state(
-    alloc: Global,
-    run: Run<'_, '_>,
-    faults: &mut Vec<Fault>,
-    check: &StateCheck,
-) -> Result<(), AllocError> {
-    add(faults, run.state_fault(alloc, check)?)
 }

@@ -2,26 +2,27 @@
 
 ghost use Rattle.std.specs.Prelude.{◌≤◌, length};
 
-use crate::expectation::{Expectation, Follower};
-use crate::fault::{ReadError, fault_at};
-use crate::lexing::name::is_name;
-use crate::lexing::token::{Sort, Token};
+use crate::expectation::{CallCheck, Expectation, Follower};
 use crate::reading::forms::ending;
-use crate::reading::operands::{wanted, word_of};
-use crate::word::Word;
+use qmodel::kind::CallKind;
+use qreading::lexing::name::is_name;
+use qreading::lexing::token::{Sort, Token};
+use qreading::lexing::values::{wanted, word_of};
+use qreading::place::{Place, ReadError, fault_at};
+use qreading::word::Word;
 use std::alloc::{AllocError, Global};
 
 /// Returns the part of a line that these tokens take.
 pub fn text_of(alloc: Global, line: &[u8], tokens: &[Token<'_>]) -> Result<Word, AllocError> {
-    let (from, to) = match tokens {
-        [first, .., last] => (first, last),
-        [only] => (only, only),
-        [] => return Word::of(alloc, ""),
+    let (Some(from), Some(to)) = (tokens.first(), tokens.last()) else {
+        return Word::of(alloc, "");
     };
     let start = from.place.column.saturating_sub(1) as usize;
     let end = to.place.column.saturating_sub(1).saturating_add(to.len) as usize;
-    let bytes = line.get(..end).unwrap_or(line).get(start..).unwrap_or(&[]);
-    word_of(alloc, bytes)
+    word_of(
+        alloc,
+        line.get(..end).unwrap_or(line).get(start..).unwrap_or(&[]),
+    )
 }
 
 /// Reads an expected end: the words behind an arrow.
@@ -66,13 +67,6 @@ fn follower(
     })
 }
 
-/// The expectations of a line: the end of its own call, and those of the calls that it ends.
-#[derive(Drop)]
-pub struct Endings {
-    pub own: Option<Expectation>,
-    pub followers: Vec<Follower>,
-}
-
 /// Returns the index of the next semicolon, or the number of tokens if there is none.
 fn semicolon_at(tokens: &[Token<'_>]) -> usize
     ensures { result ≤ length tokens.now }
@@ -83,43 +77,33 @@ fn semicolon_at(tokens: &[Token<'_>]) -> usize
     }
 }
 
-/// Reads the expected end of the line's own call, if an arrow follows the call.
-fn own_ending(
+/// Reads the expectations of a call's line, which follow the call: nothing, or `-> ENDING`, and then any number of
+/// `; NAME -> ENDING`.
+pub fn endings_in(
     alloc: Global,
+    kind: CallKind,
+    place: Place,
     tokens: &[Token<'_>],
     line: &[u8],
-) -> Result<Option<Expectation>, ReadError> {
-    match tokens {
-        [arrow, rest @ ..] if arrow.sort == Sort::Arrow => {
-            let (part, _) = rest.split_at(semicolon_at(rest));
-            Ok(Some(expectation(alloc, arrow, part, line)?))
-        }
-        _ => Ok(None),
-    }
-}
-
-/// Reads the expected ends of the calls that a line's call ends, from the first semicolon on.
-fn followers(alloc: Global, tokens: &[Token<'_>], line: &[u8]) -> Result<Vec<Follower>, ReadError> {
+) -> Result<CallCheck, ReadError> {
+    let (first, mut rest) = tokens.split_at(semicolon_at(tokens));
+    let own = match first {
+        [arrow, words @ ..] => Some(expectation(alloc, arrow, words, line)?),
+        [] => None,
+    };
     let mut followers = Vec::new(alloc);
-    let mut at = 0usize;
     for _ in 0..tokens.len() {
-        let Some(semicolon) = tokens.get(at) else {
+        let [semicolon, behind @ ..] = rest else {
             break;
         };
-        let behind = tokens.get(at.saturating_add(1)..).unwrap_or(&[]);
-        let (part, _) = behind.split_at(semicolon_at(behind));
+        let (part, next) = behind.split_at(semicolon_at(behind));
         followers.push(follower(alloc, semicolon, part, line)?)?;
-        at = at.saturating_add(part.len()).saturating_add(1);
+        rest = next;
     }
-    Ok(followers)
-}
-
-/// Reads the expectations of a line, which follow its call: nothing, or `-> ENDING`, and then any number of
-/// `; NAME -> ENDING`.
-pub fn endings_in(alloc: Global, tokens: &[Token<'_>], line: &[u8]) -> Result<Endings, ReadError> {
-    let (_, behind) = tokens.split_at(semicolon_at(tokens));
-    Ok(Endings {
-        own: own_ending(alloc, tokens, line)?,
-        followers: followers(alloc, behind, line)?,
+    Ok(CallCheck {
+        kind,
+        place,
+        own,
+        followers,
     })
 }

@@ -1,14 +1,20 @@
 //! Reads the expected end of a call: its first word, and what may follow each.
 
+ghost use Rattle.std.specs.Prelude.{◌≤◌, length};
+
 use crate::expectation::{Ending, Pattern};
-use crate::fault::{ReadError, fault_at};
-use crate::lexing::token::Token;
-use crate::line::Kind;
-use crate::reading::near::nearest;
-use crate::reading::operands::{wanted, word_of};
-use crate::reading::values::{bytes, errno, named, number, process};
-use crate::word::Word;
-use qforms::near::quotation;
+use crate::line::{Kind, Operand};
+use crate::reading::operands::{id, no_such, word_in};
+use qbase::bytes::Bytes;
+use qreading::fault::ParseError;
+use qreading::grammar::{ERRORS, Operand as Slot};
+use qreading::lexing::name::is_name;
+use qreading::lexing::token::{Sort, Token};
+use qreading::lexing::values::{size_of, text_bytes, wanted, word_of};
+use qreading::near::quotation;
+use qreading::place::{ReadError, fault_at};
+use qreading::reading::bytes::bytes_said;
+use qreading::reading::number::signed_number;
 use std::alloc::{AllocError, Global};
 
 /// The sort of a place behind the first word of an ending.
@@ -28,16 +34,19 @@ enum Part {
     Buffer,
 }
 
-/// The endings: the first word of each, and what may follow it.
-static FORMS: [(&str, &[Part]); 9] = [
+/// The endings: the first word of each, and what may follow it. A pulse and a state have tables of their own.
+static FORMS: [(&str, &[Part]); 12] = [
     ("ok", &[]),
     ("fail", &[Part::Errno]),
+    ("blocked", &[]),
     ("channel", &[Part::Id(Kind::Channel)]),
     ("connection", &[Part::Id(Kind::Connection)]),
     ("message", &[Part::Id(Kind::Message), Part::Content]),
+    ("pulse", &[Part::Id(Kind::Pulse), Part::Number]),
     ("reply", &[Part::Number, Part::Content]),
     ("error", &[Part::Number]),
     ("count", &[Part::Number, Part::Buffer]),
+    ("state", &[]),
     (
         "info",
         &[
@@ -67,189 +76,186 @@ static STATES: [(&str, &[Part]); 4] = [
     ("reply", &[Part::Id(Kind::Channel), Part::Number]),
 ];
 
-/// The first words of all endings.
-static WORDS: [&str; 12] = [
-    "ok",
-    "fail",
-    "blocked",
-    "channel",
-    "connection",
-    "message",
-    "pulse",
-    "reply",
-    "error",
-    "count",
-    "state",
-    "info",
-];
+/// Words, and what may follow each.
+type Table = &'static [(&'static str, &'static [Part])];
 
-/// Returns what may follow a word of a table.
-fn parts_of(
-    table: &'static [(&'static str, &'static [Part])],
-    token: &Token<'_>,
-) -> Option<&'static [Part]> {
+/// Returns the word of a table that stands here, and what may follow it.
+fn form_of(table: Table, token: &Token<'_>) -> Option<(&'static str, &'static [Part])> {
     for (word, parts) in table {
         if token.is_word(word) {
-            return Some(*parts);
+            return Some((*word, *parts));
         }
     }
     None
 }
 
-/// Returns whether a part of a line stands for any word.
-fn is_any(token: &Token<'_>) -> bool {
-    token.is_word("*")
+/// Reads a number.
+fn number(alloc: Global, token: &Token<'_>) -> Result<i128, ReadError> {
+    match signed_number(token.bytes) {
+        Some(value) if token.sort == Sort::Word => Ok(value),
+        _ => Err(wanted(alloc, token, "a number is wanted, or * for any")),
+    }
 }
 
-/// Adds the patterns of copied bytes: how many, and which.
-fn push_content(
-    alloc: Global,
-    patterns: &mut Vec<Pattern>,
-    token: &Token<'_>,
-) -> Result<(), ReadError> {
-    let bytes = bytes(alloc, token)?;
-    let count = bytes.len();
-    let count = format!(in alloc; "{count}")?;
-    patterns.push(Pattern::Is(Word::of(alloc, count.as_str())?))?;
-    patterns.push(Pattern::Front(bytes))?;
-    Ok(())
+/// Reads the name of an error.
+fn errno(alloc: Global, token: &Token<'_>) -> Result<&'static str, ReadError> {
+    if let Some(word) = word_in(&ERRORS, token) {
+        return Ok(word);
+    }
+    let all = "the errors are srch, badf, inval, again, intr, busy, nomemory and down";
+    let what = no_such(alloc, quotation(token.bytes), &ERRORS, "is no error", all);
+    Err(fault_at(token.place, what))
 }
 
-/// Adds the patterns of a part of a line, which stands for one or two printed words.
-fn push_part(
-    alloc: Global,
-    patterns: &mut Vec<Pattern>,
-    part: Part,
-    token: &Token<'_>,
-) -> Result<(), ReadError> {
-    let pattern = match part {
-        _ if is_any(token) => Pattern::Any,
-        Part::Errno => Pattern::Is(errno(alloc, token)?),
-        Part::Id(kind) => named(alloc, kind, token)?,
-        Part::Process => process(alloc, token)?,
-        Part::Number => Pattern::Is(number(alloc, token)?),
-        Part::Content => return push_content(alloc, patterns, token),
-        Part::Buffer => Pattern::Front(bytes(alloc, token)?),
+/// Reads a name, for the number that it stands for, or a number.
+fn named(alloc: Global, kind: Kind, token: &Token<'_>) -> Result<Pattern, ReadError> {
+    if token.bytes.first().is_some_and(|b| b.is_ascii_digit()) {
+        return Ok(Pattern::Number(number(alloc, token)?));
+    }
+    match id(alloc, kind, Slot::Offset, token)? {
+        Operand::Name(mention) => Ok(Pattern::Named(mention)),
+        _ => Ok(Pattern::Any),
+    }
+}
+
+/// Reads the name or the number of a process.
+fn process(alloc: Global, token: &Token<'_>) -> Result<Pattern, ReadError> {
+    if token.sort == Sort::Word && is_name(token.bytes) {
+        return Ok(Pattern::Process(word_of(alloc, token.bytes)?));
+    }
+    Ok(Pattern::Number(number(alloc, token)?))
+}
+
+/// Reads bytes.
+fn bytes(alloc: Global, token: &Token<'_>) -> Result<Bytes, ReadError> {
+    let said = match token.sort {
+        Sort::Text => return text_bytes(alloc, token),
+        Sort::Size => return Ok(Bytes::filled(alloc, 0, size_of(alloc, token)? as usize)?),
+        Sort::Word => bytes_said(alloc, token.bytes),
+        _ => Err(ParseError::Memory),
     };
-    patterns.push(pattern)?;
-    Ok(())
+    said.map_err(|_| wanted(alloc, token, "bytes are wanted, or * for any"))
 }
 
-/// Adds the pattern of a word that is printed as it stands here.
-fn push_word(
+/// The patterns of an ending.
+#[derive(Drop)]
+struct Patterns {
     alloc: Global,
-    patterns: &mut Vec<Pattern>,
-    token: &Token<'_>,
-) -> Result<(), ReadError> {
-    patterns.push(Pattern::Is(word_of(alloc, token.bytes)?))?;
-    Ok(())
+    all: Vec<Pattern>,
 }
 
-/// Adds the patterns of the parts behind a word; the last ones may be left out.
-fn push_parts(
-    alloc: Global,
-    patterns: &mut Vec<Pattern>,
-    parts: &[Part],
-    tokens: &[Token<'_>],
-) -> Result<(), ReadError> {
-    if let Some(extra) = tokens.get(parts.len()) {
-        return Err(wanted(alloc, extra, "nothing more is printed there"));
+impl Patterns {
+    /// Adds the patterns of a part of a line, which stands for one or two printed words.
+    fn add(&mut self, part: Part, token: &Token<'_>) -> Result<(), ReadError> {
+        let alloc = self.alloc;
+        let pattern = match part {
+            _ if token.is_word("*") => Pattern::Any,
+            Part::Errno => Pattern::Word(errno(alloc, token)?),
+            Part::Id(kind) => named(alloc, kind, token)?,
+            Part::Process => process(alloc, token)?,
+            Part::Number => Pattern::Number(number(alloc, token)?),
+            Part::Content => {
+                let content = bytes(alloc, token)?;
+                self.all.push(Pattern::Number(content.len() as i128))?;
+                Pattern::Front(content)
+            }
+            Part::Buffer => Pattern::Front(bytes(alloc, token)?),
+        };
+        self.all.push(pattern)?;
+        Ok(())
     }
-    for (part, token) in parts.iter().zip(tokens) {
-        push_part(alloc, patterns, *part, token)?;
+
+    /// Adds the patterns of the parts behind a word; the last ones may be left out.
+    fn add_parts(&mut self, parts: &[Part], tokens: &[Token<'_>]) -> Result<(), ReadError> {
+        if let Some(extra) = tokens.get(parts.len()) {
+            return Err(wanted(self.alloc, extra, "nothing more is printed there"));
+        }
+        for (part, token) in parts.iter().zip(tokens) {
+            self.add(*part, token)?;
+        }
+        Ok(())
     }
-    Ok(())
+
+    /// Adds the pattern of a word that is printed as it stands here, and the patterns of what follows it.
+    fn add_word(
+        &mut self,
+        word: &'static str,
+        parts: &[Part],
+        rest: &[Token<'_>],
+    ) -> Result<(), ReadError> {
+        self.all.push(Pattern::Word(word))?;
+        self.add_parts(parts, rest)
+    }
+
+    /// Adds the patterns of a word of a table, which may be left out, and of what follows it.
+    fn add_of(&mut self, table: Table, tokens: &[Token<'_>], words: &str) -> Result<(), ReadError> {
+        let [word, rest @ ..] = tokens else {
+            return Ok(());
+        };
+        match form_of(table, word) {
+            Some((word, parts)) => self.add_word(word, parts, rest),
+            None => Err(wanted(self.alloc, word, words)),
+        }
+    }
+
+    /// Adds the patterns of a pulse: its call and its priority, which may be left out, and its content.
+    fn add_pulse(&mut self, parts: &[Part], tokens: &[Token<'_>]) -> Result<(), ReadError> {
+        let (front, content) = tokens.split_at(pulse_len(tokens));
+        self.add_word("pulse", parts, front)?;
+        for _ in front.len()..parts.len() {
+            self.all.push(Pattern::Any)?;
+        }
+        self.add_of(&PULSES, content, "a pulse is user, unblock or disconnect")
+    }
 }
 
-/// Adds the patterns of a pulse: its call and its priority, which may be left out, and its content.
-fn push_pulse(
-    alloc: Global,
-    patterns: &mut Vec<Pattern>,
-    tokens: &[Token<'_>],
-) -> Result<(), ReadError> {
+/// Returns the number of parts in front of the content of a pulse, at most two.
+fn pulse_len(tokens: &[Token<'_>]) -> usize
+    ensures { result ≤ length tokens.now }
+{
     match tokens {
-        [] => Ok(()),
-        [word, rest @ ..] if parts_of(&PULSES, word).is_some() => {
-            patterns.push(Pattern::Any)?;
-            patterns.push(Pattern::Any)?;
-            push_brought(alloc, patterns, word, rest)
-        }
-        [item, word, rest @ ..] if parts_of(&PULSES, word).is_some() => {
-            push_part(alloc, patterns, Part::Id(Kind::Pulse), item)?;
-            patterns.push(Pattern::Any)?;
-            push_brought(alloc, patterns, word, rest)
-        }
-        [item, priority, word, rest @ ..] => {
-            push_part(alloc, patterns, Part::Id(Kind::Pulse), item)?;
-            push_part(alloc, patterns, Part::Number, priority)?;
-            push_brought(alloc, patterns, word, rest)
-        }
-        [item] => push_part(alloc, patterns, Part::Id(Kind::Pulse), item),
-        [item, priority] => {
-            push_part(alloc, patterns, Part::Id(Kind::Pulse), item)?;
-            push_part(alloc, patterns, Part::Number, priority)
-        }
+        [] => 0,
+        [first, ..] if form_of(&PULSES, first).is_some() => 0,
+        [_] => 1,
+        [_, second, ..] if form_of(&PULSES, second).is_some() => 1,
+        _ => 2,
     }
 }
 
-/// Adds the patterns of the content of a pulse.
-fn push_brought(
-    alloc: Global,
-    patterns: &mut Vec<Pattern>,
-    word: &Token<'_>,
-    rest: &[Token<'_>],
-) -> Result<(), ReadError> {
-    let Some(parts) = parts_of(&PULSES, word) else {
-        return Err(wanted(alloc, word, "a pulse is user, unblock or disconnect"));
-    };
-    push_word(alloc, patterns, word)?;
-    push_parts(alloc, patterns, parts, rest)
-}
-
-/// Adds the patterns of the state of a thread.
-fn push_state(
-    alloc: Global,
-    patterns: &mut Vec<Pattern>,
-    tokens: &[Token<'_>],
-) -> Result<(), ReadError> {
-    let [word, rest @ ..] = tokens else {
-        return Ok(());
-    };
-    let Some(parts) = parts_of(&STATES, word) else {
-        return Err(wanted(alloc, word, "a state is ready, send, receive or reply"));
-    };
-    push_word(alloc, patterns, word)?;
-    push_parts(alloc, patterns, parts, rest)
-}
-
-/// Returns the fault of a first word that no ending has.
-fn unknown_ending(alloc: Global, token: &Token<'_>) -> Result<ReadError, AllocError> {
-    let word = quotation(token.bytes);
-    let what = match nearest(alloc, word, &WORDS)? {
-        Some(near) => format!(in alloc; "'{word}' ends no call; did you mean '{near}'?"),
-        None => format!(in alloc;
-            "'{word}' ends no call; a call ends with ok, fail, channel, connection, message, pulse, reply, error, count, state or info, or is blocked"
-        ),
-    };
-    Ok(fault_at(token.place, what))
+/// Returns the words for a first word that no ending has.
+fn unknown_ending(alloc: Global, token: &Token<'_>) -> Result<String, AllocError> {
+    let mut words = Vec::new(alloc);
+    for (word, _) in &FORMS {
+        words.push(*word)?;
+    }
+    no_such(
+        alloc,
+        quotation(token.bytes),
+        words.as_slice(),
+        "ends no call",
+        "a call ends with ok, fail, channel, connection, message, pulse, reply, error, count, state or info, or is blocked",
+    )
 }
 
 /// Reads the expected end of a call.
-pub fn ending(alloc: Global, word: &Token<'_>, rest: &[Token<'_>]) -> Result<Ending, ReadError> {
-    let mut patterns = Vec::new(alloc);
-    if word.is_word("blocked") {
-        push_parts(alloc, &mut patterns, &[], rest)?;
+pub fn ending(alloc: Global, first: &Token<'_>, rest: &[Token<'_>]) -> Result<Ending, ReadError> {
+    let Some((word, parts)) = form_of(&FORMS, first) else {
+        return Err(fault_at(first.place, unknown_ending(alloc, first)));
+    };
+    let mut patterns = Patterns {
+        alloc,
+        all: Vec::new(alloc),
+    };
+    match word {
+        "pulse" => patterns.add_pulse(parts, rest)?,
+        "state" => {
+            patterns.add_word(word, parts, &[])?;
+            patterns.add_of(&STATES, rest, "a state is ready, send, receive or reply")?;
+        }
+        _ => patterns.add_word(word, parts, rest)?,
+    }
+    if word == "blocked" {
         return Ok(Ending::Blocked);
     }
-    push_word(alloc, &mut patterns, word)?;
-    if word.is_word("pulse") {
-        push_pulse(alloc, &mut patterns, rest)?;
-    } else if word.is_word("state") {
-        push_state(alloc, &mut patterns, rest)?;
-    } else if let Some(parts) = parts_of(&FORMS, word) {
-        push_parts(alloc, &mut patterns, parts, rest)?;
-    } else {
-        return Err(unknown_ending(alloc, word)?);
-    }
-    Ok(Ending::Words(patterns))
+    Ok(Ending::Parts(patterns.all))
 }

@@ -1,13 +1,15 @@
-//! Reads the line of a thread.
+//! Reads the line of a thread, and one that says the state of a thread.
 
-use crate::fault::{ReadError, fault_at};
-use crate::lexing::name::is_name;
-use crate::lexing::token::{Sort, Token};
-use crate::line::{Definition, Place, Process, ThreadLine};
-use crate::reading::operands::{wanted, word_of};
-use crate::word::Word;
-use qforms::grammar::Operand as Slot;
+use crate::expectation::StateCheck;
+use crate::line::{Definition, Kind, Operand, Process, ThreadLine};
+use crate::reading::operands::{id, word_in};
+use qreading::grammar::Operand as Slot;
+use qreading::lexing::name::is_name;
+use qreading::lexing::token::{Sort, Token};
+use qreading::lexing::values::{wanted, word_of};
+use qreading::place::{Place, ReadError, fault_at};
 use qreading::reading::number::small;
+use qreading::word::Word;
 use std::alloc::Global;
 
 /// Reads the number of a thread, if its line gives one.
@@ -80,5 +82,62 @@ pub fn thread_line(
         process: process(alloc, of)?,
         place: of.place,
         priority: priority(alloc, level)?,
+    })
+}
+
+/// The states of a thread, by name; `blocked` is any but the first.
+static STATES: [&str; 5] = [
+    "ready",
+    "SEND-blocked",
+    "RECEIVE-blocked",
+    "REPLY-blocked",
+    "blocked",
+];
+
+/// Reads the name of a state.
+fn state(alloc: Global, token: &Token<'_>) -> Result<&'static str, ReadError> {
+    let all = "a thread is ready, SEND-blocked, RECEIVE-blocked, REPLY-blocked or blocked";
+    match word_in(&STATES, token) {
+        Some(state) => Ok(state),
+        None => Err(wanted(alloc, token, all)),
+    }
+}
+
+/// Reads the channel behind `on`, if there is one.
+fn channel(alloc: Global, tokens: &[Token<'_>]) -> Result<Option<Operand>, ReadError> {
+    match tokens {
+        [] => Ok(None),
+        [on, channel] if on.is_word("on") => {
+            Ok(Some(id(alloc, Kind::Channel, Slot::Channel, channel)?))
+        }
+        [first, ..] => Err(wanted(
+            alloc,
+            first,
+            "behind a state stands nothing, or 'on' and a channel",
+        )),
+    }
+}
+
+/// Reads the state of a thread: the thread, the word `is` and what follows. `calls` is the number of calls above;
+/// `text` is the line from `is` on.
+pub fn state_line(
+    alloc: Global,
+    calls: u64,
+    thread: &Token<'_>,
+    is: &Token<'_>,
+    rest: &[Token<'_>],
+    text: Word,
+) -> Result<StateCheck, ReadError> {
+    let [name, rest @ ..] = rest else {
+        let what = String::from_str(alloc, "a state is missing: THREAD is STATE");
+        return Err(fault_at(is.behind(), what));
+    };
+    Ok(StateCheck {
+        calls,
+        thread: id(alloc, Kind::Thread, Slot::Thread, thread)?,
+        state: state(alloc, name)?,
+        channel: channel(alloc, rest)?,
+        text,
+        place: is.place,
     })
 }

@@ -11,7 +11,7 @@ use Rattle.qreading.specs.declared.fault.LineFault.TheVariants.{LongLine, BadByt
 use Rattle.qreading.specs.Reading.Steps.{◌>>=◌}
 use Rattle.qreading.specs.Reading.Line.{line_of, said_of, is_text, roster_line_of, call_line_of}
 use Rattle.qreading.specs.Reading.Words.{words_of}
-use Rattle.qreading.specs.Reading.Meaning.{is_in, line_after_roster, line_with}
+use Rattle.qreading.specs.Reading.Meaning.{is_in, line_after_roster, line_behind, line_with}
 
 pub bind_ok : {A B : Type 0} (r : Result A LineFault) (f : A → Result B LineFault) (y : B) → (r >>= f) ≡ Ok y → (x : A) × (r ≡ Ok x) × (f x ≡ Ok y)
 bind_ok (Ok x) f y h = (x, refl, h)
@@ -67,7 +67,7 @@ line_value e = cc
 
 -- what a line says after others, it says alone
 pub alone : (roster : List Member) (calls : List (ℕ × Call)) (line : List ℕ) (l : Line) → line_with roster calls line ≡ Ok l → line_of false line ≡ Ok l
-unfolding line_with
+unfolding line_with line_behind
 alone roster calls line l h =
     let b = bind_ok (line_of (nat_lt 0 (length calls)) line) (line_after_roster roster) l h in
     let e : b.0 ≡ l = placed_keeps roster b.0 l b.2 in

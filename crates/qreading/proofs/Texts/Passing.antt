@@ -15,7 +15,7 @@ use Rattle.qreading.specs.declared.reading.line.Line.TheVariants as lines
 use Rattle.qreading.specs.declared.fault.LineFault.{LineFault}
 use Rattle.qreading.specs.Reading.Words.{words_of}
 use Rattle.qreading.specs.Reading.Line.{line_of, said_of}
-use Rattle.qreading.specs.Reading.Meaning.{Faulty, Says, member_in, call_in, roster_of, calls_of, line_with, line_after, fault_in, fault_at, first_fault, fault_or, of_lines}
+use Rattle.qreading.specs.Reading.Meaning.{Faulty, Says, member_in, call_in, roster_of, calls_of, line_behind, line_with, line_after, fault_in, fault_at, first_fault, fault_or, of_lines}
 use Rattle.qreading.specs.Reading.Laws.{is_passed_over, IsPassedOver, meaning_one_line_later}
 
 -- ---- what it says
@@ -30,7 +30,7 @@ unfolding line_of
 passed_line is_late line h = rw (le-ltb 4096 (length line) h.0) (passed_said is_late line (words_of line) h.1)
 
 passed_with : (ms : List Member) (cs : List (ℕ × Call)) (line : List ℕ) → IsPassedOver line → line_with ms cs line ≡ Ok lines.Blank
-unfolding line_with
+unfolding line_with line_behind
 passed_with ms cs line h = rw (passed_line (nat_lt 0 (length cs)) line h)
 
 passed_after : (before : List (List ℕ)) (line : List ℕ) → IsPassedOver line → line_after before line ≡ Ok lines.Blank

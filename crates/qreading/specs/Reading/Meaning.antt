@@ -59,9 +59,13 @@ line_after_roster roster (lines.Roster m) =
 line_after_roster roster (lines.Call thread call) =
     if is_in thread roster then Ok (lines.Call thread call) else Err UnknownThread
 
+-- what a line says behind this roster; `is_late` says whether calls are above it
+unfoldable pub line_behind : List Member → Bool → List ℕ → Result Line LineFault
+line_behind roster is_late line = line_of is_late line >>= line_after_roster roster
+
 -- what a line says behind this roster and these calls
 unfoldable pub line_with : List Member → List (ℕ × Call) → List ℕ → Result Line LineFault
-line_with roster calls line = line_of (nat_lt 0 (length calls)) line >>= line_after_roster roster
+line_with roster calls line = line_behind roster (nat_lt 0 (length calls)) line
 
 -- what a line says behind these lines
 unfoldable pub line_after : List (List ℕ) → List ℕ → Result Line LineFault

@@ -61,9 +61,9 @@ pub fn priority(word: &[u8]) -> Result<Priority, LineFault>
     }
 }
 
-/// Returns the value of digits, with or without a minus sign in front.
+/// Returns the value of one to twenty digits, with or without a minus sign in front.
 #[tactic(auto, unfolding(crate::specs::Reading::Number::signed_of))]
-fn signed_number(word: &[u8]) -> Option<i128>
+pub fn signed_number(word: &[u8]) -> Option<i128>
     ensures { result ≡ signed_of word.now }
 {
     match word {

@@ -2,7 +2,7 @@
 
 ghost use Rattle.std.specs.Prelude.{◌≡◌, ◌++◌, [], OnOk};
 ghost use Rattle.std.specs.List.{cons_option};
-ghost use Rattle.qreading.specs.Reading.Meaning.{of_line, member_in, call_in, is_in, line_after_roster, line_with, meaning, Means};
+ghost use Rattle.qreading.specs.Reading.Meaning.{of_line, member_in, call_in, is_in, line_after_roster, line_behind, line_with, meaning, Means};
 ghost use Rattle.qreading.specs.Reading.Steps.{Gives};
 
 use crate::fault::{LineFault, ParseError, ScriptFault};
@@ -58,7 +58,7 @@ fn has_thread(roster: &[Member], thread: ThreadNo) -> bool
 
 /// Checks a line against the roster above it: no thread comes twice, there are at most 64, and each caller is in the
 /// roster.
-fn place(roster: &[Member], said: Line) -> Result<Line, LineFault>
+pub fn place(roster: &[Member], said: Line) -> Result<Line, LineFault>
     ensures { result ≡ line_after_roster roster.now said }
 {
     match said {
@@ -81,14 +81,32 @@ fn place(roster: &[Member], said: Line) -> Result<Line, LineFault>
     }
 }
 
+/// Reads a line behind those of this roster; `is_late` says whether call lines are above it.
+#[tactic(auto, unfolding(crate::specs::Reading::Meaning::line_behind))]
+pub fn line_behind(
+    alloc: Global,
+    roster: &[Member],
+    is_late: bool,
+    line: &[u8],
+) -> Result<Line, ParseError>
+    ensures { Gives result (line_behind roster.now is_late line.now) }
+{
+    let said = line_said(alloc, is_late, line)?;
+    let placed = place(roster, said)?;
+    Ok(placed)
+}
+
 /// Reads a line that follows those of the script.
 #[tactic(auto, unfolding(crate::specs::Reading::Meaning::line_with))]
 fn line_after(alloc: Global, script: &Script, line: &[u8]) -> Result<Line, ParseError>
     ensures { Gives result (line_with script.now.roster.items script.now.calls.items line.now) }
 {
-    let said = line_said(alloc, !script.calls.is_empty(), line)?;
-    let placed = place(script.roster.as_slice(), said)?;
-    Ok(placed)
+    line_behind(
+        alloc,
+        script.roster.as_slice(),
+        !script.calls.is_empty(),
+        line,
+    )
 }
 
 /// Reads the text of a script: returns its roster and its calls, or its first faulty line with its first fault.

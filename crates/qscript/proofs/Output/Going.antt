@@ -51,14 +51,13 @@ texts_next : (run : Run) (e : Event)
 texts_next run e =
     rw (texts_both (with_more run (e ∷ [])) run.first run.events (e ∷ []), same_texts run (e ∷ []) run.first run.events (omega arith), append-nil) refl
 
-pub printed_more : (run : Run) (e : Event) (p q : Printer) (shows : Bool) (endings : List Completion) (event : ℕ) (told : List Bool) → HasPrinted run p → shows_buffer e.call ≡ shows → e.endings ≡ endings
-    → q.first ≡ p.first → q.shown.items ≡ p.shown.items ++ shows ∷ [] → event ≡ p.first + length p.shown.items → told ≡ q.shown.items
+pub printed_more : (run : Run) (e : Event) (p q : Printer) (shows : Bool) (endings : List Completion) (event : ℕ) (told : List Bool) → HasPrinted run p → event ≡ run.first + length run.events → shows_buffer e.call ≡ shows → e.endings ≡ endings
+    → q.first ≡ p.first → q.shown.items ≡ p.shown.items ++ shows ∷ [] → told ≡ q.shown.items
     → string_bytes q.text ≡ string_bytes p.text ++ flat_map (λ x. ended_text event x (shows_at p.first told x.call)) endings
     → HasPrinted (with_more run (e ∷ [])) q
-printed_more run e p q shows endings event told h own ended first shown place all text =
+printed_more run e p q shows endings event told h number own ended first shown all text =
     let more = with_more run (e ∷ []) in
     let here : map shows_own (run.events ++ e ∷ []) ≡ q.shown.items = map-append shows_own run.events (e ∷ []) ∙ sym (rw (shown, h.shown, own) refl) in
-    let number : event ≡ run.first + length run.events = place ∙ rw (h.first, h.shown) (omega (arith, length-map run.events shows_own)) in
     let newest : (run.first + length run.events) + 1 ≡ run.first + length (run.events ++ e ∷ []) = omega (arith, length-append run.events (e ∷ [])) in
     let line : event_text more (run.first + length run.events) e.endings ≡ flat_map (λ x. ended_text event x (shows_at p.first told x.call)) endings =
     event_same more (run.first + length run.events) e.endings newest ∙ rw (here, number, h.first, ended, all) refl in
@@ -82,7 +81,3 @@ next_at (e ∷ es) (suc k) call endings h i =
 pub next_taken : (es : List Event) (k : ℕ) (call : Call) (endings : List Completion) → option_map (λ (e : Event). e.call) (slice_get es k) ≡ Some call → option_map (λ (e : Event). e.endings) (slice_get es k) ≡ Some endings
     → (e : Event) × (take (k + 1) es ≡ take k es ++ e ∷ []) × (e.call ≡ call) × (e.endings ≡ endings)
 next_taken es k call endings h i = rw add-one (next_at es k call endings h i)
-
--- how many calls are noted
-pub noted_so_far : (run : Run) (k : ℕ) (p : Printer) → k ≤ length run.events → HasPrinted (record { first = run.first; events = take k run.events }) p → p.first + length p.shown.items ≡ run.first + k
-noted_so_far run k p h printed = rw (printed.first, printed.shown) (omega (arith, h, length-map (take k run.events) shows_own, length-take k run.events))

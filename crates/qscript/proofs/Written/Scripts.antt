@@ -10,7 +10,7 @@ use Rattle.qmodel.specs.Trace.{Event}
 use Rattle.qreading.specs.declared.reading.line.Line.TheVariants as lines
 use Rattle.qreading.specs.Reading.Line.{is_text}
 use Rattle.qreading.specs.Reading.Lines.{lines_of, is_newline, without_return}
-use Rattle.qreading.specs.Reading.Meaning.{is_in, line_with}
+use Rattle.qreading.specs.Reading.Meaning.{is_in, line_behind, line_with}
 use Rattle.qscript.specs.Writing.Laws.{IsTypedMember, IsWritable, MayStand, ScriptsAreRead}
 use Rattle.qscript.specs.Writing.Line.{call_line, member_line}
 use Rattle.qscript.specs.Writing.Text.{member_text, call_text, script_text}
@@ -51,7 +51,7 @@ less line after = simp length-append (omega arith)
 
 -- a call's line after a roster and calls
 call_with : (roster : List Member) (cs : List (ℕ × Call)) (e : Event) → IsWritable roster e → line_with roster cs (call_line e.thread e.call) ≡ Ok (lines.Call e.thread e.call)
-unfolding line_with
+unfolding line_with line_behind
 call_with roster cs e h = rw (call_read (nat_lt 0 (length cs)) e.thread e.call h.1 h.2 h.3, h.0) refl
 
 calls_stand : (text : List ℕ) (roster : List Member) (events : List Event) (n : ℕ) (cs : List (ℕ × Call)) → AllByRecursion (IsWritable roster) events
@@ -73,7 +73,7 @@ calls_stand text roster (e ∷ events) n cs h s =
 
 -- a thread's line after some others
 member_with : (before : List Member) (m : Member) → is_in m.thread before ≡ false → length before < 64 → IsTypedMember m → line_with before [] (member_line m) ≡ Ok (lines.Roster m)
-unfolding line_with
+unfolding line_with line_behind
 member_with before m new few h = rw (member_read m h, new, lt-leb 64 (length before) few) refl
 
 members_stand : (text back : List ℕ) (before members : List Member) (n : ℕ) → MayStand before members → AllByRecursion IsTypedMember members

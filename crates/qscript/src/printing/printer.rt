@@ -1,6 +1,6 @@
 //! Prints the text of a run, event by event.
 
-ghost use Rattle.std.specs.Prelude.{◌≡◌, ◌+◌, ◌^◌, ◌<◌, [], ◌∷◌, ◌++◌, length, IfOk, OnOk, string_bytes};
+ghost use Rattle.std.specs.Prelude.{◌≡◌, ◌+◌, [], ◌∷◌, ◌++◌, length, IfOk, OnOk, string_bytes};
 ghost use Rattle.std.specs.List.{flat_map};
 ghost use Rattle.qmodel.specs.Trace.{Event, Run};
 ghost use Rattle.qscript.specs.Printing.Laws.{with_more};
@@ -38,12 +38,16 @@ impl Printer {
         })
     }
 
-    /// Adds the lines of the next event. `shows` says whether the buffer of its own call is printed when that ends.
-    pub fn push_event(&mut self, shows: bool, endings: &[Completion]) -> Result<(), AllocError>
-        requires { self.old.first + length self.old.shown.items < 2 ^ 64 }
-        ensures { OnOk result ((run : Run) (e : Event) → HasPrinted run self.old → shows_buffer e.call ≡ shows → e.endings ≡ endings.now → HasPrinted (with_more run (e ∷ [])) self.new) }
+    /// Adds the lines of the next event, which has this number. `shows` says whether the buffer of its own call is
+    /// printed when that ends.
+    pub fn push_event(
+        &mut self,
+        event: u64,
+        shows: bool,
+        endings: &[Completion],
+    ) -> Result<(), AllocError>
+        ensures { OnOk result ((run : Run) (e : Event) → HasPrinted run self.old → event ≡ run.first + length run.events → shows_buffer e.call ≡ shows → e.endings ≡ endings.now → HasPrinted (with_more run (e ∷ [])) self.new) }
     {
-        let event = self.first + self.shown.len() as u64;
         self.shown.push(shows)?;
         push_endings(
             &mut self.text,
@@ -53,6 +57,13 @@ impl Printer {
             endings,
         )?;
         Ok(())
+    }
+
+    /// Returns the lines of the events so far.
+    pub fn text(&self) -> &str
+        ensures { result.now ≡ string_bytes self.now.text }
+    {
+        self.text.as_str()
     }
 
     /// Returns the text of the whole run: the lines of its events, and one for each thread that is blocked after it.

@@ -1,148 +1,105 @@
-//! Finds the scripts to check, and their traces.
+//! Unproved: words and layout. Finds the scripts to check, and their traces.
 
-use super::CheckFault;
-use super::tally::Tally;
+use super::Check;
 use crate::designs::is_design;
-use crate::ending::{tell_failed, tell_unread};
+use crate::ending::tell_failed;
 use crate::names::is_named;
 use std::alloc::{AllocError, Global};
 use std::rt::Files;
 use std::{fs, io};
 
-/// A script and its trace: its name in the output, and both files.
+/// A script or a design to check.
 #[derive(Drop)]
 pub struct Example {
+    /// Its name in the output.
     pub name: String,
+    /// Its file.
     pub script: String,
+    /// The file of what it has to print: NAME.trace, or NAME.verdict of a design.
     pub trace: String,
+    /// The ending of this file.
+    pub what: &'static str,
 }
 
-/// Returns the scripts of these files and folders, in order; those of a folder are sorted by name. A path that can't be
-/// read is reported and counted. A script of the only folder, or of the current one, is named by its file name alone,
-/// any other by its path.
-pub fn examples<R: Files + Eprint + AllocGlobal + Clone + Drop>(
-    rt: &R,
-    paths: &[String],
-    tally: &mut Tally,
-) -> Result<Vec<Example>, CheckFault> {
-    let mut examples = Vec::new(rt.alloc());
-    let is_only = paths.len() == 1;
-    for path in paths {
-        let path = path.as_str();
-        match fs::metadata(rt, path) {
-            Ok(metadata) if metadata.is_dir() => {
-                push_folder(rt, path, is_only, &mut examples, tally)?;
+impl Example {
+    /// Returns the example in a file.
+    fn new(alloc: Global, name: String, script: String) -> Result<Example, AllocError> {
+        let path = script.as_str();
+        let (front, what) = match path.strip_suffix(".design") {
+            Some(front) => (front, "verdict"),
+            None => (path.strip_suffix(".txt").unwrap_or(path), "trace"),
+        };
+        Ok(Example {
+            name,
+            trace: format!(in alloc; "{front}.{what}")?,
+            script,
+            what,
+        })
+    }
+}
+
+impl<R: Files + Print + Eprint + AllocGlobal + Clone + Drop> Check<'_, R> {
+    /// Returns the scripts of the files and folders to check, in order; those of a folder are sorted by name. A path
+    /// that can't be read is reported and counted. A script of the only folder, or of the current one, is named by its
+    /// file name alone, any other by its path.
+    pub(super) fn examples(&mut self) -> io::Result<Vec<Example>> {
+        let alloc = self.rt.alloc();
+        let mut examples = Vec::new(alloc);
+        for path in &self.run.paths {
+            let path = path.as_str();
+            match fs::metadata(self.rt, path) {
+                Ok(metadata) if metadata.is_dir() => self.push_folder(path, &mut examples)?,
+                Ok(_) => {
+                    let name = path.strip_suffix(".txt").unwrap_or(path);
+                    let name = String::from_str(alloc, name)?;
+                    let script = String::from_str(alloc, path)?;
+                    examples.push(Example::new(alloc, name, script)?)?;
+                }
+                Err(error) => self.count_unread(path, error)?,
             }
-            Ok(_) => examples.push(example_of(rt.alloc(), path)?)?,
-            Err(error) => count_unread(rt, path, error, tally)?,
         }
+        Ok(examples)
     }
-    Ok(examples)
-}
 
-/// Reports a file or folder that can't be read or written, and counts it.
-pub fn count_unread<R: Eprint>(
-    rt: &R,
-    path: &str,
-    error: io::Error,
-    tally: &mut Tally,
-) -> Result<(), CheckFault> {
-    if error.kind() == io::ErrorKind::OutOfMemory {
-        return Err(CheckFault::NoMemory);
-    }
-    tell_unread(rt, path, error);
-    tally.unread = tally.unread.saturating_add(1);
-    Ok(())
-}
-
-/// Adds the scripts of a folder, sorted by name.
-fn push_folder<R: Files + Eprint + AllocGlobal + Clone + Drop>(
-    rt: &R,
-    folder: &str,
-    is_only: bool,
-    examples: &mut Vec<Example>,
-    tally: &mut Tally,
-) -> Result<(), CheckFault> {
-    let names = match names_read(rt, folder) {
-        Ok(names) => names,
-        Err(error) => return count_unread(rt, folder, error, tally),
-    };
-    if names.is_empty() {
-        tell_failed(
-            rt,
-            format_args!("{folder}: no file NAME.txt, NAME.names or NAME.design"),
-        );
-        tally.unread = tally.unread.saturating_add(1);
-    }
-    for name in &names {
-        let example = example_in(rt.alloc(), folder, name.as_str(), is_only)?;
-        examples.push(example)?;
-    }
-    Ok(())
-}
-
-/// Returns the names of the scripts in a folder: without `.txt`, and with `.names` or `.design`.
-fn names_read<R: Files + AllocGlobal + Clone + Drop>(
-    rt: &R,
-    folder: &str,
-) -> io::Result<Vec<String>> {
-    let mut names = Vec::new(rt.alloc());
-    for entry in fs::read_dir(rt, folder)? {
-        let entry = entry?;
-        let file = entry.file_name();
-        if let Some(name) = file.strip_suffix(".txt") {
-            names.push(String::from_str(rt.alloc(), name)?)?;
-        } else if is_named(file) || is_design(file) {
-            names.push(String::from_str(rt.alloc(), file)?)?;
+    /// Adds the scripts of a folder, sorted by name.
+    fn push_folder(&mut self, folder: &str, examples: &mut Vec<Example>) -> io::Result<()> {
+        let alloc = self.rt.alloc();
+        let names = match self.names_in(folder) {
+            Ok(names) => names,
+            Err(error) => return self.count_unread(folder, error),
+        };
+        if names.is_empty() {
+            let why = format_args!("{folder}: no file NAME.txt, NAME.names or NAME.design");
+            tell_failed(self.rt, why);
+            self.tally.unread = self.tally.unread.saturating_add(1);
         }
+        let is_alone = self.run.paths.len() == 1 || folder == ".";
+        for name in names {
+            let is_whole = is_named(name.as_str()) || is_design(name.as_str());
+            let ending = if is_whole { "" } else { ".txt" };
+            let script = format!(in alloc; "{folder}/{name}{ending}")?;
+            let shown = if is_alone {
+                name
+            } else {
+                format!(in alloc; "{folder}/{name}")?
+            };
+            examples.push(Example::new(alloc, shown, script)?)?;
+        }
+        Ok(())
     }
-    names.sort_unstable();
-    Ok(names)
-}
 
-/// Returns the script with this name in a folder.
-fn example_in(
-    alloc: Global,
-    folder: &str,
-    name: &str,
-    is_only: bool,
-) -> Result<Example, AllocError> {
-    let shown = if is_only || folder == "." {
-        String::from_str(alloc, name)?
-    } else {
-        format!(in alloc; "{folder}/{name}")?
-    };
-    Ok(Example {
-        name: shown,
-        script: script_in(alloc, folder, name)?,
-        trace: trace_of(alloc, script_in(alloc, folder, name)?.as_str())?,
-    })
-}
-
-/// Returns the file of the script with this name in a folder.
-fn script_in(alloc: Global, folder: &str, name: &str) -> Result<String, AllocError> {
-    if is_named(name) || is_design(name) {
-        format!(in alloc; "{folder}/{name}")
-    } else {
-        format!(in alloc; "{folder}/{name}.txt")
+    /// Returns the names of the scripts in a folder, sorted: without `.txt`, and with `.names` or `.design`.
+    fn names_in(&self, folder: &str) -> io::Result<Vec<String>> {
+        let mut names = Vec::new(self.rt.alloc());
+        for entry in fs::read_dir(self.rt, folder)? {
+            let entry = entry?;
+            let file = entry.file_name();
+            let name = file.strip_suffix(".txt").unwrap_or(file);
+            if name.len() < file.len() || is_named(file) || is_design(file) {
+                names.push(String::from_str(self.rt.alloc(), name)?)?;
+            }
+        }
+        names.sort_unstable();
+        Ok(names)
     }
-}
-
-/// Returns the file to compare with: NAME.trace for NAME.txt, and NAME.verdict for NAME.design.
-fn trace_of(alloc: Global, path: &str) -> Result<String, AllocError> {
-    if let Some(name) = path.strip_suffix(".design") {
-        return format!(in alloc; "{name}.verdict");
-    }
-    let name = path.strip_suffix(".txt").unwrap_or(path);
-    format!(in alloc; "{name}.trace")
-}
-
-/// Returns the script of a file.
-fn example_of(alloc: Global, path: &str) -> Result<Example, AllocError> {
-    let name = path.strip_suffix(".txt").unwrap_or(path);
-    Ok(Example {
-        name: String::from_str(alloc, name)?,
-        script: String::from_str(alloc, path)?,
-        trace: trace_of(alloc, path)?,
-    })
 }

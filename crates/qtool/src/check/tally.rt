@@ -1,6 +1,5 @@
-//! Counts the outcomes of a check.
+//! Unproved: words and layout. Counts the outcomes of a check.
 
-use crate::example::Outcome;
 use std::fmt;
 
 /// The number of scripts with each outcome.
@@ -55,15 +54,6 @@ fn differ_word(count: usize) -> &'static str {
 }
 
 impl Tally {
-    /// Counts a script that ran.
-    pub fn count(&mut self, outcome: &Outcome) {
-        if matches!(outcome, Outcome::Same) {
-            self.same = self.same.saturating_add(1);
-        } else {
-            self.differ = self.differ.saturating_add(1);
-        }
-    }
-
     /// Returns whether any script was checked.
     pub fn has_some(&self) -> bool {
         self.same > 0 || self.differ > 0 || self.without > 0 || self.written > 0 || self.faulty > 0

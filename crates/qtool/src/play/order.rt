@@ -1,7 +1,7 @@
-//! The order of a line.
+//! Unproved: words and layout. The order of a line.
 
-use qreading::reading::call::is;
 use qreading::reading::words::next_word;
+use std::str;
 
 /// The order of a line.
 #[derive(Clone, Copy, PartialEq, Eq)]
@@ -31,31 +31,14 @@ fn only_word(line: &[u8]) -> Option<&[u8]> {
 
 /// Returns the order of a line without its end.
 pub fn order_of(line: &[u8]) -> Order<'_> {
-    if let Some((word, rest)) = next_word(line)
-        && is(word, "save")
-    {
-        return Order::Save(match only_word(rest) {
-            Some(name) => name,
-            None => &[],
-        });
+    if let Some((b"save", rest)) = next_word(line) {
+        return Order::Save(only_word(rest).unwrap_or(&[]));
     }
-    match only_word(line) {
-        Some(word) => order_named(word),
-        None => Order::Line,
-    }
-}
-
-/// Returns the order that is a single word.
-fn order_named<'a>(word: &[u8]) -> Order<'a> {
-    if is(word, "state") {
-        Order::State
-    } else if is(word, "undo") {
-        Order::Undo
-    } else if is(word, "help") || is(word, "?") {
-        Order::Help
-    } else if is(word, "quit") || is(word, "exit") {
-        Order::Quit
-    } else {
-        Order::Line
+    match str::from_utf8(only_word(line).unwrap_or(&[])) {
+        Ok("state") => Order::State,
+        Ok("undo") => Order::Undo,
+        Ok("help" | "?") => Order::Help,
+        Ok("quit" | "exit") => Order::Quit,
+        _ => Order::Line,
     }
 }

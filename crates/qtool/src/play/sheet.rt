@@ -1,42 +1,38 @@
-//! The lines of a play: a plain script, which becomes one with names at the first line that only such a script has.
+//! Unproved: words and layout. The lines of a play: a plain script, which becomes one with names at
+//! the first line that only such a script has.
 
-use qnames::fault::Fault;
-use qnames::line::Place;
-use qnames::named::script_faults;
-use qnames::{Reading, read, read_so_far};
-use qreplay::session::{Session, last_line};
+use qbase::ids::ThreadNo;
+use qexplain::session::Session;
+use qkernel::kernel::Kernel;
+use qmodel::call::Call;
+use qnames::growing::{Growing, Step};
+use qnames::{Named, Reading, read_so_far};
+use qreading::MOST_TEXT;
+use qreading::parts::last_line;
+use qreading::place::Fault;
 use qscript::fault::{LineFault, ScriptFault};
 use std::alloc::{AllocError, Global};
 
 /// The outcome of adding lines.
 #[derive(Drop)]
 pub enum Taken {
-    /// They are added.
-    Added(Addition),
+    /// They are added: what they add to the trace, without the lines of blocked threads, and what differs from the
+    /// expectations now and wasn't reported before.
+    Added(Vec<u8>, Vec<Fault>),
     /// The line with this number, counted from the first of all, isn't one of a plain script.
     Plain(u64, LineFault),
     /// The lines aren't those of a script with names.
     Named(Vec<Fault>),
 }
 
-/// The effects of added lines.
-#[derive(Drop)]
-pub struct Addition {
-    /// What they add to the trace, without the lines of blocked threads.
-    pub printed: Vec<u8>,
-    /// What differs from the expectations now, and wasn't reported before.
-    pub faults: Vec<Fault>,
-}
-
-/// Lines with names, as they were read.
+/// Lines with names, as they were read, and what they mean.
 #[derive(Drop)]
 struct Names {
     text: Vec<u8>,
-    /// The places of the faults reported so far.
-    told: Vec<Place>,
+    growing: Growing,
 }
 
-/// The lines so far, and their plain script with its run.
+/// The lines so far, and their run.
 #[derive(Drop)]
 pub struct Sheet {
     alloc: Global,
@@ -58,43 +54,74 @@ fn has_signs(line: &[u8]) -> bool {
     false
 }
 
-/// Returns these lines behind others, each with its end.
-fn joined(alloc: Global, front: &[u8], lines: &[u8]) -> Result<Vec<u8>, AllocError> {
-    let mut text = Vec::from_slice(alloc, front)?;
+/// Adds lines behind others, each with its end.
+fn push_lines(text: &mut Vec<u8>, lines: &[u8]) -> Result<(), AllocError> {
     text.extend_from_slice(lines)?;
     if lines.last() != Some(&b'\n') {
         text.push(b'\n')?;
     }
-    Ok(text)
+    Ok(())
 }
 
-/// Runs a plain script; returns its session, and what it prints without the lines of blocked threads.
-fn run(alloc: Global, plain: &[u8]) -> Result<(Session, Vec<u8>), ScriptFault> {
-    let mut session = Session::new(alloc);
-    let printed = session.add(plain)?;
-    Ok((session, printed))
+/// Returns the kernel of a session, or `None` before its first call.
+fn kernel_of(session: &Session) -> Option<&Kernel> {
+    Some(session.run()?.run().kernel())
 }
 
-/// Returns the places of faults.
-fn places(alloc: Global, faults: &[Fault]) -> Result<Vec<Place>, AllocError> {
-    let mut places = Vec::new(alloc);
-    for fault in faults {
-        places.push(fault.place)?;
+/// Makes a call, and compares what ends by it with what the lines expect.
+fn make(
+    session: &mut Session,
+    growing: &mut Growing,
+    thread: ThreadNo,
+    call: Call,
+) -> Result<(), AllocError> {
+    if session.make(thread, call).is_err() {
+        return Err(AllocError);
     }
-    Ok(places)
+    match session.run() {
+        Some(run) => growing
+            .check
+            .follow(run.run().kernel(), run.run().endings()),
+        None => Ok(()),
+    }
+}
+
+/// Runs a script with names from its first line on.
+fn run(alloc: Global, named: Named) -> Result<(Session, Growing), AllocError> {
+    let (mut growing, calls) = Growing::of(alloc, named)?;
+    let mut session = Session::new(alloc);
+    for member in growing.roster() {
+        session.add_member(*member)?;
+    }
+    growing.check.compare_states(None)?;
+    for (thread, call) in calls {
+        make(&mut session, &mut growing, thread, call)?;
+    }
+    Ok((session, growing))
+}
+
+/// Returns the last line of a text that is neither empty nor a comment, and the text in front of it.
+fn without_last(alloc: Global, text: &[u8]) -> Result<Option<(Vec<u8>, Vec<u8>)>, AllocError> {
+    let Some((start, line)) = last_line(text) else {
+        return Ok(None);
+    };
+    let line = Vec::from_slice(alloc, line)?;
+    let mut front = Vec::from_slice(alloc, text)?;
+    front.truncate(start);
+    Ok(Some((line, front)))
 }
 
 impl Names {
-    /// Returns the faults that weren't reported before, and counts them as reported.
-    fn untold(&mut self, alloc: Global, faults: Vec<Fault>) -> Result<Vec<Fault>, AllocError> {
-        let mut new = Vec::new(alloc);
-        for fault in faults {
-            if !self.told.as_slice().contains(&fault.place) {
-                self.told.push(fault.place)?;
-                new.push(fault)?;
-            }
+    /// Adds a line, and what it says to the run, unless it is faulty.
+    fn add(&mut self, session: &mut Session, line: &[u8]) -> Result<Vec<Fault>, AllocError> {
+        match self.growing.add(line)? {
+            Step::Faulty(faults) => return Ok(faults),
+            Step::Member(member) => session.add_member(member)?,
+            Step::Call(thread, call) => make(session, &mut self.growing, thread, call)?,
+            Step::Nothing => self.growing.check.compare_states(kernel_of(session))?,
         }
-        Ok(new)
+        push_lines(&mut self.text, line)?;
+        Ok(Vec::new(session.alloc()))
     }
 }
 
@@ -108,7 +135,7 @@ impl Sheet {
         }
     }
 
-    /// Returns the plain script of the lines so far.
+    /// Returns the run of the lines so far.
     pub fn session(&self) -> &Session {
         &self.session
     }
@@ -129,7 +156,7 @@ impl Sheet {
     /// Adds a line of a plain script, or else of one with names, which the script is from then on.
     pub fn add(&mut self, line: &[u8]) -> Result<Taken, ScriptFault> {
         if self.names.is_some() {
-            return self.add_named(line);
+            return Ok(self.add_named_line(line)?);
         }
         let taken = self.add_plain(line)?;
         let Taken::Plain(number, fault) = taken else {
@@ -144,88 +171,72 @@ impl Sheet {
     /// Adds lines of a plain script.
     pub fn add_plain(&mut self, lines: &[u8]) -> Result<Taken, ScriptFault> {
         match self.session.add(lines) {
-            Ok(printed) => Ok(Taken::Added(Addition {
-                printed,
-                faults: Vec::new(self.alloc),
-            })),
+            Ok(printed) => Ok(Taken::Added(printed, Vec::new(self.alloc))),
             Err(ScriptFault::Line { number, fault }) => Ok(Taken::Plain(number, fault)),
             Err(other) => Err(other),
         }
     }
 
-    /// Adds lines of a script with names.
-    pub fn add_named(&mut self, lines: &[u8]) -> Result<Taken, ScriptFault> {
-        let text = joined(self.alloc, self.text(), lines)?;
+    /// Adds a line to a script with names.
+    fn add_named_line(&mut self, line: &[u8]) -> Result<Taken, AllocError> {
+        let shown = self.session.trace().len();
+        match &mut self.names {
+            Some(names) if names.text.len().saturating_add(line.len()) < MOST_TEXT => {
+                let faults = names.add(&mut self.session, line)?;
+                if !faults.is_empty() {
+                    return Ok(Taken::Named(faults));
+                }
+                let faults = names.growing.check.take_faults()?;
+                self.added(shown, faults)
+            }
+            _ => self.add_named(line),
+        }
+    }
+
+    /// Returns the outcome of lines that were added when so many bytes of the trace were shown.
+    fn added(&self, shown: usize, faults: Vec<Fault>) -> Result<Taken, AllocError> {
+        let new = self.session.trace().as_bytes().get(shown..).unwrap_or(&[]);
+        Ok(Taken::Added(Vec::from_slice(self.alloc, new)?, faults))
+    }
+
+    /// Adds lines of a script with names, which is run from its first line on.
+    pub fn add_named(&mut self, lines: &[u8]) -> Result<Taken, AllocError> {
+        let mut text = Vec::from_slice(self.alloc, self.text())?;
+        push_lines(&mut text, lines)?;
+        self.run_again(text)
+    }
+
+    /// Runs a script with names in place of the lines so far. If it is faulty, nothing changes.
+    fn run_again(&mut self, text: Vec<u8>) -> Result<Taken, AllocError> {
+        let shown = self.session.trace().len();
         let named = match read_so_far(self.alloc, text.as_slice())? {
             Reading::Good(named) => named,
             Reading::Faulty(faults) => return Ok(Taken::Named(faults)),
         };
-        let (session, trace) = match run(self.alloc, named.plain().as_bytes()) {
-            Ok(run) => run,
-            Err(fault) => return Ok(Taken::Named(script_faults(self.alloc, &fault)?)),
-        };
-        let faults = named.faults_so_far(self.alloc, trace.as_slice())?;
-        let (_, before) = run(self.alloc, self.session.text())?;
-        let new = trace.as_slice().get(before.len()..).unwrap_or(&[]);
+        let (session, mut growing) = run(self.alloc, named)?;
+        let faults = growing.check.take_faults()?;
         self.session = session;
-        Ok(Taken::Added(Addition {
-            printed: Vec::from_slice(self.alloc, new)?,
-            faults: self.keep(text, faults)?,
-        }))
+        self.names = Some(Names { text, growing });
+        self.added(shown, faults)
     }
 
-    /// Keeps lines with names, and returns their faults that weren't reported before.
-    fn keep(&mut self, text: Vec<u8>, faults: Vec<Fault>) -> Result<Vec<Fault>, AllocError> {
-        let told = match self.names.take() {
-            Some(names) => names.told,
-            None => Vec::new(self.alloc),
-        };
-        let mut names = Names { text, told };
-        let new = names.untold(self.alloc, faults);
-        self.names = Some(names);
-        new
-    }
-
-    /// Removes the last line that is neither empty nor a comment, and returns it.
-    pub fn undo(&mut self) -> Result<Option<Vec<u8>>, ScriptFault> {
-        let Some(names) = &self.names else {
-            return self.session.undo();
-        };
-        let Some((start, line)) = last_line(names.text.as_slice()) else {
+    /// Removes the last line that is neither empty nor a comment, and returns it. The lines above it are run again.
+    pub fn undo(&mut self) -> Result<Option<Vec<u8>>, AllocError> {
+        if self.names.is_none() {
+            return self.session.undo().map_err(|_| AllocError);
+        }
+        let Some((line, front)) = without_last(self.alloc, self.text())? else {
             return Ok(None);
         };
-        let line = Vec::from_slice(self.alloc, line)?;
-        let front = names.text.as_slice().get(..start).unwrap_or(&[]);
-        let text = Vec::from_slice(self.alloc, front)?;
-        self.go_back(text)?;
+        self.run_again(front)?;
         Ok(Some(line))
     }
 
-    /// Goes back to earlier lines with names.
-    fn go_back(&mut self, text: Vec<u8>) -> Result<(), ScriptFault> {
-        let Reading::Good(named) = read_so_far(self.alloc, text.as_slice())? else {
-            return Ok(());
-        };
-        let (session, trace) = run(self.alloc, named.plain().as_bytes())?;
-        let faults = named.faults_so_far(self.alloc, trace.as_slice())?;
-        let told = places(self.alloc, faults.as_slice())?;
-        self.session = session;
-        self.names = Some(Names { text, told });
-        Ok(())
-    }
-
     /// Returns what differs from the expectations at the end of the lines, and wasn't reported before.
-    pub fn finish(&mut self) -> Result<Vec<Fault>, ScriptFault> {
-        let Some(names) = &mut self.names else {
-            return Ok(Vec::new(self.alloc));
-        };
-        let faults = match read(self.alloc, names.text.as_slice())? {
-            Reading::Good(named) => {
-                let (_, trace) = run(self.alloc, self.session.text())?;
-                named.faults_in(self.alloc, trace.as_slice())?
-            }
-            Reading::Faulty(faults) => faults,
-        };
-        Ok(names.untold(self.alloc, faults)?)
+    pub fn finish(&mut self) -> Result<Vec<Fault>, AllocError> {
+        match &mut self.names {
+            Some(names) => names.growing.finish(kernel_of(&self.session)),
+            None => Ok(Vec::new(self.alloc)),
+        }
     }
 }

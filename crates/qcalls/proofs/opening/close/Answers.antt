@@ -1,3 +1,7 @@
+use Rattle.std.proofs.Common.{◌∙◌, refl, subst, sym}
+use Rattle.std.proofs.lemmas.Bool.{true≢false}
+use Rattle.qhandoff.specs.Words.{thread_of}
+use Rattle.qshared.specs.Naming.{AreAll}
 use Rattle.qcalls.proofs.opening.close.Goals as goal
 
 pub finish-requires : goal.finish-requires
@@ -8,3 +12,6 @@ returns-clause-due g c = record { left = c.finish.result.left.items; rises = c.f
 
 pub returns-clause-past : goal.returns-clause-past
 returns-clause-past g c = record { lawful = c.finish.ensures.lawful.1; properties = c.finish.ensures.lawful.2 }
+
+pub returns-then-not-all-clause-error : goal.returns-then-not-all-clause-error
+returns-then-not-all-clause-error g c = (refl, λ all. true≢false (sym (c.all.ensures.1 (subst (AreAll (λ p. thread_of p.seat) g.K.Tie.names.cells.slots) (sym c.as_slice.ensures.value) all)) ∙ c.if-not-all.true))

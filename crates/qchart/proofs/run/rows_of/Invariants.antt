@@ -1,12 +1,11 @@
-use Rattle.std.proofs.Common.{◌≡◌, ◌++◌, [], length}
+use Rattle.std.proofs.Common.{◌≡◌, ◌++◌, length}
 use Rattle.std.specs.Vec.Iter.{into_iter_items, into_iter_len}
 use Rattle.qchart.proofs.Making.{Going}
 use Rattle.qchart.proofs.run.rows_of.Given as goal
 
 abbrev pub invariant-calls : goal.invariant-calls
 invariant-calls l = record {
-  going : Going l.fn.kernel l.yielded l.kernel l.rows.items l.course.callers.items;
+  going : Going l.fn.run.kernel l.yielded l.run.kernel l.rows.items l.course.callers.items;
   left : l.yielded ++ into_iter_items l.thread-iterator ≡ l.fn.calls.items;
   count : into_iter_len l.thread-iterator ≡ length (into_iter_items l.thread-iterator);
-  emptied : l.endings.items ≡ [];
 }

@@ -2,7 +2,6 @@ use Rattle.std.proofs.Common.{◌≡◌, ◌+◌, ◌≤◌, ◌++◌, [], drop,
 use Rattle.std.proofs.lemmas.Grind.{common_steps}
 use Rattle.std.proofs.lemmas.List.{drop_all}
 use Rattle.qnames.specs.Names.{Names, with_line}
-use Rattle.qnames.specs.Scope.{names_of}
 use Rattle.qnames.specs.Plain.{plain_lines, name_faults}
 use Rattle.qnames.proofs.Going.{text_next, faults_next, few_threads, few_calls, few_processes}
 use Rattle.qnames.proofs.plain.plain_of.Goals as goal
@@ -10,7 +9,7 @@ use Rattle.qnames.proofs.plain.plain_of.Goals as goal
 pub lines-preserved : goal.lines-preserved
 lines-preserved c =
     let is = sym c.line-item.is in
-    let names : Names = names_of c.lines.plain.scope in
+    let names : Names = c.lines.plain.scope in
     let known = c.in_ok-add.ensures.scope in
     record {
       text = text_next names _ _ _ _ _ _ _ c.lines-test.true is c.in_ok-add.ensures.text known c.lines.invariant.text;

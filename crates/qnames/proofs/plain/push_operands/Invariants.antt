@@ -3,4 +3,4 @@ use Rattle.qnames.specs.Plain.{words_of}
 use Rattle.qnames.proofs.plain.push_operands.Given as goal
 
 abbrev pub invariant-operands : goal.invariant-operands
-invariant-operands l = string_bytes l.out ≡ string_bytes l.initial.out ++ words_of l.scope.labels.items (take l.operand-index l.operands)
+invariant-operands l = string_bytes l.out ≡ string_bytes l.initial.out ++ words_of l.scope.labels (take l.operand-index l.operands)

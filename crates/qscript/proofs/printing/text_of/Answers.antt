@@ -1,15 +1,13 @@
-use Rattle.std.proofs.Common.{take, take_all, ap, sym, ◌∙◌, arith}
+use Rattle.std.proofs.Common.{◌≡◌, ◌+◌, take, take_all, length, length-take, ap, sym, ◌∙◌, arith}
 use Rattle.qscript.specs.Printing.Printed.{shows_buffer}
-use Rattle.qscript.proofs.Output.Going.{next_taken, noted_so_far}
+use Rattle.qscript.proofs.Output.Going.{next_taken}
 use Rattle.qscript.proofs.printing.text_of.Goals as goal
-
-pub push_event-requires : goal.push_event-requires
-push_event-requires c = omega (arith, noted_so_far c.args.run.now c.events.k c.events.printer (omega (arith, c.events.auto)) c.events.invariant, c.requires)
 
 pub events-preserved : goal.events-preserved
 events-preserved c =
     let next = next_taken c.args.run.now.events c.events.k _ _ c.call.ensures c.endings.ensures in
-    rw (next.1) (c.in_ok-push_event.ensures (record { first = c.args.run.now.first; events = take c.events.k c.args.run.now.events }) next.0 c.events.invariant (ap shows_buffer next.2 ∙ sym c.shows.ensures) next.3)
+    let number : c.first-in-events.result + c.events.k ≡ c.args.run.now.first + length (take c.events.k c.args.run.now.events) = omega (arith, c.first-in-events.ensures, c.events.auto, length-take c.events.k c.args.run.now.events) in
+    rw (next.1) (c.in_ok-push_event.ensures (record { first = c.args.run.now.first; events = take c.events.k c.args.run.now.events }) next.0 c.events.invariant number (ap shows_buffer next.2 ∙ sym c.shows.ensures) next.3)
 
 pub returns : goal.returns
 returns c = c.in_ok-text.ensures c.args.run.now (rw (take_all c.events.k c.args.run.now.events (omega arith)) at c.events.invariant)

@@ -1,9 +1,9 @@
-use Rattle.std.proofs.Common.{ap, sym, subst, inl, inr, ◌∙◌, Err}
+use Rattle.std.proofs.Common.{ap, refl, sym, subst, inl, inr, ◌∙◌, Err}
 use Rattle.std.proofs.lemmas.Result.{err_from_is_err_and}
 use Rattle.qcalls.specs.Coming.{ComesOf}
 use Rattle.qcalls.specs.Making.{read_off}
 use Rattle.qcalls.specs.Results.{done_in}
-use Rattle.qcalls.proofs.Leading.{both_make, first_fails, leads_told, reads_done, second_makes}
+use Rattle.qcalls.proofs.Leading.{both_make, first_fails, leads_gives, leads_gives_both, leads_told, reads_done, second_makes}
 use Rattle.qcalls.proofs.caller.Caller.make_both.Goals as goal
 
 pub returns-in-Both-clause-makes : goal.returns-in-Both-clause-makes
@@ -37,22 +37,50 @@ returns-clause-makes g c =
 pub returns-in-Both-clause-came : goal.returns-in-Both-clause-came
 returns-in-Both-clause-came g c =
     let was = c.in-Both.ensures in
-    record { between = c.call_both.new.self; answer = _; both = was.came; then = inl (c.ending_of.ensures.seen, leads_told _ _ _ _ c.ending_of.ensures.leads ∙ was.told) }
+    let l = c.ending_of.ensures in
+    record {
+      between = c.ending_of.new.self.endpoint;
+      answer = _;
+      both = subst (g.E.Endpoint.came_both c.args.self.now.endpoint c.args.first c.args.second _) (sym l.seen) was.came;
+      gives = leads_gives_both c.in-Both.field-0 c.in-Both.called (g.E.Endpoint.history c.args.self.now.endpoint).taken _ _ _ was.taken l.leads;
+      then = inl (refl, refl, leads_told _ _ _ _ l.leads ∙ was.told);
+    }
 
 pub returns-in_err-ending_of-in-First-clause-came : goal.returns-in_err-ending_of-in-First-clause-came
 returns-in_err-ending_of-in-First-clause-came g c =
     let was = c.in-First.ensures in
-    record { between = c.call_both.new.self; answer = _; both = was.came; then = inl (c.ending_of-in-First.ensures.seen, leads_told _ _ _ _ c.ending_of-in-First.ensures.leads ∙ was.told) }
+    let l = c.ending_of-in-First.ensures in
+    record {
+      between = c.ending_of-in-First.new.self.endpoint;
+      answer = _;
+      both = subst (g.E.Endpoint.came_both c.args.self.now.endpoint c.args.first c.args.second _) (sym l.seen) was.came;
+      gives = leads_gives c.in-First.called (g.E.Endpoint.history c.args.self.now.endpoint).taken _ _ _ was.taken l.leads;
+      then = inl (refl, refl, leads_told _ _ _ _ l.leads ∙ was.told);
+    }
 
 pub returns-in_err-done-in-First-clause-came : goal.returns-in_err-done-in-First-clause-came
 returns-in_err-done-in-First-clause-came g c =
     let was = c.in-First.ensures in
-    record { between = c.call_both.new.self; answer = _; both = was.came; then = inl (c.ending_of-in-First.ensures.seen, leads_told _ _ _ _ c.ending_of-in-First.ensures.leads ∙ was.told) }
+    let l = c.ending_of-in-First.ensures in
+    record {
+      between = c.ending_of-in-First.new.self.endpoint;
+      answer = _;
+      both = subst (g.E.Endpoint.came_both c.args.self.now.endpoint c.args.first c.args.second _) (sym l.seen) was.came;
+      gives = leads_gives c.in-First.called (g.E.Endpoint.history c.args.self.now.endpoint).taken _ _ _ was.taken l.leads;
+      then = inl (refl, refl, leads_told _ _ _ _ l.leads ∙ was.told);
+    }
 
 pub returns-clause-came : goal.returns-clause-came
 returns-clause-came g c =
     let was = c.in-First.ensures in
+    let l = c.ending_of-in-First.ensures in
     let e = c.ending_of-in-First.new.self.endpoint in
     let last = c.make.new.self.endpoint in
-    let came = subst (λ d. ComesOf g.E.Endpoint.came e d (g.E.Endpoint.seen last) (g.E.Endpoint.history last).told) was.turn.1 c.make.ensures.came in
-    record { between = e; answer = _; both = subst (g.E.Endpoint.came_both c.args.self.now.endpoint c.args.first c.args.second _) (sym c.ending_of-in-First.ensures.seen) was.came; then = inr came }
+    let came = subst (λ d. ComesOf (λ e. g.E.Endpoint.history e) g.E.Endpoint.came e d (g.E.Endpoint.seen last) (g.E.Endpoint.history last)) was.turn.1 c.make.ensures.came in
+    record {
+      between = e;
+      answer = _;
+      both = subst (g.E.Endpoint.came_both c.args.self.now.endpoint c.args.first c.args.second _) (sym l.seen) was.came;
+      gives = leads_gives c.in-First.called (g.E.Endpoint.history c.args.self.now.endpoint).taken _ _ _ was.taken l.leads;
+      then = inr came;
+    }

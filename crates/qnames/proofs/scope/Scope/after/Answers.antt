@@ -1,12 +1,11 @@
 use Rattle.std.proofs.Common.{length, ap, arith}
 use Rattle.qnames.specs.Names.{Names}
-use Rattle.qnames.specs.Scope.{names_of}
 use Rattle.qnames.proofs.Going.{few_threads, few_calls, few_processes}
 use Rattle.qnames.proofs.scope.Scope.after.Goals as goal
 
 pub lines-preserved : goal.lines-preserved
 lines-preserved c =
-    let names : Names = names_of c.lines.scope in
+    let names : Names = c.lines.scope in
     let known = c.in_ok-add.ensures in
     record {
       threads = omega (arith, ap (λ n. n.threads) known, few_threads names c.line-item.result, c.lines.invariant.threads);

@@ -5,5 +5,5 @@ abbrev pub invariant-lines : goal.invariant-lines
 invariant-lines l = record {
   threads : l.scope.threads ≤ l.line-index;
   calls : l.scope.calls ≤ l.line-index;
-  processes : length l.scope.processes.items ≤ l.line-index;
+  processes : length l.scope.processes ≤ l.line-index;
 }

@@ -1,0 +1,20 @@
+use Rattle.std.proofs.Common.{◌≡◌, ap, map, subst, sym, ◌∙◌}
+use Rattle.std.specs.List.{filter_map}
+use Rattle.qtables.specs.Members.{IsRoster}
+use Rattle.qstate.specs.Kept.{members_of}
+use Rattle.qchart.specs.Changes.{change_since, level_of}
+use Rattle.qchart.proofs.Changing.{told_changes}
+use Rattle.qchart.proofs.run.Course.next_row.Goals as goal
+
+pub returns-clause-changes : goal.returns-clause-changes
+returns-clause-changes c roster past now stood stands =
+    let old = c.args.run.now.kernel in
+    let new = c.make.new.self.kernel in
+    let began : IsRoster (members_of old.threads) = subst (λ s. IsRoster (members_of s.threads)) c.kernel.ensures c.made.ensures.sound.roster in
+    let rises : IsRoster (members_of new.threads) = subst IsRoster (sym c.make.ensures.roster) began in
+    let before : c.as_slice.result.now ≡ map level_of old.threads = c.as_slice.ensures.value ∙ c.in_ok-before.ensures ∙ ap (λ s. map level_of s.threads) c.kernel-2.ensures in
+    let after : c.as_slice-2.result.now ≡ map level_of new.threads = c.as_slice-2.ensures.value ∙ c.in_ok-after.ensures ∙ ap (λ s. map level_of s.threads) c.kernel-3.ensures in
+    c.in_ok-changes_since.ensures
+    ∙ ap (λ levels. filter_map (change_since levels) c.as_slice-2.result.now) before
+    ∙ ap (filter_map (change_since (map level_of old.threads))) after
+    ∙ told_changes old new rises roster past now stood stands

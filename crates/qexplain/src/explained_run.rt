@@ -1,0 +1,77 @@
+//! Unproved: words and layout. A run whose failures and waits are explained.
+
+use crate::history::{History, Past};
+use crate::waiting::{Deadlock, Wait, deadlocks, waits};
+use crate::why::{Refusal, refusals};
+use qbase::errno::Errno;
+use qbase::ids::ThreadNo;
+use qmodel::call::Call;
+use qscript::run::Run;
+use qtables::member::Member;
+use qtables::roster::Roster;
+use std::alloc::{AllocError, Global};
+
+/// A run that goes on call by call, and its past calls.
+#[derive(Drop)]
+pub struct ExplainedRun {
+    run: Run,
+    history: History,
+}
+
+impl ExplainedRun {
+    /// Begins a run of these threads on a new kernel, with room for the lines of `calls` calls. A thread that comes
+    /// twice, and those behind the 64th, are left out.
+    pub fn new(
+        alloc: Global,
+        members: &[Member],
+        calls: usize,
+    ) -> Result<ExplainedRun, AllocError> {
+        let mut roster = Roster::new(alloc);
+        for member in members {
+            let _ = roster.add(member.thread, member.process, member.priority);
+        }
+        Ok(ExplainedRun {
+            run: Run::new(alloc, &roster, calls)?,
+            history: History::new(alloc),
+        })
+    }
+
+    /// Makes the next call, as the run does. After `NoMemory` the run must not be used any more.
+    pub fn make(&mut self, thread: ThreadNo, call: Call) -> Result<(), Errno> {
+        let past = Past::of(thread, &call);
+        self.run.make(thread, call)?;
+        self.history.add(past, self.run.endings())?;
+        Ok(())
+    }
+
+    /// Returns the run.
+    pub fn run(&self) -> &Run {
+        &self.run
+    }
+
+    /// Returns the run, without its past calls.
+    pub fn into_run(self) -> Run {
+        self.run
+    }
+
+    /// Returns the past calls.
+    pub fn history(&self) -> &History {
+        &self.history
+    }
+
+    /// Returns the failures in the event of the latest call, with their reasons.
+    pub fn refusals(&self, alloc: Global) -> Result<Vec<Refusal>, AllocError> {
+        let endings = self.run.endings();
+        refusals(alloc, self.run.kernel(), &self.history, endings)
+    }
+
+    /// Returns the threads whose messages aren't answered now, in rising number.
+    pub fn waits(&self, alloc: Global) -> Result<Vec<Wait>, AllocError> {
+        waits(alloc, self.run.kernel(), &self.history)
+    }
+
+    /// Returns the circles among these waits.
+    pub fn deadlocks(&self, alloc: Global, waits: &[Wait]) -> Result<Vec<Deadlock>, AllocError> {
+        deadlocks(alloc, self.run.kernel(), waits)
+    }
+}

@@ -1,0 +1,197 @@
+//! Unproved: words and layout. Keeps a script that grows line by line, and returns what each line
+//! adds to its trace.
+
+use crate::explained_run::ExplainedRun;
+use crate::states::states_of;
+use crate::why::Refusal;
+use qbase::errno::Errno;
+use qbase::ids::ThreadNo;
+use qmodel::call::Call;
+use qreading::fault::ParseError;
+use qreading::parts::Lines;
+pub use qreading::parts::last_line;
+use qreading::reading::line::Line;
+use qreading::reading::script::line_behind;
+use qscript::MOST_TEXT;
+use qscript::fault::ScriptFault;
+use qscript::printing::open_line::push_open;
+use qtables::member::Member;
+use std::alloc::{AllocError, Global};
+use std::mem;
+
+/// The lines of a script so far, which have no fault, and its run, which goes on with each line. The run begins at the
+/// first call, since the threads stand before it.
+#[derive(Drop)]
+pub struct Session {
+    alloc: Global,
+    text: Vec<u8>,
+    /// The number of lines of the text.
+    lines: u64,
+    roster: Vec<Member>,
+    run: Option<ExplainedRun>,
+}
+
+impl Session {
+    /// Returns a session without lines.
+    pub fn new(alloc: Global) -> Session {
+        Session {
+            alloc,
+            text: Vec::new(alloc),
+            lines: 0,
+            roster: Vec::new(alloc),
+            run: None,
+        }
+    }
+
+    /// Returns the lines so far.
+    pub fn text(&self) -> &[u8] {
+        self.text.as_slice()
+    }
+
+    /// Returns the run, or `None` if no call is made yet.
+    pub fn run(&self) -> Option<&ExplainedRun> {
+        self.run.as_ref()
+    }
+
+    /// Adds a thread whose line is read elsewhere, so that the text doesn't have it. It stands before the first call.
+    pub fn add_member(&mut self, member: Member) -> Result<(), AllocError> {
+        Ok(self.roster.push(member)?)
+    }
+
+    /// Makes a call whose line is read elsewhere, so that the text doesn't have it. `NoThread` if its thread has no
+    /// line. After `NoMemory` the session must not be used any more.
+    pub fn make(&mut self, thread: ThreadNo, call: Call) -> Result<(), Errno> {
+        if self.run.is_none() {
+            self.run = Some(ExplainedRun::new(self.alloc, self.roster.as_slice(), 0)?);
+        }
+        match &mut self.run {
+            Some(run) => run.make(thread, call),
+            None => Err(Errno::NoThread),
+        }
+    }
+
+    /// Adds lines, and returns what they add to the trace, without the lines of blocked threads. If one is faulty, none
+    /// is added; the line number of the error counts all lines of the session. After `NoMemory` the session must not be
+    /// used any more.
+    pub fn add(&mut self, lines: &[u8]) -> Result<Vec<u8>, ScriptFault> {
+        let text = self.text.len();
+        let count = self.lines;
+        let members = self.roster.len();
+        let added = self.try_add(lines);
+        if added.is_err() {
+            self.text.truncate(text);
+            self.lines = count;
+            self.roster.truncate(members);
+        }
+        added
+    }
+
+    /// Adds lines, and keeps them and their threads even if they are faulty.
+    fn try_add(&mut self, lines: &[u8]) -> Result<Vec<u8>, ScriptFault> {
+        let lines = if lines.is_empty() { b"\n" } else { lines };
+        self.text.extend_from_slice(lines)?;
+        if !lines.ends_with(b"\n") {
+            self.text.push(b'\n')?;
+        }
+        if self.text.len() > MOST_TEXT {
+            return Err(ScriptFault::TooLong);
+        }
+        let calls = self.read(lines)?;
+        let shown = self.trace().len();
+        for (thread, call) in calls {
+            if self.make(thread, call).is_err() {
+                return Err(ScriptFault::NoMemory);
+            }
+        }
+        let new = self.trace().as_bytes().get(shown..).unwrap_or(&[]);
+        Ok(Vec::from_slice(self.alloc, new)?)
+    }
+
+    /// Reads lines: counts them, adds their threads, and returns their calls.
+    fn read(&mut self, lines: &[u8]) -> Result<Vec<(ThreadNo, Call)>, ScriptFault> {
+        let mut calls = Vec::new(self.alloc);
+        for line in Lines(lines) {
+            self.lines = self.lines.saturating_add(1);
+            let is_late = self.run.is_some() || !calls.is_empty();
+            match line_behind(self.alloc, self.roster.as_slice(), is_late, line) {
+                Ok(said) => self.keep(said, &mut calls)?,
+                Err(ParseError::Memory) => return Err(ScriptFault::NoMemory),
+                Err(ParseError::Fault(fault)) => {
+                    let number = self.lines;
+                    return Err(ScriptFault::Line { number, fault });
+                }
+            }
+        }
+        Ok(calls)
+    }
+
+    /// Adds the thread of a line to the roster, or its call to these.
+    fn keep(&mut self, said: Line, calls: &mut Vec<(ThreadNo, Call)>) -> Result<(), AllocError> {
+        match said {
+            Line::Blank => {}
+            Line::Roster(member) => self.roster.push(member)?,
+            Line::Call(thread, call) => calls.push((thread, call))?,
+        }
+        Ok(())
+    }
+
+    /// Returns the allocator.
+    pub fn alloc(&self) -> Global {
+        self.alloc
+    }
+
+    /// Returns the lines of all calls that ended so far.
+    pub fn trace(&self) -> &str {
+        match &self.run {
+            Some(run) => run.run().text(),
+            None => "",
+        }
+    }
+
+    /// Returns the lines of the threads that are blocked now.
+    pub fn blocked(&self) -> Result<Vec<u8>, AllocError> {
+        let mut lines = String::new(self.alloc);
+        if let Some(run) = &self.run {
+            for blocked in &run.run().kernel().blocked(self.alloc)? {
+                push_open(&mut lines, *blocked)?;
+            }
+        }
+        Vec::from_slice(self.alloc, lines.as_bytes())
+    }
+
+    /// Returns a line for each thread, in the order of their lines, with its state now and its priority.
+    pub fn states(&self, alloc: Global) -> Result<String, AllocError> {
+        let members = self.roster.as_slice();
+        match &self.run {
+            Some(run) => states_of(alloc, run.run().kernel(), members),
+            None => {
+                let run = ExplainedRun::new(alloc, members, 0)?;
+                states_of(alloc, run.run().kernel(), members)
+            }
+        }
+    }
+
+    /// Returns the failures in the event of the last call, with their reasons.
+    pub fn failures(&self) -> Result<Vec<Refusal>, AllocError> {
+        match &self.run {
+            Some(run) => run.refusals(self.alloc),
+            None => Ok(Vec::new(self.alloc)),
+        }
+    }
+
+    /// Removes the last line of the text that is neither empty nor a comment, and returns it. The lines above it are
+    /// run again.
+    pub fn undo(&mut self) -> Result<Option<Vec<u8>>, ScriptFault> {
+        let Some((start, line)) = last_line(self.text.as_slice()) else {
+            return Ok(None);
+        };
+        let line = Vec::from_slice(self.alloc, line)?;
+        let mut text = mem::replace(&mut self.text, Vec::new(self.alloc));
+        text.truncate(start);
+        *self = Session::new(self.alloc);
+        if !text.is_empty() {
+            self.add(text.as_slice())?;
+        }
+        Ok(Some(line))
+    }
+}

@@ -1,0 +1,255 @@
+-- The laws of ids: of the channels that are open, and of the connections that are live.
+use Rattle.std.proofs.Common.{◌≡◌, ◌∙◌, ◌<◌, ◌≤◌, ◌+◌, ◌++◌, ℕ, List, [], ◌∷◌, length, refl, ap, sym, subst, cond, arith, eqb, Bool, true, false, inl, inr}
+use Rattle.std.specs.Prelude.{pos, Option, None, Some, is_some, nat_lt, option_map}
+use Rattle.std.specs.List.{AllByRecursion, list_any}
+use Rattle.std.specs.Option.{option_map_or}
+use Rattle.std.specs.Ordering.{int_eq}
+use Rattle.std.proofs.Math.Bool.{or-true}
+use Rattle.std.proofs.lemmas.Bool.{eqb-true, ltb-true, true≢false}
+use Rattle.std.proofs.lemmas.List.{length-append}
+use Rattle.std.proofs.lemmas.Option.{none-some, same_Some}
+use Rattle.qbase.specs.declared.errno.Errno.TheVariants.{Again, Inval, Srch}
+use Rattle.qbase.proofs.Lists.{all_append, all_filter_map, all_more}
+use Rattle.qqueue.specs.declared.item.Item.{Item}
+use Rattle.qqueue.specs.declared.item.Kind.{Kind}
+use Rattle.qqueue.specs.declared.item.Kind.TheVariants.{Any, PulseOnly}
+use Rattle.qtables.specs.Members.{IsRoster, member_at}
+use Rattle.qtables.specs.declared.member.Member.{Member}
+use Rattle.qmodel.specs.Private.Answer.{ending, Answers}
+use Rattle.qmodel.specs.Private.Calls.{row_of}
+use Rattle.qmodel.specs.Private.Calls.ConnectDetach as connect_detach
+use Rattle.qmodel.specs.Private.Calls.Error.{error_finish}
+use Rattle.qmodel.specs.Private.Calls.Info.{info_of, info_ending}
+use Rattle.qmodel.specs.Private.Calls.Pulse as pulse
+use Rattle.qmodel.specs.Private.Calls.Reply.{reply_finish}
+use Rattle.qmodel.specs.Private.Calls.Send.{item}
+use Rattle.qmodel.specs.Private.Calls.Unblock as unblock
+use Rattle.qmodel.specs.Private.Cancelling.{is_on}
+use Rattle.qmodel.specs.Private.Effects.{attaches, closes, creates, detaches}
+use Rattle.qmodel.specs.Private.Facts.{count_to, is_of_process, message, route, sender, threads_of, Facts}
+use Rattle.qmodel.specs.Private.Lawful as old
+use Rattle.qmodel.specs.Private.Past as past_of
+use Rattle.qmodel.specs.Private.Pulses.{refusal_if_full_for}
+use Rattle.qmodel.specs.Private.Rows.{names}
+use Rattle.qmodel.specs.Private.Step.{one_for}
+use Rattle.qmodel.specs.Trace.{Event, Trace}
+use Rattle.qmodel.specs.declared.call.Call.{Call}
+use Rattle.qmodel.specs.declared.call.Call.TheVariants as calls
+use Rattle.qmodel.specs.declared.call.Completion.{Completion}
+use Rattle.qmodel.specs.declared.call.Info.{Info as Told}
+use Rattle.qmodel.specs.declared.call.Mark.{Mark}
+use Rattle.qmodel.specs.declared.call.Mark.TheVariants as mark
+use Rattle.qmodel.proofs.Calls.Cancelling.{cancel_parts}
+use Rattle.qmodel.proofs.Calls.ConnectDetach.{detach_ends}
+use Rattle.qmodel.proofs.Calls.Held.{sender_ends}
+use Rattle.qmodel.proofs.Calls.Taking.{given_is}
+use Rattle.qmodel.proofs.Past.Channels.{closes_alone, closes_open}
+use Rattle.qmodel.proofs.Past.Ends.{passes_of}
+use Rattle.qmodel.proofs.Past.Follows.{past_follows}
+use Rattle.qmodel.proofs.Past.Laws.{Passes}
+use Rattle.qmodel.proofs.Past.Live.{count_less, gone_below, live, live_parts, made_above}
+use Rattle.qmodel.proofs.Past.Numbers.{made_below}
+use Rattle.qmodel.proofs.Properties.Receipts.{ending_of}
+use Rattle.qmodel.proofs.Properties.Rows.Delivering.{delivery_meets, Delivers}
+use Rattle.qmodel.proofs.Properties.Rows.Receiving.{receive_takes, ReceiveTakes}
+use Rattle.qmodel.proofs.Properties.Rows.Telling.{told_meets, unblock_ends}
+use Rattle.qrules.specs.Facts.{Facts as NewFacts}
+use Rattle.qrules.specs.Lawful.{IsLawful}
+use Rattle.qrules.specs.Past.{accepted_calls, attached_connection, channel_at, connection_at, created_channel, is_accepted, is_number, was_done}
+use Rattle.qrules.specs.Rule.{Effect}
+use Rattle.qrules.specs.Trace.{endings_of}
+use Rattle.qrules.proofs.Past.Done.{newest, same_destroyed, same_done}
+use Rattle.qrules.proofs.Past.Effects.{same_detaches}
+use Rattle.qlaws.specs.Ids as laws
+use Rattle.qlaws.proofs.Waits.{before, facts_at}
+
+-- ---- how many there are
+
+passed : (n most : ℕ) → cond (nat_lt n most) None (Some Again) ≡ None → n < most
+passed n most r = ltb-true _ _ (elim (nat_lt n most) as (λ b. cond b None (Some Again) ≡ None → b ≡ true) [ true ↦ λ _. refl | false ↦ λ s. absurd (none-some Again (sym s)) ] r)
+
+-- neither count is over its limit
+abbrev AreFew : ℕ → ℕ → Type 0
+AreFew channels connections = (channels ≤ 64) × (connections ≤ 1024)
+
+room : (f : Facts) (t : ℕ) (m : Option Member) (c : Call) → (row_of f t c).refusal ≡ None → AreFew f.open_channels f.live_connections → AreFew (f.open_channels + one_for (creates m c)) (f.live_connections + one_for (attaches m c))
+room f t None c r few = (omega (arith, few.0), omega (arith, few.1))
+room f t (Some m) (calls.ChannelCreate flags) r few =
+    elim (nat_lt flags.0 8) as (λ b. cond b (cond (nat_lt f.open_channels 64) None (Some Again)) (Some Inval) ≡ None → AreFew (f.open_channels + 1) (f.live_connections + 0)) [
+      | true ↦ λ s. (omega (arith, passed f.open_channels 64 s), omega (arith, few.1))
+      | false ↦ λ s. absurd (none-some Inval (sym s))
+    ] r
+room f t (Some m) (calls.ConnectAttach chid) r few =
+    elim (is_some (f.channel chid)) as (λ b. cond b (cond (nat_lt f.live_connections 1024) None (Some Again)) (Some Srch) ≡ None → AreFew (f.open_channels + 0) (f.live_connections + 1)) [
+      | true ↦ λ s. (omega (arith, few.0), omega (arith, passed f.live_connections 1024 s))
+      | false ↦ λ s. absurd (none-some Srch (sym s))
+    ] r
+room f t (Some m) c r few = (omega (arith, few.0), omega (arith, few.1))
+
+-- the count after an event, by what it ends and makes
+stays_few : (after ended before made most : ℕ) → after + ended ≡ before + made → before + made ≤ most → after ≤ most
+stays_few after ended before made most same few = omega (arith, same, few)
+
+are_few : (roster : List Member) (past : Trace) → IsRoster roster → old.IsLawful roster past → AreFew (past_of.open_channels roster past) (past_of.live_connections roster past)
+are_few roster [] r l = (omega arith, omega arith)
+are_few roster (e ∷ past) r l =
+    let f = old.facts_of roster past in
+    let few = are_few roster past r l.0 in
+    elim (l.2) [
+      | inl a ↦
+          let k = past_follows true roster past e.thread e.call e.endings r l.0 l.1 a in
+          let left = room f e.thread (member_at roster e.thread) e.call (passes_of f e.thread e.call e.endings a).row few in
+          (stays_few _ _ _ _ 64 k.open_channels left.0, stays_few _ _ _ _ 1024 k.live_connections left.1)
+      | inr a ↦
+          let k = past_follows false roster past e.thread e.call e.endings r l.0 l.1 a in
+          (stays_few _ 0 _ 0 64 k.open_channels (omega (arith, few.0)), stays_few _ 0 _ 0 1024 k.live_connections (omega (arith, few.1)))
+    ]
+
+-- ---- each is counted
+
+module _ {A : Type 0} where
+  still_there : (at : ℕ → Option A) (h : ℕ) (ids : List ℕ) → AllByRecursion (λ i. eqb h i ≡ false) ids → AllByRecursion (λ i. is_some (at i) ≡ true) ids → AllByRecursion (λ i. is_some (cond (eqb h i) None (at i)) ≡ true) ids
+  still_there at h [] other there = tt
+  still_there at h (i ∷ ids) other there = (ap (λ b. is_some (cond b None (at i))) other.0 ∙ there.0, still_there at h ids other.1 there.1)
+
+  was_there : (at : ℕ → Option A) (h i : ℕ) → is_some (cond (eqb h i) None (at i)) ≡ true → is_some (at i) ≡ true
+  was_there at h i = elim (eqb h i) as (λ b. is_some (cond b None (at i)) ≡ true → is_some (at i) ≡ true) [ true ↦ λ s. absurd (true≢false (sym s)) | false ↦ λ s. s ]
+
+  counted : (at : ℕ → Option A) (n : ℕ) → ((i : ℕ) → is_some (at i) ≡ true → (1 ≤ i) × (i ≤ n)) → laws.AtMost (count_to at n) at
+  counted at n within [] different there = omega arith
+  counted at n within (h ∷ ids) different there =
+      let range = within h there.0 in
+      let less : count_to (λ i. cond (eqb h i) None (at i)) n + 1 ≡ count_to at n = count_less (λ i. cond (eqb h i) None (at i)) at n h range.0 range.1 there.0 (λ i _. refl) in
+      let rest : length ids ≤ count_to (λ i. cond (eqb h i) None (at i)) n =
+      counted (λ i. cond (eqb h i) None (at i)) n (λ i is. within i (was_there at h i is)) ids different.1 (still_there at h ids different.0 there.1) in
+      omega (arith, less, rest)
+
+  at_most : (roster : List Member) (make : Option Member → Call → Option A) (ends : Call → Option ℕ) (past : Trace) (n : ℕ) → count_to (live roster make ends past) (length past) ≤ n → laws.AtMost n (live roster make ends past)
+  at_most roster make ends past n few ids different there =
+      let made = λ (e : Event). make (member_at roster e.thread) e.call in
+      let all : length ids ≤ count_to (live roster make ends past) (length past) =
+      counted (live roster make ends past) (length past) (λ i is. let k = live_parts roster make ends past i is in (made_above made past i k.it k.is_made, made_below made past i k.it k.is_made)) ids different there in
+      omega (arith, few, all)
+
+pub channels_are_limited : laws.ChannelsAreLimited
+channels_are_limited roster past r l =
+    subst (λ (f : NewFacts). laws.AtMost 64 f.channel) (sym (facts_at roster past l)) (at_most roster creates closes past 64 (are_few roster past r (before roster past l)).0)
+
+pub connections_are_limited : laws.ConnectionsAreLimited
+connections_are_limited roster past r l =
+    subst (λ (f : NewFacts). laws.AtMost 1024 f.connection) (sym (facts_at roster past l)) (at_most roster attaches detaches past 1024 (are_few roster past r (before roster past l)).1)
+
+-- ---- an id that an ending gives is the number of its call
+
+-- the id of the new channel or connection in a mark
+abbrev id_in : Mark → Option ℕ
+id_in (mark.Channel h) = Some h
+id_in (mark.Connection k) = Some k
+id_in other = None
+
+module _ (i : ℕ) {P : Type 0} where
+  no_id : (x y : Completion) → x ≡ y → id_in x.mark ≡ None → id_in y.mark ≡ Some i → P
+  no_id x y same none e = absurd (none-some i (sym none ∙ ap (λ z. id_in z.mark) same ∙ e))
+
+  takes_no_id : (f : Facts) (t chid : ℕ) (kind : Kind) (buffer : List ℕ) (y : Completion) → ReceiveTakes f t chid kind buffer y → id_in y.mark ≡ Some i → P
+  takes_no_id f t chid kind buffer y r = no_id _ y r.ending (given_is id_in None (λ i n. refl) r.item (message f r.item.number) buffer refl)
+
+  met_no_id : (f : Facts) (o : Option ℕ) (item : Item) (sent : List ℕ) (u : ℕ) (y : Completion) → Delivers f o item sent u y → id_in y.mark ≡ Some i → P
+  met_no_id f o item sent u y s = no_id _ y s.ending (given_is id_in None (λ i n. refl) item sent s.buffer refl)
+
+  told_no_id : (n t : ℕ) (o : Option Told) (y : Completion) → option_map (info_ending n t) o ≡ Some y → id_in y.mark ≡ Some i → P
+  told_no_id n t None y e is = absurd (none-some y e)
+  told_no_id n t (Some told) y e is = no_id _ y (same_Some _ y e) refl is
+
+  ends_no_id : (f : Facts) (t : ℕ) (c : Call) (u : ℕ) (y : Completion) → Passes f t c → (row_of f t c).ends u ≡ Some y → id_in y.mark ≡ Some i → P
+  ends_no_id f t (calls.Send coid message reply_buffer) u y p e is = met_no_id f (route f t coid) (item f t) message u y (delivery_meets f (route f t coid) (item f t) message u y e) is
+  ends_no_id f t (calls.Pulse coid level code value) u y p e is = let k = told_meets f (pulse.sent_pulse f coid level code value) u y e in met_no_id f (Some k.made.channel) k.made.item [] u y k.delivers is
+  ends_no_id f t (calls.Reply rcvid status bytes) u y p e is = no_id _ y (sender_ends f t rcvid (reply_finish status bytes) u y p.row e).ending refl is
+  ends_no_id f t (calls.Error rcvid code) u y p e is =
+      no_id _ y (sender_ends f t rcvid (error_finish code) u y p.row e).ending (elim (int_eq code (pos 0)) as (λ b. id_in (cond b (mark.Replied (pos 0) 0) (mark.Errored code)) ≡ None) [ true ↦ refl | false ↦ refl ]) is
+  ends_no_id f t (calls.ChannelDestroy chid) u y p e is = no_id _ y (cancel_parts (is_on f.connection chid) Srch u (f.open_call u) y e).ending refl is
+  ends_no_id f t calls.Shutdown u y p e is = no_id _ y (cancel_parts (λ wait. true) Srch u (f.open_call u) y e).ending refl is
+  ends_no_id f t (calls.Unblock thread) u y p e is = elim (unblock_ends f thread u y (unblock.due_pulse f thread) e) [
+    | inl cancel ↦ no_id _ y cancel.ending refl is
+    | inr k ↦ met_no_id f (Some k.made.channel) k.made.item [] u y k.delivers is
+  ]
+  ends_no_id f t (calls.ConnectDetach coid) u y p e is = elim (detach_ends f coid (connect_detach.due_pulse f t coid) u y e) [
+    | inl cancel ↦ no_id _ y cancel.ending refl is
+    | inr s ↦ let k = told_meets f (connect_detach.due_pulse f t coid) u y s in met_no_id f (Some k.made.channel) k.made.item [] u y k.delivers is
+  ]
+  ends_no_id f t c u y p e is = absurd (none-some y e)
+
+own_id : (f : Facts) (t : ℕ) (c : Call) (i : ℕ) (y : Completion) → (row_of f t c).own ≡ Some y → id_in y.mark ≡ Some i → f.number ≡ i
+own_id f t (calls.ChannelCreate flags) i y e is = same_Some _ i (ap (λ z. id_in z.mark) (same_Some _ y e) ∙ is)
+own_id f t (calls.ConnectAttach chid) i y e is = same_Some _ i (ap (λ z. id_in z.mark) (same_Some _ y e) ∙ is)
+own_id f t (calls.Send coid message reply_buffer) i y e is = absurd (none-some y e)
+own_id f t (calls.Receive chid buffer) i y e is = takes_no_id i f t chid Any buffer y (receive_takes f t chid Any buffer y e) is
+own_id f t (calls.ReceivePulse chid) i y e is = takes_no_id i f t chid PulseOnly [] y (receive_takes f t chid PulseOnly [] y e) is
+own_id f t (calls.Info rcvid) i y e is = told_no_id i f.number t (info_of f (sender f rcvid)) y e is
+own_id f t c i y e is = no_id i _ y (same_Some _ y e) refl is
+
+ids_given : (f : Facts) (t : ℕ) (c : Call) (X : List Completion) (i : ℕ) → Answers f t c X → AllByRecursion (λ x. id_in x.mark ≡ Some i → f.number ≡ i) X
+ids_given f t c X i (inl a) = subst (AllByRecursion (λ x. id_in x.mark ≡ Some i → f.number ≡ i)) (sym a.1) (all_filter_map (λ x. id_in x.mark ≡ Some i → f.number ≡ i) (ending f t c) (threads_of f.roster) (λ u y is id. elim (ending_of f t c u y is) [
+  | inl h ↦ own_id f t c i y h.1 id
+  | inr h ↦ ends_no_id i f t c u y (passes_of f t c X a) h.1 id
+]))
+ids_given f t c X i (inr a) = subst (AllByRecursion (λ x. id_in x.mark ≡ Some i → f.number ≡ i)) (sym a.2) ((λ id. absurd (none-some i id)), tt)
+
+-- so an id of the past isn't given later
+never_given : (roster : List Member) (past later : Trace) (i : ℕ) → i ≤ length past → old.IsLawful roster (later ++ past) → AllByRecursion (λ x. id_in x.mark ≡ Some i → ⊥) (endings_of later)
+never_given roster past [] i below l = tt
+never_given roster past (e ∷ later) i below l =
+    all_append _ e.endings (endings_of later)
+    (all_more _ _ e.endings (ids_given (old.facts_of roster (later ++ past)) e.thread e.call e.endings i l.2) (λ x number id.
+    let same : length (later ++ past) + 1 ≡ i = number id in omega (arith, below, length-append later past)))
+    (never_given roster past later i below l.0)
+
+-- ---- those that are gone
+
+still_done : (is : Effect → Bool) (past later : Trace) → was_done is past ≡ true → was_done is (later ++ past) ≡ true
+still_done is past [] done = done
+still_done is past (e ∷ later) done =
+    let all : Trace = later ++ past in
+    elim (is_accepted e all) as (λ b. list_any (λ c. is c.effect) (cond b (newest e all ∷ accepted_calls all) (accepted_calls all)) ≡ true) [
+      | true ↦ rw (still_done is past later done) (or-true _)
+      | false ↦ still_done is past later done
+    ]
+
+-- an accepted call detaches a connection that is live, and attaches none
+detaches_live : (f : Facts) (t : ℕ) (c : Call) (k : ℕ) → (row_of f t c).refusal ≡ None → names (detaches c) k ≡ true → is_some (f.connection k) ≡ true
+detaches_live f t (calls.ConnectDetach coid) k r e =
+    subst (λ j. is_some (f.connection j) ≡ true) (eqb-true coid k e)
+    (elim (f.connection coid) as (λ o. cond (option_map_or (λ c. is_of_process f t c.process) o false) (refusal_if_full_for f (connect_detach.due_pulse f t coid)) (Some Inval) ≡ None → is_some o ≡ true) [
+      | None ↦ λ s. absurd (none-some Inval (sym s))
+      | Some c ↦ λ s. refl
+    ] r)
+detaches_live f t c k r e = absurd (true≢false (sym e))
+
+detaches_alone : (m : Option Member) (c : Call) (k : ℕ) → detaches c ≡ Some k → attaches m c ≡ None
+detaches_alone None c k e = refl
+detaches_alone (Some m) (calls.ConnectAttach chid) k e = absurd (none-some k e)
+detaches_alone (Some m) c k e = refl
+
+lawful_before : (roster : List Member) (past later : Trace) → old.IsLawful roster (later ++ past) → old.IsLawful roster past
+lawful_before roster past [] l = l
+lawful_before roster past (e ∷ later) l = lawful_before roster past later l.0
+
+never_again : (roster : List Member) (past later after : Trace) (i : ℕ) (given : Mark) → IsLawful roster after → after ≡ later ++ past → (old.IsLawful roster past → i ≤ length past) → id_in given ≡ Some i → AllByRecursion (λ x. x.mark ≡ given → ⊥) (endings_of later)
+never_again roster past later after i given l is below id =
+    let lawful : old.IsLawful roster (later ++ past) = subst (old.IsLawful roster) is (before roster after l) in
+    all_more _ _ (endings_of later) (never_given roster past later i (below (lawful_before roster past later lawful)) lawful) (λ x none same. none (ap id_in same ∙ id))
+
+pub destroyed_stays_destroyed : laws.DestroyedStaysDestroyed
+destroyed_stays_destroyed past later h gone roster after r l is = (
+  ap (λ t. channel_at roster t h) is ∙ ap (λ b. cond b None (created_channel roster (later ++ past) h)) (still_done (λ e. is_number e.destroys h) past later gone),
+  never_again roster past later after h (mark.Channel h) l is (λ lawful.
+      gone_below roster creates closes (λ past t c X a h e. let f = old.facts_of roster past in closes_open f t c h (passes_of f t c X a).row e) closes_alone past h lawful (sym (same_destroyed past h) ∙ gone)) refl,
+)
+
+pub detached_stays_detached : laws.DetachedStaysDetached
+detached_stays_detached past later k gone roster after r l is = (
+  ap (λ t. connection_at roster t k) is ∙ ap (λ b. cond b None (attached_connection roster (later ++ past) k)) (still_done (λ e. is_number e.detaches k) past later gone),
+  never_again roster past later after k (mark.Connection k) l is (λ lawful.
+      gone_below roster attaches detaches (λ past t c X a k e. let f = old.facts_of roster past in detaches_live f t c k (passes_of f t c X a).row e) detaches_alone past k lawful
+      (sym (same_done _ _ past (λ c. ap (λ number. is_number number k) (same_detaches c))) ∙ gone)) refl,
+)

@@ -1,0 +1,7 @@
+use Rattle.std.proofs.Common.{take}
+use Rattle.std.specs.HashMap.{get_by_text}
+use Rattle.qnames.specs.Scope.{HasPlaces}
+use Rattle.qnames.proofs.scope.places_of.Given as goal
+
+abbrev pub invariant-labels : goal.invariant-labels
+invariant-labels l = HasPlaces (get_by_text l.places) (take l.place l.labels)

@@ -1,0 +1,223 @@
+//! A script with names that grows line by line, beside its run.
+
+use crate::expectation::{Extent, StateCheck};
+use crate::expecting::check::Check;
+use crate::expecting::names::NameCheck;
+use crate::label::NameFault;
+use crate::line::Line;
+use crate::named::{Named, line_fault, name_faults, process_faults, push_process_number};
+use crate::plain::plain_line;
+use crate::reading::script::{Lined, lines_behind};
+use qbase::ids::ThreadNo;
+use qkernel::kernel::Kernel;
+use qmodel::call::Call;
+use qreading::Script;
+use qreading::fault::ParseError;
+use qreading::place::{Fault, Place};
+use qreading::reading::line::Line as Plain;
+use qreading::reading::script::line_behind;
+use qtables::member::Member;
+use std::alloc::{AllocError, Global};
+use std::slice;
+
+/// The lines of a script with names so far, and the comparison of its run with them.
+#[derive(Drop)]
+pub struct Growing {
+    alloc: Global,
+    pub check: Check,
+    roster: Vec<Member>,
+    /// The numbers that lines of threads give for their processes, and their places.
+    processes: Vec<(Place, u64)>,
+    /// The number of lines.
+    lines: u64,
+    /// The calls whose expectations have names that stand for nothing yet.
+    open: Vec<u64>,
+}
+
+/// What a line adds to the run.
+#[derive(Drop)]
+pub enum Step {
+    /// Nothing, or a state that is compared.
+    Nothing,
+    /// A thread.
+    Member(Member),
+    /// A call.
+    Call(ThreadNo, Call),
+    /// The line is faulty, and isn't added.
+    Faulty(Vec<Fault>),
+}
+
+impl Growing {
+    /// Returns the lines of a script that was read, and its calls, which are still to be made.
+    pub fn of(alloc: Global, named: Named) -> Result<(Growing, Vec<(ThreadNo, Call)>), AllocError> {
+        let Named {
+            script,
+            check,
+            processes,
+            lines,
+            ..
+        } = named;
+        let Script { roster, calls } = script;
+        let mut growing = Growing {
+            alloc,
+            check,
+            roster,
+            processes,
+            lines,
+            open: Vec::new(alloc),
+        };
+        for call in 1..=growing.check.calls.len() as u64 {
+            growing.open.push(call)?;
+        }
+        let (_, open) = growing.expectation_faults(Extent::Front, None)?;
+        growing.open = open;
+        Ok((growing, calls))
+    }
+
+    /// Returns the threads so far.
+    pub fn roster(&self) -> &[Member] {
+        self.roster.as_slice()
+    }
+
+    /// Returns the faults of the names in the expectations that had names without a meaning, and in a line that says a
+    /// state; and the numbers of the calls that still have such names.
+    fn expectation_faults(
+        &self,
+        extent: Extent,
+        state: Option<&StateCheck>,
+    ) -> Result<(Vec<Fault>, Vec<u64>), AllocError> {
+        let mut open = Vec::new(self.alloc);
+        let mut names = NameCheck::new(self.check.context(), extent);
+        for call in &self.open {
+            names.is_open = false;
+            if let Some(expected) = self.check.at(*call) {
+                names.call(expected)?;
+            }
+            if names.is_open {
+                open.push(*call)?;
+            }
+        }
+        if let Some(state) = state {
+            names.state(state)?;
+        }
+        Ok((names.faults, open))
+    }
+
+    /// Adds a line, unless it is faulty.
+    pub fn add(&mut self, line: &[u8]) -> Result<Step, AllocError> {
+        let calls = self.check.calls.len();
+        let mut lined = lines_behind(self.alloc, line, self.lines, calls as u64)?;
+        let said = match lined.lines.pop() {
+            Some(said) if lined.faults.is_empty() => said,
+            None if lined.faults.is_empty() => return Ok(Step::Nothing),
+            _ => return Ok(Step::Faulty(lined.faults)),
+        };
+        let states = self.check.states.len();
+        let extent = self.check.scope.extent();
+        let plain = plain_line(self.alloc, &self.check.scope, &said)?;
+        self.keep(&said, lined)?;
+        let step = self.step(&said, plain, calls)?;
+        if let Step::Faulty(_) = &step {
+            self.lines = self.lines.saturating_sub(1);
+            self.check.scope.go_back(self.alloc, extent)?;
+            self.check.calls.truncate(calls);
+            self.check.states.truncate(states);
+        }
+        Ok(step)
+    }
+
+    /// Keeps what a line defines and expects.
+    fn keep(&mut self, said: &Line, lined: Lined) -> Result<(), AllocError> {
+        if !self.check.scope.has_room() {
+            return Err(AllocError);
+        }
+        self.check.scope.add(self.alloc, said)?;
+        self.lines = lined.count;
+        let Lined {
+            mut calls,
+            mut states,
+            ..
+        } = lined;
+        self.check.calls.append(&mut calls)?;
+        self.check.states.append(&mut states)
+    }
+
+    /// Returns what a line adds to the run, given its plain line or the fault of its names; `calls` is the number of
+    /// calls above it.
+    fn step(
+        &mut self,
+        said: &Line,
+        plain: Result<String, NameFault>,
+        calls: usize,
+    ) -> Result<Step, AllocError> {
+        let text = match plain {
+            Ok(text) => text,
+            Err(fault) => {
+                let lines = slice::from_ref(said);
+                let faults = name_faults(lines, self.check.context(), &[fault])?;
+                return Ok(Step::Faulty(faults));
+            }
+        };
+        let roster = self.roster.as_slice();
+        match line_behind(self.alloc, roster, calls > 0, text.as_str().as_bytes()) {
+            Ok(plain) => self.expected(said, plain),
+            Err(ParseError::Memory) => Err(AllocError),
+            Err(ParseError::Fault(fault)) => {
+                Ok(Step::Faulty(line_fault(self.alloc, self.lines, fault)?))
+            }
+        }
+    }
+
+    /// Returns what a line adds to the run, unless the names in expectations or the numbers of processes are faulty.
+    fn expected(&mut self, said: &Line, plain: Plain) -> Result<Step, AllocError> {
+        let numbers = self.processes.len();
+        push_process_number(&mut self.processes, said)?;
+        let processes = self.processes.as_slice();
+        let faults = process_faults(self.alloc, processes, &self.check.scope)?;
+        if !faults.is_empty() {
+            self.processes.truncate(numbers);
+            return Ok(Step::Faulty(faults));
+        }
+        let waiting = self.open.len();
+        if let Plain::Call(..) = &plain {
+            self.open.push(self.check.calls.len() as u64)?;
+        }
+        let state = match said {
+            Line::Aside(_) => self.check.states.last(),
+            _ => None,
+        };
+        let (faults, open) = self.expectation_faults(Extent::Front, state)?;
+        if !faults.is_empty() {
+            self.open.truncate(waiting);
+            return Ok(Step::Faulty(faults));
+        }
+        self.open = open;
+        Ok(self.taken(plain)?)
+    }
+
+    /// Returns what a line without faults adds to the run.
+    fn taken(&mut self, plain: Plain) -> Result<Step, AllocError> {
+        match plain {
+            Plain::Blank => Ok(Step::Nothing),
+            Plain::Roster(member) => {
+                let member = &member;
+                self.roster.push(*member)?;
+                Ok(Step::Member(*member))
+            }
+            Plain::Call(thread, call) => Ok(Step::Call(thread, call)),
+        }
+    }
+
+    /// Returns what differs from the expectations at the end of the lines, and wasn't returned before: the names that
+    /// still stand for nothing, or else the calls that haven't ended.
+    pub fn finish(&mut self, kernel: Option<&Kernel>) -> Result<Vec<Fault>, AllocError> {
+        let (faults, _) = self.expectation_faults(Extent::Whole, None)?;
+        if !faults.is_empty() {
+            return Ok(faults);
+        }
+        if let Some(kernel) = kernel {
+            self.check.finish(kernel)?;
+        }
+        self.check.take_faults()
+    }
+}

@@ -1,0 +1,176 @@
+//! Cuts a line into its parts.
+
+use crate::lexing::quoted::quoted_len;
+use crate::place::{Place, ReadError, fault_at};
+use std::alloc::Global;
+
+/// The sort of a part of a line.
+#[derive(Clone, Copy, PartialEq, Eq)]
+pub enum Sort {
+    /// A name, a number, hexadecimal bytes, flags: anything without quotes and brackets.
+    Word,
+    /// A text in quotes, as it is written, without the quotes.
+    Text,
+    /// A size in brackets, without the brackets.
+    Size,
+    /// `=`
+    Equals,
+    /// `->`
+    Arrow,
+    /// `;`
+    Semicolon,
+}
+
+/// A part of a line.
+#[derive(Clone, Copy)]
+pub struct Token<'a> {
+    pub sort: Sort,
+    pub bytes: &'a [u8],
+    /// Its first byte.
+    pub place: Place,
+    /// The number of bytes of the line that it takes.
+    pub len: u64,
+}
+
+impl Token<'_> {
+    /// Returns the place behind it, where something is missing.
+    pub fn behind(&self) -> Place {
+        Place {
+            line: self.place.line,
+            column: self.place.column.saturating_add(self.len).saturating_add(1),
+        }
+    }
+
+    /// Returns whether it is this word.
+    pub fn is_word(&self, word: &str) -> bool {
+        self.sort == Sort::Word && self.bytes == word.as_bytes()
+    }
+}
+
+/// Returns whether a part of a line ends in front of this byte.
+fn ends_word(byte: u8) -> bool {
+    matches!(byte, b'#' | b';' | b'=' | b'"' | b'[') || !is_printing(byte)
+}
+
+/// Returns whether a byte is printable; a space isn't.
+fn is_printing(byte: u8) -> bool {
+    byte > 0x20 && byte <= 0x7e
+}
+
+/// Returns the length of the word that begins here, at least one byte.
+fn word_len(rest: &[u8]) -> usize {
+    let mut len = 0usize;
+    let mut before = b' ';
+    for byte in rest {
+        if before == b'-' && *byte == b'>' {
+            return len.saturating_sub(1);
+        }
+        if ends_word(*byte) {
+            return len;
+        }
+        before = *byte;
+        len = len.saturating_add(1);
+    }
+    len
+}
+
+/// A part without its place: its sort, its bytes, and the number of bytes of the line that it takes.
+#[derive(Clone, Copy)]
+struct Part<'a> {
+    sort: Sort,
+    bytes: &'a [u8],
+    len: usize,
+}
+
+/// Returns a sign of `len` bytes.
+fn sign<'a>(sort: Sort, rest: &'a [u8], len: usize) -> Part<'a> {
+    Part {
+        sort,
+        bytes: rest.get(..len).unwrap_or(&[]),
+        len,
+    }
+}
+
+/// Returns the text in quotes; `rest` begins behind the opening quote.
+fn text_part(alloc: Global, rest: &[u8], place: Place) -> Result<Part<'_>, ReadError> {
+    let Some(len) = quoted_len(rest) else {
+        let what = String::from_str(alloc, "the text has no second quote");
+        return Err(fault_at(place, what));
+    };
+    Ok(Part {
+        sort: Sort::Text,
+        bytes: rest.get(..len).unwrap_or(&[]),
+        len: len.saturating_add(2),
+    })
+}
+
+/// Returns the size in brackets; `rest` begins behind the opening bracket.
+fn size_part(alloc: Global, rest: &[u8], place: Place) -> Result<Part<'_>, ReadError> {
+    let Some(len) = rest.iter().position(|b| *b == b']') else {
+        let what = String::from_str(alloc, "the size has no second bracket");
+        return Err(fault_at(place, what));
+    };
+    Ok(Part {
+        sort: Sort::Size,
+        bytes: rest.get(..len).unwrap_or(&[]),
+        len: len.saturating_add(2),
+    })
+}
+
+/// Returns the word that begins here.
+fn word_part(alloc: Global, rest: &[u8], place: Place) -> Result<Part<'_>, ReadError> {
+    let len = word_len(rest);
+    if len == 0 {
+        let byte = rest.first().copied().unwrap_or(0);
+        let what = format!(in alloc;
+            "byte 0x{byte:02X}: outside quotes and comments a line has tabs and the bytes 0x20 to 0x7E"
+        );
+        return Err(fault_at(place, what));
+    }
+    Ok(sign(Sort::Word, rest, len))
+}
+
+/// Returns the part of a line that begins here, at a byte that isn't a blank.
+fn next_part(alloc: Global, rest: &[u8], place: Place) -> Result<Part<'_>, ReadError> {
+    match rest {
+        [b'=', ..] => Ok(sign(Sort::Equals, rest, 1)),
+        [b';', ..] => Ok(sign(Sort::Semicolon, rest, 1)),
+        [b'-', b'>', ..] => Ok(sign(Sort::Arrow, rest, 2)),
+        [b'"', text @ ..] => text_part(alloc, text, place),
+        [b'[', size @ ..] => size_part(alloc, size, place),
+        _ => word_part(alloc, rest, place),
+    }
+}
+
+/// Returns the rest of a line without the blanks at its front.
+fn skip_blanks(rest: &[u8]) -> &[u8] {
+    match rest.iter().position(|b| *b != b' ' && *b != b'\t') {
+        Some(at) => rest.get(at..).unwrap_or(&[]),
+        None => &[],
+    }
+}
+
+/// Returns the parts of the line with this number, up to a comment.
+pub fn tokens(alloc: Global, line: &[u8], number: u64) -> Result<Vec<Token<'_>>, ReadError> {
+    let mut tokens = Vec::new(alloc);
+    let mut rest = line;
+    for _ in 0..line.len() {
+        rest = skip_blanks(rest);
+        if matches!(rest, [] | [b'#', ..]) {
+            break;
+        }
+        let place = Place {
+            line: number,
+            column: (line.len().saturating_sub(rest.len()) as u64).saturating_add(1),
+        };
+        let part = next_part(alloc, rest, place)?;
+        tokens.push(Token {
+            sort: part.sort,
+            bytes: part.bytes,
+            place,
+            len: part.len as u64,
+        })?;
+        rest = rest.get(part.len..).unwrap_or(&[]);
+    }
+    Ok(tokens)
+}

@@ -1,0 +1,68 @@
+//! Reads the value of a part of a line.
+
+use crate::lexing::quoted::quoted_bytes;
+use crate::lexing::token::{Sort, Token};
+use crate::near::quotation;
+use crate::place::{Place, ReadError, fault_at};
+use crate::reading::number::digits;
+use crate::word::Word;
+use qbase::bytes::Bytes;
+use std::alloc::{AllocError, Global};
+
+/// The most bytes of a buffer of zeros.
+const MOST_ZEROS: u128 = 4096;
+
+/// Returns the bytes of a script as a word. Bytes that aren't text are refused later, by what reads the word.
+pub fn word_of(alloc: Global, bytes: &[u8]) -> Result<Word, AllocError> {
+    Word::of(alloc, std::str::from_utf8(bytes).unwrap_or("?"))
+}
+
+/// Returns the fault of a part of another sort in place of a word.
+pub fn wanted(alloc: Global, token: &Token<'_>, what: &str) -> ReadError {
+    let text = match token.sort {
+        Sort::Word => {
+            let word = quotation(token.bytes);
+            format!(in alloc; "'{word}': {what}")
+        }
+        Sort::Text => format!(in alloc; "a text in quotes: {what}"),
+        Sort::Size => format!(in alloc; "a size in brackets: {what}"),
+        Sort::Equals => format!(in alloc; "'=': {what}"),
+        Sort::Arrow => format!(in alloc; "'->': {what}"),
+        Sort::Semicolon => format!(in alloc; "';': {what}"),
+    };
+    fault_at(token.place, text)
+}
+
+/// Returns the bytes that a text in quotes stands for.
+pub fn text_bytes(alloc: Global, token: &Token<'_>) -> Result<Bytes, ReadError> {
+    match quoted_bytes(alloc, token.bytes)? {
+        Ok(bytes) => Ok(bytes),
+        Err(at) => {
+            let place = Place {
+                line: token.place.line,
+                column: token
+                    .place
+                    .column
+                    .saturating_add(at as u64)
+                    .saturating_add(1),
+            };
+            let what = String::from_str(
+                alloc,
+                "no escape: \\n, \\t, \\r, \\0, \\\", \\\\ and \\x with two hexadecimal digits are",
+            );
+            Err(fault_at(place, what))
+        }
+    }
+}
+
+/// Returns the number of zeros that a size stands for.
+pub fn size_of(alloc: Global, token: &Token<'_>) -> Result<u64, ReadError> {
+    match digits(token.bytes) {
+        Some(count) if count <= MOST_ZEROS => Ok(count as u64),
+        _ => Err(wanted(
+            alloc,
+            token,
+            "a size is [0] to [4096], so many bytes of zero",
+        )),
+    }
+}

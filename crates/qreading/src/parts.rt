@@ -1,0 +1,147 @@
+//! Cuts a text into lines, and a line into words with their places.
+
+ghost use Rattle.std.specs.Prelude.{length};
+ghost use Rattle.std.specs.Iterator.{at_most};
+
+use crate::reading::call::is;
+use crate::reading::lines::next_line;
+use crate::reading::number::small;
+use crate::reading::words::next_word;
+use std::alloc::{AllocError, Global};
+
+/// The lines of the rest of a text, without their ends.
+#[derive(Drop)]
+pub struct Lines<'a>(pub &'a [u8]);
+
+impl<'a> Iterator for Lines<'a> {
+    type Item = &'a [u8];
+
+    ghost remaining = { λ s. at_most (length s.0.now) };
+
+    fn next(&mut self) -> Option<&'a [u8]> {
+        let (line, rest) = next_line(self.0)?;
+        self.0 = rest;
+        Some(line)
+    }
+}
+
+/// A part of a line: its first byte, counted from 0, and its length in bytes.
+#[derive(Clone, Copy, PartialEq, Eq)]
+pub struct Place {
+    pub at: usize,
+    pub len: usize,
+}
+
+/// A word of a line.
+#[derive(Clone, Copy)]
+pub struct Word<'a> {
+    /// Its bytes.
+    pub bytes: &'a [u8],
+    /// Its place in the line.
+    pub place: Place,
+}
+
+impl Word<'_> {
+    /// Returns the place behind it, where the next word is missing.
+    pub fn behind(&self) -> Place {
+        let end = self.place.at.saturating_add(self.place.len);
+        Place {
+            at: end.saturating_add(1),
+            len: 1,
+        }
+    }
+}
+
+/// Returns the words of a line, in order.
+pub fn words<'a>(alloc: Global, line: &'a [u8]) -> Result<Vec<Word<'a>>, AllocError> {
+    let mut words = Vec::new(alloc);
+    let mut rest = line;
+    for _ in 0..line.len() {
+        let Some((bytes, after)) = next_word(rest) else {
+            break;
+        };
+        let end = line.len().saturating_sub(after.len());
+        let place = Place {
+            at: end.saturating_sub(bytes.len()),
+            len: bytes.len(),
+        };
+        words.push(Word { bytes, place })?;
+        rest = after;
+    }
+    Ok(words)
+}
+
+/// Returns the number, counted from 1, of the first line that is a call.
+pub fn first_call(text: &[u8]) -> usize {
+    let mut number = 0usize;
+    for line in Lines(text) {
+        number = number.saturating_add(1);
+        match next_word(line) {
+            Some((word, _)) if small(word).is_ok() => break,
+            _ => {}
+        }
+    }
+    number
+}
+
+/// Returns whether this is a roster line of this thread.
+fn enrolls(line: &[u8], thread: u8) -> bool {
+    let Some((first, rest)) = next_word(line) else {
+        return false;
+    };
+    match next_word(rest) {
+        Some((number, _)) => is(first, "thread") && small(number) == Ok(thread),
+        None => false,
+    }
+}
+
+/// Returns the number, counted from 1, of the first roster line of this thread.
+pub fn first_enrolled(text: &[u8], thread: u8) -> usize {
+    let mut number = 0usize;
+    for line in Lines(text) {
+        number = number.saturating_add(1);
+        if enrolls(line, thread) {
+            break;
+        }
+    }
+    number
+}
+
+/// Returns whether a line of a script is a call.
+fn is_call(line: &[u8]) -> bool {
+    match next_word(line) {
+        Some((word, _)) => word.first() != Some(&b'#') && !is(word, "thread"),
+        None => false,
+    }
+}
+
+/// Returns the numbers, counted from 1, of the lines of a script that are calls, in order.
+pub fn call_lines(alloc: Global, text: &[u8]) -> Result<Vec<usize>, AllocError> {
+    let mut lines = Vec::new(alloc);
+    let mut number = 0usize;
+    for line in Lines(text) {
+        number = number.saturating_add(1);
+        if is_call(line) {
+            lines.push(number)?;
+        }
+    }
+    Ok(lines)
+}
+
+/// Returns the last line of a text that is neither empty nor a comment, and the index at which it begins.
+pub fn last_line(text: &[u8]) -> Option<(usize, &[u8])> {
+    let mut last = None;
+    let mut rest = Lines(text);
+    for _ in 0..text.len() {
+        let start = text.len().saturating_sub(rest.0.len());
+        let Some(line) = rest.next() else {
+            break;
+        };
+        if let Some((word, _)) = next_word(line)
+            && !word.starts_with(b"#")
+        {
+            last = Some((start, line));
+        }
+    }
+    last
+}

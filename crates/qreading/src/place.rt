@@ -1,0 +1,66 @@
+//! Places in a text, and faults at them.
+
+ghost use Rattle.std.specs.Prelude.{◌≡◌};
+ghost use Rattle.qreading.specs.declared.place.ReadError.TheVariants.{Memory};
+
+use std::alloc::{AllocError, AllocFailed};
+use std::fmt;
+use thiserror::Error;
+
+/// A place in a text.
+#[derive(Clone, Copy, Debug, PartialEq, Eq)]
+pub struct Place {
+    /// The line, counted from 1.
+    pub line: u64,
+    /// The first byte, counted from 1 within its line.
+    pub column: u64,
+}
+
+impl fmt::Display for Place {
+    fn fmt<W: fmt::Write>(&self, f: &mut fmt::Formatter<W>) -> fmt::Result {
+        let line = self.line;
+        let column = self.column;
+        write!(f, "{line}:{column}")
+    }
+}
+
+/// A fault at a place, in words.
+#[derive(Debug, Drop, Error)]
+#[error("{place}: {what}")]
+pub struct Fault {
+    pub place: Place,
+    pub what: String,
+}
+
+/// The reason why a line can't be read.
+#[derive(Drop)]
+pub enum ReadError {
+    /// There is no memory for what it says.
+    Memory,
+    /// It is faulty.
+    Fault(Fault),
+}
+
+impl From<AllocError> for ReadError {
+    ghost from_gives = { λ _ e. e ≡ Memory };
+
+    fn from(_e: AllocError) -> ReadError {
+        ReadError::Memory
+    }
+}
+
+impl<T: Drop> From<AllocFailed<T>> for ReadError {
+    ghost from_gives = { λ _ e. e ≡ Memory };
+
+    fn from(_e: AllocFailed<T>) -> ReadError {
+        ReadError::Memory
+    }
+}
+
+/// Returns the fault of these words at a place, or the error of memory if there is none for the words.
+pub fn fault_at(place: Place, what: Result<String, AllocError>) -> ReadError {
+    match what {
+        Ok(what) => ReadError::Fault(Fault { place, what }),
+        Err(_) => ReadError::Memory,
+    }
+}

@@ -1,0 +1,218 @@
+//! Unproved: words and layout. The command line.
+
+mod options;
+
+use clap::{ArgMatches, Error};
+use options::command;
+use std::alloc::{AllocError, Global};
+
+/// A script to run.
+#[derive(Default, Drop)]
+pub struct ScriptRun {
+    /// Its file; `None` for standard input.
+    pub file: Option<String>,
+    /// Whether faults and failures are explained.
+    pub explain: bool,
+    /// Whether the plain script of one with names is printed instead of run.
+    pub plain: bool,
+    /// Whether a call that fails makes the exit status 1.
+    pub strict: bool,
+    /// Whether standard error is a terminal, on which faults are always explained.
+    pub terminal: bool,
+}
+
+/// The scripts to check.
+#[derive(Drop)]
+pub struct CheckRun {
+    /// Their files and folders, at least one.
+    pub paths: Vec<String>,
+    /// Whether missing and differing traces are written.
+    pub update: bool,
+    /// Whether faults are explained.
+    pub explain: bool,
+}
+
+/// A kernel to play with.
+#[derive(Drop)]
+pub struct PlayRun {
+    /// The file of the script to begin with, if there is one.
+    pub file: Option<String>,
+}
+
+/// A script whose run is drawn.
+#[derive(Drop)]
+pub struct ChartRun {
+    /// Its file; `None` for standard input.
+    pub file: Option<String>,
+    /// The drawing's file; `None` for standard output.
+    pub output: Option<String>,
+    /// Whether the drawing is text.
+    pub text: bool,
+    /// Whether the words have the bytes of messages and answers.
+    pub bytes: bool,
+    /// The number of the first call that is drawn, at least 1.
+    pub from: u32,
+    /// The number of the last call that is drawn; `None` for the last of the script.
+    pub to: Option<u32>,
+    /// Whether standard output is a terminal, on which the drawing is always text.
+    pub terminal: bool,
+}
+
+/// A design to explore.
+#[derive(Drop)]
+pub struct ExploreRun {
+    /// Its file; `None` for standard input.
+    pub file: Option<String>,
+    /// Whether only the run that shows a fault is printed, as a script.
+    pub script: bool,
+    /// The most moments of the search, at least 1.
+    pub most: u32,
+    /// The number of random interleavings; `None` to make all interleavings.
+    pub random: Option<u32>,
+    /// The seed of the random interleavings.
+    pub seed: u32,
+    /// Whether standard error is a terminal, on which progress is shown.
+    pub terminal: bool,
+}
+
+/// A server and its clients to run.
+#[derive(Drop)]
+pub struct ServeRun {
+    /// The number of clients, 1 to 32.
+    pub clients: u8,
+    /// The number of servers, 1 to 16.
+    pub servers: u8,
+    /// The number of rounds of each client, 1 to 1,000.
+    pub rounds: u16,
+    /// Whether the server keeps the first message until it has a second.
+    pub hold: bool,
+    /// Whether the times of the run are printed.
+    pub time: bool,
+    /// Whether the output is JSON.
+    pub json: bool,
+    /// Whether no progress is shown.
+    pub quiet: bool,
+    /// The name of the recording's files; `None` for no recording.
+    pub record: Option<String>,
+}
+
+/// The action that the command line asks for.
+#[derive(Drop)]
+pub enum Action {
+    /// Runs a script.
+    Script(ScriptRun),
+    /// Compares what scripts print with their traces.
+    Check(CheckRun),
+    /// Plays with a kernel.
+    Play(PlayRun),
+    /// Draws the run of a script.
+    Chart(ChartRun),
+    /// Explores a design.
+    Explore(ExploreRun),
+    /// Runs a server and its clients.
+    Serve(ServeRun),
+}
+
+/// Returns the value of this argument, or `None` if it is missing.
+fn text_of(
+    alloc: Global,
+    matches: &ArgMatches<'_>,
+    name: &str,
+) -> Result<Option<String>, AllocError> {
+    match matches.get_str(name) {
+        Some(text) => Ok(Some(String::from_str(alloc, text)?)),
+        None => Ok(None),
+    }
+}
+
+/// Returns the file of this argument, or `None` if it is missing or `-`.
+fn file_of(
+    alloc: Global,
+    matches: &ArgMatches<'_>,
+    name: &str,
+) -> Result<Option<String>, AllocError> {
+    match matches.get_str(name) {
+        Some("-") => Ok(None),
+        _ => text_of(alloc, matches, name),
+    }
+}
+
+/// Returns the script that the arguments ask for.
+fn script_of(alloc: Global, matches: &ArgMatches<'_>) -> Result<ScriptRun, AllocError> {
+    Ok(ScriptRun {
+        file: file_of(alloc, matches, "file")?,
+        explain: matches.get_flag("explain"),
+        plain: matches.get_flag("plain"),
+        strict: matches.get_flag("strict"),
+        terminal: false,
+    })
+}
+
+/// Returns the check that the arguments ask for: of the current folder, if they name no file or folder.
+fn check_of(alloc: Global, matches: &ArgMatches<'_>) -> Result<CheckRun, AllocError> {
+    let mut paths = Vec::new(alloc);
+    for path in matches.get_strs("path").unwrap_or(&["."]) {
+        paths.push(String::from_str(alloc, path)?)?;
+    }
+    Ok(CheckRun {
+        paths,
+        update: matches.get_flag("update"),
+        explain: matches.get_flag("explain"),
+    })
+}
+
+/// Returns the drawing that the arguments ask for.
+fn chart_of(alloc: Global, matches: &ArgMatches<'_>) -> Result<ChartRun, AllocError> {
+    Ok(ChartRun {
+        file: file_of(alloc, matches, "file")?,
+        output: file_of(alloc, matches, "output")?,
+        text: matches.get_flag("text"),
+        bytes: matches.get_flag("bytes"),
+        from: matches.get_one("from").unwrap_or(1),
+        to: matches.get_one("to"),
+        terminal: false,
+    })
+}
+
+/// Returns the design that the arguments ask for.
+fn explore_of(alloc: Global, matches: &ArgMatches<'_>) -> Result<ExploreRun, AllocError> {
+    Ok(ExploreRun {
+        file: file_of(alloc, matches, "file")?,
+        script: matches.get_flag("script"),
+        most: matches.get_one("most").unwrap_or(1_000_000),
+        random: matches.get_one("random"),
+        seed: matches.get_one("seed").unwrap_or(1),
+        terminal: false,
+    })
+}
+
+/// Returns the demonstration that the arguments ask for. Each number has a default.
+fn serve_of(alloc: Global, matches: &ArgMatches<'_>) -> Result<ServeRun, AllocError> {
+    Ok(ServeRun {
+        clients: matches.get_one("clients").unwrap_or(0),
+        servers: matches.get_one("servers").unwrap_or(0),
+        rounds: matches.get_one("rounds").unwrap_or(0),
+        hold: matches.get_flag("hold"),
+        time: matches.get_flag("time"),
+        json: matches.get_flag("json"),
+        quiet: matches.get_flag("quiet"),
+        record: text_of(alloc, matches, "record")?,
+    })
+}
+
+/// Returns the action that a command line asks for; the first word is the program's name. The error may be a help text
+/// that was asked for.
+pub fn action_of(alloc: Global, words: &[String]) -> Result<Action, Error> {
+    let matches = command(alloc)?.try_get_matches_from(words)?;
+    Ok(match matches.subcommand() {
+        Some(("serve", serve)) => Action::Serve(serve_of(alloc, serve)?),
+        Some(("check", check)) => Action::Check(check_of(alloc, check)?),
+        Some(("play", play)) => Action::Play(PlayRun {
+            file: file_of(alloc, play, "file")?,
+        }),
+        Some(("chart", chart)) => Action::Chart(chart_of(alloc, chart)?),
+        Some(("explore", explore)) => Action::Explore(explore_of(alloc, explore)?),
+        Some((_, script)) => Action::Script(script_of(alloc, script)?),
+        None => Action::Script(ScriptRun::default()),
+    })
+}

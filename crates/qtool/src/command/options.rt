@@ -1,0 +1,180 @@
+//! Unproved: words and layout. Builds the command line: each subcommand with its options and help
+//! texts.
+
+use crate::texts::{
+    ABOUT, CHART_ABOUT, CHART_EXAMPLE, CHART_LONG, CHECK_ABOUT, CHECK_EXAMPLE, CHECK_LONG, EXAMPLE,
+    EXPLORE_ABOUT, EXPLORE_EXAMPLE, EXPLORE_LONG, PLAY_ABOUT, PLAY_EXAMPLE, PLAY_LONG,
+    SCRIPT_ABOUT, SCRIPT_EXAMPLE, SCRIPT_LONG, SERVE_ABOUT, SERVE_EXAMPLE, SERVE_LONG, VERSION,
+};
+use clap::builder::ValueParser;
+use clap::{Arg, ArgAction, Command, value_parser};
+use std::alloc::{AllocError, Global};
+
+/// The option that explains faults: its name and its help.
+const EXPLAIN: (&str, &str) = (
+    "explain",
+    "Explain faulty lines, and of script also calls that fail and threads that wait",
+);
+
+/// Adds options without a value: the name and the help of each.
+fn with_flags<'a>(
+    alloc: Global,
+    mut command: Command<'a>,
+    flags: &[(&'a str, &'a str)],
+) -> Result<Command<'a>, AllocError> {
+    for (name, help) in flags {
+        let flag = Arg::new(alloc, name).long(name).help(help);
+        command = command.arg(flag.action(ArgAction::SetTrue))?;
+    }
+    Ok(command)
+}
+
+/// Returns an option with a number.
+fn number<'a>(
+    alloc: Global,
+    name: &'a str,
+    value: &'a str,
+    parser: ValueParser<'a>,
+    help: &'a str,
+) -> Arg<'a> {
+    Arg::new(alloc, name)
+        .long(name)
+        .value_name(value)
+        .value_parser(parser)
+        .help(help)
+}
+
+/// Returns the argument that is a file.
+fn file<'a>(alloc: Global, help: &'a str) -> Arg<'a> {
+    Arg::new(alloc, "file").value_name("FILE").help(help)
+}
+
+/// Returns the subcommand `serve`.
+fn serve_command<'a>(alloc: Global) -> Result<Command<'a>, AllocError> {
+    let clients = value_parser!(u8).range(1..33);
+    let clients = number(alloc, "clients", "N", clients, "How many clients, 1 to 32");
+    let servers = value_parser!(u8).range(1..17);
+    let servers = number(alloc, "servers", "M", servers, "How many servers, 1 to 16");
+    let rounds = value_parser!(u16).range(1..1001);
+    let help = "How many rounds each client makes, 1 to 1000";
+    let rounds = number(alloc, "rounds", "K", rounds, help);
+    let record = Arg::new(alloc, "record")
+        .long("record")
+        .value_name("NAME")
+        .help("Write NAME.txt, a script of the kernel's calls, and NAME.trace");
+    let flags = [
+        ("hold", "Keep the first message until there is a second"),
+        ("time", "Print how long the run and its round trips took"),
+        ("json", "Print an object of JSON in place of lines"),
+        ("quiet", "Show no progress"),
+    ];
+    let command = Command::new(alloc, "serve")
+        .about(SERVE_ABOUT)
+        .long_about(SERVE_LONG)
+        .after_help(SERVE_EXAMPLE)
+        .arg(clients.default_value("2"))?
+        .arg(servers.default_value("1"))?
+        .arg(rounds.default_value("1"))?;
+    with_flags(alloc, command, &flags)?.arg(record)
+}
+
+/// Returns the subcommand `script`.
+fn script_command<'a>(alloc: Global) -> Result<Command<'a>, AllocError> {
+    let flags = [
+        EXPLAIN,
+        (
+            "plain",
+            "Print the plain script of one with names, and don't run it",
+        ),
+        ("strict", "End with status 1 if a call failed"),
+    ];
+    let command = Command::new(alloc, "script")
+        .about(SCRIPT_ABOUT)
+        .long_about(SCRIPT_LONG)
+        .after_help(SCRIPT_EXAMPLE)
+        .arg(file(alloc, "The script's file; none or - is standard input"))?;
+    with_flags(alloc, command, &flags)
+}
+
+/// Returns the subcommand `check`.
+fn check_command<'a>(alloc: Global) -> Result<Command<'a>, AllocError> {
+    let paths = Arg::new(alloc, "path")
+        .value_name("PATH")
+        .num_args(0..)
+        .action(ArgAction::Append)
+        .help("Scripts, and folders of scripts; none is the current folder");
+    let update = ("update", "Write the traces that are missing or differ");
+    let command = Command::new(alloc, "check")
+        .about(CHECK_ABOUT)
+        .long_about(CHECK_LONG)
+        .after_help(CHECK_EXAMPLE)
+        .arg(paths)?;
+    with_flags(alloc, command, &[update, EXPLAIN])
+}
+
+/// Returns the subcommand `chart`.
+fn chart_command<'a>(alloc: Global) -> Result<Command<'a>, AllocError> {
+    let output = Arg::new(alloc, "output")
+        .short('o')
+        .long("output")
+        .value_name("FILE")
+        .help("Write the drawing into this file; none or - is standard output");
+    let flags = [
+        (
+            "text",
+            "Draw in columns of text, as is done on a terminal, and not as SVG",
+        ),
+        ("bytes", "Show the bytes of messages and answers, 8 at most"),
+    ];
+    let call = value_parser!(u32).range(1..4294967295);
+    let from = "The number of the first call that is drawn";
+    let to = "The number of the last call that is drawn";
+    let command = Command::new(alloc, "chart")
+        .about(CHART_ABOUT)
+        .long_about(CHART_LONG)
+        .after_help(CHART_EXAMPLE)
+        .arg(file(alloc, "The script's file; none or - is standard input"))?
+        .arg(output)?;
+    with_flags(alloc, command, &flags)?
+        .arg(number(alloc, "from", "N", call, from).default_value("1"))?
+        .arg(number(alloc, "to", "M", call, to))
+}
+
+/// Returns the subcommand `explore`.
+fn explore_command<'a>(alloc: Global) -> Result<Command<'a>, AllocError> {
+    let script = "Print the run that shows a fault alone, as a script";
+    let count = value_parser!(u32).range(1..4294967295);
+    let any = value_parser!(u32).range(0..4294967295);
+    let most = "Give up once more than N moments are known";
+    let random = "Make N interleavings by chance, and not all";
+    let seed = "What chance begins with; the same seed makes the same interleavings";
+    let command = Command::new(alloc, "explore")
+        .about(EXPLORE_ABOUT)
+        .long_about(EXPLORE_LONG)
+        .after_help(EXPLORE_EXAMPLE)
+        .arg(file(alloc, "The design's file; none or - is standard input"))?;
+    with_flags(alloc, command, &[("script", script)])?
+        .arg(number(alloc, "most", "N", count, most).default_value("1000000"))?
+        .arg(number(alloc, "random", "N", count, random))?
+        .arg(number(alloc, "seed", "S", any, seed).default_value("1"))
+}
+
+/// Returns the whole command line, with its six subcommands.
+pub(super) fn command<'a>(alloc: Global) -> Result<Command<'a>, AllocError> {
+    let play = Command::new(alloc, "play")
+        .about(PLAY_ABOUT)
+        .long_about(PLAY_LONG)
+        .after_help(PLAY_EXAMPLE)
+        .arg(file(alloc, "A script to begin with"))?;
+    Command::new(alloc, "qdemo")
+        .version(VERSION)
+        .about(ABOUT)
+        .after_help(EXAMPLE)
+        .subcommand_required(true)
+        .subcommand(script_command(alloc)?)?
+        .subcommand(check_command(alloc)?)?
+        .subcommand(play)?
+        .subcommand(chart_command(alloc)?)?
+        .subcommand(explore_command(alloc)?)?
+        .subcommand(serve_command(alloc)?)
+}
