@@ -12,23 +12,23 @@ use Rattle.qqueue.specs.Best.{is_pulse, may_take}
 use Rattle.qqueue.specs.declared.item.Item.{Item}
 use Rattle.qqueue.specs.declared.item.Kind.TheVariants.{Any, PulseOnly}
 use Rattle.qqueue.proofs.OrderLaws.{best-may}
-use Rattle.qmodel.specs.Private.Answer.{ending, refusal_ending}
-use Rattle.qmodel.specs.Private.Calls.{row_of}
-use Rattle.qmodel.specs.Private.Calls.ConnectDetach as connect_detach
-use Rattle.qmodel.specs.Private.Calls.Error.{error_finish, mark_of}
-use Rattle.qmodel.specs.Private.Calls.Info.{info_of, info_ending}
-use Rattle.qmodel.specs.Private.Calls.Pulse as pulse
-use Rattle.qmodel.specs.Private.Calls.Reply.{reply_finish}
-use Rattle.qmodel.specs.Private.Calls.Send.{item}
-use Rattle.qmodel.specs.Private.Calls.Unblock as unblock
-use Rattle.qmodel.specs.Private.Cancelling.{is_on}
-use Rattle.qmodel.specs.Private.Effects.{asks}
-use Rattle.qmodel.specs.Private.Facts.{Facts, message, route, sender, threads_of}
-use Rattle.qmodel.specs.Private.Headline.CopiedExactly.{call_at as old_call_at}
-use Rattle.qmodel.specs.Private.Held.{Finish}
-use Rattle.qmodel.specs.Private.Lawful.{facts_of}
-use Rattle.qmodel.specs.Private.Past.{call_by_now, wait_with_receipt, with_receipt}
-use Rattle.qmodel.specs.Private.Rows.{delivery_of, with_buffer}
+use Rattle.qrules.specs.Private.Answer.{ending, refusal_ending}
+use Rattle.qrules.specs.Private.Calls.{row_of}
+use Rattle.qrules.specs.Private.Calls.ConnectDetach as connect_detach
+use Rattle.qrules.specs.Private.Calls.Error.{error_finish, mark_of}
+use Rattle.qrules.specs.Private.Calls.Info.{info_of, info_ending}
+use Rattle.qrules.specs.Private.Calls.Pulse as pulse
+use Rattle.qrules.specs.Private.Calls.Reply.{reply_finish}
+use Rattle.qrules.specs.Private.Calls.Send.{item}
+use Rattle.qrules.specs.Private.Calls.Unblock as unblock
+use Rattle.qrules.specs.Private.Cancelling.{is_on}
+use Rattle.qrules.specs.Private.Effects.{asks}
+use Rattle.qrules.specs.Private.Facts.{Facts, message, route, sender, threads_of}
+use Rattle.qrules.specs.Private.Headline.CopiedExactly.{call_at as old_call_at}
+use Rattle.qrules.specs.Private.Held.{Finish}
+use Rattle.qrules.specs.Private.Lawful.{facts_of}
+use Rattle.qrules.specs.Private.Past.{call_by_now, wait_with_receipt, with_receipt}
+use Rattle.qrules.specs.Private.Rows.{delivery_of, with_buffer}
 use Rattle.qmodel.specs.Trace.{Trace}
 use Rattle.qmodel.specs.declared.call.Call.{Call}
 use Rattle.qmodel.specs.declared.call.Call.TheVariants.{Send, Receive, Reply, Error, Info, ReceivePulse, Pulse, ChannelDestroy, Shutdown, Unblock, ConnectDetach}
@@ -39,15 +39,15 @@ use Rattle.qmodel.specs.declared.call.Mark.TheVariants as mark
 use Rattle.qmodel.specs.declared.open_call.OpenCall.{OpenCall}
 use Rattle.qmodel.specs.declared.open_call.Wait.{Wait}
 use Rattle.qmodel.specs.declared.open_call.Wait.TheVariants.{Answer, Item as ForItem}
-use Rattle.qmodel.proofs.Calls.Cancelling.{cancel_parts}
-use Rattle.qmodel.proofs.Calls.ConnectDetach.{detach_ends}
-use Rattle.qmodel.proofs.Calls.Held.{SenderEnds, sender_ends}
-use Rattle.qmodel.proofs.Past.Ends.{ending_names, laws_of, passes_of}
-use Rattle.qmodel.proofs.Past.Laws.{Passes}
-use Rattle.qmodel.proofs.Past.Numbers.{block_asked, block_below, call_earlier, call_newest, open_parts}
-use Rattle.qmodel.proofs.Properties.Rows.Delivering.{Delivers, delivery_meets}
-use Rattle.qmodel.proofs.Properties.Rows.Receiving.{receive_takes}
-use Rattle.qmodel.proofs.Properties.Rows.Telling.{told_meets, unblock_ends}
+use Rattle.qrules.proofs.Traces.Calls.Cancelling.{cancel_parts}
+use Rattle.qrules.proofs.Traces.Calls.ConnectDetach.{detach_ends}
+use Rattle.qrules.proofs.Traces.Calls.Held.{SenderEnds, sender_ends}
+use Rattle.qrules.proofs.Traces.Past.Ends.{ending_names, laws_of, passes_of}
+use Rattle.qrules.proofs.Traces.Past.Laws.{Passes}
+use Rattle.qrules.proofs.Traces.Past.Numbers.{block_asked, block_below, call_earlier, call_newest, open_parts}
+use Rattle.qrules.proofs.Traces.Properties.Rows.Delivering.{Delivers, delivery_meets}
+use Rattle.qrules.proofs.Traces.Properties.Rows.Receiving.{receive_takes}
+use Rattle.qrules.proofs.Traces.Properties.Rows.Telling.{told_meets, unblock_ends}
 use Rattle.qrules.proofs.Properties.Calls.{same_call_at}
 use Rattle.qrules.specs.Trace.{call_at}
 use Rattle.qlaws.proofs.Waits.{before}

@@ -13,21 +13,21 @@ use Rattle.qqueue.specs.declared.item.Kind.{Kind}
 use Rattle.qqueue.specs.declared.item.Kind.TheVariants.{Any, PulseOnly}
 use Rattle.qtables.specs.Members.{IsRoster, member_at}
 use Rattle.qtables.specs.declared.member.Member.{Member}
-use Rattle.qmodel.specs.Private.Answer.{Answers, Outcome, ending}
-use Rattle.qmodel.specs.Private.Calls.{row_of}
-use Rattle.qmodel.specs.Private.Calls.ConnectDetach as connect_detach
-use Rattle.qmodel.specs.Private.Calls.Error.{error_finish}
-use Rattle.qmodel.specs.Private.Calls.Info.{info_of, info_of_open, info_of_wait}
-use Rattle.qmodel.specs.Private.Calls.Pulse as pulse
-use Rattle.qmodel.specs.Private.Calls.Reply.{reply_finish}
-use Rattle.qmodel.specs.Private.Calls.Send.{item}
-use Rattle.qmodel.specs.Private.Calls.Unblock as unblock
-use Rattle.qmodel.specs.Private.Cancelling.{is_on}
-use Rattle.qmodel.specs.Private.Effects.{makes}
-use Rattle.qmodel.specs.Private.Facts.{Facts, is_for_answer, message, sender, threads_of, route}
-use Rattle.qmodel.specs.Private.Lawful.{IsLawful, facts_of, with_event}
-use Rattle.qmodel.specs.Private.Past.{call_by_now, copied_count_among, copied_count_of, has_ending_of, is_ended, open_call, priority_of_item, wait_with_receipt, with_receipt}
-use Rattle.qmodel.specs.Private.Rows.{item_in_mark, receipt_ending}
+use Rattle.qrules.specs.Private.Answer.{Answers, Outcome, ending}
+use Rattle.qrules.specs.Private.Calls.{row_of}
+use Rattle.qrules.specs.Private.Calls.ConnectDetach as connect_detach
+use Rattle.qrules.specs.Private.Calls.Error.{error_finish}
+use Rattle.qrules.specs.Private.Calls.Info.{info_of, info_of_open, info_of_wait}
+use Rattle.qrules.specs.Private.Calls.Pulse as pulse
+use Rattle.qrules.specs.Private.Calls.Reply.{reply_finish}
+use Rattle.qrules.specs.Private.Calls.Send.{item}
+use Rattle.qrules.specs.Private.Calls.Unblock as unblock
+use Rattle.qrules.specs.Private.Cancelling.{is_on}
+use Rattle.qrules.specs.Private.Effects.{makes}
+use Rattle.qrules.specs.Private.Facts.{Facts, is_for_answer, message, sender, threads_of, route}
+use Rattle.qrules.specs.Private.Lawful.{IsLawful, facts_of, with_event}
+use Rattle.qrules.specs.Private.Past.{call_by_now, copied_count_among, copied_count_of, has_ending_of, is_ended, open_call, priority_of_item, wait_with_receipt, with_receipt}
+use Rattle.qrules.specs.Private.Rows.{item_in_mark, receipt_ending}
 use Rattle.qmodel.specs.Trace.{SentItem}
 use Rattle.qmodel.specs.Trace.{Trace}
 use Rattle.qmodel.specs.declared.call.Call.{Call}
@@ -40,24 +40,24 @@ use Rattle.qmodel.specs.declared.open_call.OpenCall.{OpenCall}
 use Rattle.qmodel.specs.declared.open_call.Wait.{Wait}
 use Rattle.qmodel.specs.declared.open_call.Wait.TheVariants.{Answer, Item as ForItem}
 use Rattle.qbase.proofs.Lists.{all_filter_map, some_of}
-use Rattle.qmodel.proofs.Calls.{call_laws}
-use Rattle.qmodel.proofs.Calls.Answering.{answer_receives}
-use Rattle.qmodel.proofs.Calls.ConnectDetach.{detach_ends}
-use Rattle.qmodel.proofs.Calls.Cancelling.{cancel_parts}
-use Rattle.qmodel.proofs.Calls.Delivering.{sent_way}
-use Rattle.qmodel.proofs.Calls.Error.{no_receipt}
-use Rattle.qmodel.proofs.Calls.Held.{sender_ends}
-use Rattle.qmodel.proofs.Calls.Info.{plain}
-use Rattle.qmodel.proofs.Past.Ends.{ended_below, ends_other, ends_own, laws_of, open_known, passes_of}
-use Rattle.qmodel.proofs.Past.Numbers.{is_unblocked, open_from, open_parts, receipt_for_answer, receipt_number}
-use Rattle.qmodel.proofs.Past.Receipts.{accepted_receipts, best_pending, ending_receives}
-use Rattle.qmodel.proofs.Past.Senders.{sender_sends}
-use Rattle.qmodel.proofs.Properties.Messages.{item_waits, pending_going}
-use Rattle.qmodel.proofs.Properties.Receipts.{ending_of}
-use Rattle.qmodel.proofs.Properties.Rows.Delivering.{Delivers, delivery_meets}
-use Rattle.qmodel.proofs.Properties.Rows.Receiving.{receive_takes}
-use Rattle.qmodel.proofs.Properties.Rows.Telling.{Tells, told_meets, unblock_ends}
-use Rattle.qmodel.proofs.TraceLaws.Held.{held_is_held_send}
+use Rattle.qrules.proofs.Traces.Calls.{call_laws}
+use Rattle.qrules.proofs.Traces.Calls.Answering.{answer_receives}
+use Rattle.qrules.proofs.Traces.Calls.ConnectDetach.{detach_ends}
+use Rattle.qrules.proofs.Traces.Calls.Cancelling.{cancel_parts}
+use Rattle.qrules.proofs.Traces.Calls.Delivering.{sent_way}
+use Rattle.qrules.proofs.Traces.Calls.Error.{no_receipt}
+use Rattle.qrules.proofs.Traces.Calls.Held.{sender_ends}
+use Rattle.qrules.proofs.Traces.Calls.Info.{plain}
+use Rattle.qrules.proofs.Traces.Past.Ends.{ended_below, ends_other, ends_own, laws_of, open_known, passes_of}
+use Rattle.qrules.proofs.Traces.Past.Numbers.{is_unblocked, open_from, open_parts, receipt_for_answer, receipt_number}
+use Rattle.qrules.proofs.Traces.Past.Receipts.{accepted_receipts, best_pending, ending_receives}
+use Rattle.qrules.proofs.Traces.Past.Senders.{sender_sends}
+use Rattle.qrules.proofs.Traces.Properties.Messages.{item_waits, pending_going}
+use Rattle.qrules.proofs.Traces.Properties.Receipts.{ending_of}
+use Rattle.qrules.proofs.Traces.Properties.Rows.Delivering.{Delivers, delivery_meets}
+use Rattle.qrules.proofs.Traces.Properties.Rows.Receiving.{receive_takes}
+use Rattle.qrules.proofs.Traces.Properties.Rows.Telling.{Tells, told_meets, unblock_ends}
+use Rattle.qrules.proofs.Traces.TraceLaws.Held.{held_is_held_send}
 
 -- ---- a receipt whose mark is of a message
 

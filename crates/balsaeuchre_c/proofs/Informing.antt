@@ -8,7 +8,7 @@ use Rattle.qtables.specs.Members.{IsRoster, member_at}
 use Rattle.qmodel.specs.declared.call.Call.{Call}
 use Rattle.qmodel.specs.declared.call.Completion.{Completion}
 use Rattle.qmodel.specs.declared.call.Info.{Info}
-use Rattle.qmodel.specs.Private.Lawful.{with_event}
+use Rattle.qrules.specs.Private.Lawful.{with_event}
 use Rattle.qstate.specs.Kept.{members_of}
 use Rattle.qkernel.specs.Kernel.{State, IsSound}
 use Rattle.qkernel.specs.Stands.{AnswersAtTraces}

@@ -8,11 +8,11 @@ use Rattle.std.proofs.lemmas.List.Elements.{filter_map-append}
 use Rattle.qtables.specs.Members.{IsRoster}
 use Rattle.qtables.specs.declared.connection.Connection.{Connection}
 use Rattle.qtables.specs.declared.member.Member.{Member}
-use Rattle.qmodel.specs.Private.Blocked.{blocked_thread, blocked_threads_in}
-use Rattle.qmodel.specs.Private.Facts.{threads_of, Facts}
-use Rattle.qmodel.specs.Private.ThreadState.{state_in}
+use Rattle.qrules.specs.Private.Blocked.{blocked_thread, blocked_threads_in}
+use Rattle.qrules.specs.Private.Facts.{threads_of, Facts}
+use Rattle.qrules.specs.Private.ThreadState.{state_in}
 use Rattle.qmodel.specs.declared.open_call.Wait.TheVariants.{Answer, Item as ForItem}
-use Rattle.qmodel.proofs.Rosters.{filter_map_same}
+use Rattle.qrules.proofs.Traces.Rosters.{filter_map_same}
 use Rattle.qrules.specs.Lawful.{facts_of}
 use Rattle.qrules.specs.View.{receive_in, receive_view, send_in, send_view}
 use Rattle.qrules.proofs.Same.{facts_view}

@@ -6,8 +6,8 @@ use Rattle.std.proofs.lemmas.Bool.{ne_eqb, true≢false}
 use Rattle.qbase.proofs.Lists.{eqb_same, is_among}
 use Rattle.qtables.specs.Members.{IsRoster}
 use Rattle.qtables.specs.declared.member.Member.{Member}
-use Rattle.qmodel.specs.Private.Facts.{threads_of, Facts as OldFacts}
-use Rattle.qmodel.specs.Private.Lawful as old_lawful
+use Rattle.qrules.specs.Private.Facts.{threads_of, Facts as OldFacts}
+use Rattle.qrules.specs.Private.Lawful as old_lawful
 use Rattle.qmodel.specs.declared.open_call.OpenCall.{OpenCall}
 use Rattle.qmodel.specs.declared.open_call.Receipt.{Receipt as OldReceipt}
 use Rattle.qmodel.specs.declared.open_call.Wait.{Wait}

@@ -9,22 +9,22 @@ use Rattle.qmodel.specs.declared.call.Call.{Call}
 use Rattle.qmodel.specs.declared.call.Completion.{Completion}
 use Rattle.qmodel.specs.declared.open_call.OpenCall.{OpenCall}
 use Rattle.qstate.specs.declared.thread.Thread.{Thread}
-use Rattle.qmodel.specs.Private.Answer.{ending, Outcome}
-use Rattle.qmodel.specs.Private.Calls.{row_of}
-use Rattle.qmodel.specs.Private.Facts.{Facts, sender, threads_of}
-use Rattle.qmodel.specs.Private.Effects.{makes, unblocks, writes}
-use Rattle.qmodel.specs.Private.Rows.{Received, Written}
+use Rattle.qrules.specs.Private.Answer.{ending, Outcome}
+use Rattle.qrules.specs.Private.Calls.{row_of}
+use Rattle.qrules.specs.Private.Facts.{Facts, sender, threads_of}
+use Rattle.qrules.specs.Private.Effects.{makes, unblocks, writes}
+use Rattle.qrules.specs.Private.Rows.{Received, Written}
 use Rattle.qmodel.specs.Trace.{SentItem}
 use Rattle.qkernel.specs.Kernel.{State}
 use Rattle.qkernel.specs.Private.Steps.{Step, Steps, facts_in}
-use Rattle.qmodel.specs.Private.Step.{Follows, unless, after_receipt, after_write, is_thread, held_call, written_call, after_unblock, unblocked_call}
+use Rattle.qrules.specs.Private.Step.{Follows, unless, after_receipt, after_write, is_thread, held_call, written_call, after_unblock, unblocked_call}
 use Rattle.qstate.specs.Thread.{open_in, blocked_count}
 use Rattle.qstate.specs.Kept.{members_of}
-use Rattle.qmodel.proofs.Past.Ends.{row_passes}
-use Rattle.qmodel.proofs.Past.Laws.{RowLaws}
-use Rattle.qmodel.proofs.Calls.{row_laws}
+use Rattle.qrules.proofs.Traces.Past.Ends.{row_passes}
+use Rattle.qrules.proofs.Traces.Past.Laws.{RowLaws}
+use Rattle.qrules.proofs.Traces.Calls.{row_laws}
 use Rattle.qbase.proofs.Lists.{is_among}
-use Rattle.qmodel.proofs.Rosters.{Rises, rises, not_among}
+use Rattle.qrules.proofs.Traces.Rosters.{Rises, rises, not_among}
 use Rattle.qstate.proofs.Senders.{own_open}
 
 -- one where there is something

@@ -8,7 +8,7 @@ use Rattle.qmodel.specs.declared.call.Completion.{Completion}
 use Rattle.qstate.specs.declared.thread.Thread.{Thread}
 use Rattle.qkernel.specs.EventLog.{Logged, with_next}
 use Rattle.qkernel.specs.Run.{RunsAtTraces, AllKnown, Headline}
-use Rattle.qmodel.specs.Private.Lawful as old_lawful
+use Rattle.qrules.specs.Private.Lawful as old_lawful
 use Rattle.qrules.specs.Lawful.{event_call}
 use Rattle.qrules.specs.Trace.{followed_by}
 use Rattle.qkernel.specs.Stands.{AnswersAtTraces}
@@ -16,7 +16,7 @@ use Rattle.qkernel.specs.Kernel.{State}
 use Rattle.qstate.specs.Thread.{blocked_count}
 use Rattle.qstate.specs.Kept.{members_of}
 use Rattle.qmodel.specs.Trace.{Event, Trace}
-use Rattle.qmodel.proofs.OnlyRun.{only_run}
+use Rattle.qrules.proofs.Traces.OnlyRun.{only_run}
 use Rattle.qkernel.proofs.Traces.{before, followed_push, properties_of, stands_roster}
 use Rattle.qrules.proofs.Lawful.{same_followed, same_only_run}
 

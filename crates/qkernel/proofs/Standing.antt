@@ -10,28 +10,28 @@ use Rattle.qtables.specs.declared.member.Member.{Member}
 use Rattle.qmodel.specs.declared.call.Call.{Call}
 use Rattle.qmodel.specs.declared.call.Completion.{Completion}
 use Rattle.qmodel.specs.declared.call.Mark.TheVariants as mark
-use Rattle.qmodel.specs.Private.Answer.{Outcome, ending, refusal_ending}
-use Rattle.qmodel.specs.Private.Answer as old_answer
-use Rattle.qmodel.specs.Private.Facts.{Facts, threads_of}
-use Rattle.qmodel.specs.Private.Laws.{IsOnlyCounted}
-use Rattle.qmodel.specs.Private.Lawful.{facts_of, with_event}
+use Rattle.qrules.specs.Private.Answer.{Outcome, ending, refusal_ending}
+use Rattle.qrules.specs.Private.Answer as old_answer
+use Rattle.qrules.specs.Private.Facts.{Facts, threads_of}
+use Rattle.qrules.specs.Private.Laws.{IsOnlyCounted}
+use Rattle.qrules.specs.Private.Lawful.{facts_of, with_event}
 use Rattle.qrules.specs.Facts as rules
 use Rattle.qrules.specs.Outcome.{Answers}
 use Rattle.qrules.proofs.Same.{facts_view, AreOfRoster}
 use Rattle.qrules.proofs.Lawful.{of_roster, same_lawful}
 use Rattle.qrules.proofs.Outcomes.{same_answers, same_buffer}
 use Rattle.qrules.proofs.Past.Facts.{facts_known, same_facts}
-use Rattle.qmodel.specs.Private.Past.{is_failure, priority_in}
+use Rattle.qrules.specs.Private.Past.{is_failure, priority_in}
 use Rattle.qkernel.specs.Stands.{StandsAt, AnswersAtTraces, LeavesIfRefused}
 use Rattle.qkernel.specs.Kernel.{State, IsSound}
 use Rattle.qkernel.specs.Private.Steps.{Step, Steps, facts_in}
-use Rattle.qmodel.specs.Private.Step.{Follows}
+use Rattle.qrules.specs.Private.Step.{Follows}
 use Rattle.qstate.specs.Thread.{open_in, ready_thread}
 use Rattle.qstate.specs.Kept.{members_of, thread_priority}
 use Rattle.qbase.proofs.Lists.{all_filter_map}
-use Rattle.qmodel.proofs.Past.Ends.{ending_names, laws_of}
-use Rattle.qmodel.proofs.Past.Follows.{past_follows}
-use Rattle.qmodel.proofs.TraceLaws.Refused.{only_counted}
+use Rattle.qrules.proofs.Traces.Past.Ends.{ending_names, laws_of}
+use Rattle.qrules.proofs.Traces.Past.Follows.{past_follows}
+use Rattle.qrules.proofs.Traces.TraceLaws.Refused.{only_counted}
 use Rattle.qkernel.proofs.Contents.{content_at, content_same, stands_by}
 
 -- facts that say the same of each thing are one

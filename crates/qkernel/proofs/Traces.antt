@@ -3,14 +3,14 @@ use Rattle.std.proofs.Common.{◌≡◌, ◌∙◌, ◌+◌, ℕ, List, [], ◌�
 use Rattle.std.specs.Prelude.{is_some}
 use Rattle.qtables.specs.Members.{IsRoster}
 use Rattle.qtables.specs.declared.member.Member.{Member}
-use Rattle.qmodel.specs.Private.Answer as old_answer
-use Rattle.qmodel.specs.Private.Calls.Info as old_info
-use Rattle.qmodel.specs.Private.Facts.{sender}
-use Rattle.qmodel.specs.Private.Lawful as old_lawful
-use Rattle.qmodel.specs.Private.Past.{open_call}
+use Rattle.qrules.specs.Private.Answer as old_answer
+use Rattle.qrules.specs.Private.Calls.Info as old_info
+use Rattle.qrules.specs.Private.Facts.{sender}
+use Rattle.qrules.specs.Private.Lawful as old_lawful
+use Rattle.qrules.specs.Private.Past.{open_call}
 use Rattle.qmodel.specs.declared.call.Call.{Call}
 use Rattle.qmodel.specs.declared.call.Completion.{Completion}
-use Rattle.qmodel.proofs.Properties.All.{has_properties}
+use Rattle.qrules.proofs.Traces.Properties.All.{has_properties}
 use Rattle.qrules.specs.Facts.{is_blocked}
 use Rattle.qrules.specs.Lawful.{facts_of, IsLawful}
 use Rattle.qrules.specs.Outcome.{Answers}

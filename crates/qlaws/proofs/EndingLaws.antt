@@ -7,22 +7,22 @@ use Rattle.std.proofs.lemmas.Option.{none-some, same_Some}
 use Rattle.qbase.proofs.Lists.{all_more}
 use Rattle.qqueue.specs.declared.item.Kind.{Kind}
 use Rattle.qtables.specs.declared.member.Member.{Member}
-use Rattle.qmodel.specs.Private.Endings as old_endings
-use Rattle.qmodel.specs.Private.Facts.{Facts as OldFacts}
-use Rattle.qmodel.specs.Private.Headline.CopiedExactly.{call_at as old_call_at}
-use Rattle.qmodel.specs.Private.Headline.SentOrder.{connection_of as old_connection_of}
-use Rattle.qmodel.specs.Private.Laws as old_laws
-use Rattle.qmodel.specs.Private.Lawful as old
-use Rattle.qmodel.specs.Private.Past.{items as old_items, open_call}
+use Rattle.qrules.specs.Private.Endings as old_endings
+use Rattle.qrules.specs.Private.Facts.{Facts as OldFacts}
+use Rattle.qrules.specs.Private.Headline.CopiedExactly.{call_at as old_call_at}
+use Rattle.qrules.specs.Private.Headline.SentOrder.{connection_of as old_connection_of}
+use Rattle.qrules.specs.Private.Laws as old_laws
+use Rattle.qrules.specs.Private.Lawful as old
+use Rattle.qrules.specs.Private.Past.{items as old_items, open_call}
 use Rattle.qmodel.specs.Trace.{SentItem}
 use Rattle.qmodel.specs.Trace.{Trace}
 use Rattle.qmodel.specs.declared.call.Call.{Call}
 use Rattle.qmodel.specs.declared.call.Completion.{Completion}
-use Rattle.qmodel.proofs.TraceLaws.Blocked as blocked
-use Rattle.qmodel.proofs.TraceLaws.Ending as ending
-use Rattle.qmodel.proofs.TraceLaws.Lengths as lengths
-use Rattle.qmodel.proofs.TraceLaws.Refused as refused
-use Rattle.qmodel.proofs.TraceLaws.Sent as sent
+use Rattle.qrules.proofs.Traces.TraceLaws.Blocked as blocked
+use Rattle.qrules.proofs.Traces.TraceLaws.Ending as ending
+use Rattle.qrules.proofs.Traces.TraceLaws.Lengths as lengths
+use Rattle.qrules.proofs.Traces.TraceLaws.Refused as refused
+use Rattle.qrules.proofs.Traces.TraceLaws.Sent as sent
 use Rattle.qrules.specs.Facts.{Facts}
 use Rattle.qrules.specs.Lawful.{IsLawful}
 use Rattle.qrules.specs.Past.{item_among}

@@ -15,23 +15,23 @@ use Rattle.qqueue.specs.declared.item.Kind.{Kind}
 use Rattle.qqueue.specs.declared.item.Kind.TheVariants.{Any, PulseOnly}
 use Rattle.qtables.specs.Members.{IsRoster, member_at}
 use Rattle.qtables.specs.declared.member.Member.{Member}
-use Rattle.qmodel.specs.Private.Answer.{ending, Answers}
-use Rattle.qmodel.specs.Private.Calls.{row_of}
-use Rattle.qmodel.specs.Private.Calls.ConnectDetach as connect_detach
-use Rattle.qmodel.specs.Private.Calls.Error.{error_finish}
-use Rattle.qmodel.specs.Private.Calls.Info.{info_of, info_ending}
-use Rattle.qmodel.specs.Private.Calls.Pulse as pulse
-use Rattle.qmodel.specs.Private.Calls.Reply.{reply_finish}
-use Rattle.qmodel.specs.Private.Calls.Send.{item}
-use Rattle.qmodel.specs.Private.Calls.Unblock as unblock
-use Rattle.qmodel.specs.Private.Cancelling.{is_on}
-use Rattle.qmodel.specs.Private.Effects.{attaches, closes, creates, detaches}
-use Rattle.qmodel.specs.Private.Facts.{count_to, is_of_process, message, route, sender, threads_of, Facts}
-use Rattle.qmodel.specs.Private.Lawful as old
-use Rattle.qmodel.specs.Private.Past as past_of
-use Rattle.qmodel.specs.Private.Pulses.{refusal_if_full_for}
-use Rattle.qmodel.specs.Private.Rows.{names}
-use Rattle.qmodel.specs.Private.Step.{one_for}
+use Rattle.qrules.specs.Private.Answer.{ending, Answers}
+use Rattle.qrules.specs.Private.Calls.{row_of}
+use Rattle.qrules.specs.Private.Calls.ConnectDetach as connect_detach
+use Rattle.qrules.specs.Private.Calls.Error.{error_finish}
+use Rattle.qrules.specs.Private.Calls.Info.{info_of, info_ending}
+use Rattle.qrules.specs.Private.Calls.Pulse as pulse
+use Rattle.qrules.specs.Private.Calls.Reply.{reply_finish}
+use Rattle.qrules.specs.Private.Calls.Send.{item}
+use Rattle.qrules.specs.Private.Calls.Unblock as unblock
+use Rattle.qrules.specs.Private.Cancelling.{is_on}
+use Rattle.qrules.specs.Private.Effects.{attaches, closes, creates, detaches}
+use Rattle.qrules.specs.Private.Facts.{count_to, is_of_process, message, route, sender, threads_of, Facts}
+use Rattle.qrules.specs.Private.Lawful as old
+use Rattle.qrules.specs.Private.Past as past_of
+use Rattle.qrules.specs.Private.Pulses.{refusal_if_full_for}
+use Rattle.qrules.specs.Private.Rows.{names}
+use Rattle.qrules.specs.Private.Step.{one_for}
 use Rattle.qmodel.specs.Trace.{Event, Trace}
 use Rattle.qmodel.specs.declared.call.Call.{Call}
 use Rattle.qmodel.specs.declared.call.Call.TheVariants as calls
@@ -39,20 +39,20 @@ use Rattle.qmodel.specs.declared.call.Completion.{Completion}
 use Rattle.qmodel.specs.declared.call.Info.{Info as Told}
 use Rattle.qmodel.specs.declared.call.Mark.{Mark}
 use Rattle.qmodel.specs.declared.call.Mark.TheVariants as mark
-use Rattle.qmodel.proofs.Calls.Cancelling.{cancel_parts}
-use Rattle.qmodel.proofs.Calls.ConnectDetach.{detach_ends}
-use Rattle.qmodel.proofs.Calls.Held.{sender_ends}
-use Rattle.qmodel.proofs.Calls.Taking.{given_is}
-use Rattle.qmodel.proofs.Past.Channels.{closes_alone, closes_open}
-use Rattle.qmodel.proofs.Past.Ends.{passes_of}
-use Rattle.qmodel.proofs.Past.Follows.{past_follows}
-use Rattle.qmodel.proofs.Past.Laws.{Passes}
-use Rattle.qmodel.proofs.Past.Live.{count_less, gone_below, live, live_parts, made_above}
-use Rattle.qmodel.proofs.Past.Numbers.{made_below}
-use Rattle.qmodel.proofs.Properties.Receipts.{ending_of}
-use Rattle.qmodel.proofs.Properties.Rows.Delivering.{delivery_meets, Delivers}
-use Rattle.qmodel.proofs.Properties.Rows.Receiving.{receive_takes, ReceiveTakes}
-use Rattle.qmodel.proofs.Properties.Rows.Telling.{told_meets, unblock_ends}
+use Rattle.qrules.proofs.Traces.Calls.Cancelling.{cancel_parts}
+use Rattle.qrules.proofs.Traces.Calls.ConnectDetach.{detach_ends}
+use Rattle.qrules.proofs.Traces.Calls.Held.{sender_ends}
+use Rattle.qrules.proofs.Traces.Calls.Taking.{given_is}
+use Rattle.qrules.proofs.Traces.Past.Channels.{closes_alone, closes_open}
+use Rattle.qrules.proofs.Traces.Past.Ends.{passes_of}
+use Rattle.qrules.proofs.Traces.Past.Follows.{past_follows}
+use Rattle.qrules.proofs.Traces.Past.Laws.{Passes}
+use Rattle.qrules.proofs.Traces.Past.Live.{count_less, gone_below, live, live_parts, made_above}
+use Rattle.qrules.proofs.Traces.Past.Numbers.{made_below}
+use Rattle.qrules.proofs.Traces.Properties.Receipts.{ending_of}
+use Rattle.qrules.proofs.Traces.Properties.Rows.Delivering.{delivery_meets, Delivers}
+use Rattle.qrules.proofs.Traces.Properties.Rows.Receiving.{receive_takes, ReceiveTakes}
+use Rattle.qrules.proofs.Traces.Properties.Rows.Telling.{told_meets, unblock_ends}
 use Rattle.qrules.specs.Facts.{Facts as NewFacts}
 use Rattle.qrules.specs.Lawful.{IsLawful}
 use Rattle.qrules.specs.Past.{accepted_calls, attached_connection, channel_at, connection_at, created_channel, is_accepted, is_number, was_done}

@@ -9,14 +9,14 @@ use Rattle.std.proofs.Math.Bool.{or-false}
 use Rattle.qbase.specs.declared.errno.Errno.TheVariants.{Srch}
 use Rattle.qtables.specs.Members.{IsRoster}
 use Rattle.qtables.specs.declared.member.Member.{Member}
-use Rattle.qmodel.specs.Private.Cancelling.{cancel_where, cancels}
-use Rattle.qmodel.specs.Private.Effects.{asks, shuts_down}
-use Rattle.qmodel.specs.Private.Facts.{Facts as OldFacts}
-use Rattle.qmodel.specs.Private.Headline.AnsweredToSender.{is_held as was_held}
-use Rattle.qmodel.specs.Private.Laws as old_laws
-use Rattle.qmodel.specs.Private.Lawful as old
-use Rattle.qmodel.specs.Private.Past.{is_down, is_taken, made_at, open_call}
-use Rattle.qmodel.specs.Private.Step.{open_call_after, unless}
+use Rattle.qrules.specs.Private.Cancelling.{cancel_where, cancels}
+use Rattle.qrules.specs.Private.Effects.{asks, shuts_down}
+use Rattle.qrules.specs.Private.Facts.{Facts as OldFacts}
+use Rattle.qrules.specs.Private.Headline.AnsweredToSender.{is_held as was_held}
+use Rattle.qrules.specs.Private.Laws as old_laws
+use Rattle.qrules.specs.Private.Lawful as old
+use Rattle.qrules.specs.Private.Past.{is_down, is_taken, made_at, open_call}
+use Rattle.qrules.specs.Private.Step.{open_call_after, unless}
 use Rattle.qmodel.specs.Trace.{Trace}
 use Rattle.qmodel.specs.declared.call.Call.{Call}
 use Rattle.qmodel.specs.declared.call.Call.TheVariants as calls
@@ -24,12 +24,12 @@ use Rattle.qmodel.specs.declared.open_call.OpenCall.{OpenCall}
 use Rattle.qmodel.specs.declared.open_call.Wait.TheVariants.{Answer}
 use Rattle.qqueue.specs.Best.{may_take}
 use Rattle.qmodel.specs.declared.open_call.Receipt.{Receipt as OldReceipt}
-use Rattle.qmodel.proofs.Past.Ends.{passes_of}
-use Rattle.qmodel.proofs.Past.Follows.{past_follows}
-use Rattle.qmodel.proofs.TraceLaws.Held as held
-use Rattle.qmodel.proofs.TraceLaws.Lengths as lengths
-use Rattle.qmodel.proofs.TraceLaws.Unended as unended
-use Rattle.qmodel.proofs.TraceLaws.Waiting as waiting
+use Rattle.qrules.proofs.Traces.Past.Ends.{passes_of}
+use Rattle.qrules.proofs.Traces.Past.Follows.{past_follows}
+use Rattle.qrules.proofs.Traces.TraceLaws.Held as held
+use Rattle.qrules.proofs.Traces.TraceLaws.Lengths as lengths
+use Rattle.qrules.proofs.Traces.TraceLaws.Unended as unended
+use Rattle.qrules.proofs.Traces.TraceLaws.Waiting as waiting
 use Rattle.qrules.specs.Delivery.{newer}
 use Rattle.qrules.specs.Facts.{open_send, receive_of, Facts, OpenReceive, OpenSend}
 use Rattle.qrules.specs.Lawful.{facts_of}

@@ -11,19 +11,19 @@ use Rattle.qqueue.specs.Order.{comes_before}
 use Rattle.qqueue.specs.declared.item.Item.{Item}
 use Rattle.qtables.specs.Members.{IsRoster}
 use Rattle.qtables.specs.declared.member.Member.{Member}
-use Rattle.qmodel.specs.Private.Facts.{is_for_receipt}
-use Rattle.qmodel.specs.Private.Laws as old_laws
-use Rattle.qmodel.specs.Private.Past as old
+use Rattle.qrules.specs.Private.Facts.{is_for_receipt}
+use Rattle.qrules.specs.Private.Laws as old_laws
+use Rattle.qrules.specs.Private.Past as old
 use Rattle.qmodel.specs.Trace.{Event, Trace}
 use Rattle.qmodel.specs.declared.call.Completion.{Completion}
 use Rattle.qmodel.specs.declared.open_call.OpenCall.{OpenCall}
 use Rattle.qmodel.specs.declared.open_call.Wait.{Wait}
 use Rattle.qmodel.specs.declared.open_call.Wait.TheVariants.{Answer, Item as ForItem}
-use Rattle.qmodel.proofs.TraceLaws.Limits as limits
-use Rattle.qmodel.proofs.TraceLaws.Order as order
-use Rattle.qmodel.proofs.TraceLaws.Pending as pending
-use Rattle.qmodel.proofs.TraceLaws.Setting as setting
-use Rattle.qmodel.proofs.TraceLaws.CurrentPriority as current_priority
+use Rattle.qrules.proofs.Traces.TraceLaws.Limits as limits
+use Rattle.qrules.proofs.Traces.TraceLaws.Order as order
+use Rattle.qrules.proofs.Traces.TraceLaws.Pending as pending
+use Rattle.qrules.proofs.Traces.TraceLaws.Setting as setting
+use Rattle.qrules.proofs.Traces.TraceLaws.CurrentPriority as current_priority
 use Rattle.qrules.specs.Lawful.{facts_of, IsLawful}
 use Rattle.qrules.specs.Past.{is_ended, is_gone, is_number, item_among, items_by_now, priority_of_item, sender_of}
 use Rattle.qrules.specs.Properties.{items}

@@ -10,13 +10,13 @@ use Rattle.qqueue.specs.Best.{is_pulse, with_priority}
 use Rattle.qqueue.specs.Order.{comes_before}
 use Rattle.qqueue.specs.declared.item.Item.{Item}
 use Rattle.qtables.specs.declared.member.Member.{Member}
-use Rattle.qmodel.specs.Private.Lawful as old
-use Rattle.qmodel.specs.Private.Past.{current_priority, is_closed, is_gone, is_taken, item_of, made_on, pending_items, priority_set_by, sender_of}
+use Rattle.qrules.specs.Private.Lawful as old
+use Rattle.qrules.specs.Private.Past.{current_priority, is_closed, is_gone, is_taken, item_of, made_on, pending_items, priority_set_by, sender_of}
 use Rattle.qmodel.specs.Trace.{Event, SentItem, Trace}
-use Rattle.qmodel.proofs.Past.Cancels.{sent_by}
-use Rattle.qmodel.proofs.Past.CurrentPriority.{now, worth_newest, worth_set}
-use Rattle.qmodel.proofs.Past.Items.{item_below, items_on, made_by, pending_is, standing_is, stands_all, staying, Stands}
-use Rattle.qmodel.proofs.Past.Pending.{items_more, stays_gone}
+use Rattle.qrules.proofs.Traces.Past.Cancels.{sent_by}
+use Rattle.qrules.proofs.Traces.Past.CurrentPriority.{now, worth_newest, worth_set}
+use Rattle.qrules.proofs.Traces.Past.Items.{item_below, items_on, made_by, pending_is, standing_is, stands_all, staying, Stands}
+use Rattle.qrules.proofs.Traces.Past.Pending.{items_more, stays_gone}
 use Rattle.qrules.specs.Lawful.{facts_of, item_made_by}
 use Rattle.qrules.specs.Past as new
 use Rattle.qrules.proofs.Lawful.{of_roster}

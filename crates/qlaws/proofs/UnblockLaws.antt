@@ -9,10 +9,10 @@ use Rattle.std.proofs.lemmas.Option.{none-some, same_Some}
 use Rattle.qqueue.specs.declared.item.What.{What}
 use Rattle.qqueue.specs.declared.item.What.TheVariants as what
 use Rattle.qtables.specs.declared.member.Member.{Member}
-use Rattle.qmodel.specs.Private.Effects.{makes, unblocks}
-use Rattle.qmodel.specs.Private.Facts.{Facts as OldFacts}
-use Rattle.qmodel.specs.Private.Lawful as old
-use Rattle.qmodel.specs.Private.Past.{call_by_now, copied_count_of, is_unblock_for, item_of, items as old_items, priority_of_item, unblocked_among, wait_with_receipt, with_receipt}
+use Rattle.qrules.specs.Private.Effects.{makes, unblocks}
+use Rattle.qrules.specs.Private.Facts.{Facts as OldFacts}
+use Rattle.qrules.specs.Private.Lawful as old
+use Rattle.qrules.specs.Private.Past.{call_by_now, copied_count_of, is_unblock_for, item_of, items as old_items, priority_of_item, unblocked_among, wait_with_receipt, with_receipt}
 use Rattle.qmodel.specs.Trace.{SentItem, Trace}
 use Rattle.qmodel.specs.declared.call.Call.{Call}
 use Rattle.qmodel.specs.declared.call.Call.TheVariants as calls
@@ -20,12 +20,12 @@ use Rattle.qmodel.specs.declared.open_call.OpenCall.{OpenCall}
 use Rattle.qmodel.specs.declared.open_call.Receipt.{Receipt as OldReceipt}
 use Rattle.qmodel.specs.declared.open_call.Wait.{Wait}
 use Rattle.qmodel.specs.declared.open_call.Wait.TheVariants.{Answer, Item as ForItem}
-use Rattle.qmodel.proofs.Calls.{call_laws}
-use Rattle.qmodel.proofs.Calls.Unblock.{due_parts}
-use Rattle.qmodel.proofs.Past.CurrentPriority.{unblocked_among_now}
-use Rattle.qmodel.proofs.Past.Items.{item_accepted}
-use Rattle.qmodel.proofs.Past.Numbers.{is_unblocked, open_parts}
-use Rattle.qmodel.proofs.Past.Unblocked.{none_unblocked}
+use Rattle.qrules.proofs.Traces.Calls.{call_laws}
+use Rattle.qrules.proofs.Traces.Calls.Unblock.{due_parts}
+use Rattle.qrules.proofs.Traces.Past.CurrentPriority.{unblocked_among_now}
+use Rattle.qrules.proofs.Traces.Past.Items.{item_accepted}
+use Rattle.qrules.proofs.Traces.Past.Numbers.{is_unblocked, open_parts}
+use Rattle.qrules.proofs.Traces.Past.Unblocked.{none_unblocked}
 use Rattle.qrules.specs.Past as new
 use Rattle.qrules.specs.Properties.{items}
 use Rattle.qrules.proofs.Lawful.{of_roster}

@@ -7,11 +7,11 @@ use Rattle.std.proofs.lemmas.Option.{none-some, same_Some}
 use Rattle.qbase.proofs.Lists.{all_filter_map}
 use Rattle.qqueue.specs.declared.item.Kind.{Kind}
 use Rattle.qtables.specs.declared.member.Member.{Member}
-use Rattle.qmodel.specs.Private.Cancelling.{buffer_of_wait}
-use Rattle.qmodel.specs.Private.Endings.{buffer_of_open}
-use Rattle.qmodel.specs.Private.Facts.{threads_of, Facts as OldFacts}
-use Rattle.qmodel.specs.Private.Lawful as old
-use Rattle.qmodel.specs.Private.Past.{open_call}
+use Rattle.qrules.specs.Private.Cancelling.{buffer_of_wait}
+use Rattle.qrules.specs.Private.Endings.{buffer_of_open}
+use Rattle.qrules.specs.Private.Facts.{threads_of, Facts as OldFacts}
+use Rattle.qrules.specs.Private.Lawful as old
+use Rattle.qrules.specs.Private.Past.{open_call}
 use Rattle.qmodel.specs.Trace.{Trace}
 use Rattle.qmodel.specs.declared.open_call.OpenCall.{OpenCall}
 use Rattle.qmodel.specs.declared.open_call.Receipt.{Receipt as OldReceipt}

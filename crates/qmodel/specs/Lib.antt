@@ -1,4 +1,3 @@
 pub mod Trace
 pub mod Buffers
 pub mod Kinds
-pub mod Private

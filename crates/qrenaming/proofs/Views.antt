@@ -9,8 +9,8 @@ use Rattle.qqueue.specs.declared.item.Item.{Item}
 use Rattle.qqueue.specs.declared.item.Kind.{Kind}
 use Rattle.qqueue.specs.declared.item.Kind.TheVariants.{Any, PulseOnly}
 use Rattle.qqueue.specs.declared.item.What.TheVariants.{User}
-use Rattle.qmodel.specs.Private.Facts.{threads_of, Facts as OldFacts}
-use Rattle.qmodel.specs.Private.Receivers.{wait_for, wait_on}
+use Rattle.qrules.specs.Private.Facts.{threads_of, Facts as OldFacts}
+use Rattle.qrules.specs.Private.Receivers.{wait_for, wait_on}
 use Rattle.qmodel.specs.declared.open_call.OpenCall.{OpenCall}
 use Rattle.qmodel.specs.declared.open_call.Receipt.{Receipt as KeptReceipt}
 use Rattle.qmodel.specs.declared.open_call.Wait.{Wait}

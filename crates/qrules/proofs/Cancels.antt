@@ -6,8 +6,8 @@ use Rattle.std.proofs.lemmas.Option.{none-some, same_Some}
 use Rattle.std.proofs.lemmas.List.Folds.{find-append}
 use Rattle.qbase.proofs.Lists.{is_among}
 use Rattle.qbase.specs.declared.errno.Errno.{Errno}
-use Rattle.qmodel.specs.Private.Cancelling.{cancel_where, cancels}
-use Rattle.qmodel.specs.Private.Facts.{threads_of, Facts as OldFacts}
+use Rattle.qrules.specs.Private.Cancelling.{cancel_where, cancels}
+use Rattle.qrules.specs.Private.Facts.{threads_of, Facts as OldFacts}
 use Rattle.qmodel.specs.declared.call.Completion.{Completion}
 use Rattle.qmodel.specs.declared.open_call.Receipt.{Receipt as OldReceipt}
 use Rattle.qmodel.specs.declared.open_call.Wait.{Wait}

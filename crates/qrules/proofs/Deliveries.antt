@@ -11,10 +11,10 @@ use Rattle.qmodel.specs.declared.call.Mark.TheVariants as mark
 use Rattle.qqueue.specs.Best.{is_pulse, may_take}
 use Rattle.qqueue.specs.declared.item.Item.{Item}
 use Rattle.qqueue.specs.declared.item.Kind.{Kind}
-use Rattle.qmodel.specs.Private.Delivering.{delivers, receipt_by, receiver, wants_room}
-use Rattle.qmodel.specs.Private.Facts.{first_where, threads_of, Facts as OldFacts}
-use Rattle.qmodel.specs.Private.Receivers.{is_newest, wait_on, newest_receiver as old_newest}
-use Rattle.qmodel.specs.Private.Rows.{receipt_ending}
+use Rattle.qrules.specs.Private.Delivering.{delivers, receipt_by, receiver, wants_room}
+use Rattle.qrules.specs.Private.Facts.{first_where, threads_of, Facts as OldFacts}
+use Rattle.qrules.specs.Private.Receivers.{is_newest, wait_on, newest_receiver as old_newest}
+use Rattle.qrules.specs.Private.Rows.{receipt_ending}
 use Rattle.qmodel.specs.declared.call.Completion.{Completion}
 use Rattle.qmodel.specs.declared.open_call.Wait.{Wait}
 use Rattle.qmodel.specs.declared.open_call.Wait.TheVariants.{Answer, Item as ForItem}

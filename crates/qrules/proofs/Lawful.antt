@@ -1,8 +1,8 @@
 -- A trace is lawful by the one model exactly where it is by the other.
 use Rattle.std.proofs.Common.{◌≡◌, ◌↔◌, List, [], ◌∷◌, refl, sym, subst}
 use Rattle.qtables.specs.declared.member.Member.{Member}
-use Rattle.qmodel.specs.Private.Lawful as old
-use Rattle.qmodel.specs.Private.OnlyRun as old_only
+use Rattle.qrules.specs.Private.Lawful as old
+use Rattle.qrules.specs.Private.OnlyRun as old_only
 use Rattle.qmodel.specs.Trace.{Event, Trace}
 use Rattle.qrules.specs.Lawful.{IsLawful, IsOnlyRun}
 use Rattle.qrules.specs.Outcome.{Answers}

@@ -1,3 +1,4 @@
+pub mod Traces
 pub mod Same
 pub mod Lists
 pub mod View

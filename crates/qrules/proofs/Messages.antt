@@ -4,12 +4,12 @@ use Rattle.std.specs.Prelude.{Option, None, Some, ◌&&◌, find, filter_map, op
 use Rattle.std.specs.List.{cons_option}
 use Rattle.std.proofs.lemmas.Bool.{true≢false}
 use Rattle.std.proofs.Math.Bool.{and-false}
-use Rattle.qmodel.specs.Private.Facts.{is_for_answer, is_send, sender, sender_among, threads_of, Facts as OldFacts}
+use Rattle.qrules.specs.Private.Facts.{is_for_answer, is_send, sender, sender_among, threads_of, Facts as OldFacts}
 use Rattle.qmodel.specs.declared.open_call.OpenCall.{OpenCall}
 use Rattle.qmodel.specs.declared.open_call.Receipt.{Receipt as OldReceipt}
 use Rattle.qmodel.specs.declared.open_call.Wait.{Wait}
 use Rattle.qmodel.specs.declared.open_call.Wait.TheVariants.{Answer, Item as ForItem}
-use Rattle.qmodel.proofs.Past.Senders.{sender_sends}
+use Rattle.qrules.proofs.Traces.Past.Senders.{sender_sends}
 use Rattle.qrules.specs.Facts.{OpenSend, open_send}
 use Rattle.qrules.specs.View.{receipt_view, send_in, send_view}
 use Rattle.qrules.proofs.Same.{facts_view}

@@ -6,8 +6,8 @@ use Rattle.std.specs.Option.{option_map_or}
 use Rattle.std.proofs.lemmas.Bool.{ltb-true, ltb-false, lt-ltb, le-ltb}
 use Rattle.std.proofs.Math.Bool.{or-true}
 use Rattle.qqueue.specs.Best.{may_take}
-use Rattle.qmodel.specs.Private.Facts.{first_where, threads_of, Facts as OldFacts}
-use Rattle.qmodel.specs.Private.Receivers.{is_after, is_last_wait, is_newest, wait_on, newest_receiver as old_newest}
+use Rattle.qrules.specs.Private.Facts.{first_where, threads_of, Facts as OldFacts}
+use Rattle.qrules.specs.Private.Receivers.{is_after, is_last_wait, is_newest, wait_on, newest_receiver as old_newest}
 use Rattle.qmodel.specs.declared.open_call.Wait.TheVariants.{Answer, Item as ForItem}
 use Rattle.qrules.specs.Facts.{OpenReceive}
 use Rattle.qrules.specs.Rule.{SentItem}

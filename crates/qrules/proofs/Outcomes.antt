@@ -4,16 +4,16 @@ use Rattle.std.specs.Prelude.{None, Some, is_some, find}
 use Rattle.std.specs.List.{filter_map}
 use Rattle.qbase.specs.declared.errno.Errno.{Errno}
 use Rattle.qbase.specs.declared.errno.Errno.TheVariants.{Down, Busy}
-use Rattle.qmodel.specs.Private.Answer as old
-use Rattle.qmodel.specs.Private.Calls.{row_of}
+use Rattle.qrules.specs.Private.Answer as old
+use Rattle.qrules.specs.Private.Calls.{row_of}
 use Rattle.qmodel.specs.Buffers.{buffer_of as old_buffer_of}
-use Rattle.qmodel.specs.Private.Facts.{threads_of, Facts as OldFacts}
+use Rattle.qrules.specs.Private.Facts.{threads_of, Facts as OldFacts}
 use Rattle.qmodel.specs.declared.call.Call.{Call}
 use Rattle.qmodel.specs.declared.call.Call.TheVariants as calls
 use Rattle.qmodel.specs.declared.call.Completion.{Completion}
 use Rattle.qmodel.specs.declared.call.Mark.TheVariants as mark
-use Rattle.qmodel.proofs.Past.Ends.{row_passes}
-use Rattle.qmodel.proofs.Rosters.{filter_map_same}
+use Rattle.qrules.proofs.Traces.Past.Ends.{row_passes}
+use Rattle.qrules.proofs.Traces.Rosters.{filter_map_same}
 use Rattle.qrules.specs.Outcome.{first_refusal, row, Answers, MayRefuse, Outcome}
 use Rattle.qrules.specs.Rule.{buffer_of}
 use Rattle.qrules.specs.Rules.{effect_of}

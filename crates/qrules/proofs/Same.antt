@@ -2,7 +2,7 @@
 use Rattle.std.specs.Prelude.{◌≡◌, filter_map, is_some, true, List}
 use Rattle.qtables.specs.Members.{member_at}
 use Rattle.qtables.specs.declared.member.Member.{Member}
-use Rattle.qmodel.specs.Private.Facts.{Facts as OldFacts}
+use Rattle.qrules.specs.Private.Facts.{Facts as OldFacts}
 use Rattle.qrules.specs.Trace.{InEachEvent, Trace}
 use Rattle.qrules.specs.Facts.{threads_of, Facts}
 use Rattle.qrules.specs.View.{receive_view, send_view}

@@ -2,12 +2,12 @@
 use Rattle.std.proofs.Common.{◌≡◌, ◌∙◌, ℕ, refl, ap, sym, cond, true, false}
 use Rattle.std.specs.Option.{option_map_or}
 use Rattle.qtables.specs.Members.{member_at}
-use Rattle.qmodel.specs.Private.Facts as old
+use Rattle.qrules.specs.Private.Facts as old
 use Rattle.std.specs.Prelude.{Option, None, Some, is_some, ◌||◌, ◌&&◌, ◌==◌, option_and_then}
 use Rattle.std.proofs.lemmas.Bool.{true≢false}
 use Rattle.std.proofs.lemmas.Option.{none-some, same_Some}
 use Rattle.qbase.proofs.Lists.{is_among}
-use Rattle.qmodel.specs.Private.Facts.{threads_of, Facts as OldFacts}
+use Rattle.qrules.specs.Private.Facts.{threads_of, Facts as OldFacts}
 use Rattle.qmodel.specs.declared.open_call.OpenCall.{OpenCall}
 use Rattle.qmodel.specs.declared.open_call.Wait.TheVariants.{Answer, Item as ForItem}
 use Rattle.qrules.specs.Facts.{is_blocked, is_of_process, is_of_same_process, owns, receive_of, route, send_of, OpenReceive, OpenSend}

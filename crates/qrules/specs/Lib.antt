@@ -9,3 +9,4 @@ pub mod Past
 pub mod Lawful
 pub mod Properties
 pub mod View
+pub mod Private

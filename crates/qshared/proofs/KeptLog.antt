@@ -12,22 +12,22 @@ use Rattle.qtables.specs.declared.member.Member.{Member}
 use Rattle.qmodel.specs.declared.call.Call.{Call}
 use Rattle.qmodel.specs.declared.call.Call.TheVariants.{Shutdown}
 use Rattle.qmodel.specs.declared.call.Completion.{Completion}
-use Rattle.qmodel.specs.Private.Answer.{Answers, refusal}
-use Rattle.qmodel.specs.Private.Endings.{AreApart, GoesToBlocked, buffer_brought, gets}
-use Rattle.qmodel.specs.Private.Facts.{threads_of}
-use Rattle.qmodel.specs.Private.Lawful.{IsLawful, facts_of, with_event}
-use Rattle.qmodel.specs.Private.Past.{open_call}
-use Rattle.qmodel.specs.Private.Past as old_past
+use Rattle.qrules.specs.Private.Answer.{Answers, refusal}
+use Rattle.qrules.specs.Private.Endings.{AreApart, GoesToBlocked, buffer_brought, gets}
+use Rattle.qrules.specs.Private.Facts.{threads_of}
+use Rattle.qrules.specs.Private.Lawful.{IsLawful, facts_of, with_event}
+use Rattle.qrules.specs.Private.Past.{open_call}
+use Rattle.qrules.specs.Private.Past as old_past
 use Rattle.qrules.specs.Facts.{is_blocked}
 use Rattle.qrules.specs.Lawful as rules
 use Rattle.qrules.specs.Outcome as outcome
 use Rattle.qrules.specs.Rules.{effect_of}
 use Rattle.qrules.specs.Trace.{followed_by, Event, Trace}
 use Rattle.qrules.proofs.Past.Done.{same_down}
-use Rattle.qmodel.proofs.Past.Ends.{accepted}
-use Rattle.qmodel.proofs.Rosters.{known}
-use Rattle.qmodel.proofs.TraceLaws.Blocked.{blocked_unless_ended, endings_are_apart, endings_go_to_blocked}
-use Rattle.qmodel.proofs.TraceLaws.Lengths.{after_fits, ending_fits}
+use Rattle.qrules.proofs.Traces.Past.Ends.{accepted}
+use Rattle.qrules.proofs.Traces.Rosters.{known}
+use Rattle.qrules.proofs.Traces.TraceLaws.Blocked.{blocked_unless_ended, endings_are_apart, endings_go_to_blocked}
+use Rattle.qrules.proofs.Traces.TraceLaws.Lengths.{after_fits, ending_fits}
 use Rattle.qkernel.specs.EventLog.{Logged, with_next}
 use Rattle.qshared.specs.Due.{place}
 use Rattle.qshared.specs.Past.{is_down}

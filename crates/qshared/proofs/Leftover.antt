@@ -9,11 +9,11 @@ use lib.ListN.{get_elem?}
 use Rattle.qbase.proofs.Lists.{all_more}
 use Rattle.qmodel.specs.declared.call.Completion.{Completion}
 use Rattle.qmodel.specs.Trace.{Trace}
-use Rattle.qmodel.proofs.Rosters.{Rises, all_at}
+use Rattle.qrules.proofs.Traces.Rosters.{Rises, all_at}
 use Rattle.qhandoff.specs.Words.{AreBelow, left_for}
 use Rattle.qhandoff.specs.Words as cells
-use Rattle.qmodel.specs.Private.Facts.{threads_of}
-use Rattle.qmodel.proofs.Rosters.{among_member}
+use Rattle.qrules.specs.Private.Facts.{threads_of}
+use Rattle.qrules.proofs.Traces.Rosters.{among_member}
 use Rattle.qtables.specs.declared.member.Member.{Member}
 use Rattle.qhandoff.specs.declared.seats.ThreadSeat.{ThreadSeat}
 use Rattle.qhandoff.specs.Words.{took}

@@ -6,7 +6,7 @@ use Rattle.std.proofs.lemmas.Bool.{eqb-true, ne_eqb, eq-eqb, true≢false}
 use Rattle.std.proofs.lemmas.Iterator.Adapters.{position_from-zero}
 use Rattle.std.proofs.lemmas.Option.{same_Some, none-some}
 use Rattle.qbase.proofs.Lists.{is_among}
-use Rattle.qmodel.proofs.Rosters.{Rises}
+use Rattle.qrules.proofs.Traces.Rosters.{Rises}
 use Rattle.qrules.specs.Facts.{threads_of}
 use Rattle.qstate.specs.declared.seat.Seat.{Seat}
 use Rattle.qstate.specs.declared.thread.Thread.{Thread}

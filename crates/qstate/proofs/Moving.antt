@@ -8,8 +8,8 @@ use Rattle.qqueue.specs.Best.{with_item_priority, with_priority}
 use Rattle.qqueue.specs.declared.item.Item.{Item}
 use Rattle.qtables.specs.Entries.{entry_at}
 use Rattle.qtables.specs.declared.connection.Connection.{Connection}
-use Rattle.qmodel.specs.Private.Cancelling.{is_to}
-use Rattle.qmodel.specs.Private.Step.{is_unread_send}
+use Rattle.qrules.specs.Private.Cancelling.{is_to}
+use Rattle.qrules.specs.Private.Step.{is_unread_send}
 use Rattle.qmodel.specs.declared.open_call.OpenCall.{OpenCall}
 use Rattle.qmodel.specs.declared.open_call.Wait.{Wait}
 use Rattle.qmodel.specs.declared.open_call.Wait.TheVariants.{Answer, Item as ForItem}

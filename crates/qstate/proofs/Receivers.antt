@@ -12,12 +12,12 @@ use Rattle.qmodel.specs.declared.open_call.OpenCall.{OpenCall}
 use Rattle.qmodel.specs.declared.open_call.Wait.{Wait}
 use Rattle.qmodel.specs.declared.open_call.Wait.TheVariants.{Answer, Item as ForItem}
 use Rattle.qstate.specs.declared.thread.Thread.{Thread}
-use Rattle.qmodel.specs.Private.Facts.{threads_of, first_where}
-use Rattle.qmodel.specs.Private.Receivers.{is_after, wait_on}
-use Rattle.qmodel.specs.Private.Rows.{receipt_ending, takes, takes_into}
+use Rattle.qrules.specs.Private.Facts.{threads_of, first_where}
+use Rattle.qrules.specs.Private.Receivers.{is_after, wait_on}
+use Rattle.qrules.specs.Private.Rows.{receipt_ending, takes, takes_into}
 use Rattle.qstate.specs.declared.open.OpenReceive.{OpenReceive}
 use Rattle.qstate.specs.Open.{receive_in}
-use Rattle.qmodel.proofs.Properties.Receivers.{after_less, any_after, newest_parts}
+use Rattle.qrules.proofs.Traces.Properties.Receivers.{after_less, any_after, newest_parts}
 use Rattle.qstate.specs.Thread.{later_of_two, newest_in, open_in}
 use Rattle.qstate.specs.Kept.{members_of}
 use Rattle.qbase.proofs.Lists.{is_among}

@@ -12,11 +12,11 @@ use Rattle.qstate.specs.declared.channel.Channel.{Channel}
 use Rattle.qmodel.specs.declared.open_call.OpenCall.{OpenCall}
 use Rattle.qmodel.specs.declared.open_call.Wait.{Wait}
 use Rattle.qmodel.specs.declared.open_call.Wait.TheVariants.{Answer, Item as ForItem}
-use Rattle.qmodel.specs.Private.Held.{Finish, answer_ending}
+use Rattle.qrules.specs.Private.Held.{Finish, answer_ending}
 use Rattle.qstate.specs.declared.open.OpenSend.{OpenSend}
 use Rattle.qstate.specs.Open.{send_in}
 use Rattle.qstate.specs.declared.thread.Thread.{Thread}
-use Rattle.qmodel.specs.Private.Facts.{threads_of, is_send, sender_among, message_in}
+use Rattle.qrules.specs.Private.Facts.{threads_of, is_send, sender_among, message_in}
 use Rattle.qstate.specs.Held.{is_held_in, is_held_over}
 use Rattle.qstate.specs.Thread.{held_over_in, open_in, seat_in, sender_in, sent_call, message_from, ChangesOpen, ChangesSender}
 use Rattle.qstate.specs.Kept.{members_of}

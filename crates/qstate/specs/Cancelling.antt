@@ -9,9 +9,9 @@ use Rattle.qmodel.specs.declared.call.Completion.{Completion}
 use Rattle.qmodel.specs.declared.open_call.OpenCall.{OpenCall}
 use Rattle.qmodel.specs.declared.open_call.Wait.{Wait}
 use Rattle.qmodel.specs.declared.open_call.Wait.TheVariants.{Answer, Item as ForItem}
-use Rattle.qmodel.specs.Private.Cancelling.{is_on, is_over, cancel_where}
-use Rattle.qmodel.specs.Private.Step.{is_unread_send}
-use Rattle.qmodel.specs.Private.Facts.{threads_of}
+use Rattle.qrules.specs.Private.Cancelling.{is_on, is_over, cancel_where}
+use Rattle.qrules.specs.Private.Step.{is_unread_send}
+use Rattle.qrules.specs.Private.Facts.{threads_of}
 use Rattle.qstate.specs.declared.channel.Channel.{Channel}
 use Rattle.qstate.specs.declared.cancelling.CancelSet.{CancelSet}
 use Rattle.qstate.specs.declared.cancelling.CancelSet.TheVariants.{On, All, Of, Over}

@@ -6,7 +6,7 @@ use Rattle.qtables.specs.declared.connection.Connection.{Connection}
 use Rattle.qmodel.specs.declared.open_call.OpenCall.{OpenCall}
 use Rattle.qmodel.specs.declared.open_call.Wait.{Wait}
 use Rattle.qmodel.specs.declared.open_call.Wait.TheVariants.{Answer, Item as ForItem}
-use Rattle.qmodel.specs.Private.Facts.{tells_unblock}
+use Rattle.qrules.specs.Private.Facts.{tells_unblock}
 use Rattle.qstate.specs.declared.channel.Channel.{Channel}
 use Rattle.qstate.specs.declared.held.Held.{Held}
 use Rattle.qstate.specs.declared.thread.Thread.{Thread}

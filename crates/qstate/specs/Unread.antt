@@ -3,7 +3,7 @@ use Rattle.std.specs.Prelude.{◌≡◌, ℕ, List, map, Option, None, Some, if�
 use Rattle.qqueue.specs.Best.{with_priority}
 use Rattle.qtables.specs.Entries.{entry_at}
 use Rattle.qtables.specs.declared.connection.Connection.{Connection}
-use Rattle.qmodel.specs.Private.Step.{is_unread_send}
+use Rattle.qrules.specs.Private.Step.{is_unread_send}
 use Rattle.qmodel.specs.declared.open_call.OpenCall.{OpenCall}
 use Rattle.qmodel.specs.declared.open_call.Wait.{Wait}
 use Rattle.qmodel.specs.declared.open_call.Wait.TheVariants.{Answer, Item as ForItem}

@@ -2,11 +2,11 @@
 
 ghost use Rattle.std.specs.Prelude.{◌≡◌, None, Some, is_some, option_map, IfNone, IfSome};
 ghost use Rattle.qbase.specs.Laying.{laid_count, lay_over};
-ghost use Rattle.qmodel.specs.Private.Calls.Info.{info_of_open};
-ghost use Rattle.qmodel.specs.Private.Facts.{message_in};
-ghost use Rattle.qmodel.specs.Private.Held.{reply_buffer_in, reply_buffer_of};
-ghost use Rattle.qmodel.specs.Private.Rows.{with_buffer};
-ghost use Rattle.qmodel.specs.Private.Step.{unblocked_call, unblocked_wait, written_call};
+ghost use Rattle.qrules.specs.Private.Calls.Info.{info_of_open};
+ghost use Rattle.qrules.specs.Private.Facts.{message_in};
+ghost use Rattle.qrules.specs.Private.Held.{reply_buffer_in, reply_buffer_of};
+ghost use Rattle.qrules.specs.Private.Rows.{with_buffer};
+ghost use Rattle.qrules.specs.Private.Step.{unblocked_call, unblocked_wait, written_call};
 ghost use Rattle.qstate.specs.Held.{guarded_message_in, held_message_in, is_held_in};
 ghost use Rattle.qstate.specs.Open.{send_in};
 ghost use Rattle.qstate.specs.Thread.{open_in, sender_in, ChangesOpen, SetsOpen};

@@ -2,9 +2,9 @@
 
 ghost use Rattle.std.specs.Prelude.{◌≡◌, false, option_map};
 ghost use Rattle.qbase.specs.Laying.{laid_count, lay_over};
-ghost use Rattle.qmodel.specs.Private.Facts.{is_send, message_in};
-ghost use Rattle.qmodel.specs.Private.Receivers.{wait_on};
-ghost use Rattle.qmodel.specs.Private.Step.{held_call};
+ghost use Rattle.qrules.specs.Private.Facts.{is_send, message_in};
+ghost use Rattle.qrules.specs.Private.Receivers.{wait_on};
+ghost use Rattle.qrules.specs.Private.Step.{held_call};
 ghost use Rattle.qstate.specs.Thread.{held_over_in};
 
 use qbase::bytes::Bytes;

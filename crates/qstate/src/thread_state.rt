@@ -2,7 +2,7 @@
 
 ghost use Rattle.std.specs.Prelude.{◌≡◌};
 ghost use Rattle.qtables.specs.Entries.{entry_at};
-ghost use Rattle.qmodel.specs.Private.ThreadState.{channel_over, state_of, state_in};
+ghost use Rattle.qrules.specs.Private.ThreadState.{channel_over, state_of, state_in};
 ghost use Rattle.qstate.specs.Thread.{open_in};
 ghost use Rattle.qstate.specs.Threads.{IsSeatIn};
 

@@ -2,7 +2,7 @@
 
 ghost use Rattle.std.specs.Prelude.{◌≡◌, ◌<◌, ◌≤◌, None, Some, true, is_some, length, map, IfOk, IfSome};
 ghost use Rattle.qtables.specs.Members.{member_at, IsRoster};
-ghost use Rattle.qmodel.specs.Private.Facts.{is_in_process};
+ghost use Rattle.qrules.specs.Private.Facts.{is_in_process};
 ghost use Rattle.qstate.specs.Kept.{members_of};
 ghost use Rattle.qstate.specs.Open.{receive_in, send_in};
 ghost use Rattle.qstate.specs.Thread.{ready_thread, open_in, seat_in, SetsOpen, SetsPriority, Wakes};

@@ -8,9 +8,9 @@ use Rattle.qqueue.specs.declared.item.Item.{Item}
 use Rattle.qtables.specs.Entries.{entry_at}
 use Rattle.qtables.specs.Members.{member_at}
 use Rattle.qtables.specs.declared.member.Member.{Member}
-use Rattle.qmodel.specs.Private.Answer.{refusal_ending}
-use Rattle.qmodel.specs.Private.Facts.{owns}
-use Rattle.qmodel.specs.Private.Step.{uncut_items}
+use Rattle.qrules.specs.Private.Answer.{refusal_ending}
+use Rattle.qrules.specs.Private.Facts.{owns}
+use Rattle.qrules.specs.Private.Step.{uncut_items}
 use Rattle.qmodel.specs.declared.call.Call.TheVariants.{ChannelDestroy}
 use Rattle.qmodel.specs.declared.call.Completion.{Completion}
 use Rattle.qstate.specs.Channel.{ClosesIn, is_of}

@@ -14,21 +14,21 @@ use Rattle.qstate.specs.declared.channel.Channel.{Channel}
 use Rattle.qstate.specs.declared.thread.Thread.{Thread}
 use Rattle.qbase.specs.declared.errno.Errno.{Errno}
 use Rattle.qqueue.specs.declared.item.Item.{Item}
-use Rattle.qmodel.specs.Private.Answer.{MayRefuse, refusal_ending, refusal}
-use Rattle.qmodel.specs.Private.Calls.{row_of}
-use Rattle.qmodel.specs.Private.Effects.{closes, makes, sets}
-use Rattle.qmodel.specs.Private.Rows.{names}
-use Rattle.qmodel.specs.Private.Step.{uncut_items, items_with_priority_set, pending_after, unreceived_items}
-use Rattle.qmodel.specs.Private.Past.{made_on}
-use Rattle.qmodel.proofs.Past.Cancels.{EndsSettled, none_cancelled}
-use Rattle.qmodel.proofs.Past.Ends.{row_passes}
-use Rattle.qmodel.proofs.Past.Laws.{is_forceful}
-use Rattle.qmodel.proofs.Calls.{row_laws}
+use Rattle.qrules.specs.Private.Answer.{MayRefuse, refusal_ending, refusal}
+use Rattle.qrules.specs.Private.Calls.{row_of}
+use Rattle.qrules.specs.Private.Effects.{closes, makes, sets}
+use Rattle.qrules.specs.Private.Rows.{names}
+use Rattle.qrules.specs.Private.Step.{uncut_items, items_with_priority_set, pending_after, unreceived_items}
+use Rattle.qrules.specs.Private.Past.{made_on}
+use Rattle.qrules.proofs.Traces.Past.Cancels.{EndsSettled, none_cancelled}
+use Rattle.qrules.proofs.Traces.Past.Ends.{row_passes}
+use Rattle.qrules.proofs.Traces.Past.Laws.{is_forceful}
+use Rattle.qrules.proofs.Traces.Calls.{row_laws}
 use Rattle.qstate.specs.Channel.{ids_of, is_of, route_in}
 use Rattle.qstate.specs.Kept.{channel_in, pending_in}
-use Rattle.qmodel.specs.Private.Facts.{Facts, is_in_process}
+use Rattle.qrules.specs.Private.Facts.{Facts, is_in_process}
 use Rattle.qmodel.specs.Trace.{OpenChannel}
-use Rattle.qmodel.proofs.Parts.{is_owned_by, leads_to}
+use Rattle.qrules.proofs.Traces.Parts.{is_owned_by, leads_to}
 use Rattle.qkernel.specs.Kernel.{State, IsSound}
 use Rattle.qkernel.specs.Private.Steps.{Steps, facts_in}
 use Rattle.qstate.specs.Thread.{open_in}

@@ -9,15 +9,15 @@ use Rattle.qtables.specs.declared.member.Member.{Member}
 use Rattle.qmodel.specs.declared.call.Call.TheVariants.{ConnectAttach}
 use Rattle.qmodel.specs.declared.call.Completion.{Completion}
 use Rattle.qmodel.specs.declared.call.Mark.TheVariants as mark
-use Rattle.qmodel.specs.Private.Answer.{MayRefuse, refusal_ending}
+use Rattle.qrules.specs.Private.Answer.{MayRefuse, refusal_ending}
 use Rattle.qstate.specs.Kept.{channel_in}
-use Rattle.qmodel.specs.Private.Effects.{attaches}
+use Rattle.qrules.specs.Private.Effects.{attaches}
 use Rattle.qkernel.specs.Kernel.{State, IsSound}
 use Rattle.qkernel.specs.Private.Steps.{Steps, facts_in}
-use Rattle.qmodel.specs.Private.Step.{put_at, one_for}
+use Rattle.qrules.specs.Private.Step.{put_at, one_for}
 use Rattle.qstate.specs.Thread.{open_in}
 use Rattle.qstate.specs.Kept.{members_of}
-use Rattle.qmodel.proofs.Rosters.{rises, among, only_own}
+use Rattle.qrules.proofs.Traces.Rosters.{rises, among, only_own}
 use Rattle.qbase.proofs.Lists.{all_append}
 use Rattle.qkernel.proofs.Steps.Common.{uncut, counted, step_refused_alone, all_up_to, stays_free, up_to_below}
 use Rattle.qkernel.proofs.Tables.{entry_at-push, length-push, rising_push}

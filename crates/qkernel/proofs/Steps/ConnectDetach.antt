@@ -16,16 +16,16 @@ use Rattle.qtables.specs.Entries.{entry_at, without_entry}
 use Rattle.qtables.specs.Members.{member_at}
 use Rattle.qtables.specs.declared.connection.Connection.{Connection}
 use Rattle.qtables.specs.declared.member.Member.{Member}
-use Rattle.qmodel.specs.Private.Answer.{MayRefuse, ending, refusal_ending}
-use Rattle.qmodel.specs.Private.Calls.ConnectDetach.{connection_between, connections_between, due_pulse}
-use Rattle.qmodel.proofs.Parts.{due_pulse_over, is_own}
-use Rattle.qmodel.specs.Private.Cancelling.{cancel_where, is_on, is_over}
-use Rattle.qmodel.specs.Private.Facts.{tells_disconnect, threads_of}
-use Rattle.qmodel.specs.Private.Pulses.{refusal_if_full_for, ends_receiver, pulse_receipt}
-use Rattle.qmodel.specs.Private.Rows.{Received, disconnect_item}
+use Rattle.qrules.specs.Private.Answer.{MayRefuse, ending, refusal_ending}
+use Rattle.qrules.specs.Private.Calls.ConnectDetach.{connection_between, connections_between, due_pulse}
+use Rattle.qrules.proofs.Traces.Parts.{due_pulse_over, is_own}
+use Rattle.qrules.specs.Private.Cancelling.{cancel_where, is_on, is_over}
+use Rattle.qrules.specs.Private.Facts.{tells_disconnect, threads_of}
+use Rattle.qrules.specs.Private.Pulses.{refusal_if_full_for, ends_receiver, pulse_receipt}
+use Rattle.qrules.specs.Private.Rows.{Received, disconnect_item}
 use Rattle.qmodel.specs.Trace.{SentItem}
-use Rattle.qmodel.specs.Private.Step.{is_cancelled, uncut_items, unreceived_items, unless, is_unread_send}
-use Rattle.qmodel.specs.Private.Past.{made_on}
+use Rattle.qrules.specs.Private.Step.{is_cancelled, uncut_items, unreceived_items, unless, is_unread_send}
+use Rattle.qrules.specs.Private.Past.{made_on}
 use Rattle.qmodel.specs.declared.call.Call.TheVariants.{ConnectDetach}
 use Rattle.qmodel.specs.declared.call.Completion.{Completion}
 use Rattle.qmodel.specs.declared.open_call.Wait.TheVariants.{Item as ForItem}
@@ -37,15 +37,15 @@ use Rattle.qstate.specs.Kept.{channel_in, pending_in}
 use Rattle.qstate.specs.Cancelling.{AreCancelled, LoseCancelled, ending_for, is_cancelled_among}
 use Rattle.qstate.specs.Endings.{with_ending_if}
 use Rattle.qstate.specs.Pulses.{has_room}
-use Rattle.qmodel.specs.Private.Receivers.{newest_receiver}
+use Rattle.qrules.specs.Private.Receivers.{newest_receiver}
 use Rattle.qstate.specs.Thread.{newest_in, open_in}
 use Rattle.qstate.specs.Kept.{thread_priority, members_of}
 use Rattle.qkernel.specs.Kernel.{State, IsSound}
 use Rattle.qkernel.specs.Private.Steps.{Steps, facts_in}
 use Rattle.qtables.proofs.LookUps.{entry_at-without_entry}
-use Rattle.qmodel.proofs.Calls.Cancelling.{cancel_parts}
+use Rattle.qrules.proofs.Traces.Calls.Cancelling.{cancel_parts}
 use Rattle.qbase.proofs.Lists.{all_filter, cond_same, filter_twice, or_none}
-use Rattle.qmodel.proofs.Rosters.{filter_map_same}
+use Rattle.qrules.proofs.Traces.Rosters.{filter_map_same}
 use Rattle.qkernel.proofs.Tables.{count_picked, rising_without}
 use Rattle.qkernel.proofs.Steps.Common.{all_up_to, counted, step_refused_alone}
 use Rattle.qkernel.proofs.Steps.Cancelling.{mine, sound_less}

@@ -16,22 +16,22 @@ use Rattle.qmodel.specs.declared.open_call.OpenCall.{OpenCall}
 use Rattle.qmodel.specs.declared.open_call.Wait.{Wait}
 use Rattle.qmodel.specs.declared.open_call.Wait.TheVariants.{Answer, Item as ForItem}
 use Rattle.qstate.specs.declared.thread.Thread.{Thread}
-use Rattle.qmodel.specs.Private.Answer.{refusal_ending}
-use Rattle.qmodel.specs.Private.Calls.{row_of}
+use Rattle.qrules.specs.Private.Answer.{refusal_ending}
+use Rattle.qrules.specs.Private.Calls.{row_of}
 use Rattle.qstate.specs.Kept.{channel_in}
 use Rattle.qstate.specs.Endings.{with_ending_in_place}
-use Rattle.qmodel.specs.Private.Facts.{is_send, sender, sender_among, threads_of}
-use Rattle.qmodel.specs.Private.Held.{Finish, ends_sender, answer_ending, answer_ending_of_wait, refusal}
-use Rattle.qmodel.proofs.Parts.{owns_end, is_held_for}
+use Rattle.qrules.specs.Private.Facts.{is_send, sender, sender_among, threads_of}
+use Rattle.qrules.specs.Private.Held.{Finish, ends_sender, answer_ending, answer_ending_of_wait, refusal}
+use Rattle.qrules.proofs.Traces.Parts.{owns_end, is_held_for}
 use Rattle.qstate.specs.Held.{leads_to_own, is_held_over, is_held_in}
 use Rattle.qkernel.specs.Kernel.{State, IsSound}
 use Rattle.qkernel.specs.Private.Steps.{Steps, facts_in}
-use Rattle.qmodel.specs.Private.Step.{unless}
+use Rattle.qrules.specs.Private.Step.{unless}
 use Rattle.qstate.specs.Thread.{open_in, held_over_in, sender_in, sent_call, SetsOpen}
 use Rattle.qstate.specs.Kept.{members_of}
 use Rattle.qstate.proofs.Inserting.{two_endings}
 use Rattle.qbase.proofs.Lists.{is_among, cond_same}
-use Rattle.qmodel.proofs.Rosters.{rises, among, filter_map_same}
+use Rattle.qrules.proofs.Traces.Rosters.{rises, among, filter_map_same}
 use Rattle.qkernel.proofs.Steps.Common.{counted, step_refused_alone, owned_by_member}
 
 module _ (s : State) (t : ℕ) (m : Member) (i : ℕ) (sound : IsSound s) (known : member_at (members_of s.threads) t ≡ Some m) where

@@ -15,8 +15,8 @@ use Rattle.qmodel.specs.declared.open_call.Wait.{Wait}
 use Rattle.qmodel.specs.declared.open_call.Wait.TheVariants.{Answer, Item as ForItem}
 use Rattle.qstate.specs.declared.thread.Thread.{Thread}
 use Rattle.qmodel.specs.declared.call.Info.{Info as Told}
-use Rattle.qmodel.specs.Private.Calls.Info.{info_of, info_of_open, info_ending}
-use Rattle.qmodel.specs.Private.Facts.{sender, threads_of}
+use Rattle.qrules.specs.Private.Calls.Info.{info_of, info_of_open, info_ending}
+use Rattle.qrules.specs.Private.Facts.{sender, threads_of}
 use Rattle.qstate.specs.Held.{is_held_in, is_held_over}
 use Rattle.qkernel.specs.Kernel.{State, IsSound}
 use Rattle.qkernel.specs.Private.Steps.{Steps, facts_in}
@@ -25,7 +25,7 @@ use Rattle.qstate.specs.Thread.{held_over_in, open_in, sender_in}
 use Rattle.qstate.specs.Threads.{IsRecordOf}
 use Rattle.qstate.specs.Kept.{members_of}
 use Rattle.qstate.proofs.Senders.{held_sent, sender_of_held}
-use Rattle.qmodel.proofs.Rosters.{among, only_own, rises}
+use Rattle.qrules.proofs.Traces.Rosters.{among, only_own, rises}
 use Rattle.qrules.specs.Rules.Held as rules
 use Rattle.qrules.proofs.Rows.Held.{info_same}
 use Rattle.qkernel.proofs.Contents.{content_same, open_among}

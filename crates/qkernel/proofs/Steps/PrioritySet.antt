@@ -11,8 +11,8 @@ use Rattle.qqueue.specs.declared.item.Item.{Item}
 use Rattle.qtables.specs.Entries.{entry_at}
 use Rattle.qtables.specs.Members.{member_at}
 use Rattle.qtables.specs.declared.member.Member.{Member}
-use Rattle.qmodel.specs.Private.Answer.{refusal_ending}
-use Rattle.qmodel.specs.Private.Facts.{is_in_process}
+use Rattle.qrules.specs.Private.Answer.{refusal_ending}
+use Rattle.qrules.specs.Private.Facts.{is_in_process}
 use Rattle.qmodel.specs.declared.call.Call.TheVariants.{PrioritySet}
 use Rattle.qmodel.specs.declared.call.Completion.{Completion}
 use Rattle.qmodel.specs.declared.call.Mark.TheVariants as mark
@@ -24,9 +24,9 @@ use Rattle.qstate.specs.Kept.{pending_in}
 use Rattle.qstate.specs.Thread.{open_in, SetsPriority}
 use Rattle.qstate.specs.Kept.{thread_priority, members_of}
 use Rattle.qstate.specs.Unread.{MovesUnread}
-use Rattle.qmodel.specs.Private.Step.{items_with_priority_set, is_unread_send}
-use Rattle.qmodel.proofs.Past.Cancels.{none_cancelled}
-use Rattle.qmodel.proofs.Rosters.{among, only_own, rises}
+use Rattle.qrules.specs.Private.Step.{items_with_priority_set, is_unread_send}
+use Rattle.qrules.proofs.Traces.Past.Cancels.{none_cancelled}
+use Rattle.qrules.proofs.Traces.Rosters.{among, only_own, rises}
 use Rattle.qbase.proofs.Lists.{all_map, all_more}
 use Rattle.qkernel.proofs.Steps.Delivering.{sound_threads}
 use Rattle.qkernel.proofs.Steps.Common.{count_same, counted, stays_free, step_refused_alone}

@@ -8,16 +8,16 @@ use Rattle.qtables.specs.Members.{member_at}
 use Rattle.qtables.specs.declared.member.Member.{Member}
 use Rattle.qmodel.specs.declared.call.Call.TheVariants.{Pulse}
 use Rattle.qmodel.specs.declared.call.Completion.{Completion}
-use Rattle.qmodel.specs.Private.Answer.{MayRefuse, refusal_ending}
-use Rattle.qmodel.specs.Private.Calls.Pulse.{is_negative}
+use Rattle.qrules.specs.Private.Answer.{MayRefuse, refusal_ending}
+use Rattle.qrules.specs.Private.Calls.Pulse.{is_negative}
 use Rattle.qstate.specs.Channel.{route_in}
 use Rattle.qstate.specs.Pulses.{has_room}
-use Rattle.qmodel.specs.Private.Facts.{route}
-use Rattle.qmodel.specs.Private.Rows.{pulse_item}
-use Rattle.qmodel.specs.Private.Pulses.{refusal_if_full, ends_receiver, pulse_receipt, wants_room_for}
+use Rattle.qrules.specs.Private.Facts.{route}
+use Rattle.qrules.specs.Private.Rows.{pulse_item}
+use Rattle.qrules.specs.Private.Pulses.{refusal_if_full, ends_receiver, pulse_receipt, wants_room_for}
 use Rattle.qkernel.specs.Kernel.{State}
 use Rattle.qkernel.specs.Private.Steps.{Steps, facts_in}
-use Rattle.qmodel.specs.Private.Receivers.{newest_receiver}
+use Rattle.qrules.specs.Private.Receivers.{newest_receiver}
 use Rattle.qstate.specs.Thread.{newest_in, open_in}
 use Rattle.qstate.specs.Kept.{members_of}
 use Rattle.qkernel.proofs.Steps.Common.{counted, step_refused_alone, route-leads_to}

@@ -12,7 +12,7 @@ use Rattle.qkernel.specs.Kernel.{State, IsSound}
 use Rattle.qkernel.specs.Private.Steps.{Steps}
 use Rattle.qstate.specs.Thread.{message_from, open_in}
 use Rattle.qstate.specs.Kept.{members_of}
-use Rattle.qmodel.proofs.Rosters.{among, only_own, rises}
+use Rattle.qrules.proofs.Traces.Rosters.{among, only_own, rises}
 use Rattle.qkernel.proofs.Steps.Common.{uncut, counted, stays_free}
 use Rattle.qkernel.proofs.Steps.Held.{is_held}
 

@@ -7,9 +7,9 @@ use Rattle.qmodel.specs.declared.call.Call.TheVariants.{Reply}
 use Rattle.qmodel.specs.declared.call.Completion.{Completion}
 use Rattle.qmodel.specs.declared.call.Mark.TheVariants as mark
 use Rattle.qstate.specs.declared.thread.Thread.{Thread}
-use Rattle.qmodel.specs.Private.Calls.Reply.{reply_finish}
+use Rattle.qrules.specs.Private.Calls.Reply.{reply_finish}
 use Rattle.qstate.specs.Endings.{with_ending_in_place}
-use Rattle.qmodel.specs.Private.Held.{answer_ending}
+use Rattle.qrules.specs.Private.Held.{answer_ending}
 use Rattle.qstate.specs.Held.{is_held_in}
 use Rattle.qkernel.specs.Kernel.{State, IsSound}
 use Rattle.qkernel.specs.Private.Steps.{Steps}

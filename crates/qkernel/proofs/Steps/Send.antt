@@ -17,20 +17,20 @@ use Rattle.qmodel.specs.declared.open_call.OpenCall.{OpenCall}
 use Rattle.qmodel.specs.declared.open_call.Receipt.{Receipt}
 use Rattle.qmodel.specs.declared.open_call.Wait.TheVariants.{Answer}
 use Rattle.qstate.specs.declared.thread.Thread.{Thread}
-use Rattle.qmodel.specs.Private.Answer.{refusal_ending, ending}
+use Rattle.qrules.specs.Private.Answer.{refusal_ending, ending}
 use Rattle.qstate.specs.Channel.{route_in, SetsItems}
 use Rattle.qstate.specs.Kept.{pending_in}
-use Rattle.qmodel.specs.Private.Facts.{route, threads_of}
-use Rattle.qmodel.specs.Private.Receivers.{newest_receiver}
-use Rattle.qmodel.specs.Private.Rows.{message_item, takes, item_in_mark, item_sent_over}
+use Rattle.qrules.specs.Private.Facts.{route, threads_of}
+use Rattle.qrules.specs.Private.Receivers.{newest_receiver}
+use Rattle.qrules.specs.Private.Rows.{message_item, takes, item_in_mark, item_sent_over}
 use Rattle.qkernel.specs.Kernel.{State, IsSound}
 use Rattle.qkernel.specs.Private.Steps.{Steps, facts_in}
-use Rattle.qmodel.specs.Private.Step.{unless, held_call}
-use Rattle.qmodel.specs.Private.Past.{made_on}
+use Rattle.qrules.specs.Private.Step.{unless, held_call}
+use Rattle.qrules.specs.Private.Past.{made_on}
 use Rattle.qstate.specs.Thread.{open_in, newest_in, SetsOpen, Wakes}
 use Rattle.qstate.specs.Kept.{members_of, thread_priority}
 use Rattle.qbase.proofs.Lists.{is_among, cond_same}
-use Rattle.qmodel.proofs.Rosters.{rises, nothing, filter_map_same, only_own}
+use Rattle.qrules.proofs.Traces.Rosters.{rises, nothing, filter_map_same, only_own}
 use Rattle.qkernel.proofs.Steps.Delivering.{counted_room, count_kept, items_after, some_sent, some_way, with_item, priority_at}
 use Rattle.qstate.proofs.Receivers.{ended_thread}
 use Rattle.qkernel.proofs.Steps.Common.{uncut, counted, step_refused, step_refused_alone, route-leads_to}

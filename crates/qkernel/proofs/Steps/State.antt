@@ -6,8 +6,8 @@ use Rattle.qbase.specs.declared.errno.Errno.TheVariants.{Srch}
 use Rattle.qtables.specs.Entries.{entry_at}
 use Rattle.qtables.specs.Members.{member_at}
 use Rattle.qtables.specs.declared.member.Member.{Member}
-use Rattle.qmodel.specs.Private.Answer.{refusal_ending}
-use Rattle.qmodel.specs.Private.ThreadState.{state_in}
+use Rattle.qrules.specs.Private.Answer.{refusal_ending}
+use Rattle.qrules.specs.Private.ThreadState.{state_in}
 use Rattle.qmodel.specs.declared.call.Call.TheVariants.{State as Ask}
 use Rattle.qmodel.specs.declared.call.Completion.{Completion}
 use Rattle.qmodel.specs.declared.call.Mark.TheVariants as mark
@@ -15,7 +15,7 @@ use Rattle.qkernel.specs.Kernel.{State, IsSound}
 use Rattle.qkernel.specs.Private.Steps.{Steps, facts_in}
 use Rattle.qstate.specs.Thread.{open_in}
 use Rattle.qstate.specs.Kept.{thread_priority, members_of}
-use Rattle.qmodel.proofs.Rosters.{among, only_own, rises}
+use Rattle.qrules.proofs.Traces.Rosters.{among, only_own, rises}
 use Rattle.qkernel.proofs.Steps.Common.{uncut, counted, stays_free, step_refused_alone}
 
 module _ (s : State) (t target : ℕ) (m : Member) (known : member_at (members_of s.threads) t ≡ Some m) (up : s.down ≡ false) (free : open_in s.threads t ≡ None) where

@@ -9,12 +9,12 @@ use Rattle.qtables.specs.declared.member.Member.{Member}
 use Rattle.qbase.specs.declared.errno.Errno.{Errno}
 use Rattle.qbase.specs.declared.errno.Errno.TheVariants.{Again, NoMemory}
 use Rattle.qbase.proofs.Lists.{cond_same}
-use Rattle.qmodel.specs.Private.Answer.{MayRefuse, ending, refusal_ending, refusal}
-use Rattle.qmodel.specs.Private.Calls.{row_of}
-use Rattle.qmodel.specs.Private.Facts.{Facts, threads_of}
-use Rattle.qmodel.specs.Private.Effects.{attaches, closes, creates, detaches, makes, sets, shuts_down, unblocks, writes}
+use Rattle.qrules.specs.Private.Answer.{MayRefuse, ending, refusal_ending, refusal}
+use Rattle.qrules.specs.Private.Calls.{row_of}
+use Rattle.qrules.specs.Private.Facts.{Facts, threads_of}
+use Rattle.qrules.specs.Private.Effects.{attaches, closes, creates, detaches, makes, sets, shuts_down, unblocks, writes}
 use Rattle.qmodel.specs.Trace.{SentItem}
-use Rattle.qmodel.specs.Private.Step.{after_unblock, unless}
+use Rattle.qrules.specs.Private.Step.{after_unblock, unless}
 use Rattle.qmodel.specs.declared.call.Call.{Call}
 use Rattle.qmodel.specs.declared.call.Completion.{Completion}
 use Rattle.qmodel.specs.declared.open_call.OpenCall.{OpenCall}
@@ -27,10 +27,10 @@ use Rattle.qstate.specs.Kept.{thread_priority, members_of}
 use Rattle.qstate.proofs.Inserting.{own_first, own_one}
 use Rattle.qkernel.specs.Kernel.{State, IsSound}
 use Rattle.qkernel.specs.Private.Steps.{Steps, facts_in}
-use Rattle.qmodel.proofs.Past.OpenCalls.{unblock_none}
-use Rattle.qmodel.proofs.Rosters.{among, filter_map_same, only_own, rises}
-use Rattle.qmodel.specs.Private.Pulses.{ends_receiver, pulse_receipt}
-use Rattle.qmodel.proofs.Past.Laws.{IsSettled}
+use Rattle.qrules.proofs.Traces.Past.OpenCalls.{unblock_none}
+use Rattle.qrules.proofs.Traces.Rosters.{among, filter_map_same, only_own, rises}
+use Rattle.qrules.specs.Private.Pulses.{ends_receiver, pulse_receipt}
+use Rattle.qrules.proofs.Traces.Past.Laws.{IsSettled}
 use Rattle.qkernel.proofs.Steps.Common.{Counted, counted_alone, sound_counted, sound_counted_alone, step_refused, uncut_by}
 use Rattle.qkernel.proofs.Steps.Cancelling.{mine}
 use Rattle.qkernel.proofs.Steps.Delivering.{count_kept, counted_room, sound_threads, sound_with_item}

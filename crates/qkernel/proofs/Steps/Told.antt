@@ -9,20 +9,20 @@ use Rattle.std.specs.Option.{option_or}
 use Rattle.qbase.proofs.Lists.{eqb_same, is_among, or_none}
 use Rattle.qqueue.specs.Best.{is_pulse}
 use Rattle.qqueue.specs.declared.item.Item.{Item}
-use Rattle.qmodel.specs.Private.Facts.{threads_of}
-use Rattle.qmodel.specs.Private.Pulses.{refusal_if_full_for, ends_receiver, pulse_receipt}
-use Rattle.qmodel.specs.Private.Receivers.{newest_receiver}
-use Rattle.qmodel.specs.Private.Rows.{item_in_mark, takes, takes_into}
+use Rattle.qrules.specs.Private.Facts.{threads_of}
+use Rattle.qrules.specs.Private.Pulses.{refusal_if_full_for, ends_receiver, pulse_receipt}
+use Rattle.qrules.specs.Private.Receivers.{newest_receiver}
+use Rattle.qrules.specs.Private.Rows.{item_in_mark, takes, takes_into}
 use Rattle.qmodel.specs.Trace.{SentItem}
-use Rattle.qmodel.specs.Private.Step.{after_receipt, priority_taken, unreceived_items, unless}
-use Rattle.qmodel.specs.Private.Past.{made_on}
+use Rattle.qrules.specs.Private.Step.{after_receipt, priority_taken, unreceived_items, unless}
+use Rattle.qrules.specs.Private.Past.{made_on}
 use Rattle.qmodel.specs.declared.call.Completion.{Completion}
 use Rattle.qmodel.specs.declared.open_call.OpenCall.{OpenCall}
 use Rattle.qmodel.specs.declared.open_call.Wait.{Wait}
 use Rattle.qmodel.specs.declared.open_call.Wait.TheVariants.{Answer, Item as ForItem}
-use Rattle.qmodel.proofs.Rosters.{filter_map_same, rises}
-use Rattle.qmodel.proofs.Calls.Delivering.{ForAnItem, met_item, met_settled}
-use Rattle.qmodel.proofs.Past.Laws.{IsSettled}
+use Rattle.qrules.proofs.Traces.Rosters.{filter_map_same, rises}
+use Rattle.qrules.proofs.Traces.Calls.Delivering.{ForAnItem, met_item, met_settled}
+use Rattle.qrules.proofs.Traces.Past.Laws.{IsSettled}
 use Rattle.qstate.specs.Channel.{ids_of}
 use Rattle.qstate.specs.Kept.{channel_in, pending_in}
 use Rattle.qstate.specs.Endings.{with_ending_if}

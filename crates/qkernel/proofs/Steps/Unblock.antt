@@ -13,16 +13,16 @@ use Rattle.qtables.specs.Entries.{entry_at}
 use Rattle.qtables.specs.Members.{member_at}
 use Rattle.qtables.specs.declared.connection.Connection.{Connection}
 use Rattle.qtables.specs.declared.member.Member.{Member}
-use Rattle.qmodel.specs.Private.Answer.{MayRefuse, ending, refusal_ending}
-use Rattle.qmodel.specs.Private.Calls.Unblock.{due_pulse, other_ending, guard, guard_over}
-use Rattle.qmodel.proofs.Parts.{due_pulse_on, due_pulse_of_open}
-use Rattle.qmodel.specs.Private.Cancelling.{cancel_call, cancel_where}
-use Rattle.qmodel.specs.Private.Facts.{is_in_process, threads_of}
-use Rattle.qmodel.specs.Private.Pulses.{pulse_receipt, refusal_if_full}
-use Rattle.qmodel.specs.Private.Rows.{unblock_item}
+use Rattle.qrules.specs.Private.Answer.{MayRefuse, ending, refusal_ending}
+use Rattle.qrules.specs.Private.Calls.Unblock.{due_pulse, other_ending, guard, guard_over}
+use Rattle.qrules.proofs.Traces.Parts.{due_pulse_on, due_pulse_of_open}
+use Rattle.qrules.specs.Private.Cancelling.{cancel_call, cancel_where}
+use Rattle.qrules.specs.Private.Facts.{is_in_process, threads_of}
+use Rattle.qrules.specs.Private.Pulses.{pulse_receipt, refusal_if_full}
+use Rattle.qrules.specs.Private.Rows.{unblock_item}
 use Rattle.qmodel.specs.Trace.{SentItem}
-use Rattle.qmodel.specs.Private.Step.{uncut_items, unreceived_items, unblocked_call, is_unread_send}
-use Rattle.qmodel.specs.Private.Past.{made_on}
+use Rattle.qrules.specs.Private.Step.{uncut_items, unreceived_items, unblocked_call, is_unread_send}
+use Rattle.qrules.specs.Private.Past.{made_on}
 use Rattle.qmodel.specs.declared.call.Call.TheVariants.{Unblock}
 use Rattle.qmodel.specs.declared.call.Completion.{Completion}
 use Rattle.qmodel.specs.declared.open_call.OpenCall.{OpenCall}
@@ -36,12 +36,12 @@ use Rattle.qstate.specs.Kept.{pending_in}
 use Rattle.qstate.specs.Cancelling.{AreCancelled, LoseCancelled}
 use Rattle.qstate.specs.Held.{guard_in, guarded_message_in, held_message_in}
 use Rattle.qstate.specs.Pulses.{has_room}
-use Rattle.qmodel.specs.Private.Receivers.{newest_receiver}
+use Rattle.qrules.specs.Private.Receivers.{newest_receiver}
 use Rattle.qstate.specs.Thread.{newest_in, open_in, ChangesOpen}
 use Rattle.qstate.specs.Kept.{members_of}
 use Rattle.qkernel.specs.Kernel.{State, IsSound}
 use Rattle.qkernel.specs.Private.Steps.{Steps, facts_in}
-use Rattle.qmodel.proofs.Rosters.{among, filter_map_same, only_own, rises}
+use Rattle.qrules.proofs.Traces.Rosters.{among, filter_map_same, only_own, rises}
 use Rattle.qkernel.proofs.Steps.Common.{counted, stays_free, step_refused_alone, uncut_by}
 use Rattle.qkernel.proofs.Steps.Cancelling.{endings_cancelled, mine, open_after}
 use Rattle.qkernel.proofs.Steps.Delivering.{count_kept}

@@ -10,15 +10,15 @@ use Rattle.qmodel.specs.declared.call.Call.TheVariants.{Write}
 use Rattle.qmodel.specs.declared.call.Completion.{Completion}
 use Rattle.qmodel.specs.declared.call.Mark.TheVariants as mark
 use Rattle.qstate.specs.declared.thread.Thread.{Thread}
-use Rattle.qmodel.specs.Private.Held.{reply_buffer_in}
+use Rattle.qrules.specs.Private.Held.{reply_buffer_in}
 use Rattle.qstate.specs.Held.{is_held_in}
-use Rattle.qmodel.specs.Private.Step.{is_thread, written_call}
+use Rattle.qrules.specs.Private.Step.{is_thread, written_call}
 use Rattle.qkernel.specs.Kernel.{State, IsSound}
 use Rattle.qkernel.specs.Private.Steps.{Steps}
 use Rattle.qstate.specs.Thread.{open_in, sender_in, sent_call, ChangesSender}
 use Rattle.qstate.specs.Kept.{members_of}
 use Rattle.qbase.proofs.Lists.{cond_same}
-use Rattle.qmodel.proofs.Rosters.{among, only_own, rises}
+use Rattle.qrules.proofs.Traces.Rosters.{among, only_own, rises}
 use Rattle.qkernel.proofs.Steps.Common.{uncut}
 use Rattle.qkernel.proofs.Steps.Held.{is_held}
 

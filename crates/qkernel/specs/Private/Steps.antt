@@ -1,9 +1,9 @@
 -- One call, by the kernel's content alone.
 use Rattle.std.specs.Prelude.{ℕ, ◌+◌, Bool, List, length}
 use Rattle.qtables.specs.Entries.{entry_at}
-use Rattle.qmodel.specs.Private.Answer.{Outcome}
-use Rattle.qmodel.specs.Private.Facts.{Facts}
-use Rattle.qmodel.specs.Private.Step.{Follows}
+use Rattle.qrules.specs.Private.Answer.{Outcome}
+use Rattle.qrules.specs.Private.Facts.{Facts}
+use Rattle.qrules.specs.Private.Step.{Follows}
 use Rattle.qmodel.specs.declared.call.Call.{Call}
 use Rattle.qmodel.specs.declared.call.Completion.{Completion}
 use Rattle.qstate.specs.Kept.{channel_in, pending_in}

@@ -5,7 +5,7 @@ ghost use Rattle.qstate.specs.Thread.{open_in};
 ghost use Rattle.std.specs.Option.{option_to_list};
 ghost use Rattle.qtables.specs.Entries.{entry_at};
 ghost use Rattle.qtables.specs.declared.member.Member.{Member};
-ghost use Rattle.qmodel.specs.Private.Blocked.{blocked_thread};
+ghost use Rattle.qrules.specs.Private.Blocked.{blocked_thread};
 ghost use Rattle.qrules.specs.Lawful.{facts_of};
 ghost use Rattle.qrules.specs.Trace.{Trace};
 ghost use Rattle.qkernel.specs.Blocked.{blocked_threads};

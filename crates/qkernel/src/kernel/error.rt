@@ -1,7 +1,7 @@
 //! Error.
 
 ghost use Rattle.std.specs.Prelude.{◌≡◌};
-ghost use Rattle.qmodel.specs.Private.Calls.Error.{mark_of};
+ghost use Rattle.qrules.specs.Private.Calls.Error.{mark_of};
 
 use super::Kernel;
 use super::caller::Caller;

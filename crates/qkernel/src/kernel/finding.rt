@@ -2,7 +2,7 @@
 
 ghost use Rattle.std.specs.Prelude.{◌≡◌, Some, true, false, IfOk, IfErr};
 ghost use Rattle.qstate.specs.Held.{is_held_in};
-ghost use Rattle.qmodel.specs.Private.Facts.{is_in_process};
+ghost use Rattle.qrules.specs.Private.Facts.{is_in_process};
 ghost use Rattle.qtables.specs.Members.{member_at};
 ghost use Rattle.qstate.specs.Thread.{sender_in};
 ghost use Rattle.qstate.specs.Threads.{IsSeatIn};

@@ -1,7 +1,7 @@
 //! Receive, and what it shares with ReceivePulse.
 
 ghost use Rattle.std.specs.Prelude.{◌≡◌, []};
-ghost use Rattle.qmodel.specs.Private.Receiving.{receive_of};
+ghost use Rattle.qrules.specs.Private.Receiving.{receive_of};
 
 use super::Kernel;
 use super::caller::Caller;

@@ -2,7 +2,7 @@
 
 ghost use Rattle.std.specs.Prelude.{◌≡◌, Some, false};
 ghost use Rattle.qqueue.specs.Best.{is_pulse};
-ghost use Rattle.qmodel.specs.Private.Rows.{item_in_mark, receipt_ending};
+ghost use Rattle.qrules.specs.Private.Rows.{item_in_mark, receipt_ending};
 
 use super::Kernel;
 use super::caller::Caller;

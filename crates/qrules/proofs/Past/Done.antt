@@ -6,8 +6,8 @@ use Rattle.std.proofs.lemmas.Bool.{eqb-true, ne_eqb}
 use Rattle.qbase.proofs.Lists.{eqb_either}
 use Rattle.qtables.specs.Members.{member_at}
 use Rattle.qtables.specs.declared.member.Member.{Member}
-use Rattle.qmodel.specs.Private.Effects.{attaches as old_attaches, creates as old_creates}
-use Rattle.qmodel.specs.Private.Past as old
+use Rattle.qrules.specs.Private.Effects.{attaches as old_attaches, creates as old_creates}
+use Rattle.qrules.specs.Private.Past as old
 use Rattle.qmodel.specs.Trace.{Event, Trace}
 use Rattle.qmodel.specs.declared.call.Call.{Call}
 use Rattle.qrules.specs.Past as new

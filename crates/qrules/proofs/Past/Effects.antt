@@ -2,11 +2,11 @@
 use Rattle.std.proofs.Common.{◌≡◌, ℕ, refl, cond, eqb}
 use Rattle.std.specs.Prelude.{Option, None, Some, is_some, option_map, option_and_then}
 use Rattle.std.specs.Option.{option_or}
-use Rattle.qmodel.specs.Private.Calls.{effect_of as old_effect_of}
-use Rattle.qmodel.specs.Private.Effect.{Reading}
-use Rattle.qmodel.specs.Private.Effects as old
-use Rattle.qmodel.specs.Private.Facts.{Facts as OldFacts}
-use Rattle.qmodel.specs.Private.Rows.{priority_set_for, Written}
+use Rattle.qrules.specs.Private.Calls.{effect_of as old_effect_of}
+use Rattle.qrules.specs.Private.Effect.{Reading}
+use Rattle.qrules.specs.Private.Effects as old
+use Rattle.qrules.specs.Private.Facts.{Facts as OldFacts}
+use Rattle.qrules.specs.Private.Rows.{priority_set_for, Written}
 use Rattle.qmodel.specs.declared.call.Call.{Call}
 use Rattle.qmodel.specs.declared.call.Call.TheVariants as calls
 use Rattle.qmodel.specs.declared.open_call.Wait.{Wait}

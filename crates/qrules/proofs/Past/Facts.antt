@@ -7,14 +7,14 @@ use Rattle.std.proofs.lemmas.Option.{none-some}
 use Rattle.qbase.proofs.Lists.{some_of}
 use Rattle.qtables.specs.Members.{member_at}
 use Rattle.qtables.specs.declared.member.Member.{Member}
-use Rattle.qmodel.specs.Private.Facts.{threads_of}
-use Rattle.qmodel.specs.Private.Lawful as old_lawful
-use Rattle.qmodel.specs.Private.Past as old
+use Rattle.qrules.specs.Private.Facts.{threads_of}
+use Rattle.qrules.specs.Private.Lawful as old_lawful
+use Rattle.qrules.specs.Private.Past as old
 use Rattle.qmodel.specs.Trace.{SentItem}
 use Rattle.qmodel.specs.Trace.{Event, Trace}
 use Rattle.qmodel.specs.declared.open_call.OpenCall.{OpenCall}
-use Rattle.qmodel.proofs.Past.Numbers.{block_cases, open_parts}
-use Rattle.qmodel.proofs.Rosters.{filter_map_same, known}
+use Rattle.qrules.proofs.Traces.Past.Numbers.{block_cases, open_parts}
+use Rattle.qrules.proofs.Traces.Rosters.{filter_map_same, known}
 use Rattle.qrules.specs.Facts.{count_to}
 use Rattle.qrules.specs.Lawful.{facts_by, facts_of, item_made_by, items_and_priorities, priority_given_by, ItemsAndPriorities}
 use Rattle.qrules.specs.Past as new

@@ -8,8 +8,8 @@ use Rattle.qqueue.specs.Best.{is_pulse, with_priority}
 use Rattle.qqueue.specs.declared.item.Item.{Item}
 use Rattle.qtables.specs.declared.member.Member.{Member}
 use Rattle.qmodel.specs.Trace.{OpenChannel}
-use Rattle.qmodel.specs.Private.Past as old
-use Rattle.qmodel.specs.Private.Rows.{item_in_mark}
+use Rattle.qrules.specs.Private.Past as old
+use Rattle.qrules.specs.Private.Rows.{item_in_mark}
 use Rattle.qmodel.specs.Trace.{SentItem}
 use Rattle.qmodel.specs.Trace.{Event, Trace}
 use Rattle.qmodel.specs.declared.call.Completion.{Completion}

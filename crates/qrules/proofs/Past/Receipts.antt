@@ -5,8 +5,8 @@ use Rattle.std.specs.List.{cons_option, list_any}
 use Rattle.std.specs.Option.{option_or}
 use Rattle.std.proofs.lemmas.List.Elements.{filter_map-append}
 use Rattle.std.proofs.lemmas.List.Folds.{find-append, list_any-append}
-use Rattle.qmodel.specs.Private.Past as old
-use Rattle.qmodel.specs.Private.Rows.{item_in_mark}
+use Rattle.qrules.specs.Private.Past as old
+use Rattle.qrules.specs.Private.Rows.{item_in_mark}
 use Rattle.qmodel.specs.Trace.{Trace}
 use Rattle.qmodel.specs.declared.call.Completion.{Completion}
 use Rattle.qmodel.specs.declared.call.Mark.{Mark}

@@ -10,9 +10,9 @@ use Rattle.std.proofs.lemmas.Option.{none-some, same_Some}
 use Rattle.std.proofs.Math.Bool.{and-false}
 use Rattle.qbase.proofs.Lists.{cond_same}
 use Rattle.qbase.specs.Laying.{lay_over}
-use Rattle.qmodel.specs.Private.Effects.{asks, writes as old_writes}
-use Rattle.qmodel.specs.Private.Past as old
-use Rattle.qmodel.specs.Private.Rows.{buffer_after_write}
+use Rattle.qrules.specs.Private.Effects.{asks, writes as old_writes}
+use Rattle.qrules.specs.Private.Past as old
+use Rattle.qrules.specs.Private.Rows.{buffer_after_write}
 use Rattle.qmodel.specs.Trace.{SentItem}
 use Rattle.qmodel.specs.Trace.{Trace}
 use Rattle.qmodel.specs.declared.call.Call.{Call}

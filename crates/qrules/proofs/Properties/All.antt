@@ -1,7 +1,7 @@
 -- All six properties.
 use Rattle.std.proofs.Common.{◌↔◌, List}
 use Rattle.qtables.specs.declared.member.Member.{Member}
-use Rattle.qmodel.specs.Private.Properties as old
+use Rattle.qrules.specs.Private.Properties as old
 use Rattle.qmodel.specs.Trace.{Trace}
 use Rattle.qrules.specs.Properties.{HasProperties}
 use Rattle.qrules.proofs.Same.{AreOfRoster}

@@ -4,10 +4,10 @@ use Rattle.std.specs.Prelude.{Option, None, Some, not, ◌&&◌, option_map}
 use Rattle.std.specs.Option.{option_map_or}
 use Rattle.qbase.proofs.Lists.{all_more}
 use Rattle.qtables.specs.declared.member.Member.{Member}
-use Rattle.qmodel.specs.Private.Facts.{owns as old_owns, Facts as OldFacts}
-use Rattle.qmodel.specs.Private.Headline.AnsweredToSender as old
-use Rattle.qmodel.specs.Private.Lawful as old_lawful
-use Rattle.qmodel.specs.Private.Past as past_of
+use Rattle.qrules.specs.Private.Facts.{owns as old_owns, Facts as OldFacts}
+use Rattle.qrules.specs.Private.Headline.AnsweredToSender as old
+use Rattle.qrules.specs.Private.Lawful as old_lawful
+use Rattle.qrules.specs.Private.Past as past_of
 use Rattle.qmodel.specs.Trace.{SentItem}
 use Rattle.qmodel.specs.Trace.{Event, Trace}
 use Rattle.qmodel.specs.declared.call.Completion.{Completion}

@@ -6,8 +6,8 @@ use Rattle.qbase.proofs.Lists.{all_more}
 use Rattle.qqueue.specs.Best.{best_of}
 use Rattle.qqueue.specs.declared.item.Kind.{Kind}
 use Rattle.qtables.specs.declared.member.Member.{Member}
-use Rattle.qmodel.specs.Private.Headline.BestFirst as old
-use Rattle.qmodel.specs.Private.Headline.CopiedExactly.{call_at as old_call_at}
+use Rattle.qrules.specs.Private.Headline.BestFirst as old
+use Rattle.qrules.specs.Private.Headline.CopiedExactly.{call_at as old_call_at}
 use Rattle.qmodel.specs.Trace.{Event, Trace}
 use Rattle.qmodel.specs.declared.call.Call.{Call}
 use Rattle.qmodel.specs.declared.call.Completion.{Completion}

@@ -3,11 +3,11 @@ use mathlib.Core.Path.{fun_ext}
 use Rattle.std.proofs.Common.{◌≡◌, ◌∙◌, ℕ, ◌+◌, List, [], ◌∷◌, length, refl, ap, cond, eqb}
 use Rattle.std.specs.Prelude.{Option, None, Some, is_some, unwrap_or, option_map, option_and_then}
 use Rattle.std.specs.Option.{option_map_or}
-use Rattle.qmodel.specs.Private.Calls.{effect_of as old_effect_of}
-use Rattle.qmodel.specs.Private.Effects as effects
-use Rattle.qmodel.specs.Private.Headline.CopiedExactly as copied
-use Rattle.qmodel.specs.Private.Headline.SentOrder.{connection_of as old_connection_of}
-use Rattle.qmodel.specs.Private.Past as old
+use Rattle.qrules.specs.Private.Calls.{effect_of as old_effect_of}
+use Rattle.qrules.specs.Private.Effects as effects
+use Rattle.qrules.specs.Private.Headline.CopiedExactly as copied
+use Rattle.qrules.specs.Private.Headline.SentOrder.{connection_of as old_connection_of}
+use Rattle.qrules.specs.Private.Past as old
 use Rattle.qmodel.specs.Trace.{Trace}
 use Rattle.qmodel.specs.declared.call.Call.{Call}
 use Rattle.qrules.specs.Properties.{buffer_at, connection_of, message_at}

@@ -3,8 +3,8 @@ use Rattle.std.proofs.Common.{◌≡◌, ◌∙◌, ◌↔◌, ℕ, List, [], �
 use Rattle.std.specs.Prelude.{Option, None, Some, option_map}
 use Rattle.qbase.proofs.Lists.{all_more}
 use Rattle.qbase.specs.Laying.{laid_count}
-use Rattle.qmodel.specs.Private.Calls.{effect_of as old_effect_of}
-use Rattle.qmodel.specs.Private.Headline.CopiedExactly as old
+use Rattle.qrules.specs.Private.Calls.{effect_of as old_effect_of}
+use Rattle.qrules.specs.Private.Headline.CopiedExactly as old
 use Rattle.qmodel.specs.Trace.{Event, Trace}
 use Rattle.qmodel.specs.declared.call.Completion.{Completion}
 use Rattle.qmodel.specs.declared.call.Mark.{Mark}

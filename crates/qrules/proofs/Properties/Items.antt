@@ -4,11 +4,11 @@ use Rattle.std.proofs.Common.{◌≡◌, ◌∙◌, ℕ, List, [], ◌∷◌, �
 use Rattle.std.specs.Prelude.{Option, None, Some, is_some, ◌||◌, filter, find, filter_map, option_map, option_to_list}
 use Rattle.std.specs.List.{list_any}
 use Rattle.qtables.specs.declared.member.Member.{Member}
-use Rattle.qmodel.specs.Private.Headline.AnsweredToSender.{channel_among}
-use Rattle.qmodel.specs.Private.Headline.BestFirst.{takeable as old_takeable}
-use Rattle.qmodel.specs.Private.Headline.ReceivedOnce as once
-use Rattle.qmodel.specs.Private.Lawful as old_lawful
-use Rattle.qmodel.specs.Private.Past as old
+use Rattle.qrules.specs.Private.Headline.AnsweredToSender.{channel_among}
+use Rattle.qrules.specs.Private.Headline.BestFirst.{takeable as old_takeable}
+use Rattle.qrules.specs.Private.Headline.ReceivedOnce as once
+use Rattle.qrules.specs.Private.Lawful as old_lawful
+use Rattle.qrules.specs.Private.Past as old
 use Rattle.qmodel.specs.Trace.{SentItem}
 use Rattle.qmodel.specs.Trace.{Event, Trace}
 use Rattle.qmodel.specs.declared.call.Completion.{Completion}

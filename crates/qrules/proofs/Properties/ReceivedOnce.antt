@@ -3,7 +3,7 @@ use Rattle.std.proofs.Common.{◌≡◌, ◌∙◌, ◌↔◌, ℕ, List, [], �
 use Rattle.std.specs.Prelude.{is_some}
 use Rattle.std.specs.List.{filter_map, AllByRecursion}
 use Rattle.qtables.specs.declared.member.Member.{Member}
-use Rattle.qmodel.specs.Private.Headline.ReceivedOnce as old
+use Rattle.qrules.specs.Private.Headline.ReceivedOnce as old
 use Rattle.qmodel.specs.Trace.{SentItem}
 use Rattle.qmodel.specs.Trace.{Event, Trace}
 use Rattle.qrules.specs.Past.{item_among}

@@ -7,8 +7,8 @@ use Rattle.qbase.proofs.Lists.{all_more}
 use Rattle.qqueue.specs.declared.item.Item.{Item}
 use Rattle.qqueue.specs.declared.item.Kind.TheVariants.{Any, PulseOnly}
 use Rattle.qtables.specs.declared.member.Member.{Member}
-use Rattle.qmodel.specs.Private.Headline.BestFirst.{takeable as old_takeable}
-use Rattle.qmodel.specs.Private.Headline.SentOrder as old
+use Rattle.qrules.specs.Private.Headline.BestFirst.{takeable as old_takeable}
+use Rattle.qrules.specs.Private.Headline.SentOrder as old
 use Rattle.qmodel.specs.Trace.{Event, Trace}
 use Rattle.qmodel.specs.declared.call.Call.{Call}
 use Rattle.qmodel.specs.declared.call.Call.TheVariants as calls

@@ -8,12 +8,12 @@ use Rattle.std.proofs.lemmas.Option.{none-some, same_Some}
 use Rattle.qbase.proofs.Lists.{all_filter_map, all_more, is_among}
 use Rattle.qtables.specs.declared.connection.Connection.{Connection}
 use Rattle.qtables.specs.declared.member.Member.{Member}
-use Rattle.qmodel.specs.Private.Cancelling.{is_on}
-use Rattle.qmodel.specs.Private.Facts.{threads_of, Facts as OldFacts}
-use Rattle.qmodel.specs.Private.Headline.AnsweredToSender.{channel_among as old_channel_among}
-use Rattle.qmodel.specs.Private.Headline.ShutForGood as old
-use Rattle.qmodel.specs.Private.Lawful as old_lawful
-use Rattle.qmodel.specs.Private.Past as past_of
+use Rattle.qrules.specs.Private.Cancelling.{is_on}
+use Rattle.qrules.specs.Private.Facts.{threads_of, Facts as OldFacts}
+use Rattle.qrules.specs.Private.Headline.AnsweredToSender.{channel_among as old_channel_among}
+use Rattle.qrules.specs.Private.Headline.ShutForGood as old
+use Rattle.qrules.specs.Private.Lawful as old_lawful
+use Rattle.qrules.specs.Private.Past as past_of
 use Rattle.qmodel.specs.Trace.{SentItem}
 use Rattle.qmodel.specs.Trace.{Trace}
 use Rattle.qmodel.specs.declared.call.Completion.{Completion}

@@ -9,18 +9,18 @@ use Rattle.qbase.specs.Laying.{laid_count, lay_over}
 use Rattle.qbase.specs.declared.errno.Errno.TheVariants.{Srch}
 use Rattle.qtables.specs.Members.{member_at}
 use Rattle.qtables.specs.declared.member.Member.{Member}
-use Rattle.qmodel.specs.Private.Calls.Info.{info_of as old_info_of}
-use Rattle.qmodel.specs.Private.Calls.Error.{error_finish}
-use Rattle.qmodel.specs.Private.Calls.Reply.{reply_finish}
-use Rattle.qmodel.specs.Private.Facts.{sender, owns as old_owns, Facts as OldFacts}
-use Rattle.qmodel.specs.Private.Held.{answer_ending, ends_sender, is_held_by, refusal, Finish}
-use Rattle.qmodel.specs.Private.Rows.{ends_with}
+use Rattle.qrules.specs.Private.Calls.Info.{info_of as old_info_of}
+use Rattle.qrules.specs.Private.Calls.Error.{error_finish}
+use Rattle.qrules.specs.Private.Calls.Reply.{reply_finish}
+use Rattle.qrules.specs.Private.Facts.{sender, owns as old_owns, Facts as OldFacts}
+use Rattle.qrules.specs.Private.Held.{answer_ending, ends_sender, is_held_by, refusal, Finish}
+use Rattle.qrules.specs.Private.Rows.{ends_with}
 use Rattle.qmodel.specs.declared.call.Call.TheVariants as calls
 use Rattle.qmodel.specs.declared.call.Completion.{Completion}
 use Rattle.qmodel.specs.declared.call.Info.{Info}
 use Rattle.qmodel.specs.declared.call.Mark.TheVariants as mark
 use Rattle.qmodel.specs.declared.open_call.Wait.TheVariants.{Answer}
-use Rattle.qmodel.proofs.Rosters.{among_member}
+use Rattle.qrules.proofs.Traces.Rosters.{among_member}
 use Rattle.qrules.specs.Facts.{open_send, owns, OpenSend}
 use Rattle.qrules.specs.Rules.Held.{info_of, refusal_unless_held}
 use Rattle.qrules.proofs.Messages.{send_cases, NoSend}

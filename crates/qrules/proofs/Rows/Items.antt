@@ -11,10 +11,10 @@ use Rattle.qqueue.specs.declared.item.Item.{Item}
 use Rattle.qqueue.specs.declared.item.Kind.{Kind}
 use Rattle.qqueue.specs.declared.item.Kind.TheVariants.{Any, PulseOnly}
 use Rattle.qtables.specs.declared.connection.Connection.{Connection}
-use Rattle.qmodel.specs.Private.Calls.Send.{item}
-use Rattle.qmodel.specs.Private.Delivering.{delivers, receiver, wants_room}
-use Rattle.qmodel.specs.Private.Facts.{is_of_process, message, Facts as OldFacts}
-use Rattle.qmodel.specs.Private.Receiving.{own_receipt}
+use Rattle.qrules.specs.Private.Calls.Send.{item}
+use Rattle.qrules.specs.Private.Delivering.{delivers, receiver, wants_room}
+use Rattle.qrules.specs.Private.Facts.{is_of_process, message, Facts as OldFacts}
+use Rattle.qrules.specs.Private.Receiving.{own_receipt}
 use Rattle.qmodel.specs.declared.call.Call.TheVariants as calls
 use Rattle.qrules.specs.Delivery.{deliver, delivery, has_to_wait}
 use Rattle.qrules.specs.Facts.{open_send, OpenReceive}

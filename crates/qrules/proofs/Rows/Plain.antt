@@ -5,10 +5,10 @@ use Rattle.std.specs.Option.{option_or}
 use Rattle.qbase.specs.declared.errno.Errno.TheVariants.{Inval, Srch}
 use Rattle.qbase.specs.declared.flags.ChannelFlags.{ChannelFlags}
 use Rattle.qbase.specs.declared.state.ThreadState.TheVariants.{Ready, ReceiveBlocked}
-use Rattle.qmodel.specs.Private.Cancelling.{is_on}
-use Rattle.qmodel.specs.Private.Facts.{Facts as OldFacts}
-use Rattle.qmodel.specs.Private.Rows.{ends_with}
-use Rattle.qmodel.specs.Private.ThreadState.{state_in}
+use Rattle.qrules.specs.Private.Cancelling.{is_on}
+use Rattle.qrules.specs.Private.Facts.{Facts as OldFacts}
+use Rattle.qrules.specs.Private.Rows.{ends_with}
+use Rattle.qrules.specs.Private.ThreadState.{state_in}
 use Rattle.qmodel.specs.declared.call.Call.TheVariants as calls
 use Rattle.qmodel.specs.declared.call.Mark.TheVariants as mark
 use Rattle.qmodel.specs.declared.open_call.Wait.TheVariants.{Answer, Item as ForItem}

@@ -9,13 +9,13 @@ use Rattle.qbase.proofs.Lists.{or_none}
 use Rattle.qbase.specs.declared.errno.Errno.TheVariants.{Badf, Intr, Inval, Srch}
 use Rattle.qqueue.specs.declared.item.What.TheVariants as what
 use Rattle.qtables.specs.declared.connection.Connection.{Connection}
-use Rattle.qmodel.specs.Private.Calls.ConnectDetach.{due_pulse as last_pulse}
-use Rattle.qmodel.specs.Private.Calls.Pulse.{is_negative, sent_pulse}
-use Rattle.qmodel.specs.Private.Calls.Unblock.{due_pulse, due_pulse_of_wait, guard, guard_over, other_ending}
-use Rattle.qmodel.specs.Private.Cancelling.{cancel_call, cancel_where, cancels, is_over}
-use Rattle.qmodel.specs.Private.Facts.{has_flag, is_of_process, Facts as OldFacts}
-use Rattle.qmodel.specs.Private.Pulses.{ends_receiver, refusal_if_full, refusal_if_full_for, wants_room_for}
-use Rattle.qmodel.specs.Private.Rows.{ends_with}
+use Rattle.qrules.specs.Private.Calls.ConnectDetach.{due_pulse as last_pulse}
+use Rattle.qrules.specs.Private.Calls.Pulse.{is_negative, sent_pulse}
+use Rattle.qrules.specs.Private.Calls.Unblock.{due_pulse, due_pulse_of_wait, guard, guard_over, other_ending}
+use Rattle.qrules.specs.Private.Cancelling.{cancel_call, cancel_where, cancels, is_over}
+use Rattle.qrules.specs.Private.Facts.{has_flag, is_of_process, Facts as OldFacts}
+use Rattle.qrules.specs.Private.Pulses.{ends_receiver, refusal_if_full, refusal_if_full_for, wants_room_for}
+use Rattle.qrules.specs.Private.Rows.{ends_with}
 use Rattle.qmodel.specs.declared.call.Call.TheVariants as calls
 use Rattle.qmodel.specs.declared.call.Mark.TheVariants as mark
 use Rattle.qmodel.specs.declared.open_call.Receipt.{Receipt as OldReceipt}

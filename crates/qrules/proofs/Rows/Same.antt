@@ -2,9 +2,9 @@
 use Rattle.std.proofs.Common.{◌≡◌, ℕ, List, [], ◌∷◌, refl, sym, cond, eqb}
 use Rattle.std.specs.Prelude.{Option, None, Some, find, option_to_list}
 use Rattle.qbase.proofs.Lists.{cond_same, eqb_either}
-use Rattle.qmodel.specs.Private.Answer.{ending}
-use Rattle.qmodel.specs.Private.Calls.{row_of}
-use Rattle.qmodel.specs.Private.Facts.{Facts as OldFacts}
+use Rattle.qrules.specs.Private.Answer.{ending}
+use Rattle.qrules.specs.Private.Calls.{row_of}
+use Rattle.qrules.specs.Private.Facts.{Facts as OldFacts}
 use Rattle.qmodel.specs.declared.call.Call.{Call}
 use Rattle.qmodel.specs.declared.call.Completion.{Completion}
 use Rattle.qrules.specs.Outcome.{row}

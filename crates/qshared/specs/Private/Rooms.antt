@@ -7,9 +7,9 @@ use Rattle.qmodel.specs.declared.call.Call.{Call}
 use Rattle.qmodel.specs.declared.call.Call.TheVariants.{Shutdown}
 use Rattle.qmodel.specs.declared.call.Completion.{Completion}
 use Rattle.qmodel.specs.Buffers.{buffer_of}
-use Rattle.qmodel.specs.Private.Endings.{buffer_of_open, gets}
-use Rattle.qmodel.specs.Private.Facts.{threads_of}
-use Rattle.qmodel.specs.Private.Past.{open_call}
+use Rattle.qrules.specs.Private.Endings.{buffer_of_open, gets}
+use Rattle.qrules.specs.Private.Facts.{threads_of}
+use Rattle.qrules.specs.Private.Past.{open_call}
 use Rattle.qrules.specs.Trace.{followed_by}
 use Rattle.qrules.specs.Trace.{Trace}
 use Rattle.qkernel.specs.EventLog.{Logged}

@@ -13,9 +13,9 @@ use Rattle.qtables.specs.declared.connection.Connection.{Connection}
 use Rattle.qmodel.specs.declared.open_call.OpenCall.{OpenCall}
 use Rattle.qmodel.specs.declared.open_call.Wait.{Wait}
 use Rattle.qmodel.specs.declared.open_call.Wait.TheVariants.{Answer, Item as ForItem}
-use Rattle.qmodel.specs.Private.Facts.{is_for_receipt}
-use Rattle.qmodel.specs.Private.Cancelling.{is_to, is_on}
-use Rattle.qmodel.specs.Private.Step.{is_unread_send}
+use Rattle.qrules.specs.Private.Facts.{is_for_receipt}
+use Rattle.qrules.specs.Private.Cancelling.{is_to, is_on}
+use Rattle.qrules.specs.Private.Step.{is_unread_send}
 use Rattle.qstate.specs.declared.channel.Channel.{Channel}
 use Rattle.qstate.specs.Channel.{SetsItems}
 use Rattle.qstate.specs.Kept.{pending_in, items_waiting_on}

@@ -2,8 +2,8 @@ use Rattle.std.proofs.Common.{◌≡◌, ℕ, [], refl, sym, subst, ap, ◌∙�
 use Rattle.std.specs.Prelude.{Some}
 use Rattle.std.proofs.lemmas.List.{length-map}
 use lib.ListN.{get_elem?}
-use Rattle.qmodel.specs.Private.Facts.{threads_of}
-use Rattle.qmodel.proofs.Rosters.{rises}
+use Rattle.qrules.specs.Private.Facts.{threads_of}
+use Rattle.qrules.proofs.Traces.Rosters.{rises}
 use Rattle.qhandoff.specs.Words.{cells_id, count, taken, took, left_for, AreBelow, IsRow}
 use Rattle.qshared.specs.Asking.{calls_of}
 use Rattle.qshared.specs.Due.{AreDue, AreKnown, collected, later_due, of_thread, place}

@@ -1,14 +1,14 @@
 use Rattle.std.proofs.Common.{◌≡◌, ap, get_or, sym, ◌∙◌, false}
 use Rattle.std.specs.Option.{option_map}
 use Rattle.qbase.specs.Laying.{laid_count, lay_over}
-use Rattle.qmodel.specs.Private.Facts.{message_in}
-use Rattle.qmodel.specs.Private.Step.{held_call}
+use Rattle.qrules.specs.Private.Facts.{message_in}
+use Rattle.qrules.specs.Private.Step.{held_call}
 use Rattle.qmodel.specs.declared.open_call.Receipt.{Receipt}
 use Rattle.qstate.specs.Thread.{open_in}
 use Rattle.qstate.proofs.Indexing.{indexed_changed, keeps_held}
 use Rattle.qstate.proofs.Seats.{changes_open, first_at, first_open}
 use Rattle.qstate.proofs.Senders.{changes_none, changes_sender, message_none, message_sent}
-use Rattle.qmodel.proofs.Laying.{lay_nothing, count_nothing}
+use Rattle.qrules.proofs.Traces.Laying.{lay_nothing, count_nothing}
 use Rattle.qstate.proofs.threads.Threads.hand_over.Goals as goal
 
 pub returns-in-None-clause-kept : goal.returns-in-None-clause-kept

@@ -1,6 +1,6 @@
 use Rattle.std.proofs.Common.{ap, sym, ◌∙◌}
 use Rattle.qtables.specs.Entries.{entry_at}
-use Rattle.qmodel.specs.Private.ThreadState.{state_in}
+use Rattle.qrules.specs.Private.ThreadState.{state_in}
 use Rattle.qstate.proofs.threads.Threads.state.Goals as goal
 
 pub returns-in-None : goal.returns-in-None

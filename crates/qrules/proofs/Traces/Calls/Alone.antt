@@ -1,0 +1,40 @@
+-- Calls that end in their own event and do nothing to any other.
+use Rattle.std.proofs.Common.{◌≡◌, ◌∙◌, ℕ, sym}
+use Rattle.std.specs.Prelude.{None, Some}
+use Rattle.std.proofs.lemmas.Option.{none-some}
+use Rattle.qrules.specs.Private.Calls.{row_of}
+use Rattle.qrules.specs.Private.Facts.{Facts, sender}
+use Rattle.qrules.specs.Private.Effects.{asks, makes, writes}
+use Rattle.qrules.specs.Private.Rows.{Written, item_in_mark}
+use Rattle.qmodel.specs.declared.call.Call.{Call}
+use Rattle.qmodel.specs.declared.call.Completion.{Completion}
+use Rattle.qrules.proofs.Traces.Past.Laws.{CallLaws, RowLaws, IsOwn}
+
+-- a call that never waits and makes nothing
+pub waits_not : (c : Call) → ((n : ℕ) → asks n c ≡ None) → ((f : Facts) (t : ℕ) → makes f t c ≡ None) → CallLaws c
+waits_not c a m = record {
+  asks_one = λ n o e. absurd (none-some o (sym (a n) ∙ e));
+  makes_one = λ f t i e. absurd (none-some i (sym (m f t) ∙ e));
+  waits_write = λ n o e. absurd (none-some o (sym (a n) ∙ e));
+  unblocks_none = λ none f t i e. absurd (none-some i (sym (m f t) ∙ e));
+  unblocks_one = λ v is f t i e. absurd (none-some i (sym (m f t) ∙ e));
+}
+
+-- its ending is its own, and no receipt
+pub record IsPlain (n t : ℕ) (y : Completion) : Type 0 where
+  pub own : IsOwn n t y
+  pub mark : item_in_mark y.mark ≡ None
+
+pub alone : (f : Facts) (t : ℕ) (c : Call) → ((y : Completion) → (row_of f t c).own ≡ Some y → IsPlain f.number t y) → ((u : ℕ) → (row_of f t c).ends u ≡ None) → (row_of f t c).receipt ≡ None
+    → makes f t c ≡ None → ((w : Written) → writes c ≡ Some w → (s : ℕ) × (sender f w.message ≡ Some s)) → RowLaws f t c
+alone f t c own ends receipt made written = record {
+  owns = λ y e. (own y e).own;
+  ends_open = λ u y e. absurd (none-some y (sym (ends u) ∙ e));
+  ends_settled = λ mild u y e. absurd (none-some y (sym (ends u) ∙ e));
+  own_receives = λ y q e m. absurd (none-some q (sym (own y e).mark ∙ m));
+  ends_receives = λ u y q e m. absurd (none-some y (sym (ends u) ∙ e));
+  receives = λ r e. absurd (none-some r (sym receipt ∙ e));
+  sends = λ m e message. absurd (none-some m (sym made ∙ e));
+  makes_open = λ m e. absurd (none-some m (sym made ∙ e));
+  writes_sent = written;
+}

@@ -1,0 +1,47 @@
+-- Calls that answer a held message.
+use Rattle.std.proofs.Common.{◌≡◌, ◌∙◌, ℕ, List, ap, sym}
+use Rattle.std.specs.Prelude.{None, Some}
+use Rattle.std.proofs.lemmas.Option.{none-some, same_Some}
+use Rattle.qrules.specs.Private.Calls.{row_of}
+use Rattle.qrules.specs.Private.Facts.{Facts, sender}
+use Rattle.qrules.specs.Private.Held.{Finish, ends_sender, refusal}
+use Rattle.qrules.specs.Private.Effects.{makes, writes}
+use Rattle.qrules.specs.Private.Rows.{Written, item_in_mark}
+use Rattle.qmodel.specs.declared.call.Call.{Call}
+use Rattle.qmodel.specs.declared.call.Completion.{Completion}
+use Rattle.qrules.proofs.Traces.Calls.Alone.{IsPlain}
+use Rattle.qrules.proofs.Traces.Calls.Held.{SenderEnds, sender_ends}
+use Rattle.qrules.proofs.Traces.Past.Laws.{IsOfOpen, IsSettled, RowLaws, is_settled}
+
+of_open : (f : Facts) (t rcvid : ℕ) (finish : Finish) (u : ℕ) (y : Completion) → SenderEnds f t rcvid finish u y → IsOfOpen f u y
+of_open f t rcvid finish u y s = record {
+  waiting = s.held.waiting;
+  is = s.held.is_open;
+  call = sym (ap (λ x. x.call) s.ending) ∙ sym s.number;
+  thread = sym (ap (λ x. x.thread) s.ending);
+}
+
+settled_open : (f : Facts) (t rcvid : ℕ) (finish : Finish) (u : ℕ) (y : Completion) → SenderEnds f t rcvid finish u y → IsSettled (f.open_call u)
+settled_open f t rcvid finish u y s w is = ap (λ o. is_settled o.wait) (same_Some w s.held.waiting (sym is ∙ s.held.is_open)) ∙ ap is_settled s.held.waits
+
+-- its mark is none of a receipt
+pub answer_receives : (f : Facts) (t rcvid : ℕ) (finish : Finish) (u : ℕ) (y : Completion) → ((buffer : List ℕ) → item_in_mark (finish buffer).0 ≡ None) → SenderEnds f t rcvid finish u y → item_in_mark y.mark ≡ None
+answer_receives f t rcvid finish u y none s = ap (λ x. item_in_mark x.mark) (sym s.ending) ∙ none s.held.reply_buffer
+
+-- a call that ends in its own event, and ends the Send that it answers
+pub answers : (f : Facts) (t : ℕ) (c : Call) (rcvid : ℕ) (finish : Finish) → ((buffer : List ℕ) → item_in_mark (finish buffer).0 ≡ None) → refusal f t rcvid ≡ None
+    → ((y : Completion) → (row_of f t c).own ≡ Some y → IsPlain f.number t y) → ((u : ℕ) → (row_of f t c).ends u ≡ ends_sender f finish (sender f rcvid) u) → (row_of f t c).receipt ≡ None
+    → makes f t c ≡ None → ((w : Written) → writes c ≡ Some w → (s : ℕ) × (sender f w.message ≡ Some s)) → RowLaws f t c
+answers f t c rcvid finish none passed own ends receipt made written =
+    let ended = λ (u : ℕ) (y : Completion) (e : (row_of f t c).ends u ≡ Some y). sender_ends f t rcvid finish u y passed (sym (ends u) ∙ e) in
+    record {
+      owns = λ y e. (own y e).own;
+      ends_open = λ u y e. of_open f t rcvid finish u y (ended u y e);
+      ends_settled = λ mild u y e. settled_open f t rcvid finish u y (ended u y e);
+      own_receives = λ y q e m. absurd (none-some q (sym (own y e).mark ∙ m));
+      ends_receives = λ u y q e m. absurd (none-some q (sym (answer_receives f t rcvid finish u y none (ended u y e)) ∙ m));
+      receives = λ r e. absurd (none-some r (sym receipt ∙ e));
+      sends = λ m e message. absurd (none-some m (sym made ∙ e));
+      makes_open = λ m e. absurd (none-some m (sym made ∙ e));
+      writes_sent = written;
+    }

@@ -1,0 +1,49 @@
+-- What the calls share that end others by force.
+use Rattle.std.proofs.Common.{◌≡◌, ◌∙◌, ℕ, ap, refl, sym, cond, true, false}
+use Rattle.std.specs.Prelude.{Bool, Option, None, Some}
+use Rattle.std.proofs.lemmas.Bool.{true≢false}
+use Rattle.std.proofs.lemmas.Option.{none-some, same_Some}
+use Rattle.qbase.specs.declared.errno.Errno.{Errno}
+use Rattle.qrules.specs.Private.Calls.{row_of}
+use Rattle.qrules.specs.Private.Cancelling.{cancel_call, cancel_where, cancels}
+use Rattle.qrules.specs.Private.Facts.{Facts, sender}
+use Rattle.qrules.specs.Private.Effects.{makes, writes}
+use Rattle.qrules.specs.Private.Rows.{Written, item_in_mark}
+use Rattle.qmodel.specs.declared.call.Call.{Call}
+use Rattle.qmodel.specs.declared.call.Completion.{Completion}
+use Rattle.qmodel.specs.declared.open_call.OpenCall.{OpenCall}
+use Rattle.qmodel.specs.declared.open_call.Wait.{Wait}
+use Rattle.qrules.proofs.Traces.Calls.Alone.{IsPlain}
+use Rattle.qrules.proofs.Traces.Past.Laws.{RowLaws, is_forceful}
+
+-- the ending is of an open call that is cancelled
+pub record IsCutCall (is_cancelled : Wait → Bool) (e : Errno) (u : ℕ) (o : Option OpenCall) (y : Completion) : Type 0 where
+  pub waiting : OpenCall
+  pub is : o ≡ Some waiting
+  pub cancel : is_cancelled waiting.wait ≡ true
+  pub ending : cancel_call e u waiting ≡ y
+
+pub cancel_parts : (is_cancelled : Wait → Bool) (e : Errno) (u : ℕ) (o : Option OpenCall) (y : Completion) → cancel_where is_cancelled e u o ≡ Some y → IsCutCall is_cancelled e u o y
+cancel_parts is_cancelled e u None y h = absurd (none-some y h)
+cancel_parts is_cancelled e u (Some o) y h =
+    elim (is_cancelled o.wait) as (λ b. is_cancelled o.wait ≡ b → cond b (Some (cancel_call e u o)) None ≡ Some y → IsCutCall is_cancelled e u (Some o) y) [
+      | true ↦ λ cancel s. record { waiting = o; is = refl; cancel = cancel; ending = same_Some _ y s }
+      | false ↦ λ cancel s. absurd (none-some y s)
+    ] refl h
+
+-- a call that ends in its own event, and cancels others
+pub cancelling : (f : Facts) (t : ℕ) (c : Call) (is_cancelled : ℕ → Wait → Bool) (e : Errno) → is_forceful c ≡ true → ((y : Completion) → (row_of f t c).own ≡ Some y → IsPlain f.number t y)
+    → ((u : ℕ) → (row_of f t c).ends u ≡ cancels f is_cancelled e u) → (row_of f t c).receipt ≡ None → makes f t c ≡ None → ((w : Written) → writes c ≡ Some w → (s : ℕ) × (sender f w.message ≡ Some s)) → RowLaws f t c
+cancelling f t c is_cancelled e force own ends receipt made written =
+    let ended = λ (u : ℕ) (y : Completion) (s : (row_of f t c).ends u ≡ Some y). cancel_parts (is_cancelled u) e u (f.open_call u) y (sym (ends u) ∙ s) in
+    record {
+      owns = λ y s. (own y s).own;
+      ends_open = λ u y s. let k = ended u y s in record { waiting = k.waiting; is = k.is; call = sym (ap (λ x. x.call) k.ending); thread = sym (ap (λ x. x.thread) k.ending) };
+      ends_settled = λ mild u y s. absurd (true≢false (sym force ∙ mild));
+      own_receives = λ y q s m. absurd (none-some q (sym (own y s).mark ∙ m));
+      ends_receives = λ u y q s m. absurd (none-some q (ap (λ x. item_in_mark x.mark) (ended u y s).ending ∙ m));
+      receives = λ r s. absurd (none-some r (sym receipt ∙ s));
+      sends = λ m s message. absurd (none-some m (sym made ∙ s));
+      makes_open = λ m s. absurd (none-some m (sym made ∙ s));
+      writes_sent = written;
+    }

@@ -1,0 +1,16 @@
+-- The laws of ChannelCreate.
+use Rattle.std.proofs.Common.{ℕ, refl, subst}
+use Rattle.std.proofs.lemmas.Option.{none-some, same_Some}
+use Rattle.qbase.specs.declared.flags.ChannelFlags.{ChannelFlags}
+use Rattle.qrules.specs.Private.Facts.{Facts}
+use Rattle.qmodel.specs.declared.call.Call.TheVariants.{ChannelCreate}
+use Rattle.qrules.proofs.Traces.Calls.Alone.{IsPlain, alone, waits_not}
+use Rattle.qrules.proofs.Traces.Past.Laws.{CallLaws, RowLaws, Passes}
+
+pub call_laws : (flags : ChannelFlags) → CallLaws (ChannelCreate flags)
+call_laws flags = waits_not (ChannelCreate flags) (λ n. refl) (λ f t. refl)
+
+pub row_laws : (f : Facts) (t : ℕ) (flags : ChannelFlags) → Passes f t (ChannelCreate flags) → RowLaws f t (ChannelCreate flags)
+row_laws f t flags p =
+    alone f t (ChannelCreate flags) (λ y e. subst (IsPlain f.number t) (same_Some _ y e) (record { own = record { call = refl; thread = refl; mark = refl }; mark = refl })) (λ u. refl) refl refl
+    (λ w e. absurd (none-some w e))

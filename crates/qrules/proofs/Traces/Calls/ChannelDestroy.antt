@@ -1,0 +1,18 @@
+-- The laws of ChannelDestroy.
+use Rattle.std.proofs.Common.{ℕ, refl, subst}
+use Rattle.std.proofs.lemmas.Option.{none-some, same_Some}
+use Rattle.qbase.specs.declared.errno.Errno.TheVariants.{Srch}
+use Rattle.qrules.specs.Private.Cancelling.{is_on}
+use Rattle.qrules.specs.Private.Facts.{Facts}
+use Rattle.qmodel.specs.declared.call.Call.TheVariants.{ChannelDestroy}
+use Rattle.qrules.proofs.Traces.Calls.Alone.{IsPlain, waits_not}
+use Rattle.qrules.proofs.Traces.Calls.Cancelling.{cancelling}
+use Rattle.qrules.proofs.Traces.Past.Laws.{CallLaws, RowLaws, Passes}
+
+pub call_laws : (chid : ℕ) → CallLaws (ChannelDestroy chid)
+call_laws chid = waits_not (ChannelDestroy chid) (λ n. refl) (λ f t. refl)
+
+pub row_laws : (f : Facts) (t chid : ℕ) → Passes f t (ChannelDestroy chid) → RowLaws f t (ChannelDestroy chid)
+row_laws f t chid p =
+    cancelling f t (ChannelDestroy chid) (λ u. is_on f.connection chid) Srch refl (λ y e. subst (IsPlain f.number t) (same_Some _ y e) (record { own = record { call = refl; thread = refl; mark = refl }; mark = refl })) (λ u. refl) refl refl
+    (λ w e. absurd (none-some w e))

@@ -1,0 +1,190 @@
+-- The laws of a call that delivers an item.
+use Rattle.std.proofs.Common.{◌≡◌, ◌∙◌, ℕ, List, ap, refl, sym, subst, inl, cond, eqb, true, false}
+use Rattle.std.specs.Prelude.{Option, None, Some, is_some}
+use Rattle.std.specs.Option.{option_map}
+use Rattle.std.proofs.lemmas.Bool.{eqb-true, ne_eqb}
+use Rattle.std.proofs.lemmas.Option.{none-some, same_Some}
+use Rattle.qqueue.specs.declared.item.Item.{Item}
+use Rattle.qqueue.specs.declared.item.Kind.{Kind}
+use Rattle.qtables.specs.declared.connection.Connection.{Connection}
+use Rattle.qrules.specs.Private.Answer.{ending}
+use Rattle.qrules.specs.Private.Calls.{row_of}
+use Rattle.qrules.specs.Private.Delivering.{delivers, receiver, receipt_by, receipt_when_sent}
+use Rattle.qrules.specs.Private.Facts.{Facts, route}
+use Rattle.qrules.proofs.Traces.Parts.{leads_to}
+use Rattle.qrules.specs.Private.Receivers.{newest_receiver}
+use Rattle.qrules.specs.Private.Effects.{asks, makes}
+use Rattle.qrules.specs.Private.Rows.{Received, item_in_mark, receipt_in, item_sent_over, takes, takes_into, receipt_ending}
+use Rattle.qmodel.specs.Trace.{SentItem}
+use Rattle.qmodel.specs.declared.call.Call.{Call}
+use Rattle.qmodel.specs.declared.call.Completion.{Completion}
+use Rattle.qmodel.specs.declared.open_call.OpenCall.{OpenCall}
+use Rattle.qmodel.specs.declared.open_call.Wait.{Wait}
+use Rattle.qmodel.specs.declared.open_call.Wait.TheVariants.{Answer, Item as ForItem}
+use Rattle.qbase.proofs.Lists.{eqb_same}
+use Rattle.qrules.proofs.Traces.Past.Laws.{IsOfOpen, IsSettled, IsReceipt, IsReceived, is_settled}
+use Rattle.qrules.proofs.Traces.Calls.Taking.{Taken, taken_by, receipt_from, receipt_in_at}
+use Rattle.qrules.proofs.Traces.Routes.{leads_over}
+
+-- what goes over a connection is the item
+pub sent_item : (o : Option Connection) (item : Item) (m : SentItem) → item_sent_over o item ≡ Some m → m.item ≡ item
+sent_item None item m e = absurd (none-some m e)
+sent_item (Some c) item m e = ap (λ x. x.item) (sym (same_Some _ m e))
+
+-- ---- the receiver that it meets
+
+-- thread u is the receiver r, and its open call ends by taking the item
+pub record IsReceiver (f : Facts) (item : Item) (message : List ℕ) (r : Option ℕ) (u : ℕ) (y : Completion) : Type 0 where
+  pub receiver_is : r ≡ Some u
+  pub given : receipt_by f item message u ≡ Some y
+
+pub met_by : (f : Facts) (item : Item) (message : List ℕ) (r : Option ℕ) (u : ℕ) (y : Completion) → delivers f item message r u ≡ Some y → IsReceiver f item message r u y
+met_by f item message None u y e = absurd (none-some y e)
+met_by f item message (Some v) u y e =
+    elim (eqb u v) as (λ b. eqb u v ≡ b → cond b (receipt_by f item message u) None ≡ Some y → IsReceiver f item message (Some v) u y) [
+      | true ↦ λ same is. record { receiver_is = ap Some (sym (eqb-true u v same)); given = is }
+      | false ↦ λ other is. absurd (none-some y is)
+    ] refl e
+
+-- and so it does where it is the receiver
+met_at : (f : Facts) (item : Item) (message : List ℕ) (r : Option ℕ) (v : ℕ) (y : Completion) → r ≡ Some v → receipt_by f item message v ≡ Some y → delivers f item message r v ≡ Some y
+met_at f item message r v y is given = rw (is, eqb_same v) given
+
+-- ---- the receipt
+
+-- what is sent over a way goes to its channel
+pub sent_way : (f : Facts) (t coid : ℕ) (item : Item) (h : ℕ) → route f t coid ≡ Some h → item_sent_over (f.connection coid) item ≡ Some (record { item = item; channel = h })
+sent_way f t coid item h e =
+    let l = leads_over f t (f.connection coid) h e in
+    ap (λ o. item_sent_over o item) l.is ∙ ap (λ k. Some (record { item = item; channel = k })) l.channel
+
+-- what goes over a way goes to an open channel
+pub goes_to_open : (f : Facts) (t : ℕ) (o : Option Connection) (h : ℕ) (item : Item) (m : SentItem) → leads_to f t o ≡ Some h → item_sent_over o item ≡ Some m → is_some (f.channel m.channel) ≡ true
+goes_to_open f t o h item m e made =
+    let l = leads_over f t o h e in
+    let same : record { item = item; channel = l.connection.channel } ≡ m = same_Some _ m (ap (λ x. item_sent_over x item) (sym l.is) ∙ made) in
+    subst (λ k. is_some (f.channel k) ≡ true) (sym l.channel ∙ ap (λ (x : SentItem). x.channel) same) l.is_open
+
+-- the item goes over channel h to thread v, whose call ends by y
+record Sent (f : Facts) (sender : Option ℕ) (item : Item) (message : List ℕ) (o r : Option ℕ) (q : Received) : Type 0 where
+  channel : ℕ
+  is_channel : o ≡ Some channel
+  by : ℕ
+  is_by : r ≡ Some by
+  given : Completion
+  is_given : receipt_by f item message by ≡ Some given
+  taken : Taken item.number by (f.open_call by) given
+  same : receipt_from channel sender item.priority given.thread (item.number, taken.copied) ≡ q
+
+sent_on : (f : Facts) (sender : Option ℕ) (item : Item) (message : List ℕ) (h : ℕ) (r : Option ℕ) (q : Received) → receipt_when_sent f sender item message (Some h) r ≡ Some q → Sent f sender item message (Some h) r q
+sent_on f sender item message h None q e = absurd (none-some q e)
+sent_on f sender item message h (Some v) q e =
+    elim (receipt_by f item message v) as (λ o. receipt_by f item message v ≡ o → receipt_in h sender item.priority o ≡ Some q → Sent f sender item message (Some h) (Some v) q) [
+      | None ↦ λ is s. absurd (none-some q s)
+      | Some y ↦ λ is s.
+          let k = taken_by item message v (f.open_call v) y is in
+          record {
+            channel = h;
+            is_channel = refl;
+            by = v;
+            is_by = refl;
+            given = y;
+            is_given = is;
+            taken = k;
+            same = same_Some _ q (sym (receipt_in_at h sender item.priority (Some y) y (item.number, k.copied) refl k.mark) ∙ s);
+          }
+    ] refl e
+
+sent_over_way : (f : Facts) (sender : Option ℕ) (item : Item) (message : List ℕ) (o r : Option ℕ) (q : Received) → receipt_when_sent f sender item message o r ≡ Some q → Sent f sender item message o r q
+sent_over_way f sender item message None r q e = absurd (none-some q e)
+sent_over_way f sender item message (Some h) r q e = sent_on f sender item message h r q e
+
+-- the receiver that is met has the receipt of the row
+met_receives : (f : Facts) (sender : Option ℕ) (item : Item) (message : List ℕ) (o : Option ℕ) (u : ℕ) (y : Completion) (p : ℕ × ℕ) → delivers f item message (receiver f item o) u ≡ Some y → item_in_mark y.mark ≡ Some p
+    → (q : Received) × (receipt_when_sent f sender item message o (receiver f item o) ≡ Some q) × (q.by ≡ u) × (p.0 ≡ q.item) × (p.1 ≡ q.kept.copied)
+met_receives f sender item message None u y p e m = absurd (none-some y e)
+met_receives f sender item message (Some h) u y p e m =
+    let k = met_by f item message (newest_receiver f h item) u y e in
+    let taken = taken_by item message u (f.open_call u) y k.given in (
+      receipt_from h sender item.priority y.thread p,
+      ap (λ r. receipt_when_sent f sender item message (Some h) r) k.receiver_is ∙ receipt_in_at h sender item.priority (receipt_by f item message u) y p k.given m,
+      taken.thread,
+      refl,
+      refl,
+    )
+
+-- an open call that waits for an item
+pub record ForAnItem (call : Option OpenCall) : Type 0 where
+  pub waiting : OpenCall
+  pub is : call ≡ Some waiting
+  pub chid : ℕ
+  pub kind : Kind
+  pub buffer : List ℕ
+  pub waits : waiting.wait ≡ ForItem chid kind buffer
+
+-- what takes the item waits for one, and ends by taking it
+pub takes_item : (item : Item) (message : List ℕ) (u : ℕ) (call : Option OpenCall) (y : Completion) → takes item message u call ≡ Some y
+    → (w : ForAnItem call) × (receipt_ending item message u w.waiting.number w.buffer ≡ y)
+takes_item item message u None y e = absurd (none-some y e)
+takes_item item message u (Some o) y e = by_wait o.wait e where
+  by_wait : (w : Wait) → takes_into item message u o.number w ≡ Some y → (k : ForAnItem (Some (record { number = o.number; wait = w }))) × (receipt_ending item message u k.waiting.number k.buffer ≡ y)
+  by_wait (Answer coid sent reply_buffer receipt) e = absurd (none-some y e)
+  by_wait (ForItem chid kind buffer) e = (record { waiting = record { number = o.number; wait = ForItem chid kind buffer }; is = refl; chid = chid; kind = kind; buffer = buffer; waits = refl }, same_Some _ y e)
+
+module _ (f : Facts) (item : Item) (message : List ℕ) (o : Option ℕ) where
+  -- what is met waits for an item
+  pub met_item : (u : ℕ) (y : Completion) → delivers f item message (receiver f item o) u ≡ Some y → ForAnItem (f.open_call u)
+  met_item u y e = (takes_item item message u (f.open_call u) y (met_by f item message (receiver f item o) u y e).given).0
+
+  pub met_open : (u : ℕ) (y : Completion) → delivers f item message (receiver f item o) u ≡ Some y → IsOfOpen f u y
+  met_open u y e =
+      let k = taken_by item message u (f.open_call u) y (met_by f item message (receiver f item o) u y e).given in
+      record { waiting = k.waiting; is = k.is; call = k.call; thread = k.thread }
+
+  pub met_settled : (u : ℕ) (y : Completion) → delivers f item message (receiver f item o) u ≡ Some y → IsSettled (f.open_call u)
+  met_settled u y e w is =
+      let k = taken_by item message u (f.open_call u) y (met_by f item message (receiver f item o) u y e).given in
+      ap (λ v. is_settled v.wait) (same_Some w k.waiting (sym is ∙ k.is)) ∙ k.settled
+
+module _ (f : Facts) (t : ℕ) (o : Option ℕ) (c : Call) (item : Item) (message : List ℕ) (sender : Option ℕ)
+    (receipt_is : (row_of f t c).receipt ≡ receipt_when_sent f sender item message o (receiver f item o)) where
+  pub met_receipt : (u : ℕ) (y : Completion) (p : ℕ × ℕ) → delivers f item message (receiver f item o) u ≡ Some y → item_in_mark y.mark ≡ Some p → IsReceipt (row_of f t c) u p
+  met_receipt u y p e m =
+      let r = met_receives f sender item message o u y p e m in
+      record { receipt = r.0; is = receipt_is ∙ r.1; by = r.2; item = r.3; copied = r.4 }
+
+  -- the receipt of the row is of the item that is sent
+  pub met_received : ((u : ℕ) (y : Completion) → delivers f item message (receiver f item o) u ≡ Some y → (row_of f t c).ends u ≡ Some y) → f.open_call t ≡ None
+      → ((h : ℕ) → o ≡ Some h → makes f t c ≡ Some (record { item = item; channel = h })) → sender ≡ option_map (λ o. t) (asks f.number c) → (q : Received) → (row_of f t c).receipt ≡ Some q → IsReceived f t c q
+  met_received ends_met idle makes_is sender_is q e =
+      let s = sent_over_way f sender item message o (receiver f item o) q (sym receipt_is ∙ e) in
+      let other : eqb s.by t ≡ false = ne_eqb s.by t (λ same. none-some s.taken.waiting (sym idle ∙ ap f.open_call (sym same) ∙ s.taken.is)) in
+      let met = met_at f item message (receiver f item o) s.by s.given s.is_by s.is_given in
+      subst (IsReceived f t c) s.same (record {
+        item = item;
+        number = refl;
+        priority = refl;
+        fresh = refl;
+        source = inl (record {
+          made = makes_is s.channel s.is_channel;
+          sender_is = sender_is;
+        });
+        given = s.given;
+        is_given = subst (λ v. ending f t c v ≡ Some s.given) (sym s.taken.thread) (rw other (ends_met s.by s.given met));
+        mark = s.taken.mark;
+      })
+
+module _ (f : Facts) (t : ℕ) (o : Option ℕ) (c : Call) (item : Item) (message : List ℕ) (sender : Option ℕ) (ends_is : (u : ℕ) → (row_of f t c).ends u ≡ delivers f item message (receiver f item o) u)
+    (receipt_is : (row_of f t c).receipt ≡ receipt_when_sent f sender item message o (receiver f item o)) where
+  pub delivers_open : (u : ℕ) (y : Completion) → (row_of f t c).ends u ≡ Some y → IsOfOpen f u y
+  delivers_open u y e = met_open f item message o u y (sym (ends_is u) ∙ e)
+
+  pub delivers_settled : (u : ℕ) (y : Completion) → (row_of f t c).ends u ≡ Some y → IsSettled (f.open_call u)
+  delivers_settled u y e = met_settled f item message o u y (sym (ends_is u) ∙ e)
+
+  pub delivers_receipt : (u : ℕ) (y : Completion) (p : ℕ × ℕ) → (row_of f t c).ends u ≡ Some y → item_in_mark y.mark ≡ Some p → IsReceipt (row_of f t c) u p
+  delivers_receipt u y p e m = met_receipt f t o c item message sender receipt_is u y p (sym (ends_is u) ∙ e) m
+
+  pub delivers_received : f.open_call t ≡ None → ((h : ℕ) → o ≡ Some h → makes f t c ≡ Some (record { item = item; channel = h })) → sender ≡ option_map (λ o. t) (asks f.number c)
+      → (q : Received) → (row_of f t c).receipt ≡ Some q → IsReceived f t c q
+  delivers_received idle makes_is sender_is q e = met_received f t o c item message sender receipt_is (λ u y m. ends_is u ∙ m) idle makes_is sender_is q e

@@ -1,0 +1,89 @@
+-- The laws of a call that receives.
+use Rattle.std.proofs.Common.{◌≡◌, ◌∙◌, ℕ, List, ap, refl, sym, subst, inr}
+use Rattle.std.specs.Prelude.{Option, None, Some}
+use Rattle.std.proofs.lemmas.Option.{none-some, same_Some}
+use Rattle.qqueue.specs.Best.{best_of}
+use Rattle.qqueue.specs.declared.item.Item.{Item}
+use Rattle.qqueue.specs.declared.item.Kind.{Kind}
+use Rattle.qrules.specs.Private.Calls.{row_of}
+use Rattle.qrules.specs.Private.Facts.{Facts, message}
+use Rattle.qrules.specs.Private.Receiving.{own_receipt, receipt_when_taken, sender_for}
+use Rattle.qrules.specs.Private.Effects.{asks, makes, writes}
+use Rattle.qrules.specs.Private.Rows.{Received, item_in_mark, receipt_ending}
+use Rattle.qmodel.specs.declared.call.Call.{Call}
+use Rattle.qmodel.specs.declared.call.Completion.{Completion}
+use Rattle.qmodel.specs.declared.open_call.OpenCall.{OpenCall}
+use Rattle.qmodel.specs.declared.open_call.Wait.TheVariants.{Item as ForItem}
+use Rattle.qbase.proofs.Lists.{eqb_same}
+use Rattle.qrules.proofs.Traces.Past.Laws.{BeginsToWait, CallLaws, RowLaws, IsOwn, IsReceived}
+use Rattle.qrules.proofs.Traces.Calls.Taking.{given_no_failure, given_received, receipt_from, receipt_in_at}
+
+-- the open call of a receive
+abbrev pub receiver : ℕ → Kind → List ℕ → ℕ → OpenCall
+receiver chid kind buffer n = record { number = n; wait = ForItem chid kind buffer }
+
+pub receiving_call : (c : Call) (chid : ℕ) (kind : Kind) (buffer : List ℕ) → ((n : ℕ) → asks n c ≡ Some (receiver chid kind buffer n))
+    → ((f : Facts) (t : ℕ) → makes f t c ≡ None) → writes c ≡ None → CallLaws c
+receiving_call c chid kind buffer a m w = record {
+  asks_one = λ n o e. subst (BeginsToWait n) (same_Some (receiver chid kind buffer n) o (sym (a n) ∙ e)) (record { number = refl; fresh = refl });
+  makes_one = λ f t i e. absurd (none-some i (sym (m f t) ∙ e));
+  waits_write = λ n o e. w;
+  unblocks_none = λ none f t i e. absurd (none-some i (sym (m f t) ∙ e));
+  unblocks_one = λ v is f t i e. absurd (none-some i (sym (m f t) ∙ e));
+}
+
+own_one : (f : Facts) (t : ℕ) (buffer : List ℕ) (o : Option Item) (y : Completion) → own_receipt f t buffer o ≡ Some y → IsOwn f.number t y
+own_one f t buffer None y e = absurd (none-some y e)
+own_one f t buffer (Some item) y e = subst (IsOwn f.number t) (same_Some _ y e) (record { call = refl; thread = refl; mark = given_no_failure item (message f item.number) buffer })
+
+-- what it receives by its own ending is the receipt of the row
+record Own (f : Facts) (t chid : ℕ) (buffer : List ℕ) (o : Option Item) (p : ℕ × ℕ) : Type 0 where
+  receipt : Received
+  is : receipt_when_taken f chid (own_receipt f t buffer o) o ≡ Some receipt
+  by : receipt.by ≡ t
+  item : p.0 ≡ receipt.item
+  copied : p.1 ≡ receipt.kept.copied
+
+own_received : (f : Facts) (t chid : ℕ) (buffer : List ℕ) (o : Option Item) (y : Completion) (p : ℕ × ℕ) → own_receipt f t buffer o ≡ Some y → item_in_mark y.mark ≡ Some p → Own f t chid buffer o p
+own_received f t chid buffer None y p e m = absurd (none-some y e)
+own_received f t chid buffer (Some item) y p e m = record {
+  receipt = receipt_from chid (sender_for f item) item.priority t p;
+  is = receipt_in_at chid (sender_for f item) item.priority (Some (receipt_ending item (message f item.number) t f.number buffer)) (receipt_ending item (message f item.number) t f.number buffer) p refl
+      (ap (λ x. item_in_mark x.mark) (same_Some (receipt_ending item (message f item.number) t f.number buffer) y e) ∙ m);
+  by = refl;
+  item = refl;
+  copied = refl;
+}
+
+best_received : (f : Facts) (t : ℕ) (c : Call) (chid : ℕ) (kind : Kind) (buffer : List ℕ) (o : Option Item) (r : Received) → (row_of f t c).own ≡ own_receipt f t buffer o → best_of kind (f.pending chid) ≡ o
+    → receipt_when_taken f chid (own_receipt f t buffer o) o ≡ Some r → IsReceived f t c r
+best_received f t c chid kind buffer None r own is e = absurd (none-some r e)
+best_received f t c chid kind buffer (Some item) r own is e =
+    let g = given_received item (message f item.number) buffer in
+    let at = receipt_in_at chid (sender_for f item) item.priority (Some (receipt_ending item (message f item.number) t f.number buffer)) (receipt_ending item (message f item.number) t f.number buffer) (item.number, g.0) refl g.1 in
+    subst (IsReceived f t c) (same_Some (receipt_from chid (sender_for f item) item.priority t (item.number, g.0)) r (sym at ∙ e)) (record {
+      item = item;
+      number = refl;
+      priority = refl;
+      fresh = refl;
+      source = inr (record { kind = kind; best = is; sender_is = refl });
+      given = receipt_ending item (message f item.number) t f.number buffer;
+      is_given = rw (eqb_same t) own;
+      mark = g.1;
+    })
+
+pub receiving_row : (f : Facts) (t : ℕ) (c : Call) (chid : ℕ) (kind : Kind) (buffer : List ℕ) → (row_of f t c).own ≡ own_receipt f t buffer (best_of kind (f.pending chid)) → ((u : ℕ) → (row_of f t c).ends u ≡ None)
+    → (row_of f t c).receipt ≡ receipt_when_taken f chid (own_receipt f t buffer (best_of kind (f.pending chid))) (best_of kind (f.pending chid)) → makes f t c ≡ None → writes c ≡ None → RowLaws f t c
+receiving_row f t c chid kind buffer own ends receipt made written = record {
+  owns = λ y e. own_one f t buffer (best_of kind (f.pending chid)) y (sym own ∙ e);
+  ends_open = λ u y e. absurd (none-some y (sym (ends u) ∙ e));
+  ends_settled = λ mild u y e. absurd (none-some y (sym (ends u) ∙ e));
+  own_receives = λ y q e m.
+      let r = own_received f t chid buffer (best_of kind (f.pending chid)) y q (sym own ∙ e) m in
+      record { receipt = r.receipt; is = receipt ∙ r.is; by = r.by; item = r.item; copied = r.copied };
+  ends_receives = λ u y q e m. absurd (none-some y (sym (ends u) ∙ e));
+  receives = λ r e. best_received f t c chid kind buffer (best_of kind (f.pending chid)) r own refl (sym receipt ∙ e);
+  sends = λ m e message. absurd (none-some m (sym made ∙ e));
+  makes_open = λ m e. absurd (none-some m (sym made ∙ e));
+  writes_sent = λ w e. absurd (none-some w (sym written ∙ e));
+}

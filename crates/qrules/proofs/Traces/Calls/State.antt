@@ -1,0 +1,15 @@
+-- The laws of State.
+use Rattle.std.proofs.Common.{ℕ, refl, subst}
+use Rattle.std.proofs.lemmas.Option.{none-some, same_Some}
+use Rattle.qrules.specs.Private.Facts.{Facts}
+use Rattle.qmodel.specs.declared.call.Call.TheVariants.{State}
+use Rattle.qrules.proofs.Traces.Calls.Alone.{IsPlain, alone, waits_not}
+use Rattle.qrules.proofs.Traces.Past.Laws.{CallLaws, RowLaws, Passes}
+
+pub call_laws : (thread : ℕ) → CallLaws (State thread)
+call_laws thread = waits_not (State thread) (λ n. refl) (λ f t. refl)
+
+pub row_laws : (f : Facts) (t thread : ℕ) → Passes f t (State thread) → RowLaws f t (State thread)
+row_laws f t thread p =
+    alone f t (State thread) (λ y e. subst (IsPlain f.number t) (same_Some _ y e) (record { own = record { call = refl; thread = refl; mark = refl }; mark = refl })) (λ u. refl) refl refl
+    (λ w e. absurd (none-some w e))

@@ -1,0 +1,68 @@
+-- An open call that takes an item.
+use Rattle.std.proofs.Common.{◌≡◌, ℕ, List, cond, true, false, refl, subst}
+use Rattle.std.specs.Prelude.{Option, None, Some}
+use Rattle.std.proofs.lemmas.Option.{none-some, same_Some}
+use Rattle.qbase.specs.Laying.{laid_count, lay_over}
+use Rattle.qqueue.specs.Best.{is_pulse}
+use Rattle.qqueue.specs.declared.item.Item.{Item}
+use Rattle.qrules.specs.Private.Past.{is_failure}
+use Rattle.qrules.specs.Private.Rows.{delivery_of, takes, takes_into, item_in_mark, Received, receipt_in}
+use Rattle.qmodel.specs.declared.call.Completion.{Completion}
+use Rattle.qmodel.specs.declared.call.Mark.{Mark}
+use Rattle.qmodel.specs.declared.call.Mark.TheVariants as mark
+use Rattle.qmodel.specs.declared.open_call.OpenCall.{OpenCall}
+use Rattle.qmodel.specs.declared.open_call.Wait.{Wait}
+use Rattle.qmodel.specs.declared.open_call.Wait.TheVariants.{Answer, Item as ForItem}
+use Rattle.qrules.proofs.Traces.Past.Laws.{is_settled}
+
+-- ---- the mark of a receipt
+
+-- it receives the item
+pub given_received : (item : Item) (message buffer : List ℕ) → (copied : ℕ) × (item_in_mark (delivery_of item message buffer).0 ≡ Some (item.number, copied))
+given_received item message buffer =
+    elim (is_pulse item.what) as (λ b. (copied : ℕ) × (item_in_mark (cond {A = Mark × List ℕ} b (mark.Pulse item.number item.priority item.what, buffer) (mark.Message item.number (laid_count buffer 0 message), lay_over buffer 0 message)).0 ≡ Some (item.number, copied))) [
+      | true ↦ (0, refl)
+      | false ↦ (laid_count buffer 0 message, refl)
+    ]
+
+-- any other than a receipt's is told apart by it
+pub given_is : {A : Type 0} (g : Mark → A) (x : A) → ((i : ℕ) (n : ℕ) → g (mark.Message i n) ≡ x) → (item : Item) (message buffer : List ℕ) → g (mark.Pulse item.number item.priority item.what) ≡ x → g (delivery_of item message buffer).0 ≡ x
+given_is g x h item message buffer pulse =
+    elim (is_pulse item.what) as (λ b. g (cond {A = Mark × List ℕ} b (mark.Pulse item.number item.priority item.what, buffer) (mark.Message item.number (laid_count buffer 0 message), lay_over buffer 0 message)).0 ≡ x) [
+      | true ↦ pulse
+      | false ↦ h item.number (laid_count buffer 0 message)
+    ]
+
+pub given_no_failure : (item : Item) (message buffer : List ℕ) → is_failure (delivery_of item message buffer).0 ≡ false
+given_no_failure item message buffer = given_is is_failure false (λ i n. refl) item message buffer refl
+
+-- ---- the open call
+
+-- the open call w of thread u waits for an item, and the ending y of it takes item i
+pub record Taken (i u : ℕ) (o : Option OpenCall) (y : Completion) : Type 0 where
+  pub waiting : OpenCall
+  pub is : o ≡ Some waiting
+  pub settled : is_settled waiting.wait ≡ true
+  pub call : y.call ≡ waiting.number
+  pub thread : y.thread ≡ u
+  pub copied : ℕ
+  pub mark : item_in_mark y.mark ≡ Some (i, copied)
+
+taken_into : (item : Item) (message : List ℕ) (u m : ℕ) (w : Wait) (y : Completion) → takes_into item message u m w ≡ Some y → Taken item.number u (Some (record { number = m; wait = w })) y
+taken_into item message u m (Answer coid sent reply_buffer receipt) y e = absurd (none-some y e)
+taken_into item message u m (ForItem chid kind buffer) y e =
+    let g = given_received item message buffer in
+    subst (Taken item.number u (Some (record { number = m; wait = ForItem chid kind buffer }))) (same_Some _ y e)
+    (record { waiting = record { number = m; wait = ForItem chid kind buffer }; is = refl; settled = refl; call = refl; thread = refl; copied = g.0; mark = g.1 })
+
+pub taken_by : (item : Item) (message : List ℕ) (u : ℕ) (o : Option OpenCall) (y : Completion) → takes item message u o ≡ Some y → Taken item.number u o y
+taken_by item message u None y e = absurd (none-some y e)
+taken_by item message u (Some o) y e = taken_into item message u o.number o.wait y e
+
+-- the receipt that an ending with such a mark is
+abbrev pub receipt_from : ℕ → Option ℕ → ℕ → ℕ → ℕ × ℕ → Received
+receipt_from h sender priority u p = record { item = p.0; channel = h; by = u; sender = sender; kept = record { priority = priority; copied = p.1; unblocked = false } }
+
+pub receipt_in_at : (h : ℕ) (sender : Option ℕ) (priority : ℕ) (o : Option Completion) (y : Completion) (p : ℕ × ℕ) → o ≡ Some y → item_in_mark y.mark ≡ Some p
+    → receipt_in h sender priority o ≡ Some (receipt_from h sender priority y.thread p)
+receipt_in_at h sender priority o y p e m = rw (e, m) refl

@@ -1,0 +1,62 @@
+-- Where memory doesn't run out, a run is a function of its calls.
+use Rattle.std.proofs.Common.{◌≡◌, ℕ, List, [], ◌∷◌, map, refl, ap, sym, subst, ◌∙◌, inl, inr}
+use Rattle.std.specs.Prelude.{Some}
+use Rattle.std.specs.List.{AllByRecursion}
+use Rattle.std.proofs.lemmas.Option.{none-some}
+use Rattle.qbase.specs.declared.errno.Errno.{Errno}
+use Rattle.qbase.specs.declared.errno.Errno.TheVariants.{NoMemory}
+use Rattle.qtables.specs.declared.member.Member.{Member}
+use Rattle.qmodel.specs.declared.call.Call.{Call}
+use Rattle.qmodel.specs.declared.call.Completion.{Completion}
+use Rattle.qmodel.specs.declared.call.Mark.TheVariants as mark
+use Rattle.qrules.specs.Private.Answer.{Answers, MayRefuse, refusal, refusal_ending}
+use Rattle.qrules.specs.Private.Facts.{Facts}
+use Rattle.qrules.specs.Private.Lawful.{IsLawful, facts_of, followed_by}
+use Rattle.qrules.specs.Private.OnlyRun.{event_call, HadMemory, IsOnlyRun}
+use Rattle.qmodel.specs.Trace.{Event, Trace}
+
+-- no ending says that there was no memory
+abbrev Fine : List Completion → Type 0
+Fine X = AllByRecursion (λ x. x.mark ≡ mark.Failed NoMemory → ⊥) X
+
+-- a refusal for another reason than memory is the first that applies
+first_refusal : (f : Facts) (t : ℕ) (c : Call) (e : Errno) (X : List Completion) → MayRefuse f t c e → X ≡ refusal_ending f t c e ∷ [] → Fine X → refusal f t c ≡ Some e
+first_refusal f t c e X (inl first) is fine = first
+first_refusal f t c e X (inr short) is fine = absurd ((subst Fine is fine).0 (ap mark.Failed (short.2)))
+
+one_answer : (f : Facts) (t : ℕ) (c : Call) (X Y : List Completion) → Answers f t c X → Answers f t c Y → Fine X → Fine Y → X ≡ Y
+one_answer f t c X Y (inl x) (inl y) p q = x.1 ∙ sym y.1
+one_answer f t c X Y (inl x) (inr y) p q = absurd (none-some y.0 (sym x.0 ∙ first_refusal f t c y.0 Y y.1 y.2 q))
+one_answer f t c X Y (inr x) (inl y) p q = absurd (none-some x.0 (sym y.0 ∙ first_refusal f t c x.0 X x.1 x.2 p))
+one_answer f t c X Y (inr x) (inr y) p q =
+    let same : x.0 ≡ y.0 = cc (first_refusal f t c x.0 X x.1 x.2 p, first_refusal f t c y.0 Y y.1 y.2 q) in
+    x.2 ∙ ap (λ e. refusal_ending f t c e ∷ []) same ∙ sym y.2
+
+-- the past of a lawful trace is lawful
+lawful_past : (roster : List Member) (past : Trace) (events : List Event) → IsLawful roster (followed_by past events) → IsLawful roster past
+lawful_past roster past [] l = l
+lawful_past roster past (e ∷ events) l = (lawful_past roster (e ∷ past) events l).0
+
+same_event : (t : ℕ) (c : Call) (X : List Completion) (o : Event) → o.thread ≡ t → o.call ≡ c → o.endings ≡ X → o ≡ record { thread = t; call = c; endings = X }
+same_event t c X o thread call endings = rw (sym thread, sym call, sym endings) refl
+
+only_run-by : (roster : List Member) (past : Trace) (events : List Event) → IsLawful roster (followed_by past events) → HadMemory events → (others : List Event)
+    → map event_call others ≡ map event_call events → IsLawful roster (followed_by past others) → HadMemory others → others ≡ events
+only_run-by roster past [] l h [] same m g = refl
+only_run-by roster past [] l h (o ∷ others) same m g = cc
+only_run-by roster past (e ∷ events) l h [] same m g = cc
+only_run-by roster past (e ∷ events) l h (o ∷ others) same m g =
+    let first : IsLawful roster (e ∷ past) = lawful_past roster (e ∷ past) events l in
+    let other : IsLawful roster (o ∷ past) = lawful_past roster (o ∷ past) others m in
+    let told : event_call o ≡ event_call e = cc in
+    let thread : o.thread ≡ e.thread = ap (λ p. p.0) told in
+    let call : o.call ≡ e.call = ap (λ p. p.1) told in
+    let rest : map event_call others ≡ map event_call events = cc in
+    let answers : Answers (facts_of roster past) e.thread e.call o.endings = subst (λ p. Answers (facts_of roster past) p.0 p.1 o.endings) told other.2 in
+    let endings : o.endings ≡ e.endings = one_answer (facts_of roster past) e.thread e.call o.endings e.endings answers first.2 g.0 h.0 in
+    let event : o ≡ e = same_event e.thread e.call e.endings o thread call endings in
+    let after : others ≡ events = only_run-by roster (e ∷ past) events l h.1 others rest (subst (λ x. IsLawful roster (followed_by (x ∷ past) others)) event m) g.1 in
+    cc
+
+pub only_run : (roster : List Member) (past : Trace) (events : List Event) → IsLawful roster (followed_by past events) → IsOnlyRun roster past events
+only_run roster past events l h others same m g = only_run-by roster past events l h others same m g

@@ -1,0 +1,63 @@
+-- Parts of the look-ups, each by what was found so far, which is what the proofs split on.
+use Rattle.std.specs.Prelude.{◌&&◌, Bool, false, is_some, ℤ, List, Option, None, Some, if◌then◌else◌}
+use Rattle.std.specs.Option.{option_and_then, option_map_or}
+use Rattle.qbase.specs.declared.errno.Errno.{Errno}
+use Rattle.qbase.specs.declared.errno.Errno.TheVariants.{Badf, Inval}
+use Rattle.qtables.specs.declared.connection.Connection.{Connection}
+use Rattle.qtables.specs.declared.member.Member.{Member}
+use Rattle.qmodel.specs.declared.open_call.OpenCall.{OpenCall}
+use Rattle.qmodel.specs.declared.open_call.Receipt.{Receipt}
+use Rattle.qrules.specs.Private.Calls.ConnectDetach.{detach_pulse, is_last_connection}
+use Rattle.qrules.specs.Private.Calls.Pulse.{is_negative}
+use Rattle.qrules.specs.Private.Calls.Unblock.{due_pulse_of_wait}
+use Rattle.qrules.specs.Private.Facts.{Facts, is_of_process, owns}
+use Rattle.qmodel.specs.Trace.{OpenChannel}
+use Rattle.qrules.specs.Private.Held.{is_held_by}
+use Rattle.qmodel.specs.Trace.{CallNo, ChannelId, ReceiveId, ThreadNo}
+use Rattle.qrules.specs.Private.Lawful.{facts_of}
+use Rattle.qrules.specs.Private.Pulses.{refusal_if_full}
+use Rattle.qrules.specs.Private.Rows.{unblock_item}
+use Rattle.qmodel.specs.Trace.{SentItem}
+use Rattle.qmodel.specs.Trace.{Trace}
+
+-- this channel is of the thread's process
+abbrev pub is_owned_by : Facts → ThreadNo → Option OpenChannel → Bool
+is_owned_by f t channel = option_map_or (λ c. is_of_process f t c.owner) channel false
+
+-- the channel that this connection leads to, where the thread's process attached it and the channel is open
+abbrev pub leads_to : Facts → ThreadNo → Option Connection → Option ChannelId
+leads_to f t connection =
+    option_and_then (λ c. if is_of_process f t c.process && is_some (f.channel c.channel) then Some c.channel else None) connection
+
+-- the channel of a connection is of the thread's process
+abbrev pub owns_end : Facts → ThreadNo → Option Connection → Bool
+owns_end f t connection = option_map_or (λ c. owns f t c.channel) connection false
+
+-- a thread's open call is a Send whose message is held, on a channel of the process of thread t
+abbrev pub is_held_for : Facts → ThreadNo → Option OpenCall → Bool
+is_held_for f t call = option_map_or (λ o. is_held_by f t o.wait) call false
+
+-- the unblock pulse for message i, held with this receipt on channel h; none where one was made
+abbrev pub due_pulse_on : CallNo → ReceiveId → Receipt → Option ChannelId → Option SentItem
+due_pulse_on n i receipt channel =
+    option_and_then (λ h. if receipt.unblocked then None else Some (record { item = unblock_item n receipt.priority i; channel = h })) channel
+
+-- the unblock pulse that is due for a thread's open call
+abbrev pub due_pulse_of_open : Facts → Option OpenCall → Option SentItem
+due_pulse_of_open f call = option_and_then (λ o. due_pulse_of_wait f o.number o.wait) call
+
+-- the disconnect pulse that is due for this connection
+abbrev pub due_pulse_over : Facts → ThreadNo → Option Connection → Option SentItem
+due_pulse_over f t connection = option_and_then (λ c. if is_last_connection f c then Some (detach_pulse f t c) else None) connection
+
+-- the connection is live, and of the thread's process
+abbrev pub is_own : Facts → ThreadNo → Option Connection → Bool
+is_own f t connection = option_map_or (λ c. is_of_process f t c.process) connection false
+
+-- why a pulse to this channel is refused
+abbrev pub refusal_on : Facts → ℤ → Option ChannelId → Option Errno
+refusal_on f code channel = option_map_or (λ h. if is_negative code then Some Inval else refusal_if_full f h) channel (Some Badf)
+
+-- the thread's process owns this channel
+abbrev pub owns_that : List Member → Trace → ThreadNo → Option ChannelId → Bool
+owns_that roster past t channel = option_map_or (λ h. owns (facts_of roster past) t h) channel false

@@ -1,0 +1,78 @@
+-- Which channels are open after one more event.
+use Rattle.std.proofs.Common.{◌≡◌, ℕ, ◌+◌, List, ◌∷◌, length, refl, sym, subst, cond, true, false}
+use Rattle.std.specs.Prelude.{Option, None, Some, is_some, ◌||◌}
+use Rattle.std.proofs.lemmas.Bool.{eqb-true, true≢false}
+use Rattle.std.proofs.lemmas.Option.{none-some}
+use Rattle.qbase.specs.declared.errno.Errno.TheVariants.{Inval}
+use Rattle.qtables.specs.Members.{member_at}
+use Rattle.qtables.specs.declared.member.Member.{Member}
+use Rattle.qrules.specs.Private.Answer.{Outcome}
+use Rattle.qrules.specs.Private.Calls.{row_of}
+use Rattle.qrules.specs.Private.Facts.{Facts, owns}
+use Rattle.qmodel.specs.Trace.{OpenChannel}
+use Rattle.qrules.proofs.Traces.Parts.{is_owned_by}
+use Rattle.qrules.specs.Private.Lawful.{facts_of, IsLawful, with_event}
+use Rattle.qrules.specs.Private.Effects.{closes, creates}
+use Rattle.qrules.specs.Private.Past.{channel_at, is_closed, open_channels, refuses}
+use Rattle.qrules.specs.Private.Rows.{names}
+use Rattle.qrules.specs.Private.Step.{channel_after, one_for}
+use Rattle.qmodel.specs.Trace.{Event, Trace}
+use Rattle.qmodel.specs.declared.call.Call.{Call}
+use Rattle.qmodel.specs.declared.call.Call.TheVariants.{ChannelCreate, ChannelDestroy}
+use Rattle.qmodel.specs.declared.call.Completion.{Completion}
+use Rattle.qrules.proofs.Traces.Past.Ends.{passes_of}
+use Rattle.qrules.proofs.Traces.Past.Live.{IsLive, count_live_accepted, count_live_refused, gone_accepted, gone_refused, live_accepted, live_parts, live_refused}
+
+-- ---- by each call's row
+
+-- a channel of the thread's process is open
+pub owned_open : (f : Facts) (t : ℕ) (o : Option OpenChannel) → is_owned_by f t o ≡ true → is_some o ≡ true
+owned_open f t None e = absurd (true≢false (sym e))
+owned_open f t (Some c) e = refl
+
+-- an accepted call destroys a channel that is open
+pub closes_open : (f : Facts) (t : ℕ) (c : Call) (h : ℕ) → (row_of f t c).refusal ≡ None → names (closes c) h ≡ true → is_some (f.channel h) ≡ true
+closes_open f t (ChannelDestroy chid) h r e =
+    elim (owns f t chid) as (λ b. owns f t chid ≡ b → cond b None (Some Inval) ≡ None → is_some (f.channel h) ≡ true) [
+      | true ↦ λ own _. subst (λ k. is_some (f.channel k) ≡ true) (eqb-true chid h e) (owned_open f t (f.channel chid) own)
+      | false ↦ λ own s. absurd (none-some Inval (sym s))
+    ] refl r
+closes_open f t c h r e = absurd (true≢false (sym e))
+
+-- and creates none
+pub closes_alone : (m : Option Member) (c : Call) (h : ℕ) → closes c ≡ Some h → creates m c ≡ None
+closes_alone None c h e = refl
+closes_alone (Some m) (ChannelCreate flags) h e = absurd (none-some h e)
+closes_alone (Some m) c h e = refl
+
+-- ---- the channels after one more event
+
+closes_live : (roster : List Member) (past : Trace) (t : ℕ) (c : Call) (X : List Completion) → Outcome true (facts_of roster past) t c X → (h : ℕ) → names (closes c) h ≡ true → is_some (channel_at roster past h) ≡ true
+closes_live roster past t c X a h e = closes_open (facts_of roster past) t c h (passes_of (facts_of roster past) t c X a).row e
+
+-- an open channel was created, and isn't destroyed
+abbrev pub IsOpenAt : List Member → Trace → ℕ → Type 0
+IsOpenAt roster past h = IsLive roster creates closes past h
+
+pub open_at : (roster : List Member) (past : Trace) (h : ℕ) → is_some (channel_at roster past h) ≡ true → IsOpenAt roster past h
+open_at roster past h e = live_parts roster creates closes past h e
+
+pub closed_refused : (roster : List Member) (e : Event) (past : Trace) (h : ℕ) → refuses e.endings (length past + 1) ≡ true → is_closed (e ∷ past) h ≡ is_closed past h
+closed_refused roster e past h r = gone_refused roster creates closes e past h r
+
+pub closed_accepted : (roster : List Member) (e : Event) (past : Trace) (h : ℕ) → refuses e.endings (length past + 1) ≡ false → is_closed (e ∷ past) h ≡ (names (closes e.call) h || is_closed past h)
+closed_accepted roster e past h r = gone_accepted roster creates closes e past h r
+
+pub channel_refused : (roster : List Member) (e : Event) (past : Trace) (h : ℕ) → refuses e.endings (length past + 1) ≡ true → channel_at roster (e ∷ past) h ≡ channel_at roster past h
+channel_refused roster e past h r = live_refused roster creates closes e past h r
+
+pub channel_accepted : (roster : List Member) (past : Trace) (t : ℕ) (c : Call) (X : List Completion) (h : ℕ) → IsLawful roster past → Outcome true (facts_of roster past) t c X
+    → channel_at roster (with_event t c X past) h ≡ channel_after (facts_of roster past) t c h
+channel_accepted roster past t c X h l a = live_accepted roster creates closes (closes_live roster) closes_alone past t c X h l a
+
+pub open_channels_refused : (roster : List Member) (e : Event) (past : Trace) → refuses e.endings (length past + 1) ≡ true → open_channels roster (e ∷ past) ≡ open_channels roster past
+open_channels_refused roster e past r = count_live_refused roster creates closes e past r
+
+pub open_channels_accepted : (roster : List Member) (past : Trace) (t : ℕ) (c : Call) (X : List Completion) → IsLawful roster past → Outcome true (facts_of roster past) t c X
+    → open_channels roster (with_event t c X past) + one_for (closes c) ≡ open_channels roster past + one_for (creates (member_at roster t) c)
+open_channels_accepted roster past t c X l a = count_live_accepted roster creates closes (closes_live roster) closes_alone past t c X l a

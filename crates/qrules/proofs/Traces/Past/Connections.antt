@@ -1,0 +1,71 @@
+-- Which connections are live after one more event.
+use Rattle.std.proofs.Common.{◌≡◌, ℕ, ◌+◌, List, ◌∷◌, length, refl, ap, sym, subst, cond, true, false}
+use Rattle.std.specs.Prelude.{Option, None, Some, is_some}
+use Rattle.std.proofs.lemmas.Bool.{eqb-true, true≢false}
+use Rattle.std.proofs.lemmas.Option.{none-some}
+use Rattle.qbase.specs.declared.errno.Errno.TheVariants.{Inval}
+use Rattle.qtables.specs.Members.{member_at}
+use Rattle.qtables.specs.declared.connection.Connection.{Connection}
+use Rattle.qtables.specs.declared.member.Member.{Member}
+use Rattle.qrules.specs.Private.Answer.{Outcome}
+use Rattle.qrules.specs.Private.Calls.{row_of}
+use Rattle.qrules.specs.Private.Calls.ConnectDetach.{due_pulse}
+use Rattle.qrules.proofs.Traces.Parts.{is_own}
+use Rattle.qrules.specs.Private.Facts.{Facts}
+use Rattle.qrules.specs.Private.Lawful.{facts_of, IsLawful, with_event}
+use Rattle.qrules.specs.Private.Effects.{attaches, detaches}
+use Rattle.qrules.specs.Private.Past.{attached_connection, connection_at, live_connections, refuses}
+use Rattle.qrules.specs.Private.Pulses.{refusal_if_full_for}
+use Rattle.qrules.specs.Private.Rows.{names}
+use Rattle.qrules.specs.Private.Step.{connection_after, one_for}
+use Rattle.qmodel.specs.Trace.{Event, Trace}
+use Rattle.qmodel.specs.declared.call.Call.{Call}
+use Rattle.qmodel.specs.declared.call.Call.TheVariants.{ConnectAttach, ConnectDetach}
+use Rattle.qmodel.specs.declared.call.Completion.{Completion}
+use Rattle.qrules.proofs.Traces.Past.Ends.{passes_of}
+use Rattle.qrules.proofs.Traces.Past.Live.{count_live_accepted, count_live_refused, live_accepted, live_parts, live_refused}
+
+-- ---- by each call's row
+
+-- a connection of the thread's process is live
+own_live : (f : Facts) (t : ℕ) (o : Option Connection) → is_own f t o ≡ true → is_some o ≡ true
+own_live f t None e = absurd (true≢false (sym e))
+own_live f t (Some c) e = refl
+
+-- an accepted call detaches a connection that is live
+detaches_one : (f : Facts) (t : ℕ) (c : Call) (k : ℕ) → (row_of f t c).refusal ≡ None → names (detaches c) k ≡ true → is_some (f.connection k) ≡ true
+detaches_one f t (ConnectDetach coid) k r e =
+    elim (is_own f t (f.connection coid)) as (λ b. is_own f t (f.connection coid) ≡ b → cond b (refusal_if_full_for f (due_pulse f t coid)) (Some Inval) ≡ None → is_some (f.connection k) ≡ true) [
+      | true ↦ λ own _. subst (λ j. is_some (f.connection j) ≡ true) (eqb-true coid k e) (own_live f t (f.connection coid) own)
+      | false ↦ λ own s. absurd (none-some Inval (sym s))
+    ] refl r
+detaches_one f t c k r e = absurd (true≢false (sym e))
+
+-- and attaches none
+detaches_alone : (m : Option Member) (c : Call) (k : ℕ) → detaches c ≡ Some k → attaches m c ≡ None
+detaches_alone None c k e = refl
+detaches_alone (Some m) (ConnectAttach chid) k e = absurd (none-some k e)
+detaches_alone (Some m) c k e = refl
+
+-- ---- the connections after one more event
+
+detaches_live : (roster : List Member) (past : Trace) (t : ℕ) (c : Call) (X : List Completion) → Outcome true (facts_of roster past) t c X → (k : ℕ) → names (detaches c) k ≡ true → is_some (connection_at roster past k) ≡ true
+detaches_live roster past t c X a k e = detaches_one (facts_of roster past) t c k (passes_of (facts_of roster past) t c X a).row e
+
+pub connection_refused : (roster : List Member) (e : Event) (past : Trace) (k : ℕ) → refuses e.endings (length past + 1) ≡ true → connection_at roster (e ∷ past) k ≡ connection_at roster past k
+connection_refused roster e past k r = live_refused roster attaches detaches e past k r
+
+pub connection_accepted : (roster : List Member) (past : Trace) (t : ℕ) (c : Call) (X : List Completion) (k : ℕ) → IsLawful roster past → Outcome true (facts_of roster past) t c X
+    → connection_at roster (with_event t c X past) k ≡ connection_after (facts_of roster past) t c k
+connection_accepted roster past t c X k l a = live_accepted roster attaches detaches (detaches_live roster) detaches_alone past t c X k l a
+
+pub live_connections_refused : (roster : List Member) (e : Event) (past : Trace) → refuses e.endings (length past + 1) ≡ true → live_connections roster (e ∷ past) ≡ live_connections roster past
+live_connections_refused roster e past r = count_live_refused roster attaches detaches e past r
+
+pub live_connections_accepted : (roster : List Member) (past : Trace) (t : ℕ) (c : Call) (X : List Completion) → IsLawful roster past → Outcome true (facts_of roster past) t c X
+    → live_connections roster (with_event t c X past) + one_for (detaches c) ≡ live_connections roster past + one_for (attaches (member_at roster t) c)
+live_connections_accepted roster past t c X l a = count_live_accepted roster attaches detaches (detaches_live roster) detaches_alone past t c X l a
+
+-- a live connection was attached
+pub live_attached : (roster : List Member) (past : Trace) (k : ℕ) → is_some (connection_at roster past k) ≡ true → connection_at roster past k ≡ attached_connection roster past k
+live_attached roster past k e = ap (λ b. cond b None (attached_connection roster past k)) (live_parts roster attaches detaches past k e).standing

@@ -1,0 +1,165 @@
+-- What the endings of an event are of: the event's own call, or what another thread waits for.
+use Rattle.std.proofs.Common.{◌≡◌, ◌≢◌, ℕ, ◌+◌, ◌<◌, ◌≤◌, List, [], ◌∷◌, length, refl, ap, sym, subst, ◌∙◌, cond, arith, true, false, eqb, ◌⊎◌, inl, inr}
+use Rattle.std.specs.Prelude.{None, Some, is_some}
+use Rattle.std.specs.List.{list_any, filter_map, AllByRecursion}
+use Rattle.std.proofs.lemmas.Bool.{eqb-true, eq-eqb, ne_eqb}
+use Rattle.std.proofs.lemmas.Option.{none-some, same_Some}
+use Rattle.std.proofs.Math.Bool.{and-false}
+use Rattle.qbase.specs.declared.errno.Errno.TheVariants.{Down, Busy}
+use Rattle.qtables.specs.Members.{member_at}
+use Rattle.qtables.specs.declared.member.Member.{Member}
+use Rattle.qrules.specs.Private.Answer.{refusal, ending, Outcome, Answers}
+use Rattle.qrules.specs.Private.Calls.{row_of}
+use Rattle.qrules.specs.Private.Facts.{Facts, threads_of}
+use Rattle.qrules.specs.Private.Lawful.{facts_of, IsLawful}
+use Rattle.qrules.specs.Private.Past.{has_ending_of, refuses, is_ended, newest_block, open_call}
+use Rattle.qmodel.specs.Trace.{Trace}
+use Rattle.qmodel.specs.declared.call.Call.{Call}
+use Rattle.qmodel.specs.declared.call.Completion.{Completion}
+use Rattle.qmodel.specs.declared.open_call.OpenCall.{OpenCall}
+use Rattle.qbase.proofs.Lists.{eqb_same, any_filter_map, any_filter_map_at, all_filter_map}
+use Rattle.qrules.proofs.Traces.Past.Laws.{Passes, RowLaws, IsOwn, IsOfOpen}
+use Rattle.qrules.proofs.Traces.Calls.{row_laws}
+use Rattle.qrules.proofs.Traces.Past.Numbers.{block_cases, open_parts, open_below, open_thread}
+use Rattle.qrules.proofs.Traces.Rosters.{known}
+
+-- ---- what an accepted call passed
+
+pub row_passes : (f : Facts) (t : ℕ) (c : Call) → refusal f t c ≡ None → Passes f t c
+row_passes f t c e =
+    elim (f.down) as (λ b. f.down ≡ b → cond b (Some Down) (cond (is_some (f.open_call t)) (Some Busy) (row_of f t c).refusal) ≡ None → Passes f t c) [
+      | true ↦ λ down h. absurd (none-some Down (sym h))
+      | false ↦ λ up h.
+          elim (f.open_call t) as (λ o. f.open_call t ≡ o → cond (is_some o) (Some Busy) (row_of f t c).refusal ≡ None → Passes f t c) [
+            | None ↦ λ is passed. record { up = up; idle = is; row = passed }
+            | Some w ↦ λ is passed. absurd (none-some Busy (sym passed))
+          ] refl h
+    ] refl e
+
+pub passes_of : (f : Facts) (t : ℕ) (c : Call) (X : List Completion) → Outcome true f t c X → Passes f t c
+passes_of f t c X a = row_passes f t c a.0
+
+pub laws_of : (f : Facts) (t : ℕ) (c : Call) (X : List Completion) → Outcome true f t c X → RowLaws f t c
+laws_of f t c X a = row_laws f t c (row_passes f t c a.0)
+
+-- ---- each ending is the call's own, or of what its thread waits for
+
+pub record IsOwnOf (f : Facts) (t : ℕ) (c : Call) (v : ℕ) (y : Completion) : Type 0 where
+  pub thread : v ≡ t
+  pub is : (row_of f t c).own ≡ Some y
+  pub names : IsOwn f.number t y
+
+pub record IsOther (f : Facts) (t : ℕ) (c : Call) (v : ℕ) (y : Completion) : Type 0 where
+  pub thread : eqb v t ≡ false
+  pub is : (row_of f t c).ends v ≡ Some y
+  pub names : IsOfOpen f v y
+
+pub ending_names : (f : Facts) (t : ℕ) (c : Call) (v : ℕ) (y : Completion) → RowLaws f t c → ending f t c v ≡ Some y → IsOwnOf f t c v y ⊎ IsOther f t c v y
+ending_names f t c v y laws e =
+    elim (eqb v t) as (λ b. eqb v t ≡ b → cond b (row_of f t c).own ((row_of f t c).ends v) ≡ Some y → IsOwnOf f t c v y ⊎ IsOther f t c v y) [
+      | true ↦ λ h o. inl (record { thread = eqb-true v t h; is = o; names = laws.owns y o })
+      | false ↦ λ h o. inr (record { thread = h; is = o; names = laws.ends_open v y o })
+    ] refl e
+
+-- an ending of another thread is of a number of the past
+pub other_below : (roster : List Member) (past : Trace) (v : ℕ) (y : Completion) → IsOfOpen (facts_of roster past) v y → y.call ≤ length past
+other_below roster past v y h = let below : h.waiting.number ≤ length past = open_below roster past v h.waiting h.is in omega (arith, h.call)
+
+-- no ending of an accepted call refuses it
+pub accepted : (roster : List Member) (past : Trace) (t : ℕ) (c : Call) (X : List Completion) → Outcome true (facts_of roster past) t c X → refuses X (length past + 1) ≡ false
+accepted roster past t c X a = rw (a.1) (any_filter_map _ (ending (facts_of roster past) t c) (threads_of roster) (λ v y e.
+    elim (ending_names (facts_of roster past) t c v y (laws_of (facts_of roster past) t c X a) e) [
+      | inl h ↦ rw (h.names.mark) (and-false _)
+      | inr h ↦
+          let below : y.call ≤ length past = other_below roster past v y h.names in
+          let other : eqb y.call (length past + 1) ≡ false = ne_eqb _ _ (λ same. omega arith) in
+          rw other refl
+    ]))
+
+pub refused : (roster : List Member) (past : Trace) (t : ℕ) (c : Call) (X : List Completion) → Outcome false (facts_of roster past) t c X → refuses X (length past + 1) ≡ true
+refused roster past t c X a = rw (a.2, eqb_same (length past + 1)) refl
+
+-- the endings of a refused call end no earlier call
+pub refused_ends : (roster : List Member) (past : Trace) (t : ℕ) (c : Call) (X : List Completion) (i : ℕ) → Outcome false (facts_of roster past) t c X → i ≢ length past + 1 → has_ending_of X i ≡ false
+refused_ends roster past t c X i a other = let e : eqb (length past + 1) i ≡ false = ne_eqb _ _ (λ same. other (sym same)) in rw (a.2, e) refl
+
+-- an ending names this call or an earlier one
+pub names_below : (roster : List Member) (past : Trace) (t : ℕ) (c : Call) (X : List Completion) (i : ℕ) → Answers (facts_of roster past) t c X → length past + 1 < i → has_ending_of X i ≡ false
+names_below roster past t c X i a l = elim a [
+  | inl a ↦ rw (a.1) (any_filter_map _ (ending (facts_of roster past) t c) (threads_of roster) (λ v y e.
+      elim (ending_names (facts_of roster past) t c v y (laws_of (facts_of roster past) t c X a) e) [
+        | inl h ↦ ne_eqb _ _ (λ same. omega (arith, h.names.call))
+        | inr h ↦ let below : y.call ≤ length past = other_below roster past v y h.names in ne_eqb _ _ (λ same. omega arith)
+      ]))
+  | inr a ↦ refused_ends roster past t c X i a (λ same. omega arith)
+]
+
+pub ended_below : (roster : List Member) (past : Trace) (i : ℕ) → IsLawful roster past → length past < i → is_ended past i ≡ false
+ended_below roster [] i l h = refl
+ended_below roster (e ∷ past) i l h = rw (names_below roster past e.thread e.call e.endings i l.2 (omega arith), ended_below roster past i l.0 (omega arith)) refl
+
+-- ---- threads of the roster
+
+-- a thread that waits is one of the roster
+pub block_known : (roster : List Member) (past : Trace) (u : ℕ) (b : OpenCall) → IsLawful roster past → newest_block past u ≡ Some b → is_some (member_at roster u) ≡ true
+block_known roster [] u b l is = absurd (none-some b is)
+block_known roster (e ∷ past) u b l is = elim (block_cases e past u b is) [
+  | inl h ↦ subst (λ v. is_some (member_at roster v) ≡ true) h.thread l.1
+  | inr h ↦ block_known roster past u b l.0 h
+]
+
+pub open_known : (roster : List Member) (past : Trace) (u : ℕ) (o : OpenCall) → IsLawful roster past → open_call roster past u ≡ Some o → is_some (member_at roster u) ≡ true
+open_known roster past u o l is = let k = open_parts roster past u o is in block_known roster past u k.block l k.is
+
+-- ---- what an accepted call ends
+
+-- of another thread's open call: just what its row says
+pub ends_other : (roster : List Member) (past : Trace) (t : ℕ) (c : Call) (X : List Completion) (u : ℕ) (o : OpenCall) → IsLawful roster past → Outcome true (facts_of roster past) t c X
+    → eqb u t ≡ false → open_call roster past u ≡ Some o → has_ending_of X o.number ≡ is_some ((row_of (facts_of roster past) t c).ends u)
+ends_other roster past t c X u o l a other is =
+    let f = facts_of roster past in
+    let laws = laws_of (facts_of roster past) t c X a in
+    rw (a.1) (
+    elim ((row_of f t c).ends u) as (λ z. (row_of f t c).ends u ≡ z → list_any (λ x. eqb x.call o.number) (filter_map (ending f t c) (threads_of roster)) ≡ is_some z) [
+      | None ↦ λ e. any_filter_map _ (ending f t c) (threads_of roster) (λ v y ev.
+          elim (ending_names f t c v y laws ev) [
+            | inl h ↦ let below : o.number ≤ length past = open_below roster past u o is in ne_eqb _ _ (λ s. omega (arith, h.names.call))
+            | inr h ↦ ne_eqb _ _ (λ s.
+                let same : v ≡ u = open_thread roster past v u h.names.waiting o h.names.is is (sym h.names.call ∙ s) in
+                none-some y (sym e ∙ ap (λ w. (row_of f t c).ends w) (sym same) ∙ h.is))
+          ])
+      | Some y ↦ λ e.
+          let n = laws.ends_open u y e in
+          let names : n.waiting.number ≡ o.number = ap (λ x. x.number) (same_Some n.waiting o (sym n.is ∙ is)) in
+          any_filter_map_at _ (ending f t c) (threads_of roster) u y (known roster u (open_known roster past u o l is)) (rw other e) (eq-eqb _ _ (n.call ∙ names))
+    ] refl)
+
+-- of its own number: where it ends in its own event
+pub ends_own : (roster : List Member) (past : Trace) (t : ℕ) (c : Call) (X : List Completion) → is_some (member_at roster t) ≡ true → Outcome true (facts_of roster past) t c X
+    → has_ending_of X (length past + 1) ≡ is_some (row_of (facts_of roster past) t c).own
+ends_own roster past t c X member a =
+    let f = facts_of roster past in
+    let laws = laws_of (facts_of roster past) t c X a in
+    rw (a.1) (
+    elim ((row_of f t c).own) as (λ z. (row_of f t c).own ≡ z → list_any (λ x. eqb x.call (length past + 1)) (filter_map (ending f t c) (threads_of roster)) ≡ is_some z) [
+      | None ↦ λ e. any_filter_map _ (ending f t c) (threads_of roster) (λ v y ev.
+          elim (ending_names f t c v y laws ev) [
+            | inl h ↦ absurd (none-some y (sym e ∙ h.is))
+            | inr h ↦ let below : y.call ≤ length past = other_below roster past v y h.names in ne_eqb _ _ (λ s. omega arith)
+          ])
+      | Some y ↦ λ e. any_filter_map_at _ (ending f t c) (threads_of roster) t y (known roster t member) (rw (eqb_same t) e) (eq-eqb _ _ (laws.owns y e).call)
+    ] refl)
+
+-- ---- no call is ended twice
+
+pub not_ended : (roster : List Member) (past : Trace) (t : ℕ) (c : Call) (X : List Completion) → IsLawful roster past → Answers (facts_of roster past) t c X → AllByRecursion (λ x. is_ended past x.call ≡ false) X
+not_ended roster past t c X l a = elim a [
+  | inl a ↦ rw (a.1) (all_filter_map (λ x. is_ended past x.call ≡ false) (ending (facts_of roster past) t c) (threads_of roster) (λ v y e.
+      elim (ending_names (facts_of roster past) t c v y (laws_of (facts_of roster past) t c X a) e) [
+        | inl h ↦ let number : y.call ≡ length past + 1 = h.names.call in ended_below roster past y.call l (omega arith)
+        | inr h ↦
+            let k = open_parts roster past v h.names.waiting h.names.is in
+            subst (λ i. is_ended past i ≡ false) (sym (h.names.call ∙ k.number)) k.going
+      ]))
+  | inr a ↦ rw (a.2) (ended_below roster past (length past + 1) l (omega arith), tt)
+]

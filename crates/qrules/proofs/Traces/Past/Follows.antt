@@ -1,0 +1,52 @@
+-- The facts after one more event are those that its row says.
+use Rattle.std.proofs.Common.{◌≡◌, ℕ, ◌+◌, List, length, refl, arith, Bool, true, false}
+use Rattle.std.specs.Prelude.{is_some}
+use Rattle.qtables.specs.Members.{member_at, IsRoster}
+use Rattle.qtables.specs.declared.member.Member.{Member}
+use Rattle.qrules.specs.Private.Answer.{Outcome}
+use Rattle.qrules.specs.Private.Lawful.{facts_of, IsLawful, with_event}
+use Rattle.qrules.specs.Private.Past.{refuses}
+use Rattle.qrules.specs.Private.Step.{Follows}
+use Rattle.qmodel.specs.Trace.{Event, Trace}
+use Rattle.qmodel.specs.declared.call.Call.{Call}
+use Rattle.qmodel.specs.declared.call.Completion.{Completion}
+use Rattle.qrules.proofs.Traces.Past.Channels.{channel_accepted, channel_refused, open_channels_accepted, open_channels_refused}
+use Rattle.qrules.proofs.Traces.Past.Connections.{connection_accepted, connection_refused, live_connections_accepted, live_connections_refused}
+use Rattle.qrules.proofs.Traces.Past.Ends.{accepted, refused}
+use Rattle.qrules.proofs.Traces.Past.OpenCalls.{open_refused, open_accepted}
+use Rattle.qrules.proofs.Traces.Past.Pending.{pending_refused, pending_accepted}
+use Rattle.qrules.proofs.Traces.Past.Priorities.{priority_accepted, priority_refused}
+
+pub past_follows : (accept : Bool) (roster : List Member) (past : Trace) (t : ℕ) (c : Call) (X : List Completion)
+    → IsRoster roster → IsLawful roster past → is_some (member_at roster t) ≡ true → Outcome accept (facts_of roster past) t c X
+    → Follows (facts_of roster past) t c accept (facts_of roster (with_event t c X past))
+past_follows true roster past t c X rising l member a =
+    let e : Event = record { thread = t; call = c; endings = X } in
+    let r : refuses X (length past + 1) ≡ false = accepted roster past t c X a in
+    record {
+      roster = refl;
+      number = omega arith;
+      down = rw r refl;
+      channel = λ h. channel_accepted roster past t c X h l a;
+      open_channels = open_channels_accepted roster past t c X l a;
+      connection = λ k. connection_accepted roster past t c X k l a;
+      live_connections = live_connections_accepted roster past t c X l a;
+      open_call = λ u. open_accepted roster past t c X u l member a;
+      pending = λ h. pending_accepted roster past t c X h l member a;
+      priority = λ u. priority_accepted roster past t c X u l member a;
+    }
+past_follows false roster past t c X rising l member a =
+    let e : Event = record { thread = t; call = c; endings = X } in
+    let r : refuses X (length past + 1) ≡ true = refused roster past t c X a in
+    record {
+      roster = refl;
+      number = omega arith;
+      down = rw r refl;
+      channel = λ h. channel_refused roster e past h r;
+      open_channels = omega (arith, open_channels_refused roster e past r);
+      connection = λ k. connection_refused roster e past k r;
+      live_connections = omega (arith, live_connections_refused roster e past r);
+      open_call = λ u. open_refused roster past t c X u a;
+      pending = λ h. pending_refused roster past t c X h a;
+      priority = λ u. priority_refused roster past t c X u a;
+    }

@@ -1,0 +1,128 @@
+-- What is owed of each call: the laws on which the lemmas about all calls stand.
+use Rattle.std.specs.Prelude.{◌≡◌, ◌⊎◌, ℕ, Bool, true, false, is_some, not, Option, None, Some}
+use Rattle.std.specs.Option.{option_map}
+use Rattle.qqueue.specs.Best.{best_of, is_pulse}
+use Rattle.qqueue.specs.declared.item.Item.{Item}
+use Rattle.qqueue.specs.declared.item.Kind.{Kind}
+use Rattle.qqueue.specs.declared.item.What.TheVariants as what
+use Rattle.qrules.specs.Private.Answer.{ending}
+use Rattle.qrules.specs.Private.Calls.{row_of}
+use Rattle.qrules.specs.Private.Facts.{Facts, sender, is_for_answer}
+use Rattle.qrules.specs.Private.Laws.{is_for_reply}
+use Rattle.qrules.specs.Private.Past.{is_failure, is_unblock_for}
+use Rattle.qrules.specs.Private.Receiving.{sender_for}
+use Rattle.qrules.specs.Private.Effects.{asks, makes, unblocks, writes}
+use Rattle.qrules.specs.Private.Rows.{Row, Received, Written, item_in_mark}
+use Rattle.qmodel.specs.Trace.{SentItem}
+use Rattle.qmodel.specs.declared.call.Call.{Call}
+use Rattle.qmodel.specs.declared.call.Call.TheVariants.{ChannelDestroy, Shutdown, Unblock, ConnectDetach}
+use Rattle.qmodel.specs.declared.call.Completion.{Completion}
+use Rattle.qmodel.specs.declared.open_call.OpenCall.{OpenCall}
+use Rattle.qmodel.specs.declared.open_call.Wait.{Wait}
+use Rattle.qmodel.specs.declared.open_call.Wait.TheVariants.{Answer, Item as ForItem}
+
+-- ---- a call by itself
+
+-- the wait is for an item, or for the answer to a message that was received
+abbrev pub is_settled : Wait → Bool
+is_settled (Answer coid message reply_buffer receipt) = is_some receipt
+is_settled (ForItem chid kind buffer) = true
+
+-- a call that begins to wait has its own number, and no receipt of it
+pub record BeginsToWait (n : ℕ) (o : OpenCall) : Type 0 where
+  pub number : o.number ≡ n
+  pub fresh : is_settled o.wait ≡ not (is_for_answer o.wait)
+
+-- an item has the number of the call that makes it, and where such a call waits, it is for the answer to a message
+pub record MakesItem (n : ℕ) (c : Call) (m : SentItem) : Type 0 where
+  pub number : m.item.number ≡ n
+  pub waits : (o : OpenCall) → asks n c ≡ Some o → is_for_answer o.wait ≡ true
+  pub message : (o : OpenCall) → asks n c ≡ Some o → is_pulse m.item.what ≡ false
+
+-- the item is the unblock pulse for what thread v is blocked in, a message that is received
+pub record IsUnblock (f : Facts) (v : ℕ) (m : SentItem) : Type 0 where
+  pub waiting : OpenCall
+  pub is : f.open_call v ≡ Some waiting
+  pub held : is_for_reply waiting.wait ≡ true
+  pub what : m.item.what ≡ what.Unblock waiting.number
+
+pub record CallLaws (c : Call) : Type 0 where
+  pub asks_one : (n : ℕ) (o : OpenCall) → asks n c ≡ Some o → BeginsToWait n o
+  pub makes_one : (f : Facts) (t : ℕ) (m : SentItem) → makes f t c ≡ Some m → MakesItem f.number c m
+  pub waits_write : (n : ℕ) (o : OpenCall) → asks n c ≡ Some o → writes c ≡ None
+  pub unblocks_none : unblocks c ≡ None → (f : Facts) (t : ℕ) (m : SentItem) → makes f t c ≡ Some m → (i : ℕ) → is_unblock_for i m.item.what ≡ false
+  pub unblocks_one : (v : ℕ) → unblocks c ≡ Some v → (f : Facts) (t : ℕ) (m : SentItem) → makes f t c ≡ Some m → IsUnblock f v m
+
+-- ---- a call that is accepted
+
+-- the call ends others by force, and so may end a Send that isn't received
+abbrev pub is_forceful : Call → Bool
+is_forceful (ChannelDestroy chid) = true
+is_forceful Shutdown = true
+is_forceful (Unblock thread) = true
+is_forceful (ConnectDetach coid) = true
+is_forceful c = false
+
+-- nothing refuses the call: the kernel isn't shut down, its thread isn't blocked, and its row refuses nothing
+pub record Passes (f : Facts) (t : ℕ) (c : Call) : Type 0 where
+  pub up : f.down ≡ false
+  pub idle : f.open_call t ≡ None
+  pub row : (row_of f t c).refusal ≡ None
+
+-- an ending of the call itself
+pub record IsOwn (n t : ℕ) (y : Completion) : Type 0 where
+  pub call : y.call ≡ n
+  pub thread : y.thread ≡ t
+  pub mark : is_failure y.mark ≡ false
+
+-- an ending of what thread u waits for
+pub record IsOfOpen (f : Facts) (u : ℕ) (y : Completion) : Type 0 where
+  pub waiting : OpenCall
+  pub is : f.open_call u ≡ Some waiting
+  pub call : y.call ≡ waiting.number
+  pub thread : y.thread ≡ u
+
+-- the open call isn't a Send whose message isn't received
+abbrev pub IsSettled : Option OpenCall → Type 0
+IsSettled o = (w : OpenCall) → o ≡ Some w → is_settled w.wait ≡ true
+
+-- thread u receives this, by what the row says
+pub record IsReceipt (row : Row) (u : ℕ) (p : ℕ × ℕ) : Type 0 where
+  pub receipt : Received
+  pub is : row.receipt ≡ Some receipt
+  pub by : receipt.by ≡ u
+  pub item : p.0 ≡ receipt.item
+  pub copied : p.1 ≡ receipt.kept.copied
+
+-- the item that is received is the one that this call makes; only a message has a sender, which waits for its answer
+pub record IsNew (f : Facts) (t : ℕ) (c : Call) (r : Received) (item : Item) : Type 0 where
+  pub made : makes f t c ≡ Some (record { item = item; channel = r.channel })
+  pub sender_is : r.sender ≡ option_map (λ o. t) (asks f.number c)
+
+-- the item that is received is the best that was pending
+pub record IsBest (f : Facts) (r : Received) (item : Item) : Type 0 where
+  pub kind : Kind
+  pub best : best_of kind (f.pending r.channel) ≡ Some item
+  pub sender_is : r.sender ≡ sender_for f item
+
+-- a receipt is an ending of its thread, of an item of that number and priority
+pub record IsReceived (f : Facts) (t : ℕ) (c : Call) (r : Received) : Type 0 where
+  pub item : Item
+  pub number : item.number ≡ r.item
+  pub priority : item.priority ≡ r.kept.priority
+  pub fresh : r.kept.unblocked ≡ false
+  pub source : IsNew f t c r item ⊎ IsBest f r item
+  pub given : Completion
+  pub is_given : ending f t c r.by ≡ Some given
+  pub mark : item_in_mark given.mark ≡ Some (r.item, r.kept.copied)
+
+pub record RowLaws (f : Facts) (t : ℕ) (c : Call) : Type 0 where
+  pub owns : (y : Completion) → (row_of f t c).own ≡ Some y → IsOwn f.number t y
+  pub ends_open : (u : ℕ) (y : Completion) → (row_of f t c).ends u ≡ Some y → IsOfOpen f u y
+  pub ends_settled : is_forceful c ≡ false → (u : ℕ) (y : Completion) → (row_of f t c).ends u ≡ Some y → IsSettled (f.open_call u)
+  pub own_receives : (y : Completion) (p : ℕ × ℕ) → (row_of f t c).own ≡ Some y → item_in_mark y.mark ≡ Some p → IsReceipt (row_of f t c) t p
+  pub ends_receives : (u : ℕ) (y : Completion) (p : ℕ × ℕ) → (row_of f t c).ends u ≡ Some y → item_in_mark y.mark ≡ Some p → IsReceipt (row_of f t c) u p
+  pub receives : (r : Received) → (row_of f t c).receipt ≡ Some r → IsReceived f t c r
+  pub sends : (m : SentItem) → makes f t c ≡ Some m → is_pulse m.item.what ≡ false → (row_of f t c).own ≡ None
+  pub makes_open : (m : SentItem) → makes f t c ≡ Some m → is_some (f.channel m.channel) ≡ true
+  pub writes_sent : (w : Written) → writes c ≡ Some w → (s : ℕ) × (sender f w.message ≡ Some s)

@@ -1,0 +1,230 @@
+-- What was made under a number and isn't ended since: channels and connections alike.
+use Rattle.std.proofs.Common.{◌≡◌, ℕ, zero, suc, ◌+◌, ◌≤◌, List, [], ◌∷◌, length, refl, ap, sym, subst, ◌∙◌, cond, arith, Bool, true, false, eqb, inl, inr}
+use Rattle.std.specs.Prelude.{Option, None, Some, is_some, ◌||◌}
+use Rattle.std.proofs.lemmas.Bool.{eqb-true, eqb-false, ne_eqb, or_cases, true≢false}
+use Rattle.std.proofs.lemmas.Option.{none-some}
+use Rattle.qtables.specs.Members.{member_at}
+use Rattle.qtables.specs.declared.member.Member.{Member}
+use Rattle.qrules.specs.Private.Answer.{Outcome}
+use Rattle.qrules.specs.Private.Facts.{count_to}
+use Rattle.qrules.specs.Private.Lawful.{facts_of, IsLawful, with_event}
+use Rattle.qrules.specs.Private.Past.{is_accepted, made_at, refuses, was_accepted}
+use Rattle.qrules.specs.Private.Rows.{names}
+use Rattle.qrules.specs.Private.Step.{put_at, one_for}
+use Rattle.qmodel.specs.Trace.{Event, Trace}
+use Rattle.qmodel.specs.declared.call.Call.{Call}
+use Rattle.qmodel.specs.declared.call.Completion.{Completion}
+use Rattle.qrules.proofs.Traces.Past.Ends.{accepted, refused}
+use Rattle.qbase.proofs.Lists.{cond_same, eqb_same}
+use Rattle.qrules.proofs.Traces.Past.Numbers.{made_beyond, made_below}
+
+-- what is made has a number from 1 on
+pub made_above : {A : Type 0} (make : Event → Option A) (past : Trace) (i : ℕ) (x : A) → made_at make past i ≡ Some x → 1 ≤ i
+made_above make [] i x e = absurd (none-some x e)
+made_above {A} make (e ∷ past) i x is =
+    elim (eqb i (length past + 1)) as (λ b. eqb i (length past + 1) ≡ b → cond b (cond (is_accepted e past) (make e) None) (made_at make past i) ≡ Some x → 1 ≤ i) [
+      | true ↦ λ same at. let number : i ≡ length past + 1 = eqb-true _ _ same in omega arith
+      | false ↦ λ other at. made_above make past i x at
+    ] refl is
+
+-- nothing stands at the number of the next event
+late : {A : Type 0} (make : Event → Option A) (past : Trace) (i : ℕ) → cond (eqb i (length past + 1)) None (made_at make past i) ≡ made_at make past i
+late make past i =
+    elim (eqb i (length past + 1)) as (λ b. eqb i (length past + 1) ≡ b → cond b None (made_at make past i) ≡ made_at make past i) [
+      | true ↦ λ e. let same : i ≡ length past + 1 = eqb-true _ _ e in sym (made_beyond make past i (omega arith))
+      | false ↦ λ e. refl
+    ] refl
+
+-- a refused call makes nothing
+pub made_refused : {A : Type 0} (make : Event → Option A) (e : Event) (past : Trace) (i : ℕ) → refuses e.endings (length past + 1) ≡ true → made_at make (e ∷ past) i ≡ made_at make past i
+made_refused make e past i r = rw (r, late make past i) refl
+
+-- an accepted one makes what it makes, under its number
+pub made_accepted : {A : Type 0} (make : Event → Option A) (e : Event) (past : Trace) (i : ℕ) → refuses e.endings (length past + 1) ≡ false
+    → made_at make (e ∷ past) i ≡ put_at (make e) (length past + 1) (made_at make past) i
+made_accepted {A} make e past i r = rw r (
+    elim (make e) as (λ (o : Option A). cond (eqb i (length past + 1)) o (made_at make past i) ≡ put_at o (length past + 1) (made_at make past) i) [
+      | None ↦ late make past i
+      | Some x ↦ refl
+    ])
+
+-- ---- counts
+
+pub count_same : {A : Type 0} (p q : ℕ → Option A) (n : ℕ) → ((k : ℕ) → k ≤ n → p k ≡ q k) → count_to p n ≡ count_to q n
+count_same p q zero h = refl
+count_same p q (suc n) h = rw (h (n + 1) (omega arith), count_same p q n (λ k l. h k (omega arith))) refl
+
+pub count_refused : {A : Type 0} (make : Event → Option A) (e : Event) (past : Trace) → refuses e.endings (length past + 1) ≡ true
+    → count_to (made_at make (e ∷ past)) (length (e ∷ past)) ≡ count_to (made_at make past) (length past)
+count_refused make e past r =
+    rw (
+      made_refused make e past (length past + 1) r,
+      made_beyond make past (length past + 1) (omega arith),
+      count_same (made_at make (e ∷ past)) (made_at make past) (length past) (λ k l. made_refused make e past k r),
+    ) (omega arith)
+
+pub count_accepted : {A : Type 0} (make : Event → Option A) (e : Event) (past : Trace) → refuses e.endings (length past + 1) ≡ false
+    → count_to (made_at make (e ∷ past)) (length (e ∷ past)) ≡ count_to (made_at make past) (length past) + one_for (make e)
+count_accepted {A} make e past r =
+    let rest : count_to (made_at make (e ∷ past)) (length past) ≡ count_to (made_at make past) (length past) =
+    count_same (made_at make (e ∷ past)) (made_at make past) (length past) (λ k l. rw (ne_eqb k (length past + 1) (λ s. omega arith)) refl) in
+    let top : made_at make (e ∷ past) (length past + 1) ≡ make e = rw (eqb_same (length past + 1), r) refl in
+    rw (top, rest) (
+    elim (make e) as (λ (o : Option A). cond (is_some o) 1 0 + count_to (made_at make past) (length past) ≡ count_to (made_at make past) (length past) + one_for o) [
+      | None ↦ omega arith
+      | Some x ↦ omega arith
+    ])
+
+-- one of those that are counted is taken away
+pub count_less : {A : Type 0} (p q : ℕ → Option A) (n h : ℕ) → 1 ≤ h → h ≤ n → is_some (q h) ≡ true → ((k : ℕ) → k ≤ n → p k ≡ cond (eqb h k) None (q k)) → count_to p n + 1 ≡ count_to q n
+count_less p q zero h above below there less = absurd (omega arith)
+count_less {A} p q (suc n) h above below there less =
+    elim (eqb h (n + 1)) as (λ b. eqb h (n + 1) ≡ b → count_to p (suc n) + 1 ≡ count_to q (suc n)) [
+      | true ↦ λ e.
+          let last : h ≡ n + 1 = eqb-true h (n + 1) e in
+          let gone : p (n + 1) ≡ None = less (n + 1) (omega arith) ∙ ap (λ b. cond b None (q (n + 1))) e in
+          let was : is_some (q (n + 1)) ≡ true = subst (λ k. is_some (q k) ≡ true) last there in
+          let rest : count_to p n ≡ count_to q n = count_same p q n (λ k l. let other : eqb h k ≡ false = ne_eqb h k (λ s. omega arith) in less k (omega arith) ∙ ap (λ b. cond b None (q k)) other) in
+          rw (gone, was, rest) (omega arith)
+      | false ↦ λ e.
+          let other : h ≤ n = omega (arith, eqb-false h (n + 1) e) in
+          let stays : p (n + 1) ≡ q (n + 1) = less (n + 1) (omega arith) ∙ ap (λ b. cond b None (q (n + 1))) e in
+          let rest : count_to p n + 1 ≡ count_to q n = count_less p q n h above other there (λ k l. less k (omega arith)) in
+          rw stays (omega (arith, rest))
+    ] refl
+
+-- one more is counted at the end
+count_put : {A : Type 0} (p q : ℕ → Option A) (o : Option A) (n : ℕ) → q (n + 1) ≡ None → ((k : ℕ) → k ≤ n + 1 → p k ≡ put_at o (n + 1) q k) → count_to p (suc n) ≡ count_to q n + one_for o
+count_put {A} p q None n none put =
+    let top : p (n + 1) ≡ None = put (n + 1) (omega arith) ∙ none in
+    rw (top, count_same p q n (λ k l. put k (omega arith))) (omega arith)
+count_put {A} p q (Some x) n none put =
+    let top : p (n + 1) ≡ Some x = put (n + 1) (omega arith) ∙ ap (λ b. cond b (Some x) (q (n + 1))) (eqb_same (n + 1)) in
+    let rest : count_to p n ≡ count_to q n = count_same p q n (λ k l. let other : eqb k (n + 1) ≡ false = ne_eqb k (n + 1) (λ s. omega arith) in put k (omega arith) ∙ ap (λ b. cond b (Some x) (q k)) other) in
+    rw (top, rest) (omega arith)
+
+-- nothing is counted at the end
+count_over : {A : Type 0} (p : ℕ → Option A) (n : ℕ) → p (n + 1) ≡ None → count_to p (suc n) ≡ count_to p n
+count_over p n none = rw none (omega arith)
+
+one_fewer : (x y z : ℕ) → x ≡ y → y + 1 ≡ z → x + 1 ≡ z + 0
+one_fewer x y z same less = omega (arith, same, less)
+
+-- ---- what is live
+
+-- what a call of a member makes, and what a call ends
+module _ {A : Type 0} (roster : List Member) (make : Option Member → Call → Option A) (ends : Call → Option ℕ) where
+  -- what was made under number i, ended or not
+  abbrev pub made : Trace → ℕ → Option A
+  made past i = made_at (λ e. make (member_at roster e.thread) e.call) past i
+
+  -- number i is ended
+  abbrev pub is_gone : Trace → ℕ → Bool
+  is_gone past i = was_accepted (λ c. names (ends c) i) past
+
+  -- what was made and isn't ended
+  abbrev pub live : Trace → ℕ → Option A
+  live past i = cond (is_gone past i) None (made past i)
+
+  pub gone_refused : (e : Event) (past : Trace) (i : ℕ) → refuses e.endings (length past + 1) ≡ true → is_gone (e ∷ past) i ≡ is_gone past i
+  gone_refused e past i r = rw r refl
+
+  pub gone_accepted : (e : Event) (past : Trace) (i : ℕ) → refuses e.endings (length past + 1) ≡ false → is_gone (e ∷ past) i ≡ (names (ends e.call) i || is_gone past i)
+  gone_accepted e past i r = rw r refl
+
+  -- what is live was made, and isn't ended
+  pub record IsLive (past : Trace) (i : ℕ) : Type 0 where
+    pub standing : is_gone past i ≡ false
+    pub it : A
+    pub is_made : made past i ≡ Some it
+
+  pub live_parts : (past : Trace) (i : ℕ) → is_some (live past i) ≡ true → IsLive past i
+  live_parts past i e =
+      elim (is_gone past i) as (λ b. is_gone past i ≡ b → is_some (cond b None (made past i)) ≡ true → IsLive past i) [
+        | true ↦ λ gone s. absurd (true≢false (sym s))
+        | false ↦ λ standing s.
+            elim (made past i) as (λ o. made past i ≡ o → is_some o ≡ true → IsLive past i) [
+              | None ↦ λ is none. absurd (true≢false (sym none))
+              | Some x ↦ λ is some. record { standing = standing; it = x; is_made = is }
+            ] refl s
+      ] refl e
+
+  -- nothing stands at the number of the next event
+  live_beyond : (past : Trace) → live past (length past + 1) ≡ None
+  live_beyond past = ap (cond (is_gone past (length past + 1)) None) (made_beyond (λ e. make (member_at roster e.thread) e.call) past (length past + 1) (omega arith)) ∙ cond_same (is_gone past (length past + 1)) None
+
+  pub live_refused : (e : Event) (past : Trace) (i : ℕ) → refuses e.endings (length past + 1) ≡ true → live (e ∷ past) i ≡ live past i
+  live_refused e past i r =
+      ap (λ b. cond b None (made (e ∷ past) i)) (gone_refused e past i r) ∙ ap (cond (is_gone past i) None) (made_refused (λ e. make (member_at roster e.thread) e.call) e past i r)
+
+  pub count_live_refused : (e : Event) (past : Trace) → refuses e.endings (length past + 1) ≡ true → count_to (live (e ∷ past)) (length (e ∷ past)) ≡ count_to (live past) (length past)
+  count_live_refused e past r =
+      rw (live_refused e past (length past + 1) r ∙ live_beyond past, count_same (live (e ∷ past)) (live past) (length past) (λ k l. live_refused e past k r)) (omega arith)
+
+  -- an accepted call ends what is live, and then makes nothing
+  module _ (ends_live : (past : Trace) (t : ℕ) (c : Call) (X : List Completion) → Outcome true (facts_of roster past) t c X → (i : ℕ) → names (ends c) i ≡ true → is_some (live past i) ≡ true)
+      (ends_alone : (m : Option Member) (c : Call) (i : ℕ) → ends c ≡ Some i → make m c ≡ None) where
+    -- what is ended has the number of an event
+    pub gone_below : (past : Trace) (i : ℕ) → IsLawful roster past → is_gone past i ≡ true → i ≤ length past
+    gone_below [] i l e = absurd (true≢false (sym e))
+    gone_below (e ∷ past) i l is = elim (l.2) [
+      | inl a ↦
+          elim (or_cases (names (ends e.call) i) (is_gone past i) (sym (gone_accepted e past i (accepted roster past e.thread e.call e.endings a)) ∙ is)) [
+            | inl now ↦
+                let o = live_parts past i (ends_live past e.thread e.call e.endings a i now) in
+                let below : i ≤ length past = made_below _ past i o.it o.is_made in
+                omega arith
+            | inr before ↦ let below : i ≤ length past = gone_below past i l.0 before in omega arith
+          ]
+      | inr a ↦ let below : i ≤ length past = gone_below past i l.0 (sym (gone_refused e past i (refused roster past e.thread e.call e.endings a)) ∙ is) in omega arith
+    ]
+
+    -- what is made under a new number isn't ended
+    unended : (past : Trace) (i : ℕ) → IsLawful roster past → (o : Option A) → cond (is_gone past i) None (put_at o (length past + 1) (made past) i) ≡ put_at o (length past + 1) (live past) i
+    unended past i l None = refl
+    unended past i l (Some x) =
+        elim (eqb i (length past + 1)) as (λ b. eqb i (length past + 1) ≡ b → cond (is_gone past i) None (cond b (Some x) (made past i)) ≡ cond b (Some x) (live past i)) [
+          | true ↦ λ here.
+              elim (is_gone past i) as (λ b. is_gone past i ≡ b → cond b None (Some x) ≡ Some x) [
+                | true ↦ λ gone. let below : i ≤ length past = gone_below past i l gone in let number : i ≡ length past + 1 = eqb-true _ _ here in absurd (omega arith)
+                | false ↦ λ standing. refl
+              ] refl
+          | false ↦ λ away. refl
+        ] refl
+
+    pub live_accepted : (past : Trace) (t : ℕ) (c : Call) (X : List Completion) (i : ℕ) → IsLawful roster past → Outcome true (facts_of roster past) t c X
+        → live (with_event t c X past) i ≡ cond (names (ends c) i) None (put_at (make (member_at roster t) c) (length past + 1) (live past) i)
+    live_accepted past t c X i l a =
+        let e : Event = record { thread = t; call = c; endings = X } in
+        let r : refuses X (length past + 1) ≡ false = accepted roster past t c X a in
+        ap (λ b. cond b None (made (e ∷ past) i)) (gone_accepted e past i r)
+        ∙ ap (cond (names (ends c) i || is_gone past i) None) (made_accepted (λ e. make (member_at roster e.thread) e.call) e past i r)
+        ∙ (elim (names (ends c) i) as (λ d. cond (d || is_gone past i) None (put_at (make (member_at roster t) c) (length past + 1) (made past) i) ≡ cond d None (put_at (make (member_at roster t) c) (length past + 1) (live past) i)) [
+          | true ↦ refl
+          | false ↦ unended past i l (make (member_at roster t) c)
+        ])
+
+    pub count_live_accepted : (past : Trace) (t : ℕ) (c : Call) (X : List Completion) → IsLawful roster past → Outcome true (facts_of roster past) t c X
+        → count_to (live (with_event t c X past)) (length (with_event t c X past)) + one_for (ends c) ≡ count_to (live past) (length past) + one_for (make (member_at roster t) c)
+    count_live_accepted past t c X l a =
+        let after = live (with_event t c X past) in
+        let new = make (member_at roster t) c in
+        elim (ends c) as (λ o. ends c ≡ o → count_to after (suc (length past)) + one_for o ≡ count_to (live past) (length past) + one_for new) [
+          | None ↦ λ none.
+              let put : count_to after (suc (length past)) ≡ count_to (live past) (length past) + one_for new =
+              count_put after (live past) new (length past) (live_beyond past) (λ k _. live_accepted past t c X k l a ∙ ap (λ o. cond (names o k) None (put_at new (length past + 1) (live past) k)) none) in
+              omega (arith, put)
+          | Some i ↦ λ some.
+              let made_none : new ≡ None = ends_alone (member_at roster t) c i some in
+              let at = λ (k : ℕ). live_accepted past t c X k l a ∙ ap (λ o. cond (names o k) None (put_at new (length past + 1) (live past) k)) some
+              ∙ ap (λ o. cond (eqb i k) None (put_at o (length past + 1) (live past) k)) made_none in
+              let named : names (ends c) i ≡ true = ap (λ o. names o i) some ∙ eqb_same i in
+              let there : is_some (live past i) ≡ true = ends_live past t c X a i named in
+              let o = live_parts past i there in
+              let below : i ≤ length past = made_below (λ e. make (member_at roster e.thread) e.call) past i o.it o.is_made in
+              let above : 1 ≤ i = made_above (λ e. make (member_at roster e.thread) e.call) past i o.it o.is_made in
+              let top : after (length past + 1) ≡ None = at (length past + 1) ∙ ap (cond (eqb i (length past + 1)) None) (live_beyond past) ∙ cond_same (eqb i (length past + 1)) None in
+              let less : count_to after (length past) + 1 ≡ count_to (live past) (length past) = count_less after (live past) (length past) i above below there (λ k _. at k) in
+              let over : count_to after (suc (length past)) ≡ count_to after (length past) = count_over after (length past) top in
+              one_fewer _ _ _ over less ∙ ap (λ o. count_to (live past) (length past) + one_for o) (sym made_none)
+        ] refl

@@ -1,0 +1,113 @@
+-- Each open Send goes over a live connection: a call that detaches one ends all Sends over it.
+use Rattle.std.proofs.Common.{◌≡◌, ℕ, List, [], ◌∷◌, refl, ap, sym, ◌∙◌, cond, Bool, true, false, eqb, inl, inr}
+use Rattle.std.specs.Prelude.{Option, None, Some, is_some}
+use Rattle.std.proofs.lemmas.Bool.{eqb-true, eq-eqb, true≢false}
+use Rattle.std.proofs.lemmas.Option.{none-some, same_Some}
+use Rattle.qtables.specs.Members.{member_at}
+use Rattle.qtables.specs.declared.member.Member.{Member}
+use Rattle.qrules.specs.Private.Calls.{row_of}
+use Rattle.qrules.specs.Private.Cancelling.{is_over}
+use Rattle.qrules.specs.Private.Facts.{Facts, is_for_answer}
+use Rattle.qrules.specs.Private.Effects.{asks, attaches, detaches, makes, unblocks, writes}
+use Rattle.qrules.specs.Private.Lawful.{facts_of, IsLawful}
+use Rattle.qrules.specs.Private.Past.{attached_connection, connection_at, open_call}
+use Rattle.qrules.specs.Private.Rows.{names}
+use Rattle.qrules.specs.Private.Step.{after_receipt, after_unblock, after_write, connection_after, open_call_after, put_at, unblocked_wait, unless}
+use Rattle.qmodel.specs.Trace.{Trace}
+use Rattle.qmodel.specs.declared.call.Call.{Call}
+use Rattle.qmodel.specs.declared.call.Call.TheVariants.{ConnectDetach}
+use Rattle.qmodel.specs.declared.open_call.OpenCall.{OpenCall}
+use Rattle.qmodel.specs.declared.open_call.Wait.{Wait}
+use Rattle.qmodel.specs.declared.open_call.Wait.TheVariants.{Answer, Item as ForItem}
+use Rattle.qrules.proofs.Traces.Past.Before.{Lasts, before_other, before_receipt, unless_is}
+use Rattle.qrules.proofs.Traces.Past.Connections.{connection_accepted, connection_refused, live_attached}
+use Rattle.qrules.proofs.Traces.Past.Ends.{passes_of, refused}
+use Rattle.qrules.proofs.Traces.Past.Laws.{Passes}
+use Rattle.qrules.proofs.Traces.Past.Numbers.{buffer_answer, held_for_answer}
+use Rattle.qrules.proofs.Traces.Past.OpenCalls.{open_accepted, open_refused}
+use Rattle.qrules.proofs.Traces.Properties.Answers.{over, sends_over}
+use Rattle.qrules.proofs.Traces.Properties.Sends.{buffer_over, held_over}
+
+-- ---- by each call's row
+
+-- a call that detaches a connection waits for nothing
+detaches_only : (n : ℕ) (c : Call) (b : OpenCall) (k : ℕ) → names (detaches c) k ≡ true → asks n c ≡ Some b → ⊥
+detaches_only n (ConnectDetach coid) b k d e = none-some b e
+detaches_only n c b k d e = absurd (true≢false (sym d))
+
+is_over_it : (k : ℕ) (w : Wait) → is_for_answer w ≡ true → eqb (over w) k ≡ true → is_over k w ≡ true
+is_over_it k (Answer coid message reply_buffer receipt) e same = same
+is_over_it k (ForItem chid kind buffer) e same = absurd (true≢false (sym e))
+
+-- it ends each Send over that connection
+detaching_ends : (f : Facts) (t : ℕ) (c : Call) (u : ℕ) (o : OpenCall) → f.open_call u ≡ Some o → is_for_answer o.wait ≡ true → names (detaches c) (over o.wait) ≡ true → is_some ((row_of f t c).ends u) ≡ true
+detaching_ends f t (ConnectDetach coid) u o is answer d =
+    let over_it : is_over coid o.wait ≡ true = is_over_it coid o.wait answer (eq-eqb (over o.wait) coid (sym (eqb-true coid (over o.wait) d))) in
+    rw (is, over_it) refl
+detaching_ends f t c u o is answer d = absurd (true≢false (sym d))
+
+-- ---- what lasts of a wait
+
+unblocked_over : (w : Wait) → over (unblocked_wait w) ≡ over w
+unblocked_over (Answer coid message reply_buffer None) = refl
+unblocked_over (Answer coid message reply_buffer (Some receipt)) = refl
+unblocked_over (ForItem chid kind buffer) = refl
+
+lasts_over : Lasts over
+lasts_over = record { held = held_over; buffer = buffer_over; unblocked = unblocked_over }
+
+unblocked_answer : (w : Wait) → is_for_answer (unblocked_wait w) ≡ is_for_answer w
+unblocked_answer (Answer coid message reply_buffer None) = refl
+unblocked_answer (Answer coid message reply_buffer (Some receipt)) = refl
+unblocked_answer (ForItem chid kind buffer) = refl
+
+lasts_answer : Lasts is_for_answer
+lasts_answer = record { held = held_for_answer; buffer = buffer_answer; unblocked = unblocked_answer }
+
+-- what is there stays, unless it is taken away
+pub stays_open : {A : Type 0} (d : Bool) (o : Option A) (n : ℕ) (at : ℕ → Option A) (h : ℕ) → is_some (at h) ≡ true → (d ≡ true → ⊥) → is_some (cond d None (put_at o n at h)) ≡ true
+stays_open true o n at h e never = absurd (never refl)
+stays_open false None n at h e never = e
+stays_open {A} false (Some x) n at h e never = elim (eqb h n) as (λ b. is_some (cond {A = Option A} b (Some x) (at h)) ≡ true) [ true ↦ refl | false ↦ e ]
+
+-- ---- after one more event
+
+-- each open Send goes over a live connection
+abbrev pub GoLive : Facts → Type 0
+GoLive f = (u : ℕ) (o : OpenCall) → f.open_call u ≡ Some o → is_for_answer o.wait ≡ true → is_some (f.connection (over o.wait)) ≡ true
+
+live_after : (f : Facts) (t : ℕ) (c : Call) → Passes f t c → GoLive f → (u : ℕ) (o : OpenCall) → open_call_after f t c u ≡ Some o → is_for_answer o.wait ≡ true → is_some (connection_after f t c (over o.wait)) ≡ true
+live_after f t c p live u o is answer =
+    let R = row_of f t c in
+    let there = λ (k : ℕ) (some : is_some (f.connection k) ≡ true) (never : names (detaches c) k ≡ true → ⊥). stays_open (names (detaches c) k) (attaches (member_at f.roster t) c) f.number f.connection k some never in
+    elim (eqb u t) as (λ b. cond b (unless (is_some R.own) (after_receipt R.receipt u (asks f.number c))) (unless (is_some (R.ends u)) (after_unblock (makes f t c) (unblocks c) u (after_receipt R.receipt u (after_write f (writes c) u (f.open_call u))))) ≡ Some o
+    → is_some (connection_after f t c (over o.wait)) ≡ true) [
+      | true ↦ λ e.
+          let x = unless_is (is_some R.own) (after_receipt R.receipt u (asks f.number c)) o e in
+          let b = before_receipt over held_over R.receipt u (asks f.number c) o x.1 in
+          let a = before_receipt is_for_answer held_for_answer R.receipt u (asks f.number c) o x.1 in
+          let began : is_for_answer b.call.wait ≡ true = ap (λ (w : OpenCall). is_for_answer w.wait) (same_Some b.call a.call (sym b.is ∙ a.is)) ∙ a.same ∙ answer in
+          let s = sends_over f t c b.call p b.is began in
+          ap (λ k. is_some (connection_after f t c k)) (sym b.same) ∙ there (over b.call.wait) (ap is_some s.is_connection) (λ d. detaches_only f.number c b.call (over b.call.wait) d b.is)
+      | false ↦ λ e.
+          let x = unless_is (is_some (R.ends u)) (after_unblock (makes f t c) (unblocks c) u (after_receipt R.receipt u (after_write f (writes c) u (f.open_call u)))) o e in
+          let d = before_other over lasts_over f t c u o x.1 in
+          let a = before_other is_for_answer lasts_answer f t c u o x.1 in
+          let waited : is_for_answer d.call.wait ≡ true = ap (λ (w : OpenCall). is_for_answer w.wait) (same_Some d.call a.call (sym d.is ∙ a.is)) ∙ a.same ∙ answer in
+          ap (λ k. is_some (connection_after f t c k)) (sym d.same) ∙ there (over d.call.wait) (live u d.call d.is waited) (λ named. true≢false (sym (detaching_ends f t c u d.call d.is waited named) ∙ x.0))
+    ] is
+
+pub live_over : (roster : List Member) (past : Trace) → IsLawful roster past → GoLive (facts_of roster past)
+live_over roster [] l u o is answer = absurd (none-some o is)
+live_over roster (e ∷ past) l u o is answer = elim (l.2) [
+  | inl a ↦
+      ap is_some (connection_accepted roster past e.thread e.call e.endings (over o.wait) l.0 a)
+      ∙ live_after (facts_of roster past) e.thread e.call (passes_of (facts_of roster past) e.thread e.call e.endings a) (live_over roster past l.0) u o (sym (open_accepted roster past e.thread e.call e.endings u l.0 l.1 a) ∙ is) answer
+  | inr a ↦
+      ap is_some (connection_refused roster e past (over o.wait) (refused roster past e.thread e.call e.endings a))
+      ∙ live_over roster past l.0 u o (sym (open_refused roster past e.thread e.call e.endings u a) ∙ is) answer
+]
+
+-- the connection of an open Send is the one that was attached
+pub over_attached : (roster : List Member) (past : Trace) (u : ℕ) (o : OpenCall) → IsLawful roster past → open_call roster past u ≡ Some o → is_for_answer o.wait ≡ true → connection_at roster past (over o.wait) ≡ attached_connection roster past (over o.wait)
+over_attached roster past u o l is answer = live_attached roster past (over o.wait) (live_over roster past l u o is answer)

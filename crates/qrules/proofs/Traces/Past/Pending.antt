@@ -1,0 +1,316 @@
+-- What is pending after one more event.
+use Rattle.std.proofs.Common.{◌≡◌, ℕ, ◌+◌, ◌≤◌, List, [], ◌∷◌, ◌++◌, map, length, refl, ap, sym, subst, ◌∙◌, cond, arith, Bool, true, false, eqb, inl, inr}
+use Rattle.std.specs.Prelude.{Option, None, Some, is_some, not, ◌&&◌, ◌||◌, filter}
+use Rattle.std.specs.List.{AllByRecursion}
+use Rattle.std.specs.Option.{option_to_list, option_or}
+use Rattle.std.proofs.lemmas.Bool.{eqb-true, eqb-false, ne_eqb, true≢false, or_parts, or_cases, or_left, or_right, and_parts, and_from}
+use Rattle.std.proofs.lemmas.List.{map-append, append-nil}
+use Rattle.std.proofs.lemmas.List.Elements.{filter-append, filter_agree}
+use Rattle.std.proofs.lemmas.Option.{same_Some}
+use Rattle.qqueue.specs.Best.{is_pulse, with_priority, without_item}
+use Rattle.qqueue.specs.declared.item.Item.{Item}
+use Rattle.qtables.specs.Members.{member_at}
+use Rattle.qtables.specs.declared.member.Member.{Member}
+use Rattle.qrules.specs.Private.Answer.{Outcome}
+use Rattle.qrules.specs.Private.Calls.{row_of}
+use Rattle.qrules.specs.Private.Lawful.{facts_of, IsLawful, with_event}
+use Rattle.qrules.specs.Private.Past.{channel_at, has_ending_of, is_closed, is_ended, is_taken, is_gone, items, item_of, pending_items, copied_count_among, copied_count_of, open_call, made_on}
+use Rattle.qrules.specs.Private.Effects.{closes, makes, sets}
+use Rattle.qrules.specs.Private.Rows.{Received, names}
+use Rattle.qmodel.specs.Trace.{SentItem}
+use Rattle.qrules.specs.Private.Step.{is_cancelled, uncut_items, items_with_priority_set, unreceived_items, pending_after, is_unread_send}
+use Rattle.qmodel.specs.Trace.{Event, Trace}
+use Rattle.qmodel.specs.declared.call.Call.{Call}
+use Rattle.qmodel.specs.declared.call.Completion.{Completion}
+use Rattle.qbase.proofs.Lists.{cond_same, eqb_either, none_of, all_append, all_filter, all_more, filter_same, filter_twice, filter_all, filter_whole, any_never}
+use Rattle.qrules.proofs.Traces.Past.Laws.{IsReceived}
+use Rattle.qrules.proofs.Traces.Past.Channels.{closed_accepted, closed_refused}
+use Rattle.qrules.proofs.Traces.Past.Cancels.{ended_is_cancelled}
+use Rattle.qrules.proofs.Traces.Calls.{call_laws}
+use Rattle.qrules.proofs.Traces.Past.Ends.{laws_of, accepted, refused, refused_ends, ended_below, ends_own}
+use Rattle.qrules.proofs.Traces.Past.Items.{IsPending, Stands, items_on, pending_is, stands_all, standing_is, staying, staying_all, item_at, item_below}
+use Rattle.qrules.proofs.Traces.Past.Moves.{left_map, moved_append, moved_left, moved_made, moved_nothing, moved_now, moved_out, out_map, same_now}
+use Rattle.qrules.proofs.Traces.Past.CurrentPriority.{now, refused_sets_none, worth_newest, worth_stays}
+use Rattle.qrules.proofs.Traces.Past.Receipts.{copied_by, accepted_receipts, refused_receipts, best_pending, receipt_beyond}
+use Rattle.qrules.proofs.Traces.Past.Numbers.{open_below}
+use Rattle.qrules.specs.Private.Facts.{threads_of}
+
+-- ---- the items of a channel
+
+made_list : (o : Option SentItem) (h : ℕ) → map (λ m. m.item) (filter (λ m. eqb m.channel h) (option_to_list o)) ≡ made_on h o
+made_list None h = refl
+made_list (Some m) h = elim (eqb m.channel h) as (λ b. map (λ m. m.item) (cond b (m ∷ []) []) ≡ cond b (m.item ∷ []) []) [ true ↦ refl | false ↦ refl ]
+
+-- those of the past, and the one that an event makes
+pub items_more : (roster : List Member) (e : Event) (past : Trace) (h : ℕ) → items_on roster (e ∷ past) h ≡ items_on roster past h ++ made_on h (item_of roster e past)
+items_more roster e past h =
+    ap (map (λ m. m.item)) (filter-append (λ m. eqb m.channel h) (items roster past) (option_to_list (item_of roster e past)))
+    ∙ map-append (λ m. m.item) (filter (λ m. eqb m.channel h) (items roster past)) (filter (λ m. eqb m.channel h) (option_to_list (item_of roster e past)))
+    ∙ ap (λ l. items_on roster past h ++ l) (made_list (item_of roster e past) h)
+
+-- of what an event makes on a channel
+pub made_all : (P : Item → Type 0) (h : ℕ) (o : Option SentItem) → ((m : SentItem) → o ≡ Some m → m.channel ≡ h → P m.item) → AllByRecursion P (made_on h o)
+made_all P h None all = tt
+made_all P h (Some m) all =
+    elim (eqb m.channel h) as (λ b. eqb m.channel h ≡ b → AllByRecursion P (cond b (m.item ∷ []) [])) [
+      | true ↦ λ e. (all m refl (eqb-true m.channel h e), tt)
+      | false ↦ λ e. tt
+    ] refl
+
+-- ---- after a refused call
+
+pub pending_refused : (roster : List Member) (past : Trace) (t : ℕ) (c : Call) (X : List Completion) (h : ℕ) → Outcome false (facts_of roster past) t c X → pending_items roster (with_event t c X past) h ≡ pending_items roster past h
+pending_refused roster past t c X h a =
+    let e : Event = record { thread = t; call = c; endings = X } in
+    let none : item_of roster e past ≡ None = rw (refused roster past t c X a) refl in
+    let stays = λ (item : Item). not (is_gone (e ∷ past) item) in
+    let same : items_on roster (e ∷ past) h ≡ items_on roster past h = items_more roster e past h ∙ ap (λ o. items_on roster past h ++ made_on h o) none ∙ append-nil (items_on roster past h) in
+    let left : staying roster (e ∷ past) h ≡ staying roster past h =
+    ap (filter stays) same
+    ∙ filter_same stays (λ item. not (is_gone past item)) (items_on roster past h) (
+    all_more (Stands roster past h) (λ item. stays item ≡ not (is_gone past item)) (items_on roster past h) (stands_all roster past h) (λ item at.
+    let below : item.number ≤ length past = item_below roster past item.number _ at in
+    rw (refused_receipts (facts_of roster past) t c X item.number a, refused_ends roster past t c X item.number a (λ s. omega arith)) refl)) in
+    let closed : is_closed (e ∷ past) h ≡ is_closed past h = closed_refused roster e past h (refused roster past t c X a) in
+    let as_before : map (now (e ∷ past)) (staying roster past h) ≡ map (now past) (staying roster past h) =
+    same_now roster e past h (staying roster past h) (staying_all roster past h) (λ item at. worth_stays e past item (item_below roster past item.number _ at) (refused_sets_none e past item.number (ap not (refused roster past t c X a)))) in
+    pending_is roster (e ∷ past) h
+    ∙ ap (λ b. cond b [] (map (now (e ∷ past)) (staying roster (e ∷ past) h))) closed
+    ∙ ap (λ l. cond (is_closed past h) [] (map (now (e ∷ past)) l)) left
+    ∙ ap (cond (is_closed past h) []) as_before
+    ∙ sym (pending_is roster past h)
+
+-- ---- after an accepted call
+
+-- the row's receipt leaves the item
+abbrev leaves : Option Received → Item → Bool
+leaves o item = not (is_some (copied_by o item.number))
+
+taken_now : (x : Option ℕ) (y : Option ℕ) → y ≡ None → is_some (option_or x y) ≡ is_some x
+taken_now None y e = ap is_some e
+taken_now (Some k) y e = refl
+
+neither : (a b : Bool) → not (a || b) ≡ (not b && not a)
+neither true true = refl
+neither true false = refl
+neither false true = refl
+neither false false = refl
+
+-- an item that wasn't received is gone exactly where this event receives it, or ends its Send
+gone_now : (roster : List Member) (past : Trace) (t : ℕ) (c : Call) (X : List Completion) (item : Item) (cancel : Bool) → IsLawful roster past → is_some (member_at roster t) ≡ true → Outcome true (facts_of roster past) t c X
+    → copied_count_of past item.number ≡ None → (not (is_pulse item.what) && is_ended (with_event t c X past) item.number) ≡ cancel
+    → not (is_gone (with_event t c X past) item) ≡ (not cancel && leaves (row_of (facts_of roster past) t c).receipt item)
+gone_now roster past t c X item cancel l member a fresh ended =
+    let taken : is_taken (with_event t c X past) item.number ≡ is_some (copied_by (row_of (facts_of roster past) t c).receipt item.number) =
+    ap (λ r. is_some (option_or r (copied_count_of past item.number))) (accepted_receipts roster past t c X item.number l member a)
+    ∙ taken_now (copied_by (row_of (facts_of roster past) t c).receipt item.number) (copied_count_of past item.number) fresh in
+    ap (λ b. not (is_taken (with_event t c X past) item.number || b)) ended
+    ∙ ap (λ b. not (b || cancel)) taken
+    ∙ neither (is_some (copied_by (row_of (facts_of roster past) t c).receipt item.number)) cancel
+
+-- what is gone stays gone
+pub stays_gone : (past : Trace) (t : ℕ) (c : Call) (X : List Completion) (item : Item) → is_gone past item ≡ true → is_gone (with_event t c X past) item ≡ true
+stays_gone past t c X item e =
+    let ended_now = is_ended (with_event t c X past) item.number in
+    elim (or_cases (is_taken past item.number) (not (is_pulse item.what) && is_ended past item.number) e) [
+      | inl taken ↦ or_left (is_taken (with_event t c X past) item.number) (not (is_pulse item.what) && ended_now) (
+          elim (copied_count_among X item.number) as (λ r. is_some (option_or r (copied_count_of past item.number)) ≡ true) [ None ↦ taken | Some k ↦ refl ])
+      | inr ended ↦
+          let p = and_parts (not (is_pulse item.what)) (is_ended past item.number) ended in
+          or_right (is_taken (with_event t c X past) item.number) (not (is_pulse item.what) && ended_now)
+          (and_from (not (is_pulse item.what)) ended_now p.0 (or_right (has_ending_of X item.number) (is_ended past item.number) p.1))
+    ]
+
+-- of what stood on the channel, what was pending, isn't cancelled and isn't received
+pending_old : (roster : List Member) (past : Trace) (t : ℕ) (c : Call) (X : List Completion) (h : ℕ) → IsLawful roster past → is_some (member_at roster t) ≡ true → Outcome true (facts_of roster past) t c X
+    → filter (λ item. not (is_gone (with_event t c X past) item)) (items_on roster past h) ≡ filter (leaves (row_of (facts_of roster past) t c).receipt) (uncut_items (facts_of roster past) t c h (staying roster past h))
+pending_old roster past t c X h l member a =
+    let f = facts_of roster past in
+    let R = row_of (facts_of roster past) t c in
+    let stays = λ (item : Item). not (is_gone (with_event t c X past) item) in
+    let goes_on = λ (item : Item). not (is_cancelled (facts_of roster past) t c h item.number) in
+    let stays_on = λ (item : Item). not (is_cancelled (facts_of roster past) t c h item.number) && leaves (row_of (facts_of roster past) t c).receipt item in
+    let both = λ (item : Item). not (is_gone past item) && (not (is_cancelled (facts_of roster past) t c h item.number) && leaves (row_of (facts_of roster past) t c).receipt item) in
+    filter_same stays both (items_on roster past h) (
+    all_more (Stands roster past h) (λ item. stays item ≡ both item) (items_on roster past h) (stands_all roster past h) (λ item at.
+    elim (is_gone past item) as (λ b. is_gone past item ≡ b → stays item ≡ (not b && (goes_on item && leaves R.receipt item))) [
+      | true ↦ λ e. ap not (stays_gone past t c X item e)
+      | false ↦ λ e.
+          let p = or_parts (is_taken past item.number) (not (is_pulse item.what) && is_ended past item.number) e in
+          gone_now roster past t c X item (is_cancelled f t c h item.number) l member a (none_of (copied_count_of past item.number) p.0)
+          (ended_is_cancelled roster past t c X h item l a (standing_is roster past h item at e))
+    ] refl))
+    ∙ sym (filter_twice (λ item. not (is_gone past item)) stays_on (items_on roster past h))
+    ∙ sym (filter_twice goes_on (leaves R.receipt) (staying roster past h))
+
+-- of what the event makes, what isn't received at once
+pending_new : (roster : List Member) (past : Trace) (t : ℕ) (c : Call) (X : List Completion) (h : ℕ) → IsLawful roster past → is_some (member_at roster t) ≡ true → Outcome true (facts_of roster past) t c X
+    → let M = made_on h (makes (facts_of roster past) t c) in
+    filter (λ item. not (is_gone (with_event t c X past) item)) M ≡ filter (leaves (row_of (facts_of roster past) t c).receipt) M
+pending_new roster past t c X h l member a =
+    let f = facts_of roster past in
+    let stays = λ (item : Item). not (is_gone (with_event t c X past) item) in
+    let left = λ (item : Item). leaves (row_of (facts_of roster past) t c).receipt item in
+    filter_same stays left (made_on h (makes f t c)) (
+    made_all (λ item. stays item ≡ left item) h (makes f t c) (λ m is on.
+    let number : m.item.number ≡ length past + 1 = ((call_laws c).makes_one f t m is).number in
+    gone_now roster past t c X m.item false l member a (receipt_beyond roster past m.item.number l (omega arith)) (
+    elim (is_pulse m.item.what) as (λ b. is_pulse m.item.what ≡ b → (not b && (has_ending_of X m.item.number || is_ended past m.item.number)) ≡ false) [
+      | true ↦ λ pulse. refl
+      | false ↦ λ message.
+          let own : has_ending_of X (length past + 1) ≡ false = ends_own roster past t c X member a ∙ ap is_some ((laws_of f t c X a).sends m is message) in
+          let ended : has_ending_of X m.item.number ≡ false = subst (λ i. has_ending_of X i ≡ false) (sym number) own in
+          rw (ended, ended_below roster past m.item.number l (omega arith)) refl
+    ] refl)))
+
+-- ---- the receipt takes its item out of its channel
+
+-- no item of another channel has the number that is received
+elsewhere : (roster : List Member) (past : Trace) (t : ℕ) (c : Call) (X : List Completion) (h : ℕ) (r : Received) (L : List Item) → AllByRecursion (IsPending roster past h) L
+    → Outcome true (facts_of roster past) t c X → IsReceived (facts_of roster past) t c r → eqb r.channel h ≡ false
+    → AllByRecursion (λ item. eqb r.item item.number ≡ false) (L ++ made_on h (makes (facts_of roster past) t c))
+elsewhere roster past t c X h r L all a k other =
+    let f = facts_of roster past in
+    let P = λ (item : Item). eqb r.item item.number ≡ false in
+    let made_number = λ (m : SentItem) (is : makes f t c ≡ Some m). ((call_laws c).makes_one f t m is).number in
+    elim (k.source) [
+      | inl new ↦
+          let number : k.item.number ≡ length past + 1 = made_number _ new.made in
+          all_append P L (made_on h (makes f t c))
+          (all_more (IsPending roster past h) P L all (λ item at.
+          let below : item.number ≤ length past = item_below roster past item.number _ at.made in ne_eqb _ _ (λ s. omega (arith, k.number))))
+          (made_all P h (makes f t c) (λ m is on. absurd (eqb-false _ _ other (ap (λ n. n.channel) (same_Some _ m (sym new.made ∙ is)) ∙ on))))
+      | inr old ↦
+          let place = best_pending roster past r.channel old.kind k.item old.best in
+          let below : k.item.number ≤ length past = item_below roster past k.item.number _ place.made in
+          all_append P L (made_on h (makes f t c))
+          (all_more (IsPending roster past h) P L all (λ item at. ne_eqb _ _ (λ s.
+          eqb-false _ _ other (ap (λ n. n.channel) (same_Some _ _ (sym place.made ∙ ap (item_at roster past) (k.number ∙ s) ∙ at.made))))))
+          (made_all P h (makes f t c) (λ m is on.
+          let number : m.item.number ≡ length past + 1 = made_number m is in ne_eqb _ _ (λ s. omega (arith, k.number))))
+    ]
+
+taken_from : (o : Option Received) (h : ℕ) (L : List Item) → ((r : Received) → o ≡ Some r → eqb r.channel h ≡ false → AllByRecursion (λ item. eqb r.item item.number ≡ false) L)
+    → unreceived_items o h L ≡ filter (leaves o) L
+taken_from None h L other = sym (filter_whole (leaves None) L (λ item. refl))
+taken_from (Some r) h L other =
+    elim (eqb r.channel h) as (λ b. eqb r.channel h ≡ b → cond b (without_item r.item L) L ≡ filter (leaves (Some r)) L) [
+      | true ↦ λ e. filter_agree (λ item. not (eqb item.number r.item)) (leaves (Some r)) (λ item.
+          ap not (eqb_either item.number r.item) ∙ elim (eqb r.item item.number) as (λ b. not b ≡ not (is_some (cond b (Some r.kept.copied) None))) [ true ↦ refl | false ↦ refl ]) L
+      | false ↦ λ e. sym (filter_all (leaves (Some r)) L (all_more (λ item. eqb r.item item.number ≡ false) (λ item. leaves (Some r) item ≡ true) L (other r refl e) (λ item d. rw d refl)))
+    ] refl
+
+-- an accepted call makes nothing for a channel that is destroyed
+closed_makes : (roster : List Member) (past : Trace) (t : ℕ) (c : Call) (X : List Completion) (h : ℕ) → Outcome true (facts_of roster past) t c X → is_closed past h ≡ true
+    → made_on h (makes (facts_of roster past) t c) ≡ []
+closed_makes roster past t c X h a closed =
+    let f = facts_of roster past in
+    elim (makes f t c) as (λ o. makes f t c ≡ o → made_on h o ≡ []) [
+      | None ↦ λ e. refl
+      | Some m ↦ λ e.
+          elim (eqb m.channel h) as (λ b. eqb m.channel h ≡ b → cond b (m.item ∷ []) [] ≡ []) [
+            | true ↦ λ on.
+                let none : channel_at roster past m.channel ≡ None = rw (eqb-true m.channel h on, closed) refl in
+                absurd (true≢false (sym ((laws_of f t c X a).makes_open m e) ∙ ap is_some none))
+            | false ↦ λ off. refl
+          ] refl
+    ] refl
+
+none_out : (o : Option Received) (h : ℕ) → unreceived_items o h [] ≡ []
+none_out None h = refl
+none_out (Some r) h = cond_same (eqb r.channel h) []
+
+-- the item that a call makes isn't a message whose Send it ends: that has an earlier number
+made_uncut : (roster : List Member) (past : Trace) (t : ℕ) (c : Call) (h : ℕ) → uncut_items (facts_of roster past) t c h (made_on h (makes (facts_of roster past) t c)) ≡ made_on h (makes (facts_of roster past) t c)
+made_uncut roster past t c h =
+    let f = facts_of roster past in
+    filter_all (λ item. not (is_cancelled f t c h item.number)) (made_on h (makes f t c)) (made_all (λ item. not (is_cancelled f t c h item.number) ≡ true) h (makes f t c) (λ m is on.
+    let number : m.item.number ≡ length past + 1 = ((call_laws c).makes_one f t m is).number in
+    ap not (any_never _ (threads_of roster) (λ s.
+    elim (open_call roster past s) as (λ o. open_call roster past s ≡ o → (is_unread_send f.connection h m.item.number o && is_some ((row_of f t c).ends s)) ≡ false) [
+      | None ↦ λ none. refl
+      | Some o ↦ λ some.
+          let below : o.number ≤ length past = open_below roster past s o some in
+          let other : eqb o.number m.item.number ≡ false = ne_eqb _ _ (λ same. omega (arith, number)) in
+          rw other refl
+    ] refl))))
+
+left_made : (roster : List Member) (past : Trace) (t : ℕ) (c : Call) (h : ℕ) (items : List Item)
+    → uncut_items (facts_of roster past) t c h (items ++ made_on h (makes (facts_of roster past) t c)) ≡ uncut_items (facts_of roster past) t c h items ++ made_on h (makes (facts_of roster past) t c)
+left_made roster past t c h items =
+    let f = facts_of roster past in
+    filter-append (λ item. not (is_cancelled f t c h item.number)) items (made_on h (makes f t c)) ∙ ap (λ l. uncut_items f t c h items ++ l) (made_uncut roster past t c h)
+
+-- what stays of a channel that isn't destroyed
+staying_accepted : (roster : List Member) (past : Trace) (t : ℕ) (c : Call) (X : List Completion) (h : ℕ) → IsLawful roster past → is_some (member_at roster t) ≡ true → Outcome true (facts_of roster past) t c X
+    → staying roster (with_event t c X past) h
+    ≡ unreceived_items (row_of (facts_of roster past) t c).receipt h (uncut_items (facts_of roster past) t c h (staying roster past h ++ made_on h (makes (facts_of roster past) t c)))
+staying_accepted roster past t c X h l member a =
+    let f = facts_of roster past in
+    let e : Event = record { thread = t; call = c; endings = X } in
+    let R = row_of (facts_of roster past) t c in
+    let M = made_on h (makes f t c) in
+    let L = uncut_items (facts_of roster past) t c h (staying roster past h) in
+    let made : item_of roster e past ≡ makes f t c = rw (accepted roster past t c X a) refl in
+    let stays = λ (item : Item). not (is_gone (e ∷ past) item) in
+    ap (filter stays) (items_more roster e past h ∙ ap (λ o. items_on roster past h ++ made_on h o) made)
+    ∙ filter-append stays (items_on roster past h) M
+    ∙ ap (λ xs. xs ++ filter stays M) (pending_old roster past t c X h l member a)
+    ∙ ap (λ xs. filter (leaves R.receipt) L ++ xs) (pending_new roster past t c X h l member a)
+    ∙ sym (filter-append (leaves R.receipt) L M)
+    ∙ sym (taken_from R.receipt h (L ++ M) (λ r is.
+    elsewhere roster past t c X h r L (all_filter (IsPending roster past h) (λ item. not (is_cancelled f t c h item.number)) (staying roster past h)
+    (all_more (λ item. Stands roster past h item × (is_gone past item ≡ false)) (IsPending roster past h) (staying roster past h) (staying_all roster past h) (λ item k. standing_is roster past h item k.0 k.1))) a ((laws_of f t c X a).receives r is)))
+    ∙ ap (unreceived_items R.receipt h) (sym (left_made roster past t c h (staying roster past h)))
+
+-- what stays, each item as it is after the event
+now_accepted : (roster : List Member) (past : Trace) (t : ℕ) (c : Call) (X : List Completion) (h : ℕ) → IsLawful roster past → is_some (member_at roster t) ≡ true → Outcome true (facts_of roster past) t c X
+    → map (now (with_event t c X past)) (staying roster (with_event t c X past) h)
+    ≡ items_with_priority_set (facts_of roster past) h (sets c) (unreceived_items (row_of (facts_of roster past) t c).receipt h (uncut_items (facts_of roster past) t c h (map (now past) (staying roster past h) ++ made_on h (makes (facts_of roster past) t c))))
+now_accepted roster past t c X h l member a =
+    let f = facts_of roster past in
+    let e : Event = record { thread = t; call = c; endings = X } in
+    let r = (row_of (facts_of roster past) t c).receipt in
+    let M = made_on h (makes (facts_of roster past) t c) in
+    let S = staying roster past h in
+    let after = now (e ∷ past) in
+    let made_so : item_of roster e past ≡ makes f t c = rw (accepted roster past t c X a) refl in
+    let fresh : map after M ≡ M = unchanged after M (made_all (λ item. after item ≡ item) h (makes f t c) (λ m is on.
+    ap (λ q. with_priority q m.item) (worth_newest e past m.item ((call_laws c).makes_one f t m is).number))) in
+    ap (map after) (staying_accepted roster past t c X h l member a)
+    ∙ sym (out_map r h after (uncut_items f t c h (S ++ M)) (λ x. refl))
+    ∙ ap (unreceived_items r h) (sym (left_map f t c h after (S ++ M) (λ x. refl)))
+    ∙ ap (λ l. unreceived_items r h (uncut_items f t c h l)) (
+    map-append after S M
+    ∙ ap (λ l. l ++ map after M) (moved_now roster past t c X h S l a (staying_all roster past h))
+    ∙ ap (λ l. items_with_priority_set f h (sets c) (map (now past) S) ++ l) (fresh ∙ sym (moved_made f t c h))
+    ∙ sym (moved_append f h (sets c) (map (now past) S) M))
+    ∙ ap (unreceived_items r h) (moved_left f t c h (sets c) (map (now past) S ++ M))
+    ∙ moved_out f r h (sets c) (uncut_items f t c h (map (now past) S ++ M))
+  where
+    unchanged : (g : Item → Item) (items : List Item) → AllByRecursion (λ x. g x ≡ x) items → map g items ≡ items
+    unchanged g [] same = refl
+    unchanged g (x ∷ items) same = ap (λ y. y ∷ map g items) same.0 ∙ ap (λ l. x ∷ l) (unchanged g items same.1)
+
+pub pending_accepted : (roster : List Member) (past : Trace) (t : ℕ) (c : Call) (X : List Completion) (h : ℕ) → IsLawful roster past → is_some (member_at roster t) ≡ true → Outcome true (facts_of roster past) t c X
+    → pending_items roster (with_event t c X past) h ≡ pending_after (facts_of roster past) t c h
+pending_accepted roster past t c X h l member a =
+    let f = facts_of roster past in
+    let e : Event = record { thread = t; call = c; endings = X } in
+    let R = row_of (facts_of roster past) t c in
+    let M = made_on h (makes f t c) in
+    let S = map (now past) (staying roster past h) in
+    let after = λ (items : List Item). items_with_priority_set f h (sets c) (unreceived_items R.receipt h (uncut_items f t c h (items ++ M))) in
+    pending_is roster (e ∷ past) h
+    ∙ ap (λ b. cond b [] (map (now (e ∷ past)) (staying roster (e ∷ past) h))) (closed_accepted roster e past h (accepted roster past t c X a)) ∙ (
+    elim (names (closes c) h) as (λ d. cond (d || is_closed past h) [] (map (now (e ∷ past)) (staying roster (e ∷ past) h)) ≡ cond d [] (after (cond (is_closed past h) [] S))) [
+      | true ↦ refl
+      | false ↦
+          elim (is_closed past h) as (λ b. is_closed past h ≡ b → cond b [] (map (now (e ∷ past)) (staying roster (e ∷ past) h)) ≡ after (cond b [] S)) [
+            | true ↦ λ closed. sym (
+                ap (λ l. items_with_priority_set f h (sets c) (unreceived_items R.receipt h (uncut_items f t c h l))) (closed_makes roster past t c X h a closed)
+                ∙ ap (items_with_priority_set f h (sets c)) (none_out R.receipt h) ∙ moved_nothing f h (sets c))
+            | false ↦ λ standing. now_accepted roster past t c X h l member a
+          ] refl
+    ])
+    ∙ ap (λ l. cond (names (closes c) h) [] (after l)) (sym (pending_is roster past h))

@@ -1,0 +1,128 @@
+-- The priorities of the threads after one more event: what it sets, and what a receiver takes.
+use Rattle.std.proofs.Common.{◌≡◌, ℕ, ◌+◌, List, ◌∷◌, length, refl, ap, sym, subst, ◌∙◌, cond, arith, Bool, true, false, eqb, ◌⊎◌, inl, inr}
+use Rattle.std.specs.Prelude.{Option, None, Some, is_some, not, option_and_then, unwrap_or}
+use Rattle.std.specs.List.{filter_map}
+use Rattle.std.proofs.lemmas.Option.{none-some}
+use Rattle.std.specs.Option.{option_map, option_or}
+use Rattle.qqueue.specs.declared.item.Item.{Item}
+use Rattle.qtables.specs.Members.{member_at}
+use Rattle.qtables.specs.declared.member.Member.{Member}
+use Rattle.qrules.specs.Private.Answer.{ending, Outcome}
+use Rattle.qrules.specs.Private.Calls.{row_of}
+use Rattle.qrules.specs.Private.Facts.{threads_of}
+use Rattle.qrules.specs.Private.Lawful.{facts_of, IsLawful, with_event}
+use Rattle.qrules.specs.Private.Past.{items_by_now, carried_priority, channel_at, first_among, priority_from_ending, item_of, items, made_among, priority_of_thread, refuses, current_priority}
+use Rattle.qrules.specs.Private.Effects.{sets}
+use Rattle.qrules.specs.Private.Rows.{Received, item_in_mark, priority_set_for}
+use Rattle.qmodel.specs.Trace.{SentItem}
+use Rattle.qrules.specs.Private.Step.{priority_taken, priority_after}
+use Rattle.qmodel.specs.Trace.{Event, Trace}
+use Rattle.qmodel.specs.declared.call.Call.{Call}
+use Rattle.qmodel.specs.declared.call.Completion.{Completion}
+use Rattle.qrules.proofs.Traces.Past.Ends.{accepted, ending_names, laws_of, refused}
+use Rattle.qrules.proofs.Traces.Past.Items.{item_at, item_below, item_earlier, item_found, item_newest, item_priority}
+use Rattle.qrules.proofs.Traces.Past.Laws.{RowLaws, IsReceipt, IsReceived}
+use Rattle.qrules.proofs.Traces.Past.Receipts.{among_none, among_one, best_pending, best_priority, ending_receives, given_known}
+use Rattle.qrules.proofs.Traces.Calls.{call_laws}
+use Rattle.qrules.proofs.Traces.Past.CurrentPriority.{among_now, now, worth_beyond}
+use Rattle.qrules.proofs.Traces.Rosters.{known}
+
+-- the item that is received is among those that were made, and what it is worth
+record IsReceivedAt (roster : List Member) (past : Trace) (e : Event) (r : Received) (item : Item) : Type 0 where
+  pub first : Item
+  pub at : item_at roster (e ∷ past) r.item ≡ Some (record { item = first; channel = r.channel })
+  pub is_worth : current_priority past first ≡ item.priority
+
+received_at : (roster : List Member) (past : Trace) (t : ℕ) (c : Call) (X : List Completion) (r : Received) (k : IsReceived (facts_of roster past) t c r) → Outcome true (facts_of roster past) t c X
+    → IsReceivedAt roster past (record { thread = t; call = c; endings = X }) r k.item
+received_at roster past t c X r k a =
+    let e : Event = record { thread = t; call = c; endings = X } in
+    elim (k.source) [
+      | inl new ↦
+          let number : k.item.number ≡ length past + 1 = ((call_laws c).makes_one (facts_of roster past) t _ new.made).number in
+          let made : item_of roster e past ≡ Some (record { item = k.item; channel = r.channel }) = rw (accepted roster past t c X a) (new.made) in
+          record {
+            first = k.item;
+            at = subst (λ i. item_at roster (e ∷ past) i ≡ Some (record { item = k.item; channel = r.channel })) (sym number ∙ k.number) (item_newest roster e past ∙ made);
+            is_worth = worth_beyond past k.item (omega (arith, number));
+          }
+      | inr old ↦
+          let place = best_pending roster past r.channel old.kind k.item old.best in
+          record {
+            first = place.first;
+            at = subst (λ i. item_at roster (e ∷ past) i ≡ Some (record { item = place.first; channel = r.channel })) k.number
+                (item_earlier roster e past k.item.number (item_below roster past k.item.number _ place.made) ∙ place.made);
+            is_worth = sym (item_priority roster past k.item.number _ place.made) ∙ best_priority roster past r.channel old.kind k.item old.best;
+          }
+    ]
+
+-- an ending is of the thread that gets it
+pub ending_thread : (roster : List Member) (past : Trace) (t : ℕ) (c : Call) (v : ℕ) (y : Completion) → RowLaws (facts_of roster past) t c → ending (facts_of roster past) t c v ≡ Some y → y.thread ≡ v
+ending_thread roster past t c v y laws e = elim (ending_names (facts_of roster past) t c v y laws e) [
+  | inl h ↦ h.names.thread ∙ sym h.thread
+  | inr h ↦ h.names.thread
+]
+
+module _ (roster : List Member) (past : Trace) (t : ℕ) (c : Call) (X : List Completion) (u : ℕ) (l : IsLawful roster past) (member : is_some (member_at roster t) ≡ true) (a : Outcome true (facts_of roster past) t c X) where
+  -- the priority that an item carries to its receiver
+  abbrev carries : ℕ → Option ℕ
+  carries i = carried_priority (channel_at roster past) (made_among (items_by_now past (items roster (with_event t c X past))) i)
+
+  laws : RowLaws (facts_of roster past) t c
+  laws = laws_of (facts_of roster past) t c X a
+
+  carries_it : (r : Received) → (k : IsReceived (facts_of roster past) t c r) → cond (eqb r.by u) (carries r.item) None ≡ priority_taken (facts_of roster past) (Some r) u
+  carries_it r k =
+      let at = received_at roster past t c X r k a in
+      ap (λ o. cond (eqb r.by u) (carried_priority (channel_at roster past) o) None) (
+      among_now past (items roster (with_event t c X past)) r.item
+      ∙ ap (option_map (λ (m : SentItem). record { item = now past m.item; channel = m.channel })) (item_found roster (with_event t c X past) r.item _ at.at))
+      ∙ ap (λ p. priority_taken (facts_of roster past) (Some (record { item = r.item; channel = r.channel; by = r.by; sender = r.sender; kept = record { priority = p; copied = r.kept.copied; unblocked = r.kept.unblocked } })) u) (at.is_worth ∙ k.priority)
+
+  -- what an ending gives is what the row's receipt does
+  gives : (v : ℕ) (y : Completion) (q : ℕ × ℕ) → ending (facts_of roster past) t c v ≡ Some y → item_in_mark y.mark ≡ Some q → priority_from_ending carries u y ≡ priority_taken (facts_of roster past) (row_of (facts_of roster past) t c).receipt u
+  gives v y q e m =
+      let k : IsReceipt (row_of (facts_of roster past) t c) v q = ending_receives (facts_of roster past) t c v y q laws e m in
+      ap (λ o. cond (eqb y.thread u) (option_and_then (λ r. carries r.0) o) None) m
+      ∙ ap (λ w. cond (eqb w u) (carries q.0) None) (ending_thread roster past t c v y laws e ∙ sym k.by)
+      ∙ ap (λ i. cond (eqb k.receipt.by u) (carries i) None) k.item
+      ∙ carries_it k.receipt (laws.receives k.receipt k.is)
+      ∙ ap (λ o. priority_taken (facts_of roster past) o u) (sym k.is)
+
+  none_or_it : (v : ℕ) (y : Completion) → ending (facts_of roster past) t c v ≡ Some y → (priority_from_ending carries u y ≡ None) ⊎ (priority_from_ending carries u y ≡ priority_taken (facts_of roster past) (row_of (facts_of roster past) t c).receipt u)
+  none_or_it v y e = elim (item_in_mark y.mark) as (λ o. item_in_mark y.mark ≡ o → (priority_from_ending carries u y ≡ None) ⊎ (priority_from_ending carries u y ≡ priority_taken (facts_of roster past) (row_of (facts_of roster past) t c).receipt u)) [
+    | None ↦ λ m. inl (ap (λ o. cond (eqb y.thread u) (option_and_then (λ r. carries r.0) o) None) m ∙ nothing (eqb y.thread u))
+    | Some q ↦ λ m. inr (gives v y q e m)
+  ] refl where
+    nothing : (b : Bool) → cond {A = Option ℕ} b None None ≡ None
+    nothing true = refl
+    nothing false = refl
+
+  given_accepted : first_among (priority_from_ending carries u) X ≡ priority_taken (facts_of roster past) (row_of (facts_of roster past) t c).receipt u
+  given_accepted = ap (first_among (priority_from_ending carries u)) (a.1) ∙ by (priority_taken (facts_of roster past) (row_of (facts_of roster past) t c).receipt u) refl where
+    by : (o : Option ℕ) → priority_taken (facts_of roster past) (row_of (facts_of roster past) t c).receipt u ≡ o → first_among (priority_from_ending carries u) (filter_map (ending (facts_of roster past) t c) (threads_of roster)) ≡ o
+    by None is = among_none (priority_from_ending carries u) (ending (facts_of roster past) t c) (threads_of roster) (λ v y e. elim (none_or_it v y e) [ inl h ↦ h | inr h ↦ h ∙ is ])
+    by (Some p) is = from (row_of (facts_of roster past) t c).receipt refl is where
+      from : (o : Option Received) → (row_of (facts_of roster past) t c).receipt ≡ o → priority_taken (facts_of roster past) o u ≡ Some p
+          → first_among (priority_from_ending carries u) (filter_map (ending (facts_of roster past) t c) (threads_of roster)) ≡ Some p
+      from None e none = absurd (none-some p none)
+      from (Some r) e some =
+          let k = laws.receives r e in
+          among_one (priority_from_ending carries u) (ending (facts_of roster past) t c) (threads_of roster) p (λ v y e. elim (none_or_it v y e) [ inl h ↦ inl h | inr h ↦ inr (h ∙ is) ])
+          r.by k.given (known roster r.by (given_known roster past t c r.by k.given l member laws k.is_given)) k.is_given (gives r.by k.given _ k.is_given k.mark ∙ is)
+
+  pub priority_accepted : priority_of_thread roster (with_event t c X past) u ≡ priority_after (facts_of roster past) t c u
+  priority_accepted =
+      ap (λ o. unwrap_or (option_or (cond (not (refuses X (length past + 1))) (priority_set_for (sets c) u) None) o) (priority_of_thread roster past u)) given_accepted
+      ∙ ap (λ b. unwrap_or (option_or (cond (not b) (priority_set_for (sets c) u) None) (priority_taken (facts_of roster past) (row_of (facts_of roster past) t c).receipt u)) (priority_of_thread roster past u)) (accepted roster past t c X a)
+
+-- a refused call changes no priority
+pub priority_refused : (roster : List Member) (past : Trace) (t : ℕ) (c : Call) (X : List Completion) (u : ℕ) → Outcome false (facts_of roster past) t c X
+    → priority_of_thread roster (with_event t c X past) u ≡ priority_of_thread roster past u
+priority_refused roster past t c X u a =
+    ap (λ b. unwrap_or (option_or (cond (not b) (priority_set_for (sets c) u) None) (first_among (priority_from_ending (λ i. carried_priority (channel_at roster past) (made_among (items_by_now past (items roster (with_event t c X past))) i)) u) X)) (priority_of_thread roster past u)) (refused roster past t c X a)
+    ∙ ap (λ Y. unwrap_or (first_among (priority_from_ending (λ i. carried_priority (channel_at roster past) (made_among (items_by_now past (items roster (with_event t c X past))) i)) u) Y) (priority_of_thread roster past u)) (a.2)
+    ∙ nothing (eqb t u) where
+      nothing : (b : Bool) → unwrap_or (option_or (cond b None None) None) (priority_of_thread roster past u) ≡ priority_of_thread roster past u
+      nothing true = refl
+      nothing false = refl

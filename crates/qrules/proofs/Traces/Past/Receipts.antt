@@ -1,0 +1,149 @@
+-- What the endings of an event receive: just the receipt that its row says.
+use Rattle.std.proofs.Common.{◌≡◌, ℕ, ◌+◌, ◌<◌, ◌≤◌, List, [], ◌∷◌, length, refl, ap, sym, subst, ◌∙◌, cond, arith, true, false, eqb, ◌⊎◌, inl, inr}
+use Rattle.std.specs.Prelude.{Option, None, Some, is_some}
+use Rattle.std.specs.List.{filter_map, cons_option}
+use Rattle.std.proofs.lemmas.Bool.{cases_Bool, eqb-true, ne_eqb, true≢false}
+use Rattle.qqueue.specs.Best.{best_of}
+use Rattle.qqueue.specs.declared.item.Item.{Item}
+use Rattle.qqueue.specs.declared.item.Kind.{Kind}
+use Rattle.qqueue.proofs.OrderLaws.{best-at}
+use Rattle.qtables.specs.Members.{member_at}
+use Rattle.qtables.specs.declared.member.Member.{Member}
+use Rattle.qrules.specs.Private.Answer.{ending, Outcome, Answers}
+use Rattle.qrules.specs.Private.Calls.{row_of}
+use Rattle.qrules.specs.Private.Facts.{Facts, threads_of}
+use Rattle.qrules.specs.Private.Lawful.{facts_of, IsLawful}
+use Rattle.qrules.specs.Private.Past.{copied_count_in, first_among, priority_of_item, copied_count_among, copied_count_of}
+use Rattle.qrules.specs.Private.Rows.{Received, item_in_mark}
+use Rattle.qmodel.specs.Trace.{Trace}
+use Rattle.qmodel.specs.declared.call.Call.{Call}
+use Rattle.qmodel.specs.declared.call.Completion.{Completion}
+use Rattle.qbase.proofs.Lists.{is_among}
+use Rattle.qrules.proofs.Traces.Past.Laws.{RowLaws, IsReceipt, IsReceived}
+use Rattle.qrules.proofs.Traces.Calls.{call_laws}
+use Rattle.qrules.proofs.Traces.Past.Ends.{laws_of, ending_names, open_known}
+use Rattle.qrules.proofs.Traces.Past.Items.{IsPending, pending_all, pending_priorities, item_below}
+use Rattle.qrules.proofs.Traces.Rosters.{known}
+
+-- ---- what is told of one among the endings that some threads get
+
+pub among_none : {A : Type 0} (tell : Completion → Option A) (g : ℕ → Option Completion) (us : List ℕ) → ((u : ℕ) (y : Completion) → g u ≡ Some y → tell y ≡ None) → first_among tell (filter_map g us) ≡ None
+among_none tell g [] h = refl
+among_none tell g (u ∷ us) h =
+    elim (g u) as (λ o. g u ≡ o → first_among tell (cons_option o (filter_map g us)) ≡ None) [
+      | None ↦ λ e. among_none tell g us h
+      | Some y ↦ λ e. rw (h u y e) (among_none tell g us h)
+    ] refl
+
+-- nothing else is told of any, and it is told of one
+pub among_one : {A : Type 0} (tell : Completion → Option A) (g : ℕ → Option Completion) (us : List ℕ) (k : A) → ((u : ℕ) (y : Completion) → g u ≡ Some y → (tell y ≡ None) ⊎ (tell y ≡ Some k))
+    → (v : ℕ) (z : Completion) → is_among us v ≡ true → g v ≡ Some z → tell z ≡ Some k → first_among tell (filter_map g us) ≡ Some k
+among_one tell g [] k h v z m e q = absurd (true≢false (sym m))
+among_one tell g (u ∷ us) k h v z m e q =
+    elim (cases_Bool (eqb u v)) [
+      | inl same ↦ let at : g u ≡ Some z = ap g (eqb-true u v same) ∙ e in rw (at, q) refl
+      | inr other ↦
+          let rest : first_among tell (filter_map g us) ≡ Some k = among_one tell g us k h v z (rw other at m) e q in
+          elim (g u) as (λ o. g u ≡ o → first_among tell (cons_option o (filter_map g us)) ≡ Some k) [
+            | None ↦ λ is. rest
+            | Some y ↦ λ is. elim (h u y is) [ inl none ↦ rw none rest | inr some ↦ rw some refl ]
+          ] refl
+    ]
+
+-- ---- the receipt of an accepted call
+
+pub ending_receives : (f : Facts) (t : ℕ) (c : Call) (v : ℕ) (y : Completion) (p : ℕ × ℕ) → RowLaws f t c → ending f t c v ≡ Some y → item_in_mark y.mark ≡ Some p → IsReceipt (row_of f t c) v p
+ending_receives f t c v y p laws e m = elim (ending_names f t c v y laws e) [
+  | inl h ↦ subst (λ u. IsReceipt (row_of f t c) u p) (sym h.thread) (laws.own_receives y p h.is m)
+  | inr h ↦ laws.ends_receives v y p h.is m
+]
+
+-- how many bytes this receipt copies of item i, if it is of it
+abbrev pub copied_by : Option Received → ℕ → Option ℕ
+copied_by None i = None
+copied_by (Some r) i = cond (eqb r.item i) (Some r.kept.copied) None
+
+same_copied : (f : Facts) (t : ℕ) (c : Call) (v : ℕ) (p : ℕ × ℕ) (i : ℕ) → IsReceipt (row_of f t c) v p → copied_count_in i (Some p) ≡ copied_by (row_of f t c).receipt i
+same_copied f t c v p i k =
+    ap (λ n. cond (eqb n i) (Some p.1) None) k.item ∙ ap (λ n. cond (eqb k.receipt.item i) (Some n) None) k.copied ∙ ap (λ o. copied_by o i) (sym k.is)
+
+-- what an ending copies of item i is what the row's receipt does
+ending_copies : (f : Facts) (t : ℕ) (c : Call) (v : ℕ) (y : Completion) (i : ℕ) → RowLaws f t c → ending f t c v ≡ Some y
+    → (copied_count_in i (item_in_mark y.mark) ≡ None) ⊎ (copied_count_in i (item_in_mark y.mark) ≡ copied_by (row_of f t c).receipt i)
+ending_copies f t c v y i laws e =
+    elim (item_in_mark y.mark) as (λ o. item_in_mark y.mark ≡ o → (copied_count_in i o ≡ None) ⊎ (copied_count_in i o ≡ copied_by (row_of f t c).receipt i)) [
+      | None ↦ λ m. inl refl
+      | Some p ↦ λ m. inr (same_copied f t c v p i (ending_receives f t c v y p laws e m))
+    ] refl
+
+-- the one that the row says is given to a thread of the roster
+pub given_known : (roster : List Member) (past : Trace) (t : ℕ) (c : Call) (v : ℕ) (y : Completion) → IsLawful roster past → is_some (member_at roster t) ≡ true → RowLaws (facts_of roster past) t c
+    → ending (facts_of roster past) t c v ≡ Some y → is_some (member_at roster v) ≡ true
+given_known roster past t c v y l member laws e = elim (ending_names (facts_of roster past) t c v y laws e) [
+  | inl h ↦ subst (λ u. is_some (member_at roster u) ≡ true) (sym h.thread) member
+  | inr h ↦ open_known roster past v h.names.waiting l h.names.is
+]
+
+pub accepted_receipts : (roster : List Member) (past : Trace) (t : ℕ) (c : Call) (X : List Completion) (i : ℕ) → IsLawful roster past → is_some (member_at roster t) ≡ true
+    → Outcome true (facts_of roster past) t c X → copied_count_among X i ≡ copied_by (row_of (facts_of roster past) t c).receipt i
+accepted_receipts roster past t c X i l member a =
+    let f = facts_of roster past in
+    let laws = laws_of (facts_of roster past) t c X a in
+    let copies = λ (v : ℕ) (y : Completion) (e : ending (facts_of roster past) t c v ≡ Some y). ending_copies (facts_of roster past) t c v y i laws e in
+    rw (a.1) (
+    elim ((row_of f t c).receipt) as (λ o. (row_of f t c).receipt ≡ o → copied_count_among (filter_map (ending f t c) (threads_of roster)) i ≡ copied_by o i) [
+      | None ↦ λ is. among_none (λ x. copied_count_in i (item_in_mark x.mark)) (ending f t c) (threads_of roster) (λ v y e. elim (copies v y e) [ inl h ↦ h | inr h ↦ h ∙ ap (λ o. copied_by o i) is ])
+      | Some r ↦ λ is.
+          let k = laws.receives r is in
+          elim (eqb r.item i) as (λ b. eqb r.item i ≡ b → copied_count_among (filter_map (ending f t c) (threads_of roster)) i ≡ cond b (Some r.kept.copied) None) [
+            | true ↦ λ same.
+                let by : copied_by (row_of f t c).receipt i ≡ Some r.kept.copied = rw (is, same) refl in
+                among_one (λ x. copied_count_in i (item_in_mark x.mark)) (ending f t c) (threads_of roster) r.kept.copied (λ v y e. elim (copies v y e) [ inl h ↦ inl h | inr h ↦ inr (h ∙ by) ])
+                r.by k.given (known roster r.by (given_known roster past t c r.by k.given l member laws k.is_given)) k.is_given (rw (k.mark, same) refl)
+            | false ↦ λ other.
+                let by : copied_by (row_of f t c).receipt i ≡ None = rw (is, other) refl in
+                among_none (λ x. copied_count_in i (item_in_mark x.mark)) (ending f t c) (threads_of roster) (λ v y e. elim (copies v y e) [ inl h ↦ h | inr h ↦ h ∙ by ])
+          ] refl
+    ] refl)
+
+-- a refused call receives nothing
+pub refused_receipts : (f : Facts) (t : ℕ) (c : Call) (X : List Completion) (i : ℕ) → Outcome false f t c X → copied_count_among X i ≡ None
+refused_receipts f t c X i a = rw (a.2) refl
+
+-- ---- which item a receipt is of
+
+pub best_pending : (roster : List Member) (past : Trace) (h : ℕ) (kind : Kind) (item : Item) → best_of kind ((facts_of roster past).pending h) ≡ Some item → IsPending roster past h item
+best_pending roster past h kind item best = best-at (IsPending roster past h) kind ((facts_of roster past).pending h) item (pending_all roster past h) best
+
+-- it has the priority that its number has by now
+pub best_priority : (roster : List Member) (past : Trace) (h : ℕ) (kind : Kind) (item : Item) → best_of kind ((facts_of roster past).pending h) ≡ Some item → priority_of_item roster past item.number ≡ item.priority
+best_priority roster past h kind item best = best-at (λ (x : Item). priority_of_item roster past x.number ≡ x.priority) kind ((facts_of roster past).pending h) item (pending_priorities roster past h) best
+
+pub received_below : (roster : List Member) (past : Trace) (t : ℕ) (c : Call) (r : Received) → IsReceived (facts_of roster past) t c r → r.item ≤ length past + 1
+received_below roster past t c r k = elim (k.source) [
+  | inl new ↦
+      let number : k.item.number ≡ length past + 1 = ((call_laws c).makes_one (facts_of roster past) t _ new.made).number in
+      omega (arith, k.number)
+  | inr old ↦
+      let below : k.item.number ≤ length past = item_below roster past k.item.number _ (best_pending roster past r.channel old.kind k.item old.best).made in
+      omega (arith, k.number)
+]
+
+-- an event receives its own item or one that was pending
+pub receipts_below : (roster : List Member) (past : Trace) (t : ℕ) (c : Call) (X : List Completion) (i : ℕ) → IsLawful roster past → is_some (member_at roster t) ≡ true
+    → Answers (facts_of roster past) t c X → length past + 1 < i → copied_count_among X i ≡ None
+receipts_below roster past t c X i l member a above = elim a [
+  | inl a ↦ accepted_receipts roster past t c X i l member a ∙ (
+      elim ((row_of (facts_of roster past) t c).receipt) as (λ o. (row_of (facts_of roster past) t c).receipt ≡ o → copied_by o i ≡ None) [
+        | None ↦ λ is. refl
+        | Some r ↦ λ is.
+            let below : r.item ≤ length past + 1 = received_below roster past t c r ((laws_of (facts_of roster past) t c X a).receives r is) in
+            rw (ne_eqb r.item i (λ same. omega arith)) refl
+      ] refl)
+  | inr a ↦ refused_receipts (facts_of roster past) t c X i a
+]
+
+-- no item to come is received
+pub receipt_beyond : (roster : List Member) (past : Trace) (i : ℕ) → IsLawful roster past → length past < i → copied_count_of past i ≡ None
+receipt_beyond roster [] i l h = refl
+receipt_beyond roster (e ∷ past) i l h = rw (receipts_below roster past e.thread e.call e.endings i l.0 l.1 l.2 (omega arith)) (receipt_beyond roster past i l.0 (omega arith))

@@ -1,0 +1,51 @@
+-- The items of a channel stand in rising number.
+use Rattle.std.proofs.Common.{◌≡◌, ℕ, ◌+◌, ◌<◌, ◌≤◌, List, [], ◌∷◌, ◌++◌, map, length, refl, sym, subst, cond, arith, true, false, eqb}
+use Rattle.std.specs.Prelude.{Option, None, Some, not}
+use Rattle.std.specs.List.{AllByRecursion}
+use Rattle.std.proofs.lemmas.List.{append-nil}
+use Rattle.qqueue.specs.Contents.{IsRising}
+use Rattle.qqueue.specs.declared.item.Item.{Item}
+use Rattle.qqueue.proofs.RisingLaws.{IsRising-push, IsRising-filter}
+use Rattle.qtables.specs.declared.member.Member.{Member}
+use Rattle.qrules.specs.Private.Past.{is_closed, is_gone, item_of, pending_items, made_on}
+use Rattle.qmodel.specs.Trace.{SentItem}
+use Rattle.qmodel.specs.Trace.{Event, Trace}
+use Rattle.qbase.proofs.Lists.{all_map, all_more}
+use Rattle.qrules.proofs.Traces.Past.Items.{IsPending, Stands, items_on, stands_all, staying, pending_all, pending_is, item_below, made_by}
+use Rattle.qrules.proofs.Traces.Past.CurrentPriority.{now}
+use Rattle.qrules.proofs.Traces.Past.Pending.{items_more}
+
+-- rising items, and one that is made after them
+rising_made : (items : List Item) (h : ℕ) (o : Option SentItem) → IsRising items → ((m : SentItem) → o ≡ Some m → AllByRecursion (λ y. y.number < m.item.number) items) → IsRising (items ++ made_on h o)
+rising_made items h None rising above = subst IsRising (sym (append-nil items)) rising
+rising_made items h (Some m) rising above =
+    elim (eqb m.channel h) as (λ b. IsRising (items ++ cond b (m.item ∷ []) [])) [
+      | true ↦ IsRising-push items m.item rising (above m refl)
+      | false ↦ subst IsRising (sym (append-nil items)) rising
+    ]
+
+pub items_rise : (roster : List Member) (past : Trace) (h : ℕ) → IsRising (items_on roster past h)
+items_rise roster [] h = tt
+items_rise roster (e ∷ past) h = subst IsRising (sym (items_more roster e past h)) (rising_made (items_on roster past h) h (item_of roster e past) (items_rise roster past h) (λ m is.
+    let number : m.item.number ≡ length past + 1 = (made_by roster e past m is).number in
+    all_more (Stands roster past h) (λ y. y.number < m.item.number) (items_on roster past h) (stands_all roster past h) (λ y at.
+    let below : y.number ≤ length past = item_below roster past y.number _ at in omega arith)))
+
+-- whatever their priorities are by now
+now_rises : (past : Trace) (items : List Item) → IsRising items → IsRising (map (now past) items)
+now_rises past [] rising = tt
+now_rises past (x ∷ items) rising = (all_map (λ y. x.number < y.number) (now past) items rising.0, now_rises past items rising.1)
+
+-- what is pending rises
+pub pending_rises : (roster : List Member) (past : Trace) (h : ℕ) → IsRising (pending_items roster past h)
+pending_rises roster past h = subst IsRising (sym (pending_is roster past h)) (elim (is_closed past h) as (λ b. IsRising (cond b [] (map (now past) (staying roster past h)))) [
+  | true ↦ tt
+  | false ↦ now_rises past (staying roster past h) (IsRising-filter (λ item. not (is_gone past item)) (items_on roster past h) (items_rise roster past h))
+])
+
+-- and so it does with the item that the next event makes
+pub takeable_rises : (roster : List Member) (e : Event) (past : Trace) (h : ℕ) → IsRising (pending_items roster past h ++ made_on h (item_of roster e past))
+takeable_rises roster e past h = rising_made (pending_items roster past h) h (item_of roster e past) (pending_rises roster past h) (λ m is.
+    let number : m.item.number ≡ length past + 1 = (made_by roster e past m is).number in
+    all_more (IsPending roster past h) (λ y. y.number < m.item.number) (pending_items roster past h) (pending_all roster past h) (λ y at.
+    let below : y.number ≤ length past = item_below roster past y.number _ at.made in omega arith))

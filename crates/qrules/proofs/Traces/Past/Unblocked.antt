@@ -1,0 +1,171 @@
+-- The messages for which an unblock pulse was made: each of them was received before.
+use Rattle.std.proofs.Common.{◌≡◌, ℕ, ◌+◌, ◌≤◌, List, [], ◌∷◌, length, refl, ap, sym, subst, ◌∙◌, cond, arith, Bool, true, false, eqb, inl, inr}
+use Rattle.std.specs.Prelude.{Option, None, Some, is_some, not, ◌&&◌, ◌||◌}
+use Rattle.std.specs.Option.{option_map, option_to_list, option_or}
+use Rattle.std.proofs.lemmas.Bool.{cases_Bool, eqb-true, ne_eqb, true≢false, or_cases}
+use Rattle.std.proofs.lemmas.List.Folds.{list_any-append}
+use Rattle.std.proofs.lemmas.Option.{same_Some}
+use Rattle.std.proofs.Math.Bool.{and-false, or-true, or-false}
+use Rattle.qtables.specs.declared.member.Member.{Member}
+use Rattle.qrules.specs.Private.Facts.{is_for_answer}
+use Rattle.qrules.specs.Private.Effects.{makes, unblocks}
+use Rattle.qrules.specs.Private.Laws.{is_for_reply}
+use Rattle.qrules.specs.Private.Lawful.{facts_of}
+use Rattle.qrules.specs.Private.Past.{call_by_now, wait_with_receipt, is_taken, is_unblock_for, item_of, items, open_call, priority_of_item, copied_count_among, copied_count_of, unblocked_among, with_receipt}
+use Rattle.qmodel.specs.Trace.{SentItem}
+use Rattle.qrules.specs.Private.Step.{after_unblock, unblocked_call, unblocked_wait}
+use Rattle.qmodel.specs.Trace.{Event, Trace}
+use Rattle.qmodel.specs.declared.call.Call.{Call}
+use Rattle.qmodel.specs.declared.open_call.OpenCall.{OpenCall}
+use Rattle.qmodel.specs.declared.open_call.Wait.{Wait}
+use Rattle.qmodel.specs.declared.open_call.Wait.TheVariants.{Answer, Item as ForItem}
+use Rattle.qbase.proofs.Lists.{eqb_same}
+use Rattle.qrules.proofs.Traces.Past.Laws.{is_settled}
+use Rattle.qrules.proofs.Traces.Calls.{call_laws}
+use Rattle.qrules.proofs.Traces.Past.Numbers.{IsOpen, block_fresh, filled_answer, filled_settled, open_below, open_parts, open_thread, is_unblocked}
+use Rattle.qrules.proofs.Traces.Past.Items.{item_accepted}
+use Rattle.qrules.proofs.Traces.Past.CurrentPriority.{unblocked_among_now}
+
+-- ---- what is held is taken
+
+-- an open call whose message is received: the receipt is in the past
+pub held_is_taken : (roster : List Member) (past : Trace) (u : ℕ) (o : OpenCall) (k : IsOpen roster past u o) → is_for_answer o.wait ≡ true → is_settled o.wait ≡ true → is_taken past k.block.number ≡ true
+held_is_taken roster past u o k w s =
+    elim (copied_count_of past k.block.number) as (λ r. o ≡ with_receipt (priority_of_item roster past k.block.number) (is_unblocked roster past k.block.number) r (call_by_now past k.block) → is_some r ≡ true) [
+      | None ↦ λ same.
+          absurd (true≢false (sym (ap (λ x. is_settled x.wait) (sym same) ∙ s) ∙ filled_settled past k.block ∙ block_fresh past u k.block k.is ∙ ap not (sym (filled_answer past k.block) ∙ ap (λ x. is_for_answer x.wait) (sym same) ∙ w)))
+      | Some copied ↦ λ same. refl
+    ] k.same
+
+reply_answer : (w : Wait) → is_for_reply w ≡ true → is_for_answer w ≡ true
+reply_answer (Answer coid message reply_buffer receipt) e = refl
+reply_answer (ForItem chid kind buffer) e = absurd (true≢false (sym e))
+
+reply_settled : (w : Wait) → is_for_reply w ≡ true → is_settled w ≡ true
+reply_settled (Answer coid message reply_buffer None) e = absurd (true≢false (sym e))
+reply_settled (Answer coid message reply_buffer (Some receipt)) e = refl
+reply_settled (ForItem chid kind buffer) e = refl
+
+-- ---- what is unblocked
+
+-- message i is received, and so was sent
+pub record WasReceived (past : Trace) (i : ℕ) : Type 0 where
+  pub below : i ≤ length past
+  pub taken : is_taken past i ≡ true
+
+-- the item is no unblock pulse, or one for what the thread that the call names is blocked in
+by_item : (roster : List Member) (past : Trace) (t : ℕ) (c : Call) (i : ℕ) (m : SentItem) → makes (facts_of roster past) t c ≡ Some m → is_unblock_for i m.item.what ≡ true → WasReceived past i
+by_item roster past t c i m made is =
+    elim (unblocks c) as (λ w. unblocks c ≡ w → WasReceived past i) [
+      | None ↦ λ none. absurd (true≢false (sym is ∙ (call_laws c).unblocks_none none (facts_of roster past) t m made i))
+      | Some v ↦ λ some.
+          let k = (call_laws c).unblocks_one v some (facts_of roster past) t m made in
+          let same : k.waiting.number ≡ i = eqb-true _ _ (ap (is_unblock_for i) (sym k.what) ∙ is) in
+          let p = open_parts roster past v k.waiting k.is in
+          record {
+            below = subst (λ j. j ≤ length past) same (open_below roster past v k.waiting k.is);
+            taken = subst (λ j. is_taken past j ≡ true) (sym p.number ∙ same) (held_is_taken roster past v k.waiting p (reply_answer k.waiting.wait k.held) (reply_settled k.waiting.wait k.held));
+          }
+    ] refl
+
+pub unblocked_now : (roster : List Member) (past : Trace) (t : ℕ) (c : Call) (i : ℕ) → unblocked_among (option_to_list (makes (facts_of roster past) t c)) i ≡ true → WasReceived past i
+unblocked_now roster past t c i e =
+    elim (makes (facts_of roster past) t c) as (λ o. makes (facts_of roster past) t c ≡ o → unblocked_among (option_to_list o) i ≡ true → WasReceived past i) [
+      | None ↦ λ none s. absurd (true≢false (sym s))
+      | Some m ↦ λ some s. by_item roster past t c i m some (sym (or-false (is_unblock_for i m.item.what)) ∙ s)
+    ] refl e
+
+-- with one more event, what that makes
+pub unblocked_by : (roster : List Member) (e : Event) (past : Trace) (i : ℕ) → is_unblocked roster (e ∷ past) i ≡ (is_unblocked roster past i || unblocked_among (option_to_list (item_of roster e past)) i)
+unblocked_by roster e past i =
+    unblocked_among_now (e ∷ past) (items roster (e ∷ past)) i
+    ∙ list_any-append (λ m. is_unblock_for i m.item.what) (items roster past) (option_to_list (item_of roster e past))
+    ∙ ap (λ b. b || unblocked_among (option_to_list (item_of roster e past)) i) (sym (unblocked_among_now past (items roster past) i))
+
+-- what was received stays so
+received_stays : (e : Event) (past : Trace) (i : ℕ) → WasReceived past i → WasReceived (e ∷ past) i
+received_stays e past i k = let below : i ≤ length past = k.below in record { below = omega arith; taken = later (copied_count_among e.endings i) } where
+  later : (o : Option ℕ) → is_some (option_or o (copied_count_of past i)) ≡ true
+  later None = k.taken
+  later (Some r) = refl
+
+pub unblocked_received : (roster : List Member) (past : Trace) (i : ℕ) → is_unblocked roster past i ≡ true → WasReceived past i
+unblocked_received roster [] i is = absurd (true≢false (sym is))
+unblocked_received roster (e ∷ past) i is = elim (or_cases _ _ (sym (unblocked_by roster e past i) ∙ is)) [
+  | inl before ↦ received_stays e past i (unblocked_received roster past i before)
+  | inr now ↦ received_stays e past i (
+      elim (item_of roster e past) as (λ o. item_of roster e past ≡ o → unblocked_among (option_to_list o) i ≡ true → WasReceived past i) [
+        | None ↦ λ none s. absurd (true≢false (sym s))
+        | Some m ↦ λ some s. by_item roster past e.thread e.call i m (item_accepted roster e past m some).1 (sym (or-false (is_unblock_for i m.item.what)) ∙ s)
+      ] refl now)
+]
+
+-- what isn't received has no unblock pulse
+pub none_unblocked : (roster : List Member) (past : Trace) (i : ℕ) → copied_count_of past i ≡ None → is_unblocked roster past i ≡ false
+none_unblocked roster past i none = elim (cases_Bool (is_unblocked roster past i)) [
+  | inl is ↦ absurd (true≢false (sym (unblocked_received roster past i is).taken ∙ ap is_some none))
+  | inr isnt ↦ isnt
+]
+
+-- nor has a message to come
+pub unblocked_beyond : (roster : List Member) (past : Trace) (i : ℕ) → length past + 1 ≤ i → is_unblocked roster past i ≡ false
+unblocked_beyond roster past i above = elim (cases_Bool (is_unblocked roster past i)) [
+  | inl is ↦ let below : i ≤ length past = (unblocked_received roster past i is).below in absurd (omega arith)
+  | inr isnt ↦ isnt
+]
+
+-- and so has the call that makes the item
+pub fresh_unblocked : (roster : List Member) (past : Trace) (t : ℕ) (c : Call) → unblocked_among (option_to_list (makes (facts_of roster past) t c)) (length past + 1) ≡ false
+fresh_unblocked roster past t c = elim (cases_Bool (unblocked_among (option_to_list (makes (facts_of roster past) t c)) (length past + 1))) [
+  | inl is ↦ let below : length past + 1 ≤ length past = (unblocked_now roster past t c (length past + 1) is).below in absurd (omega arith)
+  | inr isnt ↦ isnt
+]
+
+-- ---- an open call after an event
+
+-- thread u is the one that the call unblocks, and a pulse is made
+abbrev pub marks : Option SentItem → Option ℕ → ℕ → Bool
+marks m None u = false
+marks m (Some v) u = eqb u v && is_some m
+
+-- the item is an unblock pulse for what thread u is blocked in just where the call is to unblock that thread
+pub marks_it : (roster : List Member) (past : Trace) (t : ℕ) (c : Call) (u : ℕ) (o : OpenCall) → open_call roster past u ≡ Some o
+    → unblocked_among (option_to_list (makes (facts_of roster past) t c)) o.number ≡ marks (makes (facts_of roster past) t c) (unblocks c) u
+marks_it roster past t c u o is =
+    elim (makes (facts_of roster past) t c) as (λ m. makes (facts_of roster past) t c ≡ m → unblocked_among (option_to_list m) o.number ≡ marks m (unblocks c) u) [
+      | None ↦ λ none. elim (unblocks c) as (λ w. false ≡ marks None w u) [ None ↦ refl | Some v ↦ sym (and-false (eqb u v)) ]
+      | Some m ↦ λ some. or-false (is_unblock_for o.number m.item.what) ∙ (
+          elim (unblocks c) as (λ w. unblocks c ≡ w → is_unblock_for o.number m.item.what ≡ marks (Some m) w u) [
+            | None ↦ λ none. (call_laws c).unblocks_none none (facts_of roster past) t m some o.number
+            | Some v ↦ λ named.
+                let k = (call_laws c).unblocks_one v named (facts_of roster past) t m some in
+                ap (is_unblock_for o.number) k.what ∙ (
+                elim (cases_Bool (eqb u v)) as (λ _. eqb k.waiting.number o.number ≡ (eqb u v && true)) [
+                  | inl same ↦
+                      let one : k.waiting ≡ o = same_Some _ _ (sym k.is ∙ ap (open_call roster past) (sym (eqb-true u v same)) ∙ is) in
+                      ap (λ n. eqb n o.number) (ap (λ w. w.number) one) ∙ eqb_same o.number ∙ rw same refl
+                  | inr other ↦ ne_eqb k.waiting.number o.number (λ n. true≢false (sym (eqb_same u) ∙ ap (eqb u) (open_thread roster past u v o k.waiting is k.is (sym n)) ∙ other)) ∙ rw other refl
+                ])
+          ] refl)
+    ] refl
+
+unblocked_held : (priority copied : ℕ) (unblocked : Bool) (w : Wait)
+    → wait_with_receipt (record { priority = priority; copied = copied; unblocked = true }) w ≡ unblocked_wait (wait_with_receipt (record { priority = priority; copied = copied; unblocked = unblocked }) w)
+unblocked_held priority copied unblocked (Answer coid message reply_buffer receipt) = refl
+unblocked_held priority copied unblocked (ForItem chid kind buffer) = refl
+
+-- what is kept of a received message with what the event makes
+marked : (unblocked x : Bool) (priority : ℕ) (r : Option ℕ) (o : OpenCall) → (x ≡ true → is_some r ≡ true)
+    → with_receipt priority (unblocked || x) r o ≡ cond x (unblocked_call (with_receipt priority unblocked r o)) (with_receipt priority unblocked r o)
+marked unblocked false priority r o h = ap (λ b. with_receipt priority b r o) (or-false unblocked)
+marked unblocked true priority None o h = absurd (true≢false (sym (h refl)))
+marked unblocked true priority (Some copied) o h =
+    ap (λ b. with_receipt priority b (Some copied) o) (or-true unblocked) ∙ ap (λ w. record { number = o.number; wait = w }) (unblocked_held priority copied unblocked o.wait)
+
+pub unblocked_after : (m : Option SentItem) (w : Option ℕ) (u : ℕ) (unblocked x : Bool) (priority : ℕ) (r : Option ℕ) (o : OpenCall) → x ≡ marks m w u → (x ≡ true → is_some r ≡ true)
+    → Some (with_receipt priority (unblocked || x) r o) ≡ after_unblock m w u (Some (with_receipt priority unblocked r o))
+unblocked_after m None u unblocked x priority r o is h = ap Some (marked unblocked x priority r o h ∙ ap (λ b. cond b (unblocked_call (with_receipt priority unblocked r o)) (with_receipt priority unblocked r o)) is)
+unblocked_after m (Some v) u unblocked x priority r o is h =
+    ap Some (marked unblocked x priority r o h ∙ ap (λ b. cond b (unblocked_call (with_receipt priority unblocked r o)) (with_receipt priority unblocked r o)) is) ∙ (
+    elim (eqb u v && is_some m) as (λ b. Some (cond b (unblocked_call (with_receipt priority unblocked r o)) (with_receipt priority unblocked r o))
+    ≡ cond b (option_map unblocked_call (Some (with_receipt priority unblocked r o))) (Some (with_receipt priority unblocked r o))) [ true ↦ refl | false ↦ refl ])

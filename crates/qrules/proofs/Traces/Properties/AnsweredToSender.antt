@@ -1,0 +1,121 @@
+-- A message is answered at most once, by a call that may answer it, and to the thread that sent it.
+use Rattle.std.proofs.Common.{◌≡◌, ◌≢◌, ◌∙◌, ℕ, ◌+◌, ◌<◌, List, [], ◌∷◌, refl, ap, sym, subst, arith, cond, eqb, Bool, true, false, inl, inr}
+use Rattle.std.specs.Prelude.{Option, None, Some, not, ◌&&◌, count_by}
+use Rattle.std.specs.List.{AllByRecursion, filter_map, cons_option}
+use Rattle.std.proofs.lemmas.Bool.{and_from, cases_Bool, ne_eqb, eq-eqb, eqb-true, eqb-false, true≢false}
+use Rattle.std.proofs.lemmas.List.Sums.{sum_by-cons}
+use Rattle.std.proofs.lemmas.Option.{none-some}
+use Rattle.qtables.specs.declared.connection.Connection.{Connection}
+use Rattle.qtables.specs.declared.member.Member.{Member}
+use Rattle.qtables.specs.Members.{IsRoster}
+use Rattle.qrules.specs.Private.Answer.{ending, Outcome, Answers}
+use Rattle.qrules.proofs.Traces.Parts.{owns_end, owns_that}
+use Rattle.qrules.specs.Private.Facts.{Facts, is_for_answer, owns, threads_of}
+use Rattle.qrules.specs.Private.Headline.AnsweredToSender.{AnsweredToSender, AnswersIts, AnswersOnce, EachAnswersIts, is_answer, is_held, owns_channel_of}
+use Rattle.qrules.specs.Private.Lawful.{facts_of, IsLawful}
+use Rattle.qrules.specs.Private.Past.{connection_at, is_taken, sender_of}
+use Rattle.qmodel.specs.Trace.{Event, Trace}
+use Rattle.qmodel.specs.declared.call.Completion.{Completion}
+use Rattle.qrules.proofs.Traces.Past.Ends.{open_known, passes_of}
+use Rattle.qrules.proofs.Traces.Past.Laws.{is_settled}
+use Rattle.qbase.proofs.Lists.{all_filter_map, all_more, is_among}
+use Rattle.qrules.proofs.Traces.Past.Numbers.{buffer_answer, held_for_answer, open_parts}
+use Rattle.qrules.proofs.Traces.Properties.Answers.{AnswersHeld, answers_held, answers_one, over}
+use Rattle.qrules.proofs.Traces.Properties.Events.{is_accepted_by, outcome_of}
+use Rattle.qrules.proofs.Traces.Properties.ReceivedOnce.{different_calls}
+use Rattle.qrules.proofs.Traces.Past.Unblocked.{held_is_taken}
+use Rattle.qrules.proofs.Traces.Rosters.{known}
+use Rattle.qrules.proofs.Traces.Properties.Sends.{block_sender, item_channel, open_keeps, open_over}
+use Rattle.qrules.proofs.Traces.Past.LiveSends.{over_attached}
+
+-- ---- each answer is one to the message that the call names
+
+-- a channel of a connection that is the thread's
+owns_through : (f : Facts) (t : ℕ) (o : Option Connection) (c : Connection) → o ≡ Some c → owns_end f t o ≡ true → owns f t c.channel ≡ true
+owns_through f t o c is e = subst (λ x. owns_end f t x ≡ true) is e
+
+answers_its : (roster : List Member) (past : Trace) (e : Event) (u : ℕ) (y : Completion) → IsLawful roster past → Outcome true (facts_of roster past) e.thread e.call e.endings
+    → AnswersHeld (facts_of roster past) e.thread e.call u y → AnswersIts roster past e y
+answers_its roster past e u y l a h =
+    let f = facts_of roster past in
+    let o = h.held.waiting in
+    let k = open_parts roster past u o h.held.is_open in
+    let number : k.block.number ≡ y.call = sym k.number ∙ h.number in
+    let answer : is_for_answer o.wait ≡ true = ap is_for_answer h.held.waits in
+    let began : is_for_answer k.block.wait ≡ true = sym (open_keeps is_for_answer roster past u o k held_for_answer buffer_answer) ∙ answer in
+    let taken : is_taken past k.block.number ≡ true = held_is_taken roster past u o k answer (ap is_settled h.held.waits) in
+    let s = open_over roster past u o k l answer in
+    let connection : connection_at roster past h.held.coid ≡ Some s.connection = ap (connection_at roster past) (sym (ap over h.held.waits)) ∙ over_attached roster past u o l h.held.is_open answer ∙ s.is_connection in
+    record {
+      named = h.named;
+      accepted = is_accepted_by roster e past a;
+      held = subst (λ i. is_held past i ≡ true) number (and_from _ _ taken (ap not k.going));
+      owner = subst (λ i. owns_channel_of roster past e.thread i ≡ true) number
+          (ap (owns_that roster past e.thread) (item_channel roster past k.block.number s.made s.is_made)
+          ∙ ap (λ c. owns (facts_of roster past) e.thread c) s.channel
+          ∙ owns_through (facts_of roster past) e.thread (connection_at roster past h.held.coid) s.connection connection h.held.owner);
+      sender = subst (λ i. sender_of past i ≡ Some y.thread) number (block_sender past u k.block k.is began ∙ ap (λ t. Some t) (sym h.thread));
+    }
+
+each_answers_its : (roster : List Member) (past : Trace) (e : Event) → IsLawful roster past → Answers (facts_of roster past) e.thread e.call e.endings → EachAnswersIts roster past e
+each_answers_its roster past e l a = elim a [
+  | inl a ↦ subst (AllByRecursion (λ x. is_answer x.mark ≡ true → AnswersIts roster past e x)) (sym a.1) (all_filter_map (λ x. is_answer x.mark ≡ true → AnswersIts roster past e x) (ending (facts_of roster past) e.thread e.call) (threads_of roster) (λ u y is answers.
+      answers_its roster past e u y l a (answers_held (facts_of roster past) e.thread e.call u y (passes_of (facts_of roster past) e.thread e.call e.endings a) is answers)))
+  | inr a ↦ subst (AllByRecursion (λ x. is_answer x.mark ≡ true → AnswersIts roster past e x)) (sym a.2) ((λ answers. absurd (true≢false (sym answers))), tt)
+]
+
+-- ---- an accepted call that answers has one answer
+
+and_false_where : (x y : Bool) → (x ≡ true → y ≡ true → ⊥) → (x && y) ≡ false
+and_false_where true true h = absurd (h refl refl)
+and_false_where true false h = refl
+and_false_where false y h = refl
+
+count_more : {Y : Type 0} (p : Y → Bool) (y : Y) (ys : List Y) (b : Bool) (n : ℕ) → p y ≡ b → count_by p ys ≡ n → count_by p (y ∷ ys) ≡ cond b 1 0 + n
+count_more p y ys b n e rest = sum_by-cons (λ x. cond (p x) 1 0) y ys ∙ ap (λ k. cond k 1 0 + count_by p ys) e ∙ ap (λ k. cond b 1 0 + k) rest
+
+count_none : {Y : Type 0} (p : Y → Bool) (g : ℕ → Option Y) (roster : List Member) → AllByRecursion (λ x. (z : Y) → g x.thread ≡ Some z → p z ≡ false) roster → count_by p (filter_map g (threads_of roster)) ≡ 0
+count_none p g [] h = refl
+count_none {Y} p g (m ∷ roster) h =
+    elim (g m.thread) as (λ o. g m.thread ≡ o → count_by p (cons_option o (filter_map g (threads_of roster))) ≡ 0) [
+      | None ↦ λ e. count_none p g roster h.1
+      | Some z ↦ λ e. count_more p z (filter_map g (threads_of roster)) false 0 (h.0 z e) (count_none p g roster h.1)
+    ] refl
+
+-- where one thread alone is given what passes, just one passes
+count_one : {Y : Type 0} (p : Y → Bool) (g : ℕ → Option Y) (roster : List Member) (u : ℕ) (y : Y) → IsRoster roster → is_among (threads_of roster) u ≡ true → g u ≡ Some y → p y ≡ true
+    → ((v : ℕ) (z : Y) → v ≢ u → g v ≡ Some z → p z ≡ false) → count_by p (filter_map g (threads_of roster)) ≡ 1
+count_one p g [] u y r among is passes others = absurd (true≢false (sym among))
+count_one {Y} p g (m ∷ roster) u y r among is passes others =
+    elim (cases_Bool (eqb m.thread u)) as (λ _. count_by p (filter_map g (threads_of (m ∷ roster))) ≡ 1) [
+      | inl same ↦
+          let at : m.thread ≡ u = eqb-true m.thread u same in
+          let here : g m.thread ≡ Some y = ap g at ∙ is in
+          let rest : count_by p (filter_map g (threads_of roster)) ≡ 0 = count_none p g roster
+          (all_more (λ (x : Member). m.thread < x.thread) (λ (x : Member). (z : Y) → g x.thread ≡ Some z → p z ≡ false) roster r.0 (λ x later z e. others x.thread z (λ s. omega arith) e)) in
+          rw here (count_more p y (filter_map g (threads_of roster)) true 0 passes rest)
+      | inr other ↦
+          let rest : count_by p (filter_map g (threads_of roster)) ≡ 1 = count_one p g roster u y r.1 (rw other at among) is passes others in
+          elim (g m.thread) as (λ o. g m.thread ≡ o → count_by p (cons_option o (filter_map g (threads_of roster))) ≡ 1) [
+            | None ↦ λ e. rest
+            | Some z ↦ λ e. count_more p z (filter_map g (threads_of roster)) false 1 (others m.thread z (eqb-false m.thread u other) e) rest
+          ] refl
+    ]
+
+answers_once : (roster : List Member) (past : Trace) (e : Event) → IsRoster roster → IsLawful roster past → Answers (facts_of roster past) e.thread e.call e.endings → AnswersOnce past e
+answers_once roster past e r l a i answered was =
+    let f = facts_of roster past in
+    let o = outcome_of roster e past a was in
+    let p = passes_of (facts_of roster past) e.thread e.call e.endings o in
+    let k = answers_one (facts_of roster past) e.thread e.call i p answered in
+    let other : eqb k.thread e.thread ≡ false = ne_eqb k.thread e.thread (λ same. none-some k.waiting (sym p.idle ∙ ap (λ t. f.open_call t) (sym same) ∙ k.is_open)) in
+    let given : ending f e.thread e.call k.thread ≡ Some k.given = rw other k.is in
+    rw (o.1) (count_one (λ x. eqb x.call i) (ending f e.thread e.call) roster k.thread k.given r
+    (known roster k.thread (open_known roster past k.thread k.waiting l k.is_open))
+    given
+    (eq-eqb k.given.call i k.call)
+    (λ v z apart is. subst (λ j. eqb z.call j ≡ false) k.call (different_calls roster past e.thread e.call e.endings o v k.thread z k.given apart is given)))
+
+pub answered_to_sender : (roster : List Member) (past : Trace) → IsRoster roster → IsLawful roster past → AnsweredToSender roster past
+answered_to_sender roster [] r l = tt
+answered_to_sender roster (e ∷ past) r l = (each_answers_its roster past e l.0 l.2, answers_once roster past e r l.0 l.2, answered_to_sender roster past r l.0)

@@ -1,0 +1,200 @@
+-- An ending that answers a message: whose it is, by each call's row.
+use Rattle.std.proofs.Common.{◌≡◌, ◌∙◌, ℕ, List, [], cond, ap, refl, sym, subst, true, false, inl, inr}
+use Rattle.std.specs.Prelude.{ℤ, pos, Option, None, Some}
+use Rattle.std.specs.Option.{option_map}
+use Rattle.std.specs.Ordering.{int_eq}
+use Rattle.std.proofs.lemmas.Bool.{true≢false}
+use Rattle.std.proofs.lemmas.Option.{none-some, same_Some}
+use Rattle.qbase.specs.declared.errno.Errno.TheVariants.{Srch}
+use Rattle.qrules.specs.Private.Answer.{ending}
+use Rattle.qrules.specs.Private.Calls.{row_of}
+use Rattle.qqueue.specs.declared.item.Item.{Item}
+use Rattle.qqueue.specs.declared.item.Kind.{Kind}
+use Rattle.qqueue.specs.declared.item.Kind.TheVariants.{Any, PulseOnly}
+use Rattle.qtables.specs.declared.connection.Connection.{Connection}
+use Rattle.qrules.specs.Private.Calls.Error.{error_finish, mark_of}
+use Rattle.qrules.specs.Private.Calls.Info.{info_of, info_ending}
+use Rattle.qrules.specs.Private.Calls.Reply.{reply_finish}
+use Rattle.qrules.specs.Private.Calls.Send.{item}
+use Rattle.qrules.specs.Private.Held.{Finish, ends_sender, refusal}
+use Rattle.qmodel.specs.declared.call.Info.{Info as Told}
+use Rattle.qmodel.specs.declared.call.Mark.TheVariants as mark
+use Rattle.qrules.specs.Private.Cancelling.{is_on}
+use Rattle.qrules.specs.Private.Facts.{Facts, is_for_answer, message, sender, threads_of, route}
+use Rattle.qrules.specs.Private.Effects.{answered_by, asks, makes, thread_of_send}
+use Rattle.qrules.specs.Private.Headline.AnsweredToSender.{is_answer}
+use Rattle.qrules.specs.Private.Rows.{delivery_of, item_sent_over}
+use Rattle.qmodel.specs.Trace.{SentItem}
+use Rattle.qmodel.specs.declared.call.Call.{Call}
+use Rattle.qmodel.specs.declared.call.Call.TheVariants.{Send, Receive, Reply, Error, Info, ReceivePulse, Pulse, ChannelDestroy, Shutdown, Unblock, ConnectDetach}
+use Rattle.qmodel.specs.declared.call.Completion.{Completion}
+use Rattle.qmodel.specs.declared.open_call.OpenCall.{OpenCall}
+use Rattle.qmodel.specs.declared.open_call.Wait.{Wait}
+use Rattle.qmodel.specs.declared.open_call.Wait.TheVariants.{Answer, Item as ForItem}
+use Rattle.qrules.proofs.Traces.Calls.Cancelling.{cancel_parts}
+use Rattle.qrules.proofs.Traces.Calls.Held.{IsHeldFor, SenderEnds, answering, finished_held, has_sender, held_for, sender_ends}
+use Rattle.qbase.proofs.Lists.{eqb_same}
+use Rattle.qrules.proofs.Traces.Past.Senders.{sender_sends}
+use Rattle.qrules.proofs.Traces.Past.Laws.{Passes}
+use Rattle.qrules.proofs.Traces.Properties.Receipts.{ending_of}
+use Rattle.qrules.proofs.Traces.Calls.Taking.{given_is}
+use Rattle.qrules.proofs.Traces.Properties.Rows.Receiving.{ReceiveTakes, receive_takes}
+use Rattle.qrules.proofs.Traces.Properties.Rows.Delivering.{Delivers, delivery_meets}
+use Rattle.qrules.proofs.Traces.Routes.{has_way, leads_over}
+use Rattle.qrules.specs.Private.Calls.ConnectDetach as connect_detach
+use Rattle.qrules.specs.Private.Calls.Unblock as unblock
+use Rattle.qrules.specs.Private.Calls.Pulse as pulse
+use Rattle.qrules.proofs.Traces.Calls.ConnectDetach.{detach_ends}
+use Rattle.qrules.proofs.Traces.Properties.Rows.Telling.{told_meets, unblock_ends}
+
+-- ---- what answers
+
+-- the call names the message of the ending, which thread u sent and is held for the caller
+pub record AnswersHeld (f : Facts) (t : ℕ) (c : Call) (u : ℕ) (y : Completion) : Type 0 where
+  pub named : answered_by c ≡ Some y.call
+  pub is_sender : sender f y.call ≡ Some u
+  pub held : IsHeldFor f t (f.open_call u)
+  pub number : held.waiting.number ≡ y.call
+  pub thread : y.thread ≡ u
+
+no_answer : {P : Type 0} (x y : Completion) → x ≡ y → is_answer x.mark ≡ false → is_answer y.mark ≡ true → P
+no_answer x y same none e = absurd (true≢false (sym e ∙ ap (λ z. is_answer z.mark) (sym same) ∙ none))
+
+-- a receipt is no answer
+given_no_answer : (item : Item) (message buffer : List ℕ) → is_answer (delivery_of item message buffer).0 ≡ false
+given_no_answer item message buffer = given_is is_answer false (λ i n. refl) item message buffer refl
+
+takes_no_answer : {P : Type 0} (f : Facts) (t chid : ℕ) (kind : Kind) (buffer : List ℕ) (y : Completion) → ReceiveTakes f t chid kind buffer y → is_answer y.mark ≡ true → P
+takes_no_answer f t chid kind buffer y r is = no_answer _ y r.ending (given_no_answer r.item (message f r.item.number) buffer) is
+
+met_no_answer : {P : Type 0} (f : Facts) (o : Option ℕ) (item : Item) (sent : List ℕ) (u : ℕ) (y : Completion) → Delivers f o item sent u y → is_answer y.mark ≡ true → P
+met_no_answer f o item sent u y s is = no_answer _ y s.ending (given_no_answer item sent s.buffer) is
+
+-- what is told is no answer
+tells_only : (n t : ℕ) (o : Option Told) (y : Completion) → option_map (info_ending n t) o ≡ Some y → is_answer y.mark ≡ false
+tells_only n t None y e = absurd (none-some y e)
+tells_only n t (Some told_so) y e = ap (λ x. is_answer x.mark) (sym (same_Some _ y e))
+
+own_answers : (f : Facts) (t : ℕ) (c : Call) (u : ℕ) (y : Completion) → (row_of f t c).own ≡ Some y → is_answer y.mark ≡ true → AnswersHeld f t c u y
+own_answers f t (Send coid message reply_buffer) u y e is = absurd (none-some y e)
+own_answers f t (Receive chid buffer) u y e is = takes_no_answer f t chid Any buffer y (receive_takes f t chid Any buffer y e) is
+own_answers f t (ReceivePulse chid) u y e is = takes_no_answer f t chid PulseOnly [] y (receive_takes f t chid PulseOnly [] y e) is
+own_answers f t (Info rcvid) u y e is = absurd (true≢false (sym is ∙ tells_only f.number t (info_of f (sender f rcvid)) y e))
+own_answers f t c u y e is = no_answer _ y (same_Some _ y e) refl is
+
+-- the Send that a call ends is the one that it names
+answers_by : (f : Facts) (t : ℕ) (c : Call) (rcvid : ℕ) (finish : Finish) (u : ℕ) (y : Completion) → answered_by c ≡ Some rcvid → SenderEnds f t rcvid finish u y → AnswersHeld f t c u y
+answers_by f t c rcvid finish u y named r =
+    let call : rcvid ≡ y.call = ap (λ x. x.call) r.ending in
+    record {
+      named = named ∙ ap (λ i. Some i) call;
+      is_sender = subst (λ i. sender f i ≡ Some u) call r.is_sender;
+      held = r.held;
+      number = r.number ∙ call;
+      thread = sym (ap (λ x. x.thread) r.ending);
+    }
+
+ends_answers : (f : Facts) (t : ℕ) (c : Call) (u : ℕ) (y : Completion) → Passes f t c → (row_of f t c).ends u ≡ Some y → is_answer y.mark ≡ true → AnswersHeld f t c u y
+ends_answers f t (Send coid message reply_buffer) u y p e is = met_no_answer f (route f t coid) (item f t) message u y (delivery_meets f (route f t coid) (item f t) message u y e) is
+ends_answers f t (Pulse coid level code value) u y p e is =
+    let k = told_meets f (pulse.sent_pulse f coid level code value) u y e in met_no_answer f (Some k.made.channel) k.made.item [] u y k.delivers is
+ends_answers f t (Reply rcvid status bytes) u y p e is = answers_by f t (Reply rcvid status bytes) rcvid (reply_finish status bytes) u y refl (sender_ends f t rcvid (reply_finish status bytes) u y p.row e)
+ends_answers f t (Error rcvid code) u y p e is = answers_by f t (Error rcvid code) rcvid (error_finish code) u y refl (sender_ends f t rcvid (error_finish code) u y p.row e)
+ends_answers f t (ChannelDestroy chid) u y p e is = no_answer _ y (cancel_parts (is_on f.connection chid) Srch u (f.open_call u) y e).ending refl is
+ends_answers f t Shutdown u y p e is = no_answer _ y (cancel_parts (λ wait. true) Srch u (f.open_call u) y e).ending refl is
+ends_answers f t (Unblock thread) u y p e is = elim (unblock_ends f thread u y (unblock.due_pulse f thread) e) [
+  | inl cancel ↦ no_answer _ y cancel.ending refl is
+  | inr k ↦ met_no_answer f (Some k.made.channel) k.made.item [] u y k.delivers is
+]
+ends_answers f t (ConnectDetach coid) u y p e is = elim (detach_ends f coid (connect_detach.due_pulse f t coid) u y e) [
+  | inl cancel ↦ no_answer _ y cancel.ending refl is
+  | inr s ↦ let k = told_meets f (connect_detach.due_pulse f t coid) u y s in met_no_answer f (Some k.made.channel) k.made.item [] u y k.delivers is
+]
+ends_answers f t c u y p e is = absurd (none-some y e)
+
+-- each ending that answers a message answers so
+pub answers_held : (f : Facts) (t : ℕ) (c : Call) (u : ℕ) (y : Completion) → Passes f t c → ending f t c u ≡ Some y → is_answer y.mark ≡ true → AnswersHeld f t c u y
+answers_held f t c u y p e is = elim (ending_of f t c u y e) [
+  | inl h ↦ own_answers f t c u y h.1 is
+  | inr h ↦ ends_answers f t c u y p h.1 is
+]
+
+-- an accepted call that answers message i ends the open call of its sender so
+pub record AnswersOne (f : Facts) (t : ℕ) (c : Call) (i : ℕ) : Type 0 where
+  pub thread : ℕ
+  pub is_sender : sender f i ≡ Some thread
+  pub waiting : OpenCall
+  pub is_open : f.open_call thread ≡ Some waiting
+  pub given : Completion
+  pub is : (row_of f t c).ends thread ≡ Some given
+  pub call : given.call ≡ i
+  pub answers : is_answer given.mark ≡ true
+
+-- a call that ends the sender of the message that it names ends it so
+ends_one : (f : Facts) (t : ℕ) (c : Call) (rcvid : ℕ) (finish : Finish) (i : ℕ) → refusal f t rcvid ≡ None → ((u : ℕ) → (row_of f t c).ends u ≡ ends_sender f finish (sender f rcvid) u)
+    → ((buffer : List ℕ) → is_answer (finish buffer).0 ≡ true) → rcvid ≡ i → AnswersOne f t c i
+ends_one f t c rcvid finish i passed ends marks same =
+    let s = has_sender f t rcvid passed in
+    let h = held_for f t rcvid s.0 passed s.1 in
+    let k = sender_sends f.open_call rcvid (threads_of f.roster) s.0 s.1 in
+    let at : ends_sender f finish (sender f rcvid) s.0 ≡ Some (answering h.waiting.number s.0 finish h.reply_buffer) = rw (s.1, eqb_same s.0) (finished_held f t finish s.0 (f.open_call s.0) h) in
+    record {
+      thread = s.0;
+      is_sender = subst (λ j. sender f j ≡ Some s.0) same s.1;
+      waiting = h.waiting;
+      is_open = h.is_open;
+      given = answering h.waiting.number s.0 finish h.reply_buffer;
+      is = ends s.0 ∙ at;
+      call = sym (ap (λ o. o.number) (same_Some k.waiting h.waiting (sym k.is ∙ h.is_open))) ∙ k.number ∙ same;
+      answers = marks h.reply_buffer;
+    }
+
+-- an Error marks an answer
+error_answers : (code : ℤ) → is_answer (mark_of code) ≡ true
+error_answers code = elim (int_eq code (pos 0)) as (λ b. is_answer (cond b (mark.Replied (pos 0) 0) (mark.Errored code)) ≡ true) [ true ↦ refl | false ↦ refl ]
+
+pub answers_one : (f : Facts) (t : ℕ) (c : Call) (i : ℕ) → Passes f t c → answered_by c ≡ Some i → AnswersOne f t c i
+answers_one f t (Reply rcvid status bytes) i p e = ends_one f t (Reply rcvid status bytes) rcvid (reply_finish status bytes) i p.row (λ u. refl) (λ buffer. refl) (same_Some rcvid i e)
+answers_one f t (Error rcvid code) i p e = ends_one f t (Error rcvid code) rcvid (error_finish code) i p.row (λ u. refl) (λ buffer. error_answers code) (same_Some rcvid i e)
+answers_one f t c i p e = absurd (none-some i e)
+
+-- ---- what waits for an answer
+
+-- a call that waits for an answer is a Send, over a connection that its item's channel is of
+pub record SendsOver (f : Facts) (t : ℕ) (c : Call) (coid : ℕ) : Type 0 where
+  pub connection : Connection
+  pub is_connection : f.connection coid ≡ Some connection
+  pub made : SentItem
+  pub is_made : makes f t c ≡ Some made
+  pub channel : made.channel ≡ connection.channel
+
+-- the connection of a wait for an answer
+abbrev pub over : Wait → ℕ
+over (Answer coid message reply_buffer receipt) = coid
+over (ForItem chid kind buffer) = 0
+
+send_over : (f : Facts) (t coid : ℕ) (message reply_buffer : List ℕ) → Passes f t (Send coid message reply_buffer) → SendsOver f t (Send coid message reply_buffer) coid
+send_over f t coid message reply_buffer p =
+    let h = has_way f t coid p.row in
+    let l = leads_over f t (f.connection coid) h.0 h.1 in
+    record {
+      connection = l.connection;
+      is_connection = l.is;
+      made = record { item = item f t; channel = l.connection.channel };
+      is_made = ap (λ o. item_sent_over o (item f t)) l.is;
+      channel = refl;
+    }
+
+pub sends_over : (f : Facts) (t : ℕ) (c : Call) (b : OpenCall) → Passes f t c → asks f.number c ≡ Some b → is_for_answer b.wait ≡ true → SendsOver f t c (over b.wait)
+sends_over f t (ReceivePulse chid) b p e w = absurd (true≢false (sym w ∙ ap (λ o. is_for_answer o.wait) (sym (same_Some _ b e))))
+sends_over f t (Receive chid buffer) b p e w = absurd (true≢false (sym w ∙ ap (λ o. is_for_answer o.wait) (sym (same_Some _ b e))))
+sends_over f t (Send coid message reply_buffer) b p e w =
+    subst (SendsOver f t (Send coid message reply_buffer)) (ap (λ o. over o.wait) (same_Some _ b e)) (send_over f t coid message reply_buffer p)
+sends_over f t c b p e w = absurd (none-some b e)
+
+-- and its thread is the caller
+pub sends_by : (n t : ℕ) (c : Call) (b : OpenCall) → asks n c ≡ Some b → is_for_answer b.wait ≡ true → thread_of_send t c ≡ Some t
+sends_by n t (Send coid message reply_buffer) b e w = refl
+sends_by n t (Receive chid buffer) b e w = absurd (true≢false (sym w ∙ ap (λ o. is_for_answer o.wait) (sym (same_Some _ b e))))
+sends_by n t (ReceivePulse chid) b e w = absurd (true≢false (sym w ∙ ap (λ o. is_for_answer o.wait) (sym (same_Some _ b e))))
+sends_by n t c b e w = absurd (none-some b e)

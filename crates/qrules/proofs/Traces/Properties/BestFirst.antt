@@ -1,0 +1,76 @@
+-- A receipt takes the item of greatest priority, and among equals the one that was made first.
+use Rattle.std.proofs.Common.{◌≡◌, ◌∙◌, ℕ, List, [], ◌∷◌, ◌++◌, refl, ap, sym, true, false, inl, inr}
+use Rattle.std.specs.Prelude.{Some}
+use Rattle.std.specs.List.{AllByRecursion}
+use Rattle.std.specs.Option.{option_map}
+use Rattle.std.proofs.lemmas.List.{append-nil}
+use Rattle.qqueue.specs.Best.{best_of, may_take}
+use Rattle.qqueue.specs.declared.item.Item.{Item}
+use Rattle.qqueue.specs.declared.item.Kind.{Kind}
+use Rattle.qtables.specs.Members.{IsRoster}
+use Rattle.qtables.specs.declared.member.Member.{Member}
+use Rattle.qrules.specs.Private.Answer.{Outcome}
+use Rattle.qrules.specs.Private.Headline.BestFirst.{BestFirst, TakesBest, takeable}
+use Rattle.qrules.specs.Private.Headline.CopiedExactly.{call_at}
+use Rattle.qrules.specs.Private.Lawful.{facts_of, IsLawful}
+use Rattle.qrules.specs.Private.Past.{pending_items, made_on}
+use Rattle.qmodel.specs.Trace.{Event, Trace}
+use Rattle.qmodel.specs.declared.call.Completion.{Completion}
+use Rattle.qbase.proofs.Lists.{eqb_same}
+use Rattle.qrules.proofs.Traces.Past.Numbers.{block_asked, block_below, call_earlier, call_newest, open_parts}
+use Rattle.qrules.proofs.Traces.Properties.Events.{each_received, made_now, none_made}
+use Rattle.qrules.proofs.Traces.Properties.Receipts.{TakesMade, TakesPending, waits_for}
+use Rattle.qrules.proofs.Traces.Properties.Sends.{open_keeps}
+use Rattle.qrules.proofs.Traces.Properties.Waiting.{buffer_waits_for, held_waits_for, nothing_for, waits_for_asked}
+
+-- ---- the caller takes the best of what was pending
+
+takes_pending : (roster : List Member) (past : Trace) (e : Event) (u : ℕ) (y : Completion) (i : ℕ) → TakesPending (facts_of roster past) e.thread e.call u y i → TakesBest roster past e y i
+takes_pending roster past e u y i k =
+    let all : takeable roster past e k.channel ≡ pending_items roster past k.channel =
+    ap (λ o. pending_items roster past k.channel ++ made_on k.channel o) (none_made roster e past k.makes_none) ∙ append-nil (pending_items roster past k.channel) in
+    record {
+      call = e.call;
+      channel = k.channel;
+      kind = k.kind;
+      is_call = ap (call_at (e ∷ past)) k.call ∙ call_newest e past;
+      receives = k.receives;
+      best = ap (λ items. option_map (λ (item : Item). item.number) (best_of k.kind items)) all ∙ ap (option_map (λ (item : Item). item.number)) k.best ∙ ap (λ n. Some n) k.number;
+    }
+
+-- ---- a thread that waited takes what is made, since nothing that it may take was pending
+
+-- behind items that may not be taken, one that may is the best
+best_behind : (kind : Kind) (items : List Item) (x : Item) → AllByRecursion (λ w. may_take kind w ≡ false) items → may_take kind x ≡ true → best_of kind (items ++ x ∷ []) ≡ Some x
+best_behind kind [] x none may = rw may refl
+best_behind kind (y ∷ items) x none may = rw (none.0) (best_behind kind items x none.1 may)
+
+takes_made : (roster : List Member) (past : Trace) (e : Event) (u : ℕ) (y : Completion) (i : ℕ) → IsRoster roster → IsLawful roster past → Outcome true (facts_of roster past) e.thread e.call e.endings
+    → TakesMade (facts_of roster past) e.thread e.call u y i → TakesBest roster past e y i
+takes_made roster past e u y i r l a k =
+    let b = open_parts roster past u k.waiting k.is_open in
+    let c = block_asked past u b.block b.is in
+    let all : takeable roster past e k.made.channel ≡ pending_items roster past k.made.channel ++ k.made.item ∷ [] =
+    ap (λ o. pending_items roster past k.made.channel ++ made_on k.made.channel o) (made_now roster e past k.made a k.is_made)
+    ∙ rw (eqb_same k.made.channel) refl in
+    let best : best_of k.kind (pending_items roster past k.made.channel ++ k.made.item ∷ []) ≡ Some k.made.item =
+    best_behind k.kind (pending_items roster past k.made.channel) k.made.item (nothing_for roster past r l u k.waiting k.made.channel k.kind k.is_open k.waits) k.may in
+    record {
+      call = c.call;
+      channel = k.made.channel;
+      kind = k.kind;
+      is_call = ap (call_at (e ∷ past)) (k.call ∙ b.number) ∙ call_earlier e past b.block.number (block_below past u b.block b.is) ∙ c.is;
+      receives = waits_for_asked b.block.number c.call b.block c.asks_it ∙ sym (open_keeps waits_for roster past u k.waiting b held_waits_for buffer_waits_for) ∙ k.waits;
+      best = ap (λ items. option_map (λ (item : Item). item.number) (best_of k.kind items)) all ∙ ap (option_map (λ (item : Item). item.number)) best ∙ ap (λ n. Some n) k.number;
+    }
+
+pub best_first : (roster : List Member) (past : Trace) → IsRoster roster → IsLawful roster past → BestFirst roster past
+best_first roster [] r l = tt
+best_first roster (e ∷ past) r l = (
+  each_received (λ x i. TakesBest roster past e x i) roster past e.thread e.call e.endings l.2 (λ u y i a k.
+      elim k as (λ _. TakesBest roster past e y i) [
+        | inl k ↦ takes_pending roster past e u y i k
+        | inr k ↦ takes_made roster past e u y i r l.0 a k
+      ]),
+  best_first roster past r l.0,
+)

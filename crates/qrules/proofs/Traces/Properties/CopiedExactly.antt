@@ -1,0 +1,262 @@
+-- Every buffer and every count is what was to be copied.
+use Rattle.std.proofs.Common.{◌≡◌, ◌∙◌, ℕ, ◌+◌, ◌≤◌, List, [], ◌∷◌, length, refl, ap, sym, subst, cond, arith, Bool, true, false, inl, inr}
+use Rattle.std.specs.Prelude.{ℤ, pos, Option, None, Some}
+use Rattle.std.specs.List.{AllByRecursion}
+use Rattle.std.specs.Option.{option_and_then, option_map, option_map_or}
+use Rattle.std.specs.Ordering.{int_eq}
+use Rattle.std.proofs.lemmas.Bool.{true≢false}
+use Rattle.std.proofs.lemmas.Option.{none-some, same_Some}
+use Rattle.qbase.specs.declared.errno.Errno.{Errno}
+use Rattle.qbase.specs.declared.errno.Errno.TheVariants.{Srch, Intr, Badf}
+use Rattle.qqueue.specs.Best.{is_pulse}
+use Rattle.qqueue.specs.declared.item.Item.{Item}
+use Rattle.qqueue.specs.declared.item.Kind.{Kind}
+use Rattle.qqueue.specs.declared.item.Kind.TheVariants.{Any, PulseOnly}
+use Rattle.qbase.specs.Laying.{laid_count, lay_over}
+use Rattle.qtables.specs.declared.member.Member.{Member}
+use Rattle.qrules.specs.Private.Answer.{ending, Answers}
+use Rattle.qrules.specs.Private.Calls.{row_of}
+use Rattle.qmodel.specs.Buffers.{buffer_of}
+use Rattle.qrules.specs.Private.Effects.{message_sent, replies_with, writes}
+use Rattle.qrules.specs.Private.Calls.Error.{error_finish}
+use Rattle.qrules.specs.Private.Calls.Info.{info_of, info_ending}
+use Rattle.qrules.specs.Private.Calls.Reply.{reply_finish}
+use Rattle.qrules.specs.Private.Calls.Send as send
+use Rattle.qrules.specs.Private.Cancelling.{buffer_of_wait, cancel_call, is_on, is_over}
+use Rattle.qrules.specs.Private.Facts.{Facts, message, message_in, sender, threads_of, route}
+use Rattle.qrules.specs.Private.Held.{Finish, refusal, reply_buffer, reply_buffer_in, reply_buffer_of}
+use Rattle.qrules.specs.Private.Headline.CopiedExactly.{CopiedExactly, IsCopied, buffer_at, buffer_by, call_at, message_at}
+use Rattle.qrules.specs.Private.Lawful.{facts_of, IsLawful}
+use Rattle.qrules.specs.Private.Past.{open_call, refuses}
+use Rattle.qrules.specs.Private.Rows.{receipt_ending}
+use Rattle.qmodel.specs.Trace.{SentItem}
+use Rattle.qmodel.specs.Trace.{Event, Trace}
+use Rattle.qmodel.specs.declared.call.Call.{Call}
+use Rattle.qmodel.specs.declared.call.Call.TheVariants.{Send, Receive, Reply, Error, Read, Write, Info, ReceivePulse, Pulse, ChannelDestroy, Shutdown, Unblock, ConnectDetach}
+use Rattle.qmodel.specs.declared.call.Completion.{Completion}
+use Rattle.qmodel.specs.declared.call.Info.{Info as Told}
+use Rattle.qmodel.specs.declared.call.Mark.{Mark}
+use Rattle.qmodel.specs.declared.call.Mark.TheVariants as mark
+use Rattle.qmodel.specs.declared.open_call.OpenCall.{OpenCall}
+use Rattle.qmodel.specs.declared.open_call.Wait.{Wait}
+use Rattle.qrules.proofs.Traces.Past.Ends.{passes_of, refused}
+use Rattle.qrules.proofs.Traces.Past.Items.{item_below}
+use Rattle.qrules.proofs.Traces.Past.Laws.{Passes}
+use Rattle.qbase.proofs.Lists.{all_filter_map}
+use Rattle.qrules.proofs.Traces.Past.Numbers.{call_earlier, call_newest, open_below}
+use Rattle.qrules.proofs.Traces.Past.Receipts.{best_pending}
+use Rattle.qrules.proofs.Traces.Past.Senders.{sender_sends}
+use Rattle.qrules.proofs.Traces.Past.Writes.{writes_beyond, writes_nothing, writes_refused}
+use Rattle.qrules.proofs.Traces.Properties.Messages.{open_buffer, open_message, pending_message}
+use Rattle.qrules.proofs.Traces.Properties.Receipts.{ending_of}
+use Rattle.qrules.proofs.Traces.Laying.{lay_nothing, count_nothing}
+use Rattle.qrules.proofs.Traces.Properties.Rows.Receiving.{ReceiveTakes, receive_takes}
+use Rattle.qrules.proofs.Traces.Calls.Cancelling.{IsCutCall, cancel_parts}
+use Rattle.qrules.proofs.Traces.Calls.Held.{IsHeldFor, SenderEnds, answering, has_sender, held_for, sender_ends}
+use Rattle.qrules.proofs.Traces.Properties.Rows.Delivering.{Delivers, delivery_meets}
+use Rattle.qrules.proofs.Traces.Properties.Rows.Telling.{Tells, told_meets, unblock_ends}
+use Rattle.qrules.specs.Private.Calls.ConnectDetach as connect_detach
+use Rattle.qrules.specs.Private.Calls.Unblock as unblock
+use Rattle.qrules.specs.Private.Calls.Pulse as pulse
+use Rattle.qrules.proofs.Traces.Calls.Pulse.{sent_is_pulse}
+use Rattle.qrules.proofs.Traces.Calls.ConnectDetach as detaching
+use Rattle.qrules.proofs.Traces.Calls.ConnectDetach.{detach_ends}
+use Rattle.qrules.proofs.Traces.Calls.Unblock as unblocking
+use Rattle.qrules.proofs.Traces.Calls.Unblock.{is_cancelled}
+
+abbrev event : ℕ → Call → List Completion → Event
+event t c X = record { thread = t; call = c; endings = X }
+
+-- ---- buffers and messages of the newest event and of earlier ones
+
+buffer_newest : (e : Event) (past : Trace) → buffer_at (e ∷ past) (length past + 1) ≡ buffer_by (e ∷ past) (length past + 1) e.call
+buffer_newest e past = ap (λ c. option_map_or (buffer_by (e ∷ past) (length past + 1)) c []) (call_newest e past)
+
+message_newest : (e : Event) (past : Trace) → message_at (e ∷ past) (length past + 1) ≡ message_sent e.call
+message_newest e past = ap (λ c. option_map_or message_sent c []) (call_newest e past)
+
+message_earlier : (e : Event) (past : Trace) (i : ℕ) → i ≤ length past → message_at (e ∷ past) i ≡ message_at past i
+message_earlier e past i l = ap (λ c. option_map_or message_sent c []) (call_earlier e past i l)
+
+-- a call that writes nothing leaves the buffers of earlier calls
+buffer_stays : (e : Event) (past : Trace) (i : ℕ) (c : Call) → writes e.call ≡ None → buffer_by (e ∷ past) i c ≡ buffer_by past i c
+buffer_stays e past i (Send coid message reply_buffer) none = writes_nothing e past i reply_buffer none
+buffer_stays e past i c none = refl
+
+buffer_earlier : (e : Event) (past : Trace) (i : ℕ) → i ≤ length past → writes e.call ≡ None → buffer_at (e ∷ past) i ≡ buffer_at past i
+buffer_earlier e past i l none =
+    ap (λ o. option_map_or (buffer_by (e ∷ past) i) o []) (call_earlier e past i l)
+    ∙ (elim (call_at past i) as (λ o. option_map_or (buffer_by (e ∷ past) i) o [] ≡ option_map_or (buffer_by past i) o []) [ None ↦ refl | Some c ↦ buffer_stays e past i c none ])
+
+-- the buffer that an open call waits with is its buffer so far
+buffer_open : (roster : List Member) (e : Event) (past : Trace) (u : ℕ) (o : OpenCall) → writes e.call ≡ None → open_call roster past u ≡ Some o → buffer_at (e ∷ past) o.number ≡ buffer_of_wait o.wait
+buffer_open roster e past u o none is = buffer_earlier e past o.number (open_below roster past u o is) none ∙ open_buffer roster past u o is
+
+-- ---- a message that is held
+
+-- the open call of the thread that holds it
+held_call_is : (f : Facts) (t rcvid : ℕ) (s : ℕ) (is : sender f rcvid ≡ Some s) (h : IsHeldFor f t (f.open_call s)) → option_and_then f.open_call (sender f rcvid) ≡ Some h.waiting
+held_call_is f t rcvid s is h = ap (option_and_then f.open_call) is ∙ h.is_open
+
+held_number : (f : Facts) (t rcvid : ℕ) (s : ℕ) (is : sender f rcvid ≡ Some s) (h : IsHeldFor f t (f.open_call s)) → h.waiting.number ≡ rcvid
+held_number f t rcvid s is h =
+    let k = sender_sends f.open_call rcvid (threads_of f.roster) s is in
+    sym (ap (λ o. o.number) (same_Some k.waiting h.waiting (sym k.is ∙ h.is_open))) ∙ k.number
+
+-- its message is that of the call of its number, and its buffer that call's so far
+held_message : (roster : List Member) (past : Trace) (t rcvid : ℕ) → refusal (facts_of roster past) t rcvid ≡ None → message (facts_of roster past) rcvid ≡ message_at past rcvid
+held_message roster past t rcvid passed =
+    let f = facts_of roster past in
+    let s = has_sender f t rcvid passed in
+    let h = held_for f t rcvid s.0 passed s.1 in
+    ap message_in (held_call_is f t rcvid s.0 s.1 h) ∙ sym (open_message roster past s.0 h.waiting h.is_open) ∙ ap (message_at past) (held_number f t rcvid s.0 s.1 h)
+
+held_buffer : (roster : List Member) (past : Trace) (t rcvid : ℕ) → refusal (facts_of roster past) t rcvid ≡ None → reply_buffer (facts_of roster past) rcvid ≡ buffer_at past rcvid
+held_buffer roster past t rcvid passed =
+    let f = facts_of roster past in
+    let s = has_sender f t rcvid passed in
+    let h = held_for f t rcvid s.0 passed s.1 in
+    ap reply_buffer_in (held_call_is f t rcvid s.0 s.1 h) ∙ ap reply_buffer_of h.waits ∙ sym (ap buffer_of_wait h.waits) ∙ sym (open_buffer roster past s.0 h.waiting h.is_open) ∙ ap (buffer_at past) (held_number f t rcvid s.0 s.1 h)
+
+-- ---- the forms of an ending
+
+-- what a receipt gives, by whether it is of a pulse
+abbrev as_given : Item → List ℕ → List ℕ → Bool → Mark × List ℕ
+as_given item buffer bytes t = cond {A = Mark × List ℕ} t (mark.Pulse item.number item.priority item.what, buffer) (mark.Message item.number (laid_count buffer 0 bytes), lay_over buffer 0 bytes)
+
+-- a message is laid over the buffer, and a pulse leaves it
+taking_copied : (past : Trace) (e : Event) (m u : ℕ) (item : Item) (buffer bytes : List ℕ) (y : Completion) → buffer_at (e ∷ past) m ≡ buffer → (is_pulse item.what ≡ false → message_at (e ∷ past) item.number ≡ bytes)
+    → receipt_ending item bytes u m buffer ≡ y → IsCopied past e y y.mark
+taking_copied past e m u item buffer bytes y b s is = subst (λ (x : Completion). IsCopied past e x x.mark) is (by (is_pulse item.what) s) where
+  by : (t : Bool) → (t ≡ false → message_at (e ∷ past) item.number ≡ bytes) → IsCopied past e (record { call = m; thread = u; mark = (as_given item buffer bytes t).0; buffer = (as_given item buffer bytes t).1 }) (as_given item buffer bytes t).0
+  by true s = sym b
+  by false s = rw (b, s refl) (refl, refl)
+
+-- the bytes of a Reply are laid over the buffer
+replied_copied : (past : Trace) (e : Event) (m u : ℕ) (status : ℤ) (bytes buffer : List ℕ) (y : Completion) → replies_with e.call ≡ Some (status, bytes) → buffer_at (e ∷ past) m ≡ buffer → answering m u (reply_finish status bytes) buffer ≡ y
+    → IsCopied past e y y.mark
+replied_copied past e m u status bytes buffer y says b is = subst (λ (x : Completion). IsCopied past e x x.mark) is (bytes, says, rw b refl, rw b refl)
+
+-- an Error leaves the buffer
+errored_copied : (past : Trace) (e : Event) (m u : ℕ) (code : ℤ) (buffer : List ℕ) (y : Completion) → replies_with e.call ≡ cond (int_eq code (pos 0)) (Some (pos 0, [])) None → buffer_at (e ∷ past) m ≡ buffer → answering m u (error_finish code) buffer ≡ y
+    → IsCopied past e y y.mark
+errored_copied past e m u code buffer y says b is = subst (λ (x : Completion). IsCopied past e x x.mark) is (
+    elim (int_eq code (pos 0)) as (λ t. replies_with e.call ≡ cond t (Some (pos 0, [])) None → IsCopied past e (record { call = m; thread = u; mark = cond t (mark.Replied (pos 0) 0) (mark.Errored code); buffer = buffer }) (cond t (mark.Replied (pos 0) 0) (mark.Errored code))) [
+      | true ↦ λ says. ([], says, rw b (lay_nothing buffer), rw b (count_nothing buffer))
+      | false ↦ λ says. sym b
+    ] says)
+
+-- an ending that gives the call's own buffer back
+plain_copied : (past : Trace) (e : Event) (y x : Completion) → x ≡ y → IsCopied past e x x.mark → IsCopied past e y y.mark
+plain_copied past e y x is h = subst (λ (z : Completion). IsCopied past e z z.mark) is h
+
+-- what is told gives no buffer
+told_copied : (past : Trace) (e : Event) (n t : ℕ) (o : Option Told) (y : Completion) → option_map (info_ending n t) o ≡ Some y → buffer_at (e ∷ past) n ≡ [] → IsCopied past e y y.mark
+told_copied past e n t None y is b = absurd (none-some y is)
+told_copied past e n t (Some told_so) y is b = plain_copied past e y (info_ending n t told_so) (same_Some _ y is) (sym b)
+
+-- ---- each ending of an accepted call
+
+-- the best that is taken
+best_copied : (roster : List Member) (past : Trace) (t : ℕ) (c : Call) (X : List Completion) (y : Completion) (chid : ℕ) (kind : Kind) (buffer : List ℕ) → IsLawful roster past
+    → buffer_at (event t c X ∷ past) (length past + 1) ≡ buffer → ReceiveTakes (facts_of roster past) t chid kind buffer y → IsCopied past (event t c X) y y.mark
+best_copied roster past t c X y chid kind buffer l brought r =
+    let b = best_pending roster past chid kind r.item r.best in
+    let v = event t c X in
+    taking_copied past v (length past + 1) t r.item buffer (message (facts_of roster past) r.item.number) y brought
+    (λ sent. message_earlier v past r.item.number (item_below roster past r.item.number _ b.made) ∙ sym (pending_message roster past chid r.item l b sent))
+    r.ending
+
+own_copied : (roster : List Member) (past : Trace) (t : ℕ) (c : Call) (X : List Completion) (y : Completion) → IsLawful roster past → Passes (facts_of roster past) t c → (row_of (facts_of roster past) t c).own ≡ Some y
+    → IsCopied past (event t c X) y y.mark
+own_copied roster past t (Send coid sent reply_buffer) X y l p e = absurd (none-some y e)
+own_copied roster past t (Read rcvid offset buffer) X y l p e =
+    plain_copied past (event t (Read rcvid offset buffer) X) y _ (same_Some _ y e) (rw (held_message roster past t rcvid p.row) (refl, refl))
+own_copied roster past t (Write rcvid offset bytes) X y l p e =
+    plain_copied past (event t (Write rcvid offset bytes) X) y _ (same_Some _ y e) (refl, ap (λ b. laid_count b offset bytes) (held_buffer roster past t rcvid p.row))
+own_copied roster past t (Info rcvid) X y l p e =
+    told_copied past (event t (Info rcvid) X) (length past + 1) t (info_of (facts_of roster past) (sender (facts_of roster past) rcvid)) y e (buffer_newest (event t (Info rcvid) X) past)
+own_copied roster past t (Receive chid buffer) X y l p e = best_copied roster past t (Receive chid buffer) X y chid Any buffer l (buffer_newest (event t (Receive chid buffer) X) past) (receive_takes (facts_of roster past) t chid Any buffer y e)
+own_copied roster past t (ReceivePulse chid) X y l p e = best_copied roster past t (ReceivePulse chid) X y chid PulseOnly [] l (buffer_newest (event t (ReceivePulse chid) X) past) (receive_takes (facts_of roster past) t chid PulseOnly [] y e)
+own_copied roster past t c X y l p e = plain_copied past (event t c X) y _ (same_Some _ y e) (sym (buffer_newest (event t c X) past))
+
+-- the buffer of the Send that is answered
+answered_buffer : (roster : List Member) (past : Trace) (v : Event) (t rcvid : ℕ) (finish : Finish) (u : ℕ) (y : Completion) → writes v.call ≡ None → (r : SenderEnds (facts_of roster past) t rcvid finish u y)
+    → buffer_at (v ∷ past) rcvid ≡ r.held.reply_buffer
+answered_buffer roster past v t rcvid finish u y none r =
+    subst (λ i. buffer_at (v ∷ past) i ≡ r.held.reply_buffer) r.number (buffer_open roster v past u r.held.waiting none r.held.is_open ∙ ap buffer_of_wait r.held.waits)
+
+-- what a receiver takes that is met
+met_copied : (roster : List Member) (past : Trace) (t : ℕ) (c : Call) (X : List Completion) (u : ℕ) (y : Completion) (o : Option ℕ) (item : Item) (sent : List ℕ) → writes c ≡ None
+    → (is_pulse item.what ≡ false → message_at (event t c X ∷ past) item.number ≡ sent) → Delivers (facts_of roster past) o item sent u y → IsCopied past (event t c X) y y.mark
+met_copied roster past t c X u y o item sent none message s =
+    taking_copied past (event t c X) s.waiting.number u item s.buffer sent y (buffer_open roster (event t c X) past u s.waiting none s.is_open ∙ ap buffer_of_wait s.waits) message s.ending
+
+-- what is cancelled gives its buffer back as it is by now
+cancel_copied : (roster : List Member) (past : Trace) (t : ℕ) (c : Call) (X : List Completion) (u : ℕ) (y : Completion) (is_cancelled : Wait → Bool) (errno : Errno) → writes c ≡ None → IsCutCall is_cancelled errno u (open_call roster past u) y
+    → IsCopied past (event t c X) y y.mark
+cancel_copied roster past t c X u y is_cancelled errno none k =
+    plain_copied past (event t c X) y (cancel_call errno u k.waiting) k.ending (sym (buffer_open roster (event t c X) past u k.waiting none k.is))
+
+-- what a receiver takes that a pulse meets which is due
+told_now : (roster : List Member) (past : Trace) (t : ℕ) (c : Call) (X : List Completion) (u : ℕ) (y : Completion) (o : Option SentItem) → writes c ≡ None → ((m : SentItem) → o ≡ Some m → is_pulse m.item.what ≡ true)
+    → Tells (facts_of roster past) o u y → IsCopied past (event t c X) y y.mark
+told_now roster past t c X u y o none pulse k =
+    met_copied roster past t c X u y (Some k.made.channel) k.made.item [] none (λ message. absurd (true≢false (sym (pulse k.made k.is_due) ∙ message))) k.delivers
+
+ends_copied : (roster : List Member) (past : Trace) (t : ℕ) (c : Call) (X : List Completion) (u : ℕ) (y : Completion) → Passes (facts_of roster past) t c → (row_of (facts_of roster past) t c).ends u ≡ Some y
+    → IsCopied past (event t c X) y y.mark
+ends_copied roster past t (ChannelDestroy chid) X u y p e = cancel_copied roster past t (ChannelDestroy chid) X u y (is_on (facts_of roster past).connection chid) Srch refl (cancel_parts (is_on (facts_of roster past).connection chid) Srch u (open_call roster past u) y e)
+ends_copied roster past t Shutdown X u y p e = cancel_copied roster past t Shutdown X u y (λ wait. true) Srch refl (cancel_parts (λ wait. true) Srch u (open_call roster past u) y e)
+ends_copied roster past t (Unblock thread) X u y p e = elim (unblock_ends (facts_of roster past) thread u y (unblock.due_pulse (facts_of roster past) thread) e) [
+  | inl cancel ↦ cancel_copied roster past t (Unblock thread) X u y (is_cancelled (facts_of roster past) thread u) Intr refl cancel
+  | inr k ↦ told_now roster past t (Unblock thread) X u y (unblock.due_pulse (facts_of roster past) thread) refl (λ m is. unblocking.due_is_pulse (facts_of roster past) thread m is) k
+]
+ends_copied roster past t (ConnectDetach coid) X u y p e = elim (detach_ends (facts_of roster past) coid (connect_detach.due_pulse (facts_of roster past) t coid) u y e) [
+  | inl cancel ↦ cancel_copied roster past t (ConnectDetach coid) X u y (is_over coid) Badf refl cancel
+  | inr s ↦ told_now roster past t (ConnectDetach coid) X u y (connect_detach.due_pulse (facts_of roster past) t coid) refl (λ m is. detaching.due_is_pulse (facts_of roster past) t coid m is)
+      (told_meets (facts_of roster past) (connect_detach.due_pulse (facts_of roster past) t coid) u y s)
+]
+ends_copied roster past t (Send coid sent reply_buffer) X u y p e =
+    met_copied roster past t (Send coid sent reply_buffer) X u y (route (facts_of roster past) t coid) (send.item (facts_of roster past) t) sent refl (λ message. message_newest (event t (Send coid sent reply_buffer) X) past)
+    (delivery_meets (facts_of roster past) (route (facts_of roster past) t coid) (send.item (facts_of roster past) t) sent u y e)
+ends_copied roster past t (Pulse coid level code value) X u y p e =
+    let o = pulse.sent_pulse (facts_of roster past) coid level code value in
+    told_now roster past t (Pulse coid level code value) X u y o refl (λ m is. sent_is_pulse (facts_of roster past) coid level code value m is) (told_meets (facts_of roster past) o u y e)
+ends_copied roster past t (Reply rcvid status bytes) X u y p e =
+    let r = sender_ends (facts_of roster past) t rcvid (reply_finish status bytes) u y p.row e in
+    let v = event t (Reply rcvid status bytes) X in
+    replied_copied past v rcvid u status bytes r.held.reply_buffer y refl (answered_buffer roster past v t rcvid (reply_finish status bytes) u y refl r) r.ending
+ends_copied roster past t (Error rcvid code) X u y p e =
+    let r = sender_ends (facts_of roster past) t rcvid (error_finish code) u y p.row e in
+    let v = event t (Error rcvid code) X in
+    errored_copied past v rcvid u code r.held.reply_buffer y refl (answered_buffer roster past v t rcvid (error_finish code) u y refl r) r.ending
+ends_copied roster past t c X u y p e = absurd (none-some y e)
+
+ending_copied : (roster : List Member) (past : Trace) (t : ℕ) (c : Call) (X : List Completion) (u : ℕ) (y : Completion) → IsLawful roster past → Passes (facts_of roster past) t c
+    → ending (facts_of roster past) t c u ≡ Some y → IsCopied past (event t c X) y y.mark
+ending_copied roster past t c X u y l p e = elim (ending_of (facts_of roster past) t c u y e) [
+  | inl h ↦ own_copied roster past t c X y l p h.1
+  | inr h ↦ ends_copied roster past t c X u y p h.1
+]
+
+-- ---- each event
+
+-- a refused call has the buffer that it brought: nothing was written over it
+refused_buffer : (roster : List Member) (past : Trace) (t : ℕ) (c : Call) (X : List Completion) → IsLawful roster past → refuses X (length past + 1) ≡ true → buffer_of c ≡ buffer_at (event t c X ∷ past) (length past + 1)
+refused_buffer roster past t c X l r = brought c ∙ sym (buffer_newest (event t c X) past) where
+  brought : (d : Call) → buffer_of d ≡ buffer_by (event t c X ∷ past) (length past + 1) d
+  brought (Send coid message reply_buffer) = sym (writes_refused (event t c X) past (length past + 1) reply_buffer r ∙ writes_beyond roster past (length past + 1) reply_buffer l (omega arith))
+  brought d = refl
+
+all_copied : (roster : List Member) (past : Trace) (t : ℕ) (c : Call) (X : List Completion) → IsLawful roster past → Answers (facts_of roster past) t c X
+    → AllByRecursion (λ x. IsCopied past (event t c X) x x.mark) X
+all_copied roster past t c X l a = elim a [
+  | inl a ↦ subst (AllByRecursion (λ x. IsCopied past (event t c X) x x.mark)) (sym a.1) (all_filter_map (λ x. IsCopied past (event t c X) x x.mark) (ending (facts_of roster past) t c) (threads_of roster)
+      (λ u y e. ending_copied roster past t c X u y l (passes_of (facts_of roster past) t c X a) e))
+  | inr a ↦ subst (AllByRecursion (λ x. IsCopied past (event t c X) x x.mark)) (sym a.2) (refused_buffer roster past t c X l (refused roster past t c X a), tt)
+]
+
+pub copied_exactly : (roster : List Member) (past : Trace) → IsLawful roster past → CopiedExactly past
+copied_exactly roster [] l = tt
+copied_exactly roster (e ∷ past) l = (all_copied roster past e.thread e.call e.endings l.0 l.2, copied_exactly roster past l.0)

@@ -1,0 +1,57 @@
+-- Lists of numbers of which no two are equal.
+use Rattle.std.proofs.Common.{◌≡◌, ℕ, ◌<◌, List, [], ◌∷◌, ◌++◌, refl, ap, eqb, false}
+use Rattle.std.specs.Prelude.{Option, None, Some}
+use Rattle.std.specs.List.{filter_map, cons_option, AllByRecursion}
+use Rattle.std.specs.Option.{option_and_then}
+use Rattle.qtables.specs.declared.member.Member.{Member}
+use Rattle.qtables.specs.Members.{IsRoster}
+use Rattle.qmodel.specs.declared.call.Completion.{Completion}
+use Rattle.qrules.specs.Private.Facts.{threads_of}
+use Rattle.qrules.specs.Private.Headline.ReceivedOnce.{AllDifferent, calls_ended}
+use Rattle.qbase.proofs.Lists.{all_append}
+
+-- a number is none of these
+abbrev pub IsNoneOf : ℕ → List ℕ → Type 0
+IsNoneOf n ns = AllByRecursion (λ m. eqb n m ≡ false) ns
+
+pub different_append : (ns ms : List ℕ) → AllDifferent ns → AllDifferent ms → AllByRecursion (λ n. IsNoneOf n ms) ns → AllDifferent (ns ++ ms)
+different_append [] ms a b h = b
+different_append (n ∷ ns) ms a b h = (all_append (λ m. eqb n m ≡ false) ns ms a.0 h.0, different_append ns ms a.1 b h.1)
+
+pub filter_map_twice : {X Y Z : Type 0} (k : Y → Option Z) (g : X → Option Y) (xs : List X) → filter_map k (filter_map g xs) ≡ filter_map (λ x. option_and_then k (g x)) xs
+filter_map_twice k g [] = refl
+filter_map_twice {X} {Y} {Z} k g (x ∷ xs) =
+    elim (g x) as (λ o. filter_map k (cons_option o (filter_map g xs)) ≡ cons_option (option_and_then k o) (filter_map (λ x. option_and_then k (g x)) xs)) [
+      | None ↦ filter_map_twice k g xs
+      | Some y ↦ ap (λ rest. cons_option (k y) rest) (filter_map_twice k g xs)
+    ]
+
+pub calls_ended_as : (endings : List Completion) → calls_ended endings ≡ filter_map (λ x. Some x.call) endings
+calls_ended_as [] = refl
+calls_ended_as (x ∷ endings) = ap (λ rest. x.call ∷ rest) (calls_ended_as endings)
+
+-- two threads are given different numbers
+abbrev pub GivesDifferent : (ℕ → Option ℕ) → Type 0
+GivesDifferent h = (u v i j : ℕ) → u < v → h u ≡ Some i → h v ≡ Some j → eqb i j ≡ false
+
+none_of_later : (h : ℕ → Option ℕ) (u i : ℕ) (roster : List Member) → GivesDifferent h → h u ≡ Some i → AllByRecursion (λ x. u < x.thread) roster → IsNoneOf i (filter_map h (threads_of roster))
+none_of_later h u i [] d e later = tt
+none_of_later h u i (m ∷ roster) d e later =
+    elim (h m.thread) as (λ o. h m.thread ≡ o → IsNoneOf i (cons_option o (filter_map h (threads_of roster)))) [
+      | None ↦ λ none. none_of_later h u i roster d e later.1
+      | Some j ↦ λ some. (d u m.thread i j later.0 e some, none_of_later h u i roster d e later.1)
+    ] refl
+
+-- what the threads of a roster are given is different
+pub different_given : (h : ℕ → Option ℕ) (roster : List Member) → IsRoster roster → GivesDifferent h → AllDifferent (filter_map h (threads_of roster))
+different_given h [] r d = tt
+different_given h (m ∷ roster) r d =
+    elim (h m.thread) as (λ o. h m.thread ≡ o → AllDifferent (cons_option o (filter_map h (threads_of roster)))) [
+      | None ↦ λ none. different_given h roster r.1 d
+      | Some i ↦ λ some. (none_of_later h m.thread i roster d some r.0, different_given h roster r.1 d)
+    ] refl
+
+-- the same of what is kept of what they are given
+pub different_kept : {Y : Type 0} (k : Y → Option ℕ) (g : ℕ → Option Y) (roster : List Member) → IsRoster roster → GivesDifferent (λ u. option_and_then k (g u))
+    → AllDifferent (filter_map k (filter_map g (threads_of roster)))
+different_kept k g roster r d = rw (filter_map_twice k g (threads_of roster)) (different_given (λ u. option_and_then k (g u)) roster r d)

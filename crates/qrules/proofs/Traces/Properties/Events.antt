@@ -1,0 +1,60 @@
+-- The newest event of a lawful trace: what it made, where it was accepted, and what its endings receive.
+use Rattle.std.proofs.Common.{◌≡◌, ◌∙◌, ℕ, List, refl, ap, sym, subst, cond, true, false, inl, inr}
+use Rattle.std.specs.Prelude.{None, Some, not}
+use Rattle.std.specs.List.{AllByRecursion}
+use Rattle.std.proofs.lemmas.Bool.{true≢false}
+use Rattle.std.proofs.lemmas.Option.{none-some}
+use Rattle.qtables.specs.declared.member.Member.{Member}
+use Rattle.qrules.specs.Private.Answer.{ending, Outcome, Answers}
+use Rattle.qrules.specs.Private.Facts.{Facts, threads_of}
+use Rattle.qrules.specs.Private.Headline.ReceivedOnce.{item_received}
+use Rattle.qrules.specs.Private.Lawful.{facts_of}
+use Rattle.qrules.specs.Private.Past.{is_accepted, item_of}
+use Rattle.qrules.specs.Private.Effects.{makes}
+use Rattle.qmodel.specs.Trace.{SentItem}
+use Rattle.qmodel.specs.Trace.{Event, Trace}
+use Rattle.qmodel.specs.declared.call.Call.{Call}
+use Rattle.qmodel.specs.declared.call.Completion.{Completion}
+use Rattle.qrules.proofs.Traces.Past.Ends.{accepted, passes_of, refused}
+use Rattle.qbase.proofs.Lists.{all_filter_map}
+use Rattle.qrules.proofs.Traces.Properties.Receipts.{TakesOne, receives_it, takes_one}
+
+pub is_accepted_by : (roster : List Member) (e : Event) (past : Trace) → Outcome true (facts_of roster past) e.thread e.call e.endings → is_accepted e past ≡ true
+is_accepted_by roster e past a = ap not (accepted roster past e.thread e.call e.endings a)
+
+pub is_refused_by : (roster : List Member) (e : Event) (past : Trace) → Outcome false (facts_of roster past) e.thread e.call e.endings → is_accepted e past ≡ false
+is_refused_by roster e past a = ap not (refused roster past e.thread e.call e.endings a)
+
+-- an event that was accepted has the outcome of one
+pub outcome_of : (roster : List Member) (e : Event) (past : Trace) → Answers (facts_of roster past) e.thread e.call e.endings → is_accepted e past ≡ true
+    → Outcome true (facts_of roster past) e.thread e.call e.endings
+outcome_of roster e past a is = elim a [
+  | inl a ↦ a
+  | inr a ↦ absurd (true≢false (sym is ∙ is_refused_by roster e past a))
+]
+
+-- an accepted event made what its call makes
+pub made_now : (roster : List Member) (e : Event) (past : Trace) (m : SentItem) → Outcome true (facts_of roster past) e.thread e.call e.endings
+    → makes (facts_of roster past) e.thread e.call ≡ Some m → item_of roster e past ≡ Some m
+made_now roster e past m a is = rw (is_accepted_by roster e past a) is
+
+pub none_made : (roster : List Member) (e : Event) (past : Trace)
+    → makes (facts_of roster past) e.thread e.call ≡ None → item_of roster e past ≡ None
+none_made roster e past is =
+    elim (is_accepted e past) as (λ b. cond b (makes (facts_of roster past) e.thread e.call) None ≡ None) [ true ↦ is | false ↦ refl ]
+
+-- ---- what the endings of an event receive
+
+each_taken : (P : Completion → ℕ → Type 0) (f : Facts) (t : ℕ) (c : Call) (X : List Completion) → Outcome true f t c X
+    → ((u : ℕ) (y : Completion) (i : ℕ) → TakesOne f t c u y i → P y i) → AllByRecursion (λ x. (i : ℕ) → item_received x ≡ Some i → P x i) X
+each_taken P f t c X a h = rw (a.1) (all_filter_map (λ x. (i : ℕ) → item_received x ≡ Some i → P x i) (ending f t c) (threads_of f.roster) (λ u y e i received_i.
+    let p = receives_it y i received_i in
+    subst (P y) p.2 (h u y p.0.0 (takes_one f t c u y p.0 (passes_of f t c X a).row e p.1))))
+
+-- what is so of each item that is received: a refused call's endings receive none
+pub each_received : (P : Completion → ℕ → Type 0) (roster : List Member) (past : Trace) (t : ℕ) (c : Call) (X : List Completion) → Answers (facts_of roster past) t c X
+    → ((u : ℕ) (y : Completion) (i : ℕ) → Outcome true (facts_of roster past) t c X → TakesOne (facts_of roster past) t c u y i → P y i) → AllByRecursion (λ x. (i : ℕ) → item_received x ≡ Some i → P x i) X
+each_received P roster past t c X a h = elim a [
+  | inl a ↦ each_taken P (facts_of roster past) t c X a (λ u y i k. h u y i a k)
+  | inr a ↦ rw (a.2) ((λ i e. absurd (none-some i e)), tt)
+]

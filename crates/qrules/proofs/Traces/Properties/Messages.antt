@@ -1,0 +1,162 @@
+-- The messages and buffers of open calls are those that their calls brought, and a message that is pending has its Send open.
+use Rattle.std.proofs.Common.{◌≡◌, ◌∙◌, ℕ, ◌+◌, List, [], ◌∷◌, length, refl, ap, sym, subst, cond, eqb, true, false}
+use Rattle.std.specs.Prelude.{None, Some, not, ◌&&◌}
+use Rattle.std.specs.Option.{option_and_then, option_map_or}
+use Rattle.std.proofs.lemmas.Bool.{eqb-true, or_parts, and_parts, true≢false}
+use Rattle.std.proofs.lemmas.Option.{none-some, same_Some}
+use Rattle.qqueue.specs.Best.{is_pulse}
+use Rattle.qqueue.specs.declared.item.Item.{Item}
+use Rattle.qtables.specs.declared.member.Member.{Member}
+use Rattle.qrules.specs.Private.Cancelling.{buffer_of_wait}
+use Rattle.qrules.specs.Private.Facts.{is_for_answer, message, message_in, message_of, sender, threads_of, is_send}
+use Rattle.qrules.specs.Private.Effects.{message_sent as message_in_call}
+use Rattle.qrules.specs.Private.Headline.CopiedExactly.{buffer_at, buffer_by, message_at}
+use Rattle.qrules.specs.Private.Lawful.{facts_of, IsLawful}
+use Rattle.qrules.specs.Private.Past.{has_ending_of, call_by_now, wait_with_receipt, is_ended, item_of, newest_block, open_call, priority_of_item, copied_count_of, with_receipt, with_writes}
+use Rattle.qrules.specs.Private.Facts.{Facts}
+use Rattle.qrules.specs.Private.Effects.{asks, makes}
+use Rattle.qrules.specs.Private.Rows.{pulse_item, with_buffer}
+use Rattle.qmodel.specs.Trace.{SentItem}
+use Rattle.qmodel.specs.Trace.{Event, Trace}
+use Rattle.qmodel.specs.declared.call.Call.{Call}
+use Rattle.qmodel.specs.declared.call.Call.TheVariants.{Send, Receive, ReceivePulse, Pulse, Unblock, ConnectDetach}
+use Rattle.qmodel.specs.declared.open_call.OpenCall.{OpenCall}
+use Rattle.qmodel.specs.declared.open_call.Receipt.{Receipt}
+use Rattle.qmodel.specs.declared.open_call.Wait.{Wait}
+use Rattle.qmodel.specs.declared.open_call.Wait.TheVariants.{Answer, Item as ForItem}
+use Rattle.qrules.proofs.Traces.Calls.Delivering.{sent_item}
+use Rattle.qrules.proofs.Traces.Past.Ends.{open_known, passes_of}
+use Rattle.qrules.proofs.Traces.Past.Items.{item_accepted, IsPending, item_at}
+use Rattle.qbase.proofs.Lists.{eqb_same}
+use Rattle.qrules.proofs.Traces.Past.Numbers.{blocks, blocks_thread, block_asked, filled_answer, open_from, open_parts, open_thread, receipt_for_answer, receipt_number, is_unblocked}
+use Rattle.qrules.proofs.Traces.Calls.{call_laws}
+use Rattle.qrules.proofs.Traces.Past.Senders.{send_from, send_parts, sender_found}
+use Rattle.qrules.proofs.Traces.Properties.Events.{outcome_of}
+use Rattle.qrules.proofs.Traces.Properties.Sends.{open_filled, open_keeps}
+use Rattle.qrules.proofs.Traces.Calls.ConnectDetach as detaching
+use Rattle.qrules.proofs.Traces.Calls.Unblock.{due_is_pulse}
+use Rattle.qrules.proofs.Traces.Rosters.{known}
+
+-- ---- what a call brings is what it waits with
+
+-- a call that begins to wait keeps its buffer, which is written over, and its message
+pub record Keeps (past : Trace) (n : ℕ) (c : Call) (b : OpenCall) : Type 0 where
+  pub buffer : buffer_by past n c ≡ buffer_of_wait (with_buffer (with_writes past n) b.wait)
+  pub sent : message_in_call c ≡ message_of b.wait
+
+pub keeps : (past : Trace) (n : ℕ) (c : Call) (b : OpenCall) → asks n c ≡ Some b → Keeps past n c b
+keeps past n (ReceivePulse chid) b e = subst (Keeps past n (ReceivePulse chid)) (same_Some _ b e) (record { buffer = refl; sent = refl })
+keeps past n (Send coid message reply_buffer) b e = subst (Keeps past n (Send coid message reply_buffer)) (same_Some _ b e) (record { buffer = refl; sent = refl })
+keeps past n (Receive chid buffer) b e = subst (Keeps past n (Receive chid buffer)) (same_Some _ b e) (record { buffer = refl; sent = refl })
+keeps past n c b e = absurd (none-some b e)
+
+held_buffer_of : (receipt : Receipt) (w : Wait) → buffer_of_wait (wait_with_receipt receipt w) ≡ buffer_of_wait w
+held_buffer_of receipt (Answer coid sent reply_buffer before) = refl
+held_buffer_of receipt (ForItem chid kind buffer) = refl
+
+held_message : (receipt : Receipt) (w : Wait) → message_of (wait_with_receipt receipt w) ≡ message_of w
+held_message receipt (Answer coid sent reply_buffer before) = refl
+held_message receipt (ForItem chid kind buffer) = refl
+
+buffer_message : (f : List ℕ → List ℕ) (w : Wait) → message_of (with_buffer f w) ≡ message_of w
+buffer_message f (Answer coid sent reply_buffer receipt) = refl
+buffer_message f (ForItem chid kind buffer) = refl
+
+-- the buffer of an open call is the one that the call of its number brought, with what was written over it
+pub open_buffer : (roster : List Member) (past : Trace) (u : ℕ) (o : OpenCall) → open_call roster past u ≡ Some o → buffer_at past o.number ≡ buffer_of_wait o.wait
+open_buffer roster past u o is =
+    let k = open_parts roster past u o is in
+    let a = block_asked past u k.block k.is in
+    ap (buffer_at past) k.number ∙ ap (λ c. option_map_or (buffer_by past k.block.number) c []) a.is ∙ (keeps past k.block.number a.call k.block a.asks_it).buffer ∙ sym (open_filled buffer_of_wait roster past u o k held_buffer_of)
+
+-- and so is its message
+pub open_message : (roster : List Member) (past : Trace) (u : ℕ) (o : OpenCall) → open_call roster past u ≡ Some o → message_at past o.number ≡ message_of o.wait
+open_message roster past u o is =
+    let k = open_parts roster past u o is in
+    let a = block_asked past u k.block k.is in
+    ap (message_at past) k.number ∙ ap (λ c. option_map_or message_in_call c []) a.is ∙ (keeps past k.block.number a.call k.block a.asks_it).sent ∙ sym (open_keeps message_of roster past u o k held_message buffer_message)
+
+-- ---- a message that is pending has its Send open
+
+-- the call that makes a message waits for the answer
+pub record IsMessage (n : ℕ) (c : Call) (m : SentItem) : Type 0 where
+  pub begins : OpenCall
+  pub asked : asks n c ≡ Some begins
+  pub answer : is_for_answer begins.wait ≡ true
+
+pub makes_message : (f : Facts) (t : ℕ) (c : Call) (m : SentItem) → makes f t c ≡ Some m → is_pulse m.item.what ≡ false → IsMessage f.number c m
+makes_message f t (Unblock thread) m e message = absurd (true≢false (sym (due_is_pulse f thread m e) ∙ message))
+makes_message f t (ConnectDetach coid) m e message = absurd (true≢false (sym (detaching.due_is_pulse f t coid m e) ∙ message))
+makes_message f t (Pulse coid level code value) m e message =
+    absurd (true≢false (ap (λ x. is_pulse x.what) (sym (sent_item (f.connection coid) (pulse_item f.number level code value) m e)) ∙ message))
+makes_message f t (Send coid sent reply_buffer) m e message = record {
+  begins = record { number = f.number; wait = Answer coid sent reply_buffer None };
+  asked = refl;
+  answer = refl;
+}
+makes_message f t c m e message = absurd (none-some m e)
+
+-- the call of number i is the newest blocking call of a thread, and waits for an answer
+pub record IsWaiting (past : Trace) (i : ℕ) : Type 0 where
+  pub thread : ℕ
+  pub block : OpenCall
+  pub is : newest_block past thread ≡ Some block
+  pub number : block.number ≡ i
+  pub answer : is_for_answer block.wait ≡ true
+
+-- a newest block that waits stays the newest, until it is ended
+pub block_stays : (roster : List Member) (e : Event) (past : Trace) (u : ℕ) (b : OpenCall) → IsLawful roster (e ∷ past) → newest_block past u ≡ Some b → is_ended past b.number ≡ false → newest_block (e ∷ past) u ≡ Some b
+block_stays roster e past u b l is going =
+    elim (blocks e past u) as (λ t. blocks e past u ≡ t → cond t (asks (length past + 1) e.call) (newest_block past u) ≡ Some b) [
+      | true ↦ λ h.
+          let a = outcome_of roster e past l.2 (and_parts _ _ (and_parts _ _ h).0).1 in
+          let idle : open_call roster past e.thread ≡ None = (passes_of (facts_of roster past) e.thread e.call e.endings a).idle in
+          absurd (none-some _ (sym idle ∙ ap (open_call roster past) (blocks_thread e past u h) ∙ open_from roster past u b is going))
+      | false ↦ λ h. is
+    ] refl
+
+pub item_waits : (roster : List Member) (past : Trace) (i : ℕ) (m : SentItem) → IsLawful roster past → item_at roster past i ≡ Some m → is_pulse m.item.what ≡ false → is_ended past i ≡ false → IsWaiting past i
+item_waits roster [] i m l is message going = absurd (none-some m is)
+item_waits roster (e ∷ past) i m l is message going =
+    elim (eqb i (length past + 1)) as (λ b. eqb i (length past + 1) ≡ b → cond b (item_of roster e past) (item_at roster past i) ≡ Some m → IsWaiting (e ∷ past) i) [
+      | true ↦ λ same at.
+          let k = item_accepted roster e past m at in
+          let w = makes_message (facts_of roster past) e.thread e.call m k.1 message in
+          record {
+            thread = e.thread;
+            block = w.begins;
+            is = rw (eqb_same e.thread, k.0, w.asked) refl;
+            number = ((call_laws e.call).asks_one (length past + 1) w.begins w.asked).number ∙ sym (eqb-true _ _ same);
+            answer = w.answer;
+          }
+      | false ↦ λ other at.
+          let before : is_ended past i ≡ false = (or_parts (has_ending_of e.endings i) (is_ended past i) going).1 in
+          let k = item_waits roster past i m l.0 at message before in
+          record {
+            thread = k.thread;
+            block = k.block;
+            is = block_stays roster e past k.thread k.block l k.is (subst (λ j. is_ended past j ≡ false) (sym k.number) before);
+            number = k.number;
+            answer = k.answer;
+          }
+    ] refl is
+
+-- a message that is pending isn't ended
+pub pending_going : (roster : List Member) (past : Trace) (h : ℕ) (item : Item) → IsPending roster past h item → is_pulse item.what ≡ false → is_ended past item.number ≡ false
+pending_going roster past h item p message = subst (λ b. (not b && is_ended past item.number) ≡ false) message (or_parts _ _ p.stays).1
+
+-- the message of a pending item is that of the call of its number
+pub pending_message : (roster : List Member) (past : Trace) (h : ℕ) (item : Item) → IsLawful roster past → IsPending roster past h item → is_pulse item.what ≡ false → message (facts_of roster past) item.number ≡ message_at past item.number
+pending_message roster past h item l p sent =
+    let going : is_ended past item.number ≡ false = pending_going roster past h item p sent in
+    let w = item_waits roster past item.number (record { item = p.first; channel = h }) l p.made (ap is_pulse p.what ∙ sent) going in
+    let o = with_receipt (priority_of_item roster past w.block.number) (is_unblocked roster past w.block.number) (copied_count_of past w.block.number) (call_by_now past w.block) in
+    let is : open_call roster past w.thread ≡ Some o = open_from roster past w.thread w.block w.is (subst (λ j. is_ended past j ≡ false) (sym w.number) going) in
+    let number : o.number ≡ item.number = receipt_number (priority_of_item roster past w.block.number) (is_unblocked roster past w.block.number) (copied_count_of past w.block.number) (call_by_now past w.block) ∙ w.number in
+    let answer : is_for_answer o.wait ≡ true = receipt_for_answer (priority_of_item roster past w.block.number) (is_unblocked roster past w.block.number) (copied_count_of past w.block.number) (call_by_now past w.block) ∙ filled_answer past w.block ∙ w.answer in
+    let sends : is_send item.number (open_call roster past w.thread) ≡ true = ap (is_send item.number) is ∙ send_from item.number o number answer in
+    let found : sender (facts_of roster past) item.number ≡ Some w.thread =
+    sender_found (open_call roster past) item.number (threads_of roster) w.thread (known roster w.thread (open_known roster past w.thread o l is)) sends (λ v e.
+    let s = send_parts item.number (open_call roster past v) e in
+    open_thread roster past v w.thread s.waiting o s.is is (s.number ∙ sym number)) in
+    ap (λ s. message_in (option_and_then (open_call roster past) s)) found ∙ ap message_in is ∙ sym (open_message roster past w.thread o is) ∙ ap (message_at past) number

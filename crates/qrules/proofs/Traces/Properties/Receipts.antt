@@ -1,0 +1,164 @@
+-- An ending that receives an item: the caller's own of what was pending, or of a thread that waited for what the call makes.
+use Rattle.std.proofs.Common.{◌≡◌, ◌∙◌, ℕ, List, [], ap, refl, sym, cond, eqb, true, false, inl, inr, ◌⊎◌}
+use Rattle.std.specs.Prelude.{Option, None, Some}
+use Rattle.std.specs.Option.{option_map}
+use Rattle.std.proofs.lemmas.Bool.{eqb-true}
+use Rattle.std.proofs.lemmas.Option.{none-some, same_Some}
+use Rattle.qbase.specs.declared.errno.Errno.TheVariants.{Srch}
+use Rattle.qqueue.specs.Best.{best_of, may_take}
+use Rattle.qqueue.specs.declared.item.Item.{Item}
+use Rattle.qqueue.specs.declared.item.Kind.{Kind}
+use Rattle.qqueue.specs.declared.item.Kind.TheVariants.{Any, PulseOnly}
+use Rattle.qrules.specs.Private.Answer.{ending}
+use Rattle.qrules.specs.Private.Calls.{row_of}
+use Rattle.qrules.specs.Private.Calls.Error.{error_finish}
+use Rattle.qrules.specs.Private.Calls.Info.{info_of}
+use Rattle.qrules.specs.Private.Calls.Reply.{reply_finish}
+use Rattle.qrules.specs.Private.Calls.Send.{item}
+use Rattle.qrules.specs.Private.Cancelling.{is_on}
+use Rattle.qrules.specs.Private.Facts.{Facts, message, sender, route}
+use Rattle.qrules.specs.Private.Effects.{makes, receives_on}
+use Rattle.qrules.specs.Private.Headline.ReceivedOnce.{item_received}
+use Rattle.qrules.specs.Private.Rows.{item_in_mark}
+use Rattle.qmodel.specs.Trace.{SentItem}
+use Rattle.qmodel.specs.declared.call.Call.{Call}
+use Rattle.qmodel.specs.declared.call.Call.TheVariants.{Send, Receive, Reply, Error, Info, ReceivePulse, Pulse, ChannelDestroy, Shutdown, Unblock, ConnectDetach}
+use Rattle.qmodel.specs.declared.call.Completion.{Completion}
+use Rattle.qmodel.specs.declared.open_call.OpenCall.{OpenCall}
+use Rattle.qmodel.specs.declared.open_call.Wait.{Wait}
+use Rattle.qmodel.specs.declared.open_call.Wait.TheVariants.{Answer, Item as ForItem}
+use Rattle.qrules.proofs.Traces.Calls.Taking.{given_received}
+use Rattle.qrules.proofs.Traces.Properties.Rows.Delivering.{Delivers, delivery_meets}
+use Rattle.qrules.proofs.Traces.Properties.Rows.Receiving.{ReceiveTakes, receive_takes}
+use Rattle.qrules.proofs.Traces.Calls.Answering.{answer_receives}
+use Rattle.qrules.proofs.Traces.Calls.Cancelling.{cancel_parts}
+use Rattle.qrules.proofs.Traces.Calls.Error.{no_receipt}
+use Rattle.qrules.proofs.Traces.Calls.Held.{sender_ends}
+use Rattle.qrules.proofs.Traces.Calls.Info.{plain}
+use Rattle.qrules.specs.Private.Calls.ConnectDetach as connect_detach
+use Rattle.qrules.specs.Private.Calls.Unblock as unblock
+use Rattle.qrules.specs.Private.Calls.Pulse as pulse
+use Rattle.qrules.proofs.Traces.Calls.ConnectDetach.{detach_ends}
+use Rattle.qrules.proofs.Traces.Properties.Rows.Telling.{Tells, told_meets, unblock_ends}
+use Rattle.qrules.proofs.Traces.Calls.Delivering.{sent_way}
+
+-- ---- whose ending it is
+
+pub ending_of : (f : Facts) (t : ℕ) (c : Call) (u : ℕ) (y : Completion) → ending f t c u ≡ Some y
+    → ((u ≡ t) × ((row_of f t c).own ≡ Some y)) ⊎ ((eqb u t ≡ false) × ((row_of f t c).ends u ≡ Some y))
+ending_of f t c u y e =
+    elim (eqb u t) as (λ b. eqb u t ≡ b → cond b (row_of f t c).own ((row_of f t c).ends u) ≡ Some y → ((u ≡ t) × ((row_of f t c).own ≡ Some y)) ⊎ ((eqb u t ≡ false) × ((row_of f t c).ends u ≡ Some y))) [
+      | true ↦ λ same s. inl (eqb-true u t same, s)
+      | false ↦ λ other s. inr (other, s)
+    ] refl e
+
+-- what an ending receives
+pub receives_it : (x : Completion) (i : ℕ) → item_received x ≡ Some i → (p : ℕ × ℕ) × (item_in_mark x.mark ≡ Some p) × (p.0 ≡ i)
+receives_it x i e =
+    elim (item_in_mark x.mark) as (λ o. option_map (λ r. r.0) o ≡ Some i → (p : ℕ × ℕ) × (o ≡ Some p) × (p.0 ≡ i)) [
+      | None ↦ λ s. absurd (none-some i s)
+      | Some p ↦ λ s. (p, refl, same_Some p.0 i s)
+    ] e
+
+-- ---- the receipt
+
+-- the channel and kind of items that a thread waits for
+abbrev pub waits_for : Wait → Option (ℕ × Kind)
+waits_for (Answer coid message reply_buffer receipt) = None
+waits_for (ForItem chid kind buffer) = Some (chid, kind)
+
+-- the caller takes the best of what was pending
+pub record TakesPending (f : Facts) (t : ℕ) (c : Call) (u : ℕ) (y : Completion) (i : ℕ) : Type 0 where
+  pub caller : u ≡ t
+  pub call : y.call ≡ f.number
+  pub channel : ℕ
+  pub kind : Kind
+  pub item : Item
+  pub receives : receives_on c ≡ Some (channel, kind)
+  pub makes_none : makes f t c ≡ None
+  pub best : best_of kind (f.pending channel) ≡ Some item
+  pub number : item.number ≡ i
+
+-- a thread that waited takes the item that the call makes
+pub record TakesMade (f : Facts) (t : ℕ) (c : Call) (u : ℕ) (y : Completion) (i : ℕ) : Type 0 where
+  pub made : SentItem
+  pub is_made : makes f t c ≡ Some made
+  pub number : made.item.number ≡ i
+  pub waiting : OpenCall
+  pub is_open : f.open_call u ≡ Some waiting
+  pub call : y.call ≡ waiting.number
+  pub kind : Kind
+  pub waits : waits_for waiting.wait ≡ Some (made.channel, kind)
+  pub may : may_take kind made.item ≡ true
+
+abbrev pub TakesOne : Facts → ℕ → Call → ℕ → Completion → ℕ → Type 0
+TakesOne f t c u y i = TakesPending f t c u y i ⊎ TakesMade f t c u y i
+
+-- a receive that takes the best
+takes_best : (f : Facts) (t : ℕ) (c : Call) (chid : ℕ) (kind : Kind) (buffer : List ℕ) (u : ℕ) (y : Completion) (p : ℕ × ℕ) → u ≡ t → receives_on c ≡ Some (chid, kind) → makes f t c ≡ None
+    → ReceiveTakes f t chid kind buffer y → item_in_mark y.mark ≡ Some p → TakesOne f t c u y p.0
+takes_best f t c chid kind buffer u y p same receives none r m = inl (record {
+  caller = same;
+  call = sym (ap (λ x. x.call) r.ending);
+  channel = chid;
+  kind = kind;
+  item = r.item;
+  receives = receives;
+  makes_none = none;
+  best = r.best;
+  number = ap (λ q. q.0) (same_Some (r.item.number, (given_received r.item (message f r.item.number) buffer).0) p (sym (given_received r.item (message f r.item.number) buffer).1 ∙ ap (λ x. item_in_mark x.mark) r.ending ∙ m));
+})
+
+own_takes : (f : Facts) (t : ℕ) (c : Call) (u : ℕ) (y : Completion) (p : ℕ × ℕ) → u ≡ t → (row_of f t c).own ≡ Some y → item_in_mark y.mark ≡ Some p → TakesOne f t c u y p.0
+own_takes f t (Send coid message reply_buffer) u y p same e m = absurd (none-some y e)
+own_takes f t (Info rcvid) u y p same e m = absurd (none-some p (sym (plain f.number t (info_of f (sender f rcvid)) y e).mark ∙ m))
+own_takes f t (Receive chid buffer) u y p same e m = takes_best f t (Receive chid buffer) chid Any buffer u y p same refl refl (receive_takes f t chid Any buffer y e) m
+own_takes f t (ReceivePulse chid) u y p same e m = takes_best f t (ReceivePulse chid) chid PulseOnly [] u y p same refl refl (receive_takes f t chid PulseOnly [] y e) m
+own_takes f t c u y p same e m = absurd (none-some p (ap (λ x. item_in_mark x.mark) (same_Some _ y e) ∙ m))
+
+-- a receiver that takes what is delivered
+takes_met : (f : Facts) (t : ℕ) (c : Call) (o : Option ℕ) (item : Item) (message : List ℕ) (u : ℕ) (y : Completion) (p : ℕ × ℕ) → Delivers f o item message u y → ((h : ℕ) → o ≡ Some h → makes f t c ≡ Some (record { item = item; channel = h }))
+    → item_in_mark y.mark ≡ Some p → TakesOne f t c u y p.0
+takes_met f t c o item message u y p s made m = inr (record {
+  made = record { item = item; channel = s.channel };
+  is_made = made s.channel s.leads;
+  number = ap (λ q. q.0) (same_Some (item.number, (given_received item message s.buffer).0) p (sym (given_received item message s.buffer).1 ∙ ap (λ x. item_in_mark x.mark) s.ending ∙ m));
+  waiting = s.waiting;
+  is_open = s.is_open;
+  call = sym (ap (λ x. x.call) s.ending);
+  kind = s.kind;
+  waits = ap waits_for s.waits;
+  may = s.may;
+})
+
+-- a receiver that takes a pulse which is due
+takes_told : (f : Facts) (t : ℕ) (c : Call) (o : Option SentItem) (u : ℕ) (y : Completion) (p : ℕ × ℕ) → makes f t c ≡ o → Tells f o u y → item_in_mark y.mark ≡ Some p → TakesOne f t c u y p.0
+takes_told f t c o u y p made k m =
+    takes_met f t c (Some k.made.channel) k.made.item [] u y p k.delivers (λ h s. made ∙ k.is_due ∙ ap (λ n. Some (record { item = k.made.item; channel = n })) (same_Some k.made.channel h s)) m
+
+ends_takes : (f : Facts) (t : ℕ) (c : Call) (u : ℕ) (y : Completion) (p : ℕ × ℕ) → (row_of f t c).refusal ≡ None → (row_of f t c).ends u ≡ Some y → item_in_mark y.mark ≡ Some p → TakesOne f t c u y p.0
+ends_takes f t (Reply rcvid status bytes) u y p r e m =
+    absurd (none-some p (sym (answer_receives f t rcvid (reply_finish status bytes) u y (λ buffer. refl) (sender_ends f t rcvid (reply_finish status bytes) u y r e)) ∙ m))
+ends_takes f t (Error rcvid code) u y p r e m = absurd (none-some p (sym (answer_receives f t rcvid (error_finish code) u y (λ buffer. no_receipt code) (sender_ends f t rcvid (error_finish code) u y r e)) ∙ m))
+ends_takes f t (ChannelDestroy chid) u y p r e m = absurd (none-some p (ap (λ x. item_in_mark x.mark) (cancel_parts (is_on f.connection chid) Srch u (f.open_call u) y e).ending ∙ m))
+ends_takes f t Shutdown u y p r e m = absurd (none-some p (ap (λ x. item_in_mark x.mark) (cancel_parts (λ wait. true) Srch u (f.open_call u) y e).ending ∙ m))
+ends_takes f t (Unblock thread) u y p r e m = elim (unblock_ends f thread u y (unblock.due_pulse f thread) e) [
+  | inl cancel ↦ absurd (none-some p (ap (λ x. item_in_mark x.mark) cancel.ending ∙ m))
+  | inr k ↦ takes_told f t (Unblock thread) (unblock.due_pulse f thread) u y p refl k m
+]
+ends_takes f t (ConnectDetach coid) u y p r e m = elim (detach_ends f coid (connect_detach.due_pulse f t coid) u y e) [
+  | inl cancel ↦ absurd (none-some p (ap (λ x. item_in_mark x.mark) cancel.ending ∙ m))
+  | inr s ↦ takes_told f t (ConnectDetach coid) (connect_detach.due_pulse f t coid) u y p refl (told_meets f (connect_detach.due_pulse f t coid) u y s) m
+]
+ends_takes f t (Send coid message reply_buffer) u y p r e m =
+    takes_met f t (Send coid message reply_buffer) (route f t coid) (item f t) message u y p (delivery_meets f (route f t coid) (item f t) message u y e) (sent_way f t coid (item f t)) m
+ends_takes f t (Pulse coid level code value) u y p r e m =
+    takes_told f t (Pulse coid level code value) (pulse.sent_pulse f coid level code value) u y p refl (told_meets f (pulse.sent_pulse f coid level code value) u y e) m
+ends_takes f t c u y p r e m = absurd (none-some y e)
+
+-- each ending that receives an item takes it so
+pub takes_one : (f : Facts) (t : ℕ) (c : Call) (u : ℕ) (y : Completion) (p : ℕ × ℕ) → (row_of f t c).refusal ≡ None → ending f t c u ≡ Some y → item_in_mark y.mark ≡ Some p → TakesOne f t c u y p.0
+takes_one f t c u y p r e m = elim (ending_of f t c u y e) [
+  | inl o ↦ own_takes f t c u y p o.0 o.1 m
+  | inr o ↦ ends_takes f t c u y p r o.1 m
+]

@@ -1,0 +1,169 @@
+-- The receiver that began to wait last: it waits, no other that waits began later, and there is one where any waits.
+use Rattle.std.proofs.Common.{◌≡◌, ◌<◌, ◌≤◌, ◌∙◌, ℕ, List, [], ◌∷◌, refl, ap, sym, subst, arith, cond, eqb, true, false, inl, inr}
+use Rattle.std.specs.Prelude.{Option, None, Some, is_some, ◌&&◌, ◌⊎◌, nat_lt, Bool}
+use Rattle.std.specs.List.{list_any}
+use Rattle.std.specs.Option.{option_map_or}
+use Rattle.std.proofs.lemmas.Bool.{and_parts, cases_Bool, eqb-true, le-ltb, lt-ltb, ltb-true, not-true, or_cases, or_parts, true≢false}
+use Rattle.std.proofs.lemmas.Option.{none-some, same_Some}
+use Rattle.std.proofs.Math.Bool.{or-true}
+use Rattle.qqueue.specs.Best.{may_take}
+use Rattle.qqueue.specs.declared.item.Item.{Item}
+use Rattle.qqueue.specs.declared.item.Kind.{Kind}
+use Rattle.qmodel.specs.declared.open_call.OpenCall.{OpenCall}
+use Rattle.qmodel.specs.declared.open_call.Wait.{Wait}
+use Rattle.qmodel.specs.declared.open_call.Wait.TheVariants.{Answer, Item as ForItem}
+use Rattle.qrules.specs.Private.Facts.{Facts, threads_of, first_where}
+use Rattle.qrules.specs.Private.Receivers.{is_after, is_last_wait, is_newest, newest_receiver, newest_receiver_among, wait_for, wait_on}
+use Rattle.qbase.proofs.Lists.{eqb_same, is_among}
+
+-- the open call waits for an item of channel h, and may take this one
+pub record WaitsOn (h : ℕ) (item : Item) (call : Option OpenCall) : Type 0 where
+  pub waiting : OpenCall
+  pub kind : Kind
+  pub buffer : List ℕ
+  pub is_open : call ≡ Some waiting
+  pub waits : waiting.wait ≡ ForItem h kind buffer
+  pub may : may_take kind item ≡ true
+
+wait_for_is : (h : ℕ) (item : Item) (m : ℕ) (w : Wait) (k : ℕ) → wait_for h item m w ≡ Some k → (kind : Kind) × (buffer : List ℕ) × (w ≡ ForItem h kind buffer) × (may_take kind item ≡ true)
+wait_for_is h item m (Answer coid message reply_buffer receipt) k e = absurd (none-some k e)
+wait_for_is h item m (ForItem chid kind buffer) k e =
+    elim ((eqb chid h) && may_take kind item) as (λ b. ((eqb chid h) && may_take kind item) ≡ b → cond b (Some m) None ≡ Some k
+    → (taken : Kind) × (kept : List ℕ) × (ForItem chid kind buffer ≡ ForItem h taken kept) × (may_take taken item ≡ true)) [
+      | true ↦ λ both s. let p = and_parts _ _ both in (kind, buffer, ap (λ c. ForItem c kind buffer) (eqb-true chid h p.0), p.1)
+      | false ↦ λ other s. absurd (none-some k s)
+    ] refl e
+
+wait_on_is : (h : ℕ) (item : Item) (call : Option OpenCall) (k : ℕ) → wait_on h item call ≡ Some k → WaitsOn h item call
+wait_on_is h item None k e = absurd (none-some k e)
+wait_on_is h item (Some o) k e = let w = wait_for_is h item o.number o.wait k e in record { waiting = o; kind = w.0; buffer = w.1; is_open = refl; waits = w.2; may = w.3 }
+
+-- the first number of which this is so is one of which it is so
+first_is : (p : ℕ → Bool) (ns : List ℕ) (u : ℕ) → first_where p ns ≡ Some u → p u ≡ true
+first_is p [] u e = absurd (none-some u e)
+first_is p (v ∷ ns) u e = elim (p v) as (λ b. p v ≡ b → cond b (Some v) (first_where p ns) ≡ Some u → p u ≡ true) [
+  | true ↦ λ is s. subst (λ w. p w ≡ true) (same_Some v u s) is
+  | false ↦ λ _ s. first_is p ns u s
+] refl e
+
+-- it is among them
+first_among_them : (p : ℕ → Bool) (ns : List ℕ) (u : ℕ) → first_where p ns ≡ Some u → is_among ns u ≡ true
+first_among_them p [] u e = absurd (none-some u e)
+first_among_them p (v ∷ ns) u e = elim (p v) as (λ b. cond b (Some v) (first_where p ns) ≡ Some u → is_among (v ∷ ns) u ≡ true) [
+  | true ↦ λ s. rw (same_Some v u s, eqb_same u) refl
+  | false ↦ λ s. rw (first_among_them p ns u s) (or-true (eqb v u))
+] e
+
+-- where it is so of one of them, there is a first
+first_there : (p : ℕ → Bool) (ns : List ℕ) (u : ℕ) → is_among ns u ≡ true → p u ≡ true → is_some (first_where p ns) ≡ true
+first_there p [] u a is = absurd (true≢false (sym a))
+first_there p (v ∷ ns) u a is = elim (cases_Bool (eqb v u)) [
+  | inl same ↦ let here : p v ≡ true = ap p (eqb-true v u same) ∙ is in rw here refl
+  | inr other ↦ elim (p v) as (λ b. is_some (cond b (Some v) (first_where p ns)) ≡ true) [ true ↦ refl | false ↦ first_there p ns u (rw other at a) is ]
+]
+
+-- ---- calls that wait, by the number of each thread's, if it waits
+
+module _ (wait : ℕ → Option ℕ) where
+  -- one of these threads waits in a call later than m
+  abbrev pub any_after : ℕ → List ℕ → Bool
+  any_after m ts = list_any (λ v. is_after m (wait v)) ts
+
+  -- what is later than m is later than an earlier call
+  pub after_less : (n m : ℕ) (ts : List ℕ) → n ≤ m → any_after m ts ≡ true → any_after n ts ≡ true
+  after_less n m [] less e = absurd (true≢false (sym e))
+  after_less n m (v ∷ ts) less e = elim (or_cases (is_after m (wait v)) (any_after m ts) e) [
+    | inl here ↦ rw (after_one (wait v) here) refl
+    | inr rest ↦ rw (after_less n m ts less rest) (or-true (is_after n (wait v)))
+  ] where
+    after_one : (o : Option ℕ) → is_after m o ≡ true → is_after n o ≡ true
+    after_one None h = absurd (true≢false (sym h))
+    after_one (Some k) h = let later : m < k = ltb-true m k h in lt-ltb n k (omega arith)
+
+  -- with none later than n, none is later than a later call
+  none_after : (n m : ℕ) (ts : List ℕ) → n ≤ m → any_after n ts ≡ false → any_after m ts ≡ false
+  none_after n m ts less e = elim (any_after m ts) as (λ b. any_after m ts ≡ b → b ≡ false) [
+    | true ↦ λ some. absurd (true≢false (sym (after_less n m ts less some) ∙ e))
+    | false ↦ λ _. refl
+  ] refl
+
+  -- thread u waits in call m, and none of these in a later one
+  pub record Greatest (ts : List ℕ) : Type 0 where
+    pub thread : ℕ
+    pub call : ℕ
+    pub among : is_among ts thread ≡ true
+    pub waits : wait thread ≡ Some call
+    pub last : any_after call ts ≡ false
+
+  -- where none waits, none waits in a later call
+  unwaited : (m : ℕ) (ts : List ℕ) → list_any (λ v. is_some (wait v)) ts ≡ false → any_after m ts ≡ false
+  unwaited m [] e = refl
+  unwaited m (v ∷ ts) e = let p = or_parts (is_some (wait v)) (list_any (λ u. is_some (wait u)) ts) e in rw (unwaited_one (wait v) p.0, unwaited m ts p.1) refl where
+    unwaited_one : (o : Option ℕ) → is_some o ≡ false → is_after m o ≡ false
+    unwaited_one None h = refl
+    unwaited_one (Some k) h = absurd (true≢false h)
+
+  greatest_or_none : (ts : List ℕ) → (list_any (λ v. is_some (wait v)) ts ≡ false) ⊎ Greatest ts
+  greatest_or_none [] = inl refl
+  greatest_or_none (t ∷ ts) = elim (wait t) as (λ o. wait t ≡ o → (list_any (λ v. is_some (wait v)) (t ∷ ts) ≡ false) ⊎ Greatest (t ∷ ts)) [
+    | None ↦ λ is. elim (greatest_or_none ts) [
+      | inl none ↦ inl (rw (is, none) refl)
+      | inr g ↦ inr (record { thread = g.thread; call = g.call; among = rw (g.among) (or-true (eqb t g.thread)); waits = g.waits; last = rw (is, g.last) refl })
+    ]
+    | Some n ↦ λ is. inr (elim (greatest_or_none ts) [
+      | inl none ↦ record { thread = t; call = n; among = rw (eqb_same t) refl; waits = is; last = rw (is, ltb_irreflexive n, unwaited n ts none) refl }
+      | inr g ↦ elim (cases_Bool (nat_lt g.call n)) [
+        | inl later ↦
+            let less : g.call < n = ltb-true g.call n later in
+            record { thread = t; call = n; among = rw (eqb_same t) refl; waits = is; last = rw (is, ltb_irreflexive n, none_after g.call n ts (omega arith) g.last) refl }
+        | inr earlier ↦ record { thread = g.thread; call = g.call; among = rw (g.among) (or-true (eqb t g.thread)); waits = g.waits; last = rw (is, earlier, g.last) refl }
+      ]
+    ])
+  ] refl where
+    ltb_irreflexive : (k : ℕ) → nat_lt k k ≡ false
+    ltb_irreflexive k = le-ltb k k (omega arith)
+
+  -- where one waits, one waits in the greatest call
+  pub greatest : (ts : List ℕ) (u m : ℕ) → is_among ts u ≡ true → wait u ≡ Some m → Greatest ts
+  greatest ts u m a w = elim (greatest_or_none ts) [
+    | inl none ↦ absurd (true≢false (sym (waited ts a) ∙ none))
+    | inr g ↦ g
+  ] where
+    waited : (vs : List ℕ) → is_among vs u ≡ true → list_any (λ v. is_some (wait v)) vs ≡ true
+    waited [] b = absurd (true≢false (sym b))
+    waited (v ∷ vs) b = elim (or_cases (eqb v u) (is_among vs u) b) [
+      | inl same ↦ let here : is_some (wait v) ≡ true = ap (λ k. is_some (wait k)) (eqb-true v u same) ∙ ap is_some w in rw here refl
+      | inr rest ↦ rw (waited vs rest) (or-true (is_some (wait v)))
+    ]
+
+-- ---- the newest
+
+-- thread u waits for such an item in call m, and none of these in a later one
+pub record IsNewest (open_call : ℕ → Option OpenCall) (h : ℕ) (item : Item) (ts : List ℕ) (u m : ℕ) : Type 0 where
+  pub among : is_among ts u ≡ true
+  pub waits : wait_on h item (open_call u) ≡ Some m
+  pub last : any_after (λ v. wait_on h item (open_call v)) m ts ≡ false
+
+pub newest_parts : (open_call : ℕ → Option OpenCall) (h : ℕ) (item : Item) (ts : List ℕ) (u : ℕ) → newest_receiver_among open_call h item ts ≡ Some u → (m : ℕ) × IsNewest open_call h item ts u m
+newest_parts open_call h item ts u e =
+    elim (wait_on h item (open_call u)) as (λ o. wait_on h item (open_call u) ≡ o → option_map_or (is_last_wait open_call h item ts) o false ≡ true → (m : ℕ) × IsNewest open_call h item ts u m) [
+      | None ↦ λ w s. absurd (true≢false (sym s))
+      | Some m ↦ λ w s. (m, record { among = first_among_them (is_newest open_call h item ts) ts u e; waits = w; last = not-true _ s })
+    ] refl (first_is (is_newest open_call h item ts) ts u e)
+
+-- the newest receiver waits on the channel
+pub newest_waits : (f : Facts) (h : ℕ) (item : Item) (r : ℕ) → newest_receiver f h item ≡ Some r → WaitsOn h item (f.open_call r)
+newest_waits f h item r e = let n = newest_parts f.open_call h item (threads_of f.roster) r e in wait_on_is h item (f.open_call r) n.0 n.1.waits
+
+pub waiting_on : (h : ℕ) (item : Item) (call : Option OpenCall) (w : WaitsOn h item call) → wait_on h item call ≡ Some w.waiting.number
+waiting_on h item call w = rw (w.is_open, w.waits, eqb_same h, w.may) refl
+
+-- where a thread of the roster waits on the channel, there is a newest
+pub newest_there : (f : Facts) (h : ℕ) (item : Item) (u m : ℕ) → is_among (threads_of f.roster) u ≡ true → wait_on h item (f.open_call u) ≡ Some m → is_some (newest_receiver f h item) ≡ true
+newest_there f h item u m a w =
+    let ts = threads_of f.roster in
+    let g = greatest (λ v. wait_on h item (f.open_call v)) ts u m a w in
+    first_there (is_newest f.open_call h item ts) ts g.thread g.among (rw (g.waits, g.last) refl)
+
+pub newest_some : (f : Facts) (h : ℕ) (item : Item) (u : ℕ) → is_among (threads_of f.roster) u ≡ true → WaitsOn h item (f.open_call u) → is_some (newest_receiver f h item) ≡ true
+newest_some f h item u a w = newest_there f h item u w.waiting.number a (waiting_on h item (f.open_call u) w)

@@ -1,0 +1,79 @@
+-- Of what was sent over one connection and has one priority as it is received, what was sent first is received first.
+use Rattle.std.proofs.Common.{◌≡◌, ◌∙◌, ℕ, ◌≤◌, List, [], ◌∷◌, ap, sym, subst, arith, true, inl, inr}
+use Rattle.std.specs.Prelude.{Some}
+use Rattle.std.specs.List.{AllByRecursion}
+use Rattle.std.proofs.lemmas.Bool.{cases_eq}
+use Rattle.std.proofs.lemmas.Option.{same_Some}
+use Rattle.qqueue.specs.Best.{best_of, may_take}
+use Rattle.qqueue.specs.Contents.{IsRising}
+use Rattle.qqueue.specs.declared.item.Item.{Item}
+use Rattle.qqueue.specs.declared.item.Kind.{Kind}
+use Rattle.qqueue.specs.declared.item.Kind.TheVariants.{Any}
+use Rattle.qqueue.proofs.OrderLaws.{best-at}
+use Rattle.qtables.specs.Members.{IsRoster}
+use Rattle.qtables.specs.declared.member.Member.{Member}
+use Rattle.qrules.specs.Private.Effects.{receives_on}
+use Rattle.qrules.specs.Private.Headline.BestFirst.{BestFirst, TakesBest, takeable}
+use Rattle.qrules.specs.Private.Headline.ReceivedOnce.{item_received}
+use Rattle.qrules.specs.Private.Headline.SentOrder.{IsEarliest, SentOrder, TakesSent, connection_of}
+use Rattle.qrules.specs.Private.Lawful.{IsLawful}
+use Rattle.qrules.specs.Private.Past.{priority_before}
+use Rattle.qmodel.specs.Trace.{Event, Trace}
+use Rattle.qmodel.specs.declared.call.Call.{Call}
+use Rattle.qmodel.specs.declared.call.Call.TheVariants.{Receive}
+use Rattle.qmodel.specs.declared.call.Completion.{Completion}
+use Rattle.qrules.proofs.Traces.Past.Best.{best_earliest, some_number}
+use Rattle.qbase.proofs.Lists.{all_more}
+use Rattle.qrules.proofs.Traces.Past.Rising.{takeable_rises}
+use Rattle.qrules.proofs.Traces.Properties.BestFirst.{best_first}
+use Rattle.qrules.proofs.Traces.Properties.Connections.{IsMadeFor, item_over, takeable_made, takeable_priorities}
+
+-- a Receive may take any item
+plain_takes : (c : Call) (chid : ℕ) (buffer : List ℕ) (p : ℕ × Kind) (item : Item) → c ≡ Receive chid buffer → receives_on c ≡ Some p → may_take p.1 item ≡ true
+plain_takes c chid buffer p item is e = ap (λ q. may_take q.1 item) (sym (same_Some (chid, Any) p (ap receives_on (sym is) ∙ e)))
+
+-- the best of rising items is no later than any other of its priority
+first_of_equals : (kind : Kind) (items : List Item) (x : Item) → IsRising items → best_of kind items ≡ Some x → ((w : Item) → may_take kind w ≡ true)
+    → AllByRecursion (λ w. w.priority ≡ x.priority → x.number ≤ w.number) items
+first_of_equals kind items x rising best may =
+    all_more (λ w. may_take kind w ≡ true → w.priority ≡ x.priority → x.number ≤ w.number) (λ w. w.priority ≡ x.priority → x.number ≤ w.number) items
+    (best_earliest kind items x rising best) (λ w earliest same. earliest (may w) same)
+
+-- of what could be taken from one channel, nothing is earlier
+abbrev IsEarliestOn : List Member → Trace → Event → ℕ → ℕ → ℕ → Type 0
+IsEarliestOn roster past e j k h = AllByRecursion (λ w. connection_of (e ∷ past) w.number ≡ Some k → w.priority ≡ priority_before roster e past j → j ≤ w.number) (takeable roster past e h)
+
+is_earliest : (roster : List Member) (past : Trace) (e : Event) (y : Completion) (j k : ℕ) → TakesSent (e ∷ past) y j k → TakesBest roster past e y j → IsEarliest roster past e j k
+is_earliest roster past e y j k plain b h =
+    let x = some_number (best_of b.kind (takeable roster past e b.channel)) j b.best in
+    let at : IsMadeFor roster (e ∷ past) b.channel x.0 = best-at (IsMadeFor roster (e ∷ past) b.channel) b.kind (takeable roster past e b.channel) x.0 (takeable_made roster past e b.channel) x.1 in
+    let from = item_over roster (e ∷ past) x.0.number k (record { item = at.0; channel = b.channel }) at.1 (ap (connection_of (e ∷ past)) x.2 ∙ plain.connection) in
+    let priority : priority_before roster e past j ≡ x.0.priority =
+    ap (priority_before roster e past) (sym x.2)
+    ∙ best-at (λ (w : Item). priority_before roster e past w.number ≡ w.priority) b.kind (takeable roster past e b.channel) x.0 (takeable_priorities roster past e b.channel) x.1 in
+    elim (cases_eq h b.channel) as (λ _. IsEarliestOn roster past e j k h) [
+      | inl same ↦
+          subst (IsEarliestOn roster past e j k) (sym same)
+          (all_more (λ w. w.priority ≡ x.0.priority → x.0.number ≤ w.number) (λ w. connection_of (e ∷ past) w.number ≡ Some k → w.priority ≡ priority_before roster e past j → j ≤ w.number)
+          (takeable roster past e b.channel)
+          (first_of_equals b.kind (takeable roster past e b.channel) x.0 (takeable_rises roster e past b.channel) x.1 (λ w. plain_takes b.call plain.channel plain.buffer (b.channel, b.kind) w (same_Some b.call (Receive plain.channel plain.buffer) (sym b.is_call ∙ plain.call)) b.receives))
+          (λ w first _ equal. let no_earlier : x.0.number ≤ w.number = first (equal ∙ priority) in omega (arith, x.2)))
+      | inr other ↦
+          all_more (IsMadeFor roster (e ∷ past) h) (λ w. connection_of (e ∷ past) w.number ≡ Some k → w.priority ≡ priority_before roster e past j → j ≤ w.number)
+          (takeable roster past e h) (takeable_made roster past e h)
+          (λ w made along _.
+          let to = item_over roster (e ∷ past) w.number k (record { item = made.0; channel = h }) made.1 along in
+          absurd (other (to.channel ∙ ap (λ c. c.channel) (same_Some to.over from.over (sym to.is ∙ from.is)) ∙ sym from.channel)))
+    ]
+
+order_from : (roster : List Member) (past : Trace) → BestFirst roster past → SentOrder roster past
+order_from roster [] b = tt
+order_from roster (e ∷ past) b = (
+  all_more (λ x. (i : ℕ) → item_received x ≡ Some i → TakesBest roster past e x i)
+      (λ x. (j k : ℕ) → TakesSent (e ∷ past) x j k → IsEarliest roster past e j k) e.endings b.0
+      (λ x takes j k sent. is_earliest roster past e x j k sent (takes j sent.item)),
+  order_from roster past b.1,
+)
+
+pub sent_order : (roster : List Member) (past : Trace) → IsRoster roster → IsLawful roster past → SentOrder roster past
+sent_order roster past r l = order_from roster past (best_first roster past r l)

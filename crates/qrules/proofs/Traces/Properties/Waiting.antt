@@ -1,0 +1,261 @@
+-- While a thread waits for an item of a channel, nothing that it may take is pending there.
+use Rattle.std.proofs.Common.{◌≡◌, ◌∙◌, ℕ, List, [], ◌∷◌, ◌++◌, refl, ap, sym, subst, cond, eqb, Bool, true, false, inl, inr}
+use Rattle.std.specs.Prelude.{Option, None, Some, is_some, not, filter}
+use Rattle.std.specs.List.{AllByRecursion}
+use Rattle.std.proofs.lemmas.Bool.{eqb-true, eqb-false, not-true}
+use Rattle.std.proofs.lemmas.Option.{none-some, same_Some, some_pair_parts}
+use Rattle.qqueue.specs.Best.{best_of, may_take, with_priority, without_item}
+use Rattle.qqueue.specs.declared.item.Item.{Item}
+use Rattle.qqueue.specs.declared.item.Kind.{Kind}
+use Rattle.qqueue.specs.declared.item.Kind.TheVariants.{Any, PulseOnly}
+use Rattle.qqueue.proofs.OrderLaws.{none-may}
+use Rattle.qtables.specs.Members.{IsRoster}
+use Rattle.qtables.specs.declared.member.Member.{Member}
+use Rattle.qrules.specs.Private.Calls.{row_of}
+use Rattle.qrules.specs.Private.Calls.Send.{item}
+use Rattle.qrules.specs.Private.Delivering.{receiver, receipt_when_sent}
+use Rattle.qrules.specs.Private.Receiving.{own_receipt}
+use Rattle.qrules.specs.Private.Facts.{Facts, sender, threads_of, route}
+use Rattle.qrules.specs.Private.Effects.{asks, closes, makes, receives_on, sets, unblocks, writes}
+use Rattle.qrules.specs.Private.Lawful.{facts_of, IsLawful}
+use Rattle.qrules.specs.Private.Past.{wait_with_receipt, made_on}
+use Rattle.qrules.specs.Private.Receivers.{newest_receiver}
+use Rattle.qrules.specs.Private.Rows.{Received, names, item_sent_over, takes, receipt_ending, with_buffer}
+use Rattle.qmodel.specs.Trace.{SentItem}
+use Rattle.qrules.specs.Private.Step.{after_receipt, after_write, is_cancelled, uncut_items, items_with_priority_set, open_call_after, pending_after, unreceived_items, unless, after_unblock, unblocked_wait}
+use Rattle.qmodel.specs.Trace.{Trace}
+use Rattle.qmodel.specs.declared.call.Call.{Call}
+use Rattle.qmodel.specs.declared.call.Call.TheVariants.{Send, Receive, ReceivePulse, Pulse, Unblock, ConnectDetach}
+use Rattle.qmodel.specs.declared.open_call.OpenCall.{OpenCall}
+use Rattle.qmodel.specs.declared.open_call.Receipt.{Receipt}
+use Rattle.qmodel.specs.declared.open_call.Wait.{Wait}
+use Rattle.qmodel.specs.declared.open_call.Wait.TheVariants.{Answer, Item as ForItem}
+use Rattle.qrules.proofs.Traces.Calls.Taking.{given_received, receipt_from, receipt_in_at}
+use Rattle.qrules.proofs.Traces.Past.Ends.{open_known, passes_of}
+use Rattle.qrules.proofs.Traces.Past.Follows.{past_follows}
+use Rattle.qrules.proofs.Traces.Past.Laws.{Passes}
+use Rattle.qrules.proofs.Traces.Past.Moves.{all_moved}
+use Rattle.qbase.proofs.Lists.{all_append, all_filter, all_more, is_among, none_of, some_of}
+use Rattle.qrules.proofs.Traces.Properties.Receipts.{waits_for}
+use Rattle.qrules.proofs.Traces.Past.Before.{Lasts, before_other, before_receipt, unless_is}
+use Rattle.qrules.proofs.Traces.Properties.Receivers.{WaitsOn, newest_some, newest_waits}
+use Rattle.qrules.proofs.Traces.Routes.{has_way}
+use Rattle.qrules.proofs.Traces.Rosters.{known}
+use Rattle.qrules.proofs.Traces.Calls.Delivering.{sent_way}
+use Rattle.qrules.specs.Private.Pulses.{pulse_receipt}
+
+-- ---- what a thread waits for
+
+waits_for_is : (w : Wait) (h : ℕ) (kind : Kind) → waits_for w ≡ Some (h, kind) → (buffer : List ℕ) × (w ≡ ForItem h kind buffer)
+waits_for_is (Answer coid message reply_buffer receipt) h kind e = absurd (none-some (h, kind) e)
+waits_for_is (ForItem chid taken buffer) h kind e = let p = some_pair_parts chid h taken kind e in (buffer, ap (λ c. ForItem c taken buffer) p.0 ∙ ap (λ k. ForItem h k buffer) p.1)
+
+-- a receipt changes nothing of it
+pub held_waits_for : (receipt : Receipt) (w : Wait) → waits_for (wait_with_receipt receipt w) ≡ waits_for w
+held_waits_for receipt (Answer coid message reply_buffer before) = refl
+held_waits_for receipt (ForItem chid kind buffer) = refl
+
+pub buffer_waits_for : (f : List ℕ → List ℕ) (w : Wait) → waits_for (with_buffer f w) ≡ waits_for w
+buffer_waits_for f (Answer coid message reply_buffer receipt) = refl
+buffer_waits_for f (ForItem chid kind buffer) = refl
+
+-- a call waits for what it receives on
+pub waits_for_asked : (n : ℕ) (c : Call) (b : OpenCall) → asks n c ≡ Some b → receives_on c ≡ waits_for b.wait
+waits_for_asked n (Send coid message reply_buffer) b e = ap (λ o. waits_for o.wait) (same_Some _ b e)
+waits_for_asked n (Receive chid buffer) b e = ap (λ o. waits_for o.wait) (same_Some _ b e)
+waits_for_asked n (ReceivePulse chid) b e = ap (λ o. waits_for o.wait) (same_Some _ b e)
+waits_for_asked n c b e = absurd (none-some b e)
+
+-- ---- by each call's row
+
+-- a call that begins to wait for an item finds none, and makes none
+abbrev BeginsWithNone : Facts → ℕ → Call → ℕ × Kind → Type 0
+BeginsWithNone f t c p = (best_of p.1 (f.pending p.0) ≡ None) × (makes f t c ≡ None)
+
+none_to_take : (f : Facts) (t : ℕ) (buffer : List ℕ) (o : Option Item) → own_receipt f t buffer o ≡ None → o ≡ None
+none_to_take f t buffer None e = refl
+none_to_take f t buffer (Some item) e = absurd (none-some _ (sym e))
+
+begins_with_none : (f : Facts) (t : ℕ) (c : Call) (b : OpenCall) (p : ℕ × Kind) → asks f.number c ≡ Some b → waits_for b.wait ≡ Some p → (row_of f t c).own ≡ None → BeginsWithNone f t c p
+begins_with_none f t (Send coid message reply_buffer) b p e w own = absurd (none-some p (ap (λ o. waits_for o.wait) (same_Some _ b e) ∙ w))
+begins_with_none f t (Receive chid buffer) b p e w own =
+    subst (BeginsWithNone f t (Receive chid buffer)) (same_Some (chid, Any) p (ap (λ o. waits_for o.wait) (same_Some _ b e) ∙ w)) (none_to_take f t buffer (best_of Any (f.pending chid)) own, refl)
+begins_with_none f t (ReceivePulse chid) b p e w own =
+    subst (BeginsWithNone f t (ReceivePulse chid)) (same_Some (chid, PulseOnly) p (ap (λ o. waits_for o.wait) (same_Some _ b e) ∙ w)) (none_to_take f t [] (best_of PulseOnly (f.pending chid)) own, refl)
+begins_with_none f t c b p e w own = absurd (none-some b e)
+
+-- an item that a thread waits for is received at once
+pub record IsReceivedAtOnce (f : Facts) (t : ℕ) (c : Call) (m : SentItem) : Type 0 where
+  pub receipt : Received
+  pub is : (row_of f t c).receipt ≡ Some receipt
+  pub channel : receipt.channel ≡ m.channel
+  pub item : receipt.item ≡ m.item.number
+
+-- the receipt of an item by the newest receiver
+delivered_receipt : (f : Facts) (sender : Option ℕ) (item : Item) (message : List ℕ) (w : Option ℕ) (h r : ℕ) (v : WaitsOn h item (f.open_call r)) → w ≡ Some h → newest_receiver f h item ≡ Some r
+    → receipt_when_sent f sender item message w (receiver f item w) ≡ Some (receipt_from h sender item.priority r (item.number, (given_received item message v.buffer).0))
+delivered_receipt f sender item message w h r v is_way is_newest =
+    let takes_it : takes item message r (f.open_call r) ≡ Some (receipt_ending item message r v.waiting.number v.buffer) = rw (v.is_open, v.waits) refl in
+    ap (λ o. receipt_when_sent f sender item message o (receiver f item o)) is_way ∙ ap (receipt_when_sent f sender item message (Some h)) is_newest
+    ∙ receipt_in_at h sender item.priority (takes item message r (f.open_call r)) (receipt_ending item message r v.waiting.number v.buffer) (item.number, (given_received item message v.buffer).0) takes_it (given_received item message v.buffer).1
+
+delivered_at_once : (f : Facts) (t : ℕ) (c : Call) (w : Option ℕ) (item : Item) (message : List ℕ) (sender : Option ℕ) (m : SentItem) (u : ℕ) (o : OpenCall) (kind : Kind) → w ≡ Some m.channel → m.item ≡ item
+    → (row_of f t c).receipt ≡ receipt_when_sent f sender item message w (receiver f item w) → is_among (threads_of f.roster) u ≡ true → f.open_call u ≡ Some o
+    → waits_for o.wait ≡ Some (m.channel, kind) → may_take kind m.item ≡ true → IsReceivedAtOnce f t c m
+delivered_at_once f t c w item message sender m u o kind is_way it receipt among is waits may =
+    let b = waits_for_is o.wait m.channel kind waits in
+    let on : WaitsOn m.channel item (f.open_call u) = record { waiting = o; kind = kind; buffer = b.0; is_open = is; waits = b.1; may = ap (may_take kind) (sym it) ∙ may } in
+    let r = some_of (newest_receiver f m.channel item) (newest_some f m.channel item u among on) in
+    let v = newest_waits f m.channel item r.0 r.1 in
+    record {
+      receipt = receipt_from m.channel sender item.priority r.0 (item.number, (given_received item message v.buffer).0);
+      is = receipt ∙ delivered_receipt f sender item message w m.channel r.0 v is_way r.1;
+      channel = refl;
+      item = ap (λ x. x.number) (sym it);
+    }
+
+-- what is sent over a way is the item, to its channel
+sent_is : (f : Facts) (t coid : ℕ) (item : Item) (m : SentItem) (h : ℕ) → route f t coid ≡ Some h → item_sent_over (f.connection coid) item ≡ Some m → (route f t coid ≡ Some m.channel) × (m.item ≡ item)
+sent_is f t coid item m h is_way made =
+    let same : record { item = item; channel = h } ≡ m = same_Some _ m (sym (sent_way f t coid item h is_way) ∙ made) in
+    (is_way ∙ ap (λ (x : SentItem). Some x.channel) same, ap (λ (x : SentItem). x.item) (sym same))
+
+received_at_once : (f : Facts) (t : ℕ) (c : Call) (m : SentItem) (u : ℕ) (o : OpenCall) (kind : Kind) → Passes f t c → makes f t c ≡ Some m
+    → is_among (threads_of f.roster) u ≡ true → f.open_call u ≡ Some o → waits_for o.wait ≡ Some (m.channel, kind) → may_take kind m.item ≡ true → IsReceivedAtOnce f t c m
+received_at_once f t (ConnectDetach coid) m u o kind p made among is waits may =
+    delivered_at_once f t (ConnectDetach coid) (Some m.channel) m.item [] None m u o kind refl refl (ap (pulse_receipt f) made) among is waits may
+received_at_once f t (Unblock thread) m u o kind p made among is waits may =
+    delivered_at_once f t (Unblock thread) (Some m.channel) m.item [] None m u o kind refl refl (ap (pulse_receipt f) made) among is waits may
+received_at_once f t (Send coid message reply_buffer) m u o kind p made among is waits may =
+    let h = has_way f t coid p.row in
+    let s = sent_is f t coid (item f t) m h.0 h.1 made in
+    delivered_at_once f t (Send coid message reply_buffer) (route f t coid) (item f t) message (Some t) m u o kind s.0 s.1 refl among is waits may
+received_at_once f t (Pulse coid level code value) m u o kind p made among is waits may =
+    delivered_at_once f t (Pulse coid level code value) (Some m.channel) m.item [] None m u o kind refl refl (ap (pulse_receipt f) made) among is waits may
+received_at_once f t c m u o kind p made among is waits may = absurd (none-some m made)
+
+-- ---- lists of items
+
+all_kept_by : (P : Item → Type 0) (p : Item → Bool) (items : List Item) → AllByRecursion (λ w. p w ≡ true → P w) items → AllByRecursion P (filter p items)
+all_kept_by P p [] all = tt
+all_kept_by P p (x ∷ items) all =
+    elim (p x) as (λ b. (b ≡ true → P x) → AllByRecursion P (cond b (x ∷ filter p items) (filter p items))) [
+      | true ↦ λ h. (h refl, all_kept_by P p items all.1)
+      | false ↦ λ h. all_kept_by P p items all.1
+    ] all.0
+
+-- what is so of each that isn't taken out is so of what is left
+all_left : (P : Item → Type 0) (o : Option Received) (h : ℕ) (items : List Item)
+    → AllByRecursion (λ w. ((r : Received) → o ≡ Some r → r.channel ≡ h → eqb w.number r.item ≡ false) → P w) items → AllByRecursion P (unreceived_items o h items)
+all_left P None h items all = all_more (λ w. ((r : Received) → None ≡ Some r → r.channel ≡ h → eqb w.number r.item ≡ false) → P w) P items all (λ w k. k (λ r none. absurd (none-some r none)))
+all_left P (Some r) h items all =
+    elim (eqb r.channel h) as (λ b. eqb r.channel h ≡ b → AllByRecursion P (cond b (without_item r.item items) items)) [
+      | true ↦ λ same. all_kept_by P (λ w. not (eqb w.number r.item)) items
+          (all_more (λ w. ((q : Received) → Some r ≡ Some q → q.channel ≡ h → eqb w.number q.item ≡ false) → P w) (λ w. not (eqb w.number r.item) ≡ true → P w) items all
+          (λ w k left. k (λ q is on. subst (λ (x : Received). eqb w.number x.item ≡ false) (same_Some r q is) (not-true (eqb w.number r.item) left))))
+      | false ↦ λ other. all_more (λ w. ((q : Received) → Some r ≡ Some q → q.channel ≡ h → eqb w.number q.item ≡ false) → P w) P items all
+          (λ w k. k (λ q is on. absurd (eqb-false r.channel h other (ap (λ (x : Received). x.channel) (same_Some r q is) ∙ on))))
+    ] refl
+
+-- ---- after one more event
+
+-- nothing that a waiting thread may take is pending
+abbrev pub NothingFor : Facts → Type 0
+NothingFor f = (u : ℕ) (o : OpenCall) (h : ℕ) (kind : Kind) → f.open_call u ≡ Some o → waits_for o.wait ≡ Some (h, kind) → AllByRecursion (λ w. may_take kind w ≡ false) (f.pending h)
+
+-- what is so of all that isn't destroyed is so of what is pending afterwards
+all_after : (kind : Kind) (f : Facts) (t : ℕ) (c : Call) (h : ℕ) → AllByRecursion (λ w. may_take kind w ≡ false) (unreceived_items (row_of f t c).receipt h (uncut_items f t c h (f.pending h ++ made_on h (makes f t c))))
+    → AllByRecursion (λ w. may_take kind w ≡ false) (pending_after f t c h)
+all_after kind f t c h all =
+    let P = λ (w : Item). may_take kind w ≡ false in
+    let L = unreceived_items (row_of f t c).receipt h (uncut_items f t c h (f.pending h ++ made_on h (makes f t c))) in
+    elim (names (closes c) h) as (λ b. AllByRecursion P (cond b [] (items_with_priority_set f h (sets c) L))) [
+      | true ↦ tt
+      | false ↦ all_moved P f h (sets c) L (λ priority x none. same_kind kind priority x ∙ none) all
+    ]
+  where
+    same_kind : (kind : Kind) (priority : ℕ) (x : Item) → may_take kind (with_priority priority x) ≡ may_take kind x
+    same_kind Any priority x = refl
+    same_kind PulseOnly priority x = refl
+
+-- the caller begins to wait: nothing was pending, and nothing is made
+caller_finds_none : (f : Facts) (t : ℕ) (c : Call) (o : OpenCall) (h : ℕ) (kind : Kind) → unless (is_some (row_of f t c).own) (after_receipt (row_of f t c).receipt t (asks f.number c)) ≡ Some o
+    → waits_for o.wait ≡ Some (h, kind) → AllByRecursion (λ w. may_take kind w ≡ false) (pending_after f t c h)
+caller_finds_none f t c o h kind is waits =
+    let x = unless_is (is_some (row_of f t c).own) (after_receipt (row_of f t c).receipt t (asks f.number c)) o is in
+    let b = before_receipt waits_for held_waits_for (row_of f t c).receipt t (asks f.number c) o x.1 in
+    let k = begins_with_none f t c b.call (h, kind) b.is (b.same ∙ waits) (none_of (row_of f t c).own x.0) in
+    let P = λ (w : Item). may_take kind w ≡ false in
+    let none : AllByRecursion (λ (w : Item). may_take kind w ≡ false) (f.pending h) = none-may kind (f.pending h) k.0 in
+    let Q = λ (w : Item). ((r : Received) → (row_of f t c).receipt ≡ Some r → r.channel ≡ h → eqb w.number r.item ≡ false) → may_take kind w ≡ false in
+    let left = λ (w : Item). not (is_cancelled f t c h w.number) in
+    all_after kind f t c h (rw (k.1) (all_left P (row_of f t c).receipt h (uncut_items f t c h (f.pending h ++ []))
+    (all_filter Q left (f.pending h ++ []) (all_append Q (f.pending h) [] (all_more P Q (f.pending h) none (λ w m _. m)) tt))))
+
+-- another thread that waits on: what it may take is received at once
+other_finds_none : (f : Facts) (t : ℕ) (c : Call) (u : ℕ) (o : OpenCall) (h : ℕ) (kind : Kind) → Passes f t c → NothingFor f → is_among (threads_of f.roster) u ≡ true → f.open_call u ≡ Some o
+    → waits_for o.wait ≡ Some (h, kind) → AllByRecursion (λ w. may_take kind w ≡ false) (pending_after f t c h)
+other_finds_none f t c u o h kind p nothing among is waits =
+    let P = λ (w : Item). may_take kind w ≡ false in
+    let Q = λ (w : Item). ((r : Received) → (row_of f t c).receipt ≡ Some r → r.channel ≡ h → eqb w.number r.item ≡ false) → may_take kind w ≡ false in
+    let left = λ (w : Item). not (is_cancelled f t c h w.number) in
+    all_after kind f t c h (all_left P (row_of f t c).receipt h (uncut_items f t c h (f.pending h ++ made_on h (makes f t c)))
+    (all_filter Q left (f.pending h ++ made_on h (makes f t c)) (all_append Q (f.pending h) (made_on h (makes f t c))
+    (all_more P Q (f.pending h) (nothing u o h kind is waits) (λ w m _. m))
+    (elim (makes f t c) as (λ x. makes f t c ≡ x → AllByRecursion Q (made_on h x)) [
+      | None ↦ λ none. tt
+      | Some m ↦ λ made.
+          elim (eqb m.channel h) as (λ b. eqb m.channel h ≡ b → AllByRecursion Q (cond b (m.item ∷ []) [])) [
+            | true ↦ λ on. (
+              (λ left.
+                  elim (may_take kind m.item) as (λ b. may_take kind m.item ≡ b → b ≡ false) [
+                    | true ↦ λ may.
+                        let there : m.channel ≡ h = eqb-true m.channel h on in
+                        let r = received_at_once f t c m u o kind p made among is (waits ∙ ap (λ k. Some (k, kind)) (sym there)) may in
+                        absurd (eqb-false m.item.number r.receipt.item (left r.receipt r.is (r.channel ∙ there)) (sym r.item))
+                    | false ↦ λ may. refl
+                  ] refl),
+              tt,
+            )
+            | false ↦ λ off. tt
+          ] refl
+    ] refl))))
+
+unblocked_waits_for : (w : Wait) → waits_for (unblocked_wait w) ≡ waits_for w
+unblocked_waits_for (Answer coid message reply_buffer None) = refl
+unblocked_waits_for (Answer coid message reply_buffer (Some receipt)) = refl
+unblocked_waits_for (ForItem chid kind buffer) = refl
+
+-- what a thread waits for to receive lasts
+lasts_waits_for : Lasts waits_for
+lasts_waits_for = record { held = held_waits_for; buffer = buffer_waits_for; unblocked = unblocked_waits_for }
+
+nothing_after : (f : Facts) (t : ℕ) (c : Call) → Passes f t c → NothingFor f → ((u : ℕ) (o : OpenCall) → f.open_call u ≡ Some o → is_among (threads_of f.roster) u ≡ true)
+    → (u : ℕ) (o : OpenCall) (h : ℕ) (kind : Kind) → open_call_after f t c u ≡ Some o → waits_for o.wait ≡ Some (h, kind) → AllByRecursion (λ w. may_take kind w ≡ false) (pending_after f t c h)
+nothing_after f t c p nothing among u o h kind is waits =
+    elim (eqb u t) as (λ b. eqb u t ≡ b
+    → cond b (unless (is_some (row_of f t c).own) (after_receipt (row_of f t c).receipt u (asks f.number c))) (unless (is_some ((row_of f t c).ends u)) (after_unblock (makes f t c) (unblocks c) u (after_receipt (row_of f t c).receipt u (after_write f (writes c) u (f.open_call u))))) ≡ Some o
+    → AllByRecursion (λ w. may_take kind w ≡ false) (pending_after f t c h)) [
+      | true ↦ λ same e.
+          caller_finds_none f t c o h kind
+          (subst (λ v. unless (is_some (row_of f t c).own) (after_receipt (row_of f t c).receipt v (asks f.number c)) ≡ Some o) (eqb-true u t same) e) waits
+      | false ↦ λ other e.
+          let x = unless_is (is_some ((row_of f t c).ends u)) (after_unblock (makes f t c) (unblocks c) u (after_receipt (row_of f t c).receipt u (after_write f (writes c) u (f.open_call u)))) o e in
+          let d = before_other waits_for lasts_waits_for f t c u o x.1 in
+          other_finds_none f t c u d.call h kind p nothing (among u d.call d.is) d.is (d.same ∙ waits)
+    ] refl is
+
+pub nothing_for : (roster : List Member) (past : Trace) → IsRoster roster → IsLawful roster past → NothingFor (facts_of roster past)
+nothing_for roster [] r l u o h kind is waits = absurd (none-some o is)
+nothing_for roster (e ∷ past) r l u o h kind is waits =
+    let f = facts_of roster past in
+    elim (l.2) as (λ _. AllByRecursion (λ w. may_take kind w ≡ false) ((facts_of roster (e ∷ past)).pending h)) [
+      | inl a ↦
+          let k = past_follows true roster past e.thread e.call e.endings r l.0 l.1 a in
+          subst (AllByRecursion (λ w. may_take kind w ≡ false)) (sym (k.pending h))
+          (nothing_after (facts_of roster past) e.thread e.call (passes_of (facts_of roster past) e.thread e.call e.endings a) (nothing_for roster past r l.0)
+          (λ v x open_v. known roster v (open_known roster past v x l.0 open_v)) u o h kind (sym (k.open_call u) ∙ is) waits)
+      | inr a ↦
+          let k = past_follows false roster past e.thread e.call e.endings r l.0 l.1 a in
+          subst (AllByRecursion (λ w. may_take kind w ≡ false)) (sym (k.pending h)) (nothing_for roster past r l.0 u o h kind (sym (k.open_call u) ∙ is) waits)
+    ]

@@ -1,0 +1,79 @@
+-- The threads of a roster, in rising number, and what they give where one of them gets something.
+use Rattle.std.proofs.Common.{◌≡◌, ℕ, ◌<◌, List, [], ◌∷◌, refl, ap, sym, subst, ◌∙◌, cond, arith, true, false, eqb}
+use Rattle.std.specs.Prelude.{Option, None, Some, is_some, ◌||◌}
+use Rattle.std.specs.List.{filter_map, cons_option, AllByRecursion}
+use Rattle.std.specs.Option.{option_to_list}
+use Rattle.std.proofs.lemmas.Bool.{eqb-true, ne_eqb, true≢false}
+use Rattle.qtables.specs.Members.{member_at, IsRoster}
+use Rattle.qtables.specs.declared.member.Member.{Member}
+use Rattle.qrules.specs.Private.Facts.{threads_of}
+use Rattle.qbase.proofs.Lists.{is_among}
+
+-- the numbers rise
+abbrev pub Rises : List ℕ → Type 0
+Rises [] = Unit {0}
+Rises (t ∷ ts) = AllByRecursion (λ u. t < u) ts × Rises ts
+
+all_below : (t : ℕ) (roster : List Member) → AllByRecursion (λ m. t < m.thread) roster → AllByRecursion (λ u. t < u) (threads_of roster)
+all_below t [] h = tt
+all_below t (m ∷ roster) h = (h.0, all_below t roster h.1)
+
+pub rises : (roster : List Member) → IsRoster roster → Rises (threads_of roster)
+rises [] h = tt
+rises (m ∷ roster) h = (all_below m.thread roster h.0, rises roster h.1)
+
+-- a thread is one of the roster's just where a member has its number
+is_among-member : (roster : List Member) (t : ℕ) → is_some (member_at roster t) ≡ is_among (threads_of roster) t
+is_among-member [] t = refl
+is_among-member (m ∷ roster) t =
+    elim (eqb m.thread t) as (λ b. is_some (cond b (Some m) (member_at roster t)) ≡ (b || is_among (threads_of roster) t)) [ true ↦ refl | false ↦ is_among-member roster t ]
+
+pub known : (roster : List Member) (t : ℕ) → is_some (member_at roster t) ≡ true → is_among (threads_of roster) t ≡ true
+known roster t h = sym (is_among-member roster t) ∙ h
+
+pub among_member : (roster : List Member) (t : ℕ) → is_among (threads_of roster) t ≡ true → is_some (member_at roster t) ≡ true
+among_member roster t h = is_among-member roster t ∙ h
+
+pub among : (roster : List Member) (t : ℕ) (m : Member) → member_at roster t ≡ Some m → is_among (threads_of roster) t ≡ true
+among roster t m e = known roster t (ap is_some e)
+
+-- a thread below all of these is none of them
+pub not_among : (ts : List ℕ) (t : ℕ) → AllByRecursion (λ u. t < u) ts → is_among ts t ≡ false
+not_among [] t h = refl
+not_among (u ∷ ts) t h = let other : eqb u t ≡ false = ne_eqb u t (λ s. let l : t < u = h.0 in omega arith) in rw (other, not_among ts t h.1) refl
+
+pub all_at : (t v : ℕ) (ts : List ℕ) → AllByRecursion (λ u. t < u) ts → is_among ts v ≡ true → t < v
+all_at t v [] h e = absurd (true≢false (sym e))
+all_at t v (u ∷ ts) h e =
+    elim (eqb u v) as (λ b. eqb u v ≡ b → (b || is_among ts v) ≡ true → t < v) [
+      | true ↦ λ same e. let s : u ≡ v = eqb-true u v same in let l : t < u = h.0 in omega arith
+      | false ↦ λ other e. all_at t v ts h.1 e
+    ] refl e
+
+module _ {Y : Type 0} where
+  pub nothing : (ts : List ℕ) (f : ℕ → Option Y) → ((u : ℕ) → f u ≡ None) → filter_map f ts ≡ []
+  nothing [] f h = refl
+  nothing (u ∷ ts) f h = rw (h u) (nothing ts f h)
+
+  pub filter_map_same : (f g : ℕ → Option Y) (ts : List ℕ) → ((u : ℕ) → f u ≡ g u) → filter_map f ts ≡ filter_map g ts
+  filter_map_same f g [] h = refl
+  filter_map_same f g (u ∷ ts) h = rw (h u, filter_map_same f g ts h) refl
+
+  none_own : (ts : List ℕ) (t : ℕ) (o : Option Y) → is_among ts t ≡ false → filter_map (λ u. cond (eqb u t) o None) ts ≡ []
+  none_own [] t o h = refl
+  none_own (u ∷ ts) t o h =
+      elim (eqb u t) as (λ b. (b || is_among ts t) ≡ false → cons_option (cond b o None) (filter_map (λ u. cond (eqb u t) o None) ts) ≡ []) [
+        | true ↦ λ e. absurd (true≢false e)
+        | false ↦ λ e. none_own ts t o e
+      ] h
+
+  -- one thread alone gets something
+  pub only_own : (ts : List ℕ) (t : ℕ) (o : Option Y) → Rises ts → is_among ts t ≡ true → filter_map (λ u. cond (eqb u t) o None) ts ≡ option_to_list o
+  only_own [] t o r h = absurd (true≢false (sym h))
+  only_own (u ∷ ts) t o r h =
+      elim (eqb u t) as (λ b. eqb u t ≡ b → (b || is_among ts t) ≡ true → cons_option (cond b o None) (filter_map (λ u. cond (eqb u t) o None) ts) ≡ option_to_list o) [
+        | true ↦ λ same e.
+            let none : filter_map (λ u. cond (eqb u t) o None) ts ≡ [] = none_own ts t o (subst (λ k. is_among ts k ≡ false) (eqb-true u t same) (not_among ts u r.0)) in
+            rw none (elim o as (λ o. cons_option o [] ≡ option_to_list o) [ None ↦ refl | Some x ↦ refl ])
+        | false ↦ λ other e. only_own ts t o r.1 e
+      ] refl h

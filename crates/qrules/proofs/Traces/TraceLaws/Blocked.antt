@@ -1,0 +1,204 @@
+-- Whose the endings of an event are, and who is blocked after it.
+use Rattle.std.proofs.Common.{◌≡◌, ◌∙◌, ℕ, ◌+◌, List, [], ◌∷◌, length, refl, ap, sym, subst, cond, arith, Bool, true, false, eqb, inl, inr}
+use Rattle.std.specs.Prelude.{Option, None, Some, is_some, ◌||◌, ◌&&◌}
+use Rattle.std.specs.List.{filter_map, cons_option, AllByRecursion}
+use Rattle.std.specs.Option.{option_map}
+use Rattle.std.proofs.lemmas.Bool.{cases_Bool, eqb-true, eqb-false, ne_eqb, or_parts, true≢false}
+use Rattle.std.proofs.lemmas.Option.{none-some}
+use Rattle.std.proofs.Math.Bool.{or-true}
+use Rattle.qtables.specs.Members.{member_at}
+use Rattle.qtables.specs.declared.member.Member.{Member}
+use Rattle.qrules.specs.Private.Answer.{ending}
+use Rattle.qrules.specs.Private.Calls.{row_of}
+use Rattle.qrules.specs.Private.Endings.{gets, may_end, AreApart, BlockedUnlessEnded, CallerGetsItsOwn, EndingsAreApart, EndingsGoToBlocked, EndsOrWaits, GoesToBlocked}
+use Rattle.qrules.specs.Private.Facts.{Facts, sender, threads_of}
+use Rattle.qrules.specs.Private.Effects.{asks, makes, unblocks, writes}
+use Rattle.qrules.specs.Private.Laws.{blocker}
+use Rattle.qrules.specs.Private.Lawful.{facts_of, IsLawful}
+use Rattle.qrules.specs.Private.Past.{has_ending_of, is_accepted, is_ended, open_call}
+use Rattle.qrules.specs.Private.Rows.{Received, Written}
+use Rattle.qmodel.specs.Trace.{SentItem}
+use Rattle.qrules.specs.Private.Step.{after_receipt, after_unblock, after_write, held_call, is_thread, open_call_after, unblocked_call, unless, written_call}
+use Rattle.qmodel.specs.Trace.{Event, Trace}
+use Rattle.qmodel.specs.declared.call.Call.{Call}
+use Rattle.qmodel.specs.declared.call.Completion.{Completion}
+use Rattle.qmodel.specs.declared.open_call.OpenCall.{OpenCall}
+use Rattle.qbase.proofs.Lists.{is_among, eqb_same, any_filter_map, any_filter_map_at, all_filter_map, cond_same, none_of}
+use Rattle.qrules.proofs.Traces.Past.Ends.{accepted, ended_below, ending_names, ends_own, laws_of, open_known, passes_of}
+use Rattle.qrules.proofs.Traces.Past.Laws.{Passes}
+use Rattle.qrules.proofs.Traces.Past.OpenCalls.{open_accepted, open_refused}
+use Rattle.qrules.proofs.Traces.Past.Waits.{some_map, waits_or_ends}
+use Rattle.qrules.proofs.Traces.Properties.Sends.{made_newest}
+use Rattle.qrules.proofs.Traces.Rosters.{Rises, rises, not_among, known}
+use Rattle.qrules.proofs.Traces.TraceLaws.Ending.{ending_thread}
+use Rattle.qrules.proofs.Traces.TraceLaws.Unended.{asks_any, open_is_unended}
+
+-- ---- endings by thread
+
+module _ (g : ℕ → Option Completion) (names : (u : ℕ) (y : Completion) → g u ≡ Some y → y.thread ≡ u) where
+  -- a thread that isn't among these gets nothing
+  gets_none : (ts : List ℕ) (u : ℕ) → is_among ts u ≡ false → gets (filter_map g ts) u ≡ false
+  gets_none [] u h = refl
+  gets_none (v ∷ ts) u h =
+      elim (g v) as (λ o. g v ≡ o → (eqb v u || is_among ts u) ≡ false → gets (cons_option o (filter_map g ts)) u ≡ false) [
+        | None ↦ λ is e. gets_none ts u ((or_parts (eqb v u) (is_among ts u) e).1)
+        | Some y ↦ λ is e. rw (names v y is, (or_parts (eqb v u) (is_among ts u) e).0) (gets_none ts u ((or_parts (eqb v u) (is_among ts u) e).1))
+      ] refl h
+
+  apart_by : (ts : List ℕ) → Rises ts → AreApart (filter_map g ts)
+  apart_by [] r = tt
+  apart_by (v ∷ ts) r =
+      elim (g v) as (λ o. g v ≡ o → AreApart (cons_option o (filter_map g ts))) [
+        | None ↦ λ is. apart_by ts r.1
+        | Some y ↦ λ is. (rw (names v y is) (gets_none ts v (not_among ts v r.0)), apart_by ts r.1)
+      ] refl
+
+  -- a thread of these gets just what it is given
+  gets_by : (ts : List ℕ) (u : ℕ) → is_among ts u ≡ true → gets (filter_map g ts) u ≡ is_some (g u)
+  gets_by ts u among =
+      elim (g u) as (λ o. g u ≡ o → gets (filter_map g ts) u ≡ is_some o) [
+        | None ↦ λ is. any_filter_map (λ x. eqb x.thread u) g ts (λ v y e. rw (names v y e) (ne_eqb v u (λ s. none-some y (sym is ∙ ap g (sym s) ∙ e))))
+        | Some y ↦ λ is. any_filter_map_at (λ x. eqb x.thread u) g ts u y among is (rw (names u y is) (eqb_same u))
+      ] refl
+
+-- each ending of an event goes to a thread of its own
+pub endings_are_apart : EndingsAreApart
+endings_are_apart roster past e r l =
+    let f = facts_of roster past in
+    elim (l.2) [
+      | inl a ↦ subst AreApart (sym a.1) (apart_by (ending f e.thread e.call) (ending_thread f e.thread e.call (laws_of f e.thread e.call e.endings a)) (threads_of roster) (rises roster r))
+      | inr a ↦ subst AreApart (sym a.2) (refl, tt)
+    ]
+
+-- an ending of the caller
+own_due : (roster : List Member) (past : Trace) (t : ℕ) (y : Completion) → is_some (member_at roster t) ≡ true → y.thread ≡ t → GoesToBlocked roster past t y
+own_due roster past t y member e = record { known = subst (λ u. is_some (member_at roster u) ≡ true) (sym e) member; may = rw (e, eqb_same t) refl }
+
+pub endings_go_to_blocked : EndingsGoToBlocked
+endings_go_to_blocked roster past e r l =
+    let f = facts_of roster past in
+    elim (l.2) [
+      | inl a ↦ subst (AllByRecursion (GoesToBlocked roster past e.thread)) (sym a.1) (all_filter_map (GoesToBlocked roster past e.thread) (ending f e.thread e.call) (threads_of roster) (λ v y is.
+          elim (ending_names f e.thread e.call v y (laws_of f e.thread e.call e.endings a) is) [
+            | inl own ↦ own_due roster past e.thread y l.1 own.names.thread
+            | inr other ↦ record {
+              known = subst (λ u. is_some (member_at roster u) ≡ true) (sym other.names.thread) (open_known roster past v other.names.waiting l.0 other.names.is);
+              may = rw (other.names.thread, ap is_some other.names.is) (or-true (eqb v e.thread));
+            }
+          ]))
+      | inr a ↦ subst (AllByRecursion (GoesToBlocked roster past e.thread)) (sym a.2) (own_due roster past e.thread _ l.1 refl, tt)
+    ]
+
+-- ---- who is blocked after an event
+
+pub some_receipt : (r : Option Received) (u : ℕ) (o : Option OpenCall) → is_some (after_receipt r u o) ≡ is_some o
+some_receipt None u o = refl
+some_receipt (Some r) u o = elim (is_thread r.sender u) as (λ b. is_some (cond b (option_map (held_call r.kept) o) o) ≡ is_some o) [ true ↦ some_map (held_call r.kept) o | false ↦ refl ]
+
+some_write : (f : Facts) (w : Option Written) (u : ℕ) (o : Option OpenCall) → is_some (after_write f w u o) ≡ is_some o
+some_write f None u o = refl
+some_write f (Some w) u o = elim (is_thread (sender f w.message) u) as (λ b. is_some (cond b (option_map (written_call w.offset w.bytes) o) o) ≡ is_some o) [ true ↦ some_map (written_call w.offset w.bytes) o | false ↦ refl ]
+
+some_unblock : (m : Option SentItem) (w : Option ℕ) (u : ℕ) (o : Option OpenCall) → is_some (after_unblock m w u o) ≡ is_some o
+some_unblock m None u o = refl
+some_unblock m (Some v) u o = elim (eqb u v && is_some m) as (λ b. is_some (cond b (option_map unblocked_call o) o) ≡ is_some o) [ true ↦ some_map unblocked_call o | false ↦ refl ]
+
+some_unless : (b : Bool) (o : Option OpenCall) → is_some (unless b o) ≡ cond b false (is_some o)
+some_unless true o = refl
+some_unless false o = refl
+
+-- the caller is blocked unless its call ended
+own_blocked : (f : Facts) (t : ℕ) (c : Call) → Passes f t c → is_some (unless (is_some (row_of f t c).own) (after_receipt (row_of f t c).receipt t (asks f.number c))) ≡ cond (is_some (row_of f t c).own) false true
+own_blocked f t c p =
+    elim (row_of f t c).own as (λ o. (row_of f t c).own ≡ o → is_some (unless (is_some o) (after_receipt (row_of f t c).receipt t (asks f.number c))) ≡ cond (is_some o) false true) [
+      | None ↦ λ e. some_receipt (row_of f t c).receipt t (asks f.number c) ∙ waits_or_ends f t c p e
+      | Some y ↦ λ e. refl
+    ] refl
+
+-- of another thread than the caller, or of the caller that wasn't blocked, after a refusal
+refused_blocked : (o : Option OpenCall) (own : Option OpenCall) (t u : ℕ) → (eqb u t ≡ true → o ≡ own) → is_some own ≡ false → is_some o ≡ cond (eqb t u || false) false (eqb u t || is_some o)
+refused_blocked o own t u same idle = elim (cases_Bool (eqb u t)) [
+  | inl e ↦ rw (sym (eqb-true u t e), eqb_same u) (ap is_some (same e) ∙ idle)
+  | inr e ↦ rw (e, ne_eqb t u (λ s. eqb-false u t e (sym s))) refl
+]
+
+accepted_blocked : (f : Facts) (t : ℕ) (c : Call) (u : ℕ) → Passes f t c → is_some (open_call_after f t c u) ≡ cond (is_some (ending f t c u)) false (eqb u t || is_some (f.open_call u))
+accepted_blocked f t c u p = elim (cases_Bool (eqb u t)) [
+  | inl e ↦ rw (e, eqb-true u t e) (own_blocked f t c p)
+  | inr e ↦ rw e (some_unless (is_some ((row_of f t c).ends u)) _ ∙ ap (λ b. cond (is_some ((row_of f t c).ends u)) false b)
+      (some_unblock (makes f t c) (unblocks c) u _ ∙ some_receipt (row_of f t c).receipt u _ ∙ some_write f (writes c) u (f.open_call u)))
+]
+
+-- no thread outside the roster is blocked
+stranger_free : (roster : List Member) (past : Trace) (u : ℕ) → IsLawful roster past → is_some (member_at roster u) ≡ false → is_some (open_call roster past u) ≡ false
+stranger_free roster past u l none =
+    elim (open_call roster past u) as (λ o. open_call roster past u ≡ o → is_some o ≡ false) [
+      | None ↦ λ is. refl
+      | Some o ↦ λ is. absurd (true≢false (sym (open_known roster past u o l is) ∙ none))
+    ] refl
+
+-- of a thread of the roster
+member_blocked : (roster : List Member) (past : Trace) (e : Event) → IsLawful roster (e ∷ past) → is_some (open_call roster past e.thread) ≡ false → (u : ℕ) → is_some (member_at roster u) ≡ true
+    → is_some (open_call roster (e ∷ past) u) ≡ cond (gets e.endings u) false (may_end roster past e.thread u)
+member_blocked roster past e l idle u member =
+    let f = facts_of roster past in
+    let t = e.thread in
+    let c = e.call in
+    elim (l.2) [
+      | inl a ↦
+          let got : gets e.endings u ≡ is_some (ending f t c u) = rw (a.1) (gets_by (ending f t c) (ending_thread f t c (laws_of f t c e.endings a)) (threads_of roster) u (known roster u member)) in
+          ap is_some (open_accepted roster past t c e.endings u l.0 l.1 a) ∙ accepted_blocked f t c u (passes_of f t c e.endings a) ∙ ap (λ b. cond b false (may_end roster past t u)) (sym got)
+      | inr a ↦ ap is_some (open_refused roster past t c e.endings u a) ∙ rw (a.2) (refused_blocked (open_call roster past u) (open_call roster past t) t u (λ s. ap (open_call roster past) (eqb-true u t s)) idle)
+    ]
+
+pub blocked_unless_ended : BlockedUnlessEnded
+blocked_unless_ended roster past e r l idle u = elim (cases_Bool (is_some (member_at roster u))) [
+  | inl member ↦ member_blocked roster past e l idle u member
+  | inr none ↦
+      let caller : eqb u e.thread ≡ false = ne_eqb u e.thread (λ s. true≢false (sym (subst (λ v. is_some (member_at roster v) ≡ true) (sym s) l.1) ∙ none)) in
+      let free : may_end roster past e.thread u ≡ false = rw caller (stranger_free roster past u l.0 none) in
+      stranger_free roster (e ∷ past) u l none ∙ sym (ap (cond (gets e.endings u) false) free ∙ cond_same (gets e.endings u) false)
+]
+
+-- ---- the event's own call
+
+pub caller_gets_its_own : CallerGetsItsOwn
+caller_gets_its_own roster past e r l =
+    let f = facts_of roster past in
+    let t = e.thread in
+    let c = e.call in
+    elim (l.2) [
+      | inl a ↦
+          let got : gets e.endings t ≡ is_some (ending f t c t) = rw (a.1) (gets_by (ending f t c) (ending_thread f t c (laws_of f t c e.endings a)) (threads_of roster) t (known roster t l.1)) in
+          got ∙ rw (eqb_same t) refl ∙ sym (ends_own roster past t c e.endings l.1 a)
+      | inr a ↦ rw (a.2, eqb_same t, eqb_same (length past + 1)) refl
+    ]
+
+-- a call that doesn't end in its own event is accepted, and may wait
+record Waits (e : Event) (past : Trace) : Type 0 where
+  pub accepted : is_accepted e past ≡ true
+  pub blocks : blocker e ≡ Some e.thread
+
+waits : (roster : List Member) (past : Trace) (e : Event) → IsLawful roster (e ∷ past) → has_ending_of e.endings (length past + 1) ≡ false → Waits e past
+waits roster past e l none =
+    let f = facts_of roster past in
+    elim (l.2) [
+      | inl a ↦
+          let own = none_of (row_of f e.thread e.call).own (sym (ends_own roster past e.thread e.call e.endings l.1 a) ∙ none) in
+          let may : is_some (asks 0 e.call) ≡ true = sym (asks_any (length past + 1) e.call) ∙ waits_or_ends f e.thread e.call (passes_of f e.thread e.call e.endings a) own in
+          record { accepted = rw (accepted roster past e.thread e.call e.endings a) refl; blocks = rw may refl }
+      | inr a ↦
+          let own : has_ending_of e.endings (length past + 1) ≡ true = rw (a.2, eqb_same (length past + 1)) refl in
+          absurd (true≢false (sym own ∙ none))
+    ]
+
+pub ends_or_waits : EndsOrWaits
+ends_or_waits roster past e r l = (
+  λ none.
+      let w = waits roster past e l none in
+      let going : is_ended (e ∷ past) (length past + 1) ≡ false = rw (none, ended_below roster past (length past + 1) l.0 (omega arith)) refl in
+      (open_is_unended roster (e ∷ past) r l e.thread (length past + 1)).1 (record { blocks = made_newest blocker e past w.accepted ∙ w.blocks; going = going }),
+  λ is.
+      let u = (open_is_unended roster (e ∷ past) r l e.thread (length past + 1)).0 is in
+      (or_parts (has_ending_of e.endings (length past + 1)) (is_ended past (length past + 1)) u.going).0,
+)

@@ -1,0 +1,132 @@
+-- A pending message has the priority that its sender has by now.
+use Rattle.std.proofs.Common.{◌≡◌, ◌∙◌, ℕ, ◌+◌, ◌≤◌, List, [], ◌∷◌, length, refl, ap, sym, subst, cond, true, false, eqb, inl, inr}
+use Rattle.std.specs.Prelude.{Option, None, Some, unwrap_or}
+use Rattle.std.specs.Option.{option_or}
+use Rattle.std.proofs.lemmas.Bool.{eqb-true, false_from_ne_true, or_parts, true≢false}
+use Rattle.std.proofs.lemmas.Option.{none-some, same_Some}
+use Rattle.qqueue.specs.Best.{is_pulse}
+use Rattle.qqueue.specs.declared.item.Item.{Item}
+use Rattle.qtables.specs.declared.connection.Connection.{Connection}
+use Rattle.qtables.specs.declared.member.Member.{Member}
+use Rattle.qrules.specs.Private.Answer.{Outcome}
+use Rattle.qrules.specs.Private.Calls.{row_of}
+use Rattle.qrules.specs.Private.Calls.Send.{item as message_of}
+use Rattle.qrules.specs.Private.Effects.{makes, sets, thread_of_send}
+use Rattle.qrules.specs.Private.Facts.{Facts, is_fixed, is_for_receipt}
+use Rattle.qrules.specs.Private.Laws.{PendingFollowsItsSender}
+use Rattle.qrules.specs.Private.Lawful.{IsLawful, facts_of}
+use Rattle.qrules.specs.Private.Past.{is_accepted, is_gone, is_taken, item_of, priority_of_thread, sender_of, current_priority}
+use Rattle.qrules.specs.Private.Rows.{Received, item_sent_over, priority_set_for}
+use Rattle.qmodel.specs.Trace.{SentItem}
+use Rattle.qrules.specs.Private.Step.{priority_taken}
+use Rattle.qmodel.specs.Trace.{Trace}
+use Rattle.qmodel.specs.declared.call.Call.{Call}
+use Rattle.qmodel.specs.declared.call.Call.TheVariants.{Send}
+use Rattle.qmodel.specs.declared.call.Completion.{Completion}
+use Rattle.qmodel.specs.declared.open_call.OpenCall.{OpenCall}
+use Rattle.qmodel.specs.declared.open_call.Wait.{Wait}
+use Rattle.qmodel.specs.declared.open_call.Wait.TheVariants.{Answer, Item as ForItem}
+use Rattle.qrules.proofs.Traces.Past.Cancels.{sent_by}
+use Rattle.qrules.proofs.Traces.Past.Ends.{laws_of, passes_of}
+use Rattle.qrules.proofs.Traces.Past.Items.{Stands, item_accepted, item_at, item_below, item_newest, pending_each, standing_is}
+use Rattle.qrules.proofs.Traces.Past.Pending.{stays_gone}
+use Rattle.qrules.proofs.Traces.Past.Priorities.{priority_accepted, priority_refused}
+use Rattle.qrules.proofs.Traces.Past.CurrentPriority.{refused_sets_none, worth_newest, worth_set, worth_stays}
+use Rattle.qrules.proofs.Traces.Properties.Events.{is_accepted_by, is_refused_by, outcome_of}
+use Rattle.qrules.proofs.Traces.Properties.Receipts.{TakesOne, takes_one, waits_for}
+
+-- a thread that takes nothing takes no priority
+none_taken : (f : Facts) (t : ℕ) (c : Call) (X : List Completion) (u : ℕ) → Outcome true f t c X → ((y : Completion) (i : ℕ) → TakesOne f t c u y i → ⊥) → priority_taken f (row_of f t c).receipt u ≡ None
+none_taken f t c X u a never = by (row_of f t c).receipt refl where
+  by : (o : Option Received) → (row_of f t c).receipt ≡ o → priority_taken f o u ≡ None
+  by None is = refl
+  by (Some r) is =
+      let k = (laws_of f t c X a).receives r is in
+      elim (eqb r.by u) as (λ b. eqb r.by u ≡ b → cond b (cond (is_fixed (f.channel r.channel)) None (Some r.kept.priority)) None ≡ None) [
+        | true ↦ λ same. absurd (never k.given r.item (subst (λ v. TakesOne f t c v k.given r.item) (eqb-true r.by u same) (takes_one f t c r.by k.given (r.item, r.kept.copied) (passes_of f t c X a).row k.is_given k.mark)))
+        | false ↦ λ other. refl
+      ] refl
+
+waits_for_none : (w : Wait) → is_for_receipt w ≡ true → waits_for w ≡ None
+waits_for_none (Answer coid message reply_buffer receipt) e = refl
+waits_for_none (ForItem chid kind buffer) e = absurd (true≢false (sym e))
+
+-- a thread that waits for the receipt of its message takes nothing
+sender_takes_none : (f : Facts) (t : ℕ) (c : Call) (u : ℕ) (o : OpenCall) → f.open_call t ≡ None → f.open_call u ≡ Some o → is_for_receipt o.wait ≡ true → (y : Completion) (i : ℕ) → TakesOne f t c u y i → ⊥
+sender_takes_none f t c u o idle is unread y i k = elim k [
+  | inl p ↦ none-some o (sym idle ∙ ap f.open_call (sym p.caller) ∙ is)
+  | inr m ↦ none-some _ (sym (waits_for_none o.wait unread) ∙ ap (λ (x : OpenCall). waits_for x.wait) (same_Some o m.waiting (sym is ∙ m.is_open)) ∙ m.waits)
+]
+
+-- a message has its sender's priority as it is sent
+pub record IsSentAs (f : Facts) (u : ℕ) (c : Call) (t : ℕ) (m : SentItem) : Type 0 where
+  pub same : u ≡ t
+  pub priority : m.item.priority ≡ f.priority u
+  pub none : sets c ≡ None
+
+sent_as : (f : Facts) (u : ℕ) (c : Call) (t : ℕ) (m : SentItem) → thread_of_send u c ≡ Some t → makes f u c ≡ Some m → IsSentAs f u c t m
+sent_as f u (Send coid message reply_buffer) t m s e = record { same = same_Some u t s; priority = over (f.connection coid) e; none = refl } where
+  over : (o : Option Connection) → item_sent_over o (message_of f u) ≡ Some m → m.item.priority ≡ f.priority u
+  over None none = absurd (none-some m none)
+  over (Some k) some = ap (λ (x : SentItem). x.item.priority) (sym (same_Some _ m some))
+sent_as f u c t m s e = absurd (none-some t s)
+
+or_none : (o : Option ℕ) (p : ℕ) → unwrap_or (option_or o None) p ≡ unwrap_or o p
+or_none None p = refl
+or_none (Some k) p = refl
+
+-- a message that isn't gone is worth what its sender's priority is
+is_senders : (roster : List Member) (past : Trace) → IsLawful roster past → (h : ℕ) (item : Item) (t : ℕ) → Stands roster past h item → is_gone past item ≡ false → is_pulse item.what ≡ false → sender_of past item.number ≡ Some t
+    → current_priority past item ≡ priority_of_thread roster past t
+is_senders roster [] l h item t at stays message sent = absurd (none-some t sent)
+is_senders roster (e ∷ past) l h item t at stays message sent =
+    let f = facts_of roster past in
+    elim (eqb item.number (length past + 1)) as (λ b. eqb item.number (length past + 1) ≡ b → current_priority (e ∷ past) item ≡ priority_of_thread roster (e ∷ past) t) [
+      | true ↦ λ same.
+          let number : item.number ≡ length past + 1 = eqb-true _ _ same in
+          let here : item_of roster e past ≡ Some (record { item = item; channel = h }) = sym (item_newest roster e past) ∙ ap (item_at roster (e ∷ past)) (sym number) ∙ at in
+          let k = item_accepted roster e past _ here in
+          let by : thread_of_send e.thread e.call ≡ Some t =
+          ap (λ b. cond b (thread_of_send e.thread e.call) None) (sym k.0) ∙ ap (λ b. cond b (cond (is_accepted e past) (thread_of_send e.thread e.call) None) (sender_of past item.number)) (sym same) ∙ sent in
+          let a : Outcome true (facts_of roster past) e.thread e.call e.endings = outcome_of roster e past l.2 k.0 in
+          let s = sent_as f e.thread e.call t _ by k.1 in
+          let taken : priority_taken (facts_of roster past) (row_of (facts_of roster past) e.thread e.call).receipt e.thread ≡ None =
+          none_taken (facts_of roster past) e.thread e.call e.endings e.thread a (λ y i x. elim x [
+            | inl p ↦ none-some _ (sym p.makes_none ∙ k.1)
+            | inr m ↦ none-some m.waiting (sym (passes_of (facts_of roster past) e.thread e.call e.endings a).idle ∙ m.is_open)
+          ]) in
+          worth_newest e past item number ∙ s.priority
+          ∙ ap (λ o. unwrap_or (option_or (priority_set_for o e.thread) None) (priority_of_thread roster past e.thread)) (sym s.none)
+          ∙ ap (λ o. unwrap_or (option_or (priority_set_for (sets e.call) e.thread) o) (priority_of_thread roster past e.thread)) (sym taken)
+          ∙ sym (priority_accepted roster past e.thread e.call e.endings e.thread l.0 l.1 a)
+          ∙ ap (priority_of_thread roster (e ∷ past)) s.same
+      | false ↦ λ other.
+          let before : item_at roster past item.number ≡ Some (record { item = item; channel = h }) = ap (λ b. cond b (item_of roster e past) (item_at roster past item.number)) (sym other) ∙ at in
+          let by : sender_of past item.number ≡ Some t = ap (λ b. cond b (cond (is_accepted e past) (thread_of_send e.thread e.call) None) (sender_of past item.number)) (sym other) ∙ sent in
+          let going : is_gone past item ≡ false = false_from_ne_true _ (λ gone. true≢false (sym (stays_gone past e.thread e.call e.endings item gone) ∙ stays)) in
+          let below : item.number ≤ length past = item_below roster past item.number _ before in
+          let unread : is_taken past item.number ≡ false = (or_parts _ _ going).0 in
+          let earlier : current_priority past item ≡ priority_of_thread roster past t = is_senders roster past l.0 h item t before going message by in
+          let s = sent_by roster past h item l.0 (standing_is roster past h item before going) message in
+          let sender : s.sender ≡ t = same_Some s.sender t (sym s.sent ∙ by) in
+          elim (l.2) as (λ _. current_priority (e ∷ past) item ≡ priority_of_thread roster (e ∷ past) t) [
+            | inl a ↦
+                let taken : priority_taken (facts_of roster past) (row_of (facts_of roster past) e.thread e.call).receipt t ≡ None =
+                none_taken (facts_of roster past) e.thread e.call e.endings t a
+                (sender_takes_none (facts_of roster past) e.thread e.call t s.waiting (passes_of (facts_of roster past) e.thread e.call e.endings a).idle (ap (λ v. (facts_of roster past).open_call v) (sym sender) ∙ s.is_open) s.unread) in
+                worth_set e past item t below message unread by
+                ∙ ap (λ b. unwrap_or (cond b (priority_set_for (sets e.call) t) None) (current_priority past item)) (is_accepted_by roster e past a)
+                ∙ ap (unwrap_or (priority_set_for (sets e.call) t)) earlier
+                ∙ sym (or_none (priority_set_for (sets e.call) t) (priority_of_thread roster past t))
+                ∙ ap (λ o. unwrap_or (option_or (priority_set_for (sets e.call) t) o) (priority_of_thread roster past t)) (sym taken)
+                ∙ sym (priority_accepted roster past e.thread e.call e.endings t l.0 l.1 a)
+            | inr a ↦
+                worth_stays e past item below (refused_sets_none e past item.number (is_refused_by roster e past a)) ∙ earlier
+                ∙ sym (priority_refused roster past e.thread e.call e.endings t a)
+          ]
+    ] refl
+
+pub pending_follows_its_sender : PendingFollowsItsSender
+pending_follows_its_sender roster past r l h =
+    pending_each (λ item. is_pulse item.what ≡ false → (t : ℕ) → sender_of past item.number ≡ Some t → item.priority ≡ priority_of_thread roster past t) roster past h
+    (λ item at stays. λ message t sent. is_senders roster past l h item t at stays message sent)

@@ -1,0 +1,109 @@
+-- Whose calls end, in which order, and what ends after a channel is destroyed or the kernel is shut down.
+use Rattle.std.proofs.Common.{◌≡◌, ◌∙◌, ℕ, ◌+◌, ◌<◌, ◌≤◌, List, [], ◌∷◌, length, refl, ap, sym, subst, arith, eqb, true, false, inl, inr}
+use Rattle.std.specs.Prelude.{Option, None, Some}
+use Rattle.std.specs.List.{AllByRecursion, cons_option, filter_map}
+use Rattle.std.proofs.lemmas.Bool.{ne_eqb, true≢false}
+use Rattle.std.proofs.lemmas.Option.{none-some, same_Some}
+use Rattle.qbase.specs.declared.errno.Errno.{Errno}
+use Rattle.qbase.specs.declared.errno.Errno.TheVariants.{Down}
+use Rattle.qrules.specs.Private.Answer.{ending, refusal_ending, refusal, MayRefuse}
+use Rattle.qrules.specs.Private.Facts.{Facts, threads_of}
+use Rattle.qrules.specs.Private.Laws.{EndingsNameOwnCalls, EndingsRiseByThread, NothingFromDestroyed, OnlyRefusedWhenDown, RiseByThread, thread_at}
+use Rattle.qrules.specs.Private.Lawful.{facts_of}
+use Rattle.qrules.specs.Private.Past.{newest_block}
+use Rattle.qmodel.specs.Trace.{Event, Trace}
+use Rattle.qmodel.specs.declared.call.Call.{Call}
+use Rattle.qmodel.specs.declared.call.Completion.{Completion}
+use Rattle.qmodel.specs.declared.open_call.OpenCall.{OpenCall}
+use Rattle.qrules.proofs.Traces.Past.Ends.{ending_names, laws_of, passes_of}
+use Rattle.qrules.proofs.Traces.Past.Laws.{RowLaws}
+use Rattle.qrules.proofs.Traces.Rosters.{Rises, rises}
+use Rattle.qbase.proofs.Lists.{all_filter_map, eqb_same}
+use Rattle.qrules.proofs.Traces.Past.Numbers.{block_below, open_parts}
+use Rattle.qrules.proofs.Traces.Properties.Sends.{begins_now}
+use Rattle.qrules.proofs.Traces.Properties.ShutForGood.{shut_for_good}
+
+pub nothing_from_destroyed : NothingFromDestroyed
+nothing_from_destroyed roster past e r l h closed = ((shut_for_good roster (e ∷ past) r l).0 h closed).0
+
+-- ---- after a Shutdown
+
+down_refusal : (f : Facts) (t : ℕ) (c : Call) (e : Errno) → f.down ≡ true → MayRefuse f t c e → e ≡ Down
+down_refusal f t c e down may =
+    let first : refusal f t c ≡ Some Down = rw down refl in
+    elim may [
+      | inl is ↦ sym (same_Some Down e (sym first ∙ is))
+      | inr none ↦ absurd (none-some Down (sym none.0 ∙ first))
+    ]
+
+pub only_refused_when_down : OnlyRefusedWhenDown
+only_refused_when_down roster past e r l down = elim (l.2) [
+  | inl a ↦ absurd (true≢false (sym down ∙ (passes_of (facts_of roster past) e.thread e.call e.endings a).up))
+  | inr a ↦ a.2 ∙ ap (λ errno. refusal_ending (facts_of roster past) e.thread e.call errno ∷ []) (down_refusal (facts_of roster past) e.thread e.call a.0 down a.1)
+]
+
+-- ---- in rising thread number
+
+-- what is given to threads above n is of threads above n
+given_above : (g : ℕ → Option Completion) (n : ℕ) (ts : List ℕ) → ((u : ℕ) (y : Completion) → g u ≡ Some y → y.thread ≡ u) → AllByRecursion (λ u. n < u) ts → AllByRecursion (λ y. n < y.thread) (filter_map g ts)
+given_above g n [] names above = tt
+given_above g n (u ∷ ts) names above =
+    elim (g u) as (λ o. g u ≡ o → AllByRecursion (λ y. n < y.thread) (cons_option o (filter_map g ts))) [
+      | None ↦ λ is. given_above g n ts names above.1
+      | Some y ↦ λ is. (subst (λ k. n < k) (sym (names u y is)) above.0, given_above g n ts names above.1)
+    ] refl
+
+given_rise : (g : ℕ → Option Completion) (ts : List ℕ) → ((u : ℕ) (y : Completion) → g u ≡ Some y → y.thread ≡ u) → Rises ts → RiseByThread (filter_map g ts)
+given_rise g [] names r = tt
+given_rise g (u ∷ ts) names r =
+    elim (g u) as (λ o. g u ≡ o → RiseByThread (cons_option o (filter_map g ts))) [
+      | None ↦ λ is. given_rise g ts names r.1
+      | Some y ↦ λ is. (subst (λ k. AllByRecursion (λ (z : Completion). k < z.thread) (filter_map g ts)) (sym (names u y is)) (given_above g u ts names r.0), given_rise g ts names r.1)
+    ] refl
+
+-- an accepted call's endings go to the threads that get them
+pub ending_thread : (f : Facts) (t : ℕ) (c : Call) → RowLaws f t c → (u : ℕ) (y : Completion) → ending f t c u ≡ Some y → y.thread ≡ u
+ending_thread f t c laws u y e = elim (ending_names f t c u y laws e) [
+  | inl own ↦ own.names.thread ∙ sym own.thread
+  | inr other ↦ other.names.thread
+]
+
+pub endings_rise_by_thread : EndingsRiseByThread
+endings_rise_by_thread roster past e r l =
+    let f = facts_of roster past in
+    elim (l.2) [
+      | inl a ↦ subst RiseByThread (sym a.1) (given_rise (ending f e.thread e.call) (threads_of roster) (ending_thread f e.thread e.call (laws_of f e.thread e.call e.endings a)) (rises roster r))
+      | inr a ↦ subst RiseByThread (sym a.2) (tt, tt)
+    ]
+
+-- ---- whose calls end
+
+thread_newest : (e : Event) (past : Trace) → thread_at (e ∷ past) (length past + 1) ≡ Some e.thread
+thread_newest e past = rw (eqb_same (length past + 1)) refl
+
+thread_earlier : (e : Event) (past : Trace) (i : ℕ) → i ≤ length past → thread_at (e ∷ past) i ≡ thread_at past i
+thread_earlier e past i l = let other : eqb i (length past + 1) ≡ false = ne_eqb _ _ (λ same. omega arith) in rw other refl
+
+-- a call that waits is one of its thread
+block_of_thread : (past : Trace) (u : ℕ) (b : OpenCall) → newest_block past u ≡ Some b → thread_at past b.number ≡ Some u
+block_of_thread [] u b is = absurd (none-some b is)
+block_of_thread (e ∷ past) u b is = elim (begins_now e past u b is) [
+  | inl h ↦ subst (λ i. thread_at (e ∷ past) i ≡ Some u) (sym h.number) (thread_newest e past ∙ ap Some h.thread)
+  | inr h ↦ thread_earlier e past b.number (block_below past u b h) ∙ block_of_thread past u b h
+]
+
+pub endings_name_own_calls : EndingsNameOwnCalls
+endings_name_own_calls roster past e r l =
+    let f = facts_of roster past in
+    let P = λ (x : Completion). thread_at (e ∷ past) x.call ≡ Some x.thread in
+    elim (l.2) [
+      | inl a ↦ subst (AllByRecursion P) (sym a.1) (all_filter_map P (ending f e.thread e.call) (threads_of roster) (λ v y is.
+          elim (ending_names f e.thread e.call v y (laws_of f e.thread e.call e.endings a) is) [
+            | inl own ↦ ap (thread_at (e ∷ past)) own.names.call ∙ thread_newest e past ∙ ap Some (sym own.names.thread)
+            | inr other ↦
+                let k = open_parts roster past v other.names.waiting other.names.is in
+                let number : y.call ≡ k.block.number = other.names.call ∙ k.number in
+                ap (thread_at (e ∷ past)) number ∙ thread_earlier e past k.block.number (block_below past v k.block k.is) ∙ block_of_thread past v k.block k.is ∙ ap Some (sym other.names.thread)
+          ]))
+      | inr a ↦ subst (AllByRecursion P) (sym a.2) (thread_newest e past, tt)
+    ]

@@ -1,0 +1,150 @@
+-- A message is held by what the past says exactly where it is by what its sender waits for.
+use Rattle.std.proofs.Common.{◌≡◌, ◌∙◌, ◌+◌, ℕ, List, [], ◌∷◌, length, refl, ap, sym, subst, cond, eqb, true, false}
+use Rattle.std.specs.Prelude.{Option, None, Some, is_some, not, Bool}
+use Rattle.std.specs.List.{AllByRecursion}
+use Rattle.std.specs.Option.{option_map, option_or}
+use Rattle.std.proofs.lemmas.Bool.{and_from, and_parts, eqb-true, not-true, not_from_false, or_parts, true≢false}
+use Rattle.std.proofs.lemmas.Option.{none-some, same_Some}
+use Rattle.qtables.specs.Members.{IsRoster}
+use Rattle.qtables.specs.declared.member.Member.{Member}
+use Rattle.qrules.specs.Private.Calls.{row_of}
+use Rattle.qrules.specs.Private.Facts.{is_for_answer, is_send, sender, threads_of}
+use Rattle.qrules.specs.Private.Headline.AnsweredToSender.{is_held}
+use Rattle.qrules.specs.Private.Headline.BestFirst.{TakesBest}
+use Rattle.qrules.specs.Private.Headline.ReceivedOnce.{item_received}
+use Rattle.qrules.specs.Private.Laws.{HeldIsHeldSend, IsHeldSend, blocker, is_for_reply}
+use Rattle.qrules.specs.Private.Lawful.{IsLawful, facts_of}
+use Rattle.qrules.specs.Private.Past.{copied_count_in, has_ending_of, call_by_now, wait_with_receipt, is_ended, is_taken, item_of, made_at, open_call, priority_of_item, copied_count_among, copied_count_of, with_receipt}
+use Rattle.qrules.specs.Private.Effects.{asks}
+use Rattle.qrules.specs.Private.Rows.{item_in_mark}
+use Rattle.qmodel.specs.Trace.{SentItem}
+use Rattle.qmodel.specs.Trace.{Trace}
+use Rattle.qmodel.specs.declared.call.Completion.{Completion}
+use Rattle.qmodel.specs.declared.open_call.OpenCall.{OpenCall}
+use Rattle.qmodel.specs.declared.open_call.Receipt.{Receipt}
+use Rattle.qmodel.specs.declared.open_call.Wait.{Wait}
+use Rattle.qmodel.specs.declared.open_call.Wait.TheVariants.{Answer, Item as ForItem}
+use Rattle.qrules.proofs.Traces.Past.Ends.{ends_own, open_known, passes_of}
+use Rattle.qrules.proofs.Traces.Past.Items.{item_accepted, item_answer, item_at, item_below, item_earlier}
+use Rattle.qrules.proofs.Traces.Past.Numbers.{filled_answer, open_from, open_parts, is_unblocked, open_thread, receipt_number}
+use Rattle.qrules.proofs.Traces.Past.Senders.{send_from, send_parts, sender_found, sender_sends}
+use Rattle.qrules.proofs.Traces.Past.Unblocked.{held_is_taken}
+use Rattle.qrules.proofs.Traces.Past.Waits.{waits_or_ends}
+use Rattle.qrules.proofs.Traces.Properties.BestFirst.{best_first}
+use Rattle.qrules.proofs.Traces.Properties.Events.{outcome_of}
+use Rattle.qrules.proofs.Traces.Properties.Sends.{made_newest, made_stays}
+use Rattle.qrules.proofs.Traces.Rosters.{known}
+use Rattle.qrules.proofs.Traces.TraceLaws.Pending.{reply_parts}
+use Rattle.qrules.proofs.Traces.TraceLaws.Sent.{taken_stands}
+use Rattle.qrules.proofs.Traces.TraceLaws.Unended.{asks_any, unended_newest}
+
+-- ---- what is taken was made
+
+-- what is so of each item that these endings receive is so of this one
+of_received : (P : ℕ → Type 0) (X : List Completion) (i copied : ℕ) → AllByRecursion (λ x. (j : ℕ) → item_received x ≡ Some j → P j) X → copied_count_among X i ≡ Some copied → P i
+of_received P [] i copied all e = absurd (none-some copied e)
+of_received P (x ∷ X) i copied all e =
+    elim (item_in_mark x.mark) as (λ o. item_in_mark x.mark ≡ o → option_or (copied_count_in i o) (copied_count_among X i) ≡ Some copied → P i) [
+      | None ↦ λ is s. of_received P X i copied all.1 s
+      | Some r ↦ λ is s.
+          elim (eqb r.0 i) as (λ b. eqb r.0 i ≡ b → option_or (cond b (Some r.1) None) (copied_count_among X i) ≡ Some copied → P i) [
+            | true ↦ λ same _. subst P (eqb-true r.0 i same) (all.0 r.0 (ap (option_map (λ (q : ℕ × ℕ). q.0)) is))
+            | false ↦ λ other s. of_received P X i copied all.1 s
+          ] refl s
+    ] refl e
+
+taken_made : (roster : List Member) (past : Trace) (i : ℕ) → IsRoster roster → IsLawful roster past → is_taken past i ≡ true → (m : SentItem) × (item_at roster past i ≡ Some m)
+taken_made roster [] i r l e = absurd (true≢false (sym e))
+taken_made roster (e ∷ past) i r l taken =
+    elim (copied_count_among e.endings i) as (λ o. copied_count_among e.endings i ≡ o → is_some (option_or o (copied_count_of past i)) ≡ true → (m : SentItem) × (item_at roster (e ∷ past) i ≡ Some m)) [
+      | None ↦ λ none s. let k = taken_made roster past i r l.0 s in (k.0, item_earlier roster e past i (item_below roster past i k.0 k.1) ∙ k.1)
+      | Some copied ↦ λ some s.
+          of_received (λ j. (m : SentItem) × (item_at roster (e ∷ past) j ≡ Some m)) e.endings i copied
+          (all_of e.endings (best_first roster (e ∷ past) r l).0) some
+    ] refl taken
+  where
+    all_of : (X : List Completion) → AllByRecursion (λ x. (j : ℕ) → item_received x ≡ Some j → TakesBest roster past e x j) X
+        → AllByRecursion (λ x. (j : ℕ) → item_received x ≡ Some j → (m : SentItem) × (item_at roster (e ∷ past) j ≡ Some m)) X
+    all_of [] all = tt
+    all_of (x ∷ X) all = (λ j is. let s = taken_stands roster past e x j (all.0 j is) in (s.0, s.1), all_of X all.1)
+
+-- ---- the call that made it, if it isn't ended, is what its thread waits in
+
+no_own : (o : Option Completion) → is_some o ≡ false → o ≡ None
+no_own None h = refl
+no_own (Some y) h = absurd (true≢false h)
+
+made_waits : (roster : List Member) (past : Trace) (i : ℕ) (m : SentItem) → IsLawful roster past → item_at roster past i ≡ Some m → is_ended past i ≡ false → (t : ℕ) × (made_at blocker past i ≡ Some t)
+made_waits roster [] i m l is going = absurd (none-some m is)
+made_waits roster (e ∷ past) i m l is going =
+    let p = or_parts (has_ending_of e.endings i) (is_ended past i) going in
+    elim (eqb i (length past + 1)) as (λ b. eqb i (length past + 1) ≡ b → cond b (item_of roster e past) (item_at roster past i) ≡ Some m → (t : ℕ) × (made_at blocker (e ∷ past) i ≡ Some t)) [
+      | true ↦ λ same at. let number : i ≡ length past + 1 = eqb-true _ _ same in now number at (subst (λ j. has_ending_of e.endings j ≡ false) number p.0)
+      | false ↦ λ other at. let k = made_waits roster past i m l.0 at p.1 in (k.0, made_stays blocker e past i k.0 k.1)
+    ] refl is
+  where
+    now : i ≡ length past + 1 → item_of roster e past ≡ Some m → has_ending_of e.endings (length past + 1) ≡ false → (t : ℕ) × (made_at blocker (e ∷ past) i ≡ Some t)
+    now number at unended =
+        let f = facts_of roster past in
+        let a = item_accepted roster e past m at in
+        let o = outcome_of roster e past l.2 a.0 in
+        let none : (row_of f e.thread e.call).own ≡ None = no_own ((row_of f e.thread e.call).own) (sym (ends_own roster past e.thread e.call e.endings l.1 o) ∙ unended) in
+        let waits : is_some (asks 0 e.call) ≡ true = sym (asks_any (length past + 1) e.call) ∙ waits_or_ends f e.thread e.call (passes_of f e.thread e.call e.endings o) none in
+        (e.thread, subst (λ j. made_at blocker (e ∷ past) j ≡ Some e.thread) (sym number) (made_newest blocker e past a.0 ∙ rw waits refl))
+
+-- ---- a receipt
+
+held_for_reply : (receipt : Receipt) (w : Wait) → is_for_answer w ≡ true → is_for_reply (wait_with_receipt receipt w) ≡ true
+held_for_reply receipt (Answer coid message reply_buffer before) answer = refl
+held_for_reply receipt (ForItem chid kind buffer) answer = absurd (true≢false (sym answer))
+
+received_for_reply : (priority : ℕ) (unblocked : Bool) (r : Option ℕ) (b : OpenCall) → is_some r ≡ true → is_for_answer b.wait ≡ true → is_for_reply (with_receipt priority unblocked r b).wait ≡ true
+received_for_reply priority unblocked None b there answer = absurd (true≢false (sym there))
+received_for_reply priority unblocked (Some copied) b there answer = held_for_reply (record { priority = priority; copied = copied; unblocked = unblocked }) b.wait answer
+
+-- ---- the law
+
+-- an open call of a number that waits for an answer is found as the Send of that number
+found_sender : (roster : List Member) (past : Trace) (i u : ℕ) (o : OpenCall) → IsLawful roster past → open_call roster past u ≡ Some o → o.number ≡ i → is_for_answer o.wait ≡ true → sender (facts_of roster past) i ≡ Some u
+found_sender roster past i u o l is number answer =
+    sender_found (λ t. open_call roster past t) i (threads_of roster) u (known roster u (open_known roster past u o l is)) (ap (is_send i) is ∙ send_from i o number answer)
+    (λ v sends.
+    let s = send_parts i (open_call roster past v) sends in
+    open_thread roster past v u s.waiting o s.is is (s.number ∙ sym number))
+
+held_to_send : (roster : List Member) (past : Trace) (i : ℕ) → IsRoster roster → IsLawful roster past → is_held past i ≡ true → IsHeldSend roster past i
+held_to_send roster past i r l held =
+    let p = and_parts (is_taken past i) (not (is_ended past i)) held in
+    let going : is_ended past i ≡ false = not-true (is_ended past i) p.1 in
+    let m = taken_made roster past i r l p.0 in
+    let t = made_waits roster past i m.0 l m.1 going in
+    let k = unended_newest roster past t.0 i l t.1 going in
+    let made : item_at roster past k.block.number ≡ Some m.0 = ap (item_at roster past) k.number ∙ m.1 in
+    let answer = item_answer roster past t.0 m.0 k.block made k.is in
+    let n = k.block.number in
+    let waiting = with_receipt (priority_of_item roster past n) (is_unblocked roster past n) (copied_count_of past n) (call_by_now past k.block) in
+    let is_open : open_call roster past t.0 ≡ Some waiting = open_from roster past t.0 k.block k.is (subst (λ j. is_ended past j ≡ false) (sym k.number) going) in
+    let number : waiting.number ≡ i = receipt_number (priority_of_item roster past n) (is_unblocked roster past n) (copied_count_of past n) (call_by_now past k.block) ∙ k.number in
+    let reply : is_for_reply waiting.wait ≡ true = received_for_reply (priority_of_item roster past n) (is_unblocked roster past n) (copied_count_of past n) (call_by_now past k.block)
+    (subst (λ j. is_taken past j ≡ true) (sym k.number) p.0) (filled_answer past k.block ∙ answer) in
+    record {
+      thread = t.0;
+      waiting = waiting;
+      is_sender = found_sender roster past i t.0 waiting l is_open number (reply_parts waiting.wait reply).0;
+      is_open = is_open;
+      received = reply;
+    }
+
+send_to_held : (roster : List Member) (past : Trace) (i : ℕ) → IsHeldSend roster past i → is_held past i ≡ true
+send_to_held roster past i h =
+    let s = sender_sends (λ t. open_call roster past t) i (threads_of roster) h.thread h.is_sender in
+    let same : s.waiting ≡ h.waiting = same_Some s.waiting h.waiting (sym s.is ∙ h.is_open) in
+    let number : h.waiting.number ≡ i = ap (λ (o : OpenCall). o.number) (sym same) ∙ s.number in
+    let k = open_parts roster past h.thread h.waiting h.is_open in
+    let w = reply_parts h.waiting.wait h.received in
+    let at : k.block.number ≡ i = sym k.number ∙ number in
+    and_from (is_taken past i) (not (is_ended past i)) (subst (λ j. is_taken past j ≡ true) at (held_is_taken roster past h.thread h.waiting k w.0 w.1))
+    (not_from_false (is_ended past i) (subst (λ j. is_ended past j ≡ false) at k.going))
+
+pub held_is_held_send : HeldIsHeldSend
+held_is_held_send roster past r l i = (held_to_send roster past i r l, send_to_held roster past i)

@@ -1,0 +1,160 @@
+-- What comes before another is received first.
+use Rattle.std.proofs.Common.{◌≡◌, ◌≢◌, ◌∙◌, ℕ, ◌+◌, ◌≤◌, List, [], ◌∷◌, ◌++◌, map, length, refl, ap, sym, subst, cond, arith, Bool, true, false, eqb}
+use Rattle.std.specs.Prelude.{Some, filter, not}
+use Rattle.std.specs.List.{AllByRecursion}
+use Rattle.std.specs.Option.{option_map}
+use Rattle.std.proofs.lemmas.Bool.{true≢false}
+use Rattle.std.proofs.lemmas.Bool.Decides.{nat_tests}
+use Rattle.std.proofs.lemmas.List.Elements.{recursion_from_All}
+use Rattle.std.proofs.lemmas.Option.{none-some, same_Some, some_pair_parts}
+use Rattle.qqueue.specs.Best.{best_of, is_pulse, may_take}
+use Rattle.qqueue.specs.Order.{comes_before}
+use Rattle.qqueue.specs.declared.item.Item.{Item}
+use Rattle.qqueue.specs.declared.item.Kind.{Kind}
+use Rattle.qqueue.specs.declared.item.Kind.TheVariants.{Any, PulseOnly}
+use Rattle.qqueue.proofs.OrderLaws.{best-at, best_is_first}
+use Rattle.qtables.specs.declared.member.Member.{Member}
+use Rattle.qrules.specs.Private.Effects.{receives_on}
+use Rattle.qrules.specs.Private.Headline.BestFirst.{TakesBest, takeable}
+use Rattle.qrules.specs.Private.Headline.ReceivedOnce.{item_received}
+use Rattle.qrules.specs.Private.Laws.{FirstGoesFirst, HasPriority, TakesBeside}
+use Rattle.qrules.specs.Private.Past.{is_closed, is_gone, item_of, made_on, pending_items, priority_before}
+use Rattle.qmodel.specs.Trace.{SentItem}
+use Rattle.qmodel.specs.Trace.{Event, Trace}
+use Rattle.qmodel.specs.declared.call.Completion.{Completion}
+use Rattle.qbase.proofs.Lists.{all_more, eqb_same}
+use Rattle.qrules.proofs.Traces.Past.Best.{some_number}
+use Rattle.qrules.proofs.Traces.Past.Items.{IsPending, before_earlier, item_at, item_below, item_earlier, item_made, item_priority, items_on, made_by, pending_all, pending_is, staying}
+use Rattle.qrules.proofs.Traces.Past.Pending.{items_more, made_all}
+use Rattle.qrules.proofs.Traces.Past.Rising.{takeable_rises}
+use Rattle.qrules.proofs.Traces.Past.CurrentPriority.{now}
+use Rattle.qrules.proofs.Traces.Properties.BestFirst.{best_first}
+use Rattle.qrules.proofs.Traces.Properties.Connections.{takeable_priorities}
+
+-- ---- lists
+
+all_parts : (P : Item → Type 0) (xs ys : List Item) → AllByRecursion P (xs ++ ys) → AllByRecursion P xs × AllByRecursion P ys
+all_parts P [] ys all = (tt, all)
+all_parts P (x ∷ xs) ys all = let rest = all_parts P xs ys all.1 in ((all.0, rest.0), rest.1)
+
+all_unmap : (P : Item → Type 0) (g : Item → Item) (xs : List Item) → AllByRecursion P (map g xs) → AllByRecursion (λ x. P (g x)) xs
+all_unmap P g [] all = tt
+all_unmap P g (x ∷ xs) all = (all.0, all_unmap P g xs all.1)
+
+all_unfilter : (P : Item → Type 0) (p : Item → Bool) (xs : List Item) → AllByRecursion P (filter p xs) → AllByRecursion (λ x. p x ≡ true → P x) xs
+all_unfilter P p [] all = tt
+all_unfilter P p (x ∷ xs) all =
+    elim (p x) as (λ b. p x ≡ b → AllByRecursion P (cond b (x ∷ filter p xs) (filter p xs)) → AllByRecursion (λ x. p x ≡ true → P x) (x ∷ xs)) [
+      | true ↦ λ passes all. (λ _. all.0, all_unfilter P p xs all.1)
+      | false ↦ λ fails all. (λ passes. absurd (true≢false (sym passes ∙ fails)), all_unfilter P p xs all)
+    ] refl all
+
+-- ---- what was made for a channel is among its items
+
+standing_each : (P : Item → Type 0) (roster : List Member) (past : Trace) (h i : ℕ) (item : Item) → item_at roster past i ≡ Some (record { item = item; channel = h }) → AllByRecursion P (items_on roster past h) → P item
+standing_each P roster [] h i item at all = absurd (none-some _ at)
+standing_each P roster (e ∷ past) h i item at all =
+    let parts = all_parts P (items_on roster past h) (made_on h (item_of roster e past)) (subst (AllByRecursion P) (items_more roster e past h) all) in
+    elim (eqb i (length past + 1)) as (λ b. cond b (item_of roster e past) (item_at roster past i) ≡ Some (record { item = item; channel = h }) → P item) [
+      | true ↦ λ made.
+          let there : made_on h (item_of roster e past) ≡ item ∷ [] = ap (made_on h) made ∙ rw (eqb_same h) refl in
+          let one : AllByRecursion P (item ∷ []) = subst (AllByRecursion P) there parts.1 in
+          one.0
+      | false ↦ λ before. standing_each P roster past h i item before parts.0
+    ] at
+
+-- an earlier item is the same in a longer trace
+item_later : (roster : List Member) (past later : Trace) (i : ℕ) (m : SentItem) → item_at roster past i ≡ Some m → item_at roster (later ++ past) i ≡ Some m
+item_later roster past [] i m at = at
+item_later roster past (e ∷ later) i m at =
+    let before = item_later roster past later i m at in
+    item_earlier roster e (later ++ past) i (item_below roster (later ++ past) i m before) ∙ before
+
+-- ---- two items
+
+-- neither comes before the other where they are one, nor both
+differ : (x y w v : Item) → w.number ≡ y.number → w.priority ≡ y.priority → v.number ≡ x.number → v.priority ≡ x.priority → comes_before x y ≡ true → v.number ≡ w.number → v.priority ≡ w.priority → ⊥
+differ x y w v wn wp vn vp before sn sp = grind (arith, nat_tests)
+
+never_both : (x y w v : Item) → w.number ≡ y.number → w.priority ≡ y.priority → v.number ≡ x.number → v.priority ≡ x.priority → comes_before x y ≡ true → comes_before w v ≡ true → ⊥
+never_both x y w v wn wp vn vp before after = grind (arith, nat_tests)
+
+module _ (roster : List Member) (past : Trace) (e : Event) (h : ℕ) (kind : Kind) (b : Item) (best : best_of kind (takeable roster past e h) ≡ Some b) where
+  -- each that may be taken is behind the one that is
+  behind : AllByRecursion (λ v. may_take kind v ≡ true → v ≢ b → comes_before b v ≡ true) (takeable roster past e h)
+  behind = recursion_from_All (λ v. may_take kind v ≡ true → v ≢ b → comes_before b v ≡ true) (takeable roster past e h) (best_is_first kind (takeable roster past e h) b (takeable_rises roster e past h) best).first
+
+  -- it has the priority that its number had
+  was_priority : priority_before roster e past b.number ≡ b.priority
+  was_priority = best-at (λ (v : Item). priority_before roster e past v.number ≡ v.priority) kind (takeable roster past e h) b (takeable_priorities roster past e h) best
+
+  -- the channel isn't destroyed, where it was made before the event
+  standing : b.number ≤ length past → is_closed past h ≡ false
+  standing below = elim (is_closed past h) as (λ d. is_closed past h ≡ d → d ≡ false) [
+    | false ↦ λ _. refl
+    | true ↦ λ closed.
+        let nothing : pending_items roster past h ≡ [] = pending_is roster past h ∙ ap (λ d. cond d [] (map (now past) (staying roster past h))) closed in
+        let none : takeable roster past e h ≡ made_on h (item_of roster e past) = ap (λ l. l ++ made_on h (item_of roster e past)) nothing in
+        let number : b.number ≡ length past + 1 =
+        best-at (λ (v : Item). v.number ≡ length past + 1) kind (made_on h (item_of roster e past)) b (made_all (λ v. v.number ≡ length past + 1) h (item_of roster e past) (λ m is on. (made_by roster e past m is).number))
+        (ap (best_of kind) (sym none) ∙ best) in
+        absurd (omega (arith, number, below))
+  ] refl
+
+  -- an item that was made for the channel and isn't gone is behind it
+  behind_one : (i : ℕ) (first : Item) → item_at roster past i ≡ Some (record { item = first; channel = h }) → is_gone past first ≡ false → is_closed past h ≡ false
+      → may_take kind first ≡ true → now past first ≢ b → comes_before b (now past first) ≡ true
+  behind_one i first at stays open_still may other =
+      let P = λ (v : Item). may_take kind v ≡ true → v ≢ b → comes_before b v ≡ true in
+      let waiting : AllByRecursion P (pending_items roster past h) = (all_parts P (pending_items roster past h) (made_on h (item_of roster e past)) behind).0 in
+      let as_now : AllByRecursion P (map (now past) (staying roster past h)) = subst (AllByRecursion P) (pending_is roster past h ∙ ap (λ d. cond d [] (map (now past) (staying roster past h))) open_still) waiting in
+      let each = all_unfilter (λ x. P (now past x)) (λ item. not (is_gone past item)) (items_on roster past h) (all_unmap P (now past) (staying roster past h) as_now) in
+      standing_each (λ x. not (is_gone past x) ≡ true → P (now past x)) roster past h i first at each (ap not stays) (same_kind kind past first ∙ may) other
+    where
+      same_kind : (kind : Kind) (past : Trace) (x : Item) → may_take kind (now past x) ≡ may_take kind x
+      same_kind Any past x = refl
+      same_kind PulseOnly past x = refl
+
+-- what is taken beside an item that comes before it
+gone_first : (roster : List Member) (past later : Trace) (e : Event) (h : ℕ) (x y : Item) (z : Completion) → IsPending roster past h x → IsPending roster past h y → comes_before x y ≡ true
+    → HasPriority roster (later ++ past) x → HasPriority roster (later ++ past) y → TakesBest roster (later ++ past) e z y.number → TakesBeside (e ∷ later ++ past) z y.number h x → is_gone (later ++ past) x ≡ true
+gone_first roster past later e h x y z px py before has_x has_y b t =
+    let L = later ++ past in
+    let same = some_pair_parts b.channel h b.kind t.kind (sym b.receives ∙ ap receives_on (same_Some b.call t.call (sym b.is_call ∙ t.is_call)) ∙ t.receives) in
+    let best = subst (λ k. option_map (λ (item : Item). item.number) (best_of k (takeable roster L e h)) ≡ Some y.number) same.1 (subst (λ c. option_map (λ (item : Item). item.number) (best_of b.kind (takeable roster L e c)) ≡ Some y.number) same.0 b.best) in
+    let w = some_number (best_of t.kind (takeable roster L e h)) y.number best in
+    let at : item_at roster L x.number ≡ Some (record { item = px.first; channel = h }) = item_later roster past later x.number _ px.made in
+    let y_at : item_at roster L y.number ≡ Some (record { item = py.first; channel = h }) = item_later roster past later y.number _ py.made in
+    let number : px.first.number ≡ x.number = (item_made roster L x.number _ at).makes_it.number in
+    let below : y.number ≤ length L = item_below roster L y.number _ y_at in
+    let w_priority : w.0.priority ≡ y.priority = sym (was_priority roster L e h t.kind w.0 w.1) ∙ ap (priority_before roster e L) w.2 ∙ before_earlier roster e L y.number below ∙ has_y in
+    let v = now L px.first in
+    let v_priority : v.priority ≡ x.priority = sym (item_priority roster L x.number _ at) ∙ has_x in
+    let may : may_take t.kind px.first ≡ true = kind_of t.kind px.first x px.what ∙ t.may in
+    let as_first : is_gone L px.first ≡ is_gone L x = gone_of L px.first x number px.what in
+    elim (is_gone L x) as (λ d. is_gone L x ≡ d → d ≡ true) [
+      | true ↦ λ _. refl
+      | false ↦ λ stays.
+          let open_still = standing roster L e h t.kind w.0 w.1 (let b_below : w.0.number ≤ length L = omega (arith, w.2, below) in b_below) in
+          let after = behind_one roster L e h t.kind w.0 w.1 x.number px.first at (as_first ∙ stays) open_still may
+          (λ one. differ x y w.0 v w.2 w_priority number v_priority before (ap (λ (i : Item). i.number) one) (ap (λ (i : Item). i.priority) one)) in
+          absurd (never_both x y w.0 v w.2 w_priority number v_priority before after)
+    ] refl
+  where
+    kind_of : (kind : Kind) (a c : Item) → a.what ≡ c.what → may_take kind a ≡ may_take kind c
+    kind_of Any a c same = refl
+    kind_of PulseOnly a c same = ap is_pulse same
+
+    gone_of : (past : Trace) (a c : Item) → a.number ≡ c.number → a.what ≡ c.what → is_gone past a ≡ is_gone past c
+    gone_of past a c number what =
+        ap (λ n. is_gone past (record { number = n; priority = a.priority; what = a.what })) number ∙ ap (λ w. is_gone past (record { number = c.number; priority = a.priority; what = w })) what
+
+pub first_goes_first : FirstGoesFirst
+first_goes_first roster past later e r l h =
+    let L = later ++ past in
+    all_more (IsPending roster past h) (λ x. AllByRecursion (λ y. comes_before x y ≡ true → HasPriority roster L x → HasPriority roster L y
+    → AllByRecursion (λ z. TakesBeside (e ∷ L) z y.number h x → is_gone L x ≡ true) e.endings) (pending_items roster past h)) (pending_items roster past h) (pending_all roster past h) (λ x px.
+    all_more (IsPending roster past h) (λ y. comes_before x y ≡ true → HasPriority roster L x → HasPriority roster L y
+    → AllByRecursion (λ z. TakesBeside (e ∷ L) z y.number h x → is_gone L x ≡ true) e.endings) (pending_items roster past h) (pending_all roster past h) (λ y py before has_x has_y.
+    all_more (λ z. (i : ℕ) → item_received z ≡ Some i → TakesBest roster L e z i) (λ z. TakesBeside (e ∷ L) z y.number h x → is_gone L x ≡ true) e.endings (best_first roster (e ∷ L) r l).0 (λ z best t.
+    gone_first roster past later e h x y z px py before has_x has_y (best y.number t.item) t)))

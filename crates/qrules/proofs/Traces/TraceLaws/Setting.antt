@@ -1,0 +1,71 @@
+-- What an accepted PrioritySet changes of what is pending.
+use Rattle.std.proofs.Common.{◌≡◌, ℕ, List, [], ◌∷◌, ◌++◌, refl, ap, sym, ◌∙◌, cond, true, false, eqb}
+use Rattle.std.specs.Prelude.{Some, filter, not, ◌&&◌}
+use Rattle.std.proofs.lemmas.Bool.{eqb-true, eq-eqb}
+use Rattle.std.proofs.lemmas.List.{append-nil}
+use Rattle.std.proofs.lemmas.Option.{none-some}
+use Rattle.qqueue.specs.Best.{is_pulse, with_priority}
+use Rattle.qqueue.specs.declared.item.Item.{Item}
+use Rattle.qtables.specs.declared.member.Member.{Member}
+use Rattle.qrules.specs.Private.Answer.{Outcome}
+use Rattle.qrules.specs.Private.Lawful.{IsLawful, facts_of}
+use Rattle.qrules.specs.Private.Laws.{OthersKeepTheirOrder, SettingMovesItsOwn, is_message_of, others_than, with_messages_at}
+use Rattle.qrules.specs.Private.Past.{connection_at, open_call, pending_items, sender_of}
+use Rattle.qrules.specs.Private.Rows.{Setting, names}
+use Rattle.qrules.specs.Private.Step.{items_with_priority_set, pending_after, is_unread_send}
+use Rattle.qmodel.specs.Trace.{Trace}
+use Rattle.qmodel.specs.declared.call.Call.TheVariants.{PrioritySet}
+use Rattle.qbase.proofs.Lists.{all_more, eqb_either}
+use Rattle.qrules.proofs.Traces.Past.Cancels.{none_cancelled, pulse_unread, sent_by, unread_elsewhere}
+use Rattle.qrules.proofs.Traces.Past.Follows.{past_follows}
+use Rattle.qrules.proofs.Traces.Past.Items.{IsPending, pending_all}
+use Rattle.qrules.proofs.Traces.Past.Moves.{mover, map_same}
+use Rattle.qrules.proofs.Traces.Properties.Events.{outcome_of}
+
+-- a pending item is what thread v waits with to be received exactly where it is a message of that thread
+unread_of : (roster : List Member) (past : Trace) (h : ℕ) (item : Item) (v : ℕ) → IsLawful roster past → IsPending roster past h item
+    → is_unread_send (λ k. connection_at roster past k) h item.number (open_call roster past v) ≡ is_message_of past v item
+unread_of roster past h item v l p =
+    elim (is_pulse item.what) as (λ b. is_pulse item.what ≡ b → is_unread_send (λ k. connection_at roster past k) h item.number (open_call roster past v) ≡ (not b && names (sender_of past item.number) v)) [
+      | true ↦ λ pulse. pulse_unread roster past h item v p pulse
+      | false ↦ λ message.
+          let s = sent_by roster past h item l p message in
+          rw (s.sent) (
+          elim (eqb s.sender v) as (λ b. eqb s.sender v ≡ b → is_unread_send (λ k. connection_at roster past k) h item.number (open_call roster past v) ≡ b) [
+            | true ↦ λ same.
+                ap (λ u. is_unread_send (λ k. connection_at roster past k) h item.number (open_call roster past u)) (sym (eqb-true s.sender v same))
+                ∙ rw (s.is_open, eq-eqb _ _ s.number, s.unread, s.on) refl
+            | false ↦ λ other. unread_elsewhere roster past h item.number s.sender s.waiting v s.is_open s.number (eqb_either v s.sender ∙ other)
+          ] refl)
+    ] refl
+
+-- by the facts
+moves_own : (roster : List Member) (past : Trace) (t : ℕ) (u priority h : ℕ) → IsLawful roster past → pending_after (facts_of roster past) t (PrioritySet u priority) h ≡ with_messages_at past u priority (pending_items roster past h)
+moves_own roster past t u priority h l =
+    let f = facts_of roster past in
+    let s : Setting = record { thread = u; priority = priority } in
+    ap (items_with_priority_set f h (Some s)) (none_cancelled f t (PrioritySet u priority) (λ v y e. absurd (none-some y e)) h (pending_items roster past h ++ []) ∙ append-nil (pending_items roster past h))
+    ∙ map_same (mover f h s) (λ item. cond (is_message_of past u item) (with_priority priority item) item) (pending_items roster past h)
+    (all_more (IsPending roster past h) (λ item. mover f h s item ≡ cond (is_message_of past u item) (with_priority priority item) item) (pending_items roster past h) (pending_all roster past h)
+    (λ item p. ap (λ b. cond b (with_priority priority item) item) (unread_of roster past h item u l p)))
+
+pub setting_moves_its_own : SettingMovesItsOwn
+setting_moves_its_own roster past e r l accepted t priority is h =
+    let a : Outcome true (facts_of roster past) e.thread e.call e.endings = outcome_of roster e past l.2 accepted in
+    (past_follows true roster past e.thread e.call e.endings r l.0 l.1 a).pending h
+    ∙ ap (λ c. pending_after (facts_of roster past) e.thread c h) is
+    ∙ moves_own roster past e.thread t priority h l.0
+
+-- a message is its thread's whatever its priority
+others_same : (past : Trace) (t priority : ℕ) (items : List Item) → others_than past t (with_messages_at past t priority items) ≡ others_than past t items
+others_same past t priority [] = refl
+others_same past t priority (x ∷ items) =
+    elim (is_message_of past t x) as (λ b. is_message_of past t x ≡ b → filter (λ item. not (is_message_of past t item)) (cond b (with_priority priority x) x ∷ with_messages_at past t priority items)
+    ≡ cond (not b) (x ∷ others_than past t items) (others_than past t items)) [
+      | true ↦ λ own. rw own (others_same past t priority items)
+      | false ↦ λ other. rw other (ap (λ l. x ∷ l) (others_same past t priority items))
+    ] refl
+
+pub others_keep_their_order : OthersKeepTheirOrder
+others_keep_their_order roster past e r l accepted t priority is h =
+    ap (others_than past t) (setting_moves_its_own roster past e r l accepted t priority is h) ∙ others_same past t priority (pending_items roster past h)

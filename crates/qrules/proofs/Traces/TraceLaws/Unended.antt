@@ -1,0 +1,117 @@
+-- A call that may wait and isn't ended is the open call of its thread.
+use Rattle.std.proofs.Common.{◌≡◌, ℕ, ◌+◌, List, [], ◌∷◌, length, refl, ap, sym, subst, ◌∙◌, cond, true, false, eqb, inl, inr}
+use Rattle.std.specs.Prelude.{Option, None, Some, is_some}
+use Rattle.std.specs.Option.{option_map}
+use Rattle.std.proofs.lemmas.Bool.{eqb-true, or_parts, true≢false}
+use Rattle.std.proofs.lemmas.Option.{none-some, same_Some}
+use Rattle.qtables.specs.declared.member.Member.{Member}
+use Rattle.qrules.specs.Private.Laws.{blocker, IsUnended, AtMostOneOpen, OpenIsUnended}
+use Rattle.qrules.specs.Private.Lawful.{IsLawful}
+use Rattle.qrules.specs.Private.Past.{call_by_now, has_ending_of, is_accepted, is_ended, made_at, newest_block, open_call, priority_of_item, copied_count_of}
+use Rattle.qrules.specs.Private.Effects.{asks}
+use Rattle.qmodel.specs.Trace.{Event, Trace}
+use Rattle.qmodel.specs.declared.call.Call.{Call}
+use Rattle.qmodel.specs.declared.call.Call.TheVariants.{Send}
+use Rattle.qmodel.specs.declared.open_call.OpenCall.{OpenCall}
+use Rattle.qbase.proofs.Lists.{eqb_same}
+use Rattle.qrules.proofs.Traces.Past.Numbers.{open_from, open_parts, receipt_number, is_unblocked}
+use Rattle.qrules.proofs.Traces.Calls.{call_laws}
+use Rattle.qrules.proofs.Traces.Properties.Messages.{block_stays}
+use Rattle.qrules.proofs.Traces.Properties.Sends.{begins_now, made_newest, made_stays}
+
+-- whether a call may wait is no matter of its number
+pub asks_any : (n : ℕ) (c : Call) → is_some (asks n c) ≡ is_some (asks 0 c)
+asks_any n (Send coid message reply_buffer) = refl
+asks_any n c = refl
+
+-- ---- a call that begins to wait
+
+-- the event is accepted, and a call of thread t that may wait
+record Begins (e : Event) (past : Trace) (t : ℕ) : Type 0 where
+  pub accepted : is_accepted e past ≡ true
+  pub thread : e.thread ≡ t
+  pub block : OpenCall
+  pub asked : asks (length past + 1) e.call ≡ Some block
+
+may_wait : (e : Event) (t : ℕ) → blocker e ≡ Some t → (is_some (asks 0 e.call) ≡ true) × (e.thread ≡ t)
+may_wait e t is =
+    elim (is_some (asks 0 e.call)) as (λ b. cond b (Some e.thread) None ≡ Some t → (b ≡ true) × (e.thread ≡ t)) [
+      | true ↦ λ at. (refl, same_Some e.thread t at)
+      | false ↦ λ at. absurd (none-some t at)
+    ] is
+
+some_block : (o : Option OpenCall) → is_some o ≡ true → (b : OpenCall) × (o ≡ Some b)
+some_block None e = absurd (true≢false (sym e))
+some_block (Some b) e = (b, refl)
+
+begins : (e : Event) (past : Trace) (t : ℕ) → cond (is_accepted e past) (blocker e) None ≡ Some t → Begins e past t
+begins e past t is =
+    elim (is_accepted e past) as (λ b. is_accepted e past ≡ b → cond b (blocker e) None ≡ Some t → Begins e past t) [
+      | true ↦ λ accepted at.
+          let m = may_wait e t at in
+          let b = some_block (asks (length past + 1) e.call) (asks_any (length past + 1) e.call ∙ m.0) in
+          record { accepted = accepted; thread = m.1; block = b.0; asked = b.1 }
+      | false ↦ λ refused at. absurd (none-some t at)
+    ] refl is
+
+begun_newest : (e : Event) (past : Trace) (t : ℕ) (k : Begins e past t) → newest_block (e ∷ past) t ≡ Some k.block
+begun_newest e past t k = subst (λ u. newest_block (e ∷ past) u ≡ Some k.block) k.thread (rw (eqb_same e.thread, k.accepted, k.asked) refl)
+
+-- ---- the newest blocking call
+
+-- call i is the newest blocking call of thread t
+pub record IsBlock (past : Trace) (t i : ℕ) : Type 0 where
+  pub block : OpenCall
+  pub is : newest_block past t ≡ Some block
+  pub number : block.number ≡ i
+
+pub unended_newest : (roster : List Member) (past : Trace) (t i : ℕ) → IsLawful roster past → made_at blocker past i ≡ Some t → is_ended past i ≡ false → IsBlock past t i
+unended_newest roster [] t i l is going = absurd (none-some t is)
+unended_newest roster (e ∷ past) t i l is going =
+    elim (eqb i (length past + 1)) as (λ b. eqb i (length past + 1) ≡ b → cond b (cond (is_accepted e past) (blocker e) None) (made_at blocker past i) ≡ Some t → IsBlock (e ∷ past) t i) [
+      | true ↦ λ same at.
+          let k = begins e past t at in
+          record { block = k.block; is = begun_newest e past t k; number = ((call_laws e.call).asks_one (length past + 1) k.block k.asked).number ∙ sym (eqb-true _ _ same) }
+      | false ↦ λ other at.
+          let before : is_ended past i ≡ false = (or_parts (has_ending_of e.endings i) (is_ended past i) going).1 in
+          let k = unended_newest roster past t i l.0 at before in
+          record { block = k.block; is = block_stays roster e past t k.block l k.is (subst (λ j. is_ended past j ≡ false) (sym k.number) before); number = k.number }
+    ] refl is
+
+-- it is an accepted call of its thread that may wait
+block_began : (past : Trace) (u : ℕ) (b : OpenCall) → newest_block past u ≡ Some b → made_at blocker past b.number ≡ Some u
+block_began [] u b is = absurd (none-some b is)
+block_began (e ∷ past) u b is = elim (begins_now e past u b is) [
+  | inl h ↦
+      let waits : is_some (asks 0 e.call) ≡ true = sym (asks_any (length past + 1) e.call) ∙ ap is_some h.asked in
+      let blocks : blocker e ≡ Some u = rw (waits, h.thread) refl in
+      subst (λ i. made_at blocker (e ∷ past) i ≡ Some u) (sym h.number) (made_newest blocker e past h.accepted ∙ blocks)
+  | inr h ↦ made_stays blocker e past b.number u (block_began past u b h)
+]
+
+-- ---- the laws
+
+pub at_most_one_open : AtMostOneOpen
+at_most_one_open roster past r l t i j first second =
+    let k = unended_newest roster past t i l first.blocks first.going in
+    let m = unended_newest roster past t j l second.blocks second.going in
+    sym k.number ∙ ap (λ b. b.number) (same_Some k.block m.block (sym k.is ∙ m.is)) ∙ m.number
+
+unended_open : (roster : List Member) (past : Trace) (t i : ℕ) → option_map (λ o. o.number) (open_call roster past t) ≡ Some i → IsUnended past t i
+unended_open roster past t i is =
+    elim (open_call roster past t) as (λ o. open_call roster past t ≡ o → option_map (λ o. o.number) o ≡ Some i → IsUnended past t i) [
+      | None ↦ λ e at. absurd (none-some i at)
+      | Some o ↦ λ e at.
+          let k = open_parts roster past t o e in
+          let number : k.block.number ≡ i = sym k.number ∙ same_Some o.number i at in
+          record { blocks = subst (λ j. made_at blocker past j ≡ Some t) number (block_began past t k.block k.is); going = subst (λ j. is_ended past j ≡ false) number k.going }
+    ] refl is
+
+open_unended : (roster : List Member) (past : Trace) (t i : ℕ) → IsLawful roster past → IsUnended past t i → option_map (λ o. o.number) (open_call roster past t) ≡ Some i
+open_unended roster past t i l u =
+    let k = unended_newest roster past t i l u.blocks u.going in
+    ap (option_map (λ (o : OpenCall). o.number)) (open_from roster past t k.block k.is (subst (λ j. is_ended past j ≡ false) (sym k.number) u.going))
+    ∙ ap (λ n. Some n) (receipt_number (priority_of_item roster past k.block.number) (is_unblocked roster past k.block.number) (copied_count_of past k.block.number) (call_by_now past k.block) ∙ k.number)
+
+pub open_is_unended : OpenIsUnended
+open_is_unended roster past r l t i = (unended_open roster past t i, open_unended roster past t i l)

@@ -1,0 +1,92 @@
+-- The effects of each call.
+use Rattle.std.specs.Prelude.{ℕ, ℤ, Bool, List, [], Option, unwrap_or}
+use Rattle.std.specs.Option.{option_map, option_and_then}
+use Rattle.qqueue.specs.declared.item.Kind.{Kind}
+use Rattle.qtables.specs.declared.connection.Connection.{Connection}
+use Rattle.qtables.specs.declared.member.Member.{Member}
+use Rattle.qmodel.specs.declared.call.Call.{Call}
+use Rattle.qmodel.specs.declared.open_call.OpenCall.{OpenCall}
+use Rattle.qmodel.specs.Trace.{CallNo, ChannelId, ConnectionId, ReceiveId, ThreadNo}
+use Rattle.qrules.specs.Private.Calls.{effect_of}
+use Rattle.qrules.specs.Private.Facts.{Facts}
+use Rattle.qmodel.specs.Trace.{OpenChannel}
+use Rattle.qrules.specs.Private.Rows.{Setting, Written}
+use Rattle.qmodel.specs.Trace.{SentItem}
+
+-- ---- waiting
+
+-- the open call that a call leaves if it doesn't end in its own event
+abbrev pub asks : CallNo → Call → Option OpenCall
+asks n c = option_map (λ wait. record { number = n; wait = wait }) (effect_of c).waits
+
+-- ---- channels and connections
+
+-- the channel that a call creates: of its thread's process, with the flags that it names
+abbrev pub creates : Option Member → Call → Option OpenChannel
+creates member c =
+    option_and_then (λ m. option_map (λ flags. record { owner = m.process; flags = flags })
+    (effect_of c).creates) member
+
+-- the channel that a call destroys
+abbrev pub closes : Call → Option ChannelId
+closes c = (effect_of c).closes
+
+-- the connection that a call attaches: of its thread's process, to the channel that it names
+abbrev pub attaches : Option Member → Call → Option Connection
+attaches member c =
+    option_and_then (λ m. option_map (λ h. record { process = m.process; channel = h })
+    (effect_of c).attaches) member
+
+-- the connection that a call detaches
+abbrev pub detaches : Call → Option ConnectionId
+detaches c = (effect_of c).detaches
+
+-- the call shuts the kernel down
+abbrev pub shuts_down : Call → Bool
+shuts_down c = (effect_of c).shuts_down
+
+-- ---- items
+
+-- the item that a call of thread t makes, given the facts before it
+abbrev pub makes : Facts → ThreadNo → Call → Option SentItem
+makes f t c = (effect_of c).makes f t
+
+-- the connection that a call sends over
+abbrev pub sends_over : Call → Option ConnectionId
+sends_over c = (effect_of c).sends_over
+
+-- the thread, if the call is a Send
+abbrev pub thread_of_send : ThreadNo → Call → Option ThreadNo
+thread_of_send t c = option_map (λ message. t) (effect_of c).sends
+
+-- the bytes of a message that is sent
+abbrev pub message_sent : Call → List ℕ
+message_sent c = unwrap_or (effect_of c).sends []
+
+-- the channel that a call receives on, and the kind of items that it may take
+abbrev pub receives_on : Call → Option (ChannelId × Kind)
+receives_on c = (effect_of c).receives_on
+
+-- ---- answers, and what is written
+
+-- the message that a call answers
+abbrev pub answered_by : Call → Option ReceiveId
+answered_by c = (effect_of c).answers
+
+-- the status and the bytes that a call answers with
+abbrev pub replies_with : Call → Option (ℤ × List ℕ)
+replies_with c = (effect_of c).replies
+
+-- what a call writes
+abbrev pub writes : Call → Option Written
+writes c = (effect_of c).writes
+
+-- ---- threads
+
+-- the priority that a call sets
+abbrev pub sets : Call → Option Setting
+sets c = (effect_of c).sets
+
+-- the thread that a call unblocks
+abbrev pub unblocks : Call → Option ThreadNo
+unblocks c = (effect_of c).unblocks

@@ -1,0 +1,31 @@
+-- Lawful traces: each event's endings answer the events before it.
+use Rattle.std.specs.Prelude.{is_some, IsTrue, List, [], ◌∷◌}
+use Rattle.qtables.specs.Members.{member_at}
+use Rattle.qtables.specs.declared.member.Member.{Member}
+use Rattle.qmodel.specs.declared.call.Call.{Call}
+use Rattle.qmodel.specs.declared.call.Completion.{Completion}
+use Rattle.qmodel.specs.Trace.{ThreadNo}
+use Rattle.qrules.specs.Private.Answer.{Answers}
+use Rattle.qrules.specs.Private.Facts.{Facts}
+use Rattle.qrules.specs.Private.Past.{facts_by, knowledge_of}
+use Rattle.qmodel.specs.Trace.{Event, Trace}
+
+-- the facts that a row may read, searched for in the past
+abbrev pub facts_of : List Member → Trace → Facts
+facts_of roster past = facts_by roster past (knowledge_of roster past)
+
+-- each event is a call of a thread of the roster, and its endings answer the events before it
+abbrev pub IsLawful : List Member → Trace → Type 0
+IsLawful roster [] = Unit {0}
+IsLawful roster (e ∷ past) =
+    IsLawful roster past × IsTrue (is_some (member_at roster e.thread))
+    × Answers (facts_of roster past) e.thread e.call e.endings
+
+-- the past followed by these events, which are given with the oldest first
+abbrev pub followed_by : Trace → List Event → Trace
+followed_by past [] = past
+followed_by past (e ∷ events) = followed_by (e ∷ past) events
+
+-- the past with one more event
+abbrev pub with_event : ThreadNo → Call → List Completion → Trace → Trace
+with_event t c endings past = record { thread = t; call = c; endings = endings } ∷ past

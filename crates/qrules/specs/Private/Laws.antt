@@ -1,0 +1,324 @@
+-- Laws of all lawful traces that say what the definitions of the past mean.
+use Rattle.std.specs.Prelude.{◌≡◌, ◌↔◌, ℕ, ◌+◌, ◌<◌, ◌≤◌, ◌==◌, ◌&&◌, Bool, true, false, is_some, filter}
+use Rattle.std.specs.Prelude.{length, List, [], ◌∷◌, ◌++◌, map, not, Option, None, Some, if◌then◌else◌}
+use Rattle.std.specs.List.{AllByRecursion, list_any}
+use Rattle.std.specs.Option.{option_map}
+use Rattle.qbase.specs.declared.errno.Errno.TheVariants.{Down}
+use Rattle.qqueue.specs.Best.{is_pulse, may_take, with_priority}
+use Rattle.qqueue.specs.Contents.{IsRising}
+use Rattle.qqueue.specs.Order.{comes_before}
+use Rattle.qqueue.specs.declared.item.Item.{Item}
+use Rattle.qqueue.specs.declared.item.Kind.{Kind}
+use Rattle.qtables.specs.Members.{IsRoster}
+use Rattle.qtables.specs.declared.connection.Connection.{Connection}
+use Rattle.qtables.specs.declared.member.Member.{Member}
+use Rattle.qmodel.specs.declared.call.Call.{Call}
+use Rattle.qmodel.specs.declared.call.Call.TheVariants.{PrioritySet}
+use Rattle.qmodel.specs.declared.call.Completion.{Completion}
+use Rattle.qmodel.specs.declared.call.Mark.TheVariants as mark
+use Rattle.qmodel.specs.declared.open_call.OpenCall.{OpenCall}
+use Rattle.qmodel.specs.declared.open_call.Receipt.{Receipt}
+use Rattle.qmodel.specs.declared.open_call.Wait.{Wait}
+use Rattle.qmodel.specs.declared.open_call.Wait.TheVariants.{Answer, Item as ForItem}
+use Rattle.qmodel.specs.Trace.{CallNo, ChannelId, ConnectionId, Priority, ReceiveId, ThreadNo}
+use Rattle.qmodel.specs.Buffers.{buffer_of}
+use Rattle.qrules.specs.Private.Effects.{asks, receives_on}
+use Rattle.qrules.specs.Private.Facts.{Facts, is_for_receipt, sender}
+use Rattle.qrules.specs.Private.Headline.AnsweredToSender.{is_held}
+use Rattle.qrules.specs.Private.Headline.CopiedExactly.{call_at}
+use Rattle.qrules.specs.Private.Headline.ReceivedOnce.{item_received}
+use Rattle.qrules.specs.Private.Headline.SentOrder.{connection_of}
+use Rattle.qrules.specs.Private.Headline.ShutForGood.{NoneReceivedFrom}
+use Rattle.qrules.specs.Private.Lawful.{IsLawful, facts_of}
+use Rattle.qrules.specs.Private.Pulses.{pulses_among}
+use Rattle.qrules.specs.Private.Past.{attached_connection, channel_at, connection_at, made_at, is_accepted}
+use Rattle.qrules.specs.Private.Past.{is_closed}
+use Rattle.qrules.specs.Private.Past.{is_down, is_ended, is_gone, items, open_call, pending_items}
+use Rattle.qrules.specs.Private.Past.{priority_of_item}
+use Rattle.qrules.specs.Private.Past.{priority_of_thread, sender_of}
+use Rattle.qrules.specs.Private.Receivers.{newest_receiver, wait_on}
+use Rattle.qrules.specs.Private.Rows.{names}
+use Rattle.qmodel.specs.Trace.{Event, Trace}
+
+-- ---- receipts
+
+-- connection k was attached to channel h
+pub record LeadsTo (roster : List Member) (past : Trace) (k : ConnectionId) (h : ChannelId) : Type 0 where
+  pub connection : Connection
+  pub is : attached_connection roster past k ≡ Some connection
+  pub channel : connection.channel ≡ h
+
+-- an item of number i was made on channel h
+abbrev pub is_made_on : List Member → Trace → CallNo → ChannelId → Bool
+is_made_on roster past i h = list_any (λ m. (m.item.number == i) && (m.channel == h)) (items roster past)
+
+-- item i, which the ending receives, was made by then, on the channel on which the ended call receives; if it
+-- was sent over a connection, that leads to this channel
+pub record WasSent (roster : List Member) (past : Trace) (x : Completion) (i : CallNo) : Type 0 where
+  pub call : Call
+  pub channel : ChannelId
+  pub kind : Kind
+  pub is_call : call_at past x.call ≡ Some call
+  pub receives : receives_on call ≡ Some (channel, kind)
+  pub made : is_made_on roster past i channel ≡ true
+  pub sent : (k : ConnectionId) → connection_of past i ≡ Some k → LeadsTo roster past k channel
+
+-- each item that the newest event of a lawful trace receives was made in this way, by an earlier event or by
+-- this one
+abbrev pub ReceivedWasSent : Type 0
+ReceivedWasSent = (roster : List Member) (past : Trace) (e : Event) → IsRoster roster
+    → IsLawful roster (e ∷ past)
+    → AllByRecursion (λ x. (i : CallNo) → item_received x ≡ Some i → WasSent roster (e ∷ past) x i) e.endings
+
+-- ---- open calls
+
+-- the thread of an event, if its call may wait
+abbrev pub blocker : Event → Option ThreadNo
+blocker e = if is_some (asks 0 e.call) then Some e.thread else None
+
+-- call i is one of thread t that was accepted, may wait and isn't ended
+pub record IsUnended (past : Trace) (t : ThreadNo) (i : CallNo) : Type 0 where
+  pub blocks : made_at blocker past i ≡ Some t
+  pub going : is_ended past i ≡ false
+
+-- a thread has at most one such call
+abbrev pub AtMostOneOpen : Type 0
+AtMostOneOpen = (roster : List Member) (past : Trace) → IsRoster roster → IsLawful roster past
+    → (t : ThreadNo) (i j : CallNo) → IsUnended past t i → IsUnended past t j → i ≡ j
+
+-- and this call is its open call
+abbrev pub OpenIsUnended : Type 0
+OpenIsUnended = (roster : List Member) (past : Trace) → IsRoster roster → IsLawful roster past
+    → (t : ThreadNo) (i : CallNo) → (option_map (λ o. o.number) (open_call roster past t) ≡ Some i)
+    ↔ IsUnended past t i
+
+-- connection k is live, and its channel open
+pub record IsLiveWay (roster : List Member) (past : Trace) (k : ConnectionId) : Type 0 where
+  pub connection : Connection
+  pub is_live : connection_at roster past k ≡ Some connection
+  pub is_open : is_some (channel_at roster past connection.channel) ≡ true
+
+-- the connection of each open Send is live, and its channel open
+abbrev pub OpenSendsAreLive : Type 0
+OpenSendsAreLive = (roster : List Member) (past : Trace) → IsRoster roster → IsLawful roster past
+    → (u : ThreadNo) (n : CallNo) (coid : ConnectionId) (message reply_buffer : List ℕ)
+    (receipt : Option Receipt)
+    → open_call roster past u ≡ Some (record { number = n; wait = Answer coid message reply_buffer receipt })
+    → IsLiveWay roster past coid
+
+-- ---- receivers
+
+-- thread u waits for such an item, and no thread waits for one in a later call
+pub record IsLastWait (f : Facts) (h : ChannelId) (item : Item) (u : ThreadNo) : Type 0 where
+  pub number : CallNo
+  pub waits : wait_on h item (f.open_call u) ≡ Some number
+  pub greatest : (v : ThreadNo) (n : CallNo) → wait_on h item (f.open_call v) ≡ Some n → n ≤ number
+
+-- the newest receiver of an item is the thread whose call has the greatest number of all calls that may take
+-- it
+abbrev pub NewestIsGreatest : Type 0
+NewestIsGreatest = (roster : List Member) (past : Trace) → IsRoster roster → IsLawful roster past
+    → (h : ChannelId) (u : ThreadNo) (item : Item) → newest_receiver (facts_of roster past) h item ≡ Some u
+    → IsLastWait (facts_of roster past) h item u
+
+-- there is no newest receiver exactly if no thread waits that may take the item
+abbrev pub NoneIsNewest : Type 0
+NoneIsNewest = (roster : List Member) (past : Trace) → IsRoster roster → IsLawful roster past
+    → (h : ChannelId) (item : Item) → (newest_receiver (facts_of roster past) h item ≡ None)
+    ↔ ((u : ThreadNo) → wait_on h item (open_call roster past u) ≡ None)
+
+-- no item is pending on a channel that a thread which waits there may take
+abbrev pub NothingPendingForWaiting : Type 0
+NothingPendingForWaiting = (roster : List Member) (past : Trace) → IsRoster roster → IsLawful roster past
+    → (u : ThreadNo) (n : CallNo) (h : ChannelId) (kind : Kind) (buffer : List ℕ)
+    → open_call roster past u ≡ Some (record { number = n; wait = ForItem h kind buffer })
+    → AllByRecursion (λ item. may_take kind item ≡ false) (pending_items roster past h)
+
+-- ---- pending items
+
+-- a wait for the answer to a message that is received
+abbrev pub is_for_reply : Wait → Bool
+is_for_reply (Answer coid message reply_buffer None) = false
+is_for_reply (Answer coid message reply_buffer (Some receipt)) = true
+is_for_reply (ForItem chid kind buffer) = false
+
+-- the items of a channel are pending in rising number
+abbrev pub PendingRises : Type 0
+PendingRises = (roster : List Member) (past : Trace) → IsRoster roster → IsLawful roster past
+    → (h : ChannelId) → IsRising (pending_items roster past h)
+
+-- item i isn't a message that is received and not answered, neither by the past nor by the open calls
+pub record IsNotHeld (roster : List Member) (past : Trace) (i : CallNo) : Type 0 where
+  pub unread : is_held past i ≡ false
+  pub unkept : (u : ThreadNo) (o : OpenCall) → open_call roster past u ≡ Some o → is_for_reply o.wait ≡ true
+      → (o.number == i) ≡ false
+
+-- no item is both pending and held
+abbrev pub NonePendingIsHeld : Type 0
+NonePendingIsHeld = (roster : List Member) (past : Trace) → IsRoster roster → IsLawful roster past
+    → (h : ChannelId) → AllByRecursion (λ item. IsNotHeld roster past item.number)
+    (pending_items roster past h)
+
+-- the Send of number i is what its sender is blocked in, and not received
+pub record IsOpenSend (roster : List Member) (past : Trace) (i : ReceiveId) : Type 0 where
+  pub sender : ThreadNo
+  pub waiting : OpenCall
+  pub sent : sender_of past i ≡ Some sender
+  pub is_open : open_call roster past sender ≡ Some waiting
+  pub number : waiting.number ≡ i
+  pub unread : is_for_receipt waiting.wait ≡ true
+
+-- the Send of each pending message is the open call of its sender
+abbrev pub PendingIsOpen : Type 0
+PendingIsOpen = (roster : List Member) (past : Trace) → IsRoster roster → IsLawful roster past
+    → (h : ChannelId) → AllByRecursion
+    (λ item. is_pulse item.what ≡ false → IsOpenSend roster past item.number) (pending_items roster past h)
+
+-- a pending message has the present priority of its sender
+abbrev pub PendingFollowsItsSender : Type 0
+PendingFollowsItsSender = (roster : List Member) (past : Trace) → IsRoster roster → IsLawful roster past
+    → (h : ChannelId) → AllByRecursion
+    (λ item. is_pulse item.what ≡ false → (t : ThreadNo) → sender_of past item.number ≡ Some t
+    → item.priority ≡ priority_of_thread roster past t) (pending_items roster past h)
+
+-- ---- the order of receipt
+
+-- item i is received by a call that receives on channel h and may take item x
+pub record TakesBeside (past : Trace) (z : Completion) (i : CallNo) (h : ChannelId) (x : Item) : Type 0 where
+  pub call : Call
+  pub kind : Kind
+  pub is_call : call_at past z.call ≡ Some call
+  pub receives : receives_on call ≡ Some (h, kind)
+  pub may : may_take kind x ≡ true
+  pub item : item_received z ≡ Some i
+
+-- the priority in x is the present priority of the item of its number
+abbrev pub HasPriority : List Member → Trace → Item → Type 0
+HasPriority roster past x = priority_of_item roster past x.number ≡ x.priority
+
+-- if x and y were pending on a channel, x comes before y, and both still have their priorities, then no call
+-- that may take x receives y before x is gone
+abbrev pub FirstGoesFirst : Type 0
+FirstGoesFirst = (roster : List Member) (past later : Trace) (e : Event) → IsRoster roster
+    → IsLawful roster (e ∷ later ++ past) → (h : ChannelId)
+    → AllByRecursion (λ x. AllByRecursion
+    (λ y. comes_before x y ≡ true → HasPriority roster (later ++ past) x
+    → HasPriority roster (later ++ past) y
+    → AllByRecursion (λ z. TakesBeside (e ∷ later ++ past) z y.number h x → is_gone (later ++ past) x ≡ true)
+    e.endings) (pending_items roster past h)) (pending_items roster past h)
+
+-- ---- setting a priority
+
+-- the item is a message of thread t
+abbrev pub is_message_of : Trace → ThreadNo → Item → Bool
+is_message_of past t item = not (is_pulse item.what) && names (sender_of past item.number) t
+
+-- the items, where each message of thread t has this priority
+abbrev pub with_messages_at : Trace → ThreadNo → Priority → List Item → List Item
+with_messages_at past t priority items =
+    map (λ item. if is_message_of past t item then with_priority priority item else item) items
+
+-- an accepted PrioritySet sets the priority of its thread's pending message, and changes no other pending
+-- item
+abbrev pub SettingMovesItsOwn : Type 0
+SettingMovesItsOwn = (roster : List Member) (past : Trace) (e : Event) → IsRoster roster
+    → IsLawful roster (e ∷ past) → is_accepted e past ≡ true
+    → (t : ThreadNo) (priority : Priority) → e.call ≡ PrioritySet t priority
+    → (h : ChannelId) → pending_items roster (e ∷ past) h
+    ≡ with_messages_at past t priority (pending_items roster past h)
+
+-- the items without the messages of thread t
+abbrev pub others_than : Trace → ThreadNo → List Item → List Item
+others_than past t items = filter (λ item. not (is_message_of past t item)) items
+
+-- so the other items stay as they were, in the same order
+abbrev pub OthersKeepTheirOrder : Type 0
+OthersKeepTheirOrder = (roster : List Member) (past : Trace) (e : Event) → IsRoster roster
+    → IsLawful roster (e ∷ past) → is_accepted e past ≡ true
+    → (t : ThreadNo) (priority : Priority) → e.call ≡ PrioritySet t priority
+    → (h : ChannelId) → others_than past t (pending_items roster (e ∷ past) h)
+    ≡ others_than past t (pending_items roster past h)
+
+-- ---- held messages
+
+-- a thread is blocked in the Send of number i, and its message is received
+pub record IsHeldSend (roster : List Member) (past : Trace) (i : ReceiveId) : Type 0 where
+  pub thread : ThreadNo
+  pub waiting : OpenCall
+  pub is_sender : sender (facts_of roster past) i ≡ Some thread
+  pub is_open : open_call roster past thread ≡ Some waiting
+  pub received : is_for_reply waiting.wait ≡ true
+
+-- a message is held by the definition on the past (it is received, and its Send hasn't ended) exactly if it
+-- is held by the definition that the rows use
+abbrev pub HeldIsHeldSend : Type 0
+HeldIsHeldSend = (roster : List Member) (past : Trace) → IsRoster roster → IsLawful roster past
+    → (i : ReceiveId) → (is_held past i ≡ true) ↔ IsHeldSend roster past i
+
+-- ---- refusals
+
+-- nothing changes but the number of calls, which is one more
+pub record IsOnlyCounted (f g : Facts) : Type 0 where
+  pub roster : g.roster ≡ f.roster
+  pub number : g.number ≡ f.number + 1
+  pub down : g.down ≡ f.down
+  pub channel : (h : ChannelId) → g.channel h ≡ f.channel h
+  pub open_channels : g.open_channels ≡ f.open_channels
+  pub connection : (k : ConnectionId) → g.connection k ≡ f.connection k
+  pub live_connections : g.live_connections ≡ f.live_connections
+  pub open_call : (u : ThreadNo) → g.open_call u ≡ f.open_call u
+  pub pending : (h : ChannelId) → g.pending h ≡ f.pending h
+  pub priority : (u : ThreadNo) → g.priority u ≡ f.priority u
+
+-- a refused call changes nothing but the number of calls
+abbrev pub RefusedChangesNothing : Type 0
+RefusedChangesNothing = (roster : List Member) (past : Trace) (e : Event) → IsRoster roster
+    → IsLawful roster (e ∷ past)
+    → is_accepted e past ≡ false → IsOnlyCounted (facts_of roster past) (facts_of roster (e ∷ past))
+
+-- ---- the end of a channel, and of the kernel
+
+-- nothing is received from a channel that is destroyed
+abbrev pub NothingFromDestroyed : Type 0
+NothingFromDestroyed = (roster : List Member) (past : Trace) (e : Event) → IsRoster roster
+    → IsLawful roster (e ∷ past)
+    → (h : ChannelId) → is_closed (e ∷ past) h ≡ true → NoneReceivedFrom roster (e ∷ past) h e.endings
+
+-- after an accepted Shutdown each call is refused: its event has one ending, its own, with Down and the
+-- buffer that the call brought
+abbrev pub OnlyRefusedWhenDown : Type 0
+OnlyRefusedWhenDown = (roster : List Member) (past : Trace) (e : Event) → IsRoster roster
+    → IsLawful roster (e ∷ past)
+    → is_down past ≡ true → e.endings
+    ≡ record { call = length past + 1; thread = e.thread; mark = mark.Failed Down; buffer = buffer_of e.call }
+    ∷ []
+
+-- ---- endings
+
+-- the thread that made the call of number i
+abbrev pub thread_at : Trace → CallNo → Option ThreadNo
+thread_at [] i = None
+thread_at (e ∷ past) i = if i == length past + 1 then Some e.thread else thread_at past i
+
+-- each ending goes to the thread that made the call that it ends
+abbrev pub EndingsNameOwnCalls : Type 0
+EndingsNameOwnCalls = (roster : List Member) (past : Trace) (e : Event) → IsRoster roster
+    → IsLawful roster (e ∷ past)
+    → AllByRecursion (λ x. thread_at (e ∷ past) x.call ≡ Some x.thread) e.endings
+
+-- the thread numbers of these endings rise, so each goes to a different thread
+abbrev pub RiseByThread : List Completion → Type 0
+RiseByThread [] = Unit {0}
+RiseByThread (x ∷ endings) = AllByRecursion (λ y. x.thread < y.thread) endings × RiseByThread endings
+
+-- the thread numbers of the endings rise in each event
+abbrev pub EndingsRiseByThread : Type 0
+EndingsRiseByThread = (roster : List Member) (past : Trace) (e : Event) → IsRoster roster
+    → IsLawful roster (e ∷ past) → RiseByThread e.endings
+
+-- ---- limits
+
+-- no more than 1,024 pulses are pending on a channel
+abbrev pub PulsesAreLimited : Type 0
+PulsesAreLimited = (roster : List Member) (past : Trace) → IsRoster roster → IsLawful roster past
+    → (h : ChannelId) → pulses_among (pending_items roster past h) ≤ 1024

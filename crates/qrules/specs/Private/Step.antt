@@ -1,0 +1,174 @@
+-- One call: the facts after it, given the facts before it.
+use Rattle.std.specs.Prelude.{◌≡◌, ℕ, ◌+◌, ◌==◌, ◌&&◌, ◌||◌, not, filter, Bool, true, false, is_some, List}
+use Rattle.std.specs.Prelude.{[], ◌++◌, map, Option, None, Some, if◌then◌else◌, unwrap_or}
+use Rattle.std.specs.List.{list_any}
+use Rattle.std.specs.Option.{option_map, option_or, option_map_or}
+use Rattle.qbase.specs.Laying.{lay_over}
+use Rattle.qqueue.specs.Best.{with_priority, without_item}
+use Rattle.qqueue.specs.declared.item.Item.{Item}
+use Rattle.qtables.specs.Members.{member_at}
+use Rattle.qtables.specs.declared.connection.Connection.{Connection}
+use Rattle.qmodel.specs.declared.call.Call.{Call}
+use Rattle.qmodel.specs.declared.open_call.OpenCall.{OpenCall}
+use Rattle.qmodel.specs.declared.open_call.Receipt.{Receipt}
+use Rattle.qmodel.specs.declared.open_call.Wait.{Wait}
+use Rattle.qmodel.specs.declared.open_call.Wait.TheVariants.{Answer}
+use Rattle.qmodel.specs.Trace.{ChannelId, ConnectionId, Priority, ReceiveId, ThreadNo}
+use Rattle.qrules.specs.Private.Cancelling.{is_on}
+use Rattle.qrules.specs.Private.Facts.{Facts, sender, is_fixed, threads_of, is_for_receipt}
+use Rattle.qmodel.specs.Trace.{OpenChannel}
+use Rattle.qrules.specs.Private.Effects.{asks, attaches, closes, creates, detaches, makes, sets, shuts_down}
+use Rattle.qrules.specs.Private.Effects.{unblocks}
+use Rattle.qrules.specs.Private.Effects.{writes}
+use Rattle.qrules.specs.Private.Rows.{Received, Row, Setting, Written, names, with_buffer, priority_set_for}
+use Rattle.qmodel.specs.Trace.{SentItem}
+use Rattle.qrules.specs.Private.Calls.{row_of}
+use Rattle.qrules.specs.Private.Past.{wait_with_receipt, made_on}
+
+-- a look-up with one more record at n
+abbrev pub put_at : {A : Type 0} → Option A → ℕ → (ℕ → Option A) → ℕ → Option A
+put_at None n at i = at i
+put_at (Some x) n at i = if i == n then Some x else at i
+
+-- 1 if there is a value, and 0 if there is none
+abbrev pub one_for : {A : Type 0} → Option A → ℕ
+one_for None = 0
+one_for (Some x) = 1
+
+-- a call may create a channel, and may destroy one
+abbrev pub channel_after : Facts → ThreadNo → Call → ChannelId → Option OpenChannel
+channel_after f t c h = if names (closes c) h then None
+    else put_at (creates (member_at f.roster t) c) f.number f.channel h
+
+-- a call may attach a connection, and may detach one
+abbrev pub connection_after : Facts → ThreadNo → Call → ConnectionId → Option Connection
+connection_after f t c k = if names (detaches c) k then None
+    else put_at (attaches (member_at f.roster t) c) f.number f.connection k
+
+-- an open call whose message is received
+abbrev pub held_call : Receipt → OpenCall → OpenCall
+held_call kept o = record o { wait = wait_with_receipt kept o.wait }
+
+-- the thread is this one
+abbrev pub is_thread : Option ThreadNo → ThreadNo → Bool
+is_thread None u = false
+is_thread (Some s) u = u == s
+
+-- what thread u waits for after a receipt
+abbrev pub after_receipt : Option Received → ThreadNo → Option OpenCall → Option OpenCall
+after_receipt None u o = o
+after_receipt (Some r) u o = if is_thread r.sender u then option_map (held_call r.kept) o else o
+
+-- an open call whose reply buffer is written over
+abbrev pub written_call : ℕ → List ℕ → OpenCall → OpenCall
+written_call offset bytes o = record o { wait = with_buffer (λ b. lay_over b offset bytes) o.wait }
+
+-- what thread u waits for after a write
+abbrev pub after_write : Facts → Option Written → ThreadNo → Option OpenCall → Option OpenCall
+after_write f None u o = o
+after_write f (Some w) u o =
+    if is_thread (sender f w.message) u then option_map (written_call w.offset w.bytes) o else o
+
+-- a wait for whose message an unblock pulse is made
+abbrev pub unblocked_wait : Wait → Wait
+unblocked_wait (Answer coid message reply_buffer (Some receipt)) =
+    Answer coid message reply_buffer (Some (record receipt { unblocked = true }))
+unblocked_wait wait = wait
+
+-- an open call for whose message an unblock pulse is made
+abbrev pub unblocked_call : OpenCall → OpenCall
+unblocked_call o = record o { wait = unblocked_wait o.wait }
+
+-- what thread u waits for after a call that unblocks a thread and makes this item
+abbrev pub after_unblock : Option SentItem → Option ThreadNo → ThreadNo → Option OpenCall → Option OpenCall
+after_unblock m None u o = o
+after_unblock m (Some thread) u o = if (u == thread) && is_some m then option_map unblocked_call o else o
+
+-- an open call, unless it is ended
+abbrev pub unless : Bool → Option OpenCall → Option OpenCall
+unless b o = if b then None else o
+
+-- what the caller u waits for after its call with this row: its request, with the receipt if the message is
+-- received at once; nothing if the call has ended
+abbrev pub own_call_after : Facts → Call → Row → ThreadNo → Option OpenCall
+own_call_after f c row u = unless (is_some row.own) (after_receipt row.receipt u (asks f.number c))
+
+-- what another thread u waited for as the call leaves it: written over, received, unblocked
+abbrev pub call_left_by : Facts → ThreadNo → Call → Row → ThreadNo → Option OpenCall
+call_left_by f t c row u = after_unblock (makes f t c) (unblocks c) u
+    (after_receipt row.receipt u (after_write f (writes c) u (f.open_call u)))
+
+-- what another thread u waits for after the call; nothing if the call ends it
+abbrev pub other_call_after : Facts → ThreadNo → Call → Row → ThreadNo → Option OpenCall
+other_call_after f t c row u = unless (is_some (row.ends u)) (call_left_by f t c row u)
+
+-- what thread u waits for after the call
+abbrev pub open_call_after : Facts → ThreadNo → Call → ThreadNo → Option OpenCall
+open_call_after f t c u = if u == t then own_call_after f c (row_of f t c) u
+    else other_call_after f t c (row_of f t c) u
+
+-- the open call is the Send of number i, blocked on channel h, and not received
+abbrev pub is_unread_send : (ConnectionId → Option Connection) → ChannelId → ReceiveId → Option OpenCall
+    → Bool
+is_unread_send connection h i call =
+    option_map_or (λ o. (o.number == i) && is_for_receipt o.wait && is_on connection h o.wait) call false
+
+-- the items of channel h without the one that was received from it
+abbrev pub unreceived_items : Option Received → ChannelId → List Item → List Item
+unreceived_items None h items = items
+unreceived_items (Some r) h items = if r.channel == h then without_item r.item items else items
+
+-- the call ends a Send of number i that is blocked on channel h and not received
+abbrev pub is_cancelled : Facts → ThreadNo → Call → ChannelId → ReceiveId → Bool
+is_cancelled f t c h i = list_any (λ s. is_unread_send f.connection h i (f.open_call s)
+    && is_some ((row_of f t c).ends s)) (threads_of f.roster)
+
+-- the items of channel h without the messages whose Sends the call ends
+abbrev pub uncut_items : Facts → ThreadNo → Call → ChannelId → List Item → List Item
+uncut_items f t c h items = filter (λ item. not (is_cancelled f t c h item.number)) items
+
+-- the items of channel h, with the new priority for the pending message of the thread that it is set for
+abbrev pub items_with_priority_set : Facts → ChannelId → Option Setting → List Item → List Item
+items_with_priority_set f h None items = items
+items_with_priority_set f h (Some s) items =
+    map (λ item. if is_unread_send f.connection h item.number (f.open_call s.thread)
+    then with_priority s.priority item else item) items
+
+-- the pending items after the call: none if the channel is destroyed; otherwise the item that the call makes
+-- is added, the messages whose Sends end and the item that is received are removed, and a priority that is
+-- set for a thread is set for its message
+abbrev pub pending_after : Facts → ThreadNo → Call → ChannelId → List Item
+pending_after f t c h =
+    if names (closes c) h then []
+    else items_with_priority_set f h (sets c)
+    (unreceived_items (row_of f t c).receipt h
+    (uncut_items f t c h (f.pending h ++ made_on h (makes f t c))))
+
+-- the priority that thread u takes by a receipt: the item's, unless the channel leaves priorities as they are
+abbrev pub priority_taken : Facts → Option Received → ThreadNo → Option Priority
+priority_taken f None u = None
+priority_taken f (Some r) u =
+    if r.by == u then (if is_fixed (f.channel r.channel) then None else Some r.kept.priority) else None
+
+-- the priority of thread u after the call: the one that is set for it, or else the one that it takes by a
+-- receipt, or else its present one
+abbrev pub priority_after : Facts → ThreadNo → Call → ThreadNo → Priority
+priority_after f t c u = unwrap_or
+    (option_or (priority_set_for (sets c) u) (priority_taken f (row_of f t c).receipt u)) (f.priority u)
+
+-- g are the facts after the call
+pub record Follows (f : Facts) (t : ThreadNo) (c : Call) (accepted : Bool) (g : Facts) : Type 0 where
+  pub roster : g.roster ≡ f.roster
+  pub number : g.number ≡ f.number + 1
+  pub down : g.down ≡ (if accepted then shuts_down c || f.down else f.down)
+  pub channel : (h : ChannelId) → g.channel h ≡ (if accepted then channel_after f t c h else f.channel h)
+  pub open_channels : g.open_channels + (if accepted then one_for (closes c) else 0)
+      ≡ f.open_channels + (if accepted then one_for (creates (member_at f.roster t) c) else 0)
+  pub connection : (k : ConnectionId)
+      → g.connection k ≡ (if accepted then connection_after f t c k else f.connection k)
+  pub live_connections : g.live_connections + (if accepted then one_for (detaches c) else 0)
+      ≡ f.live_connections + (if accepted then one_for (attaches (member_at f.roster t) c) else 0)
+  pub open_call : (u : ThreadNo)
+      → g.open_call u ≡ (if accepted then open_call_after f t c u else f.open_call u)
+  pub pending : (h : ChannelId) → g.pending h ≡ (if accepted then pending_after f t c h else f.pending h)
+  pub priority : (u : ThreadNo) → g.priority u ≡ (if accepted then priority_after f t c u else f.priority u)
