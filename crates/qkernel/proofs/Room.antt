@@ -13,7 +13,7 @@ use Rattle.qrules.specs.Private.Answer.{ending, Outcome}
 use Rattle.qrules.specs.Private.Calls.{row_of}
 use Rattle.qrules.specs.Private.Facts.{Facts, sender, threads_of}
 use Rattle.qrules.specs.Private.Effects.{makes, unblocks, writes}
-use Rattle.qrules.specs.Private.Rows.{Received, Written}
+use Rattle.qrules.specs.Private.Rows.{Received}
 use Rattle.qmodel.specs.Trace.{SentItem}
 use Rattle.qkernel.specs.Kernel.{State}
 use Rattle.qkernel.specs.Private.Steps.{Step, Steps, facts_in}
@@ -26,6 +26,7 @@ use Rattle.qrules.proofs.Traces.Calls.{row_laws}
 use Rattle.qbase.proofs.Lists.{is_among}
 use Rattle.qrules.proofs.Traces.Rosters.{Rises, rises, not_among}
 use Rattle.qstate.proofs.Senders.{own_open}
+use Rattle.qrules.specs.Rule.{Transfer}
 
 -- one where there is something
 abbrev one : {A : Type 0} → Option A → ℕ
@@ -84,9 +85,9 @@ one-receipt : (r : Option Received) (u : ℕ) (o : Option OpenCall) → one (aft
 one-receipt None u o = refl
 one-receipt (Some r) u o = elim (is_thread r.sender u) as (λ b. one (cond b (option_map (held_call r.kept) o) o) ≡ one o) [ true ↦ one-map (held_call r.kept) o | false ↦ refl ]
 
-one-write : (f : Facts) (w : Option Written) (u : ℕ) (o : Option OpenCall) → one (after_write f w u o) ≡ one o
+one-write : (f : Facts) (w : Option Transfer) (u : ℕ) (o : Option OpenCall) → one (after_write f w u o) ≡ one o
 one-write f None u o = refl
-one-write f (Some w) u o = elim (is_thread (sender f w.message) u) as (λ b. one (cond b (option_map (written_call w.offset w.bytes) o) o) ≡ one o) [ true ↦ one-map (written_call w.offset w.bytes) o | false ↦ refl ]
+one-write f (Some w) u o = elim (is_thread (sender f w.rcvid) u) as (λ b. one (cond b (option_map (written_call w.offset w.bytes) o) o) ≡ one o) [ true ↦ one-map (written_call w.offset w.bytes) o | false ↦ refl ]
 
 one-unblock : (m : Option SentItem) (w : Option ℕ) (u : ℕ) (o : Option OpenCall) → one (after_unblock m w u o) ≡ one o
 one-unblock m None u o = refl

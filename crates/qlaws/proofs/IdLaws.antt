@@ -59,7 +59,6 @@ use Rattle.qrules.specs.Past.{accepted_calls, attached_connection, channel_at, c
 use Rattle.qrules.specs.Rule.{Effect}
 use Rattle.qrules.specs.Trace.{endings_of}
 use Rattle.qrules.proofs.Past.Done.{newest, same_destroyed, same_done}
-use Rattle.qrules.proofs.Past.Effects.{same_detaches}
 use Rattle.qlaws.specs.Ids as laws
 use Rattle.qlaws.proofs.Waits.{before, facts_at}
 
@@ -251,5 +250,5 @@ detached_stays_detached past later k gone roster after r l is = (
   ap (λ t. connection_at roster t k) is ∙ ap (λ b. cond b None (attached_connection roster (later ++ past) k)) (still_done (λ e. is_number e.detaches k) past later gone),
   never_again roster past later after k (mark.Connection k) l is (λ lawful.
       gone_below roster attaches detaches (λ past t c X a k e. let f = old.facts_of roster past in detaches_live f t c k (passes_of f t c X a).row e) detaches_alone past k lawful
-      (sym (same_done _ _ past (λ c. ap (λ number. is_number number k) (same_detaches c))) ∙ gone)) refl,
+      (sym (same_done _ _ past (λ c. refl)) ∙ gone)) refl,
 )

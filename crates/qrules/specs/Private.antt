@@ -4,7 +4,6 @@
 pub mod ThreadState
 pub mod Facts
 pub mod Rows
-pub mod Effect
 pub mod Held
 pub mod Receiving
 pub mod Delivering

@@ -13,7 +13,6 @@ use Rattle.qmodel.specs.declared.call.Call.{Call}
 use Rattle.qrules.specs.Past as new
 use Rattle.qrules.specs.Rule.{Effect}
 use Rattle.qrules.specs.Rules.{effect_of}
-use Rattle.qrules.proofs.Past.Effects.{same_attaches, same_creates, same_destroys, same_detaches, same_sender, same_shut}
 
 -- the newest event as an accepted call
 abbrev pub newest : Event → Trace → new.AcceptedCall
@@ -60,15 +59,15 @@ module _ {A : Type 0} where
 -- ---- channels and connections
 
 pub same_down : (past : Trace) → new.was_done (λ e. e.shuts_down) past ≡ old.is_down past
-same_down past = same_done _ _ past same_shut
+same_down past = same_done _ _ past (λ c. refl)
 
 pub same_destroyed : (past : Trace) (h : ℕ) → new.is_destroyed past h ≡ old.is_closed past h
-same_destroyed past h = same_done _ _ past (λ c. ap (λ number. new.is_number number h) (same_destroys c))
+same_destroyed past h = same_done _ _ past (λ c. refl)
 
 pub same_created : (roster : List Member) (past : Trace) (h : ℕ) → new.created_channel roster past h ≡ old.created_channel roster past h
 same_created roster past h = same_made (λ d. option_and_then (λ m. option_map (λ flags. record { owner = m.process; flags = flags }) d.effect.creates) (member_at roster d.thread))
     (λ e. old_creates (member_at roster e.thread) e.call) past h
-    (λ e n. ap (λ flags. option_and_then (λ m. option_map (λ flags. record { owner = m.process; flags = flags }) flags) (member_at roster e.thread)) (same_creates e.call))
+    (λ e n. refl)
 
 pub same_channel : (roster : List Member) (past : Trace) (h : ℕ) → new.channel_at roster past h ≡ old.channel_at roster past h
 same_channel roster past h = ap (λ b. cond b None (new.created_channel roster past h)) (same_destroyed past h) ∙ ap (λ o. cond (old.is_closed past h) None o) (same_created roster past h)
@@ -76,12 +75,12 @@ same_channel roster past h = ap (λ b. cond b None (new.created_channel roster p
 pub same_attached : (roster : List Member) (past : Trace) (k : ℕ) → new.attached_connection roster past k ≡ old.attached_connection roster past k
 same_attached roster past k = same_made (λ d. option_and_then (λ m. option_map (λ h. record { process = m.process; channel = h }) d.effect.attaches) (member_at roster d.thread))
     (λ e. old_attaches (member_at roster e.thread) e.call) past k
-    (λ e n. ap (λ h. option_and_then (λ m. option_map (λ h. record { process = m.process; channel = h }) h) (member_at roster e.thread)) (same_attaches e.call))
+    (λ e n. refl)
 
 pub same_connection_at : (roster : List Member) (past : Trace) (k : ℕ) → new.connection_at roster past k ≡ old.connection_at roster past k
 same_connection_at roster past k =
-    ap (λ b. cond b None (new.attached_connection roster past k)) (same_done _ _ past (λ c. ap (λ number. new.is_number number k) (same_detaches c)))
+    ap (λ b. cond b None (new.attached_connection roster past k)) (same_done _ _ past (λ c. refl))
     ∙ ap (λ o. cond (old.is_detached past k) None o) (same_attached roster past k)
 
 pub same_sender_of : (past : Trace) (i : ℕ) → new.sender_of past i ≡ old.sender_of past i
-same_sender_of past i = same_made (λ d. option_map (λ s. d.thread) d.effect.sends) _ past i (λ e n. same_sender e.thread e.call)
+same_sender_of past i = same_made (λ d. option_map (λ s. d.thread) d.effect.sends) _ past i (λ e n. refl)

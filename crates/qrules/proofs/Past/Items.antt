@@ -17,11 +17,10 @@ use Rattle.qrules.specs.Facts.{has_flag}
 use Rattle.qrules.specs.Lawful.{priority_given_by}
 use Rattle.qrules.specs.Past as new
 use Rattle.qrules.proofs.Past.Done.{same_channel, same_destroyed, same_sender_of}
-use Rattle.qrules.proofs.Past.Effects.{same_sets}
 use Rattle.qrules.proofs.Past.Receipts.{pair_of, same_ended, same_item, same_received}
 
 pub same_set_by : (e : Event) (past : Trace) (t : ℕ) → new.priority_set_by e past t ≡ old.priority_set_by e past t
-same_set_by e past t = ap (λ o. cond (old.is_accepted e past) o None) (same_sets e.call t)
+same_set_by e past t = refl
 
 pub same_set_since : (past : Trace) (i t : ℕ) → new.priority_set_since past i t ≡ old.priority_set_since past i t
 same_set_since [] i t = refl

@@ -24,7 +24,6 @@ use Rattle.qrules.specs.Past as new
 use Rattle.qrules.specs.Rule.{ReceiveRequest, SendRequest, Transfer}
 use Rattle.qrules.specs.Rules.{effect_of}
 use Rattle.qrules.proofs.Past.Done.{newest}
-use Rattle.qrules.proofs.Past.Effects.{same_waits, same_writes, written_view}
 use Rattle.qrules.proofs.Past.Items.{same_among}
 use Rattle.qrules.proofs.Past.Receipts.{same_copied, same_ended}
 use Rattle.qrules.specs.View.{receive_view, send_view}
@@ -41,7 +40,7 @@ lay_last : (b : List ℕ) (o : Option Transfer) (rest : List Transfer) → fold 
 lay_last b None rest = refl
 lay_last b (Some w) rest = ap (fold lay b) (reverse-cons w rest) ∙ fold-append lay b (reverse rest) (w ∷ [])
 
-lay_same : (b : List ℕ) (i : ℕ) (o : Option Transfer) → option_map_or (lay b) (to_message i o) b ≡ buffer_after_write (option_map written_view o) i b
+lay_same : (b : List ℕ) (i : ℕ) (o : Option Transfer) → option_map_or (lay b) (to_message i o) b ≡ buffer_after_write o i b
 lay_same b i None = refl
 lay_same b i (Some w) = elim (eqb w.rcvid i) as (λ c. option_map_or (lay b) (cond c (Some w) None) b ≡ cond c (lay b w) b) [ true ↦ refl | false ↦ refl ]
 
@@ -53,7 +52,6 @@ same_with_writes (e ∷ past) i b =
       | true ↦
           lay_last b (to_message i (effect_of e.call).writes) (filter_map (λ d. to_message i d.effect.writes) (new.accepted_calls past))
           ∙ lay_same (new.with_writes past i b) i (effect_of e.call).writes
-          ∙ ap (λ o. buffer_after_write o i (new.with_writes past i b)) (same_writes e.call)
           ∙ ap (buffer_after_write (old_writes e.call) i) (same_with_writes past i b)
       | false ↦ same_with_writes past i b
     ]
@@ -80,7 +78,7 @@ same_newest [] t = refl
 same_newest (e ∷ past) t =
     let n : ℕ = length past + 1 in
     let d : new.AcceptedCall = newest e past in
-    let asked : call_of d ≡ asks n e.call = ap (option_map (λ w. record { number = n; wait = w })) (same_waits e.call) in
+    let asked : call_of d ≡ asks n e.call = refl in
     elim (old.is_accepted e past) as (λ a. option_and_then call_of (find (waits t) (cond a (d ∷ new.accepted_calls past) (new.accepted_calls past))) ≡ cond ((eqb e.thread t && a) && is_some (asks n e.call)) (asks n e.call) (old.newest_block past t)) [
       | true ↦
           elim (eqb e.thread t) as (λ b. option_and_then call_of (cond (b && (is_some d.effect.sends || is_some d.effect.receives)) (Some d) (find (waits t) (new.accepted_calls past))) ≡ cond ((b && true) && is_some (asks n e.call)) (asks n e.call) (old.newest_block past t)) [

@@ -16,7 +16,6 @@ use Rattle.qrules.specs.Lawful.{facts_of}
 use Rattle.qrules.specs.Past.{is_ended, is_received, item_among}
 use Rattle.qrules.specs.Properties.{items, AnsweredToSender, AnswersIts}
 use Rattle.qrules.proofs.Past.Done.{same_sender_of}
-use Rattle.qrules.proofs.Past.Effects.{same_answers}
 use Rattle.qrules.proofs.Past.Facts.{same_facts}
 use Rattle.qrules.proofs.Past.Receipts.{same_ended, same_received}
 use Rattle.qrules.proofs.Properties.Items.{same_channel_among, same_items}
@@ -38,7 +37,7 @@ same_owner roster past t i l =
 
 answers_as_before : (roster : List Member) (past : Trace) (e : Event) (x : Completion) → AreOfRoster roster past → AnswersIts roster past e x → old.AnswersIts roster past e x
 answers_as_before roster past e x l h = record {
-  named = sym (same_answers e.call) ∙ h.named;
+  named = h.named;
   accepted = h.accepted;
   held = sym (same_held past x.call) ∙ h.held;
   owner = sym (same_owner roster past e.thread x.call l) ∙ h.owner;
@@ -47,7 +46,7 @@ answers_as_before roster past e x l h = record {
 
 answers_by_rules : (roster : List Member) (past : Trace) (e : Event) (x : Completion) → AreOfRoster roster past → old.AnswersIts roster past e x → AnswersIts roster past e x
 answers_by_rules roster past e x l h = record {
-  named = same_answers e.call ∙ h.named;
+  named = h.named;
   accepted = h.accepted;
   held = same_held past x.call ∙ h.held;
   owner = same_owner roster past e.thread x.call l ∙ h.owner;
@@ -58,7 +57,7 @@ as_before : (roster : List Member) (past : Trace) → AreOfRoster roster past �
 as_before roster [] l h = tt
 as_before roster (e ∷ past) l h = (
   all_more _ _ e.endings h.1.0 (λ x its answer. answers_as_before roster past e x l.0 (its answer)),
-  λ i named. h.1.1 i (same_answers e.call ∙ named),
+  h.1.1,
   as_before roster past l.0 h.0,
 )
 
@@ -68,7 +67,7 @@ by_rules roster (e ∷ past) l h = (
   by_rules roster past l.0 h.2,
   (
     all_more _ _ e.endings h.0 (λ x its answer. answers_by_rules roster past e x l.0 (its answer)),
-    λ i named. h.1 i (sym (same_answers e.call) ∙ named),
+    h.1,
   ),
 )
 

@@ -14,7 +14,6 @@ use Rattle.qmodel.specs.declared.call.Completion.{Completion}
 use Rattle.qrules.specs.Properties.{request_of, takeable, BestFirst, TakesBest}
 use Rattle.qrules.specs.Rule.{ReceiveRequest}
 use Rattle.qrules.specs.Rules.{effect_of}
-use Rattle.qrules.proofs.Past.Effects.{same_request}
 use Rattle.qrules.proofs.Same.{AreOfRoster}
 use Rattle.qrules.proofs.Properties.Calls.{same_call_at}
 use Rattle.qrules.proofs.Properties.Items.{same_number, same_takeable}
@@ -57,7 +56,7 @@ best_as_before roster past e x i l h =
       channel = h.request.channel;
       kind = h.request.kind;
       is_call = asks.is;
-      receives = sym (same_request asks.call) ∙ ap (option_map place_of) asks.receives;
+      receives = ap (option_map place_of) asks.receives;
       best = sym (same_best roster past e h.request l) ∙ h.best;
     }
 
@@ -71,7 +70,7 @@ best_from roster past e x i c on (Some r) l is receives place best = record {
 }
 
 best_by_rules : (roster : List Member) (past : Trace) (e : Event) (x : Completion) (i : ℕ) → AreOfRoster roster past → old.TakesBest roster past e x i → TakesBest roster past e x i
-best_by_rules roster past e x i l h = best_from roster past e x i h.call (h.channel, h.kind) (effect_of h.call).receives l h.is_call refl (same_request h.call ∙ h.receives) h.best
+best_by_rules roster past e x i l h = best_from roster past e x i h.call (h.channel, h.kind) (effect_of h.call).receives l h.is_call refl h.receives h.best
 
 as_before : (roster : List Member) (past : Trace) → AreOfRoster roster past → BestFirst roster past → old.BestFirst roster past
 as_before roster [] l h = tt

@@ -1,9 +1,8 @@
 -- Every buffer and every count is what was to be copied.
 use Rattle.std.proofs.Common.{◌≡◌, ◌∙◌, ◌↔◌, ℕ, List, [], ◌∷◌, drop, refl, ap, sym, subst}
-use Rattle.std.specs.Prelude.{Option, None, Some, option_map}
+use Rattle.std.specs.Prelude.{Option, None, Some}
 use Rattle.qbase.proofs.Lists.{all_more}
 use Rattle.qbase.specs.Laying.{laid_count}
-use Rattle.qrules.specs.Private.Calls.{effect_of as old_effect_of}
 use Rattle.qrules.specs.Private.Headline.CopiedExactly as old
 use Rattle.qmodel.specs.Trace.{Event, Trace}
 use Rattle.qmodel.specs.declared.call.Completion.{Completion}
@@ -12,12 +11,11 @@ use Rattle.qmodel.specs.declared.call.Mark.TheVariants as mark
 use Rattle.qrules.specs.Properties.{buffer_at, message_at, CopiedExactly, IsCopied, IsCounted, IsLaid}
 use Rattle.qrules.specs.Rule.{Transfer}
 use Rattle.qrules.specs.Rules.{effect_of}
-use Rattle.qrules.proofs.Past.Effects.{reading_view, same_reads, same_replies, same_writes, written_view}
 use Rattle.qrules.proofs.Properties.Calls.{same_buffer_at, same_message_at}
 
 -- ---- what is counted
 
-same_counted : (past : Trace) (reads writes : Option Transfer) (x : Completion) (copied : ℕ) → IsCounted past reads writes x copied ↔ old.IsCountOf past (option_map reading_view reads) (option_map written_view writes) x copied
+same_counted : (past : Trace) (reads writes : Option Transfer) (x : Completion) (copied : ℕ) → IsCounted past reads writes x copied ↔ old.IsCountOf past reads writes x copied
 same_counted past (Some r) writes x copied =
     let same = same_message_at past r.rcvid in
     (λ h. subst (λ m. IsLaid r.bytes 0 (drop r.offset m) x.buffer copied) same h, λ h. subst (λ m. IsLaid r.bytes 0 (drop r.offset m) x.buffer copied) (sym same) h)
@@ -38,21 +36,17 @@ copied_as_before : (past : Trace) (e : Event) (x : Completion) (m : Mark) → Is
 copied_as_before past e x (mark.Message rcvid copied) h = laid_as_before (e ∷ past) x (message_at (e ∷ past) rcvid) (old.message_at (e ∷ past) rcvid) copied (same_message_at (e ∷ past) rcvid) h
 copied_as_before past e x (mark.Replied status copied) h =
     let laid = laid_as_before (e ∷ past) x h.0 h.0 copied refl h.2 in
-    (h.0, sym (same_replies e.call) ∙ h.1, laid.0, laid.1)
+    (h.0, h.1, laid.0, laid.1)
 copied_as_before past e x (mark.Count copied) h =
-    subst (λ r. old.IsCountOf past r (old_effect_of e.call).writes x copied) (same_reads e.call)
-    (subst (λ w. old.IsCountOf past (option_map reading_view (effect_of e.call).reads) w x copied) (same_writes e.call)
-    ((same_counted past (effect_of e.call).reads (effect_of e.call).writes x copied).0 h))
+    (same_counted past (effect_of e.call).reads (effect_of e.call).writes x copied).0 h
 copied_as_before past e x mark.Ok h = h ∙ same_buffer_at (e ∷ past) x.call
 copied_as_before past e x _ h = h ∙ same_buffer_at (e ∷ past) x.call
 
 copied_by_rules : (past : Trace) (e : Event) (x : Completion) (m : Mark) → old.IsCopied past e x m → IsCopied past e x m
 copied_by_rules past e x (mark.Message rcvid copied) h = laid_by_rules (e ∷ past) x (message_at (e ∷ past) rcvid) (old.message_at (e ∷ past) rcvid) copied (same_message_at (e ∷ past) rcvid) h
-copied_by_rules past e x (mark.Replied status copied) h = (h.0, same_replies e.call ∙ h.1, laid_by_rules (e ∷ past) x h.0 h.0 copied refl (h.2, h.3))
+copied_by_rules past e x (mark.Replied status copied) h = (h.0, h.1, laid_by_rules (e ∷ past) x h.0 h.0 copied refl (h.2, h.3))
 copied_by_rules past e x (mark.Count copied) h =
-    (same_counted past (effect_of e.call).reads (effect_of e.call).writes x copied).1
-    (subst (λ w. old.IsCountOf past (option_map reading_view (effect_of e.call).reads) w x copied) (sym (same_writes e.call))
-    (subst (λ r. old.IsCountOf past r (old_effect_of e.call).writes x copied) (sym (same_reads e.call)) h))
+    (same_counted past (effect_of e.call).reads (effect_of e.call).writes x copied).1 h
 copied_by_rules past e x mark.Ok h = h ∙ sym (same_buffer_at (e ∷ past) x.call)
 copied_by_rules past e x _ h = h ∙ sym (same_buffer_at (e ∷ past) x.call)
 

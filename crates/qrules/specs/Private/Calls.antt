@@ -1,4 +1,4 @@
--- The table of calls: each call's row and effect, which are defined in a file of its own.
+-- The table of calls: each call's row, which is defined in a file of its own.
 pub mod ChannelCreate
 pub mod ConnectAttach
 pub mod Send
@@ -19,7 +19,6 @@ pub mod ConnectDetach
 use Rattle.qmodel.specs.declared.call.Call.{Call}
 use Rattle.qmodel.specs.declared.call.Call.TheVariants as calls
 use Rattle.qmodel.specs.Trace.{ThreadNo}
-use Rattle.qrules.specs.Private.Effect.{Effect}
 use Rattle.qrules.specs.Private.Facts.{Facts}
 use Rattle.qrules.specs.Private.Rows.{Row}
 use Rattle.qrules.specs.Private.Calls.ChannelCreate as channel_create
@@ -59,23 +58,3 @@ row_of f t (calls.ChannelDestroy chid) = channel_destroy.row f t chid
 row_of f t calls.Shutdown = shutdown.row f t
 row_of f t (calls.Unblock thread) = unblock.row f t thread
 row_of f t (calls.ConnectDetach coid) = connect_detach.row f t coid
-
--- the effect of a call
-abbrev pub effect_of : Call → Effect
-effect_of (calls.ChannelCreate flags) = channel_create.effect flags
-effect_of (calls.ConnectAttach chid) = connect_attach.effect chid
-effect_of (calls.Send coid message reply_buffer) = send.effect coid message reply_buffer
-effect_of (calls.Receive chid buffer) = receive.effect chid buffer
-effect_of (calls.Reply rcvid status bytes) = reply.effect rcvid status bytes
-effect_of (calls.Error rcvid code) = error.effect rcvid code
-effect_of (calls.Read rcvid offset buffer) = read.effect rcvid offset buffer
-effect_of (calls.Write rcvid offset bytes) = write.effect rcvid offset bytes
-effect_of (calls.Info rcvid) = info.effect
-effect_of (calls.ReceivePulse chid) = receive_pulse.effect chid
-effect_of (calls.Pulse coid priority code value) = pulse.effect coid priority code value
-effect_of (calls.PrioritySet thread priority) = priority_set.effect thread priority
-effect_of (calls.State thread) = state.effect
-effect_of (calls.ChannelDestroy chid) = channel_destroy.effect chid
-effect_of calls.Shutdown = shutdown.effect
-effect_of (calls.Unblock thread) = unblock.effect thread
-effect_of (calls.ConnectDetach coid) = connect_detach.effect coid

@@ -1,23 +1,34 @@
--- The effects of each call.
-use Rattle.std.specs.Prelude.{ℕ, ℤ, Bool, List, [], Option, unwrap_or}
-use Rattle.std.specs.Option.{option_map, option_and_then}
+-- What each call does, by its rule; and the items that it makes.
+use Rattle.std.specs.Prelude.{ℕ, ℤ, Bool, List, [], Option, None, Some}
+use Rattle.std.specs.Option.{option_and_then, option_map, option_map_or, option_or}
 use Rattle.qqueue.specs.declared.item.Kind.{Kind}
 use Rattle.qtables.specs.declared.connection.Connection.{Connection}
 use Rattle.qtables.specs.declared.member.Member.{Member}
 use Rattle.qmodel.specs.declared.call.Call.{Call}
+use Rattle.qmodel.specs.declared.call.Call.TheVariants as calls
 use Rattle.qmodel.specs.declared.open_call.OpenCall.{OpenCall}
-use Rattle.qmodel.specs.Trace.{CallNo, ChannelId, ConnectionId, ReceiveId, ThreadNo}
-use Rattle.qrules.specs.Private.Calls.{effect_of}
+use Rattle.qmodel.specs.declared.open_call.Wait.{Wait}
+use Rattle.qmodel.specs.declared.open_call.Wait.TheVariants.{Answer, Item as ForItem}
+use Rattle.qmodel.specs.Trace.{CallNo, ChannelId, ConnectionId, OpenChannel, ReceiveId, SentItem, ThreadNo}
+use Rattle.qrules.specs.Rule.{PriorityChange, Transfer}
+use Rattle.qrules.specs.Rules.{effect_of}
 use Rattle.qrules.specs.Private.Facts.{Facts}
-use Rattle.qmodel.specs.Trace.{OpenChannel}
-use Rattle.qrules.specs.Private.Rows.{Setting, Written}
-use Rattle.qmodel.specs.Trace.{SentItem}
+use Rattle.qrules.specs.Private.Rows.{item_sent_over}
+use Rattle.qrules.specs.Private.Calls.ConnectDetach as connect_detach
+use Rattle.qrules.specs.Private.Calls.Pulse as pulse
+use Rattle.qrules.specs.Private.Calls.Send as send
+use Rattle.qrules.specs.Private.Calls.Unblock as unblock
 
 -- ---- waiting
 
+-- what a call waits for, if it doesn't end in its own event
+abbrev pub waits : Call → Option Wait
+waits c = option_or (option_map (λ s. Answer s.connection s.message s.reply_buffer None) (effect_of c).sends)
+    (option_map (λ r. ForItem r.channel r.kind r.buffer) (effect_of c).receives)
+
 -- the open call that a call leaves if it doesn't end in its own event
 abbrev pub asks : CallNo → Call → Option OpenCall
-asks n c = option_map (λ wait. record { number = n; wait = wait }) (effect_of c).waits
+asks n c = option_map (λ wait. record { number = n; wait = wait }) (waits c)
 
 -- ---- channels and connections
 
@@ -29,7 +40,7 @@ creates member c =
 
 -- the channel that a call destroys
 abbrev pub closes : Call → Option ChannelId
-closes c = (effect_of c).closes
+closes c = (effect_of c).destroys
 
 -- the connection that a call attaches: of its thread's process, to the channel that it names
 abbrev pub attaches : Option Member → Call → Option Connection
@@ -49,23 +60,27 @@ shuts_down c = (effect_of c).shuts_down
 
 -- the item that a call of thread t makes, given the facts before it
 abbrev pub makes : Facts → ThreadNo → Call → Option SentItem
-makes f t c = (effect_of c).makes f t
+makes f t (calls.Send coid message reply_buffer) = item_sent_over (f.connection coid) (send.item f t)
+makes f t (calls.Pulse coid priority code value) = pulse.sent_pulse f coid priority code value
+makes f t (calls.Unblock thread) = unblock.due_pulse f thread
+makes f t (calls.ConnectDetach coid) = connect_detach.due_pulse f t coid
+makes f t c = None
 
 -- the connection that a call sends over
 abbrev pub sends_over : Call → Option ConnectionId
-sends_over c = (effect_of c).sends_over
+sends_over c = option_or (option_map (λ s. s.connection) (effect_of c).sends) (effect_of c).pulses_over
 
 -- the thread, if the call is a Send
 abbrev pub thread_of_send : ThreadNo → Call → Option ThreadNo
-thread_of_send t c = option_map (λ message. t) (effect_of c).sends
+thread_of_send t c = option_map (λ s. t) (effect_of c).sends
 
 -- the bytes of a message that is sent
 abbrev pub message_sent : Call → List ℕ
-message_sent c = unwrap_or (effect_of c).sends []
+message_sent c = option_map_or (λ s. s.message) (effect_of c).sends []
 
 -- the channel that a call receives on, and the kind of items that it may take
 abbrev pub receives_on : Call → Option (ChannelId × Kind)
-receives_on c = (effect_of c).receives_on
+receives_on c = option_map (λ r. (r.channel, r.kind)) (effect_of c).receives
 
 -- ---- answers, and what is written
 
@@ -78,15 +93,16 @@ abbrev pub replies_with : Call → Option (ℤ × List ℕ)
 replies_with c = (effect_of c).replies
 
 -- what a call writes
-abbrev pub writes : Call → Option Written
+abbrev pub writes : Call → Option Transfer
 writes c = (effect_of c).writes
 
 -- ---- threads
 
 -- the priority that a call sets
-abbrev pub sets : Call → Option Setting
+abbrev pub sets : Call → Option PriorityChange
 sets c = (effect_of c).sets
 
 -- the thread that a call unblocks
 abbrev pub unblocks : Call → Option ThreadNo
-unblocks c = (effect_of c).unblocks
+unblocks (calls.Unblock thread) = Some thread
+unblocks c = None

@@ -16,6 +16,7 @@ use Rattle.qmodel.specs.declared.open_call.Receipt.{Receipt}
 use Rattle.qmodel.specs.declared.open_call.Wait.{Wait}
 use Rattle.qmodel.specs.declared.open_call.Wait.TheVariants.{Answer, Item as ForItem}
 use Rattle.qmodel.specs.Trace.{SentItem}
+use Rattle.qrules.specs.Rule.{PriorityChange, Transfer}
 use Rattle.qmodel.specs.Trace.{CallNo, ChannelId, Priority, ProcessNo, ReceiveId, ThreadNo}
 
 -- a receipt: the item's number and channel, the thread that takes it, the thread that waits for its answer,
@@ -72,23 +73,10 @@ unblock_item n priority i = record { number = n; priority = priority; what = wha
 abbrev pub disconnect_item : CallNo → Priority → ProcessNo → Item
 disconnect_item n priority p = record { number = n; priority = priority; what = what.Disconnect p }
 
--- ---- writing
-
--- a write: the message whose reply buffer is written to, the offset in it, and the bytes
-pub record Written : Type 0 where
-  pub message : ReceiveId
-  pub offset : ℕ
-  pub bytes : List ℕ
-
 -- ---- setting priorities
 
--- a change of a thread's priority
-pub record Setting : Type 0 where
-  pub thread : ThreadNo
-  pub priority : Priority
-
 -- the priority that is set for thread u
-abbrev pub priority_set_for : Option Setting → ThreadNo → Option Priority
+abbrev pub priority_set_for : Option PriorityChange → ThreadNo → Option Priority
 priority_set_for setting u = option_and_then (λ s. if s.thread == u then Some s.priority else None) setting
 
 -- ---- closing
@@ -100,9 +88,9 @@ names number h = option_map_or (λ k. k == h) number false
 -- ---- buffers
 
 -- the reply buffer of message i with what is written over it
-abbrev pub buffer_after_write : Option Written → ReceiveId → List ℕ → List ℕ
+abbrev pub buffer_after_write : Option Transfer → ReceiveId → List ℕ → List ℕ
 buffer_after_write written i b =
-    option_map_or (λ w. if w.message == i then lay_over b w.offset w.bytes else b) written b
+    option_map_or (λ w. if w.rcvid == i then lay_over b w.offset w.bytes else b) written b
 
 -- a wait with its reply buffer changed
 abbrev pub with_buffer : (List ℕ → List ℕ) → Wait → Wait

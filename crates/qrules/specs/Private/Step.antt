@@ -20,10 +20,11 @@ use Rattle.qmodel.specs.Trace.{OpenChannel}
 use Rattle.qrules.specs.Private.Effects.{asks, attaches, closes, creates, detaches, makes, sets, shuts_down}
 use Rattle.qrules.specs.Private.Effects.{unblocks}
 use Rattle.qrules.specs.Private.Effects.{writes}
-use Rattle.qrules.specs.Private.Rows.{Received, Row, Setting, Written, names, with_buffer, priority_set_for}
+use Rattle.qrules.specs.Private.Rows.{Received, Row, names, with_buffer, priority_set_for}
 use Rattle.qmodel.specs.Trace.{SentItem}
 use Rattle.qrules.specs.Private.Calls.{row_of}
 use Rattle.qrules.specs.Private.Past.{wait_with_receipt, made_on}
+use Rattle.qrules.specs.Rule.{PriorityChange, Transfer}
 
 -- a look-up with one more record at n
 abbrev pub put_at : {A : Type 0} → Option A → ℕ → (ℕ → Option A) → ℕ → Option A
@@ -64,10 +65,10 @@ abbrev pub written_call : ℕ → List ℕ → OpenCall → OpenCall
 written_call offset bytes o = record o { wait = with_buffer (λ b. lay_over b offset bytes) o.wait }
 
 -- what thread u waits for after a write
-abbrev pub after_write : Facts → Option Written → ThreadNo → Option OpenCall → Option OpenCall
+abbrev pub after_write : Facts → Option Transfer → ThreadNo → Option OpenCall → Option OpenCall
 after_write f None u o = o
 after_write f (Some w) u o =
-    if is_thread (sender f w.message) u then option_map (written_call w.offset w.bytes) o else o
+    if is_thread (sender f w.rcvid) u then option_map (written_call w.offset w.bytes) o else o
 
 -- a wait for whose message an unblock pulse is made
 abbrev pub unblocked_wait : Wait → Wait
@@ -128,7 +129,7 @@ abbrev pub uncut_items : Facts → ThreadNo → Call → ChannelId → List Item
 uncut_items f t c h items = filter (λ item. not (is_cancelled f t c h item.number)) items
 
 -- the items of channel h, with the new priority for the pending message of the thread that it is set for
-abbrev pub items_with_priority_set : Facts → ChannelId → Option Setting → List Item → List Item
+abbrev pub items_with_priority_set : Facts → ChannelId → Option PriorityChange → List Item → List Item
 items_with_priority_set f h None items = items
 items_with_priority_set f h (Some s) items =
     map (λ item. if is_unread_send f.connection h item.number (f.open_call s.thread)

@@ -5,10 +5,11 @@ use Rattle.std.proofs.lemmas.Option.{none-some}
 use Rattle.qrules.specs.Private.Calls.{row_of}
 use Rattle.qrules.specs.Private.Facts.{Facts, sender}
 use Rattle.qrules.specs.Private.Effects.{asks, makes, writes}
-use Rattle.qrules.specs.Private.Rows.{Written, item_in_mark}
+use Rattle.qrules.specs.Private.Rows.{item_in_mark}
 use Rattle.qmodel.specs.declared.call.Call.{Call}
 use Rattle.qmodel.specs.declared.call.Completion.{Completion}
 use Rattle.qrules.proofs.Traces.Past.Laws.{CallLaws, RowLaws, IsOwn}
+use Rattle.qrules.specs.Rule.{Transfer}
 
 -- a call that never waits and makes nothing
 pub waits_not : (c : Call) → ((n : ℕ) → asks n c ≡ None) → ((f : Facts) (t : ℕ) → makes f t c ≡ None) → CallLaws c
@@ -26,7 +27,7 @@ pub record IsPlain (n t : ℕ) (y : Completion) : Type 0 where
   pub mark : item_in_mark y.mark ≡ None
 
 pub alone : (f : Facts) (t : ℕ) (c : Call) → ((y : Completion) → (row_of f t c).own ≡ Some y → IsPlain f.number t y) → ((u : ℕ) → (row_of f t c).ends u ≡ None) → (row_of f t c).receipt ≡ None
-    → makes f t c ≡ None → ((w : Written) → writes c ≡ Some w → (s : ℕ) × (sender f w.message ≡ Some s)) → RowLaws f t c
+    → makes f t c ≡ None → ((w : Transfer) → writes c ≡ Some w → (s : ℕ) × (sender f w.rcvid ≡ Some s)) → RowLaws f t c
 alone f t c own ends receipt made written = record {
   owns = λ y e. (own y e).own;
   ends_open = λ u y e. absurd (none-some y (sym (ends u) ∙ e));

@@ -6,12 +6,13 @@ use Rattle.qrules.specs.Private.Calls.{row_of}
 use Rattle.qrules.specs.Private.Facts.{Facts, sender}
 use Rattle.qrules.specs.Private.Held.{Finish, ends_sender, refusal}
 use Rattle.qrules.specs.Private.Effects.{makes, writes}
-use Rattle.qrules.specs.Private.Rows.{Written, item_in_mark}
+use Rattle.qrules.specs.Private.Rows.{item_in_mark}
 use Rattle.qmodel.specs.declared.call.Call.{Call}
 use Rattle.qmodel.specs.declared.call.Completion.{Completion}
 use Rattle.qrules.proofs.Traces.Calls.Alone.{IsPlain}
 use Rattle.qrules.proofs.Traces.Calls.Held.{SenderEnds, sender_ends}
 use Rattle.qrules.proofs.Traces.Past.Laws.{IsOfOpen, IsSettled, RowLaws, is_settled}
+use Rattle.qrules.specs.Rule.{Transfer}
 
 of_open : (f : Facts) (t rcvid : ℕ) (finish : Finish) (u : ℕ) (y : Completion) → SenderEnds f t rcvid finish u y → IsOfOpen f u y
 of_open f t rcvid finish u y s = record {
@@ -31,7 +32,7 @@ answer_receives f t rcvid finish u y none s = ap (λ x. item_in_mark x.mark) (sy
 -- a call that ends in its own event, and ends the Send that it answers
 pub answers : (f : Facts) (t : ℕ) (c : Call) (rcvid : ℕ) (finish : Finish) → ((buffer : List ℕ) → item_in_mark (finish buffer).0 ≡ None) → refusal f t rcvid ≡ None
     → ((y : Completion) → (row_of f t c).own ≡ Some y → IsPlain f.number t y) → ((u : ℕ) → (row_of f t c).ends u ≡ ends_sender f finish (sender f rcvid) u) → (row_of f t c).receipt ≡ None
-    → makes f t c ≡ None → ((w : Written) → writes c ≡ Some w → (s : ℕ) × (sender f w.message ≡ Some s)) → RowLaws f t c
+    → makes f t c ≡ None → ((w : Transfer) → writes c ≡ Some w → (s : ℕ) × (sender f w.rcvid ≡ Some s)) → RowLaws f t c
 answers f t c rcvid finish none passed own ends receipt made written =
     let ended = λ (u : ℕ) (y : Completion) (e : (row_of f t c).ends u ≡ Some y). sender_ends f t rcvid finish u y passed (sym (ends u) ∙ e) in
     record {

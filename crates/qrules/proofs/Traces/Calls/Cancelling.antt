@@ -8,13 +8,14 @@ use Rattle.qrules.specs.Private.Calls.{row_of}
 use Rattle.qrules.specs.Private.Cancelling.{cancel_call, cancel_where, cancels}
 use Rattle.qrules.specs.Private.Facts.{Facts, sender}
 use Rattle.qrules.specs.Private.Effects.{makes, writes}
-use Rattle.qrules.specs.Private.Rows.{Written, item_in_mark}
+use Rattle.qrules.specs.Private.Rows.{item_in_mark}
 use Rattle.qmodel.specs.declared.call.Call.{Call}
 use Rattle.qmodel.specs.declared.call.Completion.{Completion}
 use Rattle.qmodel.specs.declared.open_call.OpenCall.{OpenCall}
 use Rattle.qmodel.specs.declared.open_call.Wait.{Wait}
 use Rattle.qrules.proofs.Traces.Calls.Alone.{IsPlain}
 use Rattle.qrules.proofs.Traces.Past.Laws.{RowLaws, is_forceful}
+use Rattle.qrules.specs.Rule.{Transfer}
 
 -- the ending is of an open call that is cancelled
 pub record IsCutCall (is_cancelled : Wait → Bool) (e : Errno) (u : ℕ) (o : Option OpenCall) (y : Completion) : Type 0 where
@@ -33,7 +34,7 @@ cancel_parts is_cancelled e u (Some o) y h =
 
 -- a call that ends in its own event, and cancels others
 pub cancelling : (f : Facts) (t : ℕ) (c : Call) (is_cancelled : ℕ → Wait → Bool) (e : Errno) → is_forceful c ≡ true → ((y : Completion) → (row_of f t c).own ≡ Some y → IsPlain f.number t y)
-    → ((u : ℕ) → (row_of f t c).ends u ≡ cancels f is_cancelled e u) → (row_of f t c).receipt ≡ None → makes f t c ≡ None → ((w : Written) → writes c ≡ Some w → (s : ℕ) × (sender f w.message ≡ Some s)) → RowLaws f t c
+    → ((u : ℕ) → (row_of f t c).ends u ≡ cancels f is_cancelled e u) → (row_of f t c).receipt ≡ None → makes f t c ≡ None → ((w : Transfer) → writes c ≡ Some w → (s : ℕ) × (sender f w.rcvid ≡ Some s)) → RowLaws f t c
 cancelling f t c is_cancelled e force own ends receipt made written =
     let ended = λ (u : ℕ) (y : Completion) (s : (row_of f t c).ends u ≡ Some y). cancel_parts (is_cancelled u) e u (f.open_call u) y (sym (ends u) ∙ s) in
     record {

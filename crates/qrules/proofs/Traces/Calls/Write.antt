@@ -14,4 +14,4 @@ call_laws rcvid offset bytes = waits_not (Write rcvid offset bytes) (λ n. refl)
 pub row_laws : (f : Facts) (t : ℕ) (rcvid offset : ℕ) (bytes : List ℕ) → Passes f t (Write rcvid offset bytes) → RowLaws f t (Write rcvid offset bytes)
 row_laws f t rcvid offset bytes p =
     alone f t (Write rcvid offset bytes) (λ y e. subst (IsPlain f.number t) (same_Some _ y e) (record { own = record { call = refl; thread = refl; mark = refl }; mark = refl })) (λ u. refl) refl refl
-    (λ w e. subst (λ i. (s : ℕ) × (sender f i ≡ Some s)) (ap (λ x. x.message) (same_Some _ w e)) (has_sender f t rcvid p.row))
+    (λ w e. subst (λ i. (s : ℕ) × (sender f i ≡ Some s)) (ap (λ x. x.rcvid) (same_Some _ w e)) (has_sender f t rcvid p.row))

@@ -8,13 +8,14 @@ use Rattle.qrules.specs.Private.Calls.{row_of}
 use Rattle.qrules.specs.Private.Facts.{Facts, sender}
 use Rattle.qrules.specs.Private.Effects.{makes, unblocks, writes}
 use Rattle.qrules.specs.Private.Past.{wait_with_receipt}
-use Rattle.qrules.specs.Private.Rows.{Received, Written, with_buffer}
+use Rattle.qrules.specs.Private.Rows.{Received, with_buffer}
 use Rattle.qmodel.specs.Trace.{SentItem}
 use Rattle.qrules.specs.Private.Step.{after_receipt, after_unblock, after_write, held_call, is_thread, unblocked_call, unblocked_wait, unless, written_call}
 use Rattle.qmodel.specs.declared.call.Call.{Call}
 use Rattle.qmodel.specs.declared.open_call.OpenCall.{OpenCall}
 use Rattle.qmodel.specs.declared.open_call.Receipt.{Receipt}
 use Rattle.qmodel.specs.declared.open_call.Wait.{Wait}
+use Rattle.qrules.specs.Rule.{Transfer}
 
 -- what is so of a wait was so of it before
 pub record IsBefore {A : Type 0} (g : Wait → A) (before : Option OpenCall) (o : OpenCall) : Type 0 where
@@ -36,11 +37,11 @@ before_receipt g held (Some r) u before o e =
     ] e
 
 -- before a write
-pub before_write : {A : Type 0} (g : Wait → A) → ((b : List ℕ → List ℕ) (w : Wait) → g (with_buffer b w) ≡ g w) → (f : Facts) (w : Option Written) (u : ℕ) (before : Option OpenCall) (o : OpenCall)
+pub before_write : {A : Type 0} (g : Wait → A) → ((b : List ℕ → List ℕ) (w : Wait) → g (with_buffer b w) ≡ g w) → (f : Facts) (w : Option Transfer) (u : ℕ) (before : Option OpenCall) (o : OpenCall)
     → after_write f w u before ≡ Some o → IsBefore g before o
 before_write g buffer f None u before o e = record { call = o; is = e; same = refl }
 before_write g buffer f (Some w) u before o e =
-    elim (is_thread (sender f w.message) u) as (λ b. cond b (option_map (written_call w.offset w.bytes) before) before ≡ Some o → IsBefore g before o) [
+    elim (is_thread (sender f w.rcvid) u) as (λ b. cond b (option_map (written_call w.offset w.bytes) before) before ≡ Some o → IsBefore g before o) [
       | true ↦ elim (before) as (λ x. option_map (written_call w.offset w.bytes) x ≡ Some o → IsBefore g x o) [
         | None ↦ λ s. absurd (none-some o s)
         | Some b ↦ λ s. record {

@@ -12,7 +12,7 @@ use Rattle.qrules.specs.Private.Laws.{is_for_reply}
 use Rattle.qrules.specs.Private.Past.{is_failure, is_unblock_for}
 use Rattle.qrules.specs.Private.Receiving.{sender_for}
 use Rattle.qrules.specs.Private.Effects.{asks, makes, unblocks, writes}
-use Rattle.qrules.specs.Private.Rows.{Row, Received, Written, item_in_mark}
+use Rattle.qrules.specs.Private.Rows.{Row, Received, item_in_mark}
 use Rattle.qmodel.specs.Trace.{SentItem}
 use Rattle.qmodel.specs.declared.call.Call.{Call}
 use Rattle.qmodel.specs.declared.call.Call.TheVariants.{ChannelDestroy, Shutdown, Unblock, ConnectDetach}
@@ -20,6 +20,7 @@ use Rattle.qmodel.specs.declared.call.Completion.{Completion}
 use Rattle.qmodel.specs.declared.open_call.OpenCall.{OpenCall}
 use Rattle.qmodel.specs.declared.open_call.Wait.{Wait}
 use Rattle.qmodel.specs.declared.open_call.Wait.TheVariants.{Answer, Item as ForItem}
+use Rattle.qrules.specs.Rule.{Transfer}
 
 -- ---- a call by itself
 
@@ -125,4 +126,4 @@ pub record RowLaws (f : Facts) (t : ℕ) (c : Call) : Type 0 where
   pub receives : (r : Received) → (row_of f t c).receipt ≡ Some r → IsReceived f t c r
   pub sends : (m : SentItem) → makes f t c ≡ Some m → is_pulse m.item.what ≡ false → (row_of f t c).own ≡ None
   pub makes_open : (m : SentItem) → makes f t c ≡ Some m → is_some (f.channel m.channel) ≡ true
-  pub writes_sent : (w : Written) → writes c ≡ Some w → (s : ℕ) × (sender f w.message ≡ Some s)
+  pub writes_sent : (w : Transfer) → writes c ≡ Some w → (s : ℕ) × (sender f w.rcvid ≡ Some s)

@@ -12,7 +12,7 @@ use Rattle.qrules.specs.Private.Facts.{Facts}
 use Rattle.qrules.specs.Private.Effects.{makes, sets}
 use Rattle.qrules.specs.Private.Lawful.{IsLawful, facts_of, with_event}
 use Rattle.qrules.specs.Private.Past.{is_gone, is_taken, made_on, priority_set_by, current_priority}
-use Rattle.qrules.specs.Private.Rows.{Received, Setting}
+use Rattle.qrules.specs.Private.Rows.{Received}
 use Rattle.qrules.specs.Private.Step.{is_cancelled, uncut_items, items_with_priority_set, unreceived_items, is_unread_send}
 use Rattle.qmodel.specs.Trace.{Event, Trace}
 use Rattle.qmodel.specs.declared.call.Call.{Call}
@@ -23,6 +23,7 @@ use Rattle.qrules.proofs.Traces.Past.Cancels.{pulse_unread, sent_by, unread_else
 use Rattle.qrules.proofs.Traces.Past.Ends.{accepted}
 use Rattle.qrules.proofs.Traces.Past.Items.{Stands, item_below, standing_is}
 use Rattle.qrules.proofs.Traces.Past.CurrentPriority.{now, sets_none, worth_set, worth_stays}
+use Rattle.qrules.specs.Rule.{PriorityChange}
 
 -- ---- items that are changed in their priority alone
 
@@ -47,30 +48,30 @@ out_map (Some r) h g items same =
     ]
 
 -- what becomes of one item where a priority is set
-abbrev pub mover : Facts → ℕ → Setting → Item → Item
+abbrev pub mover : Facts → ℕ → PriorityChange → Item → Item
 mover f h s item = cond (is_unread_send f.connection h item.number (f.open_call s.thread)) (with_priority s.priority item) item
 
 -- it has its number
-pub mover_number : (f : Facts) (h : ℕ) (s : Setting) (item : Item) → (mover f h s item).number ≡ item.number
+pub mover_number : (f : Facts) (h : ℕ) (s : PriorityChange) (item : Item) → (mover f h s item).number ≡ item.number
 mover_number f h s item = elim (is_unread_send f.connection h item.number (f.open_call s.thread)) as (λ b. (cond b (with_priority s.priority item) item).number ≡ item.number) [ true ↦ refl | false ↦ refl ]
 
 -- and is what it was
-pub mover_what : (f : Facts) (h : ℕ) (s : Setting) (item : Item) → (mover f h s item).what ≡ item.what
+pub mover_what : (f : Facts) (h : ℕ) (s : PriorityChange) (item : Item) → (mover f h s item).what ≡ item.what
 mover_what f h s item = elim (is_unread_send f.connection h item.number (f.open_call s.thread)) as (λ b. (cond b (with_priority s.priority item) item).what ≡ item.what) [ true ↦ refl | false ↦ refl ]
 
-pub moved_left : (f : Facts) (t : ℕ) (c : Call) (h : ℕ) (s : Option Setting) (items : List Item) → uncut_items f t c h (items_with_priority_set f h s items) ≡ items_with_priority_set f h s (uncut_items f t c h items)
+pub moved_left : (f : Facts) (t : ℕ) (c : Call) (h : ℕ) (s : Option PriorityChange) (items : List Item) → uncut_items f t c h (items_with_priority_set f h s items) ≡ items_with_priority_set f h s (uncut_items f t c h items)
 moved_left f t c h None items = refl
 moved_left f t c h (Some s) items = left_map f t c h (mover f h s) items (mover_number f h s)
 
-pub moved_out : (f : Facts) (r : Option Received) (h : ℕ) (s : Option Setting) (items : List Item) → unreceived_items r h (items_with_priority_set f h s items) ≡ items_with_priority_set f h s (unreceived_items r h items)
+pub moved_out : (f : Facts) (r : Option Received) (h : ℕ) (s : Option PriorityChange) (items : List Item) → unreceived_items r h (items_with_priority_set f h s items) ≡ items_with_priority_set f h s (unreceived_items r h items)
 moved_out f r h None items = refl
 moved_out f r h (Some s) items = out_map r h (mover f h s) items (mover_number f h s)
 
-pub moved_append : (f : Facts) (h : ℕ) (s : Option Setting) (xs ys : List Item) → items_with_priority_set f h s (xs ++ ys) ≡ items_with_priority_set f h s xs ++ items_with_priority_set f h s ys
+pub moved_append : (f : Facts) (h : ℕ) (s : Option PriorityChange) (xs ys : List Item) → items_with_priority_set f h s (xs ++ ys) ≡ items_with_priority_set f h s xs ++ items_with_priority_set f h s ys
 moved_append f h None xs ys = refl
 moved_append f h (Some s) xs ys = map-append (mover f h s) xs ys
 
-pub moved_nothing : (f : Facts) (h : ℕ) (s : Option Setting) → items_with_priority_set f h s [] ≡ []
+pub moved_nothing : (f : Facts) (h : ℕ) (s : Option PriorityChange) → items_with_priority_set f h s [] ≡ []
 moved_nothing f h None = refl
 moved_nothing f h (Some s) = refl
 
@@ -82,7 +83,7 @@ moved_made f t c h = elim (sets_alone c) [
 ]
 
 -- what is so of items whatever their priority is so of those that moved
-pub all_moved : (P : Item → Type 0) (f : Facts) (h : ℕ) (s : Option Setting) (items : List Item) → ((priority : ℕ) (x : Item) → P x → P (with_priority priority x)) → AllByRecursion P items → AllByRecursion P (items_with_priority_set f h s items)
+pub all_moved : (P : Item → Type 0) (f : Facts) (h : ℕ) (s : Option PriorityChange) (items : List Item) → ((priority : ℕ) (x : Item) → P x → P (with_priority priority x)) → AllByRecursion P items → AllByRecursion P (items_with_priority_set f h s items)
 all_moved P f h None items any all = all
 all_moved P f h (Some s) items any all =
     all_map P (mover f h s) items (all_more P (λ item. P (mover f h s item)) items all (λ item p.
@@ -91,7 +92,7 @@ all_moved P f h (Some s) items any all =
 -- ---- what is pending moves so
 
 -- an item that is pending, after the event and as the rows have it
-moved_one : (roster : List Member) (past : Trace) (t : ℕ) (c : Call) (X : List Completion) (h : ℕ) (s : Setting) (item : Item) → IsLawful roster past → Outcome true (facts_of roster past) t c X → sets c ≡ Some s
+moved_one : (roster : List Member) (past : Trace) (t : ℕ) (c : Call) (X : List Completion) (h : ℕ) (s : PriorityChange) (item : Item) → IsLawful roster past → Outcome true (facts_of roster past) t c X → sets c ≡ Some s
     → Stands roster past h item → is_gone past item ≡ false → now (with_event t c X past) item ≡ mover (facts_of roster past) h s (now past item)
 moved_one roster past t c X h s item l a set at stays =
     let f = facts_of roster past in

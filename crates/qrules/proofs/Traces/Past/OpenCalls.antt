@@ -16,7 +16,7 @@ use Rattle.qrules.specs.Private.Lawful.{facts_of, IsLawful, with_event}
 use Rattle.qrules.specs.Private.Past.{call_by_now, refuses, has_ending_of, is_ended, is_taken, item_of, copied_count_of, priority_of_item, newest_block, wait_with_receipt, unless_ended, with_receipt, open_call, unblocked_among}
 use Rattle.qrules.specs.Private.Receiving.{sender_for}
 use Rattle.qrules.specs.Private.Effects.{asks, makes, unblocks, writes}
-use Rattle.qrules.specs.Private.Rows.{Received, Written, buffer_after_write}
+use Rattle.qrules.specs.Private.Rows.{Received, buffer_after_write}
 use Rattle.qmodel.specs.Trace.{SentItem}
 use Rattle.qrules.specs.Private.Step.{held_call, is_thread, after_receipt, after_unblock, after_write, unblocked_call, unless, written_call, open_call_after}
 use Rattle.qmodel.specs.Trace.{Event, Trace}
@@ -36,6 +36,7 @@ use Rattle.qrules.proofs.Traces.Past.Unblocked.{fresh_unblocked, marks, marks_it
 use Rattle.qrules.proofs.Traces.Past.CurrentPriority.{refused_sets_none, sets_none, taken_sets_none}
 use Rattle.qrules.proofs.Traces.Past.Writes.{changed, filled_accepted, filled_fresh, filled_refused, receipt_written, written_sender}
 use Rattle.qrules.proofs.Traces.Rosters.{known}
+use Rattle.qrules.specs.Rule.{Transfer}
 
 -- ---- a receipt, and the thread that waits for its answer
 
@@ -196,9 +197,9 @@ after_none : (r : Option Received) (u : ℕ) → after_receipt r u None ≡ None
 after_none None u = refl
 after_none (Some r) u = elim (is_thread r.sender u) as (λ b. cond b (option_map (held_call r.kept) None) None ≡ None) [ true ↦ refl | false ↦ refl ]
 
-write_none : (f : Facts) (w : Option Written) (u : ℕ) → after_write f w u None ≡ None
+write_none : (f : Facts) (w : Option Transfer) (u : ℕ) → after_write f w u None ≡ None
 write_none f None u = refl
-write_none f (Some w) u = elim (is_thread (sender f w.message) u) as (λ b. cond b (option_map (written_call w.offset w.bytes) None) None ≡ None) [ true ↦ refl | false ↦ refl ]
+write_none f (Some w) u = elim (is_thread (sender f w.rcvid) u) as (λ b. cond b (option_map (written_call w.offset w.bytes) None) None ≡ None) [ true ↦ refl | false ↦ refl ]
 
 pub unblock_none : (m : Option SentItem) (w : Option ℕ) (u : ℕ) → after_unblock m w u None ≡ None
 unblock_none m None u = refl
@@ -278,7 +279,7 @@ open_other roster past t c X u l member a other =
                 ∙ ap (after_unblock M (unblocks c) u) (kept_after R.receipt u b.number (priority_of_item roster past b.number) old (copied_count_of past b.number) (changed (buffer_after_write (writes c) b.number) (call_by_now past b))
                 (λ r is. other_holds roster past t c u b r l other e going ((laws_of (facts_of roster past) t c X a).receives r is))
                 ∙ ap (after_receipt R.receipt u) (receipt_written (facts_of roster past) (writes c) u (priority_of_item roster past b.number) old (copied_count_of past b.number) (call_by_now past b) (receipt_number _ _ _ (call_by_now past b))
-                (λ x is. written_sender roster past t c X u (kept roster past b) x a waits is ∙ ap (eqb x.message) (receipt_number _ _ _ (call_by_now past b))))) in
+                (λ x is. written_sender roster past t c X u (kept roster past b) x a waits is ∙ ap (eqb x.rcvid) (receipt_number _ _ _ (call_by_now past b))))) in
                 rw (or-false (has_ending_of X b.number), ended) (
                 elim (is_some (R.ends u)) as (λ d. option_map (kept roster (with_event t c X past)) (cond d None (Some b)) ≡ unless d (other_after (facts_of roster past) t c u (Some (kept roster past b)))) [ true ↦ refl | false ↦ now ])
           ] refl

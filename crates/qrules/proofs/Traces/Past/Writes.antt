@@ -10,7 +10,7 @@ use Rattle.qrules.specs.Private.Facts.{Facts, sender, threads_of}
 use Rattle.qrules.specs.Private.Lawful.{facts_of, IsLawful, with_event}
 use Rattle.qrules.specs.Private.Past.{call_by_now, is_accepted, open_call, refuses, with_receipt, with_writes}
 use Rattle.qrules.specs.Private.Effects.{asks, writes}
-use Rattle.qrules.specs.Private.Rows.{Written, with_buffer, buffer_after_write}
+use Rattle.qrules.specs.Private.Rows.{with_buffer, buffer_after_write}
 use Rattle.qrules.specs.Private.Step.{after_write, is_thread, written_call}
 use Rattle.qmodel.specs.Trace.{Event, Trace}
 use Rattle.qmodel.specs.declared.call.Call.{Call}
@@ -23,6 +23,7 @@ use Rattle.qbase.proofs.Lists.{eqb_same}
 use Rattle.qrules.proofs.Traces.Past.Numbers.{open_below, open_thread}
 use Rattle.qrules.proofs.Traces.Calls.{call_laws}
 use Rattle.qrules.proofs.Traces.Past.Senders.{sender_sends}
+use Rattle.qrules.specs.Rule.{Transfer}
 
 -- ---- a reply buffer
 
@@ -82,32 +83,32 @@ changed_receipt f priority unblocked (Some copied) o = by_wait o.wait where
   by_wait (ForItem chid kind buffer) = refl
 
 -- the call of thread u after a write, if it is written just where the sender is u
-written_after : (f : Facts) (w : Option Written) (u : ℕ) (o : OpenCall) → ((x : Written) → w ≡ Some x → is_thread (sender f x.message) u ≡ eqb x.message o.number) → Some (changed (buffer_after_write w o.number) o) ≡ after_write f w u (Some o)
+written_after : (f : Facts) (w : Option Transfer) (u : ℕ) (o : OpenCall) → ((x : Transfer) → w ≡ Some x → is_thread (sender f x.rcvid) u ≡ eqb x.rcvid o.number) → Some (changed (buffer_after_write w o.number) o) ≡ after_write f w u (Some o)
 written_after f None u o h = ap (λ x. Some x) (change_none (λ b. b) o (λ b. refl))
-written_after f (Some x) u o h = rw (h x refl) (elim (eqb x.message o.number) as (λ t. Some (changed (λ b. cond t (lay_over b x.offset x.bytes) b) o) ≡ cond t (Some (written_call x.offset x.bytes o)) (Some o)) [
+written_after f (Some x) u o h = rw (h x refl) (elim (eqb x.rcvid o.number) as (λ t. Some (changed (λ b. cond t (lay_over b x.offset x.bytes) b) o) ≡ cond t (Some (written_call x.offset x.bytes o)) (Some o)) [
   | true ↦ refl
   | false ↦ ap (λ y. Some y) (change_none (λ b. b) o (λ b. refl))
 ])
 
-pub receipt_written : (f : Facts) (w : Option Written) (u priority : ℕ) (unblocked : Bool) (r : Option ℕ) (o : OpenCall) → (with_receipt priority unblocked r o).number ≡ o.number → ((x : Written) → w ≡ Some x → is_thread (sender f x.message) u ≡ eqb x.message o.number)
+pub receipt_written : (f : Facts) (w : Option Transfer) (u priority : ℕ) (unblocked : Bool) (r : Option ℕ) (o : OpenCall) → (with_receipt priority unblocked r o).number ≡ o.number → ((x : Transfer) → w ≡ Some x → is_thread (sender f x.rcvid) u ≡ eqb x.rcvid o.number)
     → Some (with_receipt priority unblocked r (changed (buffer_after_write w o.number) o)) ≡ after_write f w u (Some (with_receipt priority unblocked r o))
 receipt_written f w u priority unblocked r o number h =
     ap (λ x. Some x) (changed_receipt (buffer_after_write w o.number) priority unblocked r o ∙ ap (λ i. changed (buffer_after_write w i) (with_receipt priority unblocked r o)) (sym number))
-    ∙ written_after f w u (with_receipt priority unblocked r o) (λ x is. h x is ∙ ap (eqb x.message) (sym number))
+    ∙ written_after f w u (with_receipt priority unblocked r o) (λ x is. h x is ∙ ap (eqb x.rcvid) (sym number))
 
 -- ---- whose buffer is written
 
 -- the sender of the message that is written to is the thread whose open call has its number
-pub written_sender : (roster : List Member) (past : Trace) (t : ℕ) (c : Call) (X : List Completion) (u : ℕ) (o : OpenCall) (x : Written) → Outcome true (facts_of roster past) t c X → open_call roster past u ≡ Some o → writes c ≡ Some x
-    → is_thread (sender (facts_of roster past) x.message) u ≡ eqb x.message o.number
+pub written_sender : (roster : List Member) (past : Trace) (t : ℕ) (c : Call) (X : List Completion) (u : ℕ) (o : OpenCall) (x : Transfer) → Outcome true (facts_of roster past) t c X → open_call roster past u ≡ Some o → writes c ≡ Some x
+    → is_thread (sender (facts_of roster past) x.rcvid) u ≡ eqb x.rcvid o.number
 written_sender roster past t c X u o x a is written =
     let s = (laws_of (facts_of roster past) t c X a).writes_sent x written in
-    let k = sender_sends (open_call roster past) x.message (threads_of roster) s.0 s.1 in
-    ap (λ v. is_thread v u) s.1 ∙ (elim (cases_Bool (eqb x.message o.number)) as (λ _. eqb u s.0 ≡ eqb x.message o.number) [
+    let k = sender_sends (open_call roster past) x.rcvid (threads_of roster) s.0 s.1 in
+    ap (λ v. is_thread v u) s.1 ∙ (elim (cases_Bool (eqb x.rcvid o.number)) as (λ _. eqb u s.0 ≡ eqb x.rcvid o.number) [
       | inl same ↦
           let at : s.0 ≡ u = open_thread roster past s.0 u k.waiting o k.is is (k.number ∙ eqb-true _ _ same) in
           ap (eqb u) at ∙ eqb_same u ∙ sym same
-      | inr other ↦ ne_eqb u s.0 (λ same. eqb-false x.message o.number other (sym k.number ∙ ap (λ w. w.number) (same_Some k.waiting o (sym k.is ∙ ap (open_call roster past) (sym same) ∙ is)))) ∙ sym other
+      | inr other ↦ ne_eqb u s.0 (λ same. eqb-false x.rcvid o.number other (sym k.number ∙ ap (λ w. w.number) (same_Some k.waiting o (sym k.is ∙ ap (open_call roster past) (sym same) ∙ is)))) ∙ sym other
     ])
 
 -- nothing is written to a message to come
@@ -120,9 +121,9 @@ writes_beyond roster (e ∷ past) i b l h = elim l.2 [
         | None ↦ λ is. rest
         | Some x ↦ λ is.
             let s = (laws_of (facts_of roster past) e.thread e.call e.endings a).writes_sent x is in
-            let k = sender_sends (open_call roster past) x.message (threads_of roster) s.0 s.1 in
+            let k = sender_sends (open_call roster past) x.rcvid (threads_of roster) s.0 s.1 in
             let below : k.waiting.number ≤ length past = open_below roster past s.0 k.waiting k.is in
-            rw (ne_eqb x.message i (λ same. omega (arith, k.number))) rest
+            rw (ne_eqb x.rcvid i (λ same. omega (arith, k.number))) rest
       ] refl)
   | inr a ↦ writes_refused e past i b (refused roster past e.thread e.call e.endings a) ∙ writes_beyond roster past i b l.0 (omega arith)
 ]

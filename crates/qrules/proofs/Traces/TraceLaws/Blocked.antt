@@ -16,7 +16,7 @@ use Rattle.qrules.specs.Private.Effects.{asks, makes, unblocks, writes}
 use Rattle.qrules.specs.Private.Laws.{blocker}
 use Rattle.qrules.specs.Private.Lawful.{facts_of, IsLawful}
 use Rattle.qrules.specs.Private.Past.{has_ending_of, is_accepted, is_ended, open_call}
-use Rattle.qrules.specs.Private.Rows.{Received, Written}
+use Rattle.qrules.specs.Private.Rows.{Received}
 use Rattle.qmodel.specs.Trace.{SentItem}
 use Rattle.qrules.specs.Private.Step.{after_receipt, after_unblock, after_write, held_call, is_thread, open_call_after, unblocked_call, unless, written_call}
 use Rattle.qmodel.specs.Trace.{Event, Trace}
@@ -32,6 +32,7 @@ use Rattle.qrules.proofs.Traces.Properties.Sends.{made_newest}
 use Rattle.qrules.proofs.Traces.Rosters.{Rises, rises, not_among, known}
 use Rattle.qrules.proofs.Traces.TraceLaws.Ending.{ending_thread}
 use Rattle.qrules.proofs.Traces.TraceLaws.Unended.{asks_any, open_is_unended}
+use Rattle.qrules.specs.Rule.{Transfer}
 
 -- ---- endings by thread
 
@@ -95,9 +96,9 @@ pub some_receipt : (r : Option Received) (u : ℕ) (o : Option OpenCall) → is_
 some_receipt None u o = refl
 some_receipt (Some r) u o = elim (is_thread r.sender u) as (λ b. is_some (cond b (option_map (held_call r.kept) o) o) ≡ is_some o) [ true ↦ some_map (held_call r.kept) o | false ↦ refl ]
 
-some_write : (f : Facts) (w : Option Written) (u : ℕ) (o : Option OpenCall) → is_some (after_write f w u o) ≡ is_some o
+some_write : (f : Facts) (w : Option Transfer) (u : ℕ) (o : Option OpenCall) → is_some (after_write f w u o) ≡ is_some o
 some_write f None u o = refl
-some_write f (Some w) u o = elim (is_thread (sender f w.message) u) as (λ b. is_some (cond b (option_map (written_call w.offset w.bytes) o) o) ≡ is_some o) [ true ↦ some_map (written_call w.offset w.bytes) o | false ↦ refl ]
+some_write f (Some w) u o = elim (is_thread (sender f w.rcvid) u) as (λ b. is_some (cond b (option_map (written_call w.offset w.bytes) o) o) ≡ is_some o) [ true ↦ some_map (written_call w.offset w.bytes) o | false ↦ refl ]
 
 some_unblock : (m : Option SentItem) (w : Option ℕ) (u : ℕ) (o : Option OpenCall) → is_some (after_unblock m w u o) ≡ is_some o
 some_unblock m None u o = refl

@@ -26,7 +26,7 @@ use Rattle.qrules.specs.Private.Cancelling.{buffer_of_wait, is_on}
 use Rattle.qrules.specs.Private.Endings.{buffer_of_open, buffer_brought, EndingsKeepLength, OpenCallsKeepLength}
 use Rattle.qrules.specs.Private.Facts.{Facts, message, sender, threads_of, route}
 use Rattle.qrules.specs.Private.Held.{Finish, ends_sender, refusal}
-use Rattle.qrules.specs.Private.Rows.{Received, Written, receipt_ending, with_buffer, buffer_after_write}
+use Rattle.qrules.specs.Private.Rows.{Received, receipt_ending, with_buffer, buffer_after_write}
 use Rattle.qmodel.specs.Trace.{SentItem}
 use Rattle.qrules.specs.Private.Step.{after_receipt, after_unblock, after_write, held_call, is_thread, open_call_after, unblocked_call, unblocked_wait, unless, written_call}
 use Rattle.qrules.specs.Private.Past.{call_by_now, wait_with_receipt, is_accepted, with_receipt, with_writes}
@@ -59,6 +59,7 @@ use Rattle.qbase.proofs.Lists.{all_filter_map, all_more, eqb_same}
 use Rattle.qrules.proofs.Traces.Past.Ends.{ending_names, laws_of, passes_of}
 use Rattle.qrules.proofs.Traces.TraceLaws.Blocked.{some_receipt}
 use Rattle.qrules.proofs.Traces.Past.OpenCalls.{open_accepted, open_refused}
+use Rattle.qrules.specs.Rule.{Transfer}
 
 taking_length : (item : Item) (message : List ℕ) (u m : ℕ) (buffer : List ℕ) → length (receipt_ending item message u m buffer).buffer ≡ length buffer
 taking_length item message u m buffer =
@@ -156,9 +157,9 @@ receipt_length : (r : Option Received) (u : ℕ) (o : Option OpenCall) → lengt
 receipt_length None u o = refl
 receipt_length (Some r) u o = elim (is_thread r.sender u) as (λ b. length (buffer_of_open (cond b (option_map (held_call r.kept) o) o)) ≡ length (buffer_of_open o)) [ true ↦ map_length (held_call r.kept) (λ w. held_length r.kept w.wait) o | false ↦ refl ]
 
-write_length : (f : Facts) (w : Option Written) (u : ℕ) (o : Option OpenCall) → length (buffer_of_open (after_write f w u o)) ≡ length (buffer_of_open o)
+write_length : (f : Facts) (w : Option Transfer) (u : ℕ) (o : Option OpenCall) → length (buffer_of_open (after_write f w u o)) ≡ length (buffer_of_open o)
 write_length f None u o = refl
-write_length f (Some w) u o = elim (is_thread (sender f w.message) u) as (λ b. length (buffer_of_open (cond b (option_map (written_call w.offset w.bytes) o) o)) ≡ length (buffer_of_open o)) [ true ↦ map_length (written_call w.offset w.bytes) (λ v. written_length w.offset w.bytes v.wait) o | false ↦ refl ]
+write_length f (Some w) u o = elim (is_thread (sender f w.rcvid) u) as (λ b. length (buffer_of_open (cond b (option_map (written_call w.offset w.bytes) o) o)) ≡ length (buffer_of_open o)) [ true ↦ map_length (written_call w.offset w.bytes) (λ v. written_length w.offset w.bytes v.wait) o | false ↦ refl ]
 
 unblock_length : (m : Option SentItem) (w : Option ℕ) (u : ℕ) (o : Option OpenCall) → length (buffer_of_open (after_unblock m w u o)) ≡ length (buffer_of_open o)
 unblock_length m None u o = refl
@@ -198,9 +199,9 @@ open_keeps_length roster past e l idle u x is = elim (l.2) [
 
 -- ---- an open call
 
-over_length : (w : Option Written) (i : ℕ) (b : List ℕ) → length (buffer_after_write w i b) ≡ length b
+over_length : (w : Option Transfer) (i : ℕ) (b : List ℕ) → length (buffer_after_write w i b) ≡ length b
 over_length None i b = refl
-over_length (Some w) i b = elim (eqb w.message i) as (λ m. length (cond m (lay_over b w.offset w.bytes) b) ≡ length b) [ true ↦ lay_length b w.offset w.bytes | false ↦ refl ]
+over_length (Some w) i b = elim (eqb w.rcvid i) as (λ m. length (cond m (lay_over b w.offset w.bytes) b) ≡ length b) [ true ↦ lay_length b w.offset w.bytes | false ↦ refl ]
 
 writes_length : (past : Trace) (i : ℕ) (b : List ℕ) → length (with_writes past i b) ≡ length b
 writes_length [] i b = refl

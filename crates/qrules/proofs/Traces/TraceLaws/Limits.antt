@@ -19,7 +19,7 @@ use Rattle.qrules.specs.Private.Laws.{PulsesAreLimited}
 use Rattle.qrules.specs.Private.Lawful.{facts_of}
 use Rattle.qrules.specs.Private.Past.{pending_items, made_on}
 use Rattle.qrules.specs.Private.Effects.{closes, makes, sets}
-use Rattle.qrules.specs.Private.Rows.{Received, Setting, message_item, names, pulse_item, item_sent_over}
+use Rattle.qrules.specs.Private.Rows.{Received, message_item, names, pulse_item, item_sent_over}
 use Rattle.qmodel.specs.Trace.{SentItem}
 use Rattle.qrules.specs.Private.Step.{is_cancelled, uncut_items, items_with_priority_set, pending_after, unreceived_items}
 use Rattle.qrules.specs.Private.Calls.{row_of}
@@ -32,6 +32,7 @@ use Rattle.qrules.proofs.Traces.Past.Moves.{mover, mover_what}
 use Rattle.qrules.proofs.Traces.Calls.Delivering.{sent_way}
 use Rattle.qrules.proofs.Traces.Calls.ConnectDetach as detaching
 use Rattle.qrules.proofs.Traces.Calls.Unblock as unblocking
+use Rattle.qrules.specs.Rule.{PriorityChange}
 
 -- ---- counts
 
@@ -65,7 +66,7 @@ fewer_out (Some r) h items =
     elim (eqb r.channel h) as (λ b. pulses_among (cond b (without_item r.item items) items) ≤ pulses_among items) [ true ↦ fewer_left (λ item. not (eqb item.number r.item)) items | false ↦ omega arith ]
 
 -- a message that moves is none
-same_moved : (f : Facts) (h : ℕ) (s : Option Setting) (items : List Item) → pulses_among (items_with_priority_set f h s items) ≡ pulses_among items
+same_moved : (f : Facts) (h : ℕ) (s : Option PriorityChange) (items : List Item) → pulses_among (items_with_priority_set f h s items) ≡ pulses_among items
 same_moved f h None items = refl
 same_moved f h (Some s) [] = refl
 same_moved f h (Some s) (x ∷ items) =

@@ -11,7 +11,7 @@ use Rattle.qrules.specs.Private.Answer.{Outcome}
 use Rattle.qrules.specs.Private.Lawful.{IsLawful, facts_of}
 use Rattle.qrules.specs.Private.Laws.{OthersKeepTheirOrder, SettingMovesItsOwn, is_message_of, others_than, with_messages_at}
 use Rattle.qrules.specs.Private.Past.{connection_at, open_call, pending_items, sender_of}
-use Rattle.qrules.specs.Private.Rows.{Setting, names}
+use Rattle.qrules.specs.Private.Rows.{names}
 use Rattle.qrules.specs.Private.Step.{items_with_priority_set, pending_after, is_unread_send}
 use Rattle.qmodel.specs.Trace.{Trace}
 use Rattle.qmodel.specs.declared.call.Call.TheVariants.{PrioritySet}
@@ -21,6 +21,7 @@ use Rattle.qrules.proofs.Traces.Past.Follows.{past_follows}
 use Rattle.qrules.proofs.Traces.Past.Items.{IsPending, pending_all}
 use Rattle.qrules.proofs.Traces.Past.Moves.{mover, map_same}
 use Rattle.qrules.proofs.Traces.Properties.Events.{outcome_of}
+use Rattle.qrules.specs.Rule.{PriorityChange}
 
 -- a pending item is what thread v waits with to be received exactly where it is a message of that thread
 unread_of : (roster : List Member) (past : Trace) (h : ℕ) (item : Item) (v : ℕ) → IsLawful roster past → IsPending roster past h item
@@ -43,7 +44,7 @@ unread_of roster past h item v l p =
 moves_own : (roster : List Member) (past : Trace) (t : ℕ) (u priority h : ℕ) → IsLawful roster past → pending_after (facts_of roster past) t (PrioritySet u priority) h ≡ with_messages_at past u priority (pending_items roster past h)
 moves_own roster past t u priority h l =
     let f = facts_of roster past in
-    let s : Setting = record { thread = u; priority = priority } in
+    let s : PriorityChange = record { thread = u; priority = priority } in
     ap (items_with_priority_set f h (Some s)) (none_cancelled f t (PrioritySet u priority) (λ v y e. absurd (none-some y e)) h (pending_items roster past h ++ []) ∙ append-nil (pending_items roster past h))
     ∙ map_same (mover f h s) (λ item. cond (is_message_of past u item) (with_priority priority item) item) (pending_items roster past h)
     (all_more (IsPending roster past h) (λ item. mover f h s item ≡ cond (is_message_of past u item) (with_priority priority item) item) (pending_items roster past h) (pending_all roster past h)

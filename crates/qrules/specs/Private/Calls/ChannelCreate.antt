@@ -7,7 +7,6 @@ use Rattle.qmodel.specs.declared.call.Mark.TheVariants as mark
 use Rattle.qmodel.specs.Trace.{ThreadNo}
 use Rattle.qrules.specs.Private.Facts.{Facts}
 use Rattle.qrules.specs.Private.Rows.{Row, plain_row}
-use Rattle.qrules.specs.Private.Effect.{Effect, no_effect}
 
 -- Inval if another flag than the three is set, or else Again if 64 channels are open
 abbrev pub refusal : Facts → ChannelFlags → Option Errno
@@ -18,7 +17,3 @@ refusal f flags = if nat_lt flags.0 8 then (if nat_lt f.open_channels 64 then No
 abbrev pub row : Facts → ThreadNo → ChannelFlags → Row
 row f t flags = record (plain_row f.number t (refusal f flags) (mark.Channel f.number))
     { takes_memory = true }
-
--- it creates a channel
-abbrev pub effect : ChannelFlags → Effect
-effect flags = record no_effect { creates = Some flags }

@@ -7,7 +7,6 @@ use Rattle.qmodel.specs.Trace.{ChannelId, ThreadNo}
 use Rattle.qrules.specs.Private.Cancelling.{cancels, is_on}
 use Rattle.qrules.specs.Private.Facts.{Facts, owns}
 use Rattle.qrules.specs.Private.Rows.{Row, plain_row}
-use Rattle.qrules.specs.Private.Effect.{Effect, no_effect}
 
 -- Inval if the channel isn't open, or isn't of the thread's process
 abbrev pub refusal : Facts → ThreadNo → ChannelId → Option Errno
@@ -18,7 +17,3 @@ refusal f t chid = if owns f t chid then None else Some Inval
 abbrev pub row : Facts → ThreadNo → ChannelId → Row
 row f t chid = record (plain_row f.number t (refusal f t chid) mark.Ok)
     { ends = cancels f (λ u. is_on f.connection chid) Srch }
-
--- it destroys the channel
-abbrev pub effect : ChannelId → Effect
-effect chid = record no_effect { closes = Some chid }

@@ -6,7 +6,6 @@ use Rattle.qmodel.specs.declared.call.Mark.TheVariants as mark
 use Rattle.qmodel.specs.Trace.{ChannelId, ThreadNo}
 use Rattle.qrules.specs.Private.Facts.{Facts}
 use Rattle.qrules.specs.Private.Rows.{Row, plain_row}
-use Rattle.qrules.specs.Private.Effect.{Effect, no_effect}
 
 -- Srch if there is no such channel, or else Again if 1,024 connections are live
 abbrev pub refusal : Facts → ChannelId → Option Errno
@@ -17,7 +16,3 @@ refusal f chid = if is_some (f.channel chid)
 abbrev pub row : Facts → ThreadNo → ChannelId → Row
 row f t chid = record (plain_row f.number t (refusal f chid) (mark.Connection f.number))
     { takes_memory = true }
-
--- it attaches a connection to the channel
-abbrev pub effect : ChannelId → Effect
-effect chid = record no_effect { attaches = Some chid }

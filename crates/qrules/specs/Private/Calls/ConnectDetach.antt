@@ -12,7 +12,6 @@ use Rattle.qrules.specs.Private.Facts.{Facts, count_to, is_of_process, tells_dis
 use Rattle.qrules.specs.Private.Pulses.{refusal_if_full_for, ends_receiver, pulse_row}
 use Rattle.qrules.specs.Private.Rows.{Row, disconnect_item}
 use Rattle.qmodel.specs.Trace.{SentItem}
-use Rattle.qrules.specs.Private.Effect.{Effect, no_effect}
 
 -- the connection, if it is one of process p to channel h
 abbrev pub connection_between : ProcessNo → ChannelId → Option Connection → Option Connection
@@ -53,7 +52,3 @@ other_ending f k m u = option_or (cancels f (λ v. is_over k) Badf u) (ends_rece
 -- the past calls
 abbrev pub row : Facts → ThreadNo → ConnectionId → Row
 row f t k = pulse_row f t (refusal f t k) (due_pulse f t k) (other_ending f k (due_pulse f t k))
-
--- it detaches the connection, and makes a pulse if one must be sent
-abbrev pub effect : ConnectionId → Effect
-effect coid = record no_effect { detaches = Some coid; makes = λ f t. due_pulse f t coid }

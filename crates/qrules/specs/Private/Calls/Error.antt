@@ -7,7 +7,6 @@ use Rattle.qmodel.specs.Trace.{ReceiveId, ThreadNo}
 use Rattle.qrules.specs.Private.Facts.{Facts, sender}
 use Rattle.qrules.specs.Private.Held.{Finish, ends_sender, refusal}
 use Rattle.qrules.specs.Private.Rows.{Row, plain_row}
-use Rattle.qrules.specs.Private.Effect.{Effect, no_effect}
 
 -- the code 0 is a reply of status 0 with no bytes
 abbrev pub mark_of : ℤ → Mark
@@ -21,8 +20,3 @@ error_finish code buffer = (mark_of code, buffer)
 abbrev pub row : Facts → ThreadNo → ReceiveId → ℤ → Row
 row f t rcvid code = record (plain_row f.number t (refusal f t rcvid) mark.Ok)
     { ends = ends_sender f (error_finish code) (sender f rcvid) }
-
--- it answers the message; the code 0 is a reply of status 0 with no bytes
-abbrev pub effect : ReceiveId → ℤ → Effect
-effect rcvid code = record no_effect
-    { answers = Some rcvid; replies = if int_eq code (pos 0) then Some (pos 0, []) else None }

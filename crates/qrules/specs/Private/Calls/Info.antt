@@ -13,7 +13,6 @@ use Rattle.qmodel.specs.Trace.{CallNo, ReceiveId, ThreadNo}
 use Rattle.qrules.specs.Private.Facts.{Facts, sender}
 use Rattle.qrules.specs.Private.Held.{refusal}
 use Rattle.qrules.specs.Private.Rows.{Row, ends_with, empty_row}
-use Rattle.qrules.specs.Private.Effect.{Effect, no_effect}
 
 -- the data of a message: the sender, the connection, how many bytes were copied at the receipt, the lengths
 -- of message and reply buffer, and the priority of the receipt; None if it isn't received
@@ -46,7 +45,3 @@ info_ending n t info = ends_with n t (mark.Info info)
 abbrev pub row : Facts → ThreadNo → ReceiveId → Row
 row f t rcvid = record empty_row
     { refusal = refusal f t rcvid; own = option_map (info_ending f.number t) (info_of f (sender f rcvid)) }
-
--- it changes nothing
-abbrev pub effect : Effect
-effect = no_effect

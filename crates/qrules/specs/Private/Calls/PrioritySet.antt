@@ -7,7 +7,6 @@ use Rattle.qmodel.specs.declared.call.Mark.TheVariants as mark
 use Rattle.qmodel.specs.Trace.{Priority, ThreadNo}
 use Rattle.qrules.specs.Private.Facts.{Facts, is_fellow}
 use Rattle.qrules.specs.Private.Rows.{Row, plain_row}
-use Rattle.qrules.specs.Private.Effect.{Effect, no_effect}
 
 -- Srch if the thread isn't in the roster, or is of another process
 abbrev pub refusal : Facts → ThreadNo → ThreadNo → Option Errno
@@ -16,7 +15,3 @@ refusal f t thread = if is_fellow f t thread then None else Some Srch
 -- the new priority of the thread and of its pending message follows from the past calls
 abbrev pub row : Facts → ThreadNo → ThreadNo → Row
 row f t thread = plain_row f.number t (refusal f t thread) mark.Ok
-
--- it sets the thread's priority
-abbrev pub effect : ThreadNo → Priority → Effect
-effect thread priority = record no_effect { sets = Some (record { thread = thread; priority = priority }) }

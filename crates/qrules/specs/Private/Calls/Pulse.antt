@@ -8,7 +8,6 @@ use Rattle.qrules.specs.Private.Facts.{Facts, route}
 use Rattle.qrules.specs.Private.Pulses.{refusal_if_full, ends_receiver, pulse_row}
 use Rattle.qrules.specs.Private.Rows.{Row, pulse_item, item_sent_over}
 use Rattle.qmodel.specs.Trace.{SentItem}
-use Rattle.qrules.specs.Private.Effect.{Effect, no_effect}
 
 -- true of a code below 0
 abbrev pub is_negative : ℤ → Bool
@@ -31,8 +30,3 @@ abbrev pub row : Facts → ThreadNo → ConnectionId → Priority → ℤ → �
 row f t coid priority code value =
     pulse_row f t (refusal f t coid code) (sent_pulse f coid priority code value)
     (ends_receiver f (sent_pulse f coid priority code value))
-
--- it makes that pulse, and sends it over the connection
-abbrev pub effect : ConnectionId → Priority → ℤ → ℤ → Effect
-effect coid priority code value =
-    record no_effect { makes = λ f t. sent_pulse f coid priority code value; sends_over = Some coid }

@@ -6,7 +6,6 @@ use Rattle.qmodel.specs.Trace.{ReceiveId, ThreadNo}
 use Rattle.qrules.specs.Private.Facts.{Facts, message}
 use Rattle.qrules.specs.Private.Held.{refusal}
 use Rattle.qrules.specs.Private.Rows.{Row, empty_row}
-use Rattle.qrules.specs.Private.Effect.{Effect, no_effect}
 
 -- the bytes of the message from the offset on, copied over the front of the buffer
 abbrev pub row : Facts → ThreadNo → ReceiveId → ℕ → List ℕ → Row
@@ -19,12 +18,3 @@ row f t rcvid offset buffer = record empty_row {
     buffer = lay_over buffer 0 (drop offset (message f rcvid));
   });
 }
-
--- it reads the message into its buffer
-abbrev pub effect : ReceiveId → ℕ → List ℕ → Effect
-effect rcvid offset buffer =
-    record no_effect {
-      buffer = Some buffer;
-      reads = Some
-          (record { message = rcvid; offset = offset; buffer = buffer });
-    }

@@ -5,14 +5,8 @@ use Rattle.qmodel.specs.Trace.{ChannelId, ThreadNo}
 use Rattle.qrules.specs.Private.Facts.{Facts}
 use Rattle.qrules.specs.Private.Receiving.{receive_row}
 use Rattle.qrules.specs.Private.Rows.{Row}
-use Rattle.qrules.specs.Private.Effect.{Effect, no_effect}
 use Rattle.qmodel.specs.declared.open_call.Wait.TheVariants.{Item as ForItem}
 
 -- it takes only pulses, and has no buffer
 abbrev pub row : Facts → ThreadNo → ChannelId → Row
 row f t chid = receive_row f t chid PulseOnly []
-
--- it waits for a pulse, and brings no buffer
-abbrev pub effect : ChannelId → Effect
-effect chid = record no_effect
-    { waits = Some (ForItem chid PulseOnly []); receives_on = Some (chid, PulseOnly) }

@@ -6,7 +6,6 @@ use Rattle.qmodel.specs.Trace.{ReceiveId, ThreadNo}
 use Rattle.qrules.specs.Private.Facts.{Facts, sender}
 use Rattle.qrules.specs.Private.Held.{Finish, ends_sender, refusal}
 use Rattle.qrules.specs.Private.Rows.{Row, plain_row}
-use Rattle.qrules.specs.Private.Effect.{Effect, no_effect}
 
 -- the reply copied over the front of the buffer
 abbrev pub reply_finish : ℤ → List ℕ → Finish
@@ -17,7 +16,3 @@ abbrev pub row : Facts → ThreadNo → ReceiveId → ℤ → List ℕ → Row
 row f t rcvid status bytes =
     record (plain_row f.number t (refusal f t rcvid) mark.Ok)
     { ends = ends_sender f (reply_finish status bytes) (sender f rcvid) }
-
--- it answers the message
-abbrev pub effect : ReceiveId → ℤ → List ℕ → Effect
-effect rcvid status bytes = record no_effect { answers = Some rcvid; replies = Some (status, bytes) }

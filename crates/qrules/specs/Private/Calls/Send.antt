@@ -7,7 +7,6 @@ use Rattle.qmodel.specs.Trace.{ConnectionId, ThreadNo}
 use Rattle.qrules.specs.Private.Delivering.{receiver, delivers, receipt_when_sent, wants_room}
 use Rattle.qrules.specs.Private.Facts.{Facts, route}
 use Rattle.qrules.specs.Private.Rows.{Row, message_item, item_sent_over, empty_row}
-use Rattle.qrules.specs.Private.Effect.{Effect, no_effect}
 use Rattle.qmodel.specs.declared.open_call.Wait.TheVariants.{Answer}
 
 -- Badf if the thread's process hasn't this connection, or its channel isn't open
@@ -26,14 +25,4 @@ row f t coid message = record empty_row {
   ends = delivers f (item f t) message (receiver f (item f t) (route f t coid));
   receipt = receipt_when_sent f (Some t) (item f t) message (route f t coid)
       (receiver f (item f t) (route f t coid));
-}
-
--- it makes a message of its thread's priority, sends it over the connection, and waits for the answer
-abbrev pub effect : ConnectionId → List ℕ → List ℕ → Effect
-effect coid message reply_buffer = record no_effect {
-  waits = Some (Answer coid message reply_buffer None);
-  buffer = Some reply_buffer;
-  makes = λ f t. item_sent_over (f.connection coid) (item f t);
-  sends_over = Some coid;
-  sends = Some message;
 }

@@ -6,12 +6,7 @@ use Rattle.qmodel.specs.Trace.{ThreadNo}
 use Rattle.qrules.specs.Private.Cancelling.{cancels}
 use Rattle.qrules.specs.Private.Facts.{Facts}
 use Rattle.qrules.specs.Private.Rows.{Row, plain_row}
-use Rattle.qrules.specs.Private.Effect.{Effect, no_effect}
 
 -- any thread may shut the kernel down
 abbrev pub row : Facts → ThreadNo → Row
 row f t = record (plain_row f.number t None mark.Ok) { ends = cancels f (λ u wait. true) Srch }
-
--- it shuts the kernel down
-abbrev pub effect : Effect
-effect = record no_effect { shuts_down = true }

@@ -8,7 +8,6 @@ use Rattle.qmodel.specs.Trace.{ThreadNo}
 use Rattle.qrules.specs.Private.Facts.{Facts}
 use Rattle.qrules.specs.Private.ThreadState.{state_in}
 use Rattle.qrules.specs.Private.Rows.{Row, plain_row}
-use Rattle.qrules.specs.Private.Effect.{Effect, no_effect}
 
 -- Srch if the thread isn't in the roster
 abbrev pub refusal : Facts → ThreadNo → Option Errno
@@ -18,7 +17,3 @@ refusal f thread = if is_some (member_at f.roster thread) then None else Some Sr
 abbrev pub row : Facts → ThreadNo → ThreadNo → Row
 row f t thread = plain_row f.number t (refusal f thread)
     (mark.State (state_in f.connection (f.open_call thread)) (f.priority thread))
-
--- it changes nothing
-abbrev pub effect : Effect
-effect = no_effect

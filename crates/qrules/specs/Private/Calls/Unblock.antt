@@ -14,7 +14,6 @@ use Rattle.qrules.specs.Private.Facts.{Facts, is_fellow, tells_unblock}
 use Rattle.qrules.specs.Private.Pulses.{refusal_if_full_for, ends_receiver, pulse_row}
 use Rattle.qrules.specs.Private.Rows.{Row, unblock_item}
 use Rattle.qmodel.specs.Trace.{SentItem}
-use Rattle.qrules.specs.Private.Effect.{Effect, no_effect}
 
 -- the channel that the connection leads to, if that has the unblock flag
 abbrev pub guard_over : Facts → Option Connection → Option ChannelId
@@ -55,7 +54,3 @@ other_ending f thread (Some m) u = ends_receiver f (Some m) u
 abbrev pub row : Facts → ThreadNo → ThreadNo → Row
 row f t thread = pulse_row f t (refusal f t thread) (due_pulse f thread)
     (other_ending f thread (due_pulse f thread))
-
--- it unblocks the thread, and makes a pulse if one must be sent
-abbrev pub effect : ThreadNo → Effect
-effect thread = record no_effect { unblocks = Some thread; makes = λ f t. due_pulse f thread }

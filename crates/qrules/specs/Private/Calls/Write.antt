@@ -6,14 +6,8 @@ use Rattle.qmodel.specs.Trace.{ReceiveId, ThreadNo}
 use Rattle.qrules.specs.Private.Facts.{Facts}
 use Rattle.qrules.specs.Private.Held.{refusal, reply_buffer}
 use Rattle.qrules.specs.Private.Rows.{Row, plain_row}
-use Rattle.qrules.specs.Private.Effect.{Effect, no_effect}
 
 -- it returns how many bytes it copied; the bytes themselves follow from the past calls
 abbrev pub row : Facts → ThreadNo → ReceiveId → ℕ → List ℕ → Row
 row f t rcvid offset bytes =
     plain_row f.number t (refusal f t rcvid) (mark.Count (laid_count (reply_buffer f rcvid) offset bytes))
-
--- it writes over the message's reply buffer
-abbrev pub effect : ReceiveId → ℕ → List ℕ → Effect
-effect rcvid offset bytes = record no_effect
-    { writes = Some (record { message = rcvid; offset = offset; bytes = bytes }) }

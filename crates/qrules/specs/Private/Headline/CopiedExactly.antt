@@ -11,11 +11,10 @@ use Rattle.qmodel.specs.declared.call.Mark.TheVariants as mark
 use Rattle.qmodel.specs.Trace.{CallNo, ReceiveId}
 use Rattle.qrules.specs.Private.Past.{with_writes}
 use Rattle.qmodel.specs.Trace.{Event, Trace}
-use Rattle.qrules.specs.Private.Effect.{Reading}
 use Rattle.qmodel.specs.Buffers.{buffer_of}
 use Rattle.qrules.specs.Private.Effects.{message_sent, replies_with}
-use Rattle.qrules.specs.Private.Calls.{effect_of}
-use Rattle.qrules.specs.Private.Rows.{Written}
+use Rattle.qrules.specs.Rule.{Transfer}
+use Rattle.qrules.specs.Rules.{effect_of}
 
 -- the call of number i
 abbrev pub call_at : Trace → CallNo → Option Call
@@ -36,12 +35,12 @@ message_at past i = option_map_or message_sent (call_at past i) []
 
 -- a call that reads counts the bytes of the message, from the offset on, that it copies over its buffer; a
 -- call that writes counts those that it copies over the reply buffer from the offset on; no other call counts
-abbrev pub IsCountOf : Trace → Option Reading → Option Written → Completion → ℕ → Type 0
+abbrev pub IsCountOf : Trace → Option Transfer → Option Transfer → Completion → ℕ → Type 0
 IsCountOf past (Some r) w x copied =
-    (x.buffer ≡ lay_over r.buffer 0 (drop r.offset (message_at past r.message)))
-    × (copied ≡ laid_count r.buffer 0 (drop r.offset (message_at past r.message)))
+    (x.buffer ≡ lay_over r.bytes 0 (drop r.offset (message_at past r.rcvid)))
+    × (copied ≡ laid_count r.bytes 0 (drop r.offset (message_at past r.rcvid)))
 IsCountOf past None (Some w) x copied =
-    (x.buffer ≡ []) × (copied ≡ laid_count (buffer_at past w.message) w.offset w.bytes)
+    (x.buffer ≡ []) × (copied ≡ laid_count (buffer_at past w.rcvid) w.offset w.bytes)
 IsCountOf past None None x copied = ⊥
 
 -- a receipt copies the message over the front of the receiver's buffer, and a reply its bytes over the front
